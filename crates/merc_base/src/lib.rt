@@ -1,0 +1,13 @@
+//! What every crate of merc stands on: texts, names, places in a text, refusals, and the traits of the
+//! outside world.
+#![tactic(auto)]
+
+pub mod buffer;
+pub mod memory;
+pub mod outside;
+pub mod text;
+
+pub use buffer::Buffer;
+pub use memory::NoMemory;
+pub use outside::{Fetched, Gate, Shelf, Sink, Tap, TapAnswer, TapEvent, Wrote};
+pub use text::Text;
