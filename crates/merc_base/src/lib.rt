@@ -5,9 +5,11 @@
 pub mod buffer;
 pub mod memory;
 pub mod outside;
+pub mod sequence;
 pub mod text;
 
 pub use buffer::Buffer;
 pub use memory::NoMemory;
 pub use outside::{Fetched, Gate, Shelf, Sink, Tap, TapAnswer, TapEvent, Wrote};
+pub use sequence::Sequence;
 pub use text::Text;

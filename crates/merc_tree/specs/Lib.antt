@@ -1,0 +1,3 @@
+pub mod Value
+pub mod Trace
+pub mod Meaning

@@ -1,0 +1,8 @@
+//! The trees that the compiler's passes hand on, and what they mean.
+#![tactic(auto)]
+
+pub mod goal;
+pub mod word;
+
+pub use goal::{Goal, Goals, Operator, Predicate, Procedures, Symbol, Var, Vars};
+pub use word::Word;
