@@ -8,7 +8,7 @@ use std::marker::Model;
 /// of the arguments.
 #[derive(Clone, Copy, Debug, PartialEq, Eq)]
 pub struct Var {
-    number: u32,
+    number: usize,
 }
 
 impl Model for Var {
@@ -23,14 +23,14 @@ impl Model for Var {
 
 impl Var {
     /// The variable of this number.
-    pub fn new(number: u32) -> Var
+    pub fn new(number: usize) -> Var
         ensures { result ≡ number }
     {
         Var { number }
     }
 
     /// The variable's number.
-    pub fn number(self) -> u32
+    pub fn number(self) -> usize
         ensures { result ≡ self }
     {
         self.number
@@ -43,7 +43,7 @@ pub type Vars = Sequence<Var>;
 /// A predicate of the module, by its number from 0 in order of declaration.
 #[derive(Clone, Copy, Debug, PartialEq, Eq)]
 pub struct Predicate {
-    number: u32,
+    number: usize,
 }
 
 impl Model for Predicate {
@@ -58,14 +58,14 @@ impl Model for Predicate {
 
 impl Predicate {
     /// The predicate of this number.
-    pub fn new(number: u32) -> Predicate
+    pub fn new(number: usize) -> Predicate
         ensures { result ≡ number }
     {
         Predicate { number }
     }
 
     /// The predicate's number.
-    pub fn number(self) -> u32
+    pub fn number(self) -> usize
         ensures { result ≡ self }
     {
         self.number

@@ -1,0 +1,5 @@
+pub mod Tokens
+pub mod Grammar
+pub mod FirstForm
+pub mod FlatForm
+pub mod Outcome

@@ -1,0 +1,2 @@
+//! The reader of the first form of the language. The whole reader takes its place.
+pub mod syntax;

@@ -1,0 +1,5 @@
+//! The top call: everything that the program does.
+#![tactic(auto)]
+
+mod evaluating;
+mod first_form;
