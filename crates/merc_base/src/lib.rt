@@ -3,11 +3,17 @@
 #![tactic(auto)]
 
 pub mod buffer;
+pub mod category;
 pub mod memory;
 pub mod outside;
+pub mod place;
+pub mod refusal;
 pub mod text;
 
 pub use buffer::Buffer;
+pub use category::{Category, Most};
 pub use memory::NoMemory;
 pub use outside::{Fetched, Gate, Shelf, Sink, Tap, TapAnswer, TapEvent, Wrote};
+pub use place::{Place, Span};
+pub use refusal::{Construct, Detail, Fault, LimitName, Refusal, Rule};
 pub use text::Text;
