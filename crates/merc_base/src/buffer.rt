@@ -1,5 +1,5 @@
 //! The buffer that a shelf fills with one piece of a file.
-ghost use Rattle.std.specs.Prelude.{◌≡◌, [], take, min, length, ◌≤◌, IfOk};
+ghost use Rattle.std.specs.Prelude.{◌≡◌, [], take, min, length, ◌≤◌, vec_capacity, IfOk};
 ghost use Rattle.merc_base.specs.Outside.{piece_limit};
 
 use crate::NoMemory;
@@ -42,9 +42,8 @@ impl Buffer {
         ensures kept { self.new ≡ take piece_limit bytes.now }
         ensures count { result ≡ min piece_limit (length bytes.now) }
     {
-        self.bytes.clear();
         let count = bytes.len().min(PIECE_LIMIT);
-        self.bytes.extend_from_slice(&bytes[..count]).unwrap();
+        refill(&mut self.bytes, &bytes[..count]);
         count
     }
 
@@ -56,4 +55,14 @@ impl Buffer {
     {
         &self.bytes
     }
+}
+
+// Puts a piece in place of these bytes, which have room for it.
+fn refill(bytes: &mut Vec<u8>, piece: &[u8])
+    requires { length piece.now ≤ vec_capacity bytes.old }
+    ensures items { bytes.new.items ≡ piece.now }
+    ensures room { vec_capacity bytes.old ≤ vec_capacity bytes.new }
+{
+    bytes.clear();
+    bytes.extend_from_slice(piece).unwrap();
 }
