@@ -1,1 +1,3 @@
+pub mod Category
 pub mod Outside
+pub mod Refusal

@@ -1,0 +1,2 @@
+pub mod CategoryExamples
+pub mod RefusalExamples
