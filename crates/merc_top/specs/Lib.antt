@@ -3,3 +3,7 @@ pub mod Grammar
 pub mod FirstForm
 pub mod FlatForm
 pub mod Outcome
+pub mod Words
+pub mod Loading
+pub mod Writing
+pub mod Output

@@ -3,3 +3,6 @@
 
 mod evaluating;
 mod first_form;
+mod loading;
+mod words;
+mod writing;
