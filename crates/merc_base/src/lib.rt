@@ -7,9 +7,11 @@ pub mod memory;
 pub mod outside;
 pub mod sequence;
 pub mod text;
+pub mod text_table;
 
 pub use buffer::Buffer;
 pub use memory::NoMemory;
 pub use outside::{Fetched, Gate, Shelf, Sink, Tap, TapAnswer, TapEvent, Wrote};
 pub use sequence::Sequence;
 pub use text::Text;
+pub use text_table::TextTable;
