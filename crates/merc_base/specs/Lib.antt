@@ -1,3 +1,4 @@
 pub mod Category
 pub mod Outside
 pub mod Refusal
+pub mod Texts

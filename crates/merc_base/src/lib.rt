@@ -10,6 +10,7 @@ pub mod place;
 pub mod refusal;
 pub mod sequence;
 pub mod text;
+pub mod text_table;
 
 pub use buffer::Buffer;
 pub use category::{Category, Most};
@@ -19,3 +20,4 @@ pub use place::{Place, Span};
 pub use refusal::{Construct, Detail, Fault, LimitName, Refusal, Rule};
 pub use sequence::Sequence;
 pub use text::Text;
+pub use text_table::TextTable;
