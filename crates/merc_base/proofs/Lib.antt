@@ -1,2 +1,3 @@
 pub mod CategoryExamples
+pub mod NameLaws
 pub mod RefusalExamples

@@ -1,3 +1,4 @@
 pub mod Category
+pub mod Names
 pub mod Outside
 pub mod Refusal
