@@ -1,3 +1,4 @@
 pub mod CategoryExamples
+pub mod NameLaws
 pub mod RefusalExamples
 pub mod TextTables

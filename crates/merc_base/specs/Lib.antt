@@ -1,4 +1,5 @@
 pub mod Category
+pub mod Names
 pub mod Outside
 pub mod Refusal
 pub mod Texts

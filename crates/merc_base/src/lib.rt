@@ -5,6 +5,7 @@
 pub mod buffer;
 pub mod category;
 pub mod memory;
+pub mod names;
 pub mod outside;
 pub mod place;
 pub mod refusal;
@@ -15,6 +16,7 @@ pub mod text_table;
 pub use buffer::Buffer;
 pub use category::{Category, Most};
 pub use memory::NoMemory;
+pub use names::{Name, Names};
 pub use outside::{Fetched, Gate, Shelf, Sink, Tap, TapAnswer, TapEvent, Wrote};
 pub use place::{Place, Span};
 pub use refusal::{Construct, Detail, Fault, LimitName, Refusal, Rule};
