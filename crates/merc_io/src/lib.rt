@@ -1,0 +1,15 @@
+//! The outside world: files and standard output, and shelves and sinks in memory that stand in for them
+//! and fail as told.
+#![tactic(auto)]
+
+pub mod failing_shelf;
+pub mod failing_sink;
+pub mod mem_shelf;
+pub mod mem_sink;
+pub mod open_gate;
+
+pub use failing_shelf::FailingShelf;
+pub use failing_sink::FailingSink;
+pub use mem_shelf::MemShelf;
+pub use mem_sink::MemSink;
+pub use open_gate::OpenGate;
