@@ -1,10 +1,11 @@
 //! A shelf of files in memory that fails as told.
 ghost use Rattle.std.specs.Prelude.{◌≡◌, ◌≢◌, ◌↔◌, ◌+◌, ◌<◌, ◌≤◌, Some, Contains};
-ghost use Rattle.merc_base.specs.Outside.{AnswersFetch, file_named, piece_limit};
+ghost use Rattle.merc_base.specs.Outside.{AnswersFetch, file_named};
 ghost use Rattle.merc_io.specs.Numbers.{number_after};
 ghost use Rattle.merc_io.specs.Shelves.{next_piece, KeepsUnlessGot, failures};
 
 use crate::MemShelf;
+use merc_base::buffer::PIECE_LIMIT;
 use merc_base::{Buffer, Fetched, Shelf, Text};
 use std::marker::Model;
 
@@ -20,14 +21,13 @@ pub struct FailingShelf {
 
 impl Model for FailingShelf {
     ghost use Rattle.std.specs.Prelude.{◌≤◌};
-    ghost use Rattle.merc_base.specs.Outside.{piece_limit};
     ghost use Rattle.merc_io.specs.Shelves.{FailingShelfState};
 
     ghost Value = { FailingShelfState };
 
     ghost view = { λ s. record { files = s.shelf; fail = s.fail.items; most = s.most; next_call = s.next_call; faults = s.faults } };
 
-    ghost invariant = { λ s. (1 ≤ s.most) × (s.most ≤ piece_limit) };
+    ghost invariant = { λ s. (1 ≤ s.most) × (s.most ≤ 65536) };
 }
 
 impl FailingShelf {
@@ -35,7 +35,7 @@ impl FailingShelf {
     /// and a piece has at most `piece` bytes, 1 to 65,536.
     pub fn new(files: Vec<(Text, Text)>, fail: Vec<u64>, piece: usize) -> FailingShelf
         requires some { 1 ≤ piece }
-        requires bound { piece ≤ piece_limit }
+        requires bound { piece ≤ PIECE_LIMIT }
         ensures { result ≡ record { files = files.items; fail = fail.items; most = piece; next_call = 1; faults = 0 } }
     {
         FailingShelf {

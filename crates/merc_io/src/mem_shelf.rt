@@ -1,6 +1,6 @@
 //! A shelf of files in memory.
 ghost use Rattle.std.specs.Prelude.{◌≡◌, ◌≢◌, ℕ, ◌≤◌, Some, None, MatchOption};
-ghost use Rattle.merc_base.specs.Outside.{AnswersFetch, file_named, piece_limit};
+ghost use Rattle.merc_base.specs.Outside.{AnswersFetch, file_named};
 ghost use Rattle.merc_io.specs.Shelves.{next_piece, KeepsUnlessGot};
 
 use merc_base::buffer::PIECE_LIMIT;
@@ -30,15 +30,9 @@ impl MemShelf {
     }
 
     /// Puts the next piece of a file, of at most `most` bytes, in the buffer.
-    pub(crate) fn read_piece(
-        &self,
-        name: &Text,
-        at: u64,
-        most: usize,
-        into: &mut Buffer,
-    ) -> Fetched
+    pub(crate) fn read_piece(&self, name: &Text, at: u64, most: usize, into: &mut Buffer) -> Fetched
         requires some { 1 ≤ most }
-        requires bound { most ≤ piece_limit }
+        requires bound { most ≤ PIECE_LIMIT }
         ensures piece { result ≡ next_piece most (file_named name.now self.now) at }
         ensures answer { (faults : ℕ) → AnswersFetch (Some self.now) name.now at faults faults result into.new }
         ensures kept { KeepsUnlessGot result into.old into.new }
@@ -76,7 +70,7 @@ impl Shelf for MemShelf {
     fn fetch(&mut self, name: &Text, at: u64, into: &mut Buffer) -> Fetched
         ensures same { self.new ≡ self.old }
         ensures answer { AnswersFetch (Some self.old) name.now at 0 0 result into.new }
-        ensures piece { result ≡ next_piece piece_limit (file_named name.now self.old) at }
+        ensures piece { result ≡ next_piece PIECE_LIMIT (file_named name.now self.old) at }
         ensures kept { KeepsUnlessGot result into.old into.new }
         ensures never_fails { result ≢ Fetched.Failed }
         ensures takes_no_memory { result ≢ Fetched.NoMemory }
