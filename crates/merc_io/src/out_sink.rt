@@ -1,5 +1,6 @@
 //! Standard output, as a sink. What the system does with the bytes is trusted.
-ghost use Rattle.std.specs.Prelude.{◌≡◌, ◌+◌, ◌<◌, ◌≤◌, None};
+ghost use Rattle.std.specs.Prelude.{◌≡◌, ◌+◌, ◌<◌, ◌≤◌, None, length, take, IfSome, IfNone};
+ghost use Rattle.std.specs.Io.KnownBytes.{Appends, Keeps};
 ghost use Rattle.merc_base.specs.Outside.{AnswersWrite};
 
 use merc_base::{Sink, Wrote};
@@ -43,12 +44,25 @@ impl<R: Print + Drop> Sink for OutSink<R> {
         ensures answer { AnswersWrite bytes.now None None self.old self.new result }
         ensures by_one { self.new ≤ self.old + 1 }
     {
-        match io::writer(&self.rt).write(bytes) {
-            Ok(count) if count > 0 || bytes.is_empty() => Wrote::Took(count),
-            _ => {
+        match write_once(&mut io::writer(&self.rt), bytes) {
+            Some(count) => Wrote::Took(count),
+            None => {
                 self.faults += 1;
                 Wrote::Failed
             }
         }
+    }
+}
+
+// One write. `None` is one that fails, or that takes nothing of a piece that is not empty.
+fn write_once<W: Write>(writer: &mut W, bytes: &[u8]) -> Option<usize>
+    ensures bound { IfSome result (λ count. count ≤ length bytes.now) }
+    ensures some { 0 < length bytes.now → IfSome result (λ count. 1 ≤ count) }
+    ensures taken { IfSome result (λ count. Appends (W.contents writer.old) (W.contents writer.new) (take count bytes.now)) }
+    ensures none { IfNone result (Keeps (W.contents writer.old) (W.contents writer.new)) }
+{
+    match writer.write(bytes) {
+        Ok(count) if count > 0 || bytes.is_empty() => Some(count),
+        _ => None,
     }
 }
