@@ -1,5 +1,5 @@
 -- The text and the status that are due for given words and files.
-use Rattle.std.specs.Prelude.{◌≡◌, ℕ, suc, zero, ◌<◌, ◌≤◌, ◌⊎◌, List, [], ◌∷◌, ◌++◌, length, map, Option, Some, None, codes}
+use Rattle.std.specs.Prelude.{◌≡◌, ◌+◌, ℕ, suc, zero, ◌<◌, ◌≤◌, ◌⊎◌, List, [], ◌∷◌, ◌++◌, length, map, Option, Some, None, codes}
 use Rattle.std.specs.List.{flat_map}
 use Rattle.std.specs.Fmt.{decimal, signed_decimal}
 use Rattle.merc_base.specs.Outside.{Files, file_named}
@@ -10,7 +10,7 @@ use Rattle.merc_base.specs.declared.refusal.Detail.TheVariants.{Word}
 use Rattle.merc_base.specs.declared.refusal.Construct.TheVariants.{Stage}
 use Rattle.merc_tree.specs.Value.{Value, Int}
 use Rattle.merc_tree.specs.Trace.{Env, Run, RunEnd, RunDone, RunRaised, LimitPassed, answers_of, end_of}
-use Rattle.merc_tree.specs.Meaning.{run}
+use Rattle.merc_tree.specs.Meaning.{run, value_at}
 use Rattle.merc_top.specs.declared.first_form.syntax.Conjunct.{Conjunct}
 use Rattle.merc_top.specs.declared.first_form.syntax.Module.{Module}
 use Rattle.merc_top.specs.Words.{IsRequest, IsNoRequest, usage_line}
@@ -30,11 +30,14 @@ abbrev pub value_text : Option Value → List ℕ
 value_text None = []
 value_text (Some (Int number)) = signed_decimal number
 
--- `V = value` for the variables by number
-abbrev pub binding_texts : List (List ℕ) → Env → List (List ℕ)
-binding_texts [] env = []
-binding_texts (name ∷ names) [] = (name ++ codes " = ") ∷ binding_texts names []
-binding_texts (name ∷ names) (entry ∷ env) = (name ++ codes " = " ++ value_text entry) ∷ binding_texts names env
+-- `V = value`
+abbrev pub binding : List ℕ → Option Value → List ℕ
+binding name value = name ++ codes " = " ++ value_text value
+
+-- a binding for each name, where the first is that of the variable of this number
+abbrev pub bindings : ℕ → List (List ℕ) → Env → List (List ℕ)
+bindings number [] env = []
+bindings number (name ∷ names) env = binding name (value_at env number) ∷ bindings (number + 1) names env
 
 -- each of these texts behind a comma and a blank
 abbrev pub behind_commas : List (List ℕ) → List ℕ
@@ -48,7 +51,7 @@ comma_list (text ∷ texts) = text ++ behind_commas texts
 
 -- the line of a solution, for the names of the answer variables
 abbrev pub solution_line : List (List ℕ) → Env → List ℕ
-solution_line names env = line (comma_list (binding_texts names env))
+solution_line names env = line (comma_list (bindings 0 names env))
 
 -- the last line of a run with so many solutions
 abbrev pub end_line : ℕ → RunEnd → List ℕ

@@ -3,6 +3,7 @@
 
 mod evaluating;
 mod first_form;
+mod lines;
 mod loading;
 mod words;
 mod writing;
