@@ -1,3 +1,5 @@
 pub mod CategoryExamples
+pub mod FixedNames
+pub mod NameExamples
 pub mod NameLaws
 pub mod RefusalExamples
