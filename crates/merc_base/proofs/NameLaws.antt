@@ -1,4 +1,4 @@
--- Laws of tables of names.
+-- Laws of tables of names. The first two are for callers, and the others for the code of `Names`.
 use Rattle.std.proofs.Common.{◌≡◌, ℕ, zero, suc, append_assoc, ◌+◌, ◌-◌, ◌<◌, ◌≤◌, ◌↔◌, Bool, true, false, ◌⊎◌, inl, inr, List, [], ◌∷◌, ◌++◌, Option, Some, None, MatchOption, map, position, cond, length, nat_lt, get_or, slice_get, refl, sym, ap, subst, ◌∙◌, arith, true≢false, ◌||◌, if◌then◌else◌}
 use Rattle.std.specs.List.{prefix_len, position_or_len, list_any}
 use Rattle.std.specs.Option.{option_map}
@@ -15,6 +15,25 @@ use Rattle.std.proofs.lemmas.Map.Keys.{any_passes_from_place}
 use Rattle.std.proofs.lemmas.Option.{slice_get-map, slice_get-get_or}
 use Rattle.std.proofs.lemmas.Slice.Eq.{bytes_eq-Decides}
 use Rattle.merc_base.specs.Names.{fixed_names, with_text, texts_of, AreDistinct, HoldsFixed}
+
+-- A text that stands in the front of a list.
+pub slice_get-front : (front back : List (List ℕ)) (number : ℕ) (text : List ℕ) → slice_get front number ≡ Some text → slice_get (front ++ back) number ≡ Some text
+slice_get-front [] back number text h = absurd cc
+slice_get-front (name ∷ front) back zero text h = h
+slice_get-front (name ∷ front) back (suc number) text h = slice_get-front front back number text h
+
+-- Names of one table are equal exactly where their texts are.
+pub names_equal : (names : List (List ℕ)) (one other : ℕ) (text other_text : List ℕ) → AreDistinct names → slice_get names one ≡ Some text → slice_get names other ≡ Some other_text
+    → (one ≡ other) ↔ (text ≡ other_text)
+names_equal names one other text other_text d h g = (λ e. cc (ap (slice_get names) e), λ e. d.same one other text h (g ∙ ap Some (sym e)))
+
+-- A name keeps its text in a table that grows.
+pub slice_get-with_text : (text : List ℕ) (names : List (List ℕ)) (number : ℕ) (kept : List ℕ) → slice_get names number ≡ Some kept → slice_get (with_text text names) number ≡ Some kept
+slice_get-with_text text names number kept h = by (list_any (bytes_eq text) names)
+  where
+    by : (b : Bool) → slice_get (if b then names else names ++ text ∷ []) number ≡ Some kept
+    by true = h
+    by false = slice_get-front names (text ∷ []) number kept h
 
 prefix_len-map : {X Y : Type 0} (p : Y → Bool) (f : X → Y) (xs : List X) → prefix_len p (map f xs) ≡ prefix_len (λ x. p (f x)) xs
 prefix_len-map p f [] = refl
@@ -79,12 +98,6 @@ AreDistinct-fixed_names =
 pub length-fixed_names : length fixed_names ≡ 82
 unfolding fixed_names
 length-fixed_names = refl
-
--- A text that stands in the front of a list.
-pub slice_get-front : (front back : List (List ℕ)) (number : ℕ) (text : List ℕ) → slice_get front number ≡ Some text → slice_get (front ++ back) number ≡ Some text
-slice_get-front [] back number text h = absurd cc
-slice_get-front (name ∷ front) back zero text h = h
-slice_get-front (name ∷ front) back (suc number) text h = slice_get-front front back number text h
 
 -- The front of a list, by number.
 pub slice_get-within : (front back : List (List ℕ)) (number : ℕ) → number < length front → slice_get (front ++ back) number ≡ slice_get front number

@@ -1,7 +1,7 @@
 //! Names: texts that are kept once and compared by number.
-ghost use Rattle.std.specs.Prelude.{◌≡◌, ◌++◌, ◌<◌, ◌^◌, Some, false, map, position, slice_get, MatchOption, IfOk, OnOk, OnErr};
-ghost use Rattle.std.specs.List.{list_any};
-ghost use Rattle.std.specs.Option.{option_copied};
+ghost use Rattle.std.specs.Prelude.{◌≡◌, ◌++◌, ◌<◌, ◌^◌, Some, false, map, find, slice_get, MatchOption, IfOk, OnOk, OnErr};
+ghost use Rattle.std.specs.List.{list_any, enumerate_from};
+ghost use Rattle.std.specs.Option.{option_copied, option_map};
 ghost use Rattle.std.specs.Str.{bytes_eq};
 ghost use Rattle.merc_base.specs.Names.{fixed_names, with_text, texts_of, AreDistinct, HoldsFixed};
 
@@ -194,90 +194,90 @@ impl Name {
     pub const UINT64: Name = Name(81);
 }
 
-// The texts of the constants, in the order of their numbers.
-const FIXED: [&[u8]; 82] = [
-    b"division by zero",
-    b"[]",
-    b"[|]",
-    b"{}",
-    b"!",
-    b"!.",
-    b"!:",
-    b"pragma",
-    b"memo",
-    b"/",
-    b":-",
-    b"-->",
-    b"module",
-    b"end_module",
-    b"import_module",
-    b"mode",
-    b"type",
-    b"--->",
-    b"::",
-    b"==",
-    b"else",
-    b"if",
-    b"then",
-    b";",
-    b"->",
-    b"&",
-    b",",
-    b"some",
-    b"all",
-    b"=>",
-    b"<=>",
-    b"not",
-    b"\\+",
-    b"pred",
-    b"func",
-    b"is",
-    b"=",
-    b"\\=",
-    b"<",
-    b">",
-    b"=<",
-    b">=",
-    b"+",
-    b"-",
-    b"*",
-    b"//",
-    b"div",
-    b"mod",
-    b"rem",
-    b"interface",
-    b"implementation",
-    b"true",
-    b"fail",
-    b"false",
-    b"error",
-    b"in",
-    b"out",
-    b"int",
-    b"string",
-    b"list",
-    b"bool",
-    b"maybe",
-    b"require",
-    b"det",
-    b"semidet",
-    b"multi",
-    b"nondet",
-    b"erroneous",
-    b"failure",
-    b"cc_multi",
-    b"cc_nondet",
-    b"char",
-    b"float",
-    b"uint",
-    b"int8",
-    b"int16",
-    b"int32",
-    b"int64",
-    b"uint8",
-    b"uint16",
-    b"uint32",
-    b"uint64",
+// The constants with their texts, in the order of their numbers.
+const FIXED: [(u64, &[u8]); 82] = [
+    (Name::DIVISION_BY_ZERO.0, b"division by zero"),
+    (Name::NIL.0, b"[]"),
+    (Name::CONS.0, b"[|]"),
+    (Name::BRACES.0, b"{}"),
+    (Name::BANG.0, b"!"),
+    (Name::BANG_DOT.0, b"!."),
+    (Name::BANG_COLON.0, b"!:"),
+    (Name::PRAGMA.0, b"pragma"),
+    (Name::MEMO.0, b"memo"),
+    (Name::SLASH.0, b"/"),
+    (Name::COLON_MINUS.0, b":-"),
+    (Name::GRAMMAR_ARROW.0, b"-->"),
+    (Name::MODULE.0, b"module"),
+    (Name::END_MODULE.0, b"end_module"),
+    (Name::IMPORT_MODULE.0, b"import_module"),
+    (Name::MODE.0, b"mode"),
+    (Name::TYPE.0, b"type"),
+    (Name::TYPE_ARROW.0, b"--->"),
+    (Name::COLON_COLON.0, b"::"),
+    (Name::EQUAL_EQUAL.0, b"=="),
+    (Name::ELSE.0, b"else"),
+    (Name::IF.0, b"if"),
+    (Name::THEN.0, b"then"),
+    (Name::SEMICOLON.0, b";"),
+    (Name::ARROW.0, b"->"),
+    (Name::AMPERSAND.0, b"&"),
+    (Name::COMMA.0, b","),
+    (Name::SOME.0, b"some"),
+    (Name::ALL.0, b"all"),
+    (Name::IMPLIES.0, b"=>"),
+    (Name::EQUIVALENT.0, b"<=>"),
+    (Name::NOT.0, b"not"),
+    (Name::NOT_PROVABLE.0, b"\\+"),
+    (Name::PRED.0, b"pred"),
+    (Name::FUNC.0, b"func"),
+    (Name::IS.0, b"is"),
+    (Name::EQUAL.0, b"="),
+    (Name::NOT_EQUAL.0, b"\\="),
+    (Name::LESS.0, b"<"),
+    (Name::GREATER.0, b">"),
+    (Name::AT_MOST.0, b"=<"),
+    (Name::AT_LEAST.0, b">="),
+    (Name::PLUS.0, b"+"),
+    (Name::MINUS.0, b"-"),
+    (Name::STAR.0, b"*"),
+    (Name::SLASH_SLASH.0, b"//"),
+    (Name::DIV.0, b"div"),
+    (Name::MOD.0, b"mod"),
+    (Name::REM.0, b"rem"),
+    (Name::INTERFACE.0, b"interface"),
+    (Name::IMPLEMENTATION.0, b"implementation"),
+    (Name::TRUE.0, b"true"),
+    (Name::FAIL.0, b"fail"),
+    (Name::FALSE.0, b"false"),
+    (Name::ERROR.0, b"error"),
+    (Name::IN.0, b"in"),
+    (Name::OUT.0, b"out"),
+    (Name::INT.0, b"int"),
+    (Name::STRING.0, b"string"),
+    (Name::LIST.0, b"list"),
+    (Name::BOOL.0, b"bool"),
+    (Name::MAYBE.0, b"maybe"),
+    (Name::REQUIRE.0, b"require"),
+    (Name::DET.0, b"det"),
+    (Name::SEMIDET.0, b"semidet"),
+    (Name::MULTI.0, b"multi"),
+    (Name::NONDET.0, b"nondet"),
+    (Name::ERRONEOUS.0, b"erroneous"),
+    (Name::FAILURE.0, b"failure"),
+    (Name::CC_MULTI.0, b"cc_multi"),
+    (Name::CC_NONDET.0, b"cc_nondet"),
+    (Name::CHAR.0, b"char"),
+    (Name::FLOAT.0, b"float"),
+    (Name::UINT.0, b"uint"),
+    (Name::INT8.0, b"int8"),
+    (Name::INT16.0, b"int16"),
+    (Name::INT32.0, b"int32"),
+    (Name::INT64.0, b"int64"),
+    (Name::UINT8.0, b"uint8"),
+    (Name::UINT16.0, b"uint16"),
+    (Name::UINT32.0, b"uint32"),
+    (Name::UINT64.0, b"uint64"),
 ];
 
 /// Texts by number, each of them once. It is seen as the list of the texts.
@@ -346,9 +346,9 @@ fn text_at(added: &IndexSet<Vec<u8>>, number: u64) -> Option<&[u8]>
     }
 }
 
-// The texts of the constants.
-fn fixed_texts() -> &'static [&'static [u8]]
-    ensures { map (λ text. text.now) result.now ≡ fixed_names }
+// The constants with their texts.
+fn fixed_table() -> &'static [(u64, &'static [u8])]
+    ensures { map (λ entry. (entry.0, entry.1.now)) result.now ≡ enumerate_from 0 fixed_names }
 {
     &FIXED
 }
@@ -357,21 +357,31 @@ fn fixed_texts() -> &'static [&'static [u8]]
 fn fixed_text(number: usize) -> Option<&'static [u8]>
     ensures { option_copied result ≡ slice_get fixed_names number }
 {
-    fixed_texts().get(number).copied()
+    text_in(fixed_table(), number)
+}
+
+// The text at a place of a table.
+fn text_in<'a>(table: &[(u64, &'a [u8])], number: usize) -> Option<&'a [u8]>
+    ensures { option_copied result ≡ option_map (λ entry. entry.1.now) (slice_get table.now number) }
+{
+    table.get(number).map(|entry| entry.1)
 }
 
 // The number of the constant that has this text.
-fn fixed_number(text: &[u8]) -> Option<usize>
+fn fixed_number(text: &[u8]) -> Option<u64>
     ensures { MatchOption result (list_any (bytes_eq text.now) fixed_names ≡ false) (λ number. slice_get fixed_names number ≡ Some text.now) }
 {
-    first_equal(fixed_texts(), text)
+    number_in(fixed_table(), text)
 }
 
-// The place of the first of these texts that is equal to the one.
-fn first_equal(texts: &[&[u8]], text: &[u8]) -> Option<usize>
-    ensures { result ≡ position (λ other. bytes_eq text.now other.now) texts.now }
+// The number that stands beside this text in a table.
+fn number_in(table: &[(u64, &[u8])], text: &[u8]) -> Option<u64>
+    ensures { result ≡ option_map (λ entry. entry.0) (find (λ entry. bytes_eq text.now entry.1.now) table.now) }
 {
-    texts.iter().position(|other| text == *other)
+    table
+        .iter()
+        .find(|entry| text == entry.1)
+        .map(|entry| entry.0)
 }
 
 // The number of this text among the constants and the texts that were added, where it is put last if it is new.
@@ -381,7 +391,7 @@ fn number_of(added: &mut IndexSet<Vec<u8>>, alloc: Global, text: &[u8]) -> Resul
     ensures err { OnErr result (texts_of added.new.keys ≡ texts_of added.old.keys) }
 {
     if let Some(number) = fixed_number(text) {
-        return Ok(number as u64);
+        return Ok(number);
     }
     let number = added_number(added, alloc, text)?;
     Ok((FIXED.len() + number) as u64)
