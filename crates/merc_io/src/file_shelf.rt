@@ -31,7 +31,7 @@ struct OpenFile<F: Drop> {
 }
 
 // Why nothing was read.
-#[derive(Clone, Copy, Debug, PartialEq, Eq)]
+#[derive(Clone, Copy, Debug)]
 enum ReadFault {
     Absent,
     Failed,
@@ -90,11 +90,7 @@ fn read_at<R: Files + AllocGlobal>(
 }
 
 // Takes out the open file if it is of this name and stands at this place, and closes any other.
-fn take_at<F: Drop>(
-    last: &mut Option<OpenFile<F>>,
-    name: &Text,
-    at: u64,
-) -> Option<OpenFile<F>>
+fn take_at<F: Drop>(last: &mut Option<OpenFile<F>>, name: &Text, at: u64) -> Option<OpenFile<F>>
     ensures fits { IfSome result (λ file. (file.name ≡ name.now) × (file.at ≡ at)) }
     ensures taken { IfSome last.old (λ file. file.name ≡ name.now → file.at ≡ at → result ≡ Some file) }
     ensures closed { last.new ≡ None }

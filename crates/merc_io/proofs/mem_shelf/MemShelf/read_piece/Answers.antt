@@ -1,5 +1,4 @@
 use Rattle.std.proofs.Common.{◌≡◌, ◌≤◌, Some, arith, rules}
-use Rattle.std.proofs.lemmas.Grind.{common_steps}
 use Rattle.merc_base.specs.Outside.{file_named, piece_limit}
 use Rattle.merc_io.proofs.Reading.{piece_limit_is, piece_answers}
 use Rattle.merc_io.proofs.mem_shelf.MemShelf.read_piece.Goals as goal
