@@ -1,5 +1,5 @@
 -- A table of keys that stand for texts, against the list of those texts.
-use Rattle.std.proofs.Common.{◌≡◌, refl, ap, sym, ◌∙◌, ℕ, ◌+◌, Bool, true, false, cond, not, ◌||◌, is_some, Option, Some, None, IfSome, List, [], ◌∷◌, ◌++◌, map, length, nat_lt, position, arith}
+use Rattle.std.proofs.Common.{◌≡◌, refl, ap, sym, ◌∙◌, ℕ, ◌+◌, Bool, true, false, cond, not, ◌||◌, is_some, Option, Some, None, IfSome, List, [], ◌∷◌, ◌++◌, map, length, nat_lt, position, unwrap_or, arith}
 use Rattle.std.specs.List.{list_any, prefix_len, position_or_len, IsDistinct, AllByRecursion}
 use Rattle.std.specs.Str.{bytes_eq}
 use Rattle.std.proofs.lemmas.Slice.Eq.{bytes_eq-Decides}
@@ -29,6 +29,19 @@ place_among-with_text texts text = by (is_among text texts)
     by : (b : Bool) → place_among (cond b texts (texts ++ text ∷ [])) text ≡ place_among texts text
     by true = refl
     by false = prefix_len-pushed (λ other. not (bytes_eq text other)) texts text (ap not ((bytes_eq-Decides text text).1 refl))
+
+prefix_len-none : {X : Type 0} (test : X → Bool) (xs : List X) → list_any test xs ≡ false → prefix_len (λ x. not (test x)) xs ≡ length xs
+prefix_len-none test [] none = refl
+prefix_len-none test (x ∷ xs) none = by (test x) refl none (prefix_len-none test xs)
+  where
+    by : (b : Bool) → test x ≡ b → (b || list_any test xs) ≡ false → (list_any test xs ≡ false → prefix_len (λ y. not (test y)) xs ≡ length xs) → cond (not b) (1 + prefix_len (λ y. not (test y)) xs) 0 ≡ length (x ∷ xs)
+    by true is none rest = cc
+    by false is none rest = let e = rest none in omega arith
+
+-- where a table does not have a text, the number of its texts stands for the place
+pub place_or_length : (texts : List (List ℕ)) (text : List ℕ) (found : Option ℕ) → IfSome found (λ place. place ≡ place_among texts text) → is_some found ≡ is_among text texts → unwrap_or found (length texts) ≡ place_among texts text
+place_or_length texts text None first known = sym (prefix_len-none (bytes_eq text) texts (sym known))
+place_or_length texts text (Some place) first known = first
 
 module _ {K : Type 0} (text_of : K → List ℕ) where
   pub list_any-texts : (test : List ℕ → Bool) (ks : List K) → list_any (λ k. test (text_of k)) ks ≡ list_any test (map text_of ks)

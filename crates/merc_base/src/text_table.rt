@@ -1,5 +1,5 @@
 //! A table of distinct texts, each with its number.
-ghost use Rattle.std.specs.Prelude.{◌≡◌, [], length, slice_get, option_copied, is_some, IfSome, IfOk, OnErr};
+ghost use Rattle.std.specs.Prelude.{◌≡◌, ◌<◌, ◌^◌, [], length, slice_get, option_copied, is_some, IfSome, IfOk, OnErr};
 ghost use Rattle.std.specs.List.{IsDistinct};
 ghost use Rattle.std.specs.Str.{bytes_eq};
 ghost use Rattle.merc_base.specs.Texts.{is_among, place_among, with_text};
@@ -37,6 +37,7 @@ impl TextTable {
     /// The number of texts, which are distinct.
     pub fn len(&self) -> usize
         ensures count { result ≡ length self.now }
+        ensures small { result < 2 ^ 63 }
         ensures distinct { IsDistinct bytes_eq self.now }
     {
         self.texts.len()

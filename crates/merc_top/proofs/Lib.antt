@@ -1,3 +1,4 @@
 pub mod LoadingLemmas
 pub mod WritingLemmas
 pub mod LineLemmas
+pub mod FlatteningLemmas
