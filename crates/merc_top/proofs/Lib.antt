@@ -2,3 +2,4 @@ pub mod LoadingLemmas
 pub mod WritingLemmas
 pub mod LineLemmas
 pub mod FlatteningLemmas
+pub mod InPlaces

@@ -7,3 +7,4 @@ pub mod Words
 pub mod Loading
 pub mod Writing
 pub mod Output
+pub mod FirstFormExamples

@@ -1,3 +1,4 @@
 //! The reader of the first form of the language. The whole reader takes its place.
 mod flattening;
+mod checking;
 pub mod syntax;
