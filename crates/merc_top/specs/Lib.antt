@@ -8,3 +8,4 @@ pub mod Loading
 pub mod Writing
 pub mod Output
 pub mod FirstFormExamples
+pub mod Answer

@@ -1,6 +1,7 @@
 //! The top call: everything that the program does.
 #![tactic(auto)]
 
+mod answering;
 mod evaluating;
 mod first_form;
 mod lines;
