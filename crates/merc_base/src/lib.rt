@@ -9,6 +9,8 @@ pub mod names;
 pub mod outside;
 pub mod place;
 pub mod refusal;
+#[cfg(test)]
+mod tests;
 pub mod text;
 
 pub use buffer::Buffer;
