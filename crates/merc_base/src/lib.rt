@@ -10,6 +10,8 @@ pub mod outside;
 pub mod place;
 pub mod refusal;
 pub mod sequence;
+#[cfg(test)]
+mod tests;
 pub mod text;
 pub mod text_table;
 

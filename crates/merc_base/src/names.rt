@@ -340,10 +340,8 @@ fn text_at(added: &IndexSet<Vec<u8>>, number: u64) -> Option<&[u8]>
     if number < FIXED.len() {
         return fixed_text(number);
     }
-    match added.get_index(number - FIXED.len()) {
-        Some(text) => Some(text.as_slice()),
-        None => None,
-    }
+    let text = added.get_index(number - FIXED.len())?;
+    Some(text.as_slice())
 }
 
 // The constants with their texts.
