@@ -1,6 +1,16 @@
 //! The evaluator: runs a goal over the bodies of the module's predicates.
-use merc_base::Sequence;
-use merc_tree::Word;
+ghost use Rattle.std.specs.Prelude.{◌≡◌, suc, ◌≤◌, List, [], IfOk, OnOk};
+ghost use Rattle.merc_tree.specs.Value.{arithmetic};
+ghost use Rattle.merc_tree.specs.Meaning.{arithmetic_of, value_at as value_of_variable, bound, binds, value_of, goal_trace, call_trace, entered, brought_back, run};
+ghost use Rattle.merc_tree.specs.declared.goal.Goal.{Goal as GoalTree};
+ghost use Rattle.merc_tree.specs.declared.goal.Goal.TheVariants.{Call};
+ghost use Rattle.merc_top.specs.Outcome.{IsOutcome};
+ghost use Rattle.merc_top.specs.Machine.{meaning, in_front, work, Reaches};
+
+use merc_base::{NoMemory, Sequence};
+use merc_tree::{Goal, Goals, Operator, Predicate, Symbol, Var, Word};
+use std::alloc::Global;
+use std::mem;
 
 /// The values of a goal's variables by number, where they have one.
 pub type Environment = Sequence<Option<Word>>;
@@ -14,4 +24,189 @@ pub enum Outcome {
     NoSolution,
     /// One step more than the limit would have come.
     LimitPassed,
+}
+
+// A caller that waits until a body that it has called answers.
+#[derive(Drop)]
+struct Caller<'a> {
+    // The goals behind the call.
+    goals: &'a [Goal],
+    arguments: &'a [Var],
+    values: Vec<Option<Word>>,
+}
+
+// A run: the goals left in the body that runs, the values of its variables, its callers with the newest last, and the
+// steps left.
+#[derive(Drop)]
+struct Machine<'a> {
+    goals: &'a [Goal],
+    values: Vec<Option<Word>>,
+    callers: Vec<Caller<'a>>,
+    left: u64,
+}
+
+// What a machine has come to.
+enum Step {
+    GoesOn,
+    Answers,
+    Fails,
+    PassesLimit,
+}
+
+impl<'a> Machine<'a> {
+    // Gives the variable its value; without one the goal fails.
+    fn bind(&mut self, variable: Var, word: Option<Word>) -> Result<Step, NoMemory>
+        ensures {
+            IfOk result (λ step. (bodies : List (List GoalTree)) → Reaches bodies
+            (λ depth. in_front bodies depth self.old (binds self.old.values.items variable word))
+            self.old.left (suc (work bodies self.old)) step self.new)
+        }
+    {
+        let Some(word) = word else {
+            return Ok(Step::Fails);
+        };
+        bind(&mut self.values, variable, word)?;
+        Ok(Step::GoesOn)
+    }
+
+    // Enters the body of a predicate.
+    fn call(&mut self, alloc: Global, procedures: &'a [Goals], predicate: Predicate, arguments: &'a [Var]) -> Result<Step, NoMemory>
+        ensures {
+            IfOk result (λ step. Reaches procedures.now
+            (λ depth. in_front procedures.now depth self.old
+            (goal_trace (call_trace procedures.now depth) (Call predicate arguments.now) self.old.values.items))
+            self.old.left (suc (work procedures.now self.old)) step self.new)
+        }
+    {
+        if self.left == 0 {
+            return Ok(Step::PassesLimit);
+        }
+        self.left -= 1;
+        let Some(body) = procedures.get(predicate.number()) else {
+            return Ok(Step::Fails);
+        };
+        let inner = enter(alloc, arguments, &self.values)?;
+        let caller = Caller {
+            goals: self.goals,
+            arguments,
+            values: mem::replace(&mut self.values, inner),
+        };
+        self.callers.push(caller)?;
+        self.goals = body.as_slice();
+        Ok(Step::GoesOn)
+    }
+
+    // Runs the next goal.
+    fn step(&mut self, alloc: Global, procedures: &'a [Goals]) -> Result<Step, NoMemory>
+        ensures {
+            IfOk result (λ step. Reaches procedures.now (λ depth. meaning procedures.now depth self.old)
+            self.old.left (work procedures.now self.old) step self.new)
+        }
+    {
+        let Some((goal, rest)) = self.goals.split_first() else {
+            return self.give_back();
+        };
+        self.goals = rest;
+        self.run_goal(alloc, procedures, goal)
+    }
+
+    // Runs one goal in front of those that are left.
+    fn run_goal(&mut self, alloc: Global, procedures: &'a [Goals], goal: &'a Goal) -> Result<Step, NoMemory>
+        ensures {
+            IfOk result (λ step. Reaches procedures.now
+            (λ depth. in_front procedures.now depth self.old
+            (goal_trace (call_trace procedures.now depth) goal.now self.old.values.items))
+            self.old.left (suc (work procedures.now self.old)) step self.new)
+        }
+    {
+        let (to, value) = match goal {
+            Goal::Assign(to, from) => (*to, value_at(&self.values, *from)),
+            Goal::Build(to, symbol) => (*to, Some(build(*symbol))),
+            Goal::Arithmetic(operator, to, left, right) => {
+                let left = value_at(&self.values, *left);
+                let right = value_at(&self.values, *right);
+                (*to, calculate(*operator, left, right))
+            }
+            Goal::Call(predicate, arguments) => {
+                return self.call(alloc, procedures, *predicate, arguments.as_slice());
+            }
+        };
+        self.bind(to, value)
+    }
+
+    // Goes back to the newest caller.
+    fn give_back(&mut self) -> Result<Step, NoMemory>
+        requires { self.old.goals.now ≡ [] }
+        ensures {
+            IfOk result (λ step. (bodies : List (List GoalTree)) → Reaches bodies (λ depth. meaning bodies depth self.old)
+            self.old.left (work bodies self.old) step self.new)
+        }
+    {
+        let Some(caller) = self.callers.pop() else {
+            return Ok(Step::Answers);
+        };
+        let inner = mem::replace(&mut self.values, caller.values);
+        bring_back(caller.arguments, &inner, &mut self.values)?;
+        self.goals = caller.goals;
+        Ok(Step::GoesOn)
+    }
+}
+
+// The value of a variable, if it has one.
+fn value_at(values: &[Option<Word>], variable: Var) -> Option<Word>
+    ensures { result ≡ value_of_variable values.now variable }
+{
+    values.get(variable.number()).copied().flatten()
+}
+
+// The word for the value that a symbol stands for.
+fn build(symbol: Symbol) -> Word
+    ensures { result ≡ value_of symbol }
+{
+    match symbol {
+        Symbol::Int(number) => Word::int(number),
+    }
+}
+
+// What arithmetic gives where both operands have values.
+fn calculate(operator: Operator, left: Option<Word>, right: Option<Word>) -> Option<Word>
+    ensures { result ≡ arithmetic_of operator left right }
+{
+    let left = left?.number();
+    let right = right?.number();
+    match operator {
+        Operator::Add => Some(Word::int(left.wrapping_add(right))),
+    }
+}
+
+// Gives a variable this value.
+fn bind(values: &mut Vec<Option<Word>>, variable: Var, word: Word) -> Result<(), NoMemory>
+    ensures { OnOk result (values.new.items ≡ bound values.old.items variable word) }
+{
+    let number = variable.number();
+    while values.len() <= number {
+        values.push(None)?;
+    }
+    values[number] = Some(word);
+    Ok(())
+}
+
+// The values that a called body begins with: those of the call's arguments.
+fn enter(alloc: Global, arguments: &[Var], values: &[Option<Word>]) -> Result<Vec<Option<Word>>, NoMemory>
+    ensures { IfOk result (λ inner. inner.items ≡ entered arguments.now values.now) }
+{
+    let inner = arguments.iter().map(|argument| value_at(values, *argument)).collect(alloc)?;
+    Ok(inner)
+}
+
+// Gives the arguments of a call the values that the called body has for them.
+fn bring_back(arguments: &[Var], inner: &[Option<Word>], values: &mut Vec<Option<Word>>) -> Result<(), NoMemory>
+    ensures { OnOk result (values.new.items ≡ brought_back arguments.now inner.now values.old.items) }
+{
+    for (argument, value) in arguments.iter().zip(inner) {
+        if let Some(word) = value {
+            bind(values, *argument, *word)?;
+        }
+    }
+    Ok(())
 }
