@@ -156,8 +156,17 @@ reaches_binding bodies old new goal variable word (Err e) same reaches = reaches
 reaches_binding bodies old new goal variable word (Ok step) same reaches =
     Reaches-same bodies _ _ old.left _ step new (λ depth. ap (λ t. in_front bodies depth old t) (same (call_trace bodies depth))) (reaches bodies)
 
--- an outcome is told by the answers and the end
-pub IsOutcome-same : (outcome : Outcome) (rest whole : Run) → answers_of rest ≡ answers_of whole → end_of rest ≡ end_of whole → IsOutcome outcome rest → IsOutcome outcome whole
-IsOutcome-same (Solution env) rest whole answers end fact = (sym answers ∙ fact.0, sym end ∙ fact.1)
-IsOutcome-same NoSolution rest whole answers end fact = (sym answers ∙ fact.0, sym end ∙ fact.1)
-IsOutcome-same LimitPassed rest whole answers end fact = (sym answers ∙ fact.0, sym end ∙ fact.1)
+-- a step that goes on keeps what the machine does
+pub resumes_on : (bodies : List (List Goal)) (whole : Run) (old new : Machine) (step : Step) → step ≡ GoesOn → Resumes bodies whole old
+    → Reaches bodies (λ depth. meaning bodies depth old) old.left (work bodies old) step new → Resumes bodies whole new
+resumes_on bodies whole old new Answers is before reaches = cc
+resumes_on bodies whole old new Fails is before reaches = cc
+resumes_on bodies whole old new PassesLimit is before reaches = cc
+resumes_on bodies whole old new GoesOn is before reaches =
+    let behind = reaches.1 before.depth before.enough in
+    record {
+      depth = behind.depth;
+      enough = behind.enough;
+      answers = behind.answers ∙ before.answers;
+      end = behind.end ∙ before.end;
+    }

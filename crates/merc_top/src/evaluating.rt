@@ -8,7 +8,7 @@ ghost use Rattle.merc_top.specs.Outcome.{IsOutcome};
 ghost use Rattle.merc_top.specs.Machine.{meaning, in_front, work, Reaches};
 
 use merc_base::{NoMemory, Sequence};
-use merc_tree::{Goal, Goals, Operator, Predicate, Symbol, Var, Word};
+use merc_tree::{Goal, Goals, Operator, Predicate, Procedures, Symbol, Var, Word};
 use std::alloc::Global;
 use std::mem;
 
@@ -24,6 +24,29 @@ pub enum Outcome {
     NoSolution,
     /// One step more than the limit would have come.
     LimitPassed,
+}
+
+/// Runs a goal over the bodies of the predicates, up to a limit of steps; a step is one entry into a predicate. A
+/// predicate that is not there fails, and so does a goal that needs a value which a variable has not.
+pub fn solve(alloc: Global, procedures: &Procedures, goal: &Goals, limit: u64) -> Result<Outcome, NoMemory>
+    requires { limit ≤ 1000000000 }
+    ensures { IfOk result (λ outcome. IsOutcome outcome (run procedures.now goal.now limit)) }
+{
+    let bodies = procedures.as_slice();
+    let mut machine = Machine {
+        goals: goal.as_slice(),
+        values: Vec::new(alloc),
+        callers: Vec::new(alloc),
+        left: limit,
+    };
+    loop {
+        match machine.step(alloc, bodies)? {
+            Step::GoesOn => {}
+            Step::Answers => return Ok(Outcome::Solution(Sequence::from_vec(machine.values))),
+            Step::Fails => return Ok(Outcome::NoSolution),
+            Step::PassesLimit => return Ok(Outcome::LimitPassed),
+        }
+    }
 }
 
 // A caller that waits until a body that it has called answers.
