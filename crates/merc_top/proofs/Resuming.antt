@@ -59,7 +59,7 @@ resumes bodies machine depth trace enough same = record {
 pub in_front-binds : (bodies : List (List Goal)) (depth : ℕ) (machine : Machine) (variable : ℕ) (word : Option Value) (value : Value) (env : Env)
     → word ≡ Some value → env ≡ bound machine.values.items variable value
     → in_front bodies depth machine (binds machine.values.items variable word)
-      ≡ resume bodies depth (reverse machine.callers.items) (conjunction_trace (call_trace bodies depth) machine.goals.now env)
+    ≡ resume bodies depth (reverse machine.callers.items) (conjunction_trace (call_trace bodies depth) machine.goals.now env)
 in_front-binds bodies depth machine variable word value env is values = rw (is, values) (ap (λ t. resume bodies depth (reverse machine.callers.items) t) (after-done _))
 
 -- where no goal is left, the newest caller's goals go on
@@ -67,7 +67,7 @@ pub meaning-given_back : (bodies : List (List Goal)) (depth : ℕ) (machine : Ma
     → machine.goals.now ≡ [] → machine.callers.items ≡ callers ++ caller ∷ []
     → env ≡ brought_back caller.arguments.now machine.values.items caller.values.items
     → meaning bodies depth machine
-      ≡ resume bodies (suc depth) (reverse callers) (conjunction_trace (call_trace bodies (suc depth)) caller.goals.now env)
+    ≡ resume bodies (suc depth) (reverse callers) (conjunction_trace (call_trace bodies (suc depth)) caller.goals.now env)
 meaning-given_back bodies depth machine callers caller env goals stack values =
     rw (goals, stack, reverse-append, values) (ap (λ t. resume bodies (suc depth) (reverse callers) t) (after-done _))
 
@@ -86,8 +86,8 @@ call_at_limit bodies (suc depth) machine predicate arguments none enough = rw (n
 -- a call's step, and then the trace of the body
 pub in_front-call : (bodies : List (List Goal)) (depth : ℕ) (machine : Machine) (predicate : ℕ) (arguments : List ℕ)
     → in_front bodies (suc depth) machine (goal_trace (call_trace bodies (suc depth)) (Call predicate arguments) machine.values.items)
-      ≡ Tick (in_front bodies (suc depth) machine (taken_back (λ inner. brought_back arguments inner machine.values.items)
-        (body_trace (call_trace bodies depth) (slice_get bodies predicate) (entered arguments machine.values.items))))
+    ≡ Tick (in_front bodies (suc depth) machine (taken_back (λ inner. brought_back arguments inner machine.values.items)
+    (body_trace (call_trace bodies depth) (slice_get bodies predicate) (entered arguments machine.values.items))))
 in_front-call bodies depth machine predicate arguments = resume-tick bodies (suc depth) (reverse machine.callers.items) _
 
 -- a call of a predicate that is not there fails behind its step
@@ -104,7 +104,7 @@ meaning-called : (bodies : List (List Goal)) (depth : ℕ) (old new : Machine) (
     → slice_get bodies predicate ≡ Some new.goals.now → new.values.items ≡ entered arguments.now old.values.items → values ≡ old.values
     → new.callers.items ≡ old.callers.items ++ record { goals = old.goals; arguments = arguments; values = values } ∷ []
     → in_front bodies (suc depth) old (goal_trace (call_trace bodies (suc depth)) (Call predicate arguments.now) old.values.items)
-      ≡ Tick (meaning bodies depth new)
+    ≡ Tick (meaning bodies depth new)
 meaning-called bodies depth old new predicate arguments values there inner same stack =
     rw (in_front-call, there, stack, reverse-append, inner, same) refl
 
@@ -133,7 +133,7 @@ length-longest (first ∷ bodies) (suc predicate) body there = omega (arith, len
 pub call_less : (bodies : List (List Goal)) (left rest predicate : ℕ) (body goals : List Goal) (stack callers : List Caller) (caller : Caller)
     → left ≡ suc rest → slice_get bodies predicate ≡ Some body → caller.goals.now ≡ goals → stack ≡ callers ++ caller ∷ []
     → rest * suc (longest bodies) + length body + sum_by waiting stack
-      < suc (left * suc (longest bodies) + length goals + sum_by waiting callers)
+    < suc (left * suc (longest bodies) + length goals + sum_by waiting callers)
 call_less bodies left rest predicate body goals stack callers caller less there same is =
     rw (less, ← same, is, sum_by_push waiting) (omega (arith, length-longest bodies predicate body there))
 
@@ -149,9 +149,9 @@ Reaches-same bodies trace other left bound PassesLimit machine same reaches = λ
 pub reaches_binding : (bodies : List (List Goal)) (old new : Machine) (goal : Goal) (variable : ℕ) (word : Option Value) (result : Result Step NoMemory)
     → ((call : ℕ → Env → Trace) → goal_trace call goal old.values.items ≡ binds old.values.items variable word)
     → IfOk result (λ step. (bodies : List (List Goal)) → Reaches bodies (λ depth. in_front bodies depth old (binds old.values.items variable word))
-        old.left (suc (work bodies old)) step new)
+    old.left (suc (work bodies old)) step new)
     → IfOk result (λ step. Reaches bodies (λ depth. in_front bodies depth old (goal_trace (call_trace bodies depth) goal old.values.items))
-        old.left (suc (work bodies old)) step new)
+    old.left (suc (work bodies old)) step new)
 reaches_binding bodies old new goal variable word (Err e) same reaches = reaches
 reaches_binding bodies old new goal variable word (Ok step) same reaches =
     Reaches-same bodies _ _ old.left _ step new (λ depth. ap (λ t. in_front bodies depth old t) (same (call_trace bodies depth))) (reaches bodies)

@@ -10,6 +10,10 @@ use Rattle.merc_top.specs.declared.evaluating.Machine.{Machine}
 use Rattle.merc_top.specs.declared.evaluating.Step.{Step}
 use Rattle.merc_top.specs.declared.evaluating.Step.TheVariants.{GoesOn, Answers, Fails, PassesLimit}
 
+-- the bodies of the predicates
+abbrev pub Bodies : Type 0
+Bodies = List (List Goal)
+
 -- the caller's trace from its call on, where this is the trace of the body that it called
 abbrev pub answered : (ℕ → Env → Trace) → Caller → Trace → Trace
 answered call caller trace =
@@ -17,29 +21,29 @@ answered call caller trace =
     (taken_back (λ inner. brought_back caller.arguments.now inner caller.values.items) trace)
 
 -- the whole trace, where the newest caller has called a body of this trace, which is followed to this depth of calls
-abbrev pub resume : List (List Goal) → ℕ → List Caller → Trace → Trace
+abbrev pub resume : Bodies → ℕ → List Caller → Trace → Trace
 resume bodies depth [] trace = trace
 resume bodies depth (caller ∷ callers) trace = resume bodies (suc depth) callers (answered (call_trace bodies (suc depth)) caller trace)
 
 -- the whole trace of what a machine has left, where the body that runs is followed to this depth of calls
-abbrev pub meaning : List (List Goal) → ℕ → Machine → Trace
+abbrev pub meaning : Bodies → ℕ → Machine → Trace
 meaning bodies depth machine =
     resume bodies depth (reverse machine.callers.items) (conjunction_trace (call_trace bodies depth) machine.goals.now machine.values.items)
 
 -- the whole trace, where a goal of this trace stands in front of those that a machine has left
-abbrev pub in_front : List (List Goal) → ℕ → Machine → Trace → Trace
+abbrev pub in_front : Bodies → ℕ → Machine → Trace → Trace
 in_front bodies depth machine trace =
     resume bodies depth (reverse machine.callers.items) (each (λ env. conjunction_trace (call_trace bodies depth) machine.goals.now env) trace)
 
 -- a machine does the rest of a run: what it has left has the run's answers and end
-pub record Resumes (bodies : List (List Goal)) (whole : Run) (machine : Machine) : Type 0 where
+pub record Resumes (bodies : Bodies) (whole : Run) (machine : Machine) : Type 0 where
   pub depth : ℕ
   pub enough : machine.left < depth
   pub answers : answers_of (cut machine.left (meaning bodies depth machine)) ≡ answers_of whole
   pub end : end_of (cut machine.left (meaning bodies depth machine)) ≡ end_of whole
 
 -- the goals of the longest body
-abbrev pub longest : List (List Goal) → ℕ
+abbrev pub longest : Bodies → ℕ
 longest [] = 0
 longest (body ∷ bodies) = max (length body) (longest bodies)
 
@@ -48,12 +52,12 @@ abbrev pub waiting : Caller → ℕ
 waiting caller = suc (length caller.goals.now)
 
 -- a bound on what a machine does: with a step left it may enter the longest body
-abbrev pub work : List (List Goal) → Machine → ℕ
+abbrev pub work : Bodies → Machine → ℕ
 work bodies machine =
     machine.left * suc (longest bodies) + length machine.goals.now + sum_by waiting machine.callers.items
 
 -- what a machine comes to, where before it had this trace, so many steps and less than so much work
-abbrev pub Reaches : List (List Goal) → (ℕ → Trace) → ℕ → ℕ → Step → Machine → Type 0
+abbrev pub Reaches : Bodies → (ℕ → Trace) → ℕ → ℕ → Step → Machine → Type 0
 Reaches bodies trace left bound GoesOn machine =
     (work bodies machine < bound) × ((depth : ℕ) → left < depth → Resumes bodies (cut left (trace depth)) machine)
 Reaches bodies trace left bound Answers machine = (depth : ℕ) → left < depth → IsOutcome (Solution machine.values.items) (cut left (trace depth))

@@ -1,14 +1,11 @@
 //! The evaluator: runs a goal over the bodies of the module's predicates.
-ghost use Rattle.std.specs.Prelude.{◌≡◌, suc, ◌≤◌, List, [], IfOk, OnOk};
-ghost use Rattle.merc_tree.specs.Value.{arithmetic};
-ghost use Rattle.merc_tree.specs.Meaning.{arithmetic_of, value_at as value_of_variable, bound, binds, value_of, goal_trace, call_trace, entered, brought_back, run};
-ghost use Rattle.merc_tree.specs.declared.goal.Goal.{Goal as GoalTree};
-ghost use Rattle.merc_tree.specs.declared.goal.Goal.TheVariants.{Call};
+ghost use Rattle.std.specs.Prelude.{◌≡◌, suc, ◌≤◌, [], IfOk, OnOk};
+ghost use Rattle.merc_tree.specs.Meaning.{arithmetic_of, binds, bound, brought_back, call_trace, entered, goal_trace, run, value_at, value_of};
 ghost use Rattle.merc_top.specs.Outcome.{IsOutcome};
-ghost use Rattle.merc_top.specs.Machine.{meaning, in_front, work, Reaches};
+ghost use Rattle.merc_top.specs.Machine.{Bodies, Reaches, in_front, meaning, work};
 
 use merc_base::{NoMemory, Sequence};
-use merc_tree::{Goal, Goals, Operator, Predicate, Procedures, Symbol, Var, Word};
+use merc_tree::{Goal, Goals, Operator, Predicate, Procedures, Symbol, Var, Vars, Word};
 use std::alloc::Global;
 use std::mem;
 
@@ -28,7 +25,12 @@ pub enum Outcome {
 
 /// Runs a goal over the bodies of the predicates, up to a limit of steps; a step is one entry into a predicate. A
 /// predicate that is not there fails, and so does a goal that needs a value which a variable has not.
-pub fn solve(alloc: Global, procedures: &Procedures, goal: &Goals, limit: u64) -> Result<Outcome, NoMemory>
+pub fn solve(
+    alloc: Global,
+    procedures: &Procedures,
+    goal: &Goals,
+    limit: u64,
+) -> Result<Outcome, NoMemory>
     requires { limit ≤ 1000000000 }
     ensures { IfOk result (λ outcome. IsOutcome outcome (run procedures.now goal.now limit)) }
 {
@@ -49,22 +51,27 @@ pub fn solve(alloc: Global, procedures: &Procedures, goal: &Goals, limit: u64) -
     }
 }
 
-// A caller that waits until a body that it has called answers.
+// A caller that waits until the body that it has called answers.
 #[derive(Drop)]
 struct Caller<'a> {
     // The goals behind the call.
     goals: &'a [Goal],
+    // The call's arguments.
     arguments: &'a [Var],
+    // The values of the caller's variables.
     values: Vec<Option<Word>>,
 }
 
-// A run: the goals left in the body that runs, the values of its variables, its callers with the newest last, and the
-// steps left.
+// A run that has not ended.
 #[derive(Drop)]
 struct Machine<'a> {
+    // The goals that are left in the body that runs.
     goals: &'a [Goal],
+    // The values of that body's variables.
     values: Vec<Option<Word>>,
+    // The newest caller is the last.
     callers: Vec<Caller<'a>>,
+    // How many more steps the limit allows.
     left: u64,
 }
 
@@ -77,29 +84,31 @@ enum Step {
 }
 
 impl<'a> Machine<'a> {
-    // Gives the variable its value; without one the goal fails.
+    // Gives a variable its value. Without a value the goal fails.
     fn bind(&mut self, variable: Var, word: Option<Word>) -> Result<Step, NoMemory>
-        ensures {
-            IfOk result (λ step. (bodies : List (List GoalTree)) → Reaches bodies
+        ensures { IfOk result (λ step. (bodies : Bodies) → Reaches bodies
             (λ depth. in_front bodies depth self.old (binds self.old.values.items variable word))
-            self.old.left (suc (work bodies self.old)) step self.new)
-        }
+            self.old.left (suc (work bodies self.old)) step self.new) }
     {
         let Some(word) = word else {
             return Ok(Step::Fails);
         };
-        bind(&mut self.values, variable, word)?;
+        set_value(&mut self.values, variable, word)?;
         Ok(Step::GoesOn)
     }
 
-    // Enters the body of a predicate.
-    fn call(&mut self, alloc: Global, procedures: &'a [Goals], predicate: Predicate, arguments: &'a [Var]) -> Result<Step, NoMemory>
-        ensures {
-            IfOk result (λ step. Reaches procedures.now
+    // Enters the body of a predicate, which takes a step.
+    fn call(
+        &mut self,
+        alloc: Global,
+        procedures: &'a [Goals],
+        predicate: Predicate,
+        arguments: &'a [Var],
+    ) -> Result<Step, NoMemory>
+        ensures { IfOk result (λ step. Reaches procedures.now
             (λ depth. in_front procedures.now depth self.old
-            (goal_trace (call_trace procedures.now depth) (Call predicate arguments.now) self.old.values.items))
-            self.old.left (suc (work procedures.now self.old)) step self.new)
-        }
+            (goal_trace (call_trace procedures.now depth) (Goal.Call predicate arguments.now) self.old.values.items))
+            self.old.left (suc (work procedures.now self.old)) step self.new) }
     {
         if self.left == 0 {
             return Ok(Step::PassesLimit);
@@ -121,10 +130,8 @@ impl<'a> Machine<'a> {
 
     // Runs the next goal.
     fn step(&mut self, alloc: Global, procedures: &'a [Goals]) -> Result<Step, NoMemory>
-        ensures {
-            IfOk result (λ step. Reaches procedures.now (λ depth. meaning procedures.now depth self.old)
-            self.old.left (work procedures.now self.old) step self.new)
-        }
+        ensures { IfOk result (λ step. Reaches procedures.now (λ depth. meaning procedures.now depth self.old)
+            self.old.left (work procedures.now self.old) step self.new) }
     {
         let Some((goal, rest)) = self.goals.split_first() else {
             return self.give_back();
@@ -133,14 +140,17 @@ impl<'a> Machine<'a> {
         self.run_goal(alloc, procedures, goal)
     }
 
-    // Runs one goal in front of those that are left.
-    fn run_goal(&mut self, alloc: Global, procedures: &'a [Goals], goal: &'a Goal) -> Result<Step, NoMemory>
-        ensures {
-            IfOk result (λ step. Reaches procedures.now
+    // Runs a goal that stands in front of those that are left.
+    fn run_goal(
+        &mut self,
+        alloc: Global,
+        procedures: &'a [Goals],
+        goal: &'a Goal,
+    ) -> Result<Step, NoMemory>
+        ensures { IfOk result (λ step. Reaches procedures.now
             (λ depth. in_front procedures.now depth self.old
             (goal_trace (call_trace procedures.now depth) goal.now self.old.values.items))
-            self.old.left (suc (work procedures.now self.old)) step self.new)
-        }
+            self.old.left (suc (work procedures.now self.old)) step self.new) }
     {
         let (to, value) = match goal {
             Goal::Assign(to, from) => (*to, value_at(&self.values, *from)),
@@ -157,13 +167,11 @@ impl<'a> Machine<'a> {
         self.bind(to, value)
     }
 
-    // Goes back to the newest caller.
+    // Goes back to the newest caller, as no goal is left. Without a caller the run has its answer.
     fn give_back(&mut self) -> Result<Step, NoMemory>
         requires { self.old.goals.now ≡ [] }
-        ensures {
-            IfOk result (λ step. (bodies : List (List GoalTree)) → Reaches bodies (λ depth. meaning bodies depth self.old)
-            self.old.left (work bodies self.old) step self.new)
-        }
+        ensures { IfOk result (λ step. (bodies : Bodies) → Reaches bodies (λ depth. meaning bodies depth self.old)
+            self.old.left (work bodies self.old) step self.new) }
     {
         let Some(caller) = self.callers.pop() else {
             return Ok(Step::Answers);
@@ -177,7 +185,7 @@ impl<'a> Machine<'a> {
 
 // The value of a variable, if it has one.
 fn value_at(values: &[Option<Word>], variable: Var) -> Option<Word>
-    ensures { result ≡ value_of_variable values.now variable }
+    ensures { result ≡ value_at values.now variable }
 {
     values.get(variable.number()).copied().flatten()
 }
@@ -202,8 +210,8 @@ fn calculate(operator: Operator, left: Option<Word>, right: Option<Word>) -> Opt
     }
 }
 
-// Gives a variable this value.
-fn bind(values: &mut Vec<Option<Word>>, variable: Var, word: Word) -> Result<(), NoMemory>
+// Gives a variable this value. Where memory is refused the list may have grown, but has the same values.
+fn set_value(values: &mut Vec<Option<Word>>, variable: Var, word: Word) -> Result<(), NoMemory>
     ensures { OnOk result (values.new.items ≡ bound values.old.items variable word) }
 {
     let number = variable.number();
@@ -215,21 +223,80 @@ fn bind(values: &mut Vec<Option<Word>>, variable: Var, word: Word) -> Result<(),
 }
 
 // The values that a called body begins with: those of the call's arguments.
-fn enter(alloc: Global, arguments: &[Var], values: &[Option<Word>]) -> Result<Vec<Option<Word>>, NoMemory>
+fn enter(
+    alloc: Global,
+    arguments: &[Var],
+    values: &[Option<Word>],
+) -> Result<Vec<Option<Word>>, NoMemory>
     ensures { IfOk result (λ inner. inner.items ≡ entered arguments.now values.now) }
 {
-    let inner = arguments.iter().map(|argument| value_at(values, *argument)).collect(alloc)?;
+    let inner = arguments
+        .iter()
+        .map(|argument| value_at(values, *argument))
+        .collect(alloc)?;
     Ok(inner)
 }
 
 // Gives the arguments of a call the values that the called body has for them.
-fn bring_back(arguments: &[Var], inner: &[Option<Word>], values: &mut Vec<Option<Word>>) -> Result<(), NoMemory>
+fn bring_back(
+    arguments: &[Var],
+    inner: &[Option<Word>],
+    values: &mut Vec<Option<Word>>,
+) -> Result<(), NoMemory>
     ensures { OnOk result (values.new.items ≡ brought_back arguments.now inner.now values.old.items) }
 {
     for (argument, value) in arguments.iter().zip(inner) {
         if let Some(word) = value {
-            bind(values, *argument, *word)?;
+            set_value(values, *argument, *word)?;
         }
     }
     Ok(())
+}
+
+#[cfg(test)]
+mod tests {
+    use super::*;
+    use std::test::Fail;
+
+    // A body of one goal.
+    fn body(alloc: Global, goal: Goal) -> Result<Goals, NoMemory> {
+        let mut goals = Sequence::new(alloc);
+        goals.push(goal)?;
+        Ok(goals)
+    }
+
+    // These two variables.
+    fn pair(alloc: Global, first: usize, second: usize) -> Result<Vars, NoMemory> {
+        let mut variables = Sequence::new(alloc);
+        variables.push(Var::new(first))?;
+        variables.push(Var::new(second))?;
+        Ok(variables)
+    }
+
+    // `double(X, Y) :- Y = X + X.` and `twice(X, Y) :- double(X, Y).`
+    fn procedures(alloc: Global) -> Result<Procedures, NoMemory> {
+        let (input, output) = (Var::new(0), Var::new(1));
+        let mut bodies = Sequence::new(alloc);
+        bodies.push(body(alloc, Goal::Arithmetic(Operator::Add, output, input, input))?)?;
+        bodies.push(body(alloc, Goal::Call(Predicate::new(0), pair(alloc, 0, 1)?))?)?;
+        Ok(bodies)
+    }
+
+    #[test]
+    fn calls_through_two_bodies(rt: HostRuntime) -> Result<(), Fail> {
+        let alloc = rt.alloc();
+        let procedures = procedures(alloc)?;
+        let mut goal = body(alloc, Goal::Build(Var::new(0), Symbol::Int(4)))?;
+        goal.push(Goal::Call(Predicate::new(1), pair(alloc, 0, 1)?))?;
+        let Outcome::Solution(values) = solve(alloc, &procedures, &goal, 2)? else {
+            return Err(Fail);
+        };
+        assert_eq!(rt;
+            values.as_slice().get(1).copied().flatten(),
+            Some(Word::int(8))
+        );
+        assert!(rt; matches!(solve(alloc, &procedures, &goal, 1)?, Outcome::LimitPassed));
+        assert!(rt; matches!(solve(alloc, &procedures, &goal, 0)?, Outcome::LimitPassed));
+        Ok(())
+    }
 }

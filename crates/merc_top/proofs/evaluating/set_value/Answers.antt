@@ -1,7 +1,7 @@
 -- The entries that the loop adds are those that `bound` fills up with.
 use Rattle.std.proofs.Common.{◌≡◌, ◌∙◌, sym, ◌<◌, ◌≤◌, length, arith}
 use Rattle.merc_top.proofs.Environments.{bound-push, set-bound}
-use Rattle.merc_top.proofs.evaluating.bind.Goals as goal
+use Rattle.merc_top.proofs.evaluating.set_value.Goals as goal
 
 pub loop-values-preserved : goal.loop-values-preserved
 loop-values-preserved c =
