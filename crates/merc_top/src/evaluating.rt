@@ -282,21 +282,26 @@ mod tests {
         Ok(bodies)
     }
 
+    // The value that an outcome has for a variable.
+    fn found(outcome: &Outcome, variable: usize) -> Option<Word> {
+        match outcome {
+            Outcome::Solution(values) => value_at(values.as_slice(), Var::new(variable)),
+            Outcome::NoSolution | Outcome::LimitPassed => None,
+        }
+    }
+
     #[test]
     fn calls_through_two_bodies(rt: HostRuntime) -> Result<(), Fail> {
         let alloc = rt.alloc();
         let procedures = procedures(alloc)?;
         let mut goal = body(alloc, Goal::Build(Var::new(0), Symbol::Int(4)))?;
         goal.push(Goal::Call(Predicate::new(1), pair(alloc, 0, 1)?))?;
-        let Outcome::Solution(values) = solve(alloc, &procedures, &goal, 2)? else {
-            return Err(Fail);
-        };
-        assert_eq!(rt;
-            values.as_slice().get(1).copied().flatten(),
-            Some(Word::int(8))
-        );
-        assert!(rt; matches!(solve(alloc, &procedures, &goal, 1)?, Outcome::LimitPassed));
-        assert!(rt; matches!(solve(alloc, &procedures, &goal, 0)?, Outcome::LimitPassed));
+        let outcome = solve(alloc, &procedures, &goal, 2)?;
+        assert_eq!(rt; found(&outcome, 1), Some(Word::int(8)));
+        for limit in [0, 1] {
+            let outcome = solve(alloc, &procedures, &goal, limit)?;
+            assert!(rt; matches!(outcome, Outcome::LimitPassed), "at {limit}");
+        }
         Ok(())
     }
 }
