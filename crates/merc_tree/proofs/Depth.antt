@@ -1,9 +1,8 @@
 -- A run is the same at each depth of calls that is greater than its limit.
 use Rattle.std.proofs.Common.{◌≡◌, ℕ, suc, zero, ◌<◌, List, [], ◌∷◌, Option, Some, None, refl, ap, arith}
 use Rattle.std.specs.List.{slice_get}
-use Rattle.merc_tree.specs.Value.{Value}
-use Rattle.merc_tree.specs.Trace.{Env, Events, Ends, Tick, Answer, End, Done, Raised, TooDeep, Trace, after, each, taken_back, cut}
-use Rattle.merc_tree.specs.Meaning.{binds, value_at, value_of, arithmetic_of, bound, one_answer, goal_trace, conjunction_trace, body_trace, call_trace, entered, brought_back, run}
+use Rattle.merc_tree.specs.Trace.{Env, Ends, Tick, Answer, End, Done, Raised, TooDeep, Trace, after, each, taken_back, cut}
+use Rattle.merc_tree.specs.Meaning.{goal_trace, conjunction_trace, body_trace, call_trace, entered, brought_back, run}
 use Rattle.merc_tree.specs.declared.goal.Goal.{Goal}
 use Rattle.merc_tree.specs.declared.goal.Goal.TheVariants.{Assign, Build, Arithmetic, Call}
 
