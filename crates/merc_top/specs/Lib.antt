@@ -9,3 +9,4 @@ pub mod Writing
 pub mod Output
 pub mod FirstFormExamples
 pub mod Answer
+pub mod Machine
