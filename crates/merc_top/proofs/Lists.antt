@@ -47,7 +47,7 @@ leads_on_predicates whole predicates predicates' tokens rest next so_far read pu
     rw pushed (go tokens so_far.fuel (shorter-predicate_of tokens next rest read) read so_far.enough so_far.same)
   where
     go : (tokens : List Token) (fuel : ℕ) → length rest < length tokens → predicate_of tokens ≡ Some (next, rest) → length tokens ≤ fuel
-      → predicates_on fuel predicates tokens ≡ whole → LeadsToPredicates whole (predicates ++ next ∷ []) rest
+        → predicates_on fuel predicates tokens ≡ whole → LeadsToPredicates whole (predicates ++ next ∷ []) rest
     go [] fuel less read enough same = absurd (omega arith)
     go (token ∷ after) zero less read enough same = absurd (omega arith)
     go (token ∷ after) (suc fuel) less read enough same = record { fuel = fuel; enough = omega arith; same = rw read at same }

@@ -64,7 +64,7 @@ items_on-complete item spelling complete (suc fuel) items (next ∷ added) rest 
     let later = behind_commas (map spelling added) in
     rw (append_assoc (spelling next) later rest, complete next (later ++ rest) (may_follow-behind_commas (map spelling added) rest ends))
     (rw (← append_assoc items (next ∷ []) added)
-      (items_on-complete item spelling complete fuel (items ++ next ∷ []) added rest (omega arith) ends))
+    (items_on-complete item spelling complete fuel (items ++ next ∷ []) added rest (omega arith) ends))
 
 list_of-complete : {X : Type 0} (item : List Token → Option (X × List Token)) (spelling : X → List Token) → IsComplete item spelling → IsBegun spelling
     → (all : List X) (rest : List Token) → is_at_end rest ≡ true → list_of item (separated (map spelling all) ++ rest) ≡ Some (all, rest)
@@ -73,7 +73,7 @@ list_of-complete item spelling complete begun (next ∷ others) rest ends =
     let later = behind_commas (map spelling others) in
     rw (append_assoc (spelling next) later rest, begun next (later ++ rest), complete next (later ++ rest) (may_follow-behind_commas (map spelling others) rest ends))
     (items_on-complete item spelling complete (length (spelling next ++ (later ++ rest))) (next ∷ []) others rest
-      (omega (arith, length-behind_commas spelling others, length-append (spelling next) (later ++ rest), length-append later rest)) ends)
+    (omega (arith, length-behind_commas spelling others, length-append (spelling next) (later ++ rest), length-append later rest)) ends)
 
 arguments_of-complete : {X : Type 0} (item : List Token → Option (X × List Token)) (spelling : X → List Token) → IsComplete item spelling → IsBegun spelling
     → (all : List X) (rest : List Token) → arguments_of item (separated (map spelling all) ++ Close ∷ rest) ≡ Some (all, rest)
@@ -97,7 +97,7 @@ is_begun-conjunct_tokens : (conjunct : Conjunct) (rest : List Token) → is_at_e
 is_begun-conjunct_tokens (Equation variable expression) rest = refl
 is_begun-conjunct_tokens (Call name operands) rest = refl
 
-body_of-complete : (body : List Conjunct) (rest : List Token) → is_at_end rest ≡ true → list_of conjunct_of (body_tokens body ++ rest) ≡ Some (body, rest)
+pub body_of-complete : (body : List Conjunct) (rest : List Token) → is_at_end rest ≡ true → list_of conjunct_of (body_tokens body ++ rest) ≡ Some (body, rest)
 body_of-complete body rest ends = list_of-complete conjunct_of conjunct_tokens conjunct_of-complete is_begun-conjunct_tokens body rest ends
 
 mode_of-complete : (mode : Mode) (rest : List Token) → may_follow rest ≡ true → mode_of (mode_tokens mode ++ rest) ≡ Some (mode, rest)
@@ -106,18 +106,23 @@ mode_of-complete Output rest follows = refl
 
 declaration_of-complete : (name : List ℕ) (modes : List Mode) (rest : List Token) → declaration_of (declaration_tokens name modes ++ rest) ≡ Some ((name, modes), rest)
 declaration_of-complete name modes rest =
-    rw (append_assoc (separated (map mode_tokens modes)) (Close ∷ Name (codes "is") ∷ Name (codes "det") ∷ Stop ∷ []) rest,
-      arguments_of-complete mode_of mode_tokens mode_of-complete (λ mode rest. refl) modes (Name (codes "is") ∷ Name (codes "det") ∷ Stop ∷ rest)) refl
+    rw (
+      append_assoc (separated (map mode_tokens modes)) (Close ∷ Name (codes "is") ∷ Name (codes "det") ∷ Stop ∷ []) rest,
+      arguments_of-complete mode_of mode_tokens mode_of-complete (λ mode rest. refl) modes (Name (codes "is") ∷ Name (codes "det") ∷ Stop ∷ rest),
+    ) refl
 
 clause_of-complete : (name : List ℕ) (head : List (List ℕ)) (body : List Conjunct) (rest : List Token)
     → clause_of name (clause_tokens name head body ++ rest) ≡ Some ((head, body), rest)
 clause_of-complete name head body rest =
     let variables = separated (map (λ variable. VariableToken variable ∷ []) head) in
-    rw ((bytes_eq-Decides name name).1 refl, append_assoc variables (Close ∷ Neck ∷ (body_tokens body ++ Stop ∷ [])) rest,
+    rw (
+      (bytes_eq-Decides name name).1 refl,
+      append_assoc variables (Close ∷ Neck ∷ (body_tokens body ++ Stop ∷ [])) rest,
       arguments_of-complete variable_of (λ variable. VariableToken variable ∷ []) (λ variable rest _. refl) (λ variable rest. refl) head
-        (Neck ∷ ((body_tokens body ++ Stop ∷ []) ++ rest)),
+          (Neck ∷ ((body_tokens body ++ Stop ∷ []) ++ rest)),
       append_assoc (body_tokens body) (Stop ∷ []) rest,
-      body_of-complete body (Stop ∷ rest) refl) refl
+      body_of-complete body (Stop ∷ rest) refl,
+    ) refl
 
 predicate_step : (tokens : List Token) (name : List ℕ) (modes : List Mode) (defined : List Token) (head : List (List ℕ)) (body : List Conjunct) (rest : List Token)
     → declaration_of tokens ≡ Some ((name, modes), defined) → clause_of name defined ≡ Some ((head, body), rest)
@@ -129,8 +134,8 @@ predicate_of-complete predicate rest =
     let declaration = declaration_tokens predicate.name predicate.modes in
     let clause = clause_tokens predicate.name predicate.head predicate.body in
     predicate_step ((declaration ++ clause) ++ rest) predicate.name predicate.modes (clause ++ rest) predicate.head predicate.body rest
-      (ap declaration_of (append_assoc declaration clause rest) ∙ declaration_of-complete predicate.name predicate.modes (clause ++ rest))
-      (clause_of-complete predicate.name predicate.head predicate.body rest)
+    (ap declaration_of (append_assoc declaration clause rest) ∙ declaration_of-complete predicate.name predicate.modes (clause ++ rest))
+    (clause_of-complete predicate.name predicate.head predicate.body rest)
 
 predicates_step : (fuel : ℕ) (predicates : List Predicate) (tokens : List Token) (next : Predicate) (rest : List Token) → predicate_of tokens ≡ Some (next, rest)
     → predicates_on (suc fuel) predicates tokens ≡ predicates_on fuel (predicates ++ next ∷ []) rest
@@ -156,8 +161,10 @@ import_of-complete false (predicate ∷ predicates) = refl
 pub module_of-complete : (source : Module) → module_of (module_tokens source) ≡ Some source
 module_of-complete source =
     let predicates = flat_map predicate_tokens source.predicates in
-    rw (import_of-complete source.imports_int source.predicates,
-      predicates_on-complete (length predicates) [] source.predicates (omega arith)) refl
+    rw (
+      import_of-complete source.imports_int source.predicates,
+      predicates_on-complete (length predicates) [] source.predicates (omega arith),
+    ) refl
 
 pub goal_of-complete : (tokens : List Token) (body : List Conjunct) → SpelledBy tokens body → goal_of tokens ≡ Some body
 goal_of-complete tokens body (inl spelled) =

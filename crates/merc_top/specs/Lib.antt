@@ -1,5 +1,6 @@
 pub mod Tokens
 pub mod Grammar
+pub mod GrammarExamples
 pub mod Spelling
 pub mod Parsing
 pub mod ParsingSound

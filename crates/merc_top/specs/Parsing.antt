@@ -1,5 +1,5 @@
--- How the tokens of a module and of a goal are read: for each part a function on lists of tokens, which answers
--- the part that they begin with and what follows it.
+-- How the tokens of a module and of a goal are read: for each part of the grammar a function on lists of tokens,
+-- which gives the part that they begin with and the tokens behind it.
 use Rattle.std.specs.Prelude.{◌≡◌, ℕ, zero, suc, Bool, true, false, List, [], ◌∷◌, ◌++◌, codes, Option, Some, None, option_and_then, Result, Ok, Err, if◌then◌else◌, length, not, ◌&&◌, option_map}
 use Rattle.std.specs.Str.{bytes_eq}
 use Rattle.merc_top.specs.declared.first_form.parsing.Failure.{Failure}
@@ -17,28 +17,30 @@ use Rattle.merc_top.specs.declared.first_form.syntax.Mode.TheVariants.{Input, Ou
 use Rattle.merc_top.specs.declared.first_form.syntax.Predicate.{Predicate}
 use Rattle.merc_top.specs.declared.first_form.syntax.Module.{Module}
 
+-- what is found, handed on
 infixl 10 ◌>>=◌
 abbrev pub ◌>>=◌ : {A B : Type 0} → Option A → (A → Option B) → Option B
 found >>= next = option_and_then next found
 
--- what a reader answers where this is there to be found
+-- a reader's answer where this is to be found
 abbrev pub Finds : {X : Type 0} → Option X → Result X Failure → Type 0
-Finds there (Ok found) = there ≡ Some found
-Finds there (Err Mismatch) = there ≡ None
-Finds there (Err OutOfMemory) = Unit {0}
+Finds expected (Ok found) = expected ≡ Some found
+Finds expected (Err Mismatch) = expected ≡ None
+Finds expected (Err OutOfMemory) = Unit {0}
 
--- the same, where these tokens are left behind what is found
+-- a reader's answer where this is to be found, with the tokens that it leaves
 abbrev pub Reads : {X : Type 0} → Option (X × List Token) → Result X Failure → List Token → Type 0
-Reads there (Ok found) rest = there ≡ Some (found, rest)
-Reads there (Err Mismatch) rest = there ≡ None
-Reads there (Err OutOfMemory) rest = Unit {0}
+Reads expected (Ok found) rest = expected ≡ Some (found, rest)
+Reads expected (Err Mismatch) rest = expected ≡ None
+Reads expected (Err OutOfMemory) rest = Unit {0}
 
--- the same, where all that is found is what is left
+-- a reader's answer where these are the tokens to be left
 abbrev pub Skips : Option (List Token) → Result (Unit {0}) Failure → List Token → Type 0
-Skips there (Ok found) rest = there ≡ Some rest
-Skips there (Err Mismatch) rest = there ≡ None
-Skips there (Err OutOfMemory) rest = Unit {0}
+Skips expected (Ok found) rest = expected ≡ Some rest
+Skips expected (Err Mismatch) rest = expected ≡ None
+Skips expected (Err OutOfMemory) rest = Unit {0}
 
+-- a variable or a number
 abbrev pub operand_of : List Token → Option (Operand × List Token)
 operand_of (VariableToken name ∷ rest) = Some (Variable name, rest)
 operand_of (NumberToken number ∷ rest) = Some (Number number, rest)
@@ -51,11 +53,13 @@ expression_on left (Plus ∷ rest) = do
   Some (Sum left right.0, right.1)
 expression_on left rest = Some (Single left, rest)
 
+-- an operand, or two with a `+` between them
 abbrev pub expression_of : List Token → Option (Expression × List Token)
 expression_of tokens = do
   left ← operand_of tokens
   expression_on left.0 left.1
 
+-- the mode that is called `in` or `out`
 abbrev pub mode_named : List ℕ → Option Mode
 mode_named word = if bytes_eq word (codes "in") then Some Input else if bytes_eq word (codes "out") then Some Output else None
 
@@ -70,19 +74,20 @@ abbrev pub variable_of : List Token → Option (List ℕ × List Token)
 variable_of (VariableToken name ∷ rest) = Some (name, rest)
 variable_of _ = None
 
--- whether a list has no further item here: the tokens end, or go on with `)` or a full stop
+-- whether a list is at its end here: the tokens end, or go on with `)` or a full stop
 abbrev pub is_at_end : List Token → Bool
 is_at_end [] = true
 is_at_end (Close ∷ rest) = true
 is_at_end (Stop ∷ rest) = true
 is_at_end _ = false
 
--- whether a comma comes next, and what is left behind it
+-- whether a comma comes next, and the tokens behind it
 abbrev pub comma_of : List Token → Bool × List Token
 comma_of (Comma ∷ rest) = (true, rest)
 comma_of tokens = (false, tokens)
 
--- these items, and behind them, if there are more, those that are read up to the first that no comma follows
+-- These items and, if there are more, those that this function reads, up to the first that no comma follows. The
+-- number bounds how many more are read.
 abbrev pub items_on : {X : Type 0} → (List Token → Option (X × List Token)) → ℕ → List X → Bool → List Token → Option (List X × List Token)
 items_on item fuel items false tokens = Some (items, tokens)
 items_on item zero items true tokens = None
@@ -94,11 +99,12 @@ items_on item (suc fuel) items true tokens = do
 abbrev pub list_of : {X : Type 0} → (List Token → Option (X × List Token)) → List Token → Option (List X × List Token)
 list_of item tokens = items_on item (suc (length tokens)) [] (not (is_at_end tokens)) tokens
 
+-- the tokens behind a `)`
 abbrev pub behind_close : List Token → Option (List Token)
 behind_close (Close ∷ rest) = Some rest
 behind_close _ = None
 
--- a list with a `)` behind it
+-- the items of a list with a `)` behind it
 abbrev pub arguments_of : {X : Type 0} → (List Token → Option (X × List Token)) → List Token → Option (List X × List Token)
 arguments_of item tokens = do
   arguments ← list_of item tokens
@@ -120,12 +126,12 @@ abbrev pub declared_name_of : List Token → Option (List ℕ × List Token)
 declared_name_of (Neck ∷ Name word ∷ Functor name ∷ rest) = if bytes_eq word (codes "pred") then Some (name, rest) else None
 declared_name_of _ = None
 
--- `is det.`
+-- the tokens behind `is det.`
 abbrev pub behind_is_det : List Token → Option (List Token)
 behind_is_det (Name is ∷ Name category ∷ Stop ∷ rest) = if bytes_eq is (codes "is") && bytes_eq category (codes "det") then Some rest else None
 behind_is_det _ = None
 
--- a declaration's name and modes
+-- the name and the modes of a declaration
 abbrev pub declaration_of : List Token → Option ((List ℕ × List Mode) × List Token)
 declaration_of tokens = do
   name ← declared_name_of tokens
@@ -133,15 +139,17 @@ declaration_of tokens = do
   rest ← behind_is_det modes.1
   Some ((name.0, modes.0), rest)
 
--- `p(`, of this name
+-- the tokens behind `p(`, where p is this name
 abbrev pub behind_functor : List ℕ → List Token → Option (List Token)
 behind_functor name (Functor other ∷ rest) = if bytes_eq other name then Some rest else None
 behind_functor name _ = None
 
+-- the tokens behind a `:-`
 abbrev pub behind_neck : List Token → Option (List Token)
 behind_neck (Neck ∷ rest) = Some rest
 behind_neck _ = None
 
+-- the tokens behind a full stop
 abbrev pub behind_stop : List Token → Option (List Token)
 behind_stop (Stop ∷ rest) = Some rest
 behind_stop _ = None
@@ -156,13 +164,14 @@ clause_of name tokens = do
   rest ← behind_stop body.1
   Some ((head.0, body.0), rest)
 
+-- a declaration with a clause of the same name
 abbrev pub predicate_of : List Token → Option (Predicate × List Token)
 predicate_of tokens = do
   declaration ← declaration_of tokens
   clause ← clause_of declaration.0.0 declaration.1
   Some (record { name = declaration.0.0; modes = declaration.0.1; head = clause.0.0; body = clause.0.1 }, clause.1)
 
--- these predicates, and behind them those that the tokens spell
+-- These predicates and, behind them, those that the tokens spell. The number bounds how many more are read.
 abbrev pub predicates_on : ℕ → List Predicate → List Token → Option (List Predicate)
 predicates_on fuel predicates [] = Some predicates
 predicates_on zero predicates (token ∷ tokens) = None
@@ -170,6 +179,7 @@ predicates_on (suc fuel) predicates (token ∷ tokens) = do
   next ← predicate_of (token ∷ tokens)
   predicates_on fuel (predicates ++ next.0 ∷ []) next.1
 
+-- the predicates that these tokens spell
 abbrev pub predicates_of : List Token → Option (List Predicate)
 predicates_of tokens = predicates_on (length tokens) [] tokens
 
@@ -178,7 +188,7 @@ abbrev pub module_name_of : List Token → Option (List ℕ × List Token)
 module_name_of (Neck ∷ Name word ∷ Name name ∷ Stop ∷ rest) = if bytes_eq word (codes "module") then Some (name, rest) else None
 module_name_of _ = None
 
--- whether `:- import_module int.` comes next, and what is left behind it
+-- whether `:- import_module int.` comes next, and the tokens behind it
 abbrev pub import_of : List Token → Bool × List Token
 import_of (Neck ∷ Name word ∷ Name unit ∷ Stop ∷ rest) =
     if bytes_eq word (codes "import_module") && bytes_eq unit (codes "int") then (true, rest) else (false, Neck ∷ Name word ∷ Name unit ∷ Stop ∷ rest)
@@ -191,7 +201,7 @@ module_of tokens = do
   predicates ← predicates_of (import_of name.1).1
   Some (record { name = name.0; imports_int = (import_of name.1).0; predicates = predicates })
 
--- whether nothing is left, or a full stop alone
+-- whether these are no tokens, or a full stop alone
 abbrev pub is_whole : List Token → Bool
 is_whole [] = true
 is_whole (Stop ∷ []) = true

@@ -35,15 +35,15 @@ expression_on-sound : (left : Operand) (tokens : List Token) (expression : Expre
     → operand_token left ∷ tokens ≡ expression_tokens expression ++ rest
 expression_on-sound left (Plus ∷ after) expression rest read =
     option_and_then_some _ _ _ read (λ right there here.
-      at_read _ _ _ _ (λ e r. operand_token left ∷ Plus ∷ after ≡ expression_tokens e ++ r) here
-      (ap (λ t. operand_token left ∷ Plus ∷ t) (operand_of-sound after right.0 right.1 there)))
+    at_read _ _ _ _ (λ e r. operand_token left ∷ Plus ∷ after ≡ expression_tokens e ++ r) here
+    (ap (λ t. operand_token left ∷ Plus ∷ t) (operand_of-sound after right.0 right.1 there)))
 expression_on-sound left tokens expression rest read = at_read _ _ _ _ (λ e r. operand_token left ∷ tokens ≡ expression_tokens e ++ r) read refl
 
 pub expression_of-sound : (tokens : List Token) (expression : Expression) (rest : List Token) → expression_of tokens ≡ Some (expression, rest)
     → tokens ≡ expression_tokens expression ++ rest
 expression_of-sound tokens expression rest read =
     option_and_then_some _ _ _ read (λ left there here.
-      operand_of-sound tokens left.0 left.1 there ∙ expression_on-sound left.0 left.1 expression rest here)
+    operand_of-sound tokens left.0 left.1 there ∙ expression_on-sound left.0 left.1 expression rest here)
 
 -- what a test lets through
 tested : {X : Type 0} (b : Bool) (there : Option X) (found : X) → cond b there None ≡ Some found → (b ≡ true) × (there ≡ Some found)
@@ -54,7 +54,7 @@ mode_named-sound : (word : List ℕ) (mode : Mode) → mode_named word ≡ Some 
 mode_named-sound word mode read = go (bytes_eq word (codes "in")) (bytes_eq word (codes "out")) refl refl read
   where
     go : (input output : Bool) → bytes_eq word (codes "in") ≡ input → bytes_eq word (codes "out") ≡ output
-      → cond input (Some Input) (cond output (Some Output) None) ≡ Some mode → word ≡ mode_word mode
+        → cond input (Some Input) (cond output (Some Output) None) ≡ Some mode → word ≡ mode_word mode
     go true output is_in is_out same = rw (← same_Some Input mode same) ((bytes_eq-Decides word (codes "in")).0 is_in)
     go false true is_in is_out same = rw (← same_Some Output mode same) ((bytes_eq-Decides word (codes "out")).0 is_out)
     go false false is_in is_out same = cc
@@ -105,14 +105,14 @@ items_on-sound item spelling sound fuel items false tokens all rest read =
 items_on-sound item spelling sound zero items true tokens all rest read = cc
 items_on-sound item spelling sound (suc fuel) items true tokens all rest read =
     option_and_then_some _ _ _ read (λ next there here.
-      let later = items_on-sound item spelling sound fuel (items ++ next.0 ∷ []) (comma_of next.1).0 (comma_of next.1).1 all rest here in
-      record {
-        added = next.0 ∷ later.added;
-        whole = later.whole ∙ append_assoc items (next.0 ∷ []) later.added;
-        spelled = ap (λ t. Comma ∷ t)
+    let later = items_on-sound item spelling sound fuel (items ++ next.0 ∷ []) (comma_of next.1).0 (comma_of next.1).1 all rest here in
+    record {
+      added = next.0 ∷ later.added;
+      whole = later.whole ∙ append_assoc items (next.0 ∷ []) later.added;
+      spelled = ap (λ t. Comma ∷ t)
           (sound tokens next.0 next.1 there ∙ ap (λ t. spelling next.0 ++ t) (comma_if-comma_of next.1 ∙ later.spelled)
           ∙ sym (append_assoc (spelling next.0) (behind_commas (map spelling later.added)) rest));
-      })
+    })
 
 list_of-sound : {X : Type 0} (item : List Token → Option (X × List Token)) (spelling : X → List Token) → IsSound item spelling
     → (tokens : List Token) (all : List X) (rest : List Token) → list_of item tokens ≡ Some (all, rest) → tokens ≡ separated (map spelling all) ++ rest
@@ -122,10 +122,10 @@ list_of-sound item spelling sound tokens all rest read = go (not (is_at_end toke
     go false fuel same = at_read _ _ _ _ (λ a r. tokens ≡ separated (map spelling a) ++ r) same refl
     go true fuel same =
         option_and_then_some _ _ _ same (λ next there here.
-          let later = items_on-sound item spelling sound fuel (next.0 ∷ []) (comma_of next.1).0 (comma_of next.1).1 all rest here in
-          rw later.whole
-          (sound tokens next.0 next.1 there ∙ ap (λ t. spelling next.0 ++ t) (comma_if-comma_of next.1 ∙ later.spelled)
-          ∙ sym (append_assoc (spelling next.0) (behind_commas (map spelling later.added)) rest)))
+        let later = items_on-sound item spelling sound fuel (next.0 ∷ []) (comma_of next.1).0 (comma_of next.1).1 all rest here in
+        rw later.whole
+        (sound tokens next.0 next.1 there ∙ ap (λ t. spelling next.0 ++ t) (comma_if-comma_of next.1 ∙ later.spelled)
+        ∙ sym (append_assoc (spelling next.0) (behind_commas (map spelling later.added)) rest)))
 
 behind_close-sound : (tokens rest : List Token) → behind_close tokens ≡ Some rest → tokens ≡ Close ∷ rest
 behind_close-sound (Close ∷ after) rest read = ap (λ t. Close ∷ t) (same_Some after rest read)
@@ -135,23 +135,23 @@ arguments_of-sound : {X : Type 0} (item : List Token → Option (X × List Token
     → (tokens : List Token) (all : List X) (rest : List Token) → arguments_of item tokens ≡ Some (all, rest) → tokens ≡ separated (map spelling all) ++ Close ∷ rest
 arguments_of-sound item spelling sound tokens all rest read =
     option_and_then_some _ _ _ read (λ arguments there here.
-      option_and_then_some _ _ _ here (λ after closed now.
-        at_read _ _ _ _ (λ a r. tokens ≡ separated (map spelling a) ++ Close ∷ r) now
-        (list_of-sound item spelling sound tokens arguments.0 arguments.1 there
-        ∙ ap (λ t. separated (map spelling arguments.0) ++ t) (behind_close-sound arguments.1 after closed))))
+    option_and_then_some _ _ _ here (λ after closed now.
+    at_read _ _ _ _ (λ a r. tokens ≡ separated (map spelling a) ++ Close ∷ r) now
+    (list_of-sound item spelling sound tokens arguments.0 arguments.1 there
+    ∙ ap (λ t. separated (map spelling arguments.0) ++ t) (behind_close-sound arguments.1 after closed))))
 
 pub conjunct_of-sound : (tokens : List Token) (conjunct : Conjunct) (rest : List Token) → conjunct_of tokens ≡ Some (conjunct, rest)
     → tokens ≡ conjunct_tokens conjunct ++ rest
 conjunct_of-sound (VariableToken variable ∷ Equals ∷ after) conjunct rest read =
     option_and_then_some _ _ _ read (λ right there here.
-      at_read _ _ _ _ (λ c r. VariableToken variable ∷ Equals ∷ after ≡ conjunct_tokens c ++ r) here
-      (ap (λ t. VariableToken variable ∷ Equals ∷ t) (expression_of-sound after right.0 right.1 there)))
+    at_read _ _ _ _ (λ c r. VariableToken variable ∷ Equals ∷ after ≡ conjunct_tokens c ++ r) here
+    (ap (λ t. VariableToken variable ∷ Equals ∷ t) (expression_of-sound after right.0 right.1 there)))
 conjunct_of-sound (Functor name ∷ after) conjunct rest read =
     option_and_then_some _ _ _ read (λ operands there here.
-      at_read _ _ _ _ (λ c r. Functor name ∷ after ≡ conjunct_tokens c ++ r) here
-      (ap (λ t. Functor name ∷ t)
-        (arguments_of-sound operand_of (λ operand. operand_token operand ∷ []) operand_of-sound after operands.0 operands.1 there
-        ∙ sym (append_assoc (separated (map (λ operand. operand_token operand ∷ []) operands.0)) (Close ∷ []) operands.1))))
+    at_read _ _ _ _ (λ c r. Functor name ∷ after ≡ conjunct_tokens c ++ r) here
+    (ap (λ t. Functor name ∷ t)
+    (arguments_of-sound operand_of (λ operand. operand_token operand ∷ []) operand_of-sound after operands.0 operands.1 there
+    ∙ sym (append_assoc (separated (map (λ operand. operand_token operand ∷ []) operands.0)) (Close ∷ []) operands.1))))
 conjunct_of-sound tokens conjunct rest read = cc
 
 declared_name_of-sound : (tokens : List Token) (name : List ℕ) (rest : List Token) → declared_name_of tokens ≡ Some (name, rest)
@@ -175,14 +175,14 @@ declaration_of-sound : (tokens : List Token) (name : List ℕ) (modes : List Mod
     → tokens ≡ declaration_tokens name modes ++ rest
 declaration_of-sound tokens name modes rest read =
     option_and_then_some _ _ _ read (λ n there here.
-      option_and_then_some _ _ _ here (λ m moded now.
-        option_and_then_some _ _ _ now (λ after det last.
-          at_read _ _ _ _ (λ d r. tokens ≡ declaration_tokens d.0 d.1 ++ r) last
-          (declared_name_of-sound tokens n.0 n.1 there
-          ∙ ap (λ t. Neck ∷ Name (codes "pred") ∷ Functor n.0 ∷ t)
-            (arguments_of-sound mode_of mode_tokens mode_of-sound n.1 m.0 m.1 moded
-            ∙ ap (λ t. separated (map mode_tokens m.0) ++ Close ∷ t) (behind_is_det-sound m.1 after det)
-            ∙ sym (append_assoc (separated (map mode_tokens m.0)) (Close ∷ Name (codes "is") ∷ Name (codes "det") ∷ Stop ∷ []) after))))))
+    option_and_then_some _ _ _ here (λ m moded now.
+    option_and_then_some _ _ _ now (λ after det last.
+    at_read _ _ _ _ (λ d r. tokens ≡ declaration_tokens d.0 d.1 ++ r) last
+    (declared_name_of-sound tokens n.0 n.1 there
+    ∙ ap (λ t. Neck ∷ Name (codes "pred") ∷ Functor n.0 ∷ t)
+    (arguments_of-sound mode_of mode_tokens mode_of-sound n.1 m.0 m.1 moded
+    ∙ ap (λ t. separated (map mode_tokens m.0) ++ Close ∷ t) (behind_is_det-sound m.1 after det)
+    ∙ sym (append_assoc (separated (map mode_tokens m.0)) (Close ∷ Name (codes "is") ∷ Name (codes "det") ∷ Stop ∷ []) after))))))
 
 behind_functor-sound : (name : List ℕ) (tokens rest : List Token) → behind_functor name tokens ≡ Some rest → tokens ≡ Functor name ∷ rest
 behind_functor-sound name (Functor other ∷ after) rest read =
@@ -203,31 +203,31 @@ clause_of-sound : (name : List ℕ) (tokens : List Token) (head : List (List ℕ
     → clause_of name tokens ≡ Some ((head, body), rest) → tokens ≡ clause_tokens name head body ++ rest
 clause_of-sound name tokens head body rest read =
     option_and_then_some _ _ _ read (λ begun there here.
-      option_and_then_some _ _ _ here (λ h headed now.
-        option_and_then_some _ _ _ now (λ defined necked next.
-          option_and_then_some _ _ _ next (λ b bodied nearly.
-            option_and_then_some _ _ _ nearly (λ after stopped last.
-              at_read _ _ _ _ (λ c r. tokens ≡ clause_tokens name c.0 c.1 ++ r) last
-              (behind_functor-sound name tokens begun there
-              ∙ ap (λ t. Functor name ∷ t)
-                (arguments_of-sound variable_of (λ variable. VariableToken variable ∷ []) variable_of-sound begun h.0 h.1 headed
-                ∙ ap (λ t. separated (map (λ variable. VariableToken variable ∷ []) h.0) ++ Close ∷ t)
-                  (behind_neck-sound h.1 defined necked
-                  ∙ ap (λ t. Neck ∷ t)
-                    (list_of-sound conjunct_of conjunct_tokens conjunct_of-sound defined b.0 b.1 bodied
-                    ∙ ap (λ t. body_tokens b.0 ++ t) (behind_stop-sound b.1 after stopped)
-                    ∙ sym (append_assoc (body_tokens b.0) (Stop ∷ []) after)))
-                ∙ sym (append_assoc (separated (map (λ variable. VariableToken variable ∷ []) h.0)) (Close ∷ Neck ∷ (body_tokens b.0 ++ Stop ∷ [])) after))))))))
+    option_and_then_some _ _ _ here (λ h headed now.
+    option_and_then_some _ _ _ now (λ defined necked next.
+    option_and_then_some _ _ _ next (λ b bodied nearly.
+    option_and_then_some _ _ _ nearly (λ after stopped last.
+    at_read _ _ _ _ (λ c r. tokens ≡ clause_tokens name c.0 c.1 ++ r) last
+    (behind_functor-sound name tokens begun there
+    ∙ ap (λ t. Functor name ∷ t)
+    (arguments_of-sound variable_of (λ variable. VariableToken variable ∷ []) variable_of-sound begun h.0 h.1 headed
+    ∙ ap (λ t. separated (map (λ variable. VariableToken variable ∷ []) h.0) ++ Close ∷ t)
+    (behind_neck-sound h.1 defined necked
+    ∙ ap (λ t. Neck ∷ t)
+    (list_of-sound conjunct_of conjunct_tokens conjunct_of-sound defined b.0 b.1 bodied
+    ∙ ap (λ t. body_tokens b.0 ++ t) (behind_stop-sound b.1 after stopped)
+    ∙ sym (append_assoc (body_tokens b.0) (Stop ∷ []) after)))
+    ∙ sym (append_assoc (separated (map (λ variable. VariableToken variable ∷ []) h.0)) (Close ∷ Neck ∷ (body_tokens b.0 ++ Stop ∷ [])) after))))))))
 
 predicate_of-sound : (tokens : List Token) (predicate : Predicate) (rest : List Token) → predicate_of tokens ≡ Some (predicate, rest)
     → tokens ≡ predicate_tokens predicate ++ rest
 predicate_of-sound tokens predicate rest read =
     option_and_then_some _ _ _ read (λ d there here.
-      option_and_then_some _ _ _ here (λ c claused last.
-        at_read _ _ _ _ (λ p r. tokens ≡ predicate_tokens p ++ r) last
-        (declaration_of-sound tokens d.0.0 d.0.1 d.1 there
-        ∙ ap (λ t. declaration_tokens d.0.0 d.0.1 ++ t) (clause_of-sound d.0.0 d.1 c.0.0 c.0.1 c.1 claused)
-        ∙ sym (append_assoc (declaration_tokens d.0.0 d.0.1) (clause_tokens d.0.0 c.0.0 c.0.1) c.1))))
+    option_and_then_some _ _ _ here (λ c claused last.
+    at_read _ _ _ _ (λ p r. tokens ≡ predicate_tokens p ++ r) last
+    (declaration_of-sound tokens d.0.0 d.0.1 d.1 there
+    ∙ ap (λ t. declaration_tokens d.0.0 d.0.1 ++ t) (clause_of-sound d.0.0 d.1 c.0.0 c.0.1 c.1 claused)
+    ∙ sym (append_assoc (declaration_tokens d.0.0 d.0.1) (clause_tokens d.0.0 c.0.0 c.0.1) c.1))))
 
 -- predicates added to these
 record AddsPredicates (predicates all : List Predicate) (tokens : List Token) : Type 0 where
@@ -241,12 +241,12 @@ predicates_on-sound fuel predicates [] all read = record { added = []; whole = s
 predicates_on-sound zero predicates (token ∷ tokens) all read = cc
 predicates_on-sound (suc fuel) predicates (token ∷ tokens) all read =
     option_and_then_some _ _ _ read (λ next there here.
-      let later = predicates_on-sound fuel (predicates ++ next.0 ∷ []) next.1 all here in
-      record {
-        added = next.0 ∷ later.added;
-        whole = later.whole ∙ append_assoc predicates (next.0 ∷ []) later.added;
-        spelled = predicate_of-sound (token ∷ tokens) next.0 next.1 there ∙ ap (λ t. predicate_tokens next.0 ++ t) later.spelled;
-      })
+    let later = predicates_on-sound fuel (predicates ++ next.0 ∷ []) next.1 all here in
+    record {
+      added = next.0 ∷ later.added;
+      whole = later.whole ∙ append_assoc predicates (next.0 ∷ []) later.added;
+      spelled = predicate_of-sound (token ∷ tokens) next.0 next.1 there ∙ ap (λ t. predicate_tokens next.0 ++ t) later.spelled;
+    })
 
 module_name_of-sound : (tokens : List Token) (name : List ℕ) (rest : List Token) → module_name_of tokens ≡ Some (name, rest)
     → tokens ≡ Neck ∷ Name (codes "module") ∷ Name name ∷ Stop ∷ rest
@@ -260,7 +260,7 @@ import_of-sound : (tokens : List Token) → tokens ≡ import_tokens (import_of 
 import_of-sound (Neck ∷ Name word ∷ Name unit ∷ Stop ∷ rest) = go _ refl
   where
     go : (words : Bool) → (bytes_eq word (codes "import_module") && bytes_eq unit (codes "int")) ≡ words
-      → Neck ∷ Name word ∷ Name unit ∷ Stop ∷ rest
+        → Neck ∷ Name word ∷ Name unit ∷ Stop ∷ rest
         ≡ import_tokens (import_of (Neck ∷ Name word ∷ Name unit ∷ Stop ∷ rest)).0 ++ (import_of (Neck ∷ Name word ∷ Name unit ∷ Stop ∷ rest)).1
     go true same =
         let both = and_parts _ _ same in
@@ -273,13 +273,13 @@ import_of-sound tokens = refl
 pub module_of-sound : (tokens : List Token) (source : Module) → module_of tokens ≡ Some source → tokens ≡ module_tokens source
 module_of-sound tokens source read =
     option_and_then_some _ _ _ read (λ n there here.
-      option_and_then_some _ _ _ here (λ predicates listed last.
-        let all = predicates_on-sound (length (import_of n.1).1) [] (import_of n.1).1 predicates listed in
-        let spelled : (import_of n.1).1 ≡ flat_map predicate_tokens predicates = rw all.whole all.spelled in
-        subst (λ (m : Module). tokens ≡ module_tokens m) (same_Some _ source last)
-        (module_name_of-sound tokens n.0 n.1 there
-        ∙ ap (λ t. Neck ∷ Name (codes "module") ∷ Name n.0 ∷ Stop ∷ t)
-          (import_of-sound n.1 ∙ ap (λ t. import_tokens (import_of n.1).0 ++ t) spelled))))
+    option_and_then_some _ _ _ here (λ predicates listed last.
+    let all = predicates_on-sound (length (import_of n.1).1) [] (import_of n.1).1 predicates listed in
+    let spelled : (import_of n.1).1 ≡ flat_map predicate_tokens predicates = rw all.whole all.spelled in
+    subst (λ (m : Module). tokens ≡ module_tokens m) (same_Some _ source last)
+    (module_name_of-sound tokens n.0 n.1 there
+    ∙ ap (λ t. Neck ∷ Name (codes "module") ∷ Name n.0 ∷ Stop ∷ t)
+    (import_of-sound n.1 ∙ ap (λ t. import_tokens (import_of n.1).0 ++ t) spelled))))
 
 is_whole-sound : (rest : List Token) → is_whole rest ≡ true → (rest ≡ []) ⊎ (rest ≡ Stop ∷ [])
 is_whole-sound [] whole = inl refl
@@ -289,9 +289,9 @@ is_whole-sound rest whole = cc
 pub goal_of-sound : (tokens : List Token) (body : List Conjunct) → goal_of tokens ≡ Some body → SpelledBy tokens body
 goal_of-sound tokens body read =
     option_and_then_some _ _ _ read (λ b there here.
-      let whole = tested _ _ _ here in
-      let spelled = list_of-sound conjunct_of conjunct_tokens conjunct_of-sound tokens b.0 b.1 there in
-      rw (← same_Some b.0 body whole.1) (go b.0 b.1 spelled (is_whole-sound b.1 whole.0)))
+    let whole = tested _ _ _ here in
+    let spelled = list_of-sound conjunct_of conjunct_tokens conjunct_of-sound tokens b.0 b.1 there in
+    rw (← same_Some b.0 body whole.1) (go b.0 b.1 spelled (is_whole-sound b.1 whole.0)))
   where
     go : (found : List Conjunct) (rest : List Token) → tokens ≡ body_tokens found ++ rest → (rest ≡ []) ⊎ (rest ≡ Stop ∷ []) → SpelledBy tokens found
     go found rest spelled (inl nothing) = inl (spelled ∙ ap (λ t. body_tokens found ++ t) nothing ∙ append-nil (body_tokens found))

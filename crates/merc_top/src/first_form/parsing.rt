@@ -7,7 +7,9 @@ ghost use Rattle.merc_top.specs.declared.first_form.syntax.Token.{Token};
 ghost use Rattle.merc_top.specs.declared.first_form.syntax.Module.{Module};
 ghost use Rattle.merc_top.specs.declared.first_form.syntax.Conjunct.{Conjunct};
 
-use super::syntax::{Conjunct, Conjuncts, Expression, Mode, Module, Operand, Predicate, Predicates, Token};
+use super::syntax::{
+    Conjunct, Conjuncts, Expression, Mode, Module, Operand, Predicate, Predicates, Token,
+};
 use merc_base::{NoMemory, Sequence, Text};
 use std::alloc::Global;
 
@@ -131,7 +133,222 @@ impl Item for Conjunct {
     }
 }
 
-impl<'a> Reader<'a> {
+impl Reader<'_> {
+    fn module(&mut self) -> Result<Module, Failure>
+        ensures { Finds (module_of self.old.rest.now) result }
+    {
+        let name = self.module_name()?;
+        let imports_int = self.import();
+        let predicates = self.predicates()?;
+        Ok(Module {
+            name,
+            imports_int,
+            predicates,
+        })
+    }
+
+    // The name in `:- module N.`
+    fn module_name(&mut self) -> Result<Text, Failure>
+        ensures { Reads (module_name_of self.old.rest.now) result self.new.rest.now }
+    {
+        match self.rest {
+            [
+                Token::Neck,
+                Token::Name(word),
+                Token::Name(name),
+                Token::Stop,
+                rest @ ..,
+            ] if word.bytes() == b"module".as_slice() => {
+                self.rest = rest;
+                Ok(Text::of(self.alloc, name.bytes())?)
+            }
+            _ => Err(Failure::Mismatch),
+        }
+    }
+
+    // Goes past `:- import_module int.`, where it is there.
+    fn import(&mut self) -> bool
+        ensures there { result ≡ (import_of self.old.rest.now).0 }
+        ensures rest { self.new.rest.now ≡ (import_of self.old.rest.now).1 }
+    {
+        match self.rest {
+            [
+                Token::Neck,
+                Token::Name(word),
+                Token::Name(unit),
+                Token::Stop,
+                rest @ ..,
+            ] if word.bytes() == b"import_module".as_slice() && unit.bytes() == b"int".as_slice() =>
+                {
+                    self.rest = rest;
+                    true
+                }
+            _ => false,
+        }
+    }
+
+    // Predicates up to the last token.
+    fn predicates(&mut self) -> Result<Predicates, Failure>
+        ensures { Finds (predicates_of self.old.rest.now) result }
+    {
+        let mut predicates = Sequence::new(self.alloc);
+        while !self.rest.is_empty() {
+            predicates.push(self.predicate()?)?;
+        }
+        Ok(predicates)
+    }
+
+    fn predicate(&mut self) -> Result<Predicate, Failure>
+        ensures { Reads (predicate_of self.old.rest.now) result self.new.rest.now }
+    {
+        let (name, modes) = self.declaration()?;
+        let (head, body) = self.clause(&name)?;
+        Ok(Predicate {
+            name,
+            modes,
+            head,
+            body,
+        })
+    }
+
+    // The name and the modes of `:- pred p(int::in, .., int::out) is det.`
+    fn declaration(&mut self) -> Result<(Text, Sequence<Mode>), Failure>
+        ensures { Reads (declaration_of self.old.rest.now) result self.new.rest.now }
+    {
+        let name = self.declared_name()?;
+        let modes = self.arguments()?;
+        self.is_det()?;
+        Ok((name, modes))
+    }
+
+    // The name in `:- pred p(`.
+    fn declared_name(&mut self) -> Result<Text, Failure>
+        ensures { Reads (declared_name_of self.old.rest.now) result self.new.rest.now }
+    {
+        match self.rest {
+            [
+                Token::Neck,
+                Token::Name(word),
+                Token::Functor(name),
+                rest @ ..,
+            ] if word.bytes() == b"pred".as_slice() => {
+                self.rest = rest;
+                Ok(Text::of(self.alloc, name.bytes())?)
+            }
+            _ => Err(Failure::Mismatch),
+        }
+    }
+
+    // `is det.`
+    fn is_det(&mut self) -> Result<(), Failure>
+        ensures { Skips (behind_is_det self.old.rest.now) result self.new.rest.now }
+    {
+        match self.rest {
+            [
+                Token::Name(is),
+                Token::Name(category),
+                Token::Stop,
+                rest @ ..,
+            ] if is.bytes() == b"is".as_slice() && category.bytes() == b"det".as_slice() => {
+                self.rest = rest;
+                Ok(())
+            }
+            _ => Err(Failure::Mismatch),
+        }
+    }
+
+    fn mode(&mut self) -> Result<Mode, Failure>
+        ensures { Reads (mode_of self.old.rest.now) result self.new.rest.now }
+    {
+        match self.rest {
+            [
+                Token::Name(kind),
+                Token::DoubleColon,
+                Token::Name(word),
+                rest @ ..,
+            ] if kind.bytes() == b"int".as_slice() => {
+                self.rest = rest;
+                mode_named(word.bytes())
+            }
+            _ => Err(Failure::Mismatch),
+        }
+    }
+
+    // The head and the body of `p(V1, .., Vn) :- B1, .., Bm.`
+    fn clause(&mut self, name: &Text) -> Result<(Sequence<Text>, Conjuncts), Failure>
+        ensures { Reads (clause_of name.now self.old.rest.now) result self.new.rest.now }
+    {
+        self.functor(name)?;
+        let head = self.arguments()?;
+        self.neck()?;
+        let body = self.list()?;
+        self.stop()?;
+        Ok((head, body))
+    }
+
+    // `p(`, of this name.
+    fn functor(&mut self, name: &Text) -> Result<(), Failure>
+        ensures { Skips (behind_functor name.now self.old.rest.now) result self.new.rest.now }
+    {
+        match self.rest {
+            [Token::Functor(other), rest @ ..] if other.bytes() == name.bytes() => {
+                self.rest = rest;
+                Ok(())
+            }
+            _ => Err(Failure::Mismatch),
+        }
+    }
+
+    // A variable of a head.
+    fn variable(&mut self) -> Result<Text, Failure>
+        ensures { Reads (variable_of self.old.rest.now) result self.new.rest.now }
+    {
+        let [Token::Variable(name), rest @ ..] = self.rest else {
+            return Err(Failure::Mismatch);
+        };
+        self.rest = rest;
+        Ok(Text::of(self.alloc, name.bytes())?)
+    }
+
+    fn goal(&mut self) -> Result<Conjuncts, Failure>
+        ensures { Finds (goal_of self.old.rest.now) result }
+    {
+        let body = self.list()?;
+        match self.rest {
+            [] | [Token::Stop] => Ok(body),
+            _ => Err(Failure::Mismatch),
+        }
+    }
+
+    fn conjunct(&mut self) -> Result<Conjunct, Failure>
+        ensures { Reads (conjunct_of self.old.rest.now) result self.new.rest.now }
+    {
+        match self.rest {
+            [Token::Variable(variable), Token::Equals, rest @ ..] => {
+                self.rest = rest;
+                let variable = Text::of(self.alloc, variable.bytes())?;
+                Ok(Conjunct::Equation(variable, self.expression()?))
+            }
+            [Token::Functor(name), rest @ ..] => {
+                self.rest = rest;
+                let name = Text::of(self.alloc, name.bytes())?;
+                Ok(Conjunct::Call(name, self.arguments()?))
+            }
+            _ => Err(Failure::Mismatch),
+        }
+    }
+
+    fn expression(&mut self) -> Result<Expression, Failure>
+        ensures { Reads (expression_of self.old.rest.now) result self.new.rest.now }
+    {
+        let left = self.operand()?;
+        let [Token::Plus, rest @ ..] = self.rest else {
+            return Ok(Expression::Single(left));
+        };
+        self.rest = rest;
+        Ok(Expression::Sum(left, self.operand()?))
+    }
+
     fn operand(&mut self) -> Result<Operand, Failure>
         ensures { Reads (operand_of self.old.rest.now) result self.new.rest.now }
     {
@@ -148,15 +365,25 @@ impl<'a> Reader<'a> {
         }
     }
 
-    fn expression(&mut self) -> Result<Expression, Failure>
-        ensures { Reads (expression_of self.old.rest.now) result self.new.rest.now }
+    // A list up to its `)`.
+    fn arguments<T: Item>(&mut self) -> Result<Sequence<T>, Failure>
+        ensures { Reads (arguments_of T.item_of self.old.rest.now) result self.new.rest.now }
     {
-        let left = self.operand()?;
-        let [Token::Plus, rest @ ..] = self.rest else {
-            return Ok(Expression::Single(left));
-        };
-        self.rest = rest;
-        Ok(Expression::Sum(left, self.operand()?))
+        let arguments = self.list()?;
+        self.close()?;
+        Ok(arguments)
+    }
+
+    fn list<T: Item>(&mut self) -> Result<Sequence<T>, Failure>
+        ensures { Reads (list_of T.item_of self.old.rest.now) result self.new.rest.now }
+    {
+        let mut items = Sequence::new(self.alloc);
+        let mut more = !self.is_at_end();
+        while more {
+            items.push(T::read(self)?)?;
+            more = self.comma();
+        }
+        Ok(items)
     }
 
     // Whether a list has no further item here.
@@ -176,27 +403,6 @@ impl<'a> Reader<'a> {
         };
         self.rest = rest;
         true
-    }
-
-    fn list<T: Item>(&mut self) -> Result<Sequence<T>, Failure>
-        ensures { Reads (list_of T.item_of self.old.rest.now) result self.new.rest.now }
-    {
-        let mut items = Sequence::new(self.alloc);
-        let mut more = !self.is_at_end();
-        while more {
-            items.push(T::read(self)?)?;
-            more = self.comma();
-        }
-        Ok(items)
-    }
-
-    // A list up to its `)`.
-    fn arguments<T: Item>(&mut self) -> Result<Sequence<T>, Failure>
-        ensures { Reads (arguments_of T.item_of self.old.rest.now) result self.new.rest.now }
-    {
-        let arguments = self.list()?;
-        self.close()?;
-        Ok(arguments)
     }
 
     fn close(&mut self) -> Result<(), Failure>
@@ -227,182 +433,6 @@ impl<'a> Reader<'a> {
         };
         self.rest = rest;
         Ok(())
-    }
-
-    fn conjunct(&mut self) -> Result<Conjunct, Failure>
-        ensures { Reads (conjunct_of self.old.rest.now) result self.new.rest.now }
-    {
-        match self.rest {
-            [Token::Variable(variable), Token::Equals, rest @ ..] => {
-                self.rest = rest;
-                let variable = Text::of(self.alloc, variable.bytes())?;
-                Ok(Conjunct::Equation(variable, self.expression()?))
-            }
-            [Token::Functor(name), rest @ ..] => {
-                self.rest = rest;
-                let name = Text::of(self.alloc, name.bytes())?;
-                Ok(Conjunct::Call(name, self.arguments()?))
-            }
-            _ => Err(Failure::Mismatch),
-        }
-    }
-
-    fn mode(&mut self) -> Result<Mode, Failure>
-        ensures { Reads (mode_of self.old.rest.now) result self.new.rest.now }
-    {
-        match self.rest {
-            [Token::Name(kind), Token::DoubleColon, Token::Name(word), rest @ ..] if kind.bytes() == b"int".as_slice() => {
-                self.rest = rest;
-                mode_named(word.bytes())
-            }
-            _ => Err(Failure::Mismatch),
-        }
-    }
-
-    // A variable of a head.
-    fn variable(&mut self) -> Result<Text, Failure>
-        ensures { Reads (variable_of self.old.rest.now) result self.new.rest.now }
-    {
-        let [Token::Variable(name), rest @ ..] = self.rest else {
-            return Err(Failure::Mismatch);
-        };
-        self.rest = rest;
-        Ok(Text::of(self.alloc, name.bytes())?)
-    }
-
-    // The name in `:- pred p(`.
-    fn declared_name(&mut self) -> Result<Text, Failure>
-        ensures { Reads (declared_name_of self.old.rest.now) result self.new.rest.now }
-    {
-        match self.rest {
-            [Token::Neck, Token::Name(word), Token::Functor(name), rest @ ..] if word.bytes() == b"pred".as_slice() => {
-                self.rest = rest;
-                Ok(Text::of(self.alloc, name.bytes())?)
-            }
-            _ => Err(Failure::Mismatch),
-        }
-    }
-
-    // `is det.`
-    fn is_det(&mut self) -> Result<(), Failure>
-        ensures { Skips (behind_is_det self.old.rest.now) result self.new.rest.now }
-    {
-        match self.rest {
-            [Token::Name(is), Token::Name(category), Token::Stop, rest @ ..] if is.bytes() == b"is".as_slice() && category.bytes() == b"det".as_slice() => {
-                self.rest = rest;
-                Ok(())
-            }
-            _ => Err(Failure::Mismatch),
-        }
-    }
-
-    // `p(`, of this name.
-    fn functor(&mut self, name: &Text) -> Result<(), Failure>
-        ensures { Skips (behind_functor name.now self.old.rest.now) result self.new.rest.now }
-    {
-        match self.rest {
-            [Token::Functor(other), rest @ ..] if other.bytes() == name.bytes() => {
-                self.rest = rest;
-                Ok(())
-            }
-            _ => Err(Failure::Mismatch),
-        }
-    }
-
-    // The name and the modes of `:- pred p(int::in, .., int::out) is det.`
-    fn declaration(&mut self) -> Result<(Text, Sequence<Mode>), Failure>
-        ensures { Reads (declaration_of self.old.rest.now) result self.new.rest.now }
-    {
-        let name = self.declared_name()?;
-        let modes = self.arguments()?;
-        self.is_det()?;
-        Ok((name, modes))
-    }
-
-    // The head and the body of `p(V1, .., Vn) :- B1, .., Bm.`
-    fn clause(&mut self, name: &Text) -> Result<(Sequence<Text>, Conjuncts), Failure>
-        ensures { Reads (clause_of name.now self.old.rest.now) result self.new.rest.now }
-    {
-        self.functor(name)?;
-        let head = self.arguments()?;
-        self.neck()?;
-        let body = self.list()?;
-        self.stop()?;
-        Ok((head, body))
-    }
-
-    fn predicate(&mut self) -> Result<Predicate, Failure>
-        ensures { Reads (predicate_of self.old.rest.now) result self.new.rest.now }
-    {
-        let (name, modes) = self.declaration()?;
-        let (head, body) = self.clause(&name)?;
-        Ok(Predicate {
-            name,
-            modes,
-            head,
-            body,
-        })
-    }
-
-    // Predicates up to the last token.
-    fn predicates(&mut self) -> Result<Predicates, Failure>
-        ensures { Finds (predicates_of self.old.rest.now) result }
-    {
-        let mut predicates = Sequence::new(self.alloc);
-        while !self.rest.is_empty() {
-            predicates.push(self.predicate()?)?;
-        }
-        Ok(predicates)
-    }
-
-    // The name in `:- module N.`
-    fn module_name(&mut self) -> Result<Text, Failure>
-        ensures { Reads (module_name_of self.old.rest.now) result self.new.rest.now }
-    {
-        match self.rest {
-            [Token::Neck, Token::Name(word), Token::Name(name), Token::Stop, rest @ ..] if word.bytes() == b"module".as_slice() => {
-                self.rest = rest;
-                Ok(Text::of(self.alloc, name.bytes())?)
-            }
-            _ => Err(Failure::Mismatch),
-        }
-    }
-
-    // Goes past `:- import_module int.`, where it is there.
-    fn import(&mut self) -> bool
-        ensures there { result ≡ (import_of self.old.rest.now).0 }
-        ensures rest { self.new.rest.now ≡ (import_of self.old.rest.now).1 }
-    {
-        match self.rest {
-            [Token::Neck, Token::Name(word), Token::Name(unit), Token::Stop, rest @ ..] if word.bytes() == b"import_module".as_slice() && unit.bytes() == b"int".as_slice() => {
-                self.rest = rest;
-                true
-            }
-            _ => false,
-        }
-    }
-
-    fn module(&mut self) -> Result<Module, Failure>
-        ensures { Finds (module_of self.old.rest.now) result }
-    {
-        let name = self.module_name()?;
-        let imports_int = self.import();
-        let predicates = self.predicates()?;
-        Ok(Module {
-            name,
-            imports_int,
-            predicates,
-        })
-    }
-
-    fn goal(&mut self) -> Result<Conjuncts, Failure>
-        ensures { Finds (goal_of self.old.rest.now) result }
-    {
-        let body = self.list()?;
-        match self.rest {
-            [] | [Token::Stop] => Ok(body),
-            _ => Err(Failure::Mismatch),
-        }
     }
 }
 
