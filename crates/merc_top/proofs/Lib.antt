@@ -6,3 +6,6 @@ pub mod InPlaces
 pub mod Environments
 pub mod Resuming
 pub mod Outcomes
+pub mod Lists
+pub mod ParsingComplete
+pub mod GrammarLaws

@@ -1,5 +1,9 @@
 pub mod Tokens
 pub mod Grammar
+pub mod GrammarExamples
+pub mod Spelling
+pub mod Parsing
+pub mod ParsingSound
 pub mod FirstForm
 pub mod FlatForm
 pub mod Outcome

@@ -6,6 +6,7 @@ ghost use Rattle.merc_top.specs.FirstForm.{IsModuleText, IsGoalText};
 
 mod checking;
 pub mod flattening;
+mod parsing;
 pub mod syntax;
 
 use merc_base::{NoMemory, Text};
