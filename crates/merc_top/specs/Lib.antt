@@ -3,3 +3,4 @@ pub mod Grammar
 pub mod FirstForm
 pub mod FlatForm
 pub mod Outcome
+pub mod Lexing
