@@ -4,3 +4,5 @@ pub mod FirstForm
 pub mod FlatForm
 pub mod Outcome
 pub mod Lexing
+pub mod TokenLaws
+pub mod TokenExamples

@@ -172,3 +172,70 @@ fn first_token(alloc: Global, text: &[u8]) -> Result<Option<(Token, &[u8])>, NoM
         _ => Ok(None),
     }
 }
+
+/// The tokens of a text, or `None` where the text has none in the first form.
+pub fn tokens(alloc: Global, text: &[u8]) -> Result<Option<Tokens>, NoMemory>
+    ensures found { IfOk result (λ answer. IfSome answer (λ tokens. HasTokens text.now tokens)) }
+    ensures none { IfOk result (λ answer. IfNone answer ((tokens : List Token) → HasTokens text.now tokens → ⊥)) }
+{
+    let mut tokens = Sequence::new(alloc);
+    let mut rest = skip_blanks(text);
+    while let Some((token, behind)) = first_token(alloc, rest)? {
+        tokens.push(token)?;
+        rest = skip_blanks(behind);
+    }
+    if rest.is_empty() {
+        Ok(Some(tokens))
+    } else {
+        Ok(None)
+    }
+}
+
+#[cfg(test)]
+mod tests {
+    use super::*;
+    use std::test::Fail;
+
+    // How a token is written, its digits left out.
+    fn spelling(token: &Token) -> &[u8] {
+        match token {
+            Token::Name(name) | Token::Functor(name) | Token::Variable(name) => name.bytes(),
+            Token::Number(_) => b"number",
+            Token::Neck => b":-",
+            Token::DoubleColon => b"::",
+            Token::Equals => b"=",
+            Token::Plus => b"+",
+            Token::Comma => b",",
+            Token::Close => b")",
+            Token::Stop => b".",
+        }
+    }
+
+    #[test]
+    fn cuts_a_clause(rt: HostRuntime) -> Result<(), Fail> {
+        let found = tokens(rt.alloc(), b"add(X, Y, Z) :- Z = X + 12.\r\n")?.expect(&rt, "tokens");
+        let mut line = Text::new(rt.alloc());
+        for token in found.as_slice() {
+            line.push(spelling(token))?;
+            line.push(b" ")?;
+        }
+        assert_eq!(rt; line.bytes(), b"add X , Y , Z ) :- Z = X + number . ".as_slice());
+        Ok(())
+    }
+
+    // A text of 1 MiB takes linear time.
+    #[test]
+    fn cuts_long_texts(rt: HostRuntime) -> Result<(), Fail> {
+        let mut text = vec![in rt.alloc(); b' '; 1 << 20]?;
+        text.push(b'x')?;
+        let found = tokens(rt.alloc(), &text)?.expect(&rt, "one token");
+        assert_eq!(rt; found.as_slice().len(), 1);
+        text.clear();
+        for _ in 0..1 << 18 {
+            text.extend_from_slice(b"1 + ")?;
+        }
+        let found = tokens(rt.alloc(), &text)?.expect(&rt, "many tokens");
+        assert_eq!(rt; found.as_slice().len(), 1 << 19);
+        Ok(())
+    }
+}

@@ -4,7 +4,7 @@ use Rattle.std.proofs.lemmas.Grind.{common_steps}
 use Rattle.merc_top.specs.Tokens.{is_blank, is_lower, is_upper, is_digit, is_word, is_graphic, drop_while, begins_with, digits_value, name_token, number_token, ends_item, graphic_token, first_token, HasTokens}
 use Rattle.merc_top.specs.Lexing.{class_test, run_of, behind_run, followed_by}
 use Rattle.merc_top.specs.declared.first_form.syntax.Token.{Token}
-use Rattle.merc_top.proofs.Lexing.{AllPass-digits, first_token-graphic}
+use Rattle.merc_top.proofs.FirstToken.{AllPass-digits, first_token-graphic}
 use Rattle.merc_top.proofs.first_form.lexing.first_token.Goals as goal
 
 pub number_token-requires : goal.number_token-requires
