@@ -22,7 +22,3 @@ run_of class (byte ∷ rest) = byte ∷ take_while (class_test class) rest
 abbrev pub behind_run : Class → List ℕ → List ℕ
 behind_run class [] = []
 behind_run class (byte ∷ rest) = drop_while (class_test class) rest
-
--- a token, if there is one, with what follows it
-abbrev pub followed_by : List ℕ → Option Token → Option (Token × List ℕ)
-followed_by rest token = option_map (λ found. (found, rest)) token

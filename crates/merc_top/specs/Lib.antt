@@ -6,3 +6,4 @@ pub mod Outcome
 pub mod Lexing
 pub mod TokenLaws
 pub mod TokenExamples
+pub mod LexingExamples

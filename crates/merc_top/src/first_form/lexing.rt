@@ -2,17 +2,17 @@
 ghost use Rattle.std.specs.Prelude.{◌≡◌, ◌<◌, ◌≤◌, length, pos, option_map, IfOk, IfSome, IfNone, List, true};
 ghost use Rattle.std.specs.List.{prefix_len, AllPass};
 ghost use Rattle.merc_top.specs.Tokens.{is_blank, is_lower, is_upper, is_digit, is_word, is_graphic, drop_while, begins_with, digits_value, name_token, number_token, ends_item, graphic_token, first_token, HasTokens};
-ghost use Rattle.merc_top.specs.Lexing.{class_test, run_of, behind_run, followed_by};
+ghost use Rattle.merc_top.specs.Lexing.{class_test, run_of, behind_run};
 ghost use Rattle.merc_top.specs.declared.first_form.syntax.Token.{Token};
 
 use super::syntax::{Token, Tokens};
 use merc_base::{NoMemory, Sequence, Text};
 use std::alloc::Global;
 
-/// The bytes that have a place in a graphic token.
+// The bytes that graphic tokens are made of.
 const GRAPHIC: &[u8] = b"+-*/\\^<>=~:.?@#&$";
 
-/// What the longest runs of bytes in a text are made of.
+// What the longest runs of bytes in a text are made of.
 #[derive(Clone, Copy)]
 enum Class {
     Blank,
@@ -93,7 +93,7 @@ fn digits_value(digits: &[u8]) -> i64
 
 fn number_token(word: &[u8], rest: &[u8]) -> Option<Token>
     requires { AllPass is_digit word.now }
-    ensures { followed_by rest.now result ≡ number_token word.now rest.now }
+    ensures { option_map (λ token. (token, rest.now)) result ≡ number_token word.now rest.now }
 {
     if word.len() <= 18 && !begins_with_word(rest) {
         Some(Token::Number(digits_value(word)))
@@ -131,7 +131,7 @@ fn ends_item(rest: &[u8]) -> bool
 }
 
 fn graphic_token(word: &[u8], rest: &[u8]) -> Option<Token>
-    ensures { followed_by rest.now result ≡ graphic_token word.now rest.now }
+    ensures { option_map (λ token. (token, rest.now)) result ≡ graphic_token word.now rest.now }
 {
     match word {
         b":-" => Some(Token::Neck),
