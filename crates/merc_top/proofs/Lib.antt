@@ -9,3 +9,5 @@ pub mod Outcomes
 pub mod Lists
 pub mod ParsingComplete
 pub mod GrammarLaws
+pub mod FirstToken
+pub mod TokensSoFar

@@ -14,3 +14,7 @@ pub mod Output
 pub mod FirstFormExamples
 pub mod Answer
 pub mod Machine
+pub mod Lexing
+pub mod TokenLaws
+pub mod TokenExamples
+pub mod LexingExamples

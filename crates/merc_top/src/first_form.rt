@@ -7,6 +7,7 @@ ghost use Rattle.merc_top.specs.FirstForm.{IsModuleText, IsGoalText};
 mod checking;
 pub mod flattening;
 mod parsing;
+mod lexing;
 pub mod syntax;
 
 use merc_base::{NoMemory, Text};
