@@ -91,4 +91,5 @@ cut_deeper bodies limit depth enough goal env = cut_same bodies limit depth (suc
 -- so the depth that `run` takes is as good as any that is greater than the limit
 pub run_at_depth : (bodies : List (List Goal)) (goal : List Goal) (limit depth : ℕ) → limit < depth
     → run bodies goal limit ≡ cut limit (conjunction_trace (call_trace bodies depth) goal [])
+unfolding run
 run_at_depth bodies goal limit depth enough = cut_same bodies limit (suc limit) depth (omega arith) enough goal []

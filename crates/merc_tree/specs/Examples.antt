@@ -192,13 +192,17 @@ abbrev goal : List Goal
 goal = Build 0 (IntSymbol (pos 4)) ∷ Call 1 (0 ∷ 1 ∷ []) ∷ []
 
 pub run-example : run bodies goal 2 ≡ Tick (Tick (Answer (Some four ∷ Some eight ∷ []) (Ends RunDone)))
+unfolding run
 run-example = refl
 
 pub run-cut : run bodies goal 1 ≡ Tick (Ends LimitPassed)
+unfolding run
 run-cut = refl
 
 pub run-forever : run bodies (Call 2 [] ∷ []) 3 ≡ Tick (Tick (Tick (Ends LimitPassed)))
+unfolding run
 run-forever = refl
 
 pub run-not : run bodies goal 1 ≡ run bodies goal 2 → ⊥
+unfolding run
 run-not same = cc
