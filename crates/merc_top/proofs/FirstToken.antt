@@ -1,11 +1,10 @@
 -- What the first byte of a text says of its first token.
-use Rattle.std.proofs.Common.{◌≡◌, ℕ, ◌<◌, ◌≤◌, Bool, true, false, cond, ◌&&◌, ◌||◌, List, [], ◌∷◌, length, get_or, Option, Some, None, IfSome, sym, refl, ap, ◌∙◌, subst, arith, length-drop, ◌==◌, leb, not}
+use Rattle.std.proofs.Common.{◌≡◌, ℕ, ◌<◌, ◌≤◌, Bool, true, false, cond, ◌&&◌, ◌||◌, List, [], ◌∷◌, length, get_or, Option, Some, None, IfSome, sym, refl, subst, arith, length-drop, ◌==◌, leb, not}
 use Rattle.std.specs.Prelude.{codes}
 use Rattle.std.specs.Str.{bytes_eq}
 use Rattle.std.specs.List.{take_while, prefix_len, list_all, AllPass}
 use Rattle.std.proofs.lemmas.List.Sums.{take_while-cons, AllPass-from_list_all}
-use Rattle.std.proofs.lemmas.Bool.{agree_below_at, and_from, and_cases, or_parts, cond_both, le-leb, cond-false, cond-true, both_ways}
-use Rattle.merc_top.specs.declared.first_form.lexing.Class.{Class}
+use Rattle.std.proofs.lemmas.Bool.{agree_below_at, and_from, cond_both, le-leb, both_ways}
 use Rattle.merc_top.specs.declared.first_form.lexing.Class.TheVariants.{Digit, Graphic}
 use Rattle.merc_top.specs.declared.first_form.syntax.Token.{Token}
 use Rattle.merc_top.specs.declared.first_form.syntax.Token.TheVariants.{Name, Functor, Variable, Comma, Close}

@@ -1,5 +1,5 @@
 -- The tokens that the lexer has read so far, and what is left of the text.
-use Rattle.std.proofs.Common.{◌≡◌, ℕ, List, [], ◌∷◌, ◌++◌, Option, Some, None, length, sym, refl, ap, ◌∙◌, subst, append_assoc}
+use Rattle.std.proofs.Common.{◌≡◌, ℕ, List, [], ◌∷◌, ◌++◌, Some, sym, refl, ap, ◌∙◌, subst, append_assoc}
 use Rattle.std.proofs.lemmas.List.{append-nil}
 use Rattle.merc_top.specs.declared.first_form.syntax.Token.{Token}
 use Rattle.merc_top.specs.Tokens.{is_blank, drop_while, first_token, HasTokens}
@@ -38,8 +38,7 @@ module _ (text rest : List ℕ) (read : List Token) (so_far : AreTokensSoFar tex
   forced-more : (token : Token) (behind : List ℕ) → first_token rest ≡ Some (token, behind) → (tokens more : List Token) → tokens ≡ read ++ more → BeginsWith rest more → (left : List Token) × (tokens ≡ (read ++ token ∷ []) ++ left) × BeginsWith (drop_while is_blank behind) left
   forced-more token behind begins tokens [] is ends = absurd (first_token-nonempty rest (token, behind) begins ends)
   forced-more token behind begins tokens (other ∷ more) is (after, also, on) =
-      let same = first_token-unique rest (other, after) (token, behind) also begins in
-      (
+      let same = first_token-unique rest (other, after) (token, behind) also begins in (
         more,
         is ∙ ap (λ (found : Token × List ℕ). read ++ found.0 ∷ more) same ∙ sym (append_assoc read (token ∷ []) more),
         BeginsWith-skipped behind more (subst (λ (found : Token × List ℕ). HasTokens found.1 more) same on),

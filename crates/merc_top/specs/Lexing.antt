@@ -1,9 +1,8 @@
 -- What the lexer's own functions return.
-use Rattle.std.specs.Prelude.{◌≡◌, ℕ, Bool, List, [], ◌∷◌, Option, option_map}
+use Rattle.std.specs.Prelude.{ℕ, Bool, List, [], ◌∷◌}
 use Rattle.std.specs.List.{take_while}
 use Rattle.merc_top.specs.declared.first_form.lexing.Class.{Class}
 use Rattle.merc_top.specs.declared.first_form.lexing.Class.TheVariants.{Blank, Word, Digit, Graphic}
-use Rattle.merc_top.specs.declared.first_form.syntax.Token.{Token}
 use Rattle.merc_top.specs.Tokens.{is_blank, is_word, is_digit, is_graphic, drop_while}
 
 -- whether a byte is of this class

@@ -1,6 +1,5 @@
 -- What the lexer's own functions return, at examples.
-use Rattle.std.specs.Prelude.{◌≡◌, ℕ, Bool, true, false, List, [], ◌∷◌, codes, refl}
-use Rattle.merc_top.specs.declared.first_form.lexing.Class.{Class}
+use Rattle.std.specs.Prelude.{◌≡◌, true, [], codes, refl}
 use Rattle.merc_top.specs.declared.first_form.lexing.Class.TheVariants.{Blank, Word, Digit, Graphic}
 use Rattle.merc_top.specs.Lexing.{class_test, run_of, behind_run}
 

@@ -1,7 +1,7 @@
 -- Texts that have tokens, and texts that have none.
-use Rattle.std.specs.Prelude.{◌≡◌, ℕ, List, [], ◌∷◌, ◌++◌, codes, pos, refl}
+use Rattle.std.specs.Prelude.{ℕ, List, [], ◌∷◌, ◌++◌, codes, pos, refl}
 use Rattle.merc_top.specs.declared.first_form.syntax.Token.{Token}
-use Rattle.merc_top.specs.declared.first_form.syntax.Token.TheVariants.{Name, Functor, Variable, Number, Neck, DoubleColon, Equals, Plus, Comma, Close, Stop}
+use Rattle.merc_top.specs.declared.first_form.syntax.Token.TheVariants.{Name, Functor, Variable, Number, Neck, Equals, Plus, Close, Stop}
 use Rattle.merc_top.specs.Tokens.{HasTokens}
 use Rattle.merc_top.specs.TokenLaws.{no_tokens-here, no_tokens-behind}
 

@@ -1,5 +1,5 @@
 -- A text has at most one list of tokens; and when it has none.
-use Rattle.std.specs.Prelude.{◌≡◌, ℕ, List, [], ◌∷◌, Option, Some, None, refl}
+use Rattle.std.specs.Prelude.{◌≡◌, ℕ, List, [], ◌∷◌, Some, None, refl}
 use Rattle.std.proofs.Common.{sym, ap, subst}
 use Rattle.merc_top.specs.declared.first_form.syntax.Token.{Token}
 use Rattle.merc_top.specs.Tokens.{is_blank, drop_while, first_token, HasTokens}

@@ -173,7 +173,8 @@ fn first_token(alloc: Global, text: &[u8]) -> Result<Option<(Token, &[u8])>, NoM
     }
 }
 
-/// The tokens of a text, or `None` where the text has none in the first form.
+/// The tokens of a text, or `None` where the text has none in the first form. Takes time linear in the text.
+/// Fails only where memory is refused.
 pub fn tokens(alloc: Global, text: &[u8]) -> Result<Option<Tokens>, NoMemory>
     ensures found { IfOk result (λ answer. IfSome answer (λ tokens. HasTokens text.now tokens)) }
     ensures none { IfOk result (λ answer. IfNone answer ((tokens : List Token) → HasTokens text.now tokens → ⊥)) }
@@ -219,7 +220,10 @@ mod tests {
             line.push(spelling(token))?;
             line.push(b" ")?;
         }
-        assert_eq!(rt; line.bytes(), b"add X , Y , Z ) :- Z = X + number . ".as_slice());
+        assert_eq!(rt;
+            line.bytes(),
+            b"add X , Y , Z ) :- Z = X + number . ".as_slice()
+        );
         Ok(())
     }
 

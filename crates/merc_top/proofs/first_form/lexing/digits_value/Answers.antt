@@ -29,6 +29,6 @@ pub returns : goal.returns
 returns c =
     let small = below_pow c.loop-digit.value c.loop-digit.digit-index 18 c.loop-digit.invariant.small (omega arith) in
     let read : digits_value c.loop-digit.value (drop c.loop-digit.digit-index c.args.digits.now) ≡ c.loop-digit.value =
-        at_drop_all (digits_value c.loop-digit.value) c.args.digits.now c.loop-digit.digit-index c.loop-digit-test.false
+    at_drop_all (digits_value c.loop-digit.value) c.args.digits.now c.loop-digit.digit-index c.loop-digit-test.false
     in
     omega (arith, ints)

@@ -1,6 +1,6 @@
-use Rattle.std.proofs.Common.{◌≡◌, length, sym, ap, ◌∙◌, eqb-true, arith}
+use Rattle.std.proofs.Common.{length, sym, ap, ◌∙◌, eqb-true, arith}
 use Rattle.std.proofs.lemmas.List.{nil_from_length}
-use Rattle.merc_top.specs.Tokens.{is_blank, first_token}
+use Rattle.merc_top.specs.Tokens.{is_blank}
 use Rattle.merc_top.proofs.FirstToken.{first_token-shorter, drop_while-le}
 use Rattle.merc_top.proofs.TokensSoFar.{so_far-none, so_far-more, so_far-all}
 use Rattle.merc_top.proofs.first_form.lexing.tokens.Goals as goal
