@@ -7,7 +7,7 @@ use Rattle.std.specs.List.{slice_get, sum_by}
 use Rattle.std.proofs.lemmas.List.{reverse-append}
 use Rattle.std.proofs.lemmas.List.Sums.{sum_by_push}
 use Rattle.merc_tree.specs.Value.{Value}
-use Rattle.merc_tree.specs.Trace.{Env, Ends, Tick, Answer, Done, Raised, TooDeep, Trace, Run, after, each, taken_back, cut, answers_of, end_of}
+use Rattle.merc_tree.specs.Trace.{Env, Ends, Tick, Answer, Done, Raised, TooDeep, Trace, Run, after, taken_back, cut, answers_of, end_of}
 use Rattle.merc_tree.specs.Meaning.{binds, bound, goal_trace, conjunction_trace, body_trace, call_trace, entered, brought_back}
 use Rattle.merc_tree.specs.declared.goal.Goal.{Goal}
 use Rattle.merc_tree.specs.declared.goal.Goal.TheVariants.{Call}
