@@ -1,5 +1,5 @@
 -- Worked examples of outcomes and of what a machine has left, and false statements that the prover refutes.
-use Rattle.std.proofs.Common.{◌≡◌, ℕ, List, [], ◌∷◌, refl}
+use Rattle.std.proofs.Common.{◌≡◌, ℕ, [], ◌∷◌, refl}
 use Rattle.merc_tree.specs.Trace.{Env, Ends, Tick, Answer, Done, RunDone, LimitPassed as RunLimit}
 use Rattle.merc_tree.specs.Meaning.{one_answer}
 use Rattle.merc_tree.specs.declared.goal.Goal.TheVariants.{Call}

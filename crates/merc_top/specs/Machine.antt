@@ -1,5 +1,5 @@
 -- What is left of a run, as a trace: the callers' goals go on from the answers of the body that they called.
-use Rattle.std.specs.Prelude.{◌≡◌, ℕ, suc, zero, ◌+◌, ◌*◌, ◌<◌, ◌≤◌, List, [], ◌∷◌, length, reverse, max, sum_by}
+use Rattle.std.specs.Prelude.{◌≡◌, ℕ, suc, ◌+◌, ◌*◌, ◌<◌, List, [], ◌∷◌, length, reverse, max, sum_by}
 use Rattle.merc_tree.specs.Trace.{Env, Trace, Run, each, taken_back, cut, answers_of, end_of}
 use Rattle.merc_tree.specs.Meaning.{conjunction_trace, call_trace, brought_back}
 use Rattle.merc_tree.specs.declared.goal.Goal.{Goal}
@@ -47,7 +47,7 @@ abbrev pub longest : Bodies → ℕ
 longest [] = 0
 longest (body ∷ bodies) = max (length body) (longest bodies)
 
--- a caller's goals, and its going on
+-- what a caller has left: its goals, and the way back to it
 abbrev pub waiting : Caller → ℕ
 waiting caller = suc (length caller.goals.now)
 
@@ -56,7 +56,8 @@ abbrev pub work : Bodies → Machine → ℕ
 work bodies machine =
     machine.left * suc (longest bodies) + length machine.goals.now + sum_by waiting machine.callers.items
 
--- what a machine comes to, where before it had this trace, so many steps and less than so much work
+-- What a machine comes to, where before it had this trace and so many steps left: it does the rest of that run, with
+-- less work left than the bound, or it tells the run's outcome.
 abbrev pub Reaches : Bodies → (ℕ → Trace) → ℕ → ℕ → Step → Machine → Type 0
 Reaches bodies trace left bound GoesOn machine =
     (work bodies machine < bound) × ((depth : ℕ) → left < depth → Resumes bodies (cut left (trace depth)) machine)

@@ -1,5 +1,5 @@
 -- The entries that the loop adds are those that `bound` fills up with.
-use Rattle.std.proofs.Common.{◌≡◌, ◌∙◌, sym, ◌<◌, ◌≤◌, length, arith}
+use Rattle.std.proofs.Common.{◌∙◌, ◌<◌, ◌≤◌, length, arith}
 use Rattle.merc_top.proofs.Environments.{bound-push, set-bound}
 use Rattle.merc_top.proofs.evaluating.set_value.Goals as goal
 

@@ -1,4 +1,4 @@
-use Rattle.std.proofs.Common.{◌≡◌, ◌+◌, ◌-◌, ◌≤◌, length}
+use Rattle.std.proofs.Common.{◌≡◌, ◌+◌, ◌-◌, length}
 use Rattle.merc_tree.specs.Meaning as meaning
 use Rattle.merc_top.proofs.evaluating.set_value.Given as goal
 

@@ -1,4 +1,5 @@
-use Rattle.std.proofs.Common.{◌≡◌, suc, ◌≤◌, refl, arith}
+-- A goal without a value leaves the trace that has ended; one with a value leaves the goals behind it.
+use Rattle.std.proofs.Common.{arith}
 use Rattle.merc_top.proofs.Resuming.{fails, resumes, in_front-binds}
 use Rattle.merc_top.proofs.evaluating.Machine.bind.Goals as goal
 

@@ -1,5 +1,5 @@
 -- A call takes a step, and the body's trace goes on behind it.
-use Rattle.std.proofs.Common.{◌≡◌, suc, None, Some, refl, ap, ◌∙◌, arith, length}
+use Rattle.std.proofs.Common.{◌≡◌, None, Some, refl, ap, ◌∙◌, arith}
 use Rattle.std.specs.List.{slice_get}
 use Rattle.std.proofs.lemmas.Option.{slice_get_past, slice_get_read}
 use Rattle.merc_tree.specs.Meaning.{entered}

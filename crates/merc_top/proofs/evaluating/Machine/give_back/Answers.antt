@@ -1,5 +1,5 @@
 -- The newest caller goes on with what the body has brought back.
-use Rattle.std.proofs.Common.{◌≡◌, suc, ◌≤◌, refl, ◌∙◌, arith}
+use Rattle.std.proofs.Common.{◌≡◌, suc, refl, ◌∙◌, arith}
 use Rattle.merc_tree.specs.Meaning.{brought_back}
 use Rattle.merc_top.proofs.Resuming.{resumes, meaning-given_back, given_back_less}
 use Rattle.merc_top.proofs.evaluating.Machine.give_back.Goals as goal
