@@ -51,8 +51,11 @@ const RESERVED_WORDS: [&[u8]; 21] = [
 ///   for each of that predicate's modes.
 /// - The head's inputs are bound before the body, and its conjuncts bind further variables from left to right. Each
 ///   operand of an expression and each input of a call is an integer or a variable that is bound before the conjunct.
-///   The variable `V` of a `V = E` and each output of a call is a variable that is not bound yet.
+///   The variable `V` of a `V = E` and each output of a call is a variable that is not bound yet, and no two outputs of
+///   a call are one variable.
 /// - Behind the body each variable of the head is bound.
+///
+/// Where memory is refused there is no answer.
 pub fn is_module(alloc: Global, module: &Module) -> Result<bool, NoMemory>
     ensures { IfOk result (λ answer. answer ≡ is_module «module».now) }
 {
@@ -65,7 +68,7 @@ pub fn is_module(alloc: Global, module: &Module) -> Result<bool, NoMemory>
 
 /// Whether a goal over a module of the first form is in the first form: at least one conjunct, and at most one call,
 /// which is of one of the module's predicates. The rules of [`is_module`] on what is bound hold, where no variable is
-/// bound before the goal.
+/// bound before the goal. Where memory is refused there is no answer.
 pub fn is_goal(alloc: Global, module: &Module, goal: &Conjuncts) -> Result<bool, NoMemory>
     ensures { IfOk result (λ answer. answer ≡ is_goal «module».now goal.now) }
 {
@@ -85,7 +88,11 @@ fn are_predicates(alloc: Global, predicates: &[Predicate]) -> Result<bool, NoMem
     Ok(true)
 }
 
-fn is_predicate(alloc: Global, earlier: &[Predicate], predicate: &Predicate) -> Result<bool, NoMemory>
+fn is_predicate(
+    alloc: Global,
+    earlier: &[Predicate],
+    predicate: &Predicate,
+) -> Result<bool, NoMemory>
     ensures { IfOk result (λ answer. answer ≡ is_predicate earlier.now predicate.now) }
 {
     if !is_heading(earlier, predicate) {
@@ -216,7 +223,11 @@ fn are_bound(bound: &TextTable, variables: &[Text]) -> bool
 }
 
 // Binds what a body binds, if each conjunct may stand where it does.
-fn bind_body(bound: &mut TextTable, predicates: &[Predicate], body: &[Conjunct]) -> Result<bool, NoMemory>
+fn bind_body(
+    bound: &mut TextTable,
+    predicates: &[Predicate],
+    body: &[Conjunct],
+) -> Result<bool, NoMemory>
     ensures { IfOk result (λ answer.
         (if answer then Some bound.new else None) ≡ bind_body predicates.now bound.old body.now) }
 {
@@ -311,7 +322,11 @@ fn has_value(bound: &TextTable, operand: &Operand) -> bool
 }
 
 // Binds what stands in the places of the outputs, if each is a variable that is not bound yet.
-fn bind_outputs(bound: &mut TextTable, modes: &[Mode], operands: &[Operand]) -> Result<bool, NoMemory>
+fn bind_outputs(
+    bound: &mut TextTable,
+    modes: &[Mode],
+    operands: &[Operand],
+) -> Result<bool, NoMemory>
     ensures { IfOk result (λ answer.
         (if answer then Some bound.new else None)
         ≡ bind_outputs bound.old (in_places is_output modes.now operands.now)) }

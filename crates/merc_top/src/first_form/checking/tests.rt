@@ -1,5 +1,7 @@
 use super::{is_goal, is_module};
-use crate::first_form::syntax::{Conjunct, Conjuncts, Expression, Mode, Module, Operand, Predicate};
+use crate::first_form::syntax::{
+    Conjunct, Conjuncts, Expression, Mode, Module, Operand, Predicate,
+};
 use merc_base::{NoMemory, Sequence, Text};
 use std::alloc::Global;
 use std::test::Fail;
@@ -47,10 +49,7 @@ fn equations(alloc: Global, count: u32) -> Result<Conjuncts, Fail> {
     for number in 0..count {
         let mut name = Text::of(alloc, b"V")?;
         name.push(number.to_string(alloc)?.as_bytes())?;
-        goal.push(Conjunct::Equation(
-            name,
-            Expression::Single(Operand::Number(7)),
-        ))?;
+        goal.push(Conjunct::Equation(name, Expression::Single(Operand::Number(7))))?;
     }
     Ok(goal)
 }
