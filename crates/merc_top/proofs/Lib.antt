@@ -11,3 +11,4 @@ pub mod ParsingComplete
 pub mod GrammarLaws
 pub mod FirstToken
 pub mod TokensSoFar
+pub mod Readings

@@ -19,13 +19,41 @@ pub fn read_module(alloc: Global, text: &Text) -> Result<Option<Module>, NoMemor
     ensures found { IfOk result (λ answer. IfSome answer (λ source. IsModuleText text.now source)) }
     ensures none { IfOk result (λ answer. IfNone answer ((source : Module) → IsModuleText text.now source → ⊥)) }
 {
-    Err(NoMemory)
+    let tokens = match lexing::tokens(alloc, text.bytes())? {
+        Some(tokens) => tokens,
+        None => return Ok(None),
+    };
+    let source = match parsing::parse_module(alloc, tokens.as_slice())? {
+        Some(source) => source,
+        None => return Ok(None),
+    };
+    if checking::is_module(alloc, &source)? {
+        Ok(Some(source))
+    } else {
+        Ok(None)
+    }
 }
 
 /// The goal of the first form over a module that a text is, or `None`.
-pub fn read_goal(alloc: Global, source: &Module, text: &Text) -> Result<Option<Conjuncts>, NoMemory>
+pub fn read_goal(
+    alloc: Global,
+    source: &Module,
+    text: &Text,
+) -> Result<Option<Conjuncts>, NoMemory>
     ensures found { IfOk result (λ answer. IfSome answer (λ goal. IsGoalText source.now text.now goal)) }
     ensures none { IfOk result (λ answer. IfNone answer ((goal : List Conjunct) → IsGoalText source.now text.now goal → ⊥)) }
 {
-    Err(NoMemory)
+    let tokens = match lexing::tokens(alloc, text.bytes())? {
+        Some(tokens) => tokens,
+        None => return Ok(None),
+    };
+    let goal = match parsing::parse_goal(alloc, tokens.as_slice())? {
+        Some(goal) => goal,
+        None => return Ok(None),
+    };
+    if checking::is_goal(alloc, source, &goal)? {
+        Ok(Some(goal))
+    } else {
+        Ok(None)
+    }
 }
