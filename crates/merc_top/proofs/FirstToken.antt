@@ -1,4 +1,4 @@
--- What the first byte of a text says of its first token.
+-- The first token of a text: what the first byte says of it, and that the text behind it is shorter.
 use Rattle.std.proofs.Common.{◌≡◌, ℕ, ◌<◌, ◌≤◌, Bool, true, false, cond, ◌&&◌, ◌||◌, List, [], ◌∷◌, length, get_or, Option, Some, None, IfSome, sym, refl, subst, arith, length-drop, ◌==◌, leb, not}
 use Rattle.std.specs.Prelude.{codes}
 use Rattle.std.specs.Str.{bytes_eq}
@@ -11,6 +11,7 @@ use Rattle.merc_top.specs.declared.first_form.syntax.Token.TheVariants.{Name, Fu
 use Rattle.merc_top.specs.Lexing.{run_of, behind_run}
 use Rattle.merc_top.specs.Tokens.{is_lower, is_upper, is_digit, is_word, is_graphic, drop_while, first_token, name_token, number_token, ends_item, begins_with, graphic_token}
 
+-- each byte of a run passes the run's test
 list_all-take_while : (test : ℕ → Bool) (bytes : List ℕ) → list_all test (take_while test bytes) ≡ true
 list_all-take_while test [] = refl
 list_all-take_while test (byte ∷ rest) =
@@ -30,6 +31,7 @@ AllPass-digits (byte ∷ rest) low high =
 graphic_alone : (byte : ℕ) → byte < 256 → is_graphic byte && (is_lower byte || is_upper byte || is_digit byte) ≡ false
 graphic_alone byte small = agree_below_at (λ b. is_graphic b && (is_lower b || is_upper b || is_digit b)) (λ _. false) 256 byte refl small
 
+-- the fourth of five tests decides, where it passes and none of the first three can pass with it
 fourth_chosen : {X : Type 0} (lower upper digit graphic : Bool) (a b c d e : X) → graphic && (lower || upper || digit) ≡ false → graphic ≡ true → cond lower a (cond upper b (cond digit c (cond graphic d e))) ≡ d
 fourth_chosen false false false true a b c d e alone graphic = refl
 fourth_chosen true upper digit true a b c d e alone graphic = cc

@@ -12,6 +12,7 @@ first_token-unique text found other begins also = cc
 pub first_token-nonempty : (text : List ℕ) (found : Token × List ℕ) → first_token text ≡ Some found → text ≡ [] → ⊥
 first_token-nonempty text found begins empty = let none : first_token text ≡ None = ap first_token empty in cc
 
+-- a text has at most one list of tokens
 pub HasTokens-unique : (text : List ℕ) (ts us : List Token) → HasTokens text ts → HasTokens text us → ts ≡ us
 HasTokens-unique text [] [] ends also = refl
 HasTokens-unique text [] (u ∷ us) ends (rest, begins, goes_on) = absurd (first_token-nonempty _ (u, rest) begins ends)
