@@ -27,5 +27,5 @@ pub body_tokens-stop : (b c : List Conjunct) → body_tokens b ≡ body_tokens c
 body_tokens-stop b c same =
     let whole = ap (λ tokens. list_of conjunct_of tokens) (append-nil (body_tokens b)) in
     let parts = some_pair_parts b c [] (Stop ∷ [])
-      (sym (body_of-complete b [] refl) ∙ whole ∙ ap (λ tokens. list_of conjunct_of tokens) same ∙ body_of-complete c (Stop ∷ []) refl) in
+    (sym (body_of-complete b [] refl) ∙ whole ∙ ap (λ tokens. list_of conjunct_of tokens) same ∙ body_of-complete c (Stop ∷ []) refl) in
     stop_left [] parts.1

@@ -1,7 +1,7 @@
 -- A module and a goal with the tokens that spell them, and tokens that spell none.
 use Rattle.std.specs.Prelude.{◌≡◌, true, false, List, [], ◌∷◌, ◌++◌, codes, pos, refl}
-use Rattle.std.proofs.Common.{inr}
-use Rattle.merc_top.specs.Grammar.{behind_commas, separated, operand_token, expression_tokens, conjunct_tokens, body_tokens, mode_word, mode_tokens, declaration_tokens, clause_tokens, predicate_tokens, import_tokens, module_tokens}
+use Rattle.std.proofs.Common.{inl, inr}
+use Rattle.merc_top.specs.Grammar.{conjunct_tokens, body_tokens, predicate_tokens, module_tokens}
 use Rattle.merc_top.specs.Spelling.{SpelledBy}
 use Rattle.merc_top.specs.declared.first_form.syntax.Token.{Token}
 use Rattle.merc_top.specs.declared.first_form.syntax.Token.TheVariants.{Name, Functor, Variable as VariableToken, Number as NumberToken, Neck, DoubleColon, Equals, Plus, Comma, Close, Stop}
@@ -14,20 +14,20 @@ use Rattle.merc_top.specs.declared.first_form.syntax.Predicate.{Predicate}
 use Rattle.merc_top.specs.declared.first_form.syntax.Module.{Module}
 
 -- Z = X + Y
-abbrev sum : Conjunct
+abbrev pub sum : Conjunct
 sum = Equation (codes "Z") (Sum (Variable (codes "X")) (Variable (codes "Y")))
 
-abbrev sum_tokens : List Token
+abbrev pub sum_tokens : List Token
 sum_tokens = VariableToken (codes "Z") ∷ Equals ∷ VariableToken (codes "X") ∷ Plus ∷ VariableToken (codes "Y") ∷ []
 
-abbrev add : Predicate
+abbrev pub add : Predicate
 add = record { name = codes "add"; modes = Input ∷ Input ∷ Output ∷ []; head = codes "X" ∷ codes "Y" ∷ codes "Z" ∷ []; body = sum ∷ [] }
 
-abbrev arithmetic : Module
+abbrev pub arithmetic : Module
 arithmetic = record { name = codes "arithmetic"; imports_int = true; predicates = add ∷ [] }
 
 -- :- pred add(int::in, int::in, int::out) is det.
-abbrev declaration_of_add : List Token
+abbrev pub declaration_of_add : List Token
 declaration_of_add =
     Neck ∷ Name (codes "pred") ∷ Functor (codes "add")
     ∷ Name (codes "int") ∷ DoubleColon ∷ Name (codes "in") ∷ Comma
@@ -36,7 +36,7 @@ declaration_of_add =
     ∷ Name (codes "is") ∷ Name (codes "det") ∷ Stop ∷ []
 
 -- add(X, Y, Z) :- Z = X + Y.
-abbrev clause_of_add : List Token
+abbrev pub clause_of_add : List Token
 clause_of_add =
     Functor (codes "add") ∷ VariableToken (codes "X") ∷ Comma ∷ VariableToken (codes "Y") ∷ Comma ∷ VariableToken (codes "Z") ∷ Close
     ∷ Neck ∷ VariableToken (codes "Z") ∷ Equals ∷ VariableToken (codes "X") ∷ Plus ∷ VariableToken (codes "Y") ∷ Stop ∷ []
@@ -45,15 +45,40 @@ clause_of_add =
 -- :- import_module int.
 -- :- pred add(int::in, int::in, int::out) is det.
 -- add(X, Y, Z) :- Z = X + Y.
-abbrev arithmetic_tokens : List Token
+abbrev pub arithmetic_tokens : List Token
 arithmetic_tokens =
     (Neck ∷ Name (codes "module") ∷ Name (codes "arithmetic") ∷ Stop
     ∷ Neck ∷ Name (codes "import_module") ∷ Name (codes "int") ∷ Stop ∷ [])
     ++ declaration_of_add ++ clause_of_add
 
-module_tokens-example : module_tokens arithmetic ≡ arithmetic_tokens
+pub module_tokens-example : module_tokens arithmetic ≡ arithmetic_tokens
 module_tokens-example = refl
 
 -- the full stop behind the name is missing
-module_tokens-counterexample : (source : Module) → Neck ∷ Name (codes "module") ∷ Name (codes "arithmetic") ∷ [] ≡ module_tokens source → ⊥
+pub module_tokens-counterexample : (source : Module) → Neck ∷ Name (codes "module") ∷ Name (codes "arithmetic") ∷ [] ≡ module_tokens source → ⊥
 module_tokens-counterexample source spelled = cc
+
+pub predicate_tokens-example : predicate_tokens add ≡ declaration_of_add ++ clause_of_add
+predicate_tokens-example = refl
+
+pub conjunct_tokens-example : conjunct_tokens sum ≡ sum_tokens
+conjunct_tokens-example = refl
+
+-- `p(X,)`
+pub conjunct_tokens-counterexample : conjunct_tokens (Call (codes "p") (Variable (codes "X") ∷ [])) ≡ Functor (codes "p") ∷ VariableToken (codes "X") ∷ Comma ∷ Close ∷ [] → ⊥
+conjunct_tokens-counterexample spelled = cc
+
+pub body_tokens-example : body_tokens (sum ∷ Call (codes "p") (Number (pos 1) ∷ []) ∷ []) ≡ sum_tokens ++ Comma ∷ Functor (codes "p") ∷ NumberToken (pos 1) ∷ Close ∷ []
+body_tokens-example = refl
+
+-- the tokens of no text spell the empty body, which no module and no goal has
+pub body_tokens-empty : body_tokens [] ≡ []
+body_tokens-empty = refl
+
+pub SpelledBy-example : SpelledBy (sum_tokens ++ Stop ∷ []) (sum ∷ [])
+SpelledBy-example = inr refl
+
+-- two full stops
+pub SpelledBy-counterexample : SpelledBy (Stop ∷ Stop ∷ []) [] → ⊥
+SpelledBy-counterexample (inl spelled) = cc
+SpelledBy-counterexample (inr spelled) = cc

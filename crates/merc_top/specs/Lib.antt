@@ -3,6 +3,7 @@ pub mod Grammar
 pub mod GrammarExamples
 pub mod Spelling
 pub mod Parsing
+pub mod ParsingExamples
 pub mod ParsingSound
 pub mod FirstForm
 pub mod FlatForm

@@ -445,3 +445,69 @@ fn mode_named(word: &[u8]) -> Result<Mode, Failure>
         _ => Err(Failure::Mismatch),
     }
 }
+
+#[cfg(test)]
+mod tests {
+    use super::*;
+    use std::test::Fail;
+
+    // The token that a word stands for.
+    fn token(alloc: Global, word: &[u8]) -> Result<Token, NoMemory> {
+        Ok(match word {
+            b":-" => Token::Neck,
+            b"::" => Token::DoubleColon,
+            b"=" => Token::Equals,
+            b"+" => Token::Plus,
+            b"," => Token::Comma,
+            b")" => Token::Close,
+            b"." => Token::Stop,
+            b"1" => Token::Number(1),
+            [name @ .., b'('] => Token::Functor(Text::of(alloc, name)?),
+            [b'A'..=b'Z', ..] => Token::Variable(Text::of(alloc, word)?),
+            _ => Token::Name(Text::of(alloc, word)?),
+        })
+    }
+
+    fn tokens(alloc: Global, words: &str) -> Result<Vec<Token>, Fail> {
+        let mut tokens = Vec::new(alloc);
+        for word in words.split_ascii_whitespace() {
+            tokens.push(token(alloc, word.as_bytes())?)?;
+        }
+        Ok(tokens)
+    }
+
+    #[test]
+    fn a_module_is_read(rt: HostRuntime) -> Result<(), Fail> {
+        let alloc = rt.alloc();
+        let tokens = tokens(
+            alloc,
+            ":- module m . :- import_module int . :- pred next( int :: in , int :: out ) is det . next( X , Y ) :- Y = X + 1 .",
+        )?;
+        let source = parse_module(alloc, &tokens)?.expect(&rt, "a module");
+        assert_eq!(rt; source.name.bytes(), b"m".as_slice());
+        assert!(rt; source.imports_int);
+        assert_eq!(rt; source.predicates.as_slice().len(), 1);
+        let without_stop = &tokens[..tokens.len() - 1];
+        assert!(rt; parse_module(alloc, without_stop)?.is_none());
+        Ok(())
+    }
+
+    // p(X, .., X), whose time is linear.
+    #[test]
+    fn a_long_goal_is_read(rt: HostRuntime) -> Result<(), Fail> {
+        let alloc = rt.alloc();
+        let mut tokens = tokens(alloc, "p( X")?;
+        for _ in 1..1 << 18 {
+            tokens.push(Token::Comma)?;
+            tokens.push(token(alloc, b"X")?)?;
+        }
+        tokens.push(Token::Close)?;
+        let goal = parse_goal(alloc, &tokens)?.expect(&rt, "a goal");
+        assert_eq!(rt; goal.as_slice().len(), 1);
+        tokens.push(Token::Stop)?;
+        assert!(rt; parse_goal(alloc, &tokens)?.is_some());
+        tokens.push(Token::Stop)?;
+        assert!(rt; parse_goal(alloc, &tokens)?.is_none());
+        Ok(())
+    }
+}
