@@ -1,10 +1,9 @@
 -- A table of keys that stand for texts, against the list of those texts.
-use Rattle.std.proofs.Common.{◌≡◌, refl, ap, sym, ◌∙◌, ℕ, ◌+◌, Bool, true, false, cond, not, ◌||◌, is_some, Option, Some, None, IfSome, List, [], ◌∷◌, ◌++◌, map, length, nat_lt, position, unwrap_or, arith}
+use Rattle.std.proofs.Common.{◌≡◌, refl, ap, sym, ℕ, ◌+◌, Bool, true, false, cond, not, ◌||◌, is_some, Option, Some, None, IfSome, List, [], ◌∷◌, ◌++◌, map, length, position, unwrap_or, arith}
 use Rattle.std.specs.List.{list_any, prefix_len, position_or_len, IsDistinct, AllByRecursion}
 use Rattle.std.specs.Str.{bytes_eq}
 use Rattle.std.proofs.lemmas.Slice.Eq.{bytes_eq-Decides}
 use Rattle.std.proofs.lemmas.Option.{cond_some}
-use Rattle.std.proofs.lemmas.Map.Keys.{IsDistinct-head, IsDistinct-tail, IsDistinct-cons}
 use Rattle.indexmap.specs.IndexSet.{insert_key}
 use Rattle.merc_base.specs.Texts.{is_among, place_among, with_text}
 
@@ -30,6 +29,7 @@ place_among-with_text texts text = by (is_among text texts)
     by true = refl
     by false = prefix_len-pushed (λ other. not (bytes_eq text other)) texts text (ap not ((bytes_eq-Decides text text).1 refl))
 
+-- where nothing passes, the front that fails is the whole list
 prefix_len-none : {X : Type 0} (test : X → Bool) (xs : List X) → list_any test xs ≡ false → prefix_len (λ x. not (test x)) xs ≡ length xs
 prefix_len-none test [] none = refl
 prefix_len-none test (x ∷ xs) none = by (test x) refl none (prefix_len-none test xs)
@@ -44,6 +44,7 @@ place_or_length texts text None first known = sym (prefix_len-none (bytes_eq tex
 place_or_length texts text (Some place) first known = first
 
 module _ {K : Type 0} (text_of : K → List ℕ) where
+  -- a test of the keys' texts is a test of the texts
   pub list_any-texts : (test : List ℕ → Bool) (ks : List K) → list_any (λ k. test (text_of k)) ks ≡ list_any test (map text_of ks)
   list_any-texts test [] = refl
   list_any-texts test (k ∷ ks) = ap (λ b. test (text_of k) || b) (list_any-texts test ks)
@@ -56,6 +57,7 @@ module _ {K : Type 0} (text_of : K → List ℕ) where
   all-texts P [] all = all
   all-texts P (k ∷ ks) all = (all.0, all-texts P ks all.1)
 
+  -- keys of distinct texts
   pub IsDistinct-texts : (ks : List K) → IsDistinct (λ x y. bytes_eq (text_of x) (text_of y)) ks → IsDistinct bytes_eq (map text_of ks)
   unfolding IsDistinct
   IsDistinct-texts [] distinct = distinct

@@ -3,3 +3,4 @@ pub mod Names
 pub mod Outside
 pub mod Refusal
 pub mod Texts
+pub mod TextsExamples

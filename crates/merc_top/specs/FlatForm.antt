@@ -10,11 +10,9 @@ use Rattle.merc_base.specs.Texts.{place_among, with_text}
 use Rattle.merc_top.specs.FirstForm.{operands_of}
 use Rattle.merc_top.specs.declared.first_form.syntax.Operand.{Operand}
 use Rattle.merc_top.specs.declared.first_form.syntax.Operand.TheVariants.{Variable, Number}
-use Rattle.merc_top.specs.declared.first_form.syntax.Expression.{Expression}
 use Rattle.merc_top.specs.declared.first_form.syntax.Expression.TheVariants.{Single, Sum}
 use Rattle.merc_top.specs.declared.first_form.syntax.Conjunct.{Conjunct}
 use Rattle.merc_top.specs.declared.first_form.syntax.Conjunct.TheVariants.{Equation, Call}
-use Rattle.merc_top.specs.declared.first_form.syntax.Predicate.{Predicate}
 use Rattle.merc_top.specs.declared.first_form.syntax.Module.{Module}
 
 abbrev pub operand_names : Operand → List (List ℕ)

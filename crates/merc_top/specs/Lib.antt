@@ -7,6 +7,7 @@ pub mod ParsingExamples
 pub mod ParsingSound
 pub mod FirstForm
 pub mod FlatForm
+pub mod FlatFormExamples
 pub mod Outcome
 pub mod Words
 pub mod Loading

@@ -1,5 +1,5 @@
 //! The flat form of a module's clauses and of a goal: each argument and operand becomes a variable.
-ghost use Rattle.std.specs.Prelude.{◌≡◌, ◌≤◌, ◌+◌, [], ◌∷◌, ◌++◌, length, fold, IfOk, OnOk};
+ghost use Rattle.std.specs.Prelude.{◌≡◌, ◌≤◌, ◌+◌, ◌^◌, [], ◌∷◌, ◌++◌, length, fold, IfOk, OnOk};
 ghost use Rattle.std.specs.List.{flat_map};
 ghost use Rattle.merc_base.specs.Texts.{place_among, with_text};
 ghost use Rattle.merc_top.specs.FlatForm.{operand_names, conjunct_names, variables_of, operand_var, operand_goals, next_after, operand_vars, operands_goals, next_after_all, conjunct_goals, next_after_conjunct, body_goals, predicate_names, procedures_of, query_of};
@@ -12,38 +12,38 @@ use merc_tree::{Goal, Goals, Operator, Predicate, Procedures, Symbol, Var, Vars}
 use std::alloc::Global;
 
 /// The bodies of a module's predicates in flat form, in order of declaration.
-pub fn procedures(alloc: Global, source: &Module) -> Result<Procedures, NoMemory>
-    ensures { IfOk result (λ bodies. bodies ≡ procedures_of source.now) }
+pub fn procedures(alloc: Global, module: &Module) -> Result<Procedures, NoMemory>
+    ensures { IfOk result (λ bodies. bodies ≡ procedures_of «module».now) }
 {
     let mut bodies = Sequence::new(alloc);
-    for predicate in source.predicates.as_slice() {
+    for predicate in module.predicates.as_slice() {
         let body = predicate.body.as_slice();
-        let variables = variables(alloc, predicate.head.as_slice(), body)?;
+        let variables = clause_variables(alloc, predicate.head.as_slice(), body)?;
         let scope = Scope {
-            source,
+            source: module,
             variables: &variables,
         };
-        bodies.push(goals(alloc, &scope, body)?)?;
+        bodies.push(flatten_body(alloc, &scope, body)?)?;
     }
     Ok(bodies)
 }
 
 /// A goal over a module in flat form, with its variables.
-pub fn query(alloc: Global, source: &Module, goal: &Conjuncts) -> Result<Query, NoMemory>
-    ensures goals { IfOk result (λ query. query.goals ≡ query_of source.now goal.now) }
+pub fn query(alloc: Global, module: &Module, goal: &Conjuncts) -> Result<Query, NoMemory>
+    ensures goals { IfOk result (λ query. query.goals ≡ query_of «module».now goal.now) }
     ensures variables { IfOk result (λ query. query.variables ≡ variables_of [] goal.now) }
 {
-    let variables = variables(alloc, &[], goal.as_slice())?;
+    let variables = clause_variables(alloc, &[], goal.as_slice())?;
     let scope = Scope {
-        source,
+        source: module,
         variables: &variables,
     };
-    let goals = goals(alloc, &scope, goal.as_slice())?;
+    let goals = flatten_body(alloc, &scope, goal.as_slice())?;
     Ok(Query { goals, variables })
 }
 
 // The variables of a clause in order of first occurrence.
-fn variables(alloc: Global, head: &[Text], body: &[Conjunct]) -> Result<TextTable, NoMemory>
+fn clause_variables(alloc: Global, head: &[Text], body: &[Conjunct]) -> Result<TextTable, NoMemory>
     ensures { IfOk result (λ variables. variables ≡ variables_of head.now body.now) }
 {
     let mut variables = TextTable::new(alloc);
@@ -92,17 +92,17 @@ fn add_operand(variables: &mut TextTable, operand: &Operand) -> Result<(), NoMem
 }
 
 // The goals of a clause with these variables.
-fn goals(alloc: Global, scope: &Scope, body: &[Conjunct]) -> Result<Goals, NoMemory>
+fn flatten_body(alloc: Global, scope: &Scope, body: &[Conjunct]) -> Result<Goals, NoMemory>
     ensures { IfOk result (λ goals. goals ≡ body_goals (predicate_names scope.now.source.now) scope.now.variables.now (length scope.now.variables.now) body.now) }
 {
-    let mut front = Front {
+    let mut flat = FlatGoals {
         goals: Vec::new(alloc),
         next: scope.variables.len(),
     };
     for conjunct in body {
-        front.conjunct(alloc, scope, conjunct)?;
+        flat.conjunct(alloc, scope, conjunct)?;
     }
-    Ok(Sequence::from_vec(front.goals))
+    Ok(Sequence::from_vec(flat.goals))
 }
 
 // What the names in a clause stand for.
@@ -135,20 +135,27 @@ impl Scope<'_> {
 // The goals of a clause up to a place in it, and the number of the next fresh variable there. A fresh variable comes
 // with a goal that builds it, which bounds its number.
 #[derive(Drop)]
-struct Front {
+struct FlatGoals {
     goals: Vec<Goal>,
     next: usize,
-    ghost small: { next ≤ 9223372036854775808 + length goals.items },
+    ghost small: { next ≤ 2 ^ 63 + length goals.items },
 }
 
-impl Front {
-    fn conjunct(&mut self, alloc: Global, scope: &Scope, conjunct: &Conjunct) -> Result<(), NoMemory>
+impl FlatGoals {
+    fn conjunct(
+        &mut self,
+        alloc: Global,
+        scope: &Scope,
+        conjunct: &Conjunct,
+    ) -> Result<(), NoMemory>
         ensures goals { OnOk result (self.new.goals.items ≡ self.old.goals.items ++ conjunct_goals (predicate_names scope.now.source.now) scope.now.variables.now self.old.next conjunct.now) }
         ensures next { OnOk result (self.new.next ≡ next_after_conjunct self.old.next conjunct.now) }
     {
         match conjunct {
             Conjunct::Equation(to, Expression::Single(operand)) => self.single(scope, to, operand),
-            Conjunct::Equation(to, Expression::Sum(left, right)) => self.sum(scope, to, left, right),
+            Conjunct::Equation(to, Expression::Sum(left, right)) => self.sum(
+                scope, to, left, right,
+            ),
             Conjunct::Call(name, operands) => self.call(alloc, scope, name, operands.as_slice()),
         }
     }
@@ -166,7 +173,13 @@ impl Front {
     }
 
     // An equation with a sum on the right.
-    fn sum(&mut self, scope: &Scope, to: &Text, left: &Operand, right: &Operand) -> Result<(), NoMemory>
+    fn sum(
+        &mut self,
+        scope: &Scope,
+        to: &Text,
+        left: &Operand,
+        right: &Operand,
+    ) -> Result<(), NoMemory>
         ensures goals { OnOk result (self.new.goals.items ≡ self.old.goals.items ++ conjunct_goals (predicate_names scope.now.source.now) scope.now.variables.now self.old.next (Equation to.now (Sum left.now right.now))) }
         ensures next { OnOk result (self.new.next ≡ next_after (next_after self.old.next left.now) right.now) }
     {
@@ -175,7 +188,13 @@ impl Front {
         self.push(Goal::Arithmetic(Operator::Add, scope.variable(to), left, right))
     }
 
-    fn call(&mut self, alloc: Global, scope: &Scope, name: &Text, operands: &[Operand]) -> Result<(), NoMemory>
+    fn call(
+        &mut self,
+        alloc: Global,
+        scope: &Scope,
+        name: &Text,
+        operands: &[Operand],
+    ) -> Result<(), NoMemory>
         ensures goals { OnOk result (self.new.goals.items ≡ self.old.goals.items ++ conjunct_goals (predicate_names scope.now.source.now) scope.now.variables.now self.old.next (Call name.now operands.now)) }
         ensures next { OnOk result (self.new.next ≡ next_after_all self.old.next operands.now) }
     {
@@ -184,7 +203,12 @@ impl Front {
     }
 
     // The variables that a call's operands become.
-    fn operands(&mut self, alloc: Global, scope: &Scope, operands: &[Operand]) -> Result<Vars, NoMemory>
+    fn operands(
+        &mut self,
+        alloc: Global,
+        scope: &Scope,
+        operands: &[Operand],
+    ) -> Result<Vars, NoMemory>
         ensures vars { IfOk result (λ vars. vars ≡ operand_vars scope.now.variables.now self.old.next operands.now) }
         ensures goals { OnOk result (self.new.goals.items ≡ self.old.goals.items ++ operands_goals self.old.next operands.now) }
         ensures next { OnOk result (self.new.next ≡ next_after_all self.old.next operands.now) }
@@ -221,3 +245,6 @@ impl Front {
         Ok(())
     }
 }
+
+#[cfg(test)]
+mod tests;

@@ -1,5 +1,5 @@
 -- A key passes where its text does.
-use Rattle.std.proofs.Common.{◌≡◌, ◌∙◌, List, ℕ}
+use Rattle.std.proofs.Common.{◌∙◌}
 use Rattle.std.specs.Str.{bytes_eq}
 use Rattle.merc_base.proofs.TextTables.{list_any-texts}
 use Rattle.merc_base.proofs.text_table.TextTable.contains.Goals as goal

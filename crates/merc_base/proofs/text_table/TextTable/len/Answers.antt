@@ -1,5 +1,4 @@
 -- The keys are distinct by their texts.
-use Rattle.std.proofs.Common.{◌≡◌}
 use Rattle.merc_base.proofs.TextTables.{IsDistinct-texts}
 use Rattle.merc_base.proofs.text_table.TextTable.len.Goals as goal
 

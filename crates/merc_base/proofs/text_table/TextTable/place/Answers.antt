@@ -1,5 +1,5 @@
 -- The place of a key is the place of its text.
-use Rattle.std.proofs.Common.{◌≡◌, ◌∙◌, not}
+use Rattle.std.proofs.Common.{◌∙◌, not}
 use Rattle.std.specs.Str.{bytes_eq}
 use Rattle.std.proofs.lemmas.Option.{IfSome_then}
 use Rattle.merc_base.proofs.TextTables.{found_first, list_any-texts, prefix_len-texts}

@@ -11,7 +11,7 @@ pub returns : goal.returns
 returns c =
     let predicates = c.as_slice-predicates.result.now in
     let found : c.position-place.result ≡ position (λ predicate. bytes_eq c.args.name.now predicate.name) predicates =
-        position_from_yields_List (λ predicate. bytes_eq c.args.name.now predicate.name) _ _ c.position-place.result c.position-place.ensures.ran
-            (YieldsList-from_slice _ c.iter.ensures.rest) (λ x b q k. search (rules, tests)) in
+    position_from_yields_List (λ predicate. bytes_eq c.args.name.now predicate.name) _ _ c.position-place.result c.position-place.ensures.ran
+    (YieldsList-from_slice _ c.iter.ensures.rest) (λ x b q k. search (rules, tests)) in
     c.new.ensures ∙ c.unwrap_or.ensures ∙ predicate_place predicates c.args.name.now _ found
     ∙ ap (λ all. place_among (map (λ predicate. predicate.name) all) c.args.name.now) c.as_slice-predicates.ensures

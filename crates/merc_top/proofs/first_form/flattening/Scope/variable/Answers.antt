@@ -1,5 +1,5 @@
 -- The table tells the place of a variable that it has, and its length stands for any other.
-use Rattle.std.proofs.Common.{◌≡◌, ◌∙◌, ap, unwrap_or}
+use Rattle.std.proofs.Common.{◌∙◌, ap, unwrap_or}
 use Rattle.merc_base.specs.Texts.{place_among}
 use Rattle.merc_base.proofs.TextTables.{place_or_length}
 use Rattle.merc_top.proofs.first_form.flattening.Scope.variable.Goals as goal

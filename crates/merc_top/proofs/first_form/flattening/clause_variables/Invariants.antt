@@ -3,7 +3,7 @@ use Rattle.std.proofs.Common.{◌≡◌, ◌++◌, fold, drop}
 use Rattle.std.specs.List.{flat_map}
 use Rattle.merc_base.specs.Texts.{with_text}
 use Rattle.merc_top.specs.FlatForm.{conjunct_names, variables_of}
-use Rattle.merc_top.proofs.first_form.flattening.variables.Given as goal
+use Rattle.merc_top.proofs.first_form.flattening.clause_variables.Given as goal
 
 abbrev pub invariant-loop-name : goal.invariant-loop-name
 invariant-loop-name l = fold with_text l.variables (drop l.name-index l.head ++ flat_map conjunct_names l.body) ≡ variables_of l.head l.body
