@@ -12,3 +12,5 @@ pub mod GrammarLaws
 pub mod FirstToken
 pub mod TokensSoFar
 pub mod Readings
+pub mod RunLines
+pub mod Dues

@@ -20,3 +20,4 @@ pub mod Lexing
 pub mod TokenLaws
 pub mod TokenExamples
 pub mod LexingExamples
+pub mod Due

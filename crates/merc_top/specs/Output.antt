@@ -91,15 +91,18 @@ unfoldable pub step_limit : ℕ
 step_limit = 1000000
 
 -- the run of a goal over a module
-abbrev pub run_of : Module → List Conjunct → Run
+unfoldable pub run_of : Module → List Conjunct → Run
 run_of source goal = run (procedures_of source) (query_of source goal) step_limit
 
--- A goal over a module: refused where its text is no goal of the first form, else the text of its run.
+-- the lines and the status of a run, for the names of the answer variables
+abbrev pub IsRunDue : List (List ℕ) → Run → List (List ℕ) → ℕ → Type 0
+IsRunDue names run lines status = (lines ≡ run_lines names run) × (status ≡ run_status (length (answers_of run)) (end_of run))
+
+-- a goal over a module: refused where its text is no goal of the first form, else the text of its run
 abbrev pub GoalOutput : Module → List ℕ → List (List ℕ) → ℕ → Type 0
 GoalOutput source text lines status =
     (((goal : List Conjunct) → IsGoalText source text goal → ⊥) × (lines ≡ refusal_line (codes "goal") stage_refusal ∷ []) × (status ≡ 5))
-    ⊎ ((goal : List Conjunct) × IsGoalText source text goal × (lines ≡ run_lines (variables_of [] goal) (run_of source goal))
-        × (status ≡ run_status (length (answers_of (run_of source goal))) (end_of (run_of source goal))))
+    ⊎ ((goal : List Conjunct) × IsGoalText source text goal × IsRunDue (variables_of [] goal) (run_of source goal) lines status)
 
 -- a file within the limit: refused where it is no module of the first form, else what the goal gives
 abbrev pub ModuleOutput : List ℕ → List ℕ → List ℕ → List (List ℕ) → ℕ → Type 0

@@ -1,16 +1,21 @@
 //! The top call.
 ghost use Rattle.std.specs.Prelude.{◌≡◌, ◌<◌, All, IfOk, MatchResult, false, ℕ, [], ◌∷◌};
-ghost use Rattle.merc_top.specs.Output.{GoalOutput, ModuleOutput, stage_refusal};
+ghost use Rattle.merc_top.specs.Output.{GoalOutput, ModuleOutput, IsRunDue, run_of, stage_refusal};
+ghost use Rattle.merc_top.specs.Outcome.{IsOutcome};
+ghost use Rattle.merc_top.specs.Due.{Finds};
+ghost use Rattle.merc_top.specs.Answer.{Answers};
+ghost use Rattle.merc_top.specs.FlatForm.{variables_of};
+ghost use Rattle.merc_tree.specs.Trace.{Run};
 
 use crate::evaluating::{Outcome, solve};
 use crate::first_form::{flattening, read_goal, read_module};
-use crate::first_form::syntax::Module;
+use crate::first_form::syntax::{Conjuncts, Module};
 use crate::lines::{refusal_line, solution_line, solutions_line, step_limit_line, too_long_line};
 use crate::loading::{LoadFault, load};
 use crate::words::read_words;
 use crate::writing::put_lines;
 use merc_base::{
-    Construct, Detail, Gate, NoMemory, Place, Refusal, Rule, Sequence, Shelf, Sink, Tap, Text,
+    Construct, Detail, Gate, NoMemory, Place, Refusal, Rule, Sequence, Shelf, Sink, Tap, Text, TextTable,
 };
 use std::alloc::Global;
 use std::sync::Wait;
@@ -51,21 +56,36 @@ fn one_line(alloc: Global, status: u8, line: Text) -> Result<Due, NoMemory>
 fn goal_due(alloc: Global, source: &Module, text: &Text) -> Result<Due, NoMemory>
     ensures { IfOk result (λ due. GoalOutput source.now text.now due.lines due.status) }
 {
-    let Some(goal) = read_goal(alloc, source, text)? else {
-        return one_line(alloc, 5, refusal_line(alloc, b"goal", &stage_refusal())?);
-    };
-    let procedures = flattening::procedures(alloc, source)?;
-    let query = flattening::query(alloc, source, &goal)?;
-    match solve(alloc, &procedures, &query.goals, STEP_LIMIT)? {
+    match read_goal(alloc, source, text)? {
+        Some(goal) => run_due(alloc, source, &goal),
+        None => one_line(alloc, 5, refusal_line(alloc, b"goal", &stage_refusal())?),
+    }
+}
+
+// What is due for a run with this outcome, whose answer variables have these names.
+fn outcome_due(alloc: Global, names: &TextTable, outcome: Outcome) -> Result<Due, NoMemory>
+    ensures { IfOk result (λ due. (run : Run) → IsOutcome outcome run → IsRunDue names.now run due.lines due.status) }
+{
+    match outcome {
         Outcome::Solution(environment) => {
             let mut lines = Sequence::new(alloc);
-            lines.push(solution_line(alloc, &query.variables, &environment)?)?;
+            lines.push(solution_line(alloc, names, &environment)?)?;
             lines.push(solutions_line(alloc, 1)?)?;
             Ok(Due { status: 0, lines })
         }
         Outcome::NoSolution => one_line(alloc, 1, solutions_line(alloc, 0)?),
         Outcome::LimitPassed => one_line(alloc, 3, step_limit_line(alloc)?),
     }
+}
+
+// What is due for the run of a goal over a module.
+fn run_due(alloc: Global, source: &Module, goal: &Conjuncts) -> Result<Due, NoMemory>
+    ensures { IfOk result (λ due. IsRunDue (variables_of [] goal.now) (run_of source.now goal.now) due.lines due.status) }
+{
+    let procedures = flattening::procedures(alloc, source)?;
+    let query = flattening::query(alloc, source, goal)?;
+    let outcome = solve(alloc, &procedures, &query.goals, STEP_LIMIT)?;
+    outcome_due(alloc, &query.variables, outcome)
 }
 
 // What is due for a file of this name and text, and a goal.
@@ -75,5 +95,74 @@ fn module_due(alloc: Global, name: &Text, text: &Text, goal: &Text) -> Result<Du
     match read_module(alloc, text)? {
         Some(source) => goal_due(alloc, &source, goal),
         None => one_line(alloc, 4, refusal_line(alloc, name.bytes(), &stage_refusal())?),
+    }
+}
+
+// Why nothing can be said of what is due.
+#[derive(Clone, Copy, Debug, PartialEq, Eq)]
+pub enum Trouble {
+    /// A read failed, or the named file is not there.
+    Unread,
+    /// Memory was refused.
+    NoMemory,
+}
+
+impl From<NoMemory> for Trouble {
+    ghost use Rattle.std.specs.Prelude.{◌≡◌};
+    ghost use Rattle.merc_top.specs.declared.answering.Trouble.TheVariants.{NoMemory};
+
+    ghost from_gives = { λ _ e. e ≡ NoMemory };
+
+    fn from(_: NoMemory) -> Self {
+        Trouble::NoMemory
+    }
+}
+
+// What is due for words over a shelf.
+fn find_due<S: Shelf>(alloc: Global, words: &[Text], shelf: &mut S) -> Result<Due, Trouble>
+    requires { S.read_faults shelf.old < 18446744073709551615 }
+    ensures same { S.files shelf.new ≡ S.files shelf.old }
+    ensures finds { Finds words.now (S.files shelf.old) (S.read_faults shelf.old) (S.read_faults shelf.new) result }
+{
+    let request = match read_words(words) {
+        Some(request) => request,
+        None => return Ok(one_line(alloc, 6, Text::of(alloc, USAGE)?)?),
+    };
+    match load(alloc, shelf, request.file) {
+        Ok(text) => Ok(module_due(alloc, request.file, &text, request.goal)?),
+        Err(LoadFault::TooLong) => Ok(one_line(
+            alloc,
+            10,
+            too_long_line(alloc, request.file.bytes())?,
+        )?),
+        Err(LoadFault::Unread) => Err(Trouble::Unread),
+        Err(LoadFault::NoMemory) => Err(Trouble::NoMemory),
+    }
+}
+
+/// Does all that the program does, and answers the status to end with. ..
+pub fn answer<R: Threads + Wait, S: Shelf, K: Sink, G: Gate + Sync>(
+    rt: &R,
+    alloc: Global,
+    words: &[Text],
+    shelf: &mut S,
+    sink: &mut K,
+    taps: &mut Vec<Box<dyn Tap>>,
+    gate: &G,
+) -> u8
+    requires shelf { S.read_faults shelf.old < 18446744073709551615 }
+    requires sink { K.write_faults sink.old < 18446744073709551615 }
+    requires taps { All (λ tap. is_over tap ≡ false → tap_faults tap < 18446744073709551615) taps.old.items }
+    ensures same_files { S.files shelf.new ≡ S.files shelf.old }
+    ensures same_taps { taps.new.items ≡ taps.old.items }
+    ensures answers { Answers words.now (S.files shelf.old) (S.read_faults shelf.old) (S.read_faults shelf.new) (K.written sink.old) (K.written sink.new) (K.write_faults sink.old) (K.write_faults sink.new) result }
+{
+    match find_due(alloc, words, shelf) {
+        Ok(due) => match put_lines(sink, due.lines.as_slice()) {
+            Ok(()) => due.status,
+            Err(_) => 8,
+        },
+        Err(Trouble::Unread) => 7,
+        Err(Trouble::NoMemory) => 9,
     }
 }

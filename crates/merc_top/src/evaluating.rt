@@ -26,6 +26,7 @@ pub enum Outcome {
 /// Runs a goal over the bodies of the predicates, up to a limit of steps; a step is one entry into a predicate. A
 /// predicate that is not there fails, and so does a goal that needs a value which a variable has not. The error says
 /// that memory was refused: each call that is open holds a list of its variables' values.
+#[tactic(auto, unfolding(merc_tree::specs::Meaning::run))]
 pub fn solve(
     alloc: Global,
     procedures: &Procedures,

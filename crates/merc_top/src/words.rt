@@ -6,6 +6,7 @@ ghost use Rattle.std.specs.Prelude.{IsTrue, ◌↔◌};
 use merc_base::Text;
 
 /// A request to answer a goal over the module of a file.
+#[derive(Clone, Copy, Debug)]
 pub struct Request<'a> {
     /// The name of the module's file.
     pub file: &'a Text,
