@@ -1,8 +1,8 @@
 -- Worked examples of the definitions of specs/Category.antt: what holds, and what does not.
-use Rattle.std.proofs.Common.{◌≡◌, true, false, codes, refl}
+use Rattle.std.proofs.Common.{◌≡◌, true, codes, refl}
 use Rattle.merc_base.specs.Category.{can_fail_of, most_of, category_name}
 use Rattle.merc_base.specs.declared.category.Category.TheVariants.{Det, Semidet, Multi, Nondet, Erroneous, Failure}
-use Rattle.merc_base.specs.declared.category.Most.TheVariants.{Zero, One, Many}
+use Rattle.merc_base.specs.declared.category.Most.TheVariants.{Zero, Many}
 
 pub can_fail_of-semidet : can_fail_of Semidet ≡ true
 can_fail_of-semidet = refl

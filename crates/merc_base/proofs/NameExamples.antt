@@ -1,7 +1,7 @@
 -- Worked examples of the definitions of specs/Names.antt: what holds, and what does not.
-use Rattle.std.proofs.Common.{◌≡◌, ℕ, List, [], ◌∷◌, Some, slice_get, codes, refl, ap}
+use Rattle.std.proofs.Common.{◌≡◌, ℕ, [], ◌∷◌, Some, slice_get, codes, refl}
 use Rattle.merc_base.specs.Names.{fixed_names, with_text, texts_of, AreDistinct, HoldsFixed}
-use Rattle.merc_base.proofs.NameLaws.{AreDistinct-with_text, AreDistinct-fixed_names}
+use Rattle.merc_base.proofs.NameLaws.{AreDistinct-fixed_names}
 
 pub fixed_names-nil : slice_get fixed_names 1 ≡ Some (codes "[]")
 unfolding fixed_names

@@ -3,7 +3,6 @@ use Rattle.std.proofs.Common.{◌≡◌, ℕ, List, codes, slice_index, refl, ap
 use Rattle.std.specs.Fmt.{digits}
 use Rattle.merc_base.specs.Refusal.{rule_number, rule_text, construct_word, limit_word, detail_text, refusal_text}
 use Rattle.merc_base.specs.declared.category.Category.TheVariants.{Det, Semidet}
-use Rattle.merc_base.specs.declared.place.Place.{Place}
 use Rattle.merc_base.specs.declared.refusal.Construct.TheVariants.{IntegerSuffix, Goal}
 use Rattle.merc_base.specs.declared.refusal.Detail.{Detail}
 use Rattle.merc_base.specs.declared.refusal.Detail.TheVariants.{Plain, Word, Limit, Pair, Categories, Conjunct}

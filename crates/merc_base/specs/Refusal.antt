@@ -1,5 +1,5 @@
 -- What a refusal says: `rule`, the rule's number, and a text that the rule and the detail determine.
-use Rattle.std.specs.Prelude.{◌≡◌, ℕ, List, ◌++◌, codes}
+use Rattle.std.specs.Prelude.{ℕ, List, ◌++◌, codes}
 use Rattle.std.specs.Fmt.{decimal}
 use Rattle.merc_base.specs.Category.{category_name}
 use Rattle.merc_base.specs.declared.refusal.Rule.{Rule}

@@ -344,7 +344,7 @@ fn text_at(added: &IndexSet<Vec<u8>>, number: u64) -> Option<&[u8]>
     Some(text.as_slice())
 }
 
-// The constants with their texts.
+// The constants with their texts: the number of each is the place of its text.
 fn fixed_table() -> &'static [(u64, &'static [u8])]
     ensures { map (λ entry. (entry.0, entry.1.now)) result.now ≡ enumerate_from 0 fixed_names }
 {

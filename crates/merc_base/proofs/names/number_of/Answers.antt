@@ -1,4 +1,4 @@
-use Rattle.std.proofs.Common.{◌≡◌, ℕ, ◌+◌, sym, ap, ◌∙◌}
+use Rattle.std.proofs.Common.{ℕ, ◌+◌, sym, ap, ◌∙◌}
 use Rattle.merc_base.specs.Names.{fixed_names, texts_of}
 use Rattle.merc_base.proofs.NameLaws.{length-fixed_names, slice_get-front, slice_get-back, with_text-known}
 use Rattle.merc_base.proofs.names.number_of.Goals as goal

@@ -1,4 +1,4 @@
-use Rattle.std.proofs.Common.{◌≡◌, Some, None, sym, ap, ◌∙◌, arith}
+use Rattle.std.proofs.Common.{Some, None, sym, ap, ◌∙◌, arith}
 use Rattle.std.specs.Option.{option_copied}
 use Rattle.merc_base.specs.Names.{fixed_names, texts_of}
 use Rattle.merc_base.proofs.NameLaws.{length-fixed_names, slice_get-within, slice_get-texts_of}

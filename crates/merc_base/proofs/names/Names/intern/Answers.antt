@@ -1,4 +1,3 @@
-use Rattle.std.proofs.Common.{◌≡◌}
 use Rattle.merc_base.proofs.NameLaws.{AreDistinct-with_text, HoldsFixed-front}
 use Rattle.merc_base.proofs.names.Names.intern.Goals as goal
 
