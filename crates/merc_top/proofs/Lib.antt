@@ -1,3 +1,3 @@
-pub mod Lists
+pub mod ParsingLoops
 pub mod ParsingComplete
 pub mod GrammarLaws
