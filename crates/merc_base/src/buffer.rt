@@ -1,6 +1,5 @@
 //! The buffer that a shelf fills with one piece of a file.
-ghost use Rattle.std.specs.Prelude.{◌≡◌, [], take, min, length, ◌≤◌, IfOk};
-ghost use Rattle.std.specs.Vec.{vec_capacity};
+ghost use Rattle.std.specs.Prelude.{◌≡◌, [], take, min, length, ◌≤◌, vec_capacity, IfOk};
 ghost use Rattle.merc_base.specs.Outside.{piece_limit};
 
 use crate::NoMemory;
@@ -43,7 +42,7 @@ impl Buffer {
         ensures kept { self.new ≡ take piece_limit bytes.now }
         ensures count { result ≡ min piece_limit (length bytes.now) }
     {
-        let count = PIECE_LIMIT.min(bytes.len());
+        let count = bytes.len().min(PIECE_LIMIT);
         refill(&mut self.bytes, &bytes[..count]);
         count
     }
@@ -58,7 +57,7 @@ impl Buffer {
     }
 }
 
-// Puts a piece in place of what is there, in the room that is there.
+// Puts a piece in place of these bytes, which have room for it.
 fn refill(bytes: &mut Vec<u8>, piece: &[u8])
     requires { length piece.now ≤ vec_capacity bytes.old }
     ensures items { bytes.new.items ≡ piece.now }

@@ -2,6 +2,7 @@
 use Rattle.std.specs.Prelude.{◌≡◌, ℕ, Bool, true, false, ◌==◌, nat_le, ◌&&◌, ◌||◌, not, List, [], ◌∷◌, ◌++◌, length, Option, Some, None, if◌then◌else◌, codes, count_by, IsTrue, option_and_then}
 use Rattle.std.specs.List.{list_any, list_all}
 use Rattle.std.specs.Str.{bytes_eq}
+use Rattle.merc_base.specs.Texts.{is_among}
 use Rattle.merc_top.specs.Grammar.{SpellsModule, SpellsGoal}
 use Rattle.merc_top.specs.declared.first_form.syntax.Operand.{Operand}
 use Rattle.merc_top.specs.declared.first_form.syntax.Operand.TheVariants.{Variable, Number}
@@ -13,9 +14,6 @@ use Rattle.merc_top.specs.declared.first_form.syntax.Mode.{Mode}
 use Rattle.merc_top.specs.declared.first_form.syntax.Mode.TheVariants.{Input, Output}
 use Rattle.merc_top.specs.declared.first_form.syntax.Predicate.{Predicate}
 use Rattle.merc_top.specs.declared.first_form.syntax.Module.{Module}
-
-abbrev pub is_among : List ℕ → List (List ℕ) → Bool
-is_among name names = list_any (λ other. bytes_eq name other) names
 
 -- The lower-case words that are operators or words of the language, and so no plain names.
 unfoldable pub reserved_words : List (List ℕ)

@@ -1,30 +1,19 @@
 -- The flat form: each argument and operand becomes a variable. An integer is named by a fresh variable, which is built in
 -- front of the goal.
-use Rattle.std.specs.Prelude.{ℕ, ◌+◌, List, [], ◌∷◌, ◌++◌, length, map, fold, if◌then◌else◌}
-use Rattle.std.specs.List.{flat_map, prefix_len}
-use Rattle.std.specs.Prelude.{not}
-use Rattle.std.specs.Str.{bytes_eq}
+use Rattle.std.specs.Prelude.{ℕ, ◌+◌, List, [], ◌∷◌, ◌++◌, length, map, fold}
+use Rattle.std.specs.List.{flat_map}
 use Rattle.merc_tree.specs.declared.goal.Goal.{Goal}
 use Rattle.merc_tree.specs.declared.goal.Goal.TheVariants.{Assign, Build, Arithmetic, Call as CallGoal}
 use Rattle.merc_tree.specs.declared.goal.Symbol.TheVariants.{Int}
 use Rattle.merc_tree.specs.declared.goal.Operator.TheVariants.{Add}
-use Rattle.merc_top.specs.FirstForm.{is_among, operands_of}
+use Rattle.merc_base.specs.Texts.{place_among, with_text}
+use Rattle.merc_top.specs.FirstForm.{operands_of}
 use Rattle.merc_top.specs.declared.first_form.syntax.Operand.{Operand}
 use Rattle.merc_top.specs.declared.first_form.syntax.Operand.TheVariants.{Variable, Number}
-use Rattle.merc_top.specs.declared.first_form.syntax.Expression.{Expression}
 use Rattle.merc_top.specs.declared.first_form.syntax.Expression.TheVariants.{Single, Sum}
 use Rattle.merc_top.specs.declared.first_form.syntax.Conjunct.{Conjunct}
 use Rattle.merc_top.specs.declared.first_form.syntax.Conjunct.TheVariants.{Equation, Call}
-use Rattle.merc_top.specs.declared.first_form.syntax.Predicate.{Predicate}
 use Rattle.merc_top.specs.declared.first_form.syntax.Module.{Module}
-
--- a name's place among these, from 0
-abbrev pub place_among : List (List ℕ) → List ℕ → ℕ
-place_among names name = prefix_len (λ other. not (bytes_eq name other)) names
-
--- these names, each where it first stands
-abbrev pub with_name : List (List ℕ) → List ℕ → List (List ℕ)
-with_name names name = if is_among name names then names else names ++ name ∷ []
 
 abbrev pub operand_names : Operand → List (List ℕ)
 operand_names (Variable name) = name ∷ []
@@ -37,7 +26,7 @@ conjunct_names (Call name operands) = flat_map operand_names operands
 
 -- the variables of a clause, or of a goal, which has no head, by number: in order of first occurrence
 abbrev pub variables_of : List (List ℕ) → List Conjunct → List (List ℕ)
-variables_of head body = fold with_name [] (head ++ flat_map conjunct_names body)
+variables_of head body = fold with_text [] (head ++ flat_map conjunct_names body)
 
 -- the variable that an operand becomes, `next` being the next fresh one
 abbrev pub operand_var : List (List ℕ) → ℕ → Operand → ℕ

@@ -7,4 +7,16 @@ pub mod ParsingExamples
 pub mod ParsingSound
 pub mod FirstForm
 pub mod FlatForm
+pub mod FlatFormExamples
 pub mod Outcome
+pub mod Words
+pub mod Loading
+pub mod Writing
+pub mod Output
+pub mod FirstFormExamples
+pub mod Answer
+pub mod Machine
+pub mod Lexing
+pub mod TokenLaws
+pub mod TokenExamples
+pub mod LexingExamples

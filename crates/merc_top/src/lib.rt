@@ -1,5 +1,10 @@
 //! The top call: everything that the program does.
 #![tactic(auto)]
 
+mod answering;
 mod evaluating;
 mod first_form;
+mod lines;
+mod loading;
+mod words;
+mod writing;

@@ -1,3 +1,4 @@
 pub mod Value
 pub mod Trace
 pub mod Meaning
+pub mod Examples

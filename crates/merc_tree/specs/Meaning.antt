@@ -74,5 +74,5 @@ call_trace bodies zero predicate env = Ends TooDeep
 call_trace bodies (suc depth) predicate env = Tick (body_trace (call_trace bodies depth) (slice_get bodies predicate) env)
 
 -- the strict sequential run of a goal, up to a limit of steps
-abbrev pub run : List (List Goal) → List Goal → ℕ → Run
+unfoldable pub run : List (List Goal) → List Goal → ℕ → Run
 run bodies goal limit = cut limit (conjunction_trace (call_trace bodies (suc limit)) goal [])

@@ -1,5 +1,6 @@
 //! A module and a goal of the first form, as they are written.
-use merc_base::{Sequence, Text};
+use merc_base::{Sequence, Text, TextTable};
+use merc_tree::Goals;
 
 /// A token. What it is spelled by stands in specs/Tokens.antt.
 #[derive(Debug, Drop)]
@@ -76,4 +77,11 @@ pub struct Module {
     pub name: Text,
     pub imports_int: bool,
     pub predicates: Predicates,
+}
+
+/// A goal in flat form, with the names of its own variables by number.
+#[derive(Drop)]
+pub struct Query {
+    pub goals: Goals,
+    pub variables: TextTable,
 }

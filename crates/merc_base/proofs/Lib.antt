@@ -1,0 +1,6 @@
+pub mod CategoryExamples
+pub mod FixedNames
+pub mod NameExamples
+pub mod NameLaws
+pub mod RefusalExamples
+pub mod TextTables

@@ -1,0 +1,21 @@
+//! Places in a text.
+
+/// Bytes of a text that stand side by side.
+#[derive(Clone, Copy, Debug, PartialEq, Eq, PartialOrd, Ord)]
+pub struct Span {
+    /// The index of the first byte, from 0.
+    pub first: u32,
+    /// The index behind the last byte.
+    pub past: u32,
+    /// The line of the first byte, from 1.
+    pub line: u32,
+}
+
+/// A place in a text.
+#[derive(Clone, Copy, Debug, PartialEq, Eq, PartialOrd, Ord)]
+pub struct Place {
+    /// The index of a byte, from 0.
+    pub byte: u32,
+    /// The line of that byte, from 1.
+    pub line: u32,
+}

@@ -1,0 +1,5 @@
+pub mod Finding
+pub mod NumbersExamples
+pub mod Reading
+pub mod ShelvesExamples
+pub mod SinksExamples

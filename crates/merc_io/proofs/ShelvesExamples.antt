@@ -1,0 +1,40 @@
+-- Worked examples of what the shelves in memory answer.
+use Rattle.std.proofs.Common.{◌≡◌, [], ◌∷◌, Some, refl}
+use Rattle.merc_base.specs.declared.outside.Fetched.TheVariants.{Got, End, Absent, Failed}
+use Rattle.merc_io.specs.Shelves.{next_piece, KeepsUnlessGot, failures, FailingShelfState}
+
+-- of three bytes, two are left at place 1
+pub next_piece-example : next_piece 8 (Some (7 ∷ 8 ∷ 9 ∷ [])) 1 ≡ Got 2
+next_piece-example = refl
+
+-- a piece has no more bytes than it may
+pub next_piece-short : next_piece 2 (Some (7 ∷ 8 ∷ 9 ∷ [])) 0 ≡ Got 2
+next_piece-short = refl
+
+-- behind the last byte is the end
+pub next_piece-end : next_piece 8 (Some (7 ∷ 8 ∷ 9 ∷ [])) 3 ≡ End
+next_piece-end = refl
+
+-- at the last byte is not the end
+pub next_piece-counterexample : next_piece 8 (Some (7 ∷ 8 ∷ 9 ∷ [])) 2 ≡ End → ⊥
+next_piece-counterexample end = cc
+
+-- at the end the buffer stays as it was
+pub KeepsUnlessGot-example : KeepsUnlessGot End (1 ∷ []) (1 ∷ [])
+KeepsUnlessGot-example = refl
+
+-- a failed call does not empty the buffer
+pub KeepsUnlessGot-counterexample : KeepsUnlessGot Failed (1 ∷ []) [] → ⊥
+KeepsUnlessGot-counterexample kept = cc
+
+-- a failed call is one failure
+pub failures-example : failures Failed ≡ 1
+failures-example = refl
+
+-- a file that is not there is no failure of a shelf that tells its files
+pub failures-counterexample : failures Absent ≡ 1 → ⊥
+failures-counterexample one = cc
+
+-- a shelf with no files whose second call fails, before its first call
+pub FailingShelfState-example : FailingShelfState
+FailingShelfState-example = record { files = []; fail = 2 ∷ []; most = 1; next_call = 1; faults = 0 }

@@ -1,0 +1,40 @@
+-- Worked examples of what the sinks in memory hold.
+use Rattle.std.proofs.Common.{◌≡◌, [], ◌∷◌, Some, None, refl, ap}
+use Rattle.merc_base.specs.declared.outside.Wrote.TheVariants.{Took, Failed}
+use Rattle.merc_io.specs.Sinks.{MemSinkState, FailingSinkState, room_left, sink_after, front_of}
+
+-- two bytes written, in a room of three
+pub MemSinkState-example : MemSinkState
+MemSinkState-example = record { bytes = 7 ∷ 8 ∷ []; room = 3; faults = 0 }
+
+-- one more fits
+pub room_left-example : room_left MemSinkState-example ≡ 1
+unfolding MemSinkState-example
+room_left-example = refl
+
+-- the room is not empty any more
+pub room_left-counterexample : room_left MemSinkState-example ≡ 3 → ⊥
+unfolding MemSinkState-example
+room_left-counterexample whole = cc
+
+-- what was taken stands behind the rest
+pub sink_after-example : sink_after (9 ∷ []) (Took 1) MemSinkState-example ≡ record { bytes = 7 ∷ 8 ∷ 9 ∷ []; room = 3; faults = 0 }
+unfolding MemSinkState-example
+sink_after-example = refl
+
+-- a write that failed put nothing there
+pub sink_after-counterexample : sink_after (9 ∷ []) Failed MemSinkState-example ≡ record { bytes = 7 ∷ 8 ∷ 9 ∷ []; room = 3; faults = 1 } → ⊥
+unfolding MemSinkState-example
+sink_after-counterexample same = cc (ap (λ (s : MemSinkState). s.bytes) same)
+
+-- the first two of three bytes
+pub front_of-example : front_of (Some 2) (7 ∷ 8 ∷ 9 ∷ []) ≡ 7 ∷ 8 ∷ []
+front_of-example = refl
+
+-- with no bound none is left out
+pub front_of-counterexample : front_of None (7 ∷ 8 ∷ 9 ∷ []) ≡ 7 ∷ 8 ∷ [] → ⊥
+front_of-counterexample same = cc
+
+-- a sink of which a write takes one byte, and whose second write fails, before the first
+pub FailingSinkState-example : FailingSinkState
+FailingSinkState-example = record { sink = record { bytes = []; room = 3; faults = 0 }; fail = 2 ∷ []; most = Some 1; next_write = 1 }

@@ -1,0 +1,22 @@
+//! The outside world: files and standard output, and shelves and sinks in memory that stand in for them
+//! and fail as told.
+#![tactic(auto)]
+
+pub mod failing_shelf;
+pub mod failing_sink;
+pub mod file_shelf;
+pub mod mem_shelf;
+pub mod mem_sink;
+pub mod open_gate;
+pub mod out_sink;
+
+pub use failing_shelf::FailingShelf;
+pub use failing_sink::FailingSink;
+pub use file_shelf::FileShelf;
+pub use mem_shelf::MemShelf;
+pub use mem_sink::MemSink;
+pub use open_gate::OpenGate;
+pub use out_sink::OutSink;
+
+#[cfg(test)]
+mod tests;

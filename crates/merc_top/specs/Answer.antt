@@ -1,0 +1,87 @@
+-- What one call of `answer` has done: what it wrote, and why it ends with its status.
+use Rattle.std.specs.Prelude.{◌≡◌, ◌≢◌, ◌<◌, ◌≤◌, ◌⊎◌, ◌↔◌, ℕ, List, length, Option, Some, None, IfSome}
+use Rattle.merc_base.specs.Outside.{Files, file_named, appended}
+use Rattle.merc_tree.specs.Trace.{RunDone, answers_of, end_of}
+use Rattle.merc_top.specs.declared.first_form.syntax.Conjunct.{Conjunct}
+use Rattle.merc_top.specs.declared.first_form.syntax.Module.{Module}
+use Rattle.merc_top.specs.Words.{IsRequest, IsNoRequest}
+use Rattle.merc_top.specs.Loading.{file_limit}
+use Rattle.merc_top.specs.Writing.{PutsFront}
+use Rattle.merc_top.specs.FirstForm.{IsModuleText, IsGoalText}
+use Rattle.merc_top.specs.Output.{IsOutput, run_of, text_of}
+
+-- the files that a shelf tells; where it tells none, any
+abbrev pub AreFiles : Option Files → Files → Type 0
+AreFiles None files = Unit {0}
+AreFiles (Some told) files = files ≡ told
+
+-- the words name a file that is not among those told
+abbrev pub NamesAbsent : List (List ℕ) → Option Files → Type 0
+NamesAbsent words None = ⊥
+NamesAbsent words (Some files) = (file : List ℕ) × (goal : List ℕ) × IsRequest words file goal × (file_named file files ≡ None)
+
+-- the words name a file of more bytes than the limit
+pub record NamesTooLong (words : List (List ℕ)) (files : Files) : Type 0 where
+  pub file : List ℕ
+  pub goal : List ℕ
+  pub text : List ℕ
+  pub request : IsRequest words file goal
+  pub content : file_named file files ≡ Some text
+  pub past : file_limit < length text
+
+-- the words name a file with this text, within the limit, and a goal with that text
+pub record Names (words : List (List ℕ)) (files : Files) (text goal : List ℕ) : Type 0 where
+  pub file : List ℕ
+  pub request : IsRequest words file goal
+  pub content : file_named file files ≡ Some text
+  pub within : length text ≤ file_limit
+
+-- the named file is no module of the form that runs
+pub record RefusesModule (words : List (List ℕ)) (files : Files) : Type 0 where
+  pub text : List ℕ
+  pub goal : List ℕ
+  pub names : Names words files text goal
+  pub refused : (source : Module) → IsModuleText text source → ⊥
+
+-- the named file is such a module, and the goal no goal over it
+pub record RefusesGoal (words : List (List ℕ)) (files : Files) : Type 0 where
+  pub text : List ℕ
+  pub goal : List ℕ
+  pub names : Names words files text goal
+  pub source : Module
+  pub reading : IsModuleText text source
+  pub refused : (conjuncts : List Conjunct) → IsGoalText source goal conjuncts → ⊥
+
+-- module and goal are accepted, and the goal's run has answers and ends with no further one
+pub record Solves (words : List (List ℕ)) (files : Files) : Type 0 where
+  pub text : List ℕ
+  pub goal : List ℕ
+  pub names : Names words files text goal
+  pub source : Module
+  pub reading : IsModuleText text source
+  pub conjuncts : List Conjunct
+  pub goal_reading : IsGoalText source goal conjuncts
+  pub answers : 0 < length (answers_of (run_of source conjuncts))
+  pub ends : end_of (run_of source conjuncts) ≡ RunDone
+
+-- One call, for these words, over a shelf that tells these files: how often reading and writing had failed
+-- before it and have after it, what the sink held and holds, and the status. Status 9, want of memory, is free.
+pub record Answers (words : List (List ℕ)) (told : Option Files) (reads reads' : ℕ) (old new : Option (List ℕ)) (writes writes' : ℕ) (status : ℕ) : Type 0 where
+  -- Without a fault the whole text that is due was written, and the status is the one due.
+  pub output : reads' ≡ reads → writes' ≡ writes → status ≢ 9 →
+      (files : Files) × AreFiles told files × (lines : List (List ℕ)) × IsOutput words files lines status × (new ≡ appended old (text_of lines))
+  pub solved : reads' ≡ reads → writes' ≡ writes → status ≢ 9 → IfSome told (λ files. (status ≡ 0) ↔ Solves words files)
+  pub module_refused : reads' ≡ reads → writes' ≡ writes → status ≢ 9 → IfSome told (λ files. (status ≡ 4) ↔ RefusesModule words files)
+  pub goal_refused : reads' ≡ reads → writes' ≡ writes → status ≢ 9 → IfSome told (λ files. (status ≡ 5) ↔ RefusesGoal words files)
+  pub usage : reads' ≡ reads → writes' ≡ writes → status ≢ 9 → (status ≡ 6) ↔ IsNoRequest words
+  pub too_long : reads' ≡ reads → writes' ≡ writes → status ≢ 9 → IfSome told (λ files. (status ≡ 10) ↔ NamesTooLong words files)
+  -- Status 7 comes exactly where a read failed or the named file is not there, and then nothing was written.
+  pub unread : status ≡ 7 → (reads < reads') ⊎ NamesAbsent words told
+  pub read_failed : reads < reads' → status ≡ 7
+  pub absent : NamesAbsent words told → status ≢ 9 → status ≡ 7
+  pub nothing_written : status ≡ 7 → new ≡ old
+  -- Status 8 comes exactly where a write failed; what was written then is a front of a text that was due.
+  pub write_failed : (status ≡ 8) ↔ (writes < writes')
+  pub cut_short : status ≡ 8 → (files : Files) × AreFiles told files × (lines : List (List ℕ)) × (due : ℕ) × IsOutput words files lines due × PutsFront (text_of lines) old new
+  -- Whatever the status, what was written is a front of the text that is due.
+  pub front : (lines : List (List ℕ)) (due : ℕ) → IfSome told (λ files. IsOutput words files lines due → PutsFront (text_of lines) old new)

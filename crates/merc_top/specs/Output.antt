@@ -1,0 +1,121 @@
+-- The text and the status that are due for given words and files.
+use Rattle.std.specs.Prelude.{◌≡◌, ◌+◌, ℕ, suc, zero, ◌<◌, ◌≤◌, ◌⊎◌, List, [], ◌∷◌, ◌++◌, length, map, Option, Some, None, codes}
+use Rattle.std.specs.List.{flat_map}
+use Rattle.std.specs.Fmt.{decimal, signed_decimal}
+use Rattle.merc_base.specs.Outside.{Files, file_named}
+use Rattle.merc_base.specs.Refusal.{refusal_text}
+use Rattle.merc_base.specs.declared.refusal.Refusal.{Refusal}
+use Rattle.merc_base.specs.declared.refusal.Rule.TheVariants.{OutsideProfile}
+use Rattle.merc_base.specs.declared.refusal.Detail.TheVariants.{Word}
+use Rattle.merc_base.specs.declared.refusal.Construct.TheVariants.{Stage}
+use Rattle.merc_tree.specs.Value.{Value, Int}
+use Rattle.merc_tree.specs.Trace.{Env, Run, RunEnd, RunDone, RunRaised, LimitPassed, answers_of, end_of}
+use Rattle.merc_tree.specs.Meaning.{run, value_at}
+use Rattle.merc_top.specs.declared.first_form.syntax.Conjunct.{Conjunct}
+use Rattle.merc_top.specs.declared.first_form.syntax.Module.{Module}
+use Rattle.merc_top.specs.Words.{IsRequest, IsNoRequest, usage_line}
+use Rattle.merc_top.specs.Loading.{file_limit}
+use Rattle.merc_top.specs.FirstForm.{IsModuleText, IsGoalText}
+use Rattle.merc_top.specs.FlatForm.{variables_of, procedures_of, query_of}
+
+abbrev pub line_end : List ℕ
+line_end = 10 ∷ []
+
+-- the text of a lone line
+abbrev pub line : List ℕ → List ℕ
+line text = text ++ line_end
+
+-- a value as it is printed; a variable without a value, which no answer variable is, prints as nothing
+abbrev pub value_text : Option Value → List ℕ
+value_text None = []
+value_text (Some (Int number)) = signed_decimal number
+
+-- `V = value`
+abbrev pub binding : List ℕ → Option Value → List ℕ
+binding name value = name ++ codes " = " ++ value_text value
+
+-- a binding for each name, where the first is that of the variable of this number
+abbrev pub bindings : ℕ → List (List ℕ) → Env → List (List ℕ)
+bindings number [] env = []
+bindings number (name ∷ names) env = binding name (value_at env number) ∷ bindings (number + 1) names env
+
+-- each of these texts behind a comma and a blank
+abbrev pub behind_commas : List (List ℕ) → List ℕ
+behind_commas [] = []
+behind_commas (text ∷ texts) = codes ", " ++ text ++ behind_commas texts
+
+-- these texts with a comma and a blank between each two; `true` where there is none
+abbrev pub comma_list : List (List ℕ) → List ℕ
+comma_list [] = codes "true"
+comma_list (text ∷ texts) = text ++ behind_commas texts
+
+-- the line of a solution, for the names of the answer variables
+abbrev pub solution_line : List (List ℕ) → Env → List ℕ
+solution_line names env = line (comma_list (bindings 0 names env))
+
+-- the last line of a run with so many solutions
+abbrev pub end_line : ℕ → RunEnd → List ℕ
+end_line count RunDone = line (codes "solutions " ++ decimal count)
+end_line count (RunRaised text) = line (codes "uncaught exception: " ++ text)
+end_line count LimitPassed = line (codes "step limit passed")
+
+-- the status of a run with so many solutions
+abbrev pub run_status : ℕ → RunEnd → ℕ
+run_status zero RunDone = 1
+run_status (suc count) RunDone = 0
+run_status count (RunRaised text) = 2
+run_status count LimitPassed = 3
+
+-- the lines of a run: its solutions in order, then its end
+abbrev pub run_lines : List (List ℕ) → Run → List (List ℕ)
+run_lines names run = map (solution_line names) (answers_of run) ++ end_line (length (answers_of run)) (end_of run) ∷ []
+
+-- a text of several lines
+abbrev pub text_of : List (List ℕ) → List ℕ
+text_of lines = flat_map (λ line. line) lines
+
+-- the line of a refusal; the place is a file's name, or `goal`
+abbrev pub refusal_line : List ℕ → Refusal → List ℕ
+refusal_line name refusal = line (name ++ codes ":" ++ decimal refusal.place.line ++ codes ": " ++ refusal_text refusal)
+
+-- what is not in the form that runs is refused at line 1
+abbrev pub stage_refusal : Refusal
+stage_refusal = record { rule = OutsideProfile; place = record { byte = 0; line = 1 }; detail = Word Stage }
+
+-- the line for a file of more bytes than the limit
+abbrev pub too_long_line : List ℕ → List ℕ
+too_long_line name = line (name ++ codes ": longer than 1048576 bytes")
+
+-- the steps that a run may take
+unfoldable pub step_limit : ℕ
+step_limit = 1000000
+
+-- the run of a goal over a module
+abbrev pub run_of : Module → List Conjunct → Run
+run_of source goal = run (procedures_of source) (query_of source goal) step_limit
+
+-- A goal over a module: refused where its text is no goal of the first form, else the text of its run.
+abbrev pub GoalOutput : Module → List ℕ → List (List ℕ) → ℕ → Type 0
+GoalOutput source text lines status =
+    (((goal : List Conjunct) → IsGoalText source text goal → ⊥) × (lines ≡ refusal_line (codes "goal") stage_refusal ∷ []) × (status ≡ 5))
+    ⊎ ((goal : List Conjunct) × IsGoalText source text goal × (lines ≡ run_lines (variables_of [] goal) (run_of source goal))
+        × (status ≡ run_status (length (answers_of (run_of source goal))) (end_of (run_of source goal))))
+
+-- a file within the limit: refused where it is no module of the first form, else what the goal gives
+abbrev pub ModuleOutput : List ℕ → List ℕ → List ℕ → List (List ℕ) → ℕ → Type 0
+ModuleOutput name file goal lines status =
+    (((source : Module) → IsModuleText file source → ⊥) × (lines ≡ refusal_line name stage_refusal ∷ []) × (status ≡ 4))
+    ⊎ ((source : Module) × IsModuleText file source × GoalOutput source goal lines status)
+
+-- the named file: absent, too long, or read
+abbrev pub FileOutput : List ℕ → Option (List ℕ) → List ℕ → List (List ℕ) → ℕ → Type 0
+FileOutput name None goal lines status = (lines ≡ []) × (status ≡ 7)
+FileOutput name (Some file) goal lines status =
+    ((file_limit < length file) × (lines ≡ too_long_line name ∷ []) × (status ≡ 10))
+    ⊎ ((length file ≤ file_limit) × ModuleOutput name file goal lines status)
+
+-- the lines and the status that are due for these words over these files
+abbrev pub IsOutput : List (List ℕ) → Files → List (List ℕ) → ℕ → Type 0
+IsOutput words files lines status =
+    (IsNoRequest words × (lines ≡ usage_line ∷ []) × (status ≡ 6))
+    ⊎ ((file : List ℕ) × (goal : List ℕ) × IsRequest words file goal × FileOutput file (file_named file files) goal lines status)
