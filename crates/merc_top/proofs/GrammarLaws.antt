@@ -1,5 +1,5 @@
 -- Tokens spell at most one module, and at most one goal.
-use Rattle.std.proofs.Common.{◌≡◌, List, [], ◌∷◌, ◌++◌, Some, ap, ◌∙◌, sym, refl, append-nil, inl, inr}
+use Rattle.std.proofs.Common.{◌≡◌, List, [], ◌∷◌, ◌++◌, ap, ◌∙◌, sym, refl, append-nil, inl}
 use Rattle.std.proofs.lemmas.Option.{same_Some, some_pair_parts}
 use Rattle.merc_top.specs.Grammar.{module_tokens, body_tokens}
 use Rattle.merc_top.specs.Spelling.{SpelledBy}

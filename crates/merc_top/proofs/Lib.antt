@@ -1,3 +1,4 @@
+pub mod ParsingLoops
 pub mod LoadingLemmas
 pub mod WritingLemmas
 pub mod LineLemmas
@@ -6,7 +7,6 @@ pub mod InPlaces
 pub mod Environments
 pub mod Resuming
 pub mod Outcomes
-pub mod Lists
 pub mod ParsingComplete
 pub mod GrammarLaws
 pub mod FirstToken

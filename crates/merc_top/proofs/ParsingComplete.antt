@@ -1,11 +1,11 @@
 -- What is spelled is read.
-use Rattle.std.proofs.Common.{◌≡◌, ℕ, zero, suc, ◌+◌, ◌≤◌, Bool, true, false, ◌||◌, List, [], ◌∷◌, ◌++◌, map, flat_map, length, codes, Option, Some, None, refl, sym, ap, ◌∙◌, inl, inr, ◌⊎◌, arith, append_assoc, append-nil, length-append, bytes_eq}
+use Rattle.std.proofs.Common.{◌≡◌, ℕ, zero, suc, ◌≤◌, Bool, true, false, ◌||◌, List, [], ◌∷◌, ◌++◌, map, flat_map, length, codes, Option, Some, refl, ap, ◌∙◌, inl, inr, arith, append_assoc, append-nil, length-append}
 use Rattle.std.proofs.lemmas.Slice.Eq.{bytes_eq-Decides}
 use Rattle.merc_top.specs.Grammar.{behind_commas, separated, operand_token, expression_tokens, conjunct_tokens, body_tokens, mode_tokens, declaration_tokens, clause_tokens, predicate_tokens, import_tokens, module_tokens}
 use Rattle.merc_top.specs.Spelling.{SpelledBy}
 use Rattle.merc_top.specs.Parsing.{operand_of, expression_on, expression_of, mode_of, variable_of, is_at_end, comma_of, items_on, list_of, arguments_of, conjunct_of, declaration_of, clause_of, predicate_of, predicates_on, import_of, module_of, goal_of}
 use Rattle.merc_top.specs.declared.first_form.syntax.Token.{Token}
-use Rattle.merc_top.specs.declared.first_form.syntax.Token.TheVariants.{Name, Functor, Variable as VariableToken, Number as NumberToken, Neck, DoubleColon, Equals, Plus, Comma, Close, Stop}
+use Rattle.merc_top.specs.declared.first_form.syntax.Token.TheVariants.{Name, Variable as VariableToken, Neck, Plus, Comma, Close, Stop}
 use Rattle.merc_top.specs.declared.first_form.syntax.Operand.{Operand}
 use Rattle.merc_top.specs.declared.first_form.syntax.Operand.TheVariants.{Variable, Number}
 use Rattle.merc_top.specs.declared.first_form.syntax.Expression.{Expression}

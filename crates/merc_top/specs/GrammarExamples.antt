@@ -1,12 +1,12 @@
 -- A module and a goal with the tokens that spell them, and tokens that spell none.
-use Rattle.std.specs.Prelude.{◌≡◌, true, false, List, [], ◌∷◌, ◌++◌, codes, pos, refl}
+use Rattle.std.specs.Prelude.{◌≡◌, true, List, [], ◌∷◌, ◌++◌, codes, pos, refl}
 use Rattle.std.proofs.Common.{inl, inr}
 use Rattle.merc_top.specs.Grammar.{conjunct_tokens, body_tokens, predicate_tokens, module_tokens}
 use Rattle.merc_top.specs.Spelling.{SpelledBy}
 use Rattle.merc_top.specs.declared.first_form.syntax.Token.{Token}
 use Rattle.merc_top.specs.declared.first_form.syntax.Token.TheVariants.{Name, Functor, Variable as VariableToken, Number as NumberToken, Neck, DoubleColon, Equals, Plus, Comma, Close, Stop}
 use Rattle.merc_top.specs.declared.first_form.syntax.Operand.TheVariants.{Variable, Number}
-use Rattle.merc_top.specs.declared.first_form.syntax.Expression.TheVariants.{Single, Sum}
+use Rattle.merc_top.specs.declared.first_form.syntax.Expression.TheVariants.{Sum}
 use Rattle.merc_top.specs.declared.first_form.syntax.Conjunct.{Conjunct}
 use Rattle.merc_top.specs.declared.first_form.syntax.Conjunct.TheVariants.{Equation, Call}
 use Rattle.merc_top.specs.declared.first_form.syntax.Mode.TheVariants.{Input, Output}

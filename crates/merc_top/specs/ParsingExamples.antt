@@ -1,5 +1,5 @@
 -- What the parts of the reader give at examples, `None` among them.
-use Rattle.std.specs.Prelude.{◌≡◌, ℕ, true, false, List, [], ◌∷◌, ◌++◌, codes, Option, Some, None, Ok, Err, pos, refl}
+use Rattle.std.specs.Prelude.{◌≡◌, true, false, [], ◌∷◌, ◌++◌, codes, Some, None, Ok, Err, pos, refl}
 use Rattle.merc_top.specs.Parsing.{Finds, Reads, Skips, operand_of, expression_on, expression_of, mode_named, mode_of, variable_of, is_at_end, comma_of, items_on, list_of, behind_close, arguments_of, conjunct_of, declared_name_of, behind_is_det, declaration_of, behind_functor, behind_neck, behind_stop, clause_of, predicate_of, predicates_on, predicates_of, module_name_of, import_of, module_of, is_whole, goal_of}
 use Rattle.merc_top.specs.GrammarExamples.{sum, sum_tokens, add, arithmetic, declaration_of_add, clause_of_add, arithmetic_tokens}
 use Rattle.merc_top.specs.declared.first_form.parsing.Failure.TheVariants.{Mismatch}
@@ -7,7 +7,7 @@ use Rattle.merc_top.specs.declared.first_form.syntax.Token.{Token}
 use Rattle.merc_top.specs.declared.first_form.syntax.Token.TheVariants.{Name, Functor, Variable as VariableToken, Number as NumberToken, Neck, DoubleColon, Equals, Plus, Comma, Close, Stop}
 use Rattle.merc_top.specs.declared.first_form.syntax.Operand.TheVariants.{Variable, Number}
 use Rattle.merc_top.specs.declared.first_form.syntax.Expression.TheVariants.{Single, Sum}
-use Rattle.merc_top.specs.declared.first_form.syntax.Conjunct.TheVariants.{Equation, Call}
+use Rattle.merc_top.specs.declared.first_form.syntax.Conjunct.TheVariants.{Call}
 use Rattle.merc_top.specs.declared.first_form.syntax.Mode.TheVariants.{Input, Output}
 
 abbrev pub x : Token

@@ -1,20 +1,18 @@
 -- What is read is what the tokens spell, up to what is left of them.
-use Rattle.std.specs.Prelude.{◌≡◌, ℕ, zero, suc, ◌+◌, ◌<◌, Bool, true, false, ◌&&◌, not, List, [], ◌∷◌, ◌++◌, map, length, codes, Option, Some, None, ◌⊎◌, refl, if◌then◌else◌}
+use Rattle.std.specs.Prelude.{◌≡◌, ℕ, zero, suc, ◌<◌, Bool, true, false, ◌&&◌, not, List, [], ◌∷◌, ◌++◌, map, length, codes, Option, Some, None, ◌⊎◌, refl}
 use Rattle.std.specs.List.{flat_map}
 use Rattle.std.specs.Str.{bytes_eq}
 use Rattle.std.proofs.Common.{◌∙◌, sym, ap, subst, inl, inr, arith, append_assoc, append-nil, length-append, cond, option_map}
-use Rattle.std.proofs.lemmas.Option.{option_and_then_some, some_pair_parts, same_Some, cond_some}
+use Rattle.std.proofs.lemmas.Option.{option_and_then_some, some_pair_parts, same_Some}
 use Rattle.std.proofs.lemmas.Bool.{and_parts}
 use Rattle.std.proofs.lemmas.Slice.Eq.{bytes_eq-Decides}
 use Rattle.merc_top.specs.Grammar.{behind_commas, separated, operand_token, expression_tokens, conjunct_tokens, body_tokens, mode_word, mode_tokens, declaration_tokens, clause_tokens, predicate_tokens, import_tokens, module_tokens}
 use Rattle.merc_top.specs.Spelling.{SpelledBy}
-use Rattle.merc_top.specs.Parsing.{operand_of, expression_on, expression_of, mode_named, mode_of, variable_of, is_at_end, comma_of, items_on, list_of, behind_close, arguments_of, conjunct_of, declared_name_of, behind_is_det, declaration_of, behind_functor, behind_neck, behind_stop, clause_of, predicate_of, predicates_on, predicates_of, module_name_of, import_of, module_of, is_whole, goal_of}
+use Rattle.merc_top.specs.Parsing.{operand_of, expression_on, expression_of, mode_named, mode_of, variable_of, is_at_end, comma_of, items_on, list_of, behind_close, arguments_of, conjunct_of, declared_name_of, behind_is_det, declaration_of, behind_functor, behind_neck, behind_stop, clause_of, predicate_of, predicates_on, module_name_of, import_of, module_of, is_whole, goal_of}
 use Rattle.merc_top.specs.declared.first_form.syntax.Token.{Token}
 use Rattle.merc_top.specs.declared.first_form.syntax.Token.TheVariants.{Name, Functor, Variable as VariableToken, Number as NumberToken, Neck, DoubleColon, Equals, Plus, Comma, Close, Stop}
 use Rattle.merc_top.specs.declared.first_form.syntax.Operand.{Operand}
-use Rattle.merc_top.specs.declared.first_form.syntax.Operand.TheVariants.{Variable, Number}
 use Rattle.merc_top.specs.declared.first_form.syntax.Expression.{Expression}
-use Rattle.merc_top.specs.declared.first_form.syntax.Expression.TheVariants.{Single, Sum}
 use Rattle.merc_top.specs.declared.first_form.syntax.Conjunct.{Conjunct}
 use Rattle.merc_top.specs.declared.first_form.syntax.Conjunct.TheVariants.{Equation, Call}
 use Rattle.merc_top.specs.declared.first_form.syntax.Mode.{Mode}

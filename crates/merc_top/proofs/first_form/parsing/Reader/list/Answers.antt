@@ -1,4 +1,4 @@
-use Rattle.merc_top.proofs.Lists.{leads_on}
+use Rattle.merc_top.proofs.ParsingLoops.{leads_on}
 use Rattle.merc_top.proofs.first_form.parsing.Reader.list.Goals as goal
 
 pub loop-more-preserved : goal.loop-more-preserved

@@ -1,7 +1,7 @@
 -- What is read from here on, with the items so far, is the list.
 use Rattle.std.proofs.Common.{length}
 use Rattle.merc_top.specs.Parsing.{list_of}
-use Rattle.merc_top.proofs.Lists.{LeadsTo}
+use Rattle.merc_top.proofs.ParsingLoops.{LeadsTo}
 use Rattle.merc_top.proofs.first_form.parsing.Reader.list.Given as goal
 
 abbrev pub invariant-loop-more : goal.invariant-loop-more

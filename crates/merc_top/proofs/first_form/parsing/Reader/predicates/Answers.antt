@@ -1,5 +1,5 @@
 use Rattle.merc_top.specs.ParsingSound.{shorter-predicate_of}
-use Rattle.merc_top.proofs.Lists.{leads_on_predicates}
+use Rattle.merc_top.proofs.ParsingLoops.{leads_on_predicates}
 use Rattle.merc_top.proofs.first_form.parsing.Reader.predicates.Goals as goal
 
 pub loop-predicates-preserved : goal.loop-predicates-preserved

@@ -1,7 +1,7 @@
 -- What is read from here on, with the predicates so far, is all that the tokens spell.
 use Rattle.std.proofs.Common.{length}
 use Rattle.merc_top.specs.Parsing.{predicates_of}
-use Rattle.merc_top.proofs.Lists.{LeadsToPredicates}
+use Rattle.merc_top.proofs.ParsingLoops.{LeadsToPredicates}
 use Rattle.merc_top.proofs.first_form.parsing.Reader.predicates.Given as goal
 
 abbrev pub invariant-loop-predicates : goal.invariant-loop-predicates

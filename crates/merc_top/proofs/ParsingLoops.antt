@@ -1,10 +1,10 @@
--- Lists of items with commas: what the loop that reads one keeps.
-use Rattle.std.proofs.Common.{◌≡◌, ℕ, zero, suc, ◌-◌, ◌<◌, ◌≤◌, List, [], ◌∷◌, ◌++◌, length, Bool, true, false, Option, Some, None, arith, refl, ◌∙◌, sym}
+-- What the loops of the reader keep: that they lead to what there is to be read.
+use Rattle.std.proofs.Common.{◌≡◌, ℕ, zero, suc, ◌<◌, ◌≤◌, List, [], ◌∷◌, ◌++◌, length, Bool, true, Option, Some, arith}
 use Rattle.merc_top.specs.Parsing.{items_on, comma_of, predicate_of, predicates_on}
 use Rattle.merc_top.specs.ParsingSound.{shorter-predicate_of}
 use Rattle.merc_top.specs.declared.first_form.syntax.Predicate.{Predicate}
 use Rattle.merc_top.specs.declared.first_form.syntax.Token.{Token}
-use Rattle.merc_top.specs.declared.first_form.syntax.Token.TheVariants.{Name, Functor, Variable, Number, Neck, DoubleColon, Equals, Plus, Comma, Close, Stop}
+use Rattle.merc_top.specs.declared.first_form.syntax.Token.TheVariants.{Comma}
 
 -- With the items so far, reading on from these tokens gives the whole. The fuel is more than the tokens.
 pub record LeadsTo {X : Type 0} (item : List Token → Option (X × List Token)) (whole : Option (List X × List Token)) (items : List X) (more : Bool) (tokens : List Token) : Type 0 where
