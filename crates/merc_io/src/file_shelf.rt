@@ -1,8 +1,9 @@
 //! The files of the system, as a shelf. What the system answers is trusted: no clause says what a file holds.
-ghost use Rattle.std.specs.Prelude.{◌≡◌, ◌↔◌, ◌+◌, ◌-◌, ◌^◌, ◌<◌, ◌≤◌, Some, None, length, min, IfOk, IfErr, IfSome, IsSomeAnd, OnOk, OnErr};
+ghost use Rattle.std.specs.Prelude.{◌≡◌, ◌↔◌, ◌+◌, ◌-◌, ◌^◌, ◌<◌, ◌≤◌, [], Some, None, length, min, IfOk, IfErr, IfSome, IsSomeAnd, OnOk, OnErr};
 ghost use Rattle.std.specs.IoError.{error_kind};
 ghost use Rattle.std.specs.Io.KnownBytes.{Consumes, IsAtEnd, Keeps};
 ghost use Rattle.merc_base.specs.Outside.{AnswersFetch};
+ghost use Rattle.merc_io.specs.Shelves.{stands_after};
 
 use merc_base::buffer::PIECE_LIMIT;
 use merc_base::{Buffer, Fetched, NoMemory, Shelf, Text};
@@ -14,7 +15,8 @@ use std::{fs, io};
 // How often a read is tried that a signal interrupts.
 const READ_TRIES: u32 = 16;
 
-/// The files of the system, each by its path. It is seen as the count of its faults.
+/// The files of the system, each by its path. The file that was read last stays open, and is read on where a fetch
+/// begins at the place that it was read to: so what cannot seek, as a pipe, can be read too.
 #[derive(Drop)]
 pub struct FileShelf<R: Files + AllocGlobal + Drop> {
     rt: R,
@@ -45,17 +47,18 @@ impl From<NoMemory> for ReadFault {
 }
 
 impl<R: Files + AllocGlobal + Drop> Model for FileShelf<R> {
-    ghost use Rattle.std.specs.Prelude.{ℕ};
+    ghost use Rattle.std.specs.Option.{option_map};
+    ghost use Rattle.merc_io.specs.Shelves.{FileShelfState};
 
-    ghost Value = { ℕ };
+    ghost Value = { FileShelfState };
 
-    ghost view = { λ s. s.faults };
+    ghost view = { λ s. record { faults = s.faults; stands = option_map (λ file. (file.name, file.at)) s.last } };
 }
 
 impl<R: Files + AllocGlobal + Drop> FileShelf<R> {
     /// The files that this runtime opens.
     pub fn new(rt: R) -> FileShelf<R>
-        ensures { result ≡ 0 }
+        ensures { result ≡ record { faults = 0; stands = None } }
     {
         FileShelf {
             rt,
@@ -164,14 +167,16 @@ fn read_piece<F: Read>(handle: &mut F, into: &mut Buffer) -> Result<usize, ReadF
 impl<R: Files + AllocGlobal + Drop> Shelf for FileShelf<R> {
     ghost files = { λ _. None };
 
-    ghost read_faults = { λ s. s };
+    ghost read_faults = { λ s. s.faults };
 
     /// The bytes of one read. The count of faults rises by one where there is no such file, and where the file cannot
     /// be opened or read: a folder, no permission, a name that is not UTF-8.
     fn fetch(&mut self, name: &Text, at: u64, into: &mut Buffer) -> Fetched
-        requires { self.old < 18446744073709551615 }
-        ensures answer { AnswersFetch None name.now at self.old self.new result into.new }
-        ensures by_one { self.new ≤ self.old + 1 }
+        requires { self.old.faults < 18446744073709551615 }
+        ensures answer { AnswersFetch None name.now at self.old.faults self.new.faults result into.new }
+        ensures by_one { self.new.faults ≤ self.old.faults + 1 }
+        ensures end { result ≡ Fetched.End → into.new ≡ [] }
+        ensures stands { self.new.stands ≡ stands_after result name.now at }
     {
         match read_at(&self.rt, &mut self.last, name, at, into) {
             Ok(0) => Fetched::End,
