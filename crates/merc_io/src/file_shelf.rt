@@ -1,5 +1,6 @@
 //! The files of the system, as a shelf. What the system answers is trusted: no clause says what a file holds.
-ghost use Rattle.std.specs.Prelude.{◌≡◌, ◌↔◌, ◌+◌, ◌-◌, ◌^◌, ◌<◌, ◌≤◌, [], Some, None, length, min, IfOk, IfErr, IfSome, IsSomeAnd, OnOk, OnErr};
+ghost use Rattle.std.specs.Prelude.{◌≡◌, ◌↔◌, ◌+◌, ◌-◌, ◌^◌, ◌<◌, ◌≤◌, [], Some, None, length, min, IfOk, IfErr, IfSome, IsSomeAnd, IsErrOf, OnOk, OnErr};
+ghost use Rattle.std.specs.Str.{IsUtf8};
 ghost use Rattle.std.specs.IoError.{error_kind};
 ghost use Rattle.std.specs.Io.KnownBytes.{Consumes, IsAtEnd, Keeps};
 ghost use Rattle.merc_base.specs.Outside.{AnswersFetch};
@@ -41,6 +42,11 @@ enum ReadFault {
 }
 
 impl From<NoMemory> for ReadFault {
+    ghost use Rattle.std.specs.Prelude.{◌≡◌};
+    ghost use Rattle.merc_io.specs.declared.file_shelf.ReadFault.TheVariants.{NoMemory};
+
+    ghost from_gives = { λ _ fault. fault ≡ NoMemory };
+
     fn from(_: NoMemory) -> Self {
         ReadFault::NoMemory
     }
@@ -112,15 +118,15 @@ fn open_at<R: Files + AllocGlobal>(
     name: &Text,
     at: u64,
 ) -> Result<OpenFile<R::File>, ReadFault>
-    ensures { IfOk result (λ file. (file.name ≡ name.now) × (file.at ≡ at)) }
+    ensures fits { IfOk result (λ file. (file.name ≡ name.now) × (file.at ≡ at)) }
+    ensures not_text { ¬ (IsUtf8 name.now) → IsErrOf result ReadFault.Failed }
 {
     let Ok(path) = str::from_utf8(name.bytes()) else {
         return Err(ReadFault::Failed);
     };
     let name = Text::of(rt.alloc(), name.bytes())?;
-    let mut handle = fs::open(rt, path).map_err(open_fault)?;
-    seek_to(&mut handle, at)?;
-    Ok(OpenFile { handle, name, at })
+    let handle = fs::open(rt, path).map_err(open_fault)?;
+    placed(handle, name, at)
 }
 
 fn open_fault(error: io::Error) -> ReadFault
@@ -135,14 +141,15 @@ fn open_fault(error: io::Error) -> ReadFault
 }
 
 // Brings a file that was just opened to a place. What cannot seek stands at its beginning.
-fn seek_to<F: Seek>(handle: &mut F, at: u64) -> Result<(), ReadFault>
-    ensures place { F.stream_position handle.old ≡ Some 0 → OnOk result (F.stream_position handle.new ≡ Some at) }
+fn placed<F: Seek + Drop>(mut handle: F, name: Text, at: u64) -> Result<OpenFile<F>, ReadFault>
+    ensures fits { IfOk result (λ file. (file.name ≡ name) × (file.at ≡ at)) }
+    ensures place { F.stream_position handle ≡ Some 0 → IfOk result (λ file. F.stream_position file.handle ≡ Some at) }
     ensures failed { IfErr result (λ fault. fault ≡ ReadFault.Failed) }
 {
     if at > 0 && handle.seek(SeekFrom::Start(at)).is_err() {
         return Err(ReadFault::Failed);
     }
-    Ok(())
+    Ok(OpenFile { handle, name, at })
 }
 
 // One read, tried again while a signal interrupts it. Nothing read is the end of the file.
