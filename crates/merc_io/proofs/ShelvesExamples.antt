@@ -1,7 +1,7 @@
 -- Worked examples of what the shelves in memory answer.
 use Rattle.std.proofs.Common.{◌≡◌, [], ◌∷◌, Some, refl}
 use Rattle.merc_base.specs.declared.outside.Fetched.TheVariants.{Got, End, Absent, Failed}
-use Rattle.merc_io.specs.Shelves.{next_piece, KeepsUnlessGot, failures, FailingShelfState}
+use Rattle.merc_io.specs.Shelves.{next_piece, KeepsUnlessGot, failures, FailingShelfState, FileShelfState, stands_after}
 
 -- of three bytes, two are left at place 1
 pub next_piece-example : next_piece 8 (Some (7 ∷ 8 ∷ 9 ∷ [])) 1 ≡ Got 2
@@ -38,3 +38,15 @@ failures-counterexample one = cc
 -- a shelf with no files whose second call fails, before its first call
 pub FailingShelfState-example : FailingShelfState
 FailingShelfState-example = record { files = []; fail = 2 ∷ []; most = 1; next_call = 1; faults = 0 }
+
+-- a shelf over the system's files, of which the file 1 stands open behind its first three bytes
+pub FileShelfState-example : FileShelfState
+FileShelfState-example = record { faults = 0; stands = Some (1 ∷ [], 3) }
+
+-- behind two bytes from place 3 on stands place 5
+pub stands_after-example : stands_after (Got 2) (1 ∷ []) 3 ≡ Some (1 ∷ [], 5)
+stands_after-example = refl
+
+-- after a failed read the file is not open any more
+pub stands_after-counterexample : stands_after Failed (1 ∷ []) 3 ≡ Some (1 ∷ [], 3) → ⊥
+stands_after-counterexample same = cc

@@ -1,5 +1,5 @@
 -- What the shelves in memory answer, and what a shelf whose calls fail as told is.
-use Rattle.std.specs.Prelude.{◌≡◌, ℕ, ◌-◌, List, length, min, nat_le, Option, Some, None, if◌then◌else◌}
+use Rattle.std.specs.Prelude.{◌≡◌, ℕ, ◌+◌, ◌-◌, ◌^◌, List, length, min, nat_le, Option, Some, None, if◌then◌else◌}
 use Rattle.merc_base.specs.Outside.{Files}
 use Rattle.merc_base.specs.declared.outside.Fetched.{Fetched}
 use Rattle.merc_base.specs.declared.outside.Fetched.TheVariants.{Got, End, Absent, Failed, NoMemory}
@@ -33,3 +33,17 @@ pub record FailingShelfState : Type 0 where
   pub most : ℕ
   pub next_call : ℕ
   pub faults : ℕ
+
+-- a shelf over the files of the system: how often it has failed, and the name of the file that stands open with the
+-- place that it was read to, if there is one
+pub record FileShelfState : Type 0 where
+  pub faults : ℕ
+  pub stands : Option (List ℕ × ℕ)
+
+-- what stands open after this answer, from this place of the file of this name; where a read fails it is closed
+abbrev pub stands_after : Fetched → List ℕ → ℕ → Option (List ℕ × ℕ)
+stands_after (Got n) name at = Some (name, min (at + n) (2 ^ 64 - 1))
+stands_after End name at = Some (name, at)
+stands_after Absent name at = None
+stands_after Failed name at = None
+stands_after NoMemory name at = None

@@ -1,8 +1,10 @@
 //! The files of the system, as a shelf. What the system answers is trusted: no clause says what a file holds.
-ghost use Rattle.std.specs.Prelude.{◌≡◌, ◌↔◌, ◌+◌, ◌-◌, ◌^◌, ◌<◌, ◌≤◌, Some, None, length, min, IfOk, IfErr, IfSome, IsSomeAnd, OnOk, OnErr};
+ghost use Rattle.std.specs.Prelude.{◌≡◌, ◌↔◌, ◌+◌, ◌-◌, ◌^◌, ◌<◌, ◌≤◌, [], Some, None, length, min, IfOk, IfErr, IfSome, IsSomeAnd, IsErrOf, OnOk, OnErr};
+ghost use Rattle.std.specs.Str.{IsUtf8};
 ghost use Rattle.std.specs.IoError.{error_kind};
 ghost use Rattle.std.specs.Io.KnownBytes.{Consumes, IsAtEnd, Keeps};
 ghost use Rattle.merc_base.specs.Outside.{AnswersFetch};
+ghost use Rattle.merc_io.specs.Shelves.{stands_after};
 
 use merc_base::buffer::PIECE_LIMIT;
 use merc_base::{Buffer, Fetched, NoMemory, Shelf, Text};
@@ -14,7 +16,8 @@ use std::{fs, io};
 // How often a read is tried that a signal interrupts.
 const READ_TRIES: u32 = 16;
 
-/// The files of the system, each by its path. It is seen as the count of its faults.
+/// The files of the system, each by its path. The file that was read last stays open, and is read on where a fetch
+/// begins at the place that it was read to: so what cannot seek, as a pipe, can be read too.
 #[derive(Drop)]
 pub struct FileShelf<R: Files + AllocGlobal + Drop> {
     rt: R,
@@ -39,23 +42,29 @@ enum ReadFault {
 }
 
 impl From<NoMemory> for ReadFault {
+    ghost use Rattle.std.specs.Prelude.{◌≡◌};
+    ghost use Rattle.merc_io.specs.declared.file_shelf.ReadFault.TheVariants.{NoMemory};
+
+    ghost from_gives = { λ _ fault. fault ≡ NoMemory };
+
     fn from(_: NoMemory) -> Self {
         ReadFault::NoMemory
     }
 }
 
 impl<R: Files + AllocGlobal + Drop> Model for FileShelf<R> {
-    ghost use Rattle.std.specs.Prelude.{ℕ};
+    ghost use Rattle.std.specs.Option.{option_map};
+    ghost use Rattle.merc_io.specs.Shelves.{FileShelfState};
 
-    ghost Value = { ℕ };
+    ghost Value = { FileShelfState };
 
-    ghost view = { λ s. s.faults };
+    ghost view = { λ s. record { faults = s.faults; stands = option_map (λ file. (file.name, file.at)) s.last } };
 }
 
 impl<R: Files + AllocGlobal + Drop> FileShelf<R> {
     /// The files that this runtime opens.
     pub fn new(rt: R) -> FileShelf<R>
-        ensures { result ≡ 0 }
+        ensures { result ≡ record { faults = 0; stands = None } }
     {
         FileShelf {
             rt,
@@ -109,15 +118,15 @@ fn open_at<R: Files + AllocGlobal>(
     name: &Text,
     at: u64,
 ) -> Result<OpenFile<R::File>, ReadFault>
-    ensures { IfOk result (λ file. (file.name ≡ name.now) × (file.at ≡ at)) }
+    ensures fits { IfOk result (λ file. (file.name ≡ name.now) × (file.at ≡ at)) }
+    ensures not_text { ¬ (IsUtf8 name.now) → IsErrOf result ReadFault.Failed }
 {
     let Ok(path) = str::from_utf8(name.bytes()) else {
         return Err(ReadFault::Failed);
     };
     let name = Text::of(rt.alloc(), name.bytes())?;
-    let mut handle = fs::open(rt, path).map_err(open_fault)?;
-    seek_to(&mut handle, at)?;
-    Ok(OpenFile { handle, name, at })
+    let handle = fs::open(rt, path).map_err(open_fault)?;
+    placed(handle, name, at)
 }
 
 fn open_fault(error: io::Error) -> ReadFault
@@ -132,14 +141,15 @@ fn open_fault(error: io::Error) -> ReadFault
 }
 
 // Brings a file that was just opened to a place. What cannot seek stands at its beginning.
-fn seek_to<F: Seek>(handle: &mut F, at: u64) -> Result<(), ReadFault>
-    ensures place { F.stream_position handle.old ≡ Some 0 → OnOk result (F.stream_position handle.new ≡ Some at) }
+fn placed<F: Seek + Drop>(mut handle: F, name: Text, at: u64) -> Result<OpenFile<F>, ReadFault>
+    ensures fits { IfOk result (λ file. (file.name ≡ name) × (file.at ≡ at)) }
+    ensures place { F.stream_position handle ≡ Some 0 → IfOk result (λ file. F.stream_position file.handle ≡ Some at) }
     ensures failed { IfErr result (λ fault. fault ≡ ReadFault.Failed) }
 {
     if at > 0 && handle.seek(SeekFrom::Start(at)).is_err() {
         return Err(ReadFault::Failed);
     }
-    Ok(())
+    Ok(OpenFile { handle, name, at })
 }
 
 // One read, tried again while a signal interrupts it. Nothing read is the end of the file.
@@ -164,14 +174,16 @@ fn read_piece<F: Read>(handle: &mut F, into: &mut Buffer) -> Result<usize, ReadF
 impl<R: Files + AllocGlobal + Drop> Shelf for FileShelf<R> {
     ghost files = { λ _. None };
 
-    ghost read_faults = { λ s. s };
+    ghost read_faults = { λ s. s.faults };
 
     /// The bytes of one read. The count of faults rises by one where there is no such file, and where the file cannot
     /// be opened or read: a folder, no permission, a name that is not UTF-8.
     fn fetch(&mut self, name: &Text, at: u64, into: &mut Buffer) -> Fetched
-        requires { self.old < 18446744073709551615 }
-        ensures answer { AnswersFetch None name.now at self.old self.new result into.new }
-        ensures by_one { self.new ≤ self.old + 1 }
+        requires { self.old.faults < 18446744073709551615 }
+        ensures answer { AnswersFetch None name.now at self.old.faults self.new.faults result into.new }
+        ensures by_one { self.new.faults ≤ self.old.faults + 1 }
+        ensures end { result ≡ Fetched.End → into.new ≡ [] }
+        ensures stands { self.new.stands ≡ stands_after result name.now at }
     {
         match read_at(&self.rt, &mut self.last, name, at, into) {
             Ok(0) => Fetched::End,

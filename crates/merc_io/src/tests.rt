@@ -101,3 +101,22 @@ fn the_system_is_written(rt: HostRuntime) {
     assert_eq!(rt; sink.write(b"written\n"), Wrote::Took(8));
     OpenGate.enter(1);
 }
+
+#[test]
+fn a_pipe_is_read_on(rt: HostRuntime) -> Result<(), Fail> {
+    use std::io::Write;
+    use std::os::fd::AsRawFd;
+    let alloc = rt.alloc();
+    let (reader, mut writer) = std::io::pipe(&rt)?;
+    let path = format!(in alloc; "/proc/self/fd/{}", reader.as_raw_fd())?;
+    let mut buffer = Buffer::new(alloc)?;
+    let mut shelf = FileShelf::new(&rt);
+    let name = Text::of(alloc, path.as_bytes())?;
+    writer.write_all(b"hello")?;
+    assert_eq!(rt; shelf.fetch(&name, 0, &mut buffer), Fetched::Got(5));
+    writer.write_all(b"abc")?;
+    assert_eq!(rt; shelf.fetch(&name, 5, &mut buffer), Fetched::Got(3));
+    writer.write_all(b"abc")?;
+    assert_eq!(rt; shelf.fetch(&name, 9, &mut buffer), Fetched::Failed);
+    Ok(())
+}
