@@ -14,3 +14,6 @@ pub mod TokensSoFar
 pub mod Readings
 pub mod RunLines
 pub mod Dues
+pub mod OutputLaws
+pub mod Causes
+pub mod CallEnds

@@ -13,7 +13,7 @@ use crate::first_form::syntax::{Conjuncts, Module};
 use crate::lines::{refusal_line, solution_line, solutions_line, step_limit_line, too_long_line};
 use crate::loading::{LoadFault, load};
 use crate::words::read_words;
-use crate::writing::put_lines;
+use crate::writing::{WriteFault, put_lines};
 use merc_base::{
     Construct, Detail, Gate, NoMemory, Place, Refusal, Rule, Sequence, Shelf, Sink, Tap, Text, TextTable,
 };
@@ -160,7 +160,7 @@ pub fn answer<R: Threads + Wait, S: Shelf, K: Sink, G: Gate + Sync>(
     match find_due(alloc, words, shelf) {
         Ok(due) => match put_lines(sink, due.lines.as_slice()) {
             Ok(()) => due.status,
-            Err(_) => 8,
+            Err(WriteFault) => 8,
         },
         Err(Trouble::Unread) => 7,
         Err(Trouble::NoMemory) => 9,

@@ -8,3 +8,5 @@ mod lines;
 mod loading;
 mod words;
 mod writing;
+
+pub use answering::answer;
