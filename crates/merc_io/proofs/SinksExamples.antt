@@ -1,11 +1,19 @@
 -- Worked examples of what the sinks in memory hold.
 use Rattle.std.proofs.Common.{◌≡◌, [], ◌∷◌, Some, None, refl, ap}
 use Rattle.merc_base.specs.declared.outside.Wrote.TheVariants.{Took, Failed}
-use Rattle.merc_io.specs.Sinks.{MemSinkState, FailingSinkState, room_left, sink_after, front_of}
+use Rattle.merc_io.specs.Sinks.{MemSinkState, FailingSinkState, empty_sink, room_left, sink_after, front_of}
 
 -- two bytes written, in a room of three
 pub MemSinkState-example : MemSinkState
 MemSinkState-example = record { bytes = 7 ∷ 8 ∷ []; room = 3; faults = 0 }
+
+-- a new sink has all its room
+pub empty_sink-example : room_left (empty_sink 3) ≡ 3
+empty_sink-example = refl
+
+-- it has no room more
+pub empty_sink-counterexample : room_left (empty_sink 3) ≡ 4 → ⊥
+empty_sink-counterexample more = cc
 
 -- one more fits
 pub room_left-example : room_left MemSinkState-example ≡ 1
@@ -37,4 +45,4 @@ front_of-counterexample same = cc
 
 -- a sink of which a write takes one byte, and whose second write fails, before the first
 pub FailingSinkState-example : FailingSinkState
-FailingSinkState-example = record { sink = record { bytes = []; room = 3; faults = 0 }; fail = 2 ∷ []; most = Some 1; next_write = 1 }
+FailingSinkState-example = record { sink = empty_sink 3; fail = 2 ∷ []; most = Some 1; next_write = 1 }

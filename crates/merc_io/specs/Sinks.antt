@@ -1,5 +1,5 @@
 -- What the sinks in memory hold, and which writes fail.
-use Rattle.std.specs.Prelude.{ℕ, ◌+◌, ◌-◌, List, ◌++◌, length, take, Option, Some, None}
+use Rattle.std.specs.Prelude.{ℕ, ◌+◌, ◌-◌, List, [], ◌++◌, length, take, Option, Some, None}
 use Rattle.merc_base.specs.declared.outside.Wrote.{Wrote}
 use Rattle.merc_base.specs.declared.outside.Wrote.TheVariants.{Took, Failed}
 
@@ -8,6 +8,10 @@ pub record MemSinkState : Type 0 where
   pub bytes : List ℕ
   pub room : ℕ
   pub faults : ℕ
+
+-- a sink with room for so many bytes, before the first write
+abbrev pub empty_sink : ℕ → MemSinkState
+empty_sink room = record { bytes = []; room = room; faults = 0 }
 
 -- how many more bytes there is room for
 abbrev pub room_left : MemSinkState → ℕ
@@ -23,8 +27,8 @@ abbrev pub front_of : Option ℕ → List ℕ → List ℕ
 front_of None bytes = bytes
 front_of (Some most) bytes = take most bytes
 
--- the sink that is written to, the numbers of the writes that fail, the most bytes that one write takes if that is
--- bounded, and the number of the next write (from 1)
+-- the sink that is written to, the numbers of the writes that fail, the most bytes that one write takes
+-- if that is bounded, and the number of the next write (from 1)
 pub record FailingSinkState : Type 0 where
   pub sink : MemSinkState
   pub fail : List ℕ

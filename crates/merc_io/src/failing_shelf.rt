@@ -25,18 +25,30 @@ impl Model for FailingShelf {
 
     ghost Value = { FailingShelfState };
 
-    ghost view = { λ s. record { files = s.shelf; fail = s.fail.items; most = s.most; next_call = s.next_call; faults = s.faults } };
+    ghost view = { λ s. record {
+      files = s.shelf;
+      fail = s.fail.items;
+      most = s.most;
+      next_call = s.next_call;
+      faults = s.faults;
+    } };
 
     ghost invariant = { λ s. (1 ≤ s.most) × (s.most ≤ 65536) };
 }
 
 impl FailingShelf {
-    /// A shelf of these files, each a name and a content. The calls with the numbers in `fail` fail, counted from 1,
-    /// and a piece has at most `piece` bytes, 1 to 65,536.
+    /// A shelf of these files, each a name and a content. The calls with the numbers in `fail` fail, counted
+    /// from 1, and a piece has at most `piece` bytes, 1 to 65,536.
     pub fn new(files: Vec<(Text, Text)>, fail: Vec<u64>, piece: usize) -> FailingShelf
         requires some { 1 ≤ piece }
         requires bound { piece ≤ PIECE_LIMIT }
-        ensures { result ≡ record { files = files.items; fail = fail.items; most = piece; next_call = 1; faults = 0 } }
+        ensures { result ≡ record {
+          files = files.items;
+          fail = fail.items;
+          most = piece;
+          next_call = 1;
+          faults = 0;
+        } }
     {
         FailingShelf {
             shelf: MemShelf::new(files),
@@ -56,15 +68,20 @@ impl Shelf for FailingShelf {
     /// A call whose number is listed fails. Any other answers the next piece, and takes no memory.
     fn fetch(&mut self, name: &Text, at: u64, into: &mut Buffer) -> Fetched
         requires { self.old.faults < 18446744073709551615 }
-        ensures same { Some self.new.files ≡ Some self.old.files }
-        ensures answer { AnswersFetch (Some self.old.files) name.now at self.old.faults self.new.faults result into.new }
+        ensures same { self.new.files ≡ self.old.files }
+        ensures answer { AnswersFetch (Some self.old.files) name.now at
+            self.old.faults self.new.faults result into.new }
         ensures failed { (result ≡ Fetched.Failed) ↔ Contains self.old.fail self.old.next_call }
-        ensures piece { result ≢ Fetched.Failed → result ≡ next_piece self.old.most (file_named name.now self.old.files) at }
+        ensures piece { result ≢ Fetched.Failed →
+            result ≡ next_piece self.old.most (file_named name.now self.old.files) at }
         ensures takes_no_memory { result ≢ Fetched.NoMemory }
         ensures kept { KeepsUnlessGot result into.old into.new }
 
         // The call is counted, and so is its failure. Nothing else changes.
-        ensures counted { self.new ≡ record self.old { next_call = number_after self.old.next_call; faults = self.old.faults + failures result } }
+        ensures counted { self.new ≡ record self.old {
+          next_call = number_after self.old.next_call;
+          faults = self.old.faults + failures result;
+        } }
     {
         let is_listed = self.fail.contains(&self.next_call);
         self.next_call = self.next_call.saturating_add(1);

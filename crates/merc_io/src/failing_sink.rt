@@ -1,8 +1,8 @@
 //! A sink in memory that fails as told.
-ghost use Rattle.std.specs.Prelude.{◌≡◌, ◌≢◌, ◌↔◌, ◌⊎◌, ◌<◌, ◌≤◌, [], length, Some, None, IfOk, Contains};
+ghost use Rattle.std.specs.Prelude.{◌≡◌, ◌≢◌, ◌↔◌, ◌⊎◌, ◌<◌, ◌≤◌, length, Some, None, IfOk, Contains};
 ghost use Rattle.merc_base.specs.Outside.{AnswersWrite};
 ghost use Rattle.merc_io.specs.Numbers.{number_after};
-ghost use Rattle.merc_io.specs.Sinks.{room_left, sink_after, front_of};
+ghost use Rattle.merc_io.specs.Sinks.{empty_sink, room_left, sink_after, front_of};
 
 use crate::MemSink;
 use merc_base::{NoMemory, Sink, Wrote};
@@ -31,10 +31,11 @@ impl Model for FailingSink {
 }
 
 impl FailingSink {
-    /// An empty sink with room for so many bytes in all. The writes with the numbers in `fail` fail, counted from 1,
-    /// and any other takes its piece whole, or fails if there is no room for it.
+    /// An empty sink with room for so many bytes in all. The writes with the numbers in `fail` fail, counted
+    /// from 1, and any other takes its piece whole, or fails if there is no room for it.
     pub fn with_room(alloc: Global, room: usize, fail: Vec<u64>) -> Result<FailingSink, NoMemory>
-        ensures { IfOk result (λ sink. sink ≡ record { sink = record { bytes = []; room = room; faults = 0 }; fail = fail.items; most = None; next_write = 1 }) }
+        ensures { IfOk result (λ sink. sink ≡
+            record { sink = empty_sink room; fail = fail.items; most = None; next_write = 1 }) }
     {
         Ok(FailingSink {
             sink: MemSink::with_room(alloc, room)?,
@@ -44,8 +45,8 @@ impl FailingSink {
         })
     }
 
-    /// As `with_room`, but of each piece only the first `piece` bytes count, at least 1: a write takes those, or
-    /// fails if there is no room for them.
+    /// As `with_room`, but of each piece only the first `piece` bytes count, at least 1: a write takes those,
+    /// or fails if there is no room for them.
     pub fn taking(
         alloc: Global,
         room: usize,
@@ -53,7 +54,8 @@ impl FailingSink {
         piece: usize,
     ) -> Result<FailingSink, NoMemory>
         requires { 1 ≤ piece }
-        ensures { IfOk result (λ sink. sink ≡ record { sink = record { bytes = []; room = room; faults = 0 }; fail = fail.items; most = Some piece; next_write = 1 }) }
+        ensures { IfOk result (λ sink. sink ≡
+            record { sink = empty_sink room; fail = fail.items; most = Some piece; next_write = 1 }) }
     {
         Ok(FailingSink {
             sink: MemSink::with_room(alloc, room)?,
@@ -79,10 +81,15 @@ impl Sink for FailingSink {
     /// A write whose number is listed fails, and so does one for which there is no room. It takes no memory.
     fn write(&mut self, bytes: &[u8]) -> Wrote
         requires { self.old.sink.faults < 18446744073709551615 }
-        ensures answer { AnswersWrite bytes.now (Some self.old.sink.bytes) (Some self.new.sink.bytes) self.old.sink.faults self.new.sink.faults result }
-        ensures failed { (result ≡ Wrote.Failed) ↔ (Contains self.old.fail self.old.next_write ⊎ (room_left self.old.sink < length (front_of self.old.most bytes.now))) }
+        ensures answer { AnswersWrite bytes.now (Some self.old.sink.bytes) (Some self.new.sink.bytes)
+            self.old.sink.faults self.new.sink.faults result }
+        ensures failed { (result ≡ Wrote.Failed) ↔ (Contains self.old.fail self.old.next_write
+            ⊎ (room_left self.old.sink < length (front_of self.old.most bytes.now))) }
         ensures took { result ≢ Wrote.Failed → result ≡ Wrote.Took (length (front_of self.old.most bytes.now)) }
-        ensures state { self.new ≡ record self.old { sink = sink_after bytes.now result self.old.sink; next_write = number_after self.old.next_write } }
+        ensures state { self.new ≡ record self.old {
+          sink = sink_after bytes.now result self.old.sink;
+          next_write = number_after self.old.next_write;
+        } }
     {
         let is_listed = self.fail.contains(&self.next_write);
         self.next_write = self.next_write.saturating_add(1);

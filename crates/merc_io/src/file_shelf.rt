@@ -16,8 +16,8 @@ use std::{fs, io};
 // How often a read is tried that a signal interrupts.
 const READ_TRIES: u32 = 16;
 
-/// The files of the system, each by its path. The file that was read last stays open, and is read on where a fetch
-/// begins at the place that it was read to: so what cannot seek, as a pipe, can be read too.
+/// The files of the system, each by its path. The file that was read last stays open, and is read on where
+/// a fetch begins at the place that it was read to: so what cannot seek, as a pipe, can be read too.
 #[derive(Drop)]
 pub struct FileShelf<R: Files + AllocGlobal + Drop> {
     rt: R,
@@ -74,8 +74,8 @@ impl<R: Files + AllocGlobal + Drop> FileShelf<R> {
     }
 }
 
-// Reads on in the last file where it stands at this place, so that what cannot seek is read too. Else it opens anew.
-// A file that cannot be read is closed.
+// Reads on in the last file where it stands at this place, so that what cannot seek is read too. Else it
+// opens anew. A file that cannot be read is closed.
 fn read_at<R: Files + AllocGlobal>(
     rt: &R,
     last: &mut Option<OpenFile<R::File>>,
@@ -84,7 +84,8 @@ fn read_at<R: Files + AllocGlobal>(
     into: &mut Buffer,
 ) -> Result<usize, ReadFault>
     ensures piece { IfOk result (λ count. (count ≤ 65536) × (length into.new ≡ count)) }
-    ensures stays { IfOk result (λ count. IsSomeAnd last.new (λ file. (file.name ≡ name.now) × (file.at ≡ min (at + count) (2 ^ 64 - 1)))) }
+    ensures stays { IfOk result (λ count. IsSomeAnd last.new (λ file.
+        (file.name ≡ name.now) × (file.at ≡ min (at + count) (2 ^ 64 - 1)))) }
     ensures closed { OnErr result (last.new ≡ None) }
 {
     let mut file = match take_at(last, name, at) {
@@ -143,7 +144,8 @@ fn open_fault(error: io::Error) -> ReadFault
 // Brings a file that was just opened to a place. What cannot seek stands at its beginning.
 fn placed<F: Seek + Drop>(mut handle: F, name: Text, at: u64) -> Result<OpenFile<F>, ReadFault>
     ensures fits { IfOk result (λ file. (file.name ≡ name) × (file.at ≡ at)) }
-    ensures place { F.stream_position handle ≡ Some 0 → IfOk result (λ file. F.stream_position file.handle ≡ Some at) }
+    ensures place { F.stream_position handle ≡ Some 0 →
+        IfOk result (λ file. F.stream_position file.handle ≡ Some at) }
     ensures failed { IfErr result (λ fault. fault ≡ ReadFault.Failed) }
 {
     if at > 0 && handle.seek(SeekFrom::Start(at)).is_err() {
@@ -176,8 +178,9 @@ impl<R: Files + AllocGlobal + Drop> Shelf for FileShelf<R> {
 
     ghost read_faults = { λ s. s.faults };
 
-    /// The bytes of one read. The count of faults rises by one where there is no such file, and where the file cannot
-    /// be opened or read: a folder, no permission, a name that is not UTF-8.
+    /// The bytes of one read. The count of faults rises by one where there is no such file, and where the file
+    /// cannot be opened or read: a folder, no permission, a name that is not UTF-8. At the end of the file the
+    /// buffer is empty.
     fn fetch(&mut self, name: &Text, at: u64, into: &mut Buffer) -> Fetched
         requires { self.old.faults < 18446744073709551615 }
         ensures answer { AnswersFetch None name.now at self.old.faults self.new.faults result into.new }

@@ -51,7 +51,9 @@ impl MemShelf {
 
 // The content of the file of this name.
 fn find_file<'a>(files: &'a [(Text, Text)], name: &[u8]) -> Option<&'a [u8]>
-    ensures { MatchOption result (file_named name.now files.now ≡ None) (λ file. file_named name.now files.now ≡ Some file.now) }
+    ensures { MatchOption result
+        (file_named name.now files.now ≡ None)
+        (λ file. file_named name.now files.now ≡ Some file.now) }
 {
     for (file_name, content) in files {
         if name == file_name.bytes() {

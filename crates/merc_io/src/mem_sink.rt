@@ -1,7 +1,7 @@
 //! A sink in memory.
-ghost use Rattle.std.specs.Prelude.{◌≡◌, ◌↔◌, ◌+◌, ◌<◌, ◌≤◌, [], length, Some, IfOk};
+ghost use Rattle.std.specs.Prelude.{◌≡◌, ◌↔◌, ◌+◌, ◌<◌, ◌≤◌, length, Some, IfOk};
 ghost use Rattle.merc_base.specs.Outside.{AnswersWrite};
-ghost use Rattle.merc_io.specs.Sinks.{room_left, sink_after};
+ghost use Rattle.merc_io.specs.Sinks.{empty_sink, room_left, sink_after};
 
 use merc_base::{NoMemory, Sink, Wrote};
 use std::alloc::Global;
@@ -30,7 +30,7 @@ impl Model for MemSink {
 impl MemSink {
     /// An empty sink, with room for so many bytes in all.
     pub fn with_room(alloc: Global, room: usize) -> Result<MemSink, NoMemory>
-        ensures { IfOk result (λ sink. sink ≡ record { bytes = []; room = room; faults = 0 }) }
+        ensures { IfOk result (λ sink. sink ≡ empty_sink room) }
     {
         Ok(MemSink {
             bytes: Vec::with_capacity(alloc, room)?,
@@ -65,7 +65,8 @@ impl Sink for MemSink {
     /// A piece that is longer than the room left fails, and any other is taken whole. It takes no memory.
     fn write(&mut self, bytes: &[u8]) -> Wrote
         requires { self.old.faults < 18446744073709551615 }
-        ensures answer { AnswersWrite bytes.now (Some self.old.bytes) (Some self.new.bytes) self.old.faults self.new.faults result }
+        ensures answer { AnswersWrite bytes.now (Some self.old.bytes) (Some self.new.bytes)
+            self.old.faults self.new.faults result }
         ensures failed { (result ≡ Wrote.Failed) ↔ (room_left self.old < length bytes.now) }
         ensures took { length bytes.now ≤ room_left self.old → result ≡ Wrote.Took (length bytes.now) }
         ensures state { self.new ≡ sink_after bytes.now result self.old }

@@ -8,7 +8,8 @@ use std::io;
 use std::io::Write;
 use std::marker::Model;
 
-/// Standard output, with no buffer: what a write took is with the system. It is seen as the count of its faults.
+/// Standard output, with no buffer: what a write took is with the system. It is seen as the count of its
+/// faults.
 #[derive(Drop)]
 pub struct OutSink<R: Print + Drop> {
     rt: R,
@@ -37,8 +38,8 @@ impl<R: Print + Drop> Sink for OutSink<R> {
 
     ghost write_faults = { λ s. s };
 
-    /// One write. The count of faults rises by one where it fails, and where it takes nothing of a piece that is not
-    /// empty.
+    /// One write. The count of faults rises by one where it fails, and where it takes nothing of a piece that
+    /// is not empty.
     fn write(&mut self, bytes: &[u8]) -> Wrote
         requires { self.old < 18446744073709551615 }
         ensures answer { AnswersWrite bytes.now None None self.old self.new result }
@@ -58,7 +59,8 @@ impl<R: Print + Drop> Sink for OutSink<R> {
 fn write_once<W: Write>(writer: &mut W, bytes: &[u8]) -> Option<usize>
     ensures bound { IfSome result (λ count. count ≤ length bytes.now) }
     ensures some { 0 < length bytes.now → IfSome result (λ count. 1 ≤ count) }
-    ensures taken { IfSome result (λ count. Appends (W.contents writer.old) (W.contents writer.new) (take count bytes.now)) }
+    ensures taken { IfSome result (λ count.
+        Appends (W.contents writer.old) (W.contents writer.new) (take count bytes.now)) }
     ensures none { IfNone result (Keeps (W.contents writer.old) (W.contents writer.new)) }
 {
     match writer.write(bytes) {

@@ -13,14 +13,18 @@ consumed (Some xs) (Some ys) None bytes kept took = took
 consumed (Some xs) (Some ys) (Some zs) bytes kept took = sym kept ∙ took
 
 -- a front of a room of the limit's length goes through the buffer whole
-through : (limit count : ℕ) (room bytes : List ℕ) → limit ≡ 65536 → length room ≡ 65536 → count ≡ length (take count room) → count ≤ length room → bytes ≡ take limit (take count room) → bytes ≡ take count room
-through limit count room bytes limit_is room_is long within bytes_is = bytes_is ∙ take_all limit (take count room) (omega arith)
+through : (limit count : ℕ) (room bytes : List ℕ) → limit ≡ 65536 → length room ≡ 65536
+    → count ≡ length (take count room) → count ≤ length room → bytes ≡ take limit (take count room) → bytes ≡ take count room
+through limit count room bytes limit_is room_is long within bytes_is =
+    bytes_is ∙ take_all limit (take count room) (omega arith)
 
 pub returns-in-Ok-clause-bytes : goal.returns-in-Ok-clause-bytes
 returns-in-Ok-clause-bytes g c =
     let room_is : length c.read.new.buf ≡ 65536 = c.read.auto.buf ∙ c.loop.invariant.room in
-    let filled = through piece_limit c.in-Ok.count c.read.new.buf c.fill.new.self piece_limit_is room_is c.in-Ok.ensures.bound.1 c.in-Ok.ensures.bound.0 c.fill.ensures.kept in
-    rw filled (consumed (g.F.Read.remaining c.args.handle.now) (g.F.Read.remaining c.loop.handle) (g.F.Read.remaining c.read.new.self) (take c.in-Ok.count c.read.new.buf) c.loop.invariant.kept c.in-Ok.ensures.bytes.0)
+    let filled = through piece_limit c.in-Ok.count c.read.new.buf c.fill.new.self
+    piece_limit_is room_is c.in-Ok.ensures.bound.1 c.in-Ok.ensures.bound.0 c.fill.ensures.kept in
+    rw filled (consumed (g.F.Read.remaining c.args.handle.now) (g.F.Read.remaining c.loop.handle) (g.F.Read.remaining c.read.new.self)
+    (take c.in-Ok.count c.read.new.buf) c.loop.invariant.kept c.in-Ok.ensures.bytes.0)
 
 pub returns-in-Ok-clause-end : goal.returns-in-Ok-clause-end
 returns-in-Ok-clause-end g c = λ none.
