@@ -137,17 +137,17 @@ answers-unread words told reads reads' old new writes writes' why same wrote =
 pub answers-no_memory : (words : List (List ℕ)) (told : Option Files) (reads reads' : ℕ) (old new : Option (List ℕ)) (writes writes' : ℕ)
     → reads' ≡ reads → new ≡ old → writes' ≡ writes → Answers words told reads reads' old new writes writes' 9
 answers-no_memory words told reads reads' old new writes writes' read same wrote = record {
-    output = λ _ _ free. absurd (free refl);
-    solved = λ _ _ free. absurd (free refl);
-    module_refused = λ _ _ free. absurd (free refl);
-    goal_refused = λ _ _ free. absurd (free refl);
-    usage = λ _ _ free. absurd (free refl);
-    too_long = λ _ _ free. absurd (free refl);
-    unread = λ is. absurd (omega (arith, is));
-    read_failed = λ rose. absurd (not_below reads reads' read rose);
-    absent = λ _ free. absurd (free refl);
-    nothing_written = λ is. absurd (omega (arith, is));
-    write_failed = (λ is. absurd (omega (arith, is)), λ rose. absurd (not_below writes writes' wrote rose));
-    cut_short = λ is. absurd (omega (arith, is));
-    front = λ lines' due'. nothing_front words told lines' due' old new same;
-  }
+  output = λ _ _ free. absurd (free refl);
+  solved = λ _ _ free. absurd (free refl);
+  module_refused = λ _ _ free. absurd (free refl);
+  goal_refused = λ _ _ free. absurd (free refl);
+  usage = λ _ _ free. absurd (free refl);
+  too_long = λ _ _ free. absurd (free refl);
+  unread = λ is. absurd (omega (arith, is));
+  read_failed = λ rose. absurd (not_below reads reads' read rose);
+  absent = λ _ free. absurd (free refl);
+  nothing_written = λ is. absurd (omega (arith, is));
+  write_failed = (λ is. absurd (omega (arith, is)), λ rose. absurd (not_below writes writes' wrote rose));
+  cut_short = λ is. absurd (omega (arith, is));
+  front = λ lines' due'. nothing_front words told lines' due' old new same;
+}

@@ -86,8 +86,15 @@ runs_solved : (words : List (List ℕ)) (files : Files) (status : ℕ) → Runs 
 runs_solved words files status runs is =
     let why = run_status-zero _ _ (sym is ∙ runs.is) in
     record {
-      text = runs.text; goal = runs.goal; names = runs.names; source = runs.source; reading = runs.reading;
-      conjuncts = runs.conjuncts; goal_reading = runs.goal_reading; answers = why.0; ends = why.1;
+      text = runs.text;
+      goal = runs.goal;
+      names = runs.names;
+      source = runs.source;
+      reading = runs.reading;
+      conjuncts = runs.conjuncts;
+      goal_reading = runs.goal_reading;
+      answers = why.0;
+      ends = why.1;
     }
 
 solved_by : (words : List (List ℕ)) (files : Files) (status : ℕ) → Cause words files status → status ≡ 0 → Solves words files
@@ -134,16 +141,25 @@ too_long_by words files status (run_cause why) ten = absurd (omega (arith, ten, 
 named_output : (words : List (List ℕ)) (files : Files) (text goal : List ℕ) (lines : List (List ℕ)) (status : ℕ) (names : Names words files text goal)
     → ModuleOutput names.file text goal lines status → IsOutput words files lines status
 named_output words files text goal lines status names due =
-    inr (names.file, goal, names.request,
-        subst (λ content. FileOutput names.file content goal lines status) (sym names.content) (inr (names.within, due)))
+    inr (
+      names.file,
+      goal,
+      names.request,
+      subst (λ content. FileOutput names.file content goal lines status) (sym names.content) (inr (names.within, due)),
+    )
 
 solves_output : (words : List (List ℕ)) (files : Files) → Solves words files → (lines : List (List ℕ)) × IsOutput words files lines 0
 solves_output words files solves =
     let run = run_of solves.source solves.conjuncts in
-    let lines = run_lines (variables_of [] solves.conjuncts) run in
-    (lines, named_output words files solves.text solves.goal lines 0 solves.names
-        (inr (solves.source, solves.reading,
-            inr (solves.conjuncts, solves.goal_reading, (refl, sym (run_status-solved _ _ solves.answers solves.ends))))))
+    let lines = run_lines (variables_of [] solves.conjuncts) run in (
+      lines,
+      named_output words files solves.text solves.goal lines 0 solves.names
+          (inr (
+            solves.source,
+            solves.reading,
+            inr (solves.conjuncts, solves.goal_reading, (refl, sym (run_status-solved _ _ solves.answers solves.ends))),
+          )),
+    )
 
 refuses_module_output : (words : List (List ℕ)) (files : Files) → RefusesModule words files → (lines : List (List ℕ)) × IsOutput words files lines 4
 refuses_module_output words files refuses =
@@ -152,15 +168,23 @@ refuses_module_output words files refuses =
 
 refuses_goal_output : (words : List (List ℕ)) (files : Files) → RefusesGoal words files → (lines : List (List ℕ)) × IsOutput words files lines 5
 refuses_goal_output words files refuses =
-    let lines = refusal_line (codes "goal") stage_refusal ∷ [] in
-    (lines, named_output words files refuses.text refuses.goal lines 5 refuses.names
-        (inr (refuses.source, refuses.reading, inl (refuses.refused, refl, refl))))
+    let lines = refusal_line (codes "goal") stage_refusal ∷ [] in (
+      lines,
+      named_output words files refuses.text refuses.goal lines 5 refuses.names
+          (inr (refuses.source, refuses.reading, inl (refuses.refused, refl, refl))),
+    )
 
 too_long_output : (words : List (List ℕ)) (files : Files) → NamesTooLong words files → (lines : List (List ℕ)) × IsOutput words files lines 10
 too_long_output words files names =
-    let lines = too_long_line names.file ∷ [] in
-    (lines, inr (names.file, names.goal, names.request,
-        subst (λ content. FileOutput names.file content names.goal lines 10) (sym names.content) (inl (names.past, refl, refl))))
+    let lines = too_long_line names.file ∷ [] in (
+      lines,
+      inr (
+        names.file,
+        names.goal,
+        names.request,
+        subst (λ content. FileOutput names.file content names.goal lines 10) (sym names.content) (inl (names.past, refl, refl)),
+      ),
+    )
 
 usage_output : (words : List (List ℕ)) (files : Files) → IsNoRequest words → (lines : List (List ℕ)) × IsOutput words files lines 6
 usage_output words files none = (usage_line ∷ [], inl (none, refl, refl))
@@ -171,31 +195,36 @@ status_is : (words : List (List ℕ)) (files : Files) (lines : List (List ℕ)) 
 status_is words files lines status due output other = (IsOutput-unique words files lines other.0 status due output other.1).1
 
 pub solved-exactly : (words : List (List ℕ)) (files : Files) (lines : List (List ℕ)) (status : ℕ) → IsOutput words files lines status → (status ≡ 0) ↔ Solves words files
-solved-exactly words files lines status output =
-    (solved_by words files status (cause_of words files lines status output),
-        λ why. status_is words files lines status 0 output (solves_output words files why))
+solved-exactly words files lines status output = (
+  solved_by words files status (cause_of words files lines status output),
+  λ why. status_is words files lines status 0 output (solves_output words files why),
+)
 
 pub module_refused-exactly : (words : List (List ℕ)) (files : Files) (lines : List (List ℕ)) (status : ℕ) → IsOutput words files lines status → (status ≡ 4) ↔ RefusesModule words files
-module_refused-exactly words files lines status output =
-    (module_refused_by words files status (cause_of words files lines status output),
-        λ why. status_is words files lines status 4 output (refuses_module_output words files why))
+module_refused-exactly words files lines status output = (
+  module_refused_by words files status (cause_of words files lines status output),
+  λ why. status_is words files lines status 4 output (refuses_module_output words files why),
+)
 
 pub goal_refused-exactly : (words : List (List ℕ)) (files : Files) (lines : List (List ℕ)) (status : ℕ) → IsOutput words files lines status → (status ≡ 5) ↔ RefusesGoal words files
-goal_refused-exactly words files lines status output =
-    (goal_refused_by words files status (cause_of words files lines status output),
-        λ why. status_is words files lines status 5 output (refuses_goal_output words files why))
+goal_refused-exactly words files lines status output = (
+  goal_refused_by words files status (cause_of words files lines status output),
+  λ why. status_is words files lines status 5 output (refuses_goal_output words files why),
+)
 
 pub usage-exactly : (words : List (List ℕ)) (files : Files) (lines : List (List ℕ)) (status : ℕ) → IsOutput words files lines status → (status ≡ 6) ↔ IsNoRequest words
-usage-exactly words files lines status output =
-    (usage_by words files status (cause_of words files lines status output),
-        λ why. status_is words files lines status 6 output (usage_output words files why))
+usage-exactly words files lines status output = (
+  usage_by words files status (cause_of words files lines status output),
+  λ why. status_is words files lines status 6 output (usage_output words files why),
+)
 
 pub too_long-exactly : (words : List (List ℕ)) (files : Files) (lines : List (List ℕ)) (status : ℕ) → IsOutput words files lines status → (status ≡ 10) ↔ NamesTooLong words files
-too_long-exactly words files lines status output =
-    (too_long_by words files status (cause_of words files lines status output),
-        λ why. status_is words files lines status 10 output (too_long_output words files why))
+too_long-exactly words files lines status output = (
+  too_long_by words files status (cause_of words files lines status output),
+  λ why. status_is words files lines status 10 output (too_long_output words files why),
+)
 
 pub absent-exactly : (words : List (List ℕ)) (files : Files) (lines : List (List ℕ)) (status : ℕ) → IsOutput words files lines status → NamesAbsent words (Some files) → status ≡ 7
 absent-exactly words files lines status output absent =
     status_is words files lines status 7 output
-        ([], inr (absent.0, absent.1, absent.2, subst (λ content. FileOutput absent.0 content absent.1 [] 7) (sym absent.3) (refl, refl)))
+    ([], inr (absent.0, absent.1, absent.2, subst (λ content. FileOutput absent.0 content absent.1 [] 7) (sym absent.3) (refl, refl)))

@@ -59,12 +59,14 @@ usage-due words told lines status none same is =
 pub module-due : (words : List (List ℕ)) (told : Option Files) (file goal text : List ℕ) (lines : List (List ℕ)) (status : ℕ)
     → IsRequest words file goal → length text ≤ file_limit → IfSome told (λ files. file_named file files ≡ Some text)
     → ModuleOutput file text goal lines status → IsDueStatus status × IsDue words told lines status
-module-due words None file goal text lines status request within content due =
-    (inl (module_status-small file text goal lines status due),
-        ((file, text) ∷ [], tt, inr (file, goal, request, rw named_alone (inr (within, due)))))
-module-due words (Some files) file goal text lines status request within content due =
-    (inl (module_status-small file text goal lines status due),
-        (files, refl, inr (file, goal, request, rw content (inr (within, due)))))
+module-due words None file goal text lines status request within content due = (
+  inl (module_status-small file text goal lines status due),
+  ((file, text) ∷ [], tt, inr (file, goal, request, rw named_alone (inr (within, due)))),
+)
+module-due words (Some files) file goal text lines status request within content due = (
+  inl (module_status-small file text goal lines status due),
+  (files, refl, inr (file, goal, request, rw content (inr (within, due)))),
+)
 
 too_long_content : (content : Option (List ℕ)) → IsTooLong content → (text : List ℕ) × (content ≡ Some text) × (file_limit < length text)
 too_long_content None long = absurd long

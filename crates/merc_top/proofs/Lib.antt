@@ -12,7 +12,6 @@ pub mod GrammarLaws
 pub mod FirstToken
 pub mod TokensSoFar
 pub mod Readings
-pub mod RunLines
 pub mod Dues
 pub mod OutputLaws
 pub mod Causes

@@ -26,10 +26,11 @@ begins_more :
 begins_more None text piece at n e begins fetched = absurd fetched
 begins_more (Some file) text piece at n e begins fetched =
     let left : drop at file ≡ begins.0 = rw (e, ← begins.1) (drop-append_seam text begins.0) in
-    let front : piece ≡ take n begins.0 = fetched.1 ∙ ap (λ bytes. take n bytes) left in
-    (drop n begins.0,
-        ap (λ bytes. (text ++ bytes) ++ drop n begins.0) front ∙ append_assoc text (take n begins.0) (drop n begins.0)
-        ∙ ap (λ bytes. text ++ bytes) (take-append-drop n begins.0) ∙ begins.1)
+    let front : piece ≡ take n begins.0 = fetched.1 ∙ ap (λ bytes. take n bytes) left in (
+      drop n begins.0,
+      ap (λ bytes. (text ++ bytes) ++ drop n begins.0) front ∙ append_assoc text (take n begins.0) (drop n begins.0)
+          ∙ ap (λ bytes. text ++ bytes) (take-append-drop n begins.0) ∙ begins.1,
+    )
 
 pub begins-preserved :
     (told now : Option Files) (name text piece more : List ℕ) (at n : ℕ)

@@ -24,7 +24,7 @@ goal_output-unique source text lines lines' status status' (inr run) (inl refuse
 goal_output-unique source text lines lines' status status' (inr run) (inr also) =
     let same = IsGoalText-unique source text also.0 run.0 also.1 run.1 in
     let due : IsRunDue (variables_of [] run.0) (run_of source run.0) lines' status' =
-        subst (λ goal. IsRunDue (variables_of [] goal) (run_of source goal) lines' status') same also.2 in
+    subst (λ goal. IsRunDue (variables_of [] goal) (run_of source goal) lines' status') same also.2 in
     (both run.2.0 due.0, both run.2.1 due.1)
 
 module_output-unique : (name file goal : List ℕ) (lines lines' : List (List ℕ)) (status status' : ℕ)
@@ -58,5 +58,5 @@ IsOutput-unique words files lines lines' status status' (inr request) (inl usage
 IsOutput-unique words files lines lines' status status' (inr request) (inr also) =
     let same = request-unique words also.0 also.1 request.0 request.1 also.2 request.2 in
     file_output-unique request.0 (file_named request.0 files) request.1 lines lines' status status' request.3
-        (subst (λ file. FileOutput file (file_named file files) request.1 lines' status') same.0
-            (subst (λ goal. FileOutput also.0 (file_named also.0 files) goal lines' status') same.1 also.3))
+    (subst (λ file. FileOutput file (file_named file files) request.1 lines' status') same.0
+    (subst (λ goal. FileOutput also.0 (file_named also.0 files) goal lines' status') same.1 also.3))

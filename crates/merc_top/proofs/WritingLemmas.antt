@@ -31,17 +31,20 @@ pub puts_more :
     → before ++ (line ++ behind) ≡ whole → mid ≡ appended old before → now ≡ start
     → Puts line mid new now now' (Err fault) → Puts whole old new start now' (Err fault)
 puts_more whole before line behind old mid new start now now' fault parts written same puts = record {
-    ok = tt;
-    err = (record {
-        front = before ++ puts.err.0.front;
-        rest = puts.err.0.rest ++ behind;
-        whole =
-            append_assoc before puts.err.0.front (puts.err.0.rest ++ behind)
-            ∙ ap (λ bytes. before ++ bytes) (sym (append_assoc puts.err.0.front puts.err.0.rest behind))
-            ∙ ap (λ bytes. before ++ (bytes ++ behind)) puts.err.0.whole ∙ parts;
-        written = puts.err.0.written ∙ ap (λ o. appended o puts.err.0.front) written ∙ appended-append old before puts.err.0.front;
-    }, rw (← same) puts.err.1);
-    some = rw (← parts) (length_middle before line behind puts.some);
+  ok = tt;
+  err = (
+    record {
+      front = before ++ puts.err.0.front;
+      rest = puts.err.0.rest ++ behind;
+      whole =
+          append_assoc before puts.err.0.front (puts.err.0.rest ++ behind)
+          ∙ ap (λ bytes. before ++ bytes) (sym (append_assoc puts.err.0.front puts.err.0.rest behind))
+          ∙ ap (λ bytes. before ++ (bytes ++ behind)) puts.err.0.whole ∙ parts;
+      written = puts.err.0.written ∙ ap (λ o. appended o puts.err.0.front) written ∙ appended-append old before puts.err.0.front;
+    },
+    rw (← same) puts.err.1,
+  );
+  some = rw (← parts) (length_middle before line behind puts.some);
 }
 
 -- the lines before one, that line, and those behind it

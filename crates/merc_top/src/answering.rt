@@ -8,14 +8,15 @@ ghost use Rattle.merc_top.specs.FlatForm.{variables_of};
 ghost use Rattle.merc_tree.specs.Trace.{Run};
 
 use crate::evaluating::{Outcome, solve};
-use crate::first_form::{flattening, read_goal, read_module};
 use crate::first_form::syntax::{Conjuncts, Module};
+use crate::first_form::{flattening, read_goal, read_module};
 use crate::lines::{refusal_line, solution_line, solutions_line, step_limit_line, too_long_line};
 use crate::loading::{LoadFault, load};
 use crate::words::read_words;
 use crate::writing::{WriteFault, put_lines};
 use merc_base::{
-    Construct, Detail, Gate, NoMemory, Place, Refusal, Rule, Sequence, Shelf, Sink, Tap, Text, TextTable,
+    Construct, Detail, Gate, NoMemory, Place, Refusal, Rule, Sequence, Shelf, Sink, Tap, Text,
+    TextTable,
 };
 use std::alloc::Global;
 use std::sync::Wait;
@@ -24,7 +25,8 @@ use std::thread::Threads;
 /// The steps that a run may take.
 pub const STEP_LIMIT: u64 = 1_000_000;
 
-const USAGE: &[u8] = b"usage: merc solve FILE GOAL [--workers N] [--steps N] [--max N] | check FILE | code FILE | grow N [--workers N]\n";
+const USAGE: &[u8] =
+    b"usage: merc solve FILE GOAL [--workers N] [--steps N] [--max N] | check FILE | code FILE | grow N [--workers N]\n";
 
 /// What is to be written, line by line, and the status to end with then.
 #[derive(Drop)]
@@ -94,7 +96,11 @@ fn module_due(alloc: Global, name: &Text, text: &Text, goal: &Text) -> Result<Du
 {
     match read_module(alloc, text)? {
         Some(source) => goal_due(alloc, &source, goal),
-        None => one_line(alloc, 4, refusal_line(alloc, name.bytes(), &stage_refusal())?),
+        None => one_line(
+            alloc,
+            4,
+            refusal_line(alloc, name.bytes(), &stage_refusal())?,
+        ),
     }
 }
 

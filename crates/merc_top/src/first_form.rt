@@ -6,8 +6,8 @@ ghost use Rattle.merc_top.specs.FirstForm.{IsModuleText, IsGoalText};
 
 mod checking;
 pub mod flattening;
-mod parsing;
 mod lexing;
+mod parsing;
 pub mod syntax;
 
 use merc_base::{NoMemory, Text};
@@ -35,11 +35,7 @@ pub fn read_module(alloc: Global, text: &Text) -> Result<Option<Module>, NoMemor
 }
 
 /// The goal of the first form over a module that a text is, or `None`.
-pub fn read_goal(
-    alloc: Global,
-    source: &Module,
-    text: &Text,
-) -> Result<Option<Conjuncts>, NoMemory>
+pub fn read_goal(alloc: Global, source: &Module, text: &Text) -> Result<Option<Conjuncts>, NoMemory>
     ensures found { IfOk result (λ answer. IfSome answer (λ goal. IsGoalText source.now text.now goal)) }
     ensures none { IfOk result (λ answer. IfNone answer ((goal : List Conjunct) → IsGoalText source.now text.now goal → ⊥)) }
 {

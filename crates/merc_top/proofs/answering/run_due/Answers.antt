@@ -18,15 +18,15 @@ run_outcome : (source : Module) (conjuncts : List Conjunct) (bodies : List (List
 unfolding run_of
 run_outcome source conjuncts bodies query outcome same_bodies same_query is =
     subst (λ b. IsOutcome outcome (run b (query_of source conjuncts) step_limit)) same_bodies
-        (subst (λ q. IsOutcome outcome (run bodies q step_limit)) same_query is)
+    (subst (λ q. IsOutcome outcome (run bodies q step_limit)) same_query is)
 
 pub returns : goal.returns
 unfolding step_limit
 returns c =
     IfOk-weaker c.outcome_due.result _ _
-        (λ due is_due.
-            subst (λ names. IsRunDue names (run_of c.args.source.now c.args.goal.now) due.lines due.status) c.in_ok-query.ensures.variables
-                (is_due (run_of c.args.source.now c.args.goal.now)
-                    (run_outcome c.args.source.now c.args.goal.now c.in_ok-procedures.procedures c.in_ok-query.query.goals c.in_ok-outcome.outcome
-                        c.in_ok-procedures.ensures c.in_ok-query.ensures.goals c.in_ok-outcome.ensures)))
-        c.outcome_due.ensures
+    (λ due is_due.
+    subst (λ names. IsRunDue names (run_of c.args.source.now c.args.goal.now) due.lines due.status) c.in_ok-query.ensures.variables
+    (is_due (run_of c.args.source.now c.args.goal.now)
+    (run_outcome c.args.source.now c.args.goal.now c.in_ok-procedures.procedures c.in_ok-query.query.goals c.in_ok-outcome.outcome
+    c.in_ok-procedures.ensures c.in_ok-query.ensures.goals c.in_ok-outcome.ensures)))
+    c.outcome_due.ensures

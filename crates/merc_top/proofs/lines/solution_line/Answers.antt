@@ -13,17 +13,17 @@ loop-number-preserved c =
     let kept = c.loop-number.invariant in
     let below : k < length names = omega (arith, c.len-number-end.ensures.count) in
     let name : c.unwrap_or-name.result.now ≡ get_or names k [] =
-        ap (λ n. n.now) c.unwrap_or-name.ensures ∙ name_at names k c.text.result _ c.text.ensures (search rules) in
+    ap (λ n. n.now) c.unwrap_or-name.ensures ∙ name_at names k c.text.result _ c.text.ensures (search rules) in
     let next : binding c.unwrap_or-name.result.now c.value_at.result ≡ get_or (bindings 0 names env) k [] =
-        ap (λ n. binding n c.value_at.result) name ∙ ap (λ v. binding (get_or names k []) v) c.value_at.ensures
-        ∙ ap (λ n. binding (get_or names k []) (value_at env n)) (sym (zero-add k)) ∙ sym (get_or-bindings 0 names env k below) in
+    ap (λ n. binding n c.value_at.result) name ∙ ap (λ v. binding (get_or names k []) v) c.value_at.ensures
+    ∙ ap (λ n. binding (get_or names k []) (value_at env n)) (sym (zero-add k)) ∙ sym (get_or-bindings 0 names env k below) in
     record {
       line =
-        c.in_ok-push_binding.ensures
-        ∙ ap (λ front. front ++ binding c.unwrap_or-name.result.now c.value_at.result)
-            (c.in_ok-push.ensures.ok ∙ ap (λ front. front ++ c.loop-number.separator.now) kept.line
-            ∙ ap (λ s. joined (take k (bindings 0 names env)) ++ s) kept.separator)
-        ∙ joined-more (bindings 0 names env) k _ (omega (arith, length-bindings 0 names env)) next;
+          c.in_ok-push_binding.ensures
+          ∙ ap (λ front. front ++ binding c.unwrap_or-name.result.now c.value_at.result)
+          (c.in_ok-push.ensures.ok ∙ ap (λ front. front ++ c.loop-number.separator.now) kept.line
+          ∙ ap (λ s. joined (take k (bindings 0 names env)) ++ s) kept.separator)
+          ∙ joined-more (bindings 0 names env) k _ (omega (arith, length-bindings 0 names env)) next;
       separator = rw add-one;
     }
 
@@ -33,11 +33,12 @@ returns c =
     let env = c.args.environment.now in
     let kept = c.loop-number.invariant in
     let whole : c.if-len-eq0.line ≡ comma_list (bindings 0 names env) =
-        elim c.if-len-eq0.branch [
-            then-len-eq0+in_ok-push-2 w ↦
-                w.line-is ∙ w.in_ok-push-2.ensures.ok
-                ∙ line_without names env c.loop-number.number c.loop-number.line (omega (arith, c.len.ensures.count, w.if-len-eq0.true)) kept.line
-          | else-len-eq0 w ↦
-                w.line-is ∙ line_with names env c.loop-number.number c.loop-number.line
-                    (omega (arith, c.len.ensures.count, w.if-len-eq0.false)) (omega (arith, c.len-number-end.ensures.count)) kept.line ] in
+    elim c.if-len-eq0.branch [
+      | then-len-eq0+in_ok-push-2 w ↦
+          w.line-is ∙ w.in_ok-push-2.ensures.ok
+          ∙ line_without names env c.loop-number.number c.loop-number.line (omega (arith, c.len.ensures.count, w.if-len-eq0.true)) kept.line
+      | else-len-eq0 w ↦
+          w.line-is ∙ line_with names env c.loop-number.number c.loop-number.line
+          (omega (arith, c.len.ensures.count, w.if-len-eq0.false)) (omega (arith, c.len-number-end.ensures.count)) kept.line
+    ] in
     c.in_ok-push-3.ensures.ok ∙ ap (λ text. text ++ line_end) whole

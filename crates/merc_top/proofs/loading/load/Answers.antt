@@ -24,10 +24,11 @@ pub returns-in-End-clause-loads : goal.returns-in-End-clause-loads
 unfolding file_limit
 returns-in-End-clause-loads g c =
     let fetched = c.in-End.ensures in
-    let kept = c.loop-shelf.invariant in
-    (fetched.answer.count ∙ kept.count,
-        omega (arith, ap length c.bytes.ensures),
-        load-whole (g.S.Shelf.files c.args.shelf.now) (g.S.Shelf.files c.loop-shelf.shelf) c.args.name.now c.loop-shelf.text c.fetch.new.into _ kept.same (ap length c.bytes-in-loop-shelf.ensures) kept.begins fetched.answer.content)
+    let kept = c.loop-shelf.invariant in (
+      fetched.answer.count ∙ kept.count,
+      omega (arith, ap length c.bytes.ensures),
+      load-whole (g.S.Shelf.files c.args.shelf.now) (g.S.Shelf.files c.loop-shelf.shelf) c.args.name.now c.loop-shelf.text c.fetch.new.into _ kept.same (ap length c.bytes-in-loop-shelf.ensures) kept.begins fetched.answer.content,
+    )
 
 pub returns-clause-loads : goal.returns-clause-loads
 unfolding file_limit

@@ -16,7 +16,7 @@ three_items (x ∷ (y ∷ (z ∷ (u ∷ us)))) a b c low high ea eb ec = absurd 
 pub returns-then-is_plain-2 : goal.returns-then-is_plain-2
 returns-then-is_plain-2 c =
     let command : c.command-item.result ≡ codes "solve" =
-        sym c.bytes.ensures ∙ (bytes_eq-Decides _ _).0 (sym c.if-eq.ensures) ∙ c.as_slice.ensures in
+    sym c.bytes.ensures ∙ (bytes_eq-Decides _ _).0 (sym c.if-eq.ensures) ∙ c.as_slice.ensures in
     let items = three_items c.args.words.now _ _ _ c.in-len3.len_at_least c.in-len3.len_below c.command-item.is c.file-item.is c.goal-item.is in
     record {
       spelled = items ∙ ap (λ word. word ∷ c.file-item.result ∷ c.goal-item.result ∷ []) command;

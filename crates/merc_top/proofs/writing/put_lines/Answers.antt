@@ -11,5 +11,5 @@ returns-in-Err g c =
     let k = c.loop-line.line-index in
     let parts = lines_parts lines k c.line-item.result (omega arith) c.line-item.is in
     puts_more
-        (flat_map (λ text. text) lines) (flat_map (λ text. text) (take k lines)) c.line-item.result (flat_map (λ text. text) (drop (suc k) lines))
-        _ _ _ _ _ _ c.in-Err.fault parts kept.written kept.count (rw (← c.bytes.ensures) c.in-Err.ensures)
+    (flat_map (λ text. text) lines) (flat_map (λ text. text) (take k lines)) c.line-item.result (flat_map (λ text. text) (drop (suc k) lines))
+    _ _ _ _ _ _ c.in-Err.fault parts kept.written kept.count (rw (← c.bytes.ensures) c.in-Err.ensures)
