@@ -1,0 +1,52 @@
+//! The program: `merc_top` over the files of the system and standard output.
+#![tactic(auto)]
+
+use merc_base::{NoMemory, Tap, Text};
+use merc_io::{FileShelf, OpenGate, OutSink};
+use merc_top::answer;
+use std::env::FillError;
+use std::process::ExitCode;
+use std::rt::Env;
+
+// The status where memory is refused.
+const NO_MEMORY: u8 = 9;
+
+fn main(rt: HostRuntime) -> ExitCode {
+    let alloc = rt.alloc();
+    let Ok(words) = all_words(&rt) else {
+        return ExitCode::from(NO_MEMORY);
+    };
+    let mut shelf = FileShelf::new(&rt);
+    let mut sink = OutSink::new(&rt);
+    let mut taps: Vec<Box<dyn Tap>> = Vec::new(alloc);
+    let status = answer(
+        &rt, alloc, &words, &mut shelf, &mut sink, &mut taps, &OpenGate,
+    );
+    ExitCode::from(status)
+}
+
+// The words behind the program's own name.
+fn all_words<R: Env + AllocGlobal>(rt: &R) -> Result<Vec<Text>, NoMemory> {
+    let mut words = Vec::new(rt.alloc());
+    for number in 1..usize::MAX {
+        match word(rt, number)? {
+            Some(word) => words.push(word)?,
+            None => break,
+        }
+    }
+    Ok(words)
+}
+
+// The word of this number as it is. `env::args` fails at one that is not UTF-8, the program's own name included.
+fn word<R: Env + AllocGlobal>(rt: &R, number: usize) -> Result<Option<Text>, NoMemory> {
+    let alloc = rt.alloc();
+    for exponent in 8..usize::BITS {
+        let mut room = vec![in alloc; 0u8; 1usize << exponent]?;
+        match rt.arg(number, &mut room) {
+            Ok(count) => return Ok(Some(Text::of(alloc, &room[..count])?)),
+            Err(FillError::NotPresent) => return Ok(None),
+            Err(FillError::TooLong) => {}
+        }
+    }
+    Err(NoMemory)
+}
