@@ -7,6 +7,7 @@ use Rattle.std.specs.Str.{bytes_eq}
 use Rattle.std.proofs.lemmas.Option.{slice_get-map}
 use Rattle.std.proofs.lemmas.Slice.Eq.{bytes_eq-Decides}
 use Rattle.merc_base.specs.Names.{fixed_names}
+use Rattle.merc_base.specs.Texts.{is_among}
 
 -- An entry of the code's table, as a number and a text.
 abbrev pub plain_entry : ℕ × Bor (List ℕ) → ℕ × List ℕ
@@ -23,19 +24,19 @@ find-plain_entry text (entry ∷ table) =
 -- what a search by text in numbered names answers: no number where the text is not among them
 abbrev Finds : List ℕ → List (List ℕ) → ℕ → Option ℕ → Type 0
 Finds text names first result =
-    MatchOption result (list_any (bytes_eq text) names ≡ false) (λ number. (i : ℕ) × (number ≡ first + i) × (slice_get names i ≡ Some text))
+    MatchOption result (is_among text names ≡ false) (λ number. (i : ℕ) × (number ≡ first + i) × (slice_get names i ≡ Some text))
 
 found_numbered : (text : List ℕ) (names : List (List ℕ)) (first : ℕ) → Finds text names first (option_map (λ entry. entry.0) (find (λ entry. bytes_eq text entry.1) (enumerate_from first names)))
 found_numbered text [] first = refl
 found_numbered text (name ∷ names) first = by (bytes_eq text name) refl (found_numbered text names (first + 1))
   where
     later : (result : Option ℕ) → Finds text names (first + 1) result
-        → MatchOption result (list_any (bytes_eq text) names ≡ false) (λ number. (i : ℕ) × (number ≡ first + i) × (slice_get (name ∷ names) i ≡ Some text))
+        → MatchOption result (is_among text names ≡ false) (λ number. (i : ℕ) × (number ≡ first + i) × (slice_get (name ∷ names) i ≡ Some text))
     later None h = h
     later (Some number) h = (suc h.0, omega (arith, h.1), h.2)
 
     by : (b : Bool) → bytes_eq text name ≡ b → Finds text names (first + 1) (option_map (λ entry. entry.0) (find (λ entry. bytes_eq text entry.1) (enumerate_from (first + 1) names)))
-        → MatchOption (option_map (λ entry. entry.0) (cond b (Some (first, name)) (find (λ entry. bytes_eq text entry.1) (enumerate_from (first + 1) names)))) ((b || list_any (bytes_eq text) names) ≡ false) (λ number. (i : ℕ) × (number ≡ first + i) × (slice_get (name ∷ names) i ≡ Some text))
+        → MatchOption (option_map (λ entry. entry.0) (cond b (Some (first, name)) (find (λ entry. bytes_eq text entry.1) (enumerate_from (first + 1) names)))) ((b || is_among text names) ≡ false) (λ number. (i : ℕ) × (number ≡ first + i) × (slice_get (name ∷ names) i ≡ Some text))
     by true e h = (0, omega arith, ap Some (sym ((bytes_eq-Decides text name).0 e)))
     by false e h = later _ h
 
@@ -43,13 +44,13 @@ found_numbered text (name ∷ names) first = by (bytes_eq text name) refl (found
 pub found_fixed : (text : List ℕ) (table : List (ℕ × Bor (List ℕ))) (result : Option ℕ)
     → map plain_entry table ≡ enumerate_from 0 fixed_names
     → result ≡ option_map (λ entry. entry.0) (find (λ entry. bytes_eq text entry.1.now) table)
-    → MatchOption result (list_any (bytes_eq text) fixed_names ≡ false) (λ number. slice_get fixed_names number ≡ Some text)
+    → MatchOption result (is_among text fixed_names ≡ false) (λ number. slice_get fixed_names number ≡ Some text)
 found_fixed text table result numbered e =
     let searched : option_map (λ entry. entry.0) (find (λ entry. bytes_eq text entry.1) (enumerate_from 0 fixed_names)) ≡ result =
     sym (e ∙ find-plain_entry text table ∙ ap (λ (entries : List (ℕ × List ℕ)). option_map (λ entry. entry.0) (find (λ entry. bytes_eq text entry.1) entries)) numbered) in
     from_zero result (subst (Finds text fixed_names 0) searched (found_numbered text fixed_names 0))
   where
-    from_zero : (r : Option ℕ) → Finds text fixed_names 0 r → MatchOption r (list_any (bytes_eq text) fixed_names ≡ false) (λ number. slice_get fixed_names number ≡ Some text)
+    from_zero : (r : Option ℕ) → Finds text fixed_names 0 r → MatchOption r (is_among text fixed_names ≡ false) (λ number. slice_get fixed_names number ≡ Some text)
     from_zero None h = h
     from_zero (Some number) h = let same : number ≡ h.0 = omega (arith, h.1) in ap (slice_get fixed_names) same ∙ h.2
 

@@ -1,9 +1,11 @@
 -- A table of keys that stand for texts, against the list of those texts.
-use Rattle.std.proofs.Common.{◌≡◌, refl, ap, sym, ℕ, ◌+◌, Bool, true, false, cond, not, ◌||◌, is_some, Option, Some, None, IfSome, List, [], ◌∷◌, ◌++◌, map, length, position, unwrap_or, arith}
+use Rattle.std.proofs.Common.{◌≡◌, refl, ap, sym, ℕ, suc, ◌+◌, ◌<◌, Bool, true, false, true≢false, cond, not, ◌||◌, ◌∙◌, get_or, slice_get, is_some, Option, Some, None, IfSome, List, [], ◌∷◌, ◌++◌, map, length, position, unwrap_or, arith}
 use Rattle.std.specs.List.{list_any, prefix_len, position_or_len, IsDistinct, AllByRecursion}
 use Rattle.std.specs.Str.{bytes_eq}
 use Rattle.std.proofs.lemmas.Slice.Eq.{bytes_eq-Decides}
-use Rattle.std.proofs.lemmas.Option.{cond_some}
+use Rattle.std.proofs.lemmas.List.Folds.{list_any-append}
+use Rattle.std.proofs.lemmas.Map.Keys.{apart_from_distinct}
+use Rattle.std.proofs.lemmas.Option.{cond_some, get_or_from_slice_get, slice_get_within}
 use Rattle.indexmap.specs.IndexSet.{insert_key}
 use Rattle.merc_base.specs.Texts.{is_among, place_among, with_text}
 
@@ -22,7 +24,7 @@ prefix_len-pushed p [] y fails = ap (λ b. cond b 1 0) fails
 prefix_len-pushed p (x ∷ xs) y fails = ap (λ n. cond (p x) (1 + n) 0) (prefix_len-pushed p xs y fails)
 
 -- a text's place is the same once the text is there
-pub place_among-with_text : (texts : List (List ℕ)) (text : List ℕ) → place_among (with_text texts text) text ≡ place_among texts text
+place_among-with_text : (texts : List (List ℕ)) (text : List ℕ) → place_among (with_text texts text) text ≡ place_among texts text
 place_among-with_text texts text = by (is_among text texts)
   where
     by : (b : Bool) → place_among (cond b texts (texts ++ text ∷ [])) text ≡ place_among texts text
@@ -42,6 +44,79 @@ prefix_len-none test (x ∷ xs) none = by (test x) refl none (prefix_len-none te
 pub place_or_length : (texts : List (List ℕ)) (text : List ℕ) (found : Option ℕ) → IfSome found (λ place. place ≡ place_among texts text) → is_some found ≡ is_among text texts → unwrap_or found (length texts) ≡ place_among texts text
 place_or_length texts text None first known = sym (prefix_len-none (bytes_eq text) texts (sym known))
 place_or_length texts text (Some place) first known = first
+
+-- a text that is new has the place behind the others
+pub new_place : (texts : List (List ℕ)) (text : List ℕ) → is_among text texts ≡ false → length texts ≡ place_among (with_text texts text) text
+new_place texts text none = sym (place_among-with_text texts text ∙ prefix_len-none (bytes_eq text) texts none)
+
+first_place : (texts : List (List ℕ)) (text : List ℕ) → is_among text texts ≡ true → slice_get texts (place_among texts text) ≡ Some text
+first_place [] text there = absurd cc
+first_place (other ∷ texts) text there = by (bytes_eq text other) refl there (first_place texts text)
+  where
+    by : (b : Bool) → bytes_eq text other ≡ b → (b || is_among text texts) ≡ true → (is_among text texts ≡ true → slice_get texts (place_among texts text) ≡ Some text)
+        → slice_get (other ∷ texts) (cond (not b) (1 + place_among texts text) 0) ≡ Some text
+    by true is there' later = ap Some (sym ((bytes_eq-Decides text other).0 is))
+    by false is there' later =
+        let next : 1 + place_among texts text ≡ suc (place_among texts text) = omega arith in
+        ap (slice_get (other ∷ texts)) next ∙ later there'
+
+last_place : (texts : List (List ℕ)) (text : List ℕ) → is_among text (texts ++ text ∷ []) ≡ true
+last_place texts text = list_any-append (bytes_eq text) texts (text ∷ []) ∙ ap (λ b. is_among text texts || (b || false)) ((bytes_eq-Decides text text).1 refl) ∙ or-true (is_among text texts)
+  where
+    or-true : (b : Bool) → (b || (true || false)) ≡ true
+    or-true true = refl
+    or-true false = refl
+
+-- a text stands at its place once it is there
+pub place_has_text : (texts : List (List ℕ)) (text : List ℕ) → slice_get (with_text texts text) (place_among (with_text texts text) text) ≡ Some text
+place_has_text texts text = first_place (with_text texts text) text (by (is_among text texts) refl)
+  where
+    by : (b : Bool) → is_among text texts ≡ b → is_among text (cond b texts (texts ++ text ∷ [])) ≡ true
+    by true is = is
+    by false is = last_place texts text
+
+differ : (one other : List ℕ) → bytes_eq one other ≡ false → bytes_eq other one ≡ false
+differ one other is = by (bytes_eq other one) refl
+  where
+    by : (b : Bool) → bytes_eq other one ≡ b → b ≡ false
+    by true e = absurd (true≢false (sym ((bytes_eq-Decides one other).1 (sym ((bytes_eq-Decides other one).0 e))) ∙ is))
+    by false e = refl
+
+all_pushed : (P : List ℕ → Type 0) (texts : List (List ℕ)) (text : List ℕ) → AllByRecursion P texts → P text → AllByRecursion P (texts ++ text ∷ [])
+all_pushed P [] text all last = (last, tt)
+all_pushed P (other ∷ texts) text all last = (all.0, all_pushed P texts text all.1 last)
+
+-- one text more, which is new, leaves texts distinct
+pushed-distinct : (texts : List (List ℕ)) (text : List ℕ) → is_among text texts ≡ false → IsDistinct bytes_eq texts → IsDistinct bytes_eq (texts ++ text ∷ [])
+unfolding IsDistinct
+pushed-distinct [] text new distinct = (tt, tt)
+pushed-distinct (other ∷ texts) text new distinct = by (bytes_eq text other) refl new (λ new'. pushed-distinct texts text new' distinct.1)
+  where
+    by : (b : Bool) → bytes_eq text other ≡ b → (b || is_among text texts) ≡ false → (is_among text texts ≡ false → IsDistinct bytes_eq (texts ++ text ∷ []))
+        → AllByRecursion (λ later. bytes_eq other later ≡ false) (texts ++ text ∷ []) × IsDistinct bytes_eq (texts ++ text ∷ [])
+    by true is new' later = absurd cc
+    by false is new' later = (all_pushed _ texts text distinct.0 (differ text other is), later new')
+
+-- wanting one text more leaves texts distinct
+pub with_text-distinct : (texts : List (List ℕ)) (text : List ℕ) → IsDistinct bytes_eq texts → IsDistinct bytes_eq (with_text texts text)
+with_text-distinct texts text distinct = by (is_among text texts) refl
+  where
+    by : (b : Bool) → is_among text texts ≡ b → IsDistinct bytes_eq (cond b texts (texts ++ text ∷ []))
+    by true is = distinct
+    by false is = pushed-distinct texts text is distinct
+
+not_earlier : (texts : List (List ℕ)) (one other : ℕ) (text : List ℕ) → IsDistinct bytes_eq texts → slice_get texts one ≡ Some text → slice_get texts other ≡ Some text → one < other → ⊥
+not_earlier texts one other text distinct h g earlier =
+    let apart = apart_from_distinct bytes_eq texts one other [] distinct earlier (slice_get_within texts other text g) in
+    let same : get_or texts one [] ≡ get_or texts other [] = get_or_from_slice_get texts one text [] h ∙ sym (get_or_from_slice_get texts other text [] g) in
+    true≢false (sym ((bytes_eq-Decides _ _).1 same) ∙ apart)
+
+-- no text of distinct ones has two places
+pub distinct_places : (texts : List (List ℕ)) (one other : ℕ) (text : List ℕ) → IsDistinct bytes_eq texts → slice_get texts one ≡ Some text → slice_get texts other ≡ Some text → one ≡ other
+distinct_places texts one other text distinct h g =
+    let before = not_earlier texts one other text distinct h g in
+    let after = not_earlier texts other one text distinct g h in
+    omega arith
 
 module _ {K : Type 0} (text_of : K → List ℕ) where
   -- a test of the keys' texts is a test of the texts

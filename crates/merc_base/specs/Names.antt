@@ -1,10 +1,6 @@
 -- A table of names, seen as the list of their texts by number. Each text is there once, so that names are equal
 -- where their texts are.
-use Rattle.std.specs.Prelude.{◌≡◌, ℕ, List, [], ◌∷◌, ◌++◌, Some, map, slice_get, codes, if◌then◌else◌}
-use Rattle.std.specs.List.{list_any}
-use Rattle.std.specs.Str.{bytes_eq}
-use Rattle.std.specs.declared.alloc.Global.{Global}
-use Rattle.std.specs.declared.vec.Vec.{Vec}
+use Rattle.std.specs.Prelude.{◌≡◌, ℕ, List, [], ◌∷◌, Some, slice_get, codes}
 
 -- the texts of the constants, which every table holds from the start
 unfoldable pub fixed_names : List (List ℕ)
@@ -22,18 +18,6 @@ fixed_names =
     codes "float" ∷ codes "uint" ∷ codes "int8" ∷ codes "int16" ∷ codes "int32" ∷ codes "int64" ∷ codes "uint8" ∷
     codes "uint16" ∷ codes "uint32" ∷ codes "uint64" ∷ []
 
--- the texts after one more is wanted: it goes last, unless it is there
-abbrev pub with_text : List ℕ → List (List ℕ) → List (List ℕ)
-with_text text names = if list_any (bytes_eq text) names then names else names ++ text ∷ []
-
--- no text has two numbers
-pub record AreDistinct (names : List (List ℕ)) : Type 0 where
-  pub same : (one other : ℕ) (text : List ℕ) → slice_get names one ≡ Some text → slice_get names other ≡ Some text → one ≡ other
-
 -- each constant has its text
 pub record HoldsFixed (names : List (List ℕ)) : Type 0 where
   pub text : (number : ℕ) (text : List ℕ) → slice_get fixed_names number ≡ Some text → slice_get names number ≡ Some text
-
--- the bytes of each of these vectors
-abbrev pub texts_of : List (Vec ℕ Global) → List (List ℕ)
-texts_of vectors = map (λ vector. vector.items) vectors

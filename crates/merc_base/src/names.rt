@@ -1,12 +1,12 @@
 //! Names: texts that are kept once and compared by number.
-ghost use Rattle.std.specs.Prelude.{◌≡◌, ◌++◌, ◌<◌, ◌^◌, Some, false, map, find, slice_get, MatchOption, IfOk, OnOk, OnErr};
-ghost use Rattle.std.specs.List.{list_any, enumerate_from};
+ghost use Rattle.std.specs.Prelude.{◌≡◌, Some, false, map, find, slice_get, MatchOption, IfOk, OnOk, OnErr};
+ghost use Rattle.std.specs.List.{IsDistinct, enumerate_from};
 ghost use Rattle.std.specs.Option.{option_copied, option_map};
 ghost use Rattle.std.specs.Str.{bytes_eq};
-ghost use Rattle.merc_base.specs.Names.{fixed_names, with_text, texts_of, AreDistinct, HoldsFixed};
+ghost use Rattle.merc_base.specs.Names.{fixed_names, HoldsFixed};
+ghost use Rattle.merc_base.specs.Texts.{is_among, with_text};
 
-use crate::NoMemory;
-use indexmap::IndexSet;
+use crate::{NoMemory, TextTable};
 use std::alloc::Global;
 use std::marker::Model;
 
@@ -283,19 +283,20 @@ const FIXED: [(u64, &[u8]); 82] = [
 /// Texts by number, each of them once. It is seen as the list of the texts.
 #[derive(Debug, Drop)]
 pub struct Names {
-    alloc: Global,
-    added: IndexSet<Vec<u8>>,
+    added: TextTable,
 }
 
 impl Model for Names {
     ghost use Rattle.std.specs.Prelude.{List, ℕ, ◌++◌};
-    ghost use Rattle.merc_base.specs.Names.{fixed_names, texts_of, AreDistinct};
+    ghost use Rattle.std.specs.List.{IsDistinct};
+    ghost use Rattle.std.specs.Str.{bytes_eq};
+    ghost use Rattle.merc_base.specs.Names.{fixed_names};
 
     ghost Value = { List (List ℕ) };
 
-    ghost view = { λ names. fixed_names ++ texts_of names.added.keys };
+    ghost view = { λ names. fixed_names ++ names.added };
 
-    ghost invariant = { λ names. AreDistinct (fixed_names ++ texts_of names.added.keys) };
+    ghost invariant = { λ names. IsDistinct bytes_eq (fixed_names ++ names.added) };
 }
 
 impl Names {
@@ -304,8 +305,7 @@ impl Names {
         ensures { result ≡ fixed_names }
     {
         Names {
-            alloc,
-            added: IndexSet::new(alloc),
+            added: TextTable::new(alloc),
         }
     }
 
@@ -313,35 +313,32 @@ impl Names {
     /// text. Where memory is refused the table is unchanged.
     pub fn intern(&mut self, text: &[u8]) -> Result<Name, NoMemory>
         ensures known { IfOk result (λ name. slice_get self.new name ≡ Some text.now) }
-        ensures ok { OnOk result (self.new ≡ with_text text.now self.old) }
+        ensures ok { OnOk result (self.new ≡ with_text self.old text.now) }
         ensures err { OnErr result (self.new ≡ self.old) }
-        ensures distinct { AreDistinct self.new }
+        ensures distinct { IsDistinct bytes_eq self.new }
         ensures fixed { HoldsFixed self.new }
     {
-        let number = number_of(&mut self.added, self.alloc, text)?;
-        Ok(Name(number))
+        let added = &mut self.added;
+        if let Some(number) = fixed_number(text) {
+            return Ok(Name(number));
+        }
+        let place = added.add(text)?;
+        Ok(Name((FIXED.len() + place) as u64))
     }
 
     /// The text of a name, or `None` for a name of another table that has no text here.
     pub fn text(&self, name: Name) -> Option<&[u8]>
         ensures value { option_copied result ≡ slice_get self.now name }
-        ensures distinct { AreDistinct self.now }
+        ensures distinct { IsDistinct bytes_eq self.now }
         ensures fixed { HoldsFixed self.now }
     {
-        text_at(&self.added, name.0)
+        let added = &self.added;
+        let number = name.0 as usize;
+        if number < FIXED.len() {
+            return fixed_text(number);
+        }
+        added.text(number - FIXED.len())
     }
-}
-
-// The text of this number, among the constants and the texts that were added.
-fn text_at(added: &IndexSet<Vec<u8>>, number: u64) -> Option<&[u8]>
-    ensures { option_copied result ≡ slice_get (fixed_names ++ texts_of added.now.keys) number }
-{
-    let number = number as usize;
-    if number < FIXED.len() {
-        return fixed_text(number);
-    }
-    let text = added.get_index(number - FIXED.len())?;
-    Some(text.as_slice())
 }
 
 // The constants with their texts: the number of each is the place of its text.
@@ -367,7 +364,7 @@ fn text_in<'a>(table: &[(u64, &'a [u8])], number: usize) -> Option<&'a [u8]>
 
 // The number of the constant that has this text.
 fn fixed_number(text: &[u8]) -> Option<u64>
-    ensures { MatchOption result (list_any (bytes_eq text.now) fixed_names ≡ false) (λ number. slice_get fixed_names number ≡ Some text.now) }
+    ensures { MatchOption result (is_among text.now fixed_names ≡ false) (λ number. slice_get fixed_names number ≡ Some text.now) }
 {
     number_in(fixed_table(), text)
 }
@@ -380,36 +377,4 @@ fn number_in(table: &[(u64, &[u8])], text: &[u8]) -> Option<u64>
         .iter()
         .find(|entry| text == entry.1)
         .map(|entry| entry.0)
-}
-
-// The number of this text among the constants and the texts that were added, where it is put last if it is new.
-fn number_of(added: &mut IndexSet<Vec<u8>>, alloc: Global, text: &[u8]) -> Result<u64, NoMemory>
-    ensures known { IfOk result (λ number. slice_get (fixed_names ++ texts_of added.new.keys) number ≡ Some text.now) }
-    ensures ok { OnOk result (fixed_names ++ texts_of added.new.keys ≡ with_text text.now (fixed_names ++ texts_of added.old.keys)) }
-    ensures err { OnErr result (texts_of added.new.keys ≡ texts_of added.old.keys) }
-{
-    if let Some(number) = fixed_number(text) {
-        return Ok(number);
-    }
-    let number = added_number(added, alloc, text)?;
-    Ok((FIXED.len() + number) as u64)
-}
-
-// The same among the texts that were added alone.
-fn added_number(
-    added: &mut IndexSet<Vec<u8>>,
-    alloc: Global,
-    text: &[u8],
-) -> Result<usize, NoMemory>
-    ensures known { IfOk result (λ number. slice_get (texts_of added.new.keys) number ≡ Some text.now) }
-    ensures ok { OnOk result (texts_of added.new.keys ≡ with_text text.now (texts_of added.old.keys)) }
-    ensures err { OnErr result (texts_of added.new.keys ≡ texts_of added.old.keys) }
-    ensures small { IfOk result (λ number. number < 2 ^ 63) }
-{
-    let count = added.len();
-    if let Some(number) = added.get_index_of(text) {
-        return Ok(number);
-    }
-    added.insert(Vec::from_slice(alloc, text)?)?;
-    Ok(count)
 }

@@ -11,7 +11,7 @@ use std::marker::Model;
 
 /// Texts of which no two are equal, numbered from 0 in the order in which they came. Contracts see the list of the
 /// texts by number.
-#[derive(Drop)]
+#[derive(Debug, Drop)]
 pub struct TextTable {
     texts: IndexSet<Vec<u8>>,
 }
@@ -64,13 +64,15 @@ impl TextTable {
         ensures texts { IfOk result (λ k. self.new ≡ with_text self.old text.now) }
         ensures place { IfOk result (λ k. k ≡ place_among self.new text.now) }
         ensures err { OnErr result (self.new ≡ self.old) }
+        ensures small { IfOk result (λ k. k < 2 ^ 63) }
     {
+        let count = self.texts.len();
         if let Some(place) = self.texts.get_index_of(text) {
             return Ok(place);
         }
         let text = Vec::from_slice(*self.texts.allocator(), text)?;
-        let (place, _) = self.texts.insert_full(text)?;
-        Ok(place)
+        self.texts.insert(text)?;
+        Ok(count)
     }
 
     /// The text of this number, if there is one.
