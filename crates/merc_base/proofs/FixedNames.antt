@@ -1,7 +1,7 @@
 -- Laws of the constants of a table of names.
 use Rattle.std.proofs.Common.{◌≡◌, ℕ, zero, suc, ◌+◌, Bool, true, false, List, [], ◌∷◌, Option, Some, None, MatchOption, map, find, cond, slice_get, refl, sym, ap, subst, ◌∙◌, arith, ◌||◌}
 use Rattle.std.specs.Borrow.{Bor}
-use Rattle.std.specs.List.{list_any, enumerate_from}
+use Rattle.std.specs.List.{enumerate_from}
 use Rattle.std.specs.Option.{option_map}
 use Rattle.std.specs.Str.{bytes_eq}
 use Rattle.std.proofs.lemmas.Option.{slice_get-map}
