@@ -1,7 +1,7 @@
 -- What goals mean: the strict sequential run, conjuncts from the left, as the language's reference manual has it.
 use Rattle.std.specs.Prelude.{ℕ, suc, zero, List, [], ◌∷◌, map, Option, Some, None, slice_get}
 use Rattle.merc_tree.specs.Value.{Value, Int, arithmetic}
-use Rattle.merc_tree.specs.Trace.{Env, Events, Ends, Tick, Answer, End, Done, TooDeep, Trace, Run, each, taken_back, cut}
+use Rattle.merc_tree.specs.Trace.{Env, Ends, Tick, Answer, Done, TooDeep, Trace, Run, each, taken_back, cut}
 use Rattle.merc_tree.specs.declared.goal.Goal.{Goal}
 use Rattle.merc_tree.specs.declared.goal.Goal.TheVariants.{Assign, Build, Arithmetic, Call}
 use Rattle.merc_tree.specs.declared.goal.Operator.{Operator}

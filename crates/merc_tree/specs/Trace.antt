@@ -1,5 +1,5 @@
 -- What a run does, as a list: its steps and answers in order, and how it ends.
-use Rattle.std.specs.Prelude.{ℕ, suc, zero, List, [], ◌∷◌, Option, Some, None}
+use Rattle.std.specs.Prelude.{ℕ, suc, zero, List, [], ◌∷◌, Option}
 use Rattle.merc_tree.specs.Value.{Value}
 
 -- The variables of a clause by number, each with its value where it has one.

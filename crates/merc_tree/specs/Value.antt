@@ -1,5 +1,5 @@
 -- The values that a run computes with.
-use Rattle.std.specs.Prelude.{ℕ, ℤ, FitsSigned}
+use Rattle.std.specs.Prelude.{ℤ, FitsSigned}
 use Rattle.std.specs.Int.{int_wrapping_add, w64}
 use Rattle.merc_tree.specs.declared.goal.Operator.{Operator}
 use Rattle.merc_tree.specs.declared.goal.Operator.TheVariants.{Add}
