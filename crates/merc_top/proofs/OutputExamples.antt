@@ -1,28 +1,28 @@
 -- Worked examples of the lines that are due: what holds, and what does not.
 use Rattle.std.specs.Prelude.{drop, ◌≡◌, ◌<◌, ◌≤◌, ◌++◌, ℕ, Bool, true, false, pos, negsuc, replicate, List, [], ◌∷◌, length, Option, Some, None, codes, refl}
-use Rattle.std.proofs.Common.{arith, slice_index, ap, sym, subst, inl, inr}
+use Rattle.std.proofs.Common.{◌∙◌, arith, slice_index, ap, sym, subst, inl, inr}
 use Rattle.std.specs.List.{flat_map}
 use Rattle.std.specs.Fmt.{digits}
 use Rattle.std.proofs.Math.Utf8.{encode}
 use Rattle.merc_base.specs.Outside.{Files, file_named}
-use Rattle.std.proofs.lemmas.List.{length-replicate}
+use Rattle.std.proofs.lemmas.List.{length-replicate, append-nil}
 use Rattle.merc_tree.specs.Value.{Int}
 use Rattle.merc_tree.specs.Trace.{Env, Run, Ends, Tick, Answer, RunDone, RunRaised, LimitPassed, answers_of, end_of}
 use Rattle.merc_tree.specs.Meaning.{run}
 use Rattle.merc_top.specs.declared.first_form.syntax.Token.{Token}
-use Rattle.merc_top.specs.declared.first_form.syntax.Token.TheVariants.{Name, Functor, Variable as VariableToken, Number as NumberToken, Neck, Equals, Plus, Comma, Close, Stop, DoubleColon}
+use Rattle.merc_top.specs.declared.first_form.syntax.Token.TheVariants.{Name, Functor, Variable as VariableToken, Number as NumberToken, Neck, Comma, Close, Stop}
 use Rattle.merc_top.specs.declared.first_form.syntax.Operand.TheVariants.{Variable, Number}
-use Rattle.merc_top.specs.declared.first_form.syntax.Expression.TheVariants.{Sum}
 use Rattle.merc_top.specs.declared.first_form.syntax.Conjunct.{Conjunct}
-use Rattle.merc_top.specs.declared.first_form.syntax.Conjunct.TheVariants.{Equation, Call}
-use Rattle.merc_top.specs.declared.first_form.syntax.Mode.TheVariants.{Input, Output}
+use Rattle.merc_top.specs.declared.first_form.syntax.Conjunct.TheVariants.{Call}
 use Rattle.merc_top.specs.declared.first_form.syntax.Predicate.{Predicate}
 use Rattle.merc_top.specs.declared.first_form.syntax.Module.{Module}
 use Rattle.merc_top.specs.Tokens.{HasTokens}
 use Rattle.merc_top.specs.TokenLaws.{HasTokens-unique}
 use Rattle.merc_top.specs.Grammar.{import_tokens, predicate_tokens, module_tokens}
+use Rattle.merc_top.specs.GrammarExamples.{add, declaration_of_add, clause_of_add}
 use Rattle.merc_top.specs.Words.{IsPlainWord, IsRequest, IsNoRequest, usage_line}
 use Rattle.merc_top.specs.Loading.{file_limit}
+use Rattle.merc_top.specs.Writing.{PutsFront}
 use Rattle.merc_top.specs.FirstForm.{IsModuleText, IsGoalText, is_goal, reserved_words}
 use Rattle.merc_top.specs.Output.{line, value_text, binding, bindings, behind_commas, comma_list, solution_line, end_line, run_status, run_lines, text_of, refusal_line, stage_refusal, too_long_line, step_limit, run_of, IsRunDue, IsOutput}
 use Rattle.merc_top.specs.Answer.{AreFiles, NamesAbsent, NamesTooLong, Names, RefusesModule, RefusesGoal, Solves, Answers}
@@ -170,13 +170,6 @@ too_long_line-counterexample same = differ 32 49 (omega arith) (ap (λ (text : L
 
 -- ---- a module and a goal over it
 
--- Z = X + Y
-abbrev sum : Conjunct
-sum = Equation (codes "Z") (Sum (Variable (codes "X")) (Variable (codes "Y")))
-
-abbrev add : Predicate
-add = record { name = codes "add"; modes = Input ∷ Input ∷ Output ∷ []; head = codes "X" ∷ codes "Y" ∷ codes "Z" ∷ []; body = sum ∷ [] }
-
 abbrev pub one : Module
 one = record { name = codes "one"; imports_int = true; predicates = add ∷ [] }
 
@@ -195,15 +188,9 @@ abbrev one_tokens : List Token
 one_tokens =
     (Neck ∷ Name (codes "module") ∷ Name (codes "one") ∷ Stop
     ∷ Neck ∷ Name (codes "import_module") ∷ Name (codes "int") ∷ Stop ∷ [])
-    ++ (Neck ∷ Name (codes "pred") ∷ Functor (codes "add")
-    ∷ Name (codes "int") ∷ DoubleColon ∷ Name (codes "in") ∷ Comma
-    ∷ Name (codes "int") ∷ DoubleColon ∷ Name (codes "in") ∷ Comma
-    ∷ Name (codes "int") ∷ DoubleColon ∷ Name (codes "out") ∷ Close
-    ∷ Name (codes "is") ∷ Name (codes "det") ∷ Stop ∷ [])
-    ++ (Functor (codes "add") ∷ VariableToken (codes "X") ∷ Comma ∷ VariableToken (codes "Y") ∷ Comma ∷ VariableToken (codes "Z") ∷ Close
-    ∷ Neck ∷ VariableToken (codes "Z") ∷ Equals ∷ VariableToken (codes "X") ∷ Plus ∷ VariableToken (codes "Y") ∷ Stop ∷ [])
+    ++ declaration_of_add ++ clause_of_add
 
-one_spelled : HasTokens one_text (module_tokens one)
+one_spelled : HasTokens one_text one_tokens
 one_spelled = (_, refl, (_, refl, (_, refl, (_, refl, (_, refl, (_, refl, (_, refl, (_, refl, (_, refl, (_, refl, (_, refl, (_, refl, (_, refl, (_, refl, (_, refl, (_, refl, (_, refl, (_, refl, (_, refl, (_, refl, (_, refl, (_, refl, (_, refl, (_, refl, (_, refl, (_, refl, (_, refl, (_, refl, (_, refl, (_, refl, (_, refl, (_, refl, (_, refl, (_, refl, (_, refl, (_, refl, (_, refl, (_, refl, (_, refl, (_, refl, refl))))))))))))))))))))))))))))))))))))))))
 
 pub IsModuleText-example : IsModuleText one_text one
@@ -476,3 +463,67 @@ Solves-counterexample solves =
     let content : Some rows_text ≡ Some solves.text = subst (λ name. file_named name files ≡ Some solves.text) file solves.names.content in
     let text : solves.text ≡ rows_text = sym (some_injective _ _ content) in
     IsModuleText-counterexample solves.source (subst (λ bytes. IsModuleText bytes solves.source) text solves.reading)
+
+abbrev first_output : List (List ℕ)
+first_output = codes "X = 5\n" ∷ codes "solutions 1\n" ∷ []
+
+-- the lines that are due for the first words
+first_due : (lines : List (List ℕ)) (due : ℕ) → IsOutput first_words files lines due → text_of lines ≡ text_of first_output
+first_due lines due output = ap text_of (IsOutput-unique first_words files lines first_output due 0 output IsOutput-example).0
+
+pub Answers-example : Answers first_words (Some files) 3 3 (Some (codes ">")) (Some (codes ">X = 5\nsolutions 1\n")) 2 2 0
+Answers-example = record {
+  output = λ _ _ _. (files, refl, first_output, IsOutput-example, refl);
+  solved = λ _ _ _. (λ _. Solves-example, λ _. refl);
+  module_refused = λ _ _ _. (λ same. absurd (omega arith), λ refuses. absurd (RefusesModule-counterexample refuses));
+  goal_refused = λ _ _ _. (λ same. absurd (omega arith), λ refuses. absurd (RefusesGoal-counterexample refuses));
+  usage = λ _ _ _. (λ same. absurd (omega arith), λ none. absurd (none _ _ IsRequest-example));
+  too_long = λ _ _ _. (λ same. absurd (omega arith), λ names. absurd (NamesTooLong-counterexample names));
+  unread = λ same. absurd (omega arith);
+  read_failed = λ failed. absurd (omega arith);
+  absent = λ absent _. absurd (NamesAbsent-counterexample absent);
+  nothing_written = λ same. absurd (omega arith);
+  write_failed = (λ same. absurd (omega arith), λ failed. absurd (omega arith));
+  cut_short = λ same. absurd (omega arith);
+  front = λ lines due output. record {
+    front = text_of first_output;
+    rest = [];
+    whole = append-nil (text_of first_output) ∙ sym (first_due lines due output);
+    written = refl;
+  };
+}
+
+-- a write failed behind the first line
+pub Answers-cut_short : Answers first_words (Some files) 3 3 (Some []) (Some (codes "X = 5\n")) 2 3 8
+Answers-cut_short = record {
+  output = λ _ same _. absurd (omega arith);
+  solved = λ _ same _. absurd (omega arith);
+  module_refused = λ _ same _. absurd (omega arith);
+  goal_refused = λ _ same _. absurd (omega arith);
+  usage = λ _ same _. absurd (omega arith);
+  too_long = λ _ same _. absurd (omega arith);
+  unread = λ same. absurd (omega arith);
+  read_failed = λ failed. absurd (omega arith);
+  absent = λ absent _. absurd (NamesAbsent-counterexample absent);
+  nothing_written = λ same. absurd (omega arith);
+  write_failed = (λ _. omega arith, λ _. refl);
+  cut_short = λ _. (files, refl, first_output, 0, IsOutput-example, record { front = codes "X = 5\n"; rest = codes "solutions 1\n"; whole = refl; written = refl });
+  front = λ lines due output. record { front = codes "X = 5\n"; rest = codes "solutions 1\n"; whole = sym (first_due lines due output); written = refl };
+}
+
+-- another answer was written
+pub Answers-counterexample : (status : ℕ) → Answers first_words (Some files) 3 3 (Some []) (Some (codes "X = 6\nsolutions 1\n")) 2 2 status → ⊥
+Answers-counterexample status answers =
+    let puts : PutsFront (text_of first_output) (Some []) (Some (codes "X = 6\nsolutions 1\n")) = answers.front first_output 0 IsOutput-example in
+    let written = some_injective (codes "X = 6\nsolutions 1\n") puts.front puts.written in
+    let whole : codes "X = 6\nsolutions 1\n" ++ puts.rest ≡ text_of first_output =
+        subst (λ front. front ++ puts.rest ≡ text_of first_output) (sym written) puts.whole in
+    differ 53 54 (omega arith) (sym (ap (λ (text : List ℕ). slice_index text 4) whole))
+
+-- the last line was left, and no write failed
+pub Answers-uncounted : Answers first_words (Some files) 3 3 (Some []) (Some (codes "X = 5\n")) 2 2 8 → ⊥
+Answers-uncounted answers = let failed : 2 < 2 = answers.write_failed.0 refl in omega arith
+
+-- a module that is accepted is not refused
+pub Answers-refused : Answers first_words (Some files) 3 3 (Some []) (Some (codes "rows.m:1: rule 15: outside the profile: stage\n")) 2 2 4 → ⊥
+Answers-refused answers = RefusesModule-counterexample ((answers.module_refused refl refl (λ same. absurd (omega arith))).0 refl)
