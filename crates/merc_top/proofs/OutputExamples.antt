@@ -1,5 +1,5 @@
 -- Worked examples of the lines that are due: what holds, and what does not.
-use Rattle.std.specs.Prelude.{drop, ◌≡◌, ◌<◌, ◌≤◌, ◌++◌, ℕ, Bool, true, false, pos, negsuc, replicate, List, [], ◌∷◌, length, Option, Some, None, codes, refl}
+use Rattle.std.specs.Prelude.{drop, ◌≡◌, ◌<◌, ◌≤◌, ◌++◌, ◌*◌, ℕ, Bool, true, false, pos, negsuc, replicate, List, [], ◌∷◌, length, Some, None, codes, refl}
 use Rattle.std.proofs.Common.{◌∙◌, arith, slice_index, ap, sym, subst, inl, inr}
 use Rattle.std.specs.List.{flat_map}
 use Rattle.std.specs.Fmt.{digits}
@@ -28,16 +28,15 @@ use Rattle.merc_top.specs.Output.{line, value_text, binding, bindings, behind_co
 use Rattle.merc_top.specs.Answer.{AreFiles, NamesAbsent, NamesTooLong, Names, RefusesModule, RefusesGoal, Solves, Answers}
 use Rattle.merc_top.proofs.Readings.{SpellsGoal-unique, IsModuleText-unique}
 use Rattle.merc_top.proofs.OutputLaws.{IsOutput-unique}
-use Rattle.merc_top.proofs.WordsExamples.{IsPlainWord-example, IsRequest-example}
-
--- one byte is less than the other
-differ : (m n : ℕ) → m < n → m ≡ n → ⊥
-differ m n less same = omega arith
+use Rattle.merc_top.proofs.WordsExamples.{differ, IsPlainWord-example, IsRequest-example}
 
 -- ---- lines
 
 pub line-example : line (codes "true") ≡ codes "true\n"
 line-example = refl
+
+pub line-counterexample : line (codes "true") ≡ codes "true" → ⊥
+line-counterexample same = cc
 
 pub value_text-example : value_text (Some (Int (pos 5))) ≡ codes "5"
 unfolding digits
@@ -46,6 +45,9 @@ value_text-example = refl
 pub value_text-negative : value_text (Some (Int (negsuc 11))) ≡ codes "-12"
 unfolding digits
 value_text-negative = refl
+
+pub value_text-none : value_text None ≡ []
+value_text-none = refl
 
 pub value_text-counterexample : value_text (Some (Int (pos 5))) ≡ codes "05" → ⊥
 unfolding digits
@@ -70,6 +72,12 @@ bindings-example = refl
 pub bindings-counterexample : bindings 0 (codes "Y" ∷ codes "X" ∷ []) env ≡ codes "Y = 4" ∷ codes "X = 4" ∷ [] → ⊥
 unfolding digits
 bindings-counterexample same = differ 52 56 (omega arith) (sym (ap (λ (texts : List (List ℕ)). slice_index (text_of texts) 9) same))
+
+pub behind_commas-example : behind_commas (codes "a" ∷ codes "b" ∷ []) ≡ codes ", a, b"
+behind_commas-example = refl
+
+pub behind_commas-counterexample : behind_commas (codes "a" ∷ codes "b" ∷ []) ≡ codes "a, b" → ⊥
+behind_commas-counterexample same = cc
 
 pub comma_list-example : comma_list (codes "a" ∷ codes "b" ∷ codes "c" ∷ []) ≡ codes "a, b, c"
 comma_list-example = refl
@@ -203,6 +211,10 @@ goal_spelled = (_, refl, (_, refl, (_, refl, (_, refl, (_, refl, (_, refl, (_, r
 abbrev pub goal : List Conjunct
 goal = Call (codes "add") (Number (pos 2) ∷ Number (pos 3) ∷ Variable (codes "X") ∷ []) ∷ []
 
+pub step_limit-example : step_limit ≡ 1000 * 1000
+unfolding step_limit
+step_limit-example = refl
+
 pub IsGoalText-example : IsGoalText one (codes "add(2, 3, X)") goal
 IsGoalText-example = (inl goal_spelled, refl)
 
@@ -272,8 +284,12 @@ one_within = omega arith
 
 pub IsOutput-example : IsOutput (words_for (codes "one.m") (codes "add(2, 3, X)")) files (codes "X = 5\n" ∷ codes "solutions 1\n" ∷ []) 0
 IsOutput-example =
-    inr (codes "one.m", codes "add(2, 3, X)", IsRequest-example,
-    inr (one_within, inr (one, IsModuleText-example, inr (goal, IsGoalText-example, IsRunDue-example))))
+    inr (
+      codes "one.m",
+      codes "add(2, 3, X)",
+      IsRequest-example,
+      inr (one_within, inr (one, IsModuleText-example, inr (goal, IsGoalText-example, IsRunDue-example))),
+    )
 
 pub IsOutput-counterexample : (status : ℕ) → IsOutput (words_for (codes "one.m") (codes "add(2, 3, X)")) files (codes "X = 6\n" ∷ codes "solutions 1\n" ∷ []) status → ⊥
 IsOutput-counterexample status due =
@@ -287,11 +303,12 @@ IsOutput-other_status due =
 
 other_words : IsPlainWord (codes "rows.m") × IsPlainWord (codes "two.m") × IsPlainWord (codes "add(2, 3, 5)") × IsPlainWord (codes "add(2, 3, X)")
 unfolding encode
-other_words =
-    (record { utf8 = (codes "rows.m", (refl, refl)); plain = refl },
-    record { utf8 = (codes "two.m", (refl, refl)); plain = refl },
-    record { utf8 = (codes "add(2, 3, 5)", (refl, refl)); plain = refl },
-    record { utf8 = (codes "add(2, 3, X)", (refl, refl)); plain = refl })
+other_words = (
+  record { utf8 = (codes "rows.m", (refl, refl)); plain = refl },
+  record { utf8 = (codes "two.m", (refl, refl)); plain = refl },
+  record { utf8 = (codes "add(2, 3, 5)", (refl, refl)); plain = refl },
+  record { utf8 = (codes "add(2, 3, X)", (refl, refl)); plain = refl },
+)
 
 rows_request : IsRequest (words_for (codes "rows.m") (codes "add(2, 3, X)")) (codes "rows.m") (codes "add(2, 3, X)")
 rows_request = record { spelled = refl; file_word = other_words.0; goal_word = other_words.3 }
@@ -320,8 +337,12 @@ IsOutput-refused_module_no_run lines due =
 pub IsOutput-refused_goal : IsOutput (words_for (codes "one.m") (codes "add(2, 3, 5)")) files (codes "goal:1: rule 15: outside the profile: stage\n" ∷ []) 5
 unfolding digits
 IsOutput-refused_goal =
-    inr (codes "one.m", codes "add(2, 3, 5)", closed_request,
-    inr (one_within, inr (one, IsModuleText-example, inl (IsGoalText-counterexample, refl, refl))))
+    inr (
+      codes "one.m",
+      codes "add(2, 3, 5)",
+      closed_request,
+      inr (one_within, inr (one, IsModuleText-example, inl (IsGoalText-counterexample, refl, refl))),
+    )
 
 pub IsOutput-absent : IsOutput (words_for (codes "two.m") (codes "add(2, 3, X)")) files [] 7
 IsOutput-absent = inr (codes "two.m", codes "add(2, 3, X)", two_request, (refl, refl))
@@ -428,8 +449,8 @@ RefusesGoal-counterexample refuses =
     let source = IsModuleText-unique one_text one refuses.source IsModuleText-example reading in
     let spelled = first_goal refuses.names.file refuses.goal refuses.names.request in
     let is_goal_text : IsGoalText refuses.source refuses.goal goal =
-        subst (λ source. IsGoalText source refuses.goal goal) source
-        (subst (λ bytes. IsGoalText one bytes goal) (sym spelled) IsGoalText-example) in
+    subst (λ source. IsGoalText source refuses.goal goal) source
+    (subst (λ bytes. IsGoalText one bytes goal) (sym spelled) IsGoalText-example) in
     refuses.refused goal is_goal_text
 
 first_answers : 0 < length (answers_of (run_of one goal))
@@ -517,7 +538,7 @@ Answers-counterexample status answers =
     let puts : PutsFront (text_of first_output) (Some []) (Some (codes "X = 6\nsolutions 1\n")) = answers.front first_output 0 IsOutput-example in
     let written = some_injective (codes "X = 6\nsolutions 1\n") puts.front puts.written in
     let whole : codes "X = 6\nsolutions 1\n" ++ puts.rest ≡ text_of first_output =
-        subst (λ front. front ++ puts.rest ≡ text_of first_output) (sym written) puts.whole in
+    subst (λ front. front ++ puts.rest ≡ text_of first_output) (sym written) puts.whole in
     differ 53 54 (omega arith) (sym (ap (λ (text : List ℕ). slice_index text 4) whole))
 
 -- the last line was left, and no write failed

@@ -4,8 +4,8 @@ use Rattle.std.proofs.Common.{arith, ap, sym, subst, slice_index}
 use Rattle.std.proofs.Math.Utf8.{encode}
 use Rattle.merc_top.specs.Words.{is_option, IsPlainWord, IsRequest, IsNoRequest, usage_line}
 
--- one byte is less than the other
-differ : (m n : ℕ) → m < n → m ≡ n → ⊥
+-- two bytes of which one is less than the other
+pub differ : (m n : ℕ) → m < n → m ≡ n → ⊥
 differ m n less same = omega arith
 
 pub is_option-example : is_option (codes "-x") ≡ true

@@ -1,12 +1,9 @@
 -- Worked examples of writing a whole text: what holds, and what does not.
-use Rattle.std.specs.Prelude.{◌≡◌, ◌<◌, ◌++◌, ℕ, List, [], Option, Some, None, Ok, Err, codes, refl}
+use Rattle.std.specs.Prelude.{◌≡◌, ◌<◌, ◌++◌, ℕ, List, [], Some, None, Ok, Err, codes, refl}
 use Rattle.std.proofs.Common.{arith, ap, slice_index}
 use Rattle.merc_top.specs.Writing.{PutsFront, Puts}
 use Rattle.merc_top.specs.declared.writing.WriteFault.{WriteFault}
-
--- one byte is less than the other
-differ : (m n : ℕ) → m < n → m ≡ n → ⊥
-differ m n less same = omega arith
+use Rattle.merc_top.proofs.WordsExamples.{differ}
 
 -- behind what the sink held before
 pub PutsFront-example : PutsFront (codes "solutions 1\n") (Some (codes "X = 5\n")) (Some (codes "X = 5\nsolu"))
