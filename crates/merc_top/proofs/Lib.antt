@@ -16,3 +16,7 @@ pub mod Dues
 pub mod OutputLaws
 pub mod Causes
 pub mod CallEnds
+pub mod WordsExamples
+pub mod LoadingExamples
+pub mod WritingExamples
+pub mod OutputExamples
