@@ -10,3 +10,6 @@ mod words;
 mod writing;
 
 pub use answering::answer;
+
+#[cfg(test)]
+mod tests;
