@@ -1,12 +1,11 @@
 -- What a call has done, in each of its four ends.
-use Rattle.std.proofs.Common.{◌≡◌, ◌≢◌, ◌<◌, ◌≤◌, ◌⊎◌, ◌∙◌, ◌↔◌, ℕ, List, [], ◌++◌, ap, sym, refl, subst, inl, inr, length, arith}
+use Rattle.std.proofs.Common.{◌≡◌, ◌<◌, ◌⊎◌, ◌∙◌, ◌↔◌, ℕ, List, [], sym, refl, subst, inl, inr, arith}
 use Rattle.std.specs.Prelude.{Option, Some, None, IfSome}
 use Rattle.std.proofs.lemmas.List.{append-nil}
-use Rattle.merc_base.specs.Outside.{Files, file_named, appended}
-use Rattle.merc_top.specs.Words.{IsRequest, IsNoRequest}
+use Rattle.merc_base.specs.Outside.{Files, appended}
 use Rattle.merc_top.specs.Writing.{PutsFront}
 use Rattle.merc_top.specs.Output.{IsOutput, FileOutput, text_of}
-use Rattle.merc_top.specs.Answer.{AreFiles, Answers, NamesAbsent, NamesTooLong, RefusesModule, RefusesGoal, Solves}
+use Rattle.merc_top.specs.Answer.{Answers, NamesAbsent, NamesTooLong, RefusesModule, RefusesGoal, Solves}
 use Rattle.merc_top.proofs.Dues.{IsDueStatus, IsDue}
 use Rattle.merc_top.proofs.OutputLaws.{IsOutput-unique}
 use Rattle.merc_top.proofs.Causes.{solved-exactly, module_refused-exactly, goal_refused-exactly, usage-exactly, too_long-exactly, absent-exactly}

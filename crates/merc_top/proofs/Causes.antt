@@ -1,13 +1,12 @@
 -- Each status that is due has its cause, and each cause its status.
-use Rattle.std.proofs.Common.{◌≡◌, ◌<◌, ◌≤◌, ◌⊎◌, ◌∙◌, ◌↔◌, ℕ, zero, suc, List, [], ◌∷◌, ap, sym, refl, subst, inl, inr, length, arith, lit<, codes}
+use Rattle.std.proofs.Common.{◌≡◌, ◌<◌, ◌∙◌, ◌↔◌, ℕ, zero, suc, List, [], ◌∷◌, ap, sym, refl, subst, inl, inr, length, arith, lit<, codes}
 use Rattle.std.specs.Prelude.{Option, Some, None}
 use Rattle.merc_base.specs.Outside.{Files, file_named}
 use Rattle.merc_tree.specs.Trace.{RunEnd, RunDone, RunRaised, LimitPassed, answers_of, end_of}
 use Rattle.merc_top.specs.Words.{IsRequest, IsNoRequest, usage_line}
 use Rattle.merc_top.specs.FirstForm.{IsModuleText, IsGoalText}
 use Rattle.merc_top.specs.FlatForm.{variables_of}
-use Rattle.merc_top.specs.Loading.{file_limit}
-use Rattle.merc_top.specs.Output.{IsOutput, FileOutput, ModuleOutput, GoalOutput, IsRunDue, run_of, run_lines, run_status, refusal_line, stage_refusal, too_long_line}
+use Rattle.merc_top.specs.Output.{IsOutput, FileOutput, ModuleOutput, GoalOutput, run_of, run_lines, run_status, refusal_line, stage_refusal, too_long_line}
 use Rattle.merc_top.specs.Answer.{Names, NamesAbsent, NamesTooLong, RefusesModule, RefusesGoal, Solves}
 use Rattle.merc_top.proofs.OutputLaws.{IsOutput-unique}
 use Rattle.merc_top.specs.declared.first_form.syntax.Conjunct.{Conjunct}

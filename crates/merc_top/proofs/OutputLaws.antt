@@ -1,12 +1,11 @@
 -- For given words and files one text and one status are due.
-use Rattle.std.proofs.Common.{◌≡◌, ◌<◌, ◌≤◌, ◌⊎◌, ◌∙◌, ℕ, List, [], ◌∷◌, ap, sym, refl, subst, inl, inr, length, arith, codes}
+use Rattle.std.proofs.Common.{◌≡◌, ◌∙◌, ℕ, List, [], ◌∷◌, sym, subst, inl, inr, arith, codes}
 use Rattle.std.specs.Prelude.{Option, Some, None}
 use Rattle.merc_base.specs.Outside.{Files, file_named}
 use Rattle.merc_top.specs.Words.{IsRequest}
 use Rattle.merc_top.specs.FlatForm.{variables_of}
 use Rattle.merc_top.specs.Output.{IsOutput, FileOutput, ModuleOutput, GoalOutput, IsRunDue, run_of}
 use Rattle.merc_top.proofs.Readings.{IsModuleText-unique, IsGoalText-unique}
-use Rattle.merc_top.specs.declared.first_form.syntax.Conjunct.{Conjunct}
 use Rattle.merc_top.specs.declared.first_form.syntax.Module.{Module}
 
 -- the same lines and the same status

@@ -1,6 +1,6 @@
 -- A text is at most one module of the first form, and at most one goal over a module.
-use Rattle.std.proofs.Common.{◌≡◌, ◌∙◌, ◌⊎◌, List, ℕ, [], ◌∷◌, ◌++◌, ap, sym, refl, inl, inr, subst, Bool, true, false}
-use Rattle.std.specs.Prelude.{IsTrue, Option, Some, None, IfNone, IfSome}
+use Rattle.std.proofs.Common.{◌≡◌, ◌∙◌, List, ℕ, [], ◌∷◌, ◌++◌, ap, sym, inl, inr, subst, Bool, true, false}
+use Rattle.std.specs.Prelude.{Option, Some, None, IfNone, IfSome}
 use Rattle.merc_top.specs.Tokens.{HasTokens}
 use Rattle.merc_top.specs.TokenLaws.{HasTokens-unique}
 use Rattle.merc_top.specs.Grammar.{module_tokens, body_tokens, SpellsModule, SpellsGoal}

@@ -1,11 +1,11 @@
 -- Bytes appended to a sink, piece by piece.
-use Rattle.std.proofs.Common.{◌≡◌, suc, get_or, drop-cons, ◌≤◌, ◌<◌, ◌-◌, ◌+◌, ◌∙◌, ap, sym, refl, List, [], ◌∷◌, ◌++◌, ℕ, length, take, drop, append_assoc, arith, length-append}
-use Rattle.std.specs.Prelude.{Option, Some, None, Result, Ok, Err, OnOk, OnErr}
+use Rattle.std.proofs.Common.{◌≡◌, suc, get_or, drop-cons, ◌<◌, ◌-◌, ◌∙◌, ap, sym, refl, List, [], ◌∷◌, ◌++◌, ℕ, length, take, drop, append_assoc, arith, length-append}
+use Rattle.std.specs.Prelude.{Option, Some, None, Err}
 use Rattle.std.specs.List.{flat_map}
 use Rattle.std.proofs.lemmas.List.{take-append-drop, take_rest, append-nil}
 use Rattle.std.proofs.lemmas.Grind.{flat_map-append}
 use Rattle.merc_base.specs.Outside.{appended}
-use Rattle.merc_top.specs.Writing.{PutsFront, Puts}
+use Rattle.merc_top.specs.Writing.{Puts}
 use Rattle.merc_top.specs.declared.writing.WriteFault.{WriteFault}
 
 pub appended-append : (old : Option (List ℕ)) (front more : List ℕ) → appended (appended old front) more ≡ appended old (front ++ more)

@@ -1,5 +1,5 @@
 -- What is found to be due before anything is written.
-use Rattle.std.specs.Prelude.{◌≡◌, ◌<◌, ◌⊎◌, ℕ, List, Option, Some, None, Result, Ok, Err}
+use Rattle.std.specs.Prelude.{◌≡◌, ◌<◌, ◌⊎◌, ℕ, List, Option, Result, Ok, Err}
 use Rattle.merc_base.specs.Outside.{Files}
 use Rattle.merc_top.specs.declared.answering.Due.{Due}
 use Rattle.merc_top.specs.declared.answering.Trouble.{Trouble}

@@ -1,5 +1,5 @@
 -- How a module and a goal of the first form are spelled, as lists of tokens.
-use Rattle.std.specs.Prelude.{◌≡◌, ℕ, Bool, true, false, List, [], ◌∷◌, ◌++◌, map, codes, ◌⊎◌}
+use Rattle.std.specs.Prelude.{ℕ, Bool, true, false, List, [], ◌∷◌, ◌++◌, map, codes, ◌⊎◌}
 use Rattle.std.specs.List.{flat_map}
 use Rattle.merc_top.specs.Tokens.{HasTokens}
 use Rattle.merc_top.specs.declared.first_form.syntax.Token.{Token}

@@ -1,5 +1,5 @@
 -- What the evaluator says of a run.
-use Rattle.std.specs.Prelude.{◌≡◌, List, [], ◌∷◌}
+use Rattle.std.specs.Prelude.{◌≡◌, [], ◌∷◌}
 use Rattle.merc_tree.specs.Trace.{Run, answers_of, end_of, RunDone, LimitPassed as RunLimit}
 use Rattle.merc_top.specs.declared.evaluating.Outcome.{Outcome}
 use Rattle.merc_top.specs.declared.evaluating.Outcome.TheVariants.{Solution, NoSolution, LimitPassed}

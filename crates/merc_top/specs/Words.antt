@@ -1,5 +1,5 @@
 -- What the words of a command ask for.
-use Rattle.std.specs.Prelude.{◌≡◌, ℕ, Bool, true, false, ◌==◌, nat_lt, ◌&&◌, List, [], ◌∷◌, codes, IsUtf8}
+use Rattle.std.specs.Prelude.{◌≡◌, ℕ, Bool, false, ◌==◌, List, [], ◌∷◌, codes, IsUtf8}
 
 -- A word that begins with `-` and goes on is an option.
 abbrev pub is_option : List ℕ → Bool

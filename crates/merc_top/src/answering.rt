@@ -1,5 +1,5 @@
 //! The top call.
-ghost use Rattle.std.specs.Prelude.{◌≡◌, ◌<◌, All, IfOk, MatchResult, false, ℕ, [], ◌∷◌};
+ghost use Rattle.std.specs.Prelude.{◌≡◌, ◌<◌, All, IfOk, false, [], ◌∷◌};
 ghost use Rattle.merc_top.specs.Output.{GoalOutput, ModuleOutput, IsRunDue, run_of, stage_refusal};
 ghost use Rattle.merc_top.specs.Outcome.{IsOutcome};
 ghost use Rattle.merc_top.specs.Due.{Finds};
@@ -146,7 +146,23 @@ fn find_due<S: Shelf>(alloc: Global, words: &[Text], shelf: &mut S) -> Result<Du
     }
 }
 
-/// Does all that the program does, and answers the status to end with. ..
+/// Does all that the program does, and answers the status that it ends with.
+///
+/// The words, without the program's own name, are `solve FILE GOAL`. The whole file is read from the shelf before
+/// anything is written. Then the lines that are due go to the sink in order, each as one piece, and the rest of it again
+/// where less was taken; after a write that failed there is no other. The text of each line and the meaning of each
+/// status stand in docs/COMMANDS.md, and what is due in specs/Output.antt:
+///
+/// - 0, 1, 2 and 3 are the statuses of a run: it has solutions; it has none; an exception; the step limit.
+/// - 4 refuses the module and 5 the goal, and the line says why.
+/// - 6 refuses the words.
+/// - 7: a read failed or no such file is there. Nothing was written.
+/// - 8: a write failed. A front of the text that is due was written.
+/// - 9: memory was refused. A front of the text that is due was written. No clause says when this comes.
+/// - 10: the file has more than 1,048,576 bytes.
+///
+/// The taps get no event yet, and no conjunct enters the gate. The runtime is for the threads of later stages, under
+/// whose bounds the call need not return.
 pub fn answer<R: Threads + Wait, S: Shelf, K: Sink, G: Gate + Sync>(
     rt: &R,
     alloc: Global,

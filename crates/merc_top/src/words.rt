@@ -1,7 +1,6 @@
 //! What the words of a command ask for.
-ghost use Rattle.std.specs.Prelude.{◌≡◌, MatchOption};
+ghost use Rattle.std.specs.Prelude.{◌≡◌, ◌↔◌, IsTrue, MatchOption};
 ghost use Rattle.merc_top.specs.Words.{IsRequest, IsNoRequest, is_option, IsPlainWord};
-ghost use Rattle.std.specs.Prelude.{IsTrue, ◌↔◌};
 
 use merc_base::Text;
 

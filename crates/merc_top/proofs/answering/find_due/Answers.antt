@@ -1,4 +1,4 @@
-use Rattle.std.proofs.Common.{◌≡◌, ◌∙◌, ap, sym, refl, subst, [], ◌∷◌}
+use Rattle.std.proofs.Common.{◌∙◌, ap, refl, subst, [], ◌∷◌}
 use Rattle.std.specs.Prelude.{Err}
 use Rattle.merc_top.specs.Loading.{Loads}
 use Rattle.merc_top.proofs.Dues.{usage-due, module-due, too_long-due}

@@ -1,13 +1,12 @@
 -- The outcome is that of the run of the module's and the goal's flat forms.
-use Rattle.std.proofs.Common.{◌≡◌, subst, sym, ℕ, List}
+use Rattle.std.proofs.Common.{◌≡◌, subst, List}
 use Rattle.std.proofs.lemmas.Result.{IfOk-weaker}
 use Rattle.merc_tree.specs.Meaning.{run}
 use Rattle.merc_tree.specs.declared.goal.Goal.{Goal}
-use Rattle.merc_tree.specs.Trace.{Run}
 use Rattle.merc_top.specs.declared.evaluating.Outcome.{Outcome}
 use Rattle.merc_top.specs.declared.first_form.syntax.Conjunct.{Conjunct}
 use Rattle.merc_top.specs.declared.first_form.syntax.Module.{Module}
-use Rattle.merc_top.specs.FlatForm.{variables_of, procedures_of, query_of}
+use Rattle.merc_top.specs.FlatForm.{procedures_of, query_of}
 use Rattle.merc_top.specs.Outcome.{IsOutcome}
 use Rattle.merc_top.specs.Output.{IsRunDue, run_of, step_limit}
 use Rattle.merc_top.proofs.answering.run_due.Goals as goal

@@ -1,6 +1,5 @@
-use Rattle.std.proofs.Common.{◌≡◌, ◌∙◌, sym, ap, true}
+use Rattle.std.proofs.Common.{◌∙◌, sym}
 use Rattle.merc_top.specs.Tokens.{HasTokens}
-use Rattle.merc_top.specs.Grammar.{SpellsGoal}
 use Rattle.merc_top.proofs.Readings.{goal-untold, goal-unspelled, goal-refused, goal-found, tokens-found}
 use Rattle.merc_top.proofs.first_form.read_goal.Goals as goal
 

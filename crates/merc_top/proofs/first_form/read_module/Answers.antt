@@ -1,6 +1,5 @@
-use Rattle.std.proofs.Common.{◌≡◌, ◌∙◌, sym, ap, true}
+use Rattle.std.proofs.Common.{◌∙◌, sym}
 use Rattle.merc_top.specs.Tokens.{HasTokens}
-use Rattle.merc_top.specs.Grammar.{SpellsModule}
 use Rattle.merc_top.proofs.Readings.{module-untold, module-unspelled, module-refused, module-found, tokens-found}
 use Rattle.merc_top.proofs.first_form.read_module.Goals as goal
 

@@ -1,5 +1,5 @@
 -- The line holds the bindings before this one, with a comma and a blank between each two.
-use Rattle.std.proofs.Common.{◌≡◌, take, length}
+use Rattle.std.proofs.Common.{◌≡◌, take}
 use Rattle.merc_top.specs.Output.{bindings}
 use Rattle.merc_top.proofs.LineLemmas.{joined, separator_at}
 use Rattle.merc_top.proofs.lines.solution_line.Given as goal

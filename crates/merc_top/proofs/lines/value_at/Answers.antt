@@ -1,4 +1,4 @@
-use Rattle.std.proofs.Common.{◌≡◌, ◌∙◌, ap, arith}
+use Rattle.std.proofs.Common.{◌∙◌, ap, arith}
 use Rattle.std.specs.Prelude.{None}
 use Rattle.std.specs.Option.{option_flatten}
 use Rattle.merc_tree.specs.Meaning.{value_at}

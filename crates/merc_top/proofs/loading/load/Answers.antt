@@ -1,4 +1,4 @@
-use Rattle.std.proofs.Common.{◌≡◌, ◌∙◌, ◌++◌, ap, length, sym, arith, rules, ◌<◌}
+use Rattle.std.proofs.Common.{◌∙◌, ◌++◌, ap, length, arith, rules}
 use Rattle.merc_top.specs.Loading.{file_limit}
 use Rattle.merc_top.proofs.LoadingLemmas.{begins-init, begins-preserved, load-whole, load-too_long}
 use Rattle.merc_top.proofs.loading.load.Goals as goal

@@ -1,5 +1,5 @@
 -- What was read so far begins the file, and no read has failed.
-use Rattle.std.proofs.Common.{◌≡◌, ◌-◌, ◌≤◌, length, IfSome}
+use Rattle.std.proofs.Common.{◌≡◌, ◌-◌, length, IfSome}
 use Rattle.merc_base.specs.Outside.{file_named}
 use Rattle.merc_top.proofs.LoadingLemmas.{BeginsFile}
 use Rattle.merc_top.proofs.loading.load.Given as goal

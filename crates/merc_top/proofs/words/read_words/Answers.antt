@@ -1,7 +1,6 @@
 -- The three words are the command, the file and the goal.
 use Rattle.std.proofs.Common.{◌≡◌, ◌<◌, ◌≤◌, List, [], ◌∷◌, ℕ, length, get_or, arith, rules, sym, ap, ◌∙◌, codes}
 use Rattle.std.proofs.lemmas.Slice.Eq.{bytes_eq-Decides}
-use Rattle.merc_top.specs.Words.{IsRequest}
 use Rattle.merc_top.proofs.words.read_words.Goals as goal
 
 three_items :

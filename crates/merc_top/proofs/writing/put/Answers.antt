@@ -1,4 +1,4 @@
-use Rattle.std.proofs.Common.{◌≡◌, ◌∙◌, ap, ◌++◌, take}
+use Rattle.std.proofs.Common.{◌∙◌, ap, ◌++◌, take}
 use Rattle.merc_base.specs.Outside.{appended}
 use Rattle.merc_top.proofs.WritingLemmas.{appended-append, front_grows}
 use Rattle.merc_top.proofs.writing.put.Goals as goal

@@ -1,4 +1,4 @@
-use Rattle.std.proofs.Common.{◌≡◌, ◌∙◌, ◌<◌, length, sym, ap, rules, arith, suc, get_or}
+use Rattle.std.proofs.Common.{arith, suc}
 use Rattle.std.proofs.Common.{take, drop}
 use Rattle.std.specs.List.{flat_map}
 use Rattle.merc_top.proofs.WritingLemmas.{puts_more, lines_parts}
