@@ -1,0 +1,2 @@
+pub mod QuotedSteps
+pub mod Digits

@@ -1,0 +1,4 @@
+pub mod Bytes
+pub mod Integers
+pub mod Quoted
+pub mod Pieces

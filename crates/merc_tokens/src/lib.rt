@@ -1,0 +1,8 @@
+//! The tokens of Mercury text: the first phase of reading it, exact for every text.
+#![tactic(auto)]
+
+mod bytes;
+mod integers;
+mod pieces;
+mod quoting;
+
