@@ -1,2 +1,4 @@
 pub mod QuotedSteps
 pub mod Digits
+pub mod PieceFaults
+pub mod SoFar

@@ -5,4 +5,8 @@ mod bytes;
 mod integers;
 mod pieces;
 mod quoting;
+mod reading;
+mod token;
+
+pub use token::{Token, TokenKind, Tokens};
 
