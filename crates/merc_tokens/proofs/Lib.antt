@@ -2,3 +2,6 @@ pub mod QuotedSteps
 pub mod Digits
 pub mod PieceFaults
 pub mod SoFar
+pub mod ReadingEnds
+pub mod ReadsTo
+pub mod FirstFaults

@@ -15,7 +15,7 @@ use Rattle.merc_tokens.specs.Faults.HasFaultFrom.{here, behind_gap, behind_token
 use Rattle.merc_tokens.proofs.PieceFaults.{FaultAtMost, piece-faulty}
 
 -- at the end of a text no piece begins
-piece-end : (text : List ℕ) (at : ℕ) (after : Bool) → drop at text ≡ [] → first_piece after (drop at text) ≡ first_piece after []
+pub piece-end : (text : List ℕ) (at : ℕ) (after : Bool) → drop at text ≡ [] → first_piece after (drop at text) ≡ first_piece after []
 piece-end text at after ended = ap (first_piece after) ended
 
 -- where a gap begins, the tokens are those behind it

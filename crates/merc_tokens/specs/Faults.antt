@@ -26,9 +26,9 @@ use Rattle.merc_tokens.specs.Tokens.{SpelledToken, HasTokens, is_name, line_at}
 -- What is wrong where this text stands between tokens: one case for each rule
 pub data IsFaulty : List ℕ → Rule → Detail → Type 0 where
   no_token : (byte : ℕ) (rest : List ℕ) → start_of byte ≡ Other → IsFaulty (byte ∷ rest) BadToken Plain
-  open_comment : (rest : List ℕ) → comment_past 0 rest ≡ None → IsFaulty (47 ∷ 42 ∷ rest) BadToken Plain
-  open_name : (rest : List ℕ) → quoted 39 [] 0 rest ≡ None → IsFaulty (39 ∷ rest) BadToken Plain
-  open_string : (rest : List ℕ) → quoted 34 [] 0 rest ≡ None → IsFaulty (34 ∷ rest) BadToken Plain
+  open_comment : (byte : ℕ) (rest : List ℕ) → start_of byte ≡ Graphic → (byte == 47) && next_is 42 rest ≡ true → comment_past 0 (drop 1 rest) ≡ None → IsFaulty (byte ∷ rest) BadToken Plain
+  open_name : (byte : ℕ) (rest : List ℕ) → start_of byte ≡ Quote → quoted 39 [] 0 rest ≡ None → IsFaulty (byte ∷ rest) BadToken Plain
+  open_string : (byte : ℕ) (rest : List ℕ) → start_of byte ≡ DoubleQuote → quoted 34 [] 0 rest ≡ None → IsFaulty (byte ∷ rest) BadToken Plain
   no_integer : (byte : ℕ) (rest : List ℕ) → start_of byte ≡ Digit → integer_at (byte ∷ rest) ≡ None → IsFaulty (byte ∷ rest) BadToken Plain
   character : (byte : ℕ) (rest : List ℕ) → start_of byte ≡ Outside → IsFaulty (byte ∷ rest) OutsideProfile (Word Character)
   suffix : (byte : ℕ) (rest : List ℕ) (integer : Integer) → start_of byte ≡ Digit → integer_at (byte ∷ rest) ≡ Some integer → begins_with is_letter (drop integer.past (byte ∷ rest)) ≡ true → IsFaulty (byte ∷ rest) OutsideProfile (Word IntegerSuffix)
@@ -36,7 +36,7 @@ pub data IsFaulty : List ℕ → Rule → Detail → Type 0 where
   great_integer : (byte : ℕ) (rest : List ℕ) (integer : Integer) → start_of byte ≡ Digit → integer_at (byte ∷ rest) ≡ Some integer → integer.value ≡ None → IsFaulty (byte ∷ rest) LimitPassed (Limit IntegerLimit)
   long_word : (byte : ℕ) (rest : List ℕ) → (start_of byte ≡ Lower) ⊎ (start_of byte ≡ Upper) → 255 < length (run_of WordClass (byte ∷ rest)) → IsFaulty (byte ∷ rest) LimitPassed (Limit NameLimit)
   long_graphic : (byte : ℕ) (rest : List ℕ) → start_of byte ≡ Graphic → (byte == 47) && next_is 42 rest ≡ false → 255 < length (run_of GraphicClass (byte ∷ rest)) → IsFaulty (byte ∷ rest) LimitPassed (Limit NameLimit)
-  long_name : (rest name : List ℕ) (past : ℕ) → quoted 39 [] 0 rest ≡ Some (name, past) → 255 < length name → IsFaulty (39 ∷ rest) LimitPassed (Limit NameLimit)
+  long_name : (byte : ℕ) (rest name : List ℕ) (past : ℕ) → start_of byte ≡ Quote → quoted 39 [] 0 rest ≡ Some (name, past) → 255 < length name → IsFaulty (byte ∷ rest) LimitPassed (Limit NameLimit)
 
 -- From a place on, directly before which a name stands or not, a text has a fault at this place: there, or behind a
 -- blank, a comment or a token.

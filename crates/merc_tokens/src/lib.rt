@@ -8,5 +8,6 @@ mod quoting;
 mod reading;
 mod token;
 
+pub use reading::tokens;
 pub use token::{Token, TokenKind, Tokens};
 

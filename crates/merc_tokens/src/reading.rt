@@ -149,6 +149,19 @@ pub fn tokens(alloc: Global, text: &[u8], names: &mut Names) -> Result<Tokens, F
     ensures grows { (more : List (List ℕ)) × (names.new ≡ names.old ++ more) }
     ensures distinct { AreDistinct names.new }
 {
+    let answer = read_utf8(alloc, text, names);
+    // Any look-up says that no text has two numbers.
+    names.text(Name::NIL);
+    answer
+}
+
+// The tokens of a text that is UTF-8, or its first fault.
+fn read_utf8(alloc: Global, text: &[u8], names: &mut Names) -> Result<Tokens, Fault>
+    requires { length text.now ≤ 300000000 }
+    ensures found { IfOk result (λ tokens. (spelled : List SpelledToken) × (map (with_texts names.new) tokens ≡ map Some spelled) × HasTokens text.now spelled) }
+    ensures refused { IfErr result (λ fault. RefusesRightly text.now fault) }
+    ensures grows { (more : List (List ℕ)) × (names.new ≡ names.old ++ more) }
+{
     let reading = read_all(alloc, text, names)?;
     match (first_bad_byte(text), reading) {
         (None, Reading::All(tokens)) => Ok(tokens),
