@@ -5,3 +5,4 @@ pub mod SoFar
 pub mod ReadingEnds
 pub mod ReadsTo
 pub mod FirstFaults
+pub mod TokenLaws

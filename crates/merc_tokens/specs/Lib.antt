@@ -5,3 +5,5 @@ pub mod Pieces
 pub mod Tokens
 pub mod Faults
 pub mod Outcomes
+pub mod PieceExamples
+pub mod FaultExamples
