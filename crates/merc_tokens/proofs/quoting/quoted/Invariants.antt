@@ -1,0 +1,12 @@
+use Rattle.std.proofs.Common.{◌≡◌, ◌+◌, [], length}
+use Rattle.merc_tokens.specs.Quoted.{quoted}
+use Rattle.merc_tokens.proofs.quoting.quoted.Given as goal
+
+abbrev pub invariant-loop-rest : goal.invariant-loop-rest
+invariant-loop-rest l = record {
+  same : quoted l.quote l.content l.past l.rest ≡ quoted l.quote [] 0 l.text;
+  count : l.past + length l.rest ≡ length l.text;
+}
+
+abbrev pub decreases-loop-rest : goal.decreases-loop-rest
+decreases-loop-rest l = length l.rest

@@ -1,0 +1,9 @@
+pub mod Bytes
+pub mod Integers
+pub mod Quoted
+pub mod Pieces
+pub mod Tokens
+pub mod Faults
+pub mod Outcomes
+pub mod PieceExamples
+pub mod FaultExamples

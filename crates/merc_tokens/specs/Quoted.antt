@@ -1,0 +1,23 @@
+-- Quoted texts: what stands between quotes, with escapes.
+use Rattle.std.specs.Prelude.{ℕ, ◌+◌, Bool, ◌==◌, ◌||◌, List, [], ◌∷◌, ◌++◌, Option, Some, None, if◌then◌else◌}
+
+-- `n`, `t`, `\`, `"` and `'` may follow a `\`
+abbrev pub is_escape : ℕ → Bool
+is_escape byte = (byte == 110) || (byte == 116) || (byte == 92) || (byte == 34) || (byte == 39)
+
+-- what the escape stands for
+abbrev pub escaped : ℕ → ℕ
+escaped byte = if byte == 110 then 10 else if byte == 116 then 9 else byte
+
+-- The text up to the closing quote, behind the text so far, and how many bytes stand up to behind that quote.
+-- There is none where the text or its line ends first, or at an unknown escape.
+abbrev pub quoted : ℕ → List ℕ → ℕ → List ℕ → Option (List ℕ × ℕ)
+quoted quote content past [] = None
+quoted quote content past (byte ∷ []) = if byte == quote then Some (content, past + 1) else None
+quoted quote content past (byte ∷ next ∷ rest) =
+    if byte == quote then
+        (if next == quote then quoted quote (content ++ quote ∷ []) (past + 2) rest else Some (content, past + 1))
+    else if byte == 92 then
+        (if is_escape next then quoted quote (content ++ escaped next ∷ []) (past + 2) rest else None)
+    else if byte == 10 then None
+    else quoted quote (content ++ byte ∷ []) (past + 1) (next ∷ rest)
