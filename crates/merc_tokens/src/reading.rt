@@ -3,7 +3,6 @@ ghost use Rattle.std.specs.Prelude.{◌≡◌, ◌+◌, ◌≤◌, ◌==◌, [],
 ghost use Rattle.std.specs.List.{count_by};
 ghost use Rattle.std.specs.Str.{IsUtf8};
 ghost use Rattle.std.specs.Str.Lossy.{utf8_valid_len};
-ghost use Rattle.merc_base.specs.Names.{AreDistinct};
 ghost use Rattle.merc_tokens.specs.Tokens.{SpelledToken, HasTokens, is_name, spelling_in, with_texts};
 ghost use Rattle.merc_tokens.specs.Faults.{RefusesRightly};
 ghost use Rattle.merc_tokens.specs.Outcomes.{ReadsRightly, earlier};
@@ -143,20 +142,6 @@ fn first_bad_byte(text: &[u8]) -> Option<usize>
 /// `Refused` says the first fault of a text that has no tokens: the one with the least place, and at one place the one
 /// with the least rule. `NoMemory` says that memory was refused. The names of the tokens that were read by then stay.
 pub fn tokens(alloc: Global, text: &[u8], names: &mut Names) -> Result<Tokens, Fault>
-    requires { length text.now ≤ 300000000 }
-    ensures found { IfOk result (λ tokens. (spelled : List SpelledToken) × (map (with_texts names.new) tokens ≡ map Some spelled) × HasTokens text.now spelled) }
-    ensures refused { IfErr result (λ fault. RefusesRightly text.now fault) }
-    ensures grows { (more : List (List ℕ)) × (names.new ≡ names.old ++ more) }
-    ensures distinct { AreDistinct names.new }
-{
-    let answer = read_utf8(alloc, text, names);
-    // Any look-up says that no text has two numbers.
-    names.text(Name::NIL);
-    answer
-}
-
-// The tokens of a text that is UTF-8, or its first fault.
-fn read_utf8(alloc: Global, text: &[u8], names: &mut Names) -> Result<Tokens, Fault>
     requires { length text.now ≤ 300000000 }
     ensures found { IfOk result (λ tokens. (spelled : List SpelledToken) × (map (with_texts names.new) tokens ≡ map Some spelled) × HasTokens text.now spelled) }
     ensures refused { IfErr result (λ fault. RefusesRightly text.now fault) }

@@ -2,7 +2,7 @@ use Rattle.std.proofs.Common.{sym, subst}
 use Rattle.merc_tokens.specs.Outcomes.{ReadsRightly}
 use Rattle.merc_tokens.specs.declared.reading.Reading.{Reading}
 use Rattle.merc_tokens.proofs.FirstFaults.{IsRight, right-utf8, right-other}
-use Rattle.merc_tokens.proofs.reading.read_utf8.Goals as goal
+use Rattle.merc_tokens.proofs.reading.tokens.Goals as goal
 
 pub returns-in-None-Faulty-clause-refused : goal.returns-in-None-Faulty-clause-refused
 returns-in-None-Faulty-clause-refused c =
