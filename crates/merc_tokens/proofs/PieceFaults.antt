@@ -65,8 +65,8 @@ great-least integer text great =
     (cond_both (begins_with is_letter (drop integer.past text)) (Fault OutsideProfile (Word IntegerSuffix)) (cond (integer.is_decimal && begins_fraction (drop integer.past text)) (Fault OutsideProfile (Word Float)) (Fault LimitPassed (Limit IntegerLimit))) (FaultAtMost LimitPassed)
     (λ _. at_most OutsideProfile _ refl (omega arith))
     (λ _. cond_both (integer.is_decimal && begins_fraction (drop integer.past text)) (Fault OutsideProfile (Word Float)) (Fault LimitPassed (Limit IntegerLimit)) (FaultAtMost LimitPassed)
-        (λ _. at_most OutsideProfile _ refl (omega arith))
-        (λ _. at_most LimitPassed _ refl (omega arith))))
+    (λ _. at_most OutsideProfile _ refl (omega arith))
+    (λ _. at_most LimitPassed _ refl (omega arith))))
 
 -- a graphic run that is too long is no lone `.`
 next-graphic : (byte : ℕ) (rest : List ℕ) → 255 < length (run_of GraphicClass (byte ∷ rest)) → begins_with is_graphic rest ≡ true
@@ -153,8 +153,8 @@ is_digit-start : (byte : ℕ) → start_of byte ≡ Digit → is_digit byte ≡ 
 is_digit-start byte is =
     chosen (is_digit byte) _
     (λ behind. apart Other refl
-        (skip _ Graphic _ refl (skip _ Outside _ refl (skip _ BarStart _ refl (skip _ CommaStart _ refl (skip _ CloseListStart _ refl (skip _ OpenListStart _ refl
-        (skip _ CloseStart _ refl (skip _ OpenStart _ refl (skip _ Semicolon _ refl (skip _ DoubleQuote _ refl (skip _ Quote _ refl behind))))))))))))
+    (skip _ Graphic _ refl (skip _ Outside _ refl (skip _ BarStart _ refl (skip _ CommaStart _ refl (skip _ CloseListStart _ refl (skip _ OpenListStart _ refl
+    (skip _ CloseStart _ refl (skip _ OpenStart _ refl (skip _ Semicolon _ refl (skip _ DoubleQuote _ refl (skip _ Quote _ refl behind))))))))))))
     (skip _ Upper _ refl (skip _ Lower _ refl (skip _ Percent _ refl (skip _ Blank _ refl is))))
 
 digit-ten : (byte : ℕ) → start_of byte ≡ Digit → is_digit_of 10 byte ≡ true
@@ -192,9 +192,9 @@ module _ (byte : ℕ) (rest : List ℕ) (rule : Rule) (detail : Detail) where
       cond_both (begins_with is_letter (drop integer.past (byte ∷ rest))) (Fault OutsideProfile (Word IntegerSuffix)) (cond (integer.is_decimal && begins_fraction (drop integer.past (byte ∷ rest))) (Fault OutsideProfile (Word Float)) (limited integer.value integer.past)) (λ piece. piece ≡ Fault rule detail → IsFaulty (byte ∷ rest) rule detail)
       (λ letter same. as_given same (suffix byte rest integer starts found letter))
       (λ _ same. cond_both (integer.is_decimal && begins_fraction (drop integer.past (byte ∷ rest))) (Fault OutsideProfile (Word Float)) (limited integer.value integer.past) (λ piece. piece ≡ Fault rule detail → IsFaulty (byte ∷ rest) rule detail)
-          (λ fraction here. let parts = both_true _ _ fraction in as_given here (float byte rest integer starts found parts.0 parts.1))
-          (λ _ here. limited-faulty integer integer.value refl starts found here)
-          same)
+      (λ fraction here. let parts = both_true _ _ fraction in as_given here (float byte rest integer starts found parts.0 parts.1))
+      (λ _ here. limited-faulty integer integer.value refl starts found here)
+      same)
       is
 
   quoted-faulty : (found : Option (List ℕ × ℕ)) → quoted 39 [] 0 rest ≡ found → start_of byte ≡ Quote → quoted_piece found ≡ Fault rule detail → IsFaulty (byte ∷ rest) rule detail
@@ -217,9 +217,9 @@ module _ (byte : ℕ) (rest : List ℕ) (rule : Rule) (detail : Detail) where
       cond_both ((byte == 47) && next_is 42 rest) (comment_piece (option_map (λ past. 2 + past) (comment_past 0 (drop 1 rest)))) (cond ((byte == 46) && not (begins_with is_graphic rest)) (Token (dot_of after_name rest) 1) (named Name run (length run))) (λ piece. piece ≡ Fault rule detail → IsFaulty (byte ∷ rest) rule detail)
       (λ comment same. comment-faulty _ refl starts comment same)
       (λ no_comment same. cond_both ((byte == 46) && not (begins_with is_graphic rest)) (Token (dot_of after_name rest) 1) (named Name run (length run)) (λ piece. piece ≡ Fault rule detail → IsFaulty (byte ∷ rest) rule detail)
-          (λ _ here. absurd (cc))
-          (λ _ here. let long = named-faulty Name run (length run) rule detail here in as_given long.1 (long_graphic byte rest starts no_comment long.0))
-          same)
+      (λ _ here. absurd (cc))
+      (λ _ here. let long = named-faulty Name run (length run) rule detail here in as_given long.1 (long_graphic byte rest starts no_comment long.0))
+      same)
       is
 
   start-faulty : (start : Start) (after_name : Bool) → start_of byte ≡ start → piece_of start after_name byte rest ≡ Fault rule detail → IsFaulty (byte ∷ rest) rule detail

@@ -12,4 +12,3 @@ mod token;
 
 pub use reading::tokens;
 pub use token::{Token, TokenKind, Tokens};
-

@@ -39,7 +39,14 @@ fn cuts_a_clause(rt: HostRuntime) -> Result<(), Fail> {
         b"p (args X ) :- list dot q (args It , string , ( integer ) ) , X = [ integer | Y ] stop ".as_slice()
     );
     let list = found.as_slice().get(5).map(|token| token.span);
-    assert_eq!(rt; list, Some(Span { first: 17, past: 21, line: 2 }));
+    assert_eq!(rt;
+        list,
+        Some(Span {
+            first: 16,
+            past: 20,
+            line: 2
+        })
+    );
     Ok(())
 }
 
