@@ -49,9 +49,10 @@ within_utf8 text refusal utf8 reads other rule detail (inl has) = reads.least ot
 within_utf8 text refusal utf8 reads other rule detail (inr ended) = absurd (ended.utf8 utf8)
 
 pub right-utf8 : (text : List ℕ) (refusal : Refusal) → IsUtf8 text → ReadsFault text refusal → IsRight text refusal
-right-utf8 text refusal utf8 reads =
-    (record { fault = inl reads.fault; line = reads.line; least = within_utf8 text refusal utf8 reads },
-    λ tokens has. reads.tokenless tokens has.all)
+right-utf8 text refusal utf8 reads = (
+  record { fault = inl reads.fault; line = reads.line; least = within_utf8 text refusal utf8 reads },
+  λ tokens has. reads.tokenless tokens has.all,
+)
 
 module _ (text : List ℕ) (at : ℕ) (other_bytes : IsUtf8 text → ⊥) (longest : at ≡ utf8_valid_len text) where
   before_end : (refusal : Refusal) → ReadsFault text refusal → refusal.place.byte < at → (other : ℕ) (rule : Rule) (detail : Detail) → HasFault text other rule detail → ComesFirst refusal.place.byte refusal.rule other rule
@@ -67,13 +68,14 @@ module _ (text : List ℕ) (at : ℕ) (other_bytes : IsUtf8 text → ⊥) (longe
   end_first behind other rule detail (inr ended) = bad_first at other rule (omega (arith, ended.longest))
 
   end-right : ((other : ℕ) (rule : Rule) (detail : Detail) → HasFaultFrom text other rule detail 0 false → at ≤ other) → IsRight text (bad_byte text at)
-  end-right behind =
-      (record {
-        fault = inr (record { utf8 = other_bytes; longest = longest; rule_is = refl; detail_is = refl });
-        line = refl;
-        least = end_first behind;
-      },
-      λ tokens has. other_bytes has.utf8)
+  end-right behind = (
+    record {
+      fault = inr (record { utf8 = other_bytes; longest = longest; rule_is = refl; detail_is = refl });
+      line = refl;
+      least = end_first behind;
+    },
+    λ tokens has. other_bytes has.utf8,
+  )
 
   pub right-other : (names : List (List ℕ)) (reading : Reading) → ReadsRightly text names reading → IsRight text (earlier text at reading)
   right-other names (All tokens) reads = end-right (λ other rule detail has. absurd (reads.faultless other rule detail has))

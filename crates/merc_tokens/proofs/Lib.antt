@@ -6,3 +6,4 @@ pub mod ReadingEnds
 pub mod ReadsTo
 pub mod FirstFaults
 pub mod TokenLaws
+pub mod TextExamples

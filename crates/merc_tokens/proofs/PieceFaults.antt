@@ -1,6 +1,6 @@
 -- A piece is a fault exactly where its text is faulty, and then the fault with the least rule.
-use Rattle.std.proofs.Common.{◌≡◌, ℕ, ◌+◌, ◌<◌, ◌≤◌, ◌≢◌, ◌⊎◌, inl, inr, Bool, true, false, ◌==◌, ◌&&◌, not, leb, cond, List, [], ◌∷◌, length, take, drop, suc, Option, Some, None, refl, sym, ◌∙◌, ap, subst, arith}
-use Rattle.std.proofs.lemmas.Bool.{cond_both, lt-leb, leb-false}
+use Rattle.std.proofs.Common.{◌≡◌, ℕ, ◌+◌, ◌-◌, ◌<◌, ◌≤◌, ◌≢◌, ◌⊎◌, inl, inr, Bool, true, false, ◌==◌, ◌&&◌, not, leb, cond, List, [], ◌∷◌, length, take, drop, suc, Option, Some, None, refl, sym, ◌∙◌, ap, subst, arith}
+use Rattle.std.proofs.lemmas.Bool.{false≢true, cond_both, lt-leb, lt-ltb, leb-true, leb-false}
 use Rattle.merc_base.specs.Refusal.{rule_number}
 use Rattle.merc_base.specs.declared.refusal.Rule.{Rule}
 use Rattle.merc_base.specs.declared.refusal.Rule.TheVariants.{BadToken, OutsideProfile, LimitPassed}
@@ -16,14 +16,16 @@ use Rattle.merc_tokens.specs.declared.pieces.Spelling.{Spelling}
 use Rattle.merc_tokens.specs.declared.pieces.Spelling.TheVariants.{Name, Quoted, Var, Text}
 use Rattle.merc_tokens.specs.declared.pieces.Piece.{Piece}
 use Rattle.merc_tokens.specs.declared.pieces.Piece.TheVariants.{Gap, Token, Fault}
-use Rattle.merc_tokens.specs.Bytes.{is_letter, is_graphic, begins_with, class_test, next_is, start_of}
+use Rattle.merc_tokens.specs.Bytes.{is_digit, is_digit_of, is_letter, is_graphic, begins_with, class_test, next_is, start_of}
 use Rattle.std.specs.List.{prefix_len}
 use Rattle.std.specs.Option.{option_map}
-use Rattle.merc_tokens.specs.Integers.{integer_at}
+use Rattle.merc_tokens.specs.Integers.{based_integer, character_at, character_integer, form_of, integer_at, integer_of}
+use Rattle.merc_tokens.specs.declared.integers.Form.{Form}
+use Rattle.merc_tokens.specs.declared.integers.Form.TheVariants.{Character as CharacterForm, Based, Decimal}
 use Rattle.merc_tokens.specs.Quoted.{quoted}
 use Rattle.merc_tokens.specs.Pieces.{run_of, named, comment_past, comment_piece, begins_fraction, graphic_piece, integer_piece, limited, dot_of, quoted_piece, string_piece, piece_of, first_piece}
 use Rattle.merc_tokens.specs.Faults.{IsFaulty}
-use Rattle.merc_tokens.specs.Faults.IsFaulty.{no_token, open_comment, open_name, open_string, no_integer, character, suffix, float, great_integer, long_word, long_graphic, long_name}
+use Rattle.merc_tokens.specs.Faults.IsFaulty.{no_token, open_comment, open_name, open_string, no_character, no_digit, character, suffix, float, great_integer, long_word, long_graphic, long_name}
 
 -- a piece is a fault of at most this rule
 pub record FaultAtMost (rule : Rule) (piece : Piece) : Type 0 where
@@ -63,8 +65,8 @@ great-least integer text great =
     (cond_both (begins_with is_letter (drop integer.past text)) (Fault OutsideProfile (Word IntegerSuffix)) (cond (integer.is_decimal && begins_fraction (drop integer.past text)) (Fault OutsideProfile (Word Float)) (Fault LimitPassed (Limit IntegerLimit))) (FaultAtMost LimitPassed)
     (λ _. at_most OutsideProfile _ refl (omega arith))
     (λ _. cond_both (integer.is_decimal && begins_fraction (drop integer.past text)) (Fault OutsideProfile (Word Float)) (Fault LimitPassed (Limit IntegerLimit)) (FaultAtMost LimitPassed)
-        (λ _. at_most OutsideProfile _ refl (omega arith))
-        (λ _. at_most LimitPassed _ refl (omega arith))))
+    (λ _. at_most OutsideProfile _ refl (omega arith))
+    (λ _. at_most LimitPassed _ refl (omega arith))))
 
 -- a graphic run that is too long is no lone `.`
 next-graphic : (byte : ℕ) (rest : List ℕ) → 255 < length (run_of GraphicClass (byte ∷ rest)) → begins_with is_graphic rest ≡ true
@@ -81,7 +83,8 @@ piece-faulty _ _ _ after_name (no_token byte rest starts) = at_most BadToken Pla
 piece-faulty _ _ _ after_name (open_comment byte rest starts comment none) = at_most BadToken Plain (rw (starts, comment, none)) (omega arith)
 piece-faulty _ _ _ after_name (open_name byte rest starts none) = at_most BadToken Plain (rw (starts, none)) (omega arith)
 piece-faulty _ _ _ after_name (open_string byte rest starts none) = at_most BadToken Plain (rw (starts, none)) (omega arith)
-piece-faulty _ _ _ after_name (no_integer byte rest starts none) = at_most BadToken Plain (rw (starts, none)) (omega arith)
+piece-faulty _ _ _ after_name (no_character byte rest starts form none) = at_most BadToken Plain (rw (starts, form, none)) (omega arith)
+piece-faulty _ _ _ after_name (no_digit byte rest base starts form none) = at_most BadToken Plain (rw (starts, form, none)) (omega arith)
 piece-faulty _ _ _ after_name (character byte rest starts) = at_most OutsideProfile (Word Character) (rw starts) (omega arith)
 piece-faulty _ _ _ after_name (suffix byte rest integer starts found letter) = at_most OutsideProfile (Word IntegerSuffix) (rw (starts, found) (suffix-least integer (byte ∷ rest) letter)) (omega arith)
 piece-faulty _ _ _ after_name (float byte rest integer starts found decimal fraction) = rw (starts, found) (float-least integer (byte ∷ rest) decimal fraction)
@@ -109,20 +112,89 @@ both_true : (a b : Bool) → a && b ≡ true → (a ≡ true) × (b ≡ true)
 both_true true b holds = (refl, holds)
 both_true false b holds = absurd (cc)
 
+some_or_none : {X : Type 0} (b : Bool) (x : X) → cond b (Some x) None ≡ None → b ≡ false
+some_or_none true x is = absurd (cc)
+some_or_none false x is = refl
+
+-- whether it begins an integer
+abbrev begins_integer : Start → Bool
+begins_integer Blank = false
+begins_integer Percent = false
+begins_integer Lower = false
+begins_integer Upper = false
+begins_integer Digit = true
+begins_integer Quote = false
+begins_integer DoubleQuote = false
+begins_integer Semicolon = false
+begins_integer OpenStart = false
+begins_integer CloseStart = false
+begins_integer OpenListStart = false
+begins_integer CloseListStart = false
+begins_integer CommaStart = false
+begins_integer BarStart = false
+begins_integer Outside = false
+begins_integer Graphic = false
+begins_integer Other = false
+
+apart : (one : Start) → begins_integer one ≡ false → one ≡ Digit → ⊥
+apart one other same = false≢true (sym other ∙ ap begins_integer same)
+
+-- a test that does not choose it
+skip : (b : Bool) (one rest : Start) → begins_integer one ≡ false → cond b one rest ≡ Digit → rest ≡ Digit
+skip true one rest other is = absurd (apart one other is)
+skip false one rest other is = is
+
+chosen : (b : Bool) (rest : Start) → (rest ≡ Digit → ⊥) → cond b Digit rest ≡ Digit → b ≡ true
+chosen true rest other is = refl
+chosen false rest other is = absurd (other is)
+
+-- only a digit begins an integer
+is_digit-start : (byte : ℕ) → start_of byte ≡ Digit → is_digit byte ≡ true
+is_digit-start byte is =
+    chosen (is_digit byte) _
+    (λ behind. apart Other refl
+    (skip _ Graphic _ refl (skip _ Outside _ refl (skip _ BarStart _ refl (skip _ CommaStart _ refl (skip _ CloseListStart _ refl (skip _ OpenListStart _ refl
+    (skip _ CloseStart _ refl (skip _ OpenStart _ refl (skip _ Semicolon _ refl (skip _ DoubleQuote _ refl (skip _ Quote _ refl behind))))))))))))
+    (skip _ Upper _ refl (skip _ Lower _ refl (skip _ Percent _ refl (skip _ Blank _ refl is))))
+
+digit-ten : (byte : ℕ) → start_of byte ≡ Digit → is_digit_of 10 byte ≡ true
+digit-ten byte starts =
+    let digit = is_digit-start byte starts in
+    let parts = both_true (leb 48 byte) (leb byte 57) digit in
+    let low = leb-true 48 byte parts.0 in
+    let high = leb-true byte 57 parts.1 in
+    rw digit (lt-ltb (byte - 48) 10 (omega arith))
+
 module _ (byte : ℕ) (rest : List ℕ) (rule : Rule) (detail : Detail) where
   limited-faulty : (integer : Integer) (value : Option ℕ) → integer.value ≡ value → start_of byte ≡ Digit → integer_at (byte ∷ rest) ≡ Some integer → limited value integer.past ≡ Fault rule detail → IsFaulty (byte ∷ rest) rule detail
   limited-faulty integer None great starts found is = as_given is (great_integer byte rest integer starts found great)
   limited-faulty integer (Some value) fits starts found is = absurd (cc)
 
+  character-faulty : (found : Option (ℕ × ℕ)) → character_at (drop 1 rest) ≡ found → start_of byte ≡ Digit → form_of (byte ∷ rest) ≡ CharacterForm → option_map character_integer found ≡ None → IsFaulty (byte ∷ rest) BadToken Plain
+  character-faulty None none starts form is = no_character byte rest starts form none
+  character-faulty (Some found) some starts form is = absurd (cc)
+
+  based-none : (base prefix : ℕ) (digits : List ℕ) → based_integer base prefix digits ≡ None → begins_with (is_digit_of base) digits ≡ false
+  based-none base prefix digits is =
+      some_or_none (begins_with (is_digit_of base) digits) _ is
+
+  no_integer-faulty : (form : Form) → form_of (byte ∷ rest) ≡ form → start_of byte ≡ Digit → integer_of form (byte ∷ rest) ≡ None → IsFaulty (byte ∷ rest) BadToken Plain
+  no_integer-faulty CharacterForm form starts none = character-faulty _ refl starts form none
+  no_integer-faulty (Based base) form starts none = no_digit byte rest base starts form (based-none base 2 (drop 1 rest) none)
+  no_integer-faulty Decimal form starts none =
+      let other = based-none 10 0 (byte ∷ rest) none in
+      let digit = digit-ten byte starts in
+      absurd (cc)
+
   integer-faulty : (found : Option Integer) → integer_at (byte ∷ rest) ≡ found → start_of byte ≡ Digit → integer_piece found (byte ∷ rest) ≡ Fault rule detail → IsFaulty (byte ∷ rest) rule detail
-  integer-faulty None none starts is = as_given is (no_integer byte rest starts none)
+  integer-faulty None none starts is = as_given is (no_integer-faulty (form_of (byte ∷ rest)) refl starts none)
   integer-faulty (Some integer) found starts is =
       cond_both (begins_with is_letter (drop integer.past (byte ∷ rest))) (Fault OutsideProfile (Word IntegerSuffix)) (cond (integer.is_decimal && begins_fraction (drop integer.past (byte ∷ rest))) (Fault OutsideProfile (Word Float)) (limited integer.value integer.past)) (λ piece. piece ≡ Fault rule detail → IsFaulty (byte ∷ rest) rule detail)
       (λ letter same. as_given same (suffix byte rest integer starts found letter))
       (λ _ same. cond_both (integer.is_decimal && begins_fraction (drop integer.past (byte ∷ rest))) (Fault OutsideProfile (Word Float)) (limited integer.value integer.past) (λ piece. piece ≡ Fault rule detail → IsFaulty (byte ∷ rest) rule detail)
-          (λ fraction here. let parts = both_true _ _ fraction in as_given here (float byte rest integer starts found parts.0 parts.1))
-          (λ _ here. limited-faulty integer integer.value refl starts found here)
-          same)
+      (λ fraction here. let parts = both_true _ _ fraction in as_given here (float byte rest integer starts found parts.0 parts.1))
+      (λ _ here. limited-faulty integer integer.value refl starts found here)
+      same)
       is
 
   quoted-faulty : (found : Option (List ℕ × ℕ)) → quoted 39 [] 0 rest ≡ found → start_of byte ≡ Quote → quoted_piece found ≡ Fault rule detail → IsFaulty (byte ∷ rest) rule detail
@@ -145,9 +217,9 @@ module _ (byte : ℕ) (rest : List ℕ) (rule : Rule) (detail : Detail) where
       cond_both ((byte == 47) && next_is 42 rest) (comment_piece (option_map (λ past. 2 + past) (comment_past 0 (drop 1 rest)))) (cond ((byte == 46) && not (begins_with is_graphic rest)) (Token (dot_of after_name rest) 1) (named Name run (length run))) (λ piece. piece ≡ Fault rule detail → IsFaulty (byte ∷ rest) rule detail)
       (λ comment same. comment-faulty _ refl starts comment same)
       (λ no_comment same. cond_both ((byte == 46) && not (begins_with is_graphic rest)) (Token (dot_of after_name rest) 1) (named Name run (length run)) (λ piece. piece ≡ Fault rule detail → IsFaulty (byte ∷ rest) rule detail)
-          (λ _ here. absurd (cc))
-          (λ _ here. let long = named-faulty Name run (length run) rule detail here in as_given long.1 (long_graphic byte rest starts no_comment long.0))
-          same)
+      (λ _ here. absurd (cc))
+      (λ _ here. let long = named-faulty Name run (length run) rule detail here in as_given long.1 (long_graphic byte rest starts no_comment long.0))
+      same)
       is
 
   start-faulty : (start : Start) (after_name : Bool) → start_of byte ≡ start → piece_of start after_name byte rest ≡ Fault rule detail → IsFaulty (byte ∷ rest) rule detail
@@ -181,7 +253,8 @@ some-faulty _ _ _ (no_token byte rest starts) empty = cc
 some-faulty _ _ _ (open_comment byte rest starts comment none) empty = cc
 some-faulty _ _ _ (open_name byte rest starts none) empty = cc
 some-faulty _ _ _ (open_string byte rest starts none) empty = cc
-some-faulty _ _ _ (no_integer byte rest starts none) empty = cc
+some-faulty _ _ _ (no_character byte rest starts form none) empty = cc
+some-faulty _ _ _ (no_digit byte rest base starts form none) empty = cc
 some-faulty _ _ _ (character byte rest starts) empty = cc
 some-faulty _ _ _ (suffix byte rest integer starts found letter) empty = cc
 some-faulty _ _ _ (float byte rest integer starts found decimal fraction) empty = cc

@@ -49,7 +49,6 @@ spelling_in-grow names more BarKind spelling is = is
 spelling_in-grow names more DotKind spelling is = is
 spelling_in-grow names more StopKind spelling is = is
 
-
 token-grow : (names more : List (List ℕ)) (found : Token) (kind : Option Spelling) (spelled : SpelledToken) → spelling_in names found.kind ≡ kind → option_map (λ (k : Spelling). record { kind = k; span = found.span }) kind ≡ Some spelled → with_texts (names ++ more) found ≡ Some spelled
 token-grow names more found None spelled unknown is = absurd (cc)
 token-grow names more found (Some spelling) spelled known is = rw (spelling_in-grow names more found.kind spelling known) is

@@ -31,10 +31,11 @@ tokens-behind_token text at len after spelling _ is (ends _ _ ended) = let none 
 tokens-behind_token text at len after spelling tokens is (gap _ more _ _ also on) = absurd (cc)
 tokens-behind_token text at len after spelling _ is (token _ other _ spelled rest also on) =
     let same_len : other ≡ len = cc in
-    let same : spelled ≡ spelling = cc in
-    (rest,
-    (λ i. token_at text at (same_len i) (same i) ∷ rest),
-    subst (λ (s : Spelling). HasTokensFrom text (at + len) (is_name s) rest) same (subst (λ (n : ℕ). HasTokensFrom text (at + n) (is_name spelled) rest) same_len on))
+    let same : spelled ≡ spelling = cc in (
+      rest,
+      (λ i. token_at text at (same_len i) (same i) ∷ rest),
+      subst (λ (s : Spelling). HasTokensFrom text (at + len) (is_name s) rest) same (subst (λ (n : ℕ). HasTokensFrom text (at + n) (is_name spelled) rest) same_len on),
+    )
 
 -- a fault is where no gap and no token begins, and so behind them
 pub fault-behind_gap : (text : List ℕ) (place : ℕ) (rule : Rule) (detail : Detail) (at len : ℕ) (after : Bool) → first_piece after (drop at text) ≡ Gap len → HasFaultFrom text place rule detail at after → HasFaultFrom text place rule detail (at + len) false
@@ -89,10 +90,11 @@ so_far-token text read at len after spelling so_far is = record {
       (so_far.tokens (token_at text at len spelling ∷ more) (token at len after spelling more is has));
   forced = λ all has.
       let parts = so_far.forced all has in
-      let others = tokens-behind_token text at len after spelling parts.0 is parts.2 in
-      (others.0,
-      parts.1 ∙ ap (λ (more : List SpelledToken). read ++ more) others.1 ∙ sym (append_assoc read (token_at text at len spelling ∷ []) others.0),
-      others.2);
+      let others = tokens-behind_token text at len after spelling parts.0 is parts.2 in (
+        others.0,
+        parts.1 ∙ ap (λ (more : List SpelledToken). read ++ more) others.1 ∙ sym (append_assoc read (token_at text at len spelling ∷ []) others.0),
+        others.2,
+      );
   faults = λ place rule detail has. so_far.faults place rule detail (behind_token at len after spelling is has);
   no_others = λ place rule detail has. fault-behind_token text place rule detail at len after spelling is (so_far.no_others place rule detail has);
 }

@@ -7,7 +7,7 @@ use Rattle.merc_base.specs.declared.refusal.Construct.TheVariants.{Character, Fl
 use Rattle.merc_base.specs.declared.refusal.LimitName.TheVariants.{Name as NameLimit, Integer as IntegerLimit}
 use Rattle.merc_base.specs.declared.refusal.Detail.TheVariants.{Plain, Word, Limit}
 use Rattle.merc_tokens.specs.Faults.{IsFaulty}
-use Rattle.merc_tokens.specs.Faults.IsFaulty.{no_token, open_comment, open_name, open_string, no_integer, character, suffix, float, great_integer, long_word, long_graphic, long_name}
+use Rattle.merc_tokens.specs.Faults.IsFaulty.{no_token, open_comment, open_name, open_string, no_character, no_digit, character, suffix, float, great_integer, long_word, long_graphic, long_name}
 
 pub beyond_ascii-example : IsFaulty (195 ∷ 169 ∷ []) BadToken Plain
 beyond_ascii-example = no_token 195 (169 ∷ []) refl
@@ -22,16 +22,16 @@ pub unknown_escape-example : IsFaulty (codes "\"a\\x\"") BadToken Plain
 unknown_escape-example = open_string 34 (codes "a\\x\"") refl refl
 
 pub no_character-example : IsFaulty (codes "0''") BadToken Plain
-no_character-example = no_integer 48 (codes "''") refl refl
+no_character-example = no_character 48 (codes "''") refl refl refl
 
 pub no_character_end-example : IsFaulty (codes "0'") BadToken Plain
-no_character_end-example = no_integer 48 (codes "'") refl refl
+no_character_end-example = no_character 48 (codes "'") refl refl refl
 
 pub no_digit-example : IsFaulty (codes "0b2") BadToken Plain
-no_digit-example = no_integer 48 (codes "b2") refl refl
+no_digit-example = no_digit 48 (codes "b2") 2 refl refl refl
 
 pub no_digit_underscore-example : IsFaulty (codes "0x_1") BadToken Plain
-no_digit_underscore-example = no_integer 48 (codes "x_1") refl refl
+no_digit_underscore-example = no_digit 48 (codes "x_1") 16 refl refl refl
 
 pub character-example : IsFaulty (codes "!") OutsideProfile (Word Character)
 character-example = character 33 [] refl

@@ -14,11 +14,12 @@ use Rattle.merc_base.specs.declared.refusal.Detail.{Detail}
 use Rattle.merc_base.specs.declared.refusal.Detail.TheVariants.{Plain, Word, Limit}
 use Rattle.merc_tokens.specs.declared.bytes.Start.TheVariants.{Lower, Upper, Digit, Quote, DoubleQuote, Outside, Graphic, Other}
 use Rattle.merc_tokens.specs.declared.bytes.Class.TheVariants.{Word as WordClass, Graphic as GraphicClass}
+use Rattle.merc_tokens.specs.declared.integers.Form.TheVariants.{Character as CharacterForm, Based}
 use Rattle.merc_tokens.specs.declared.integers.Integer.{Integer}
 use Rattle.merc_tokens.specs.declared.pieces.Spelling.{Spelling}
 use Rattle.merc_tokens.specs.declared.pieces.Piece.TheVariants.{Gap, Token as TokenPiece}
-use Rattle.merc_tokens.specs.Bytes.{is_letter, begins_with, next_is, start_of}
-use Rattle.merc_tokens.specs.Integers.{integer_at}
+use Rattle.merc_tokens.specs.Bytes.{is_digit_of, is_letter, begins_with, next_is, start_of}
+use Rattle.merc_tokens.specs.Integers.{character_at, form_of, integer_at}
 use Rattle.merc_tokens.specs.Quoted.{quoted}
 use Rattle.merc_tokens.specs.Pieces.{run_of, comment_past, begins_fraction, first_piece}
 use Rattle.merc_tokens.specs.Tokens.{SpelledToken, HasTokens, is_name, line_at}
@@ -29,7 +30,8 @@ pub data IsFaulty : List ℕ → Rule → Detail → Type 0 where
   open_comment : (byte : ℕ) (rest : List ℕ) → start_of byte ≡ Graphic → (byte == 47) && next_is 42 rest ≡ true → comment_past 0 (drop 1 rest) ≡ None → IsFaulty (byte ∷ rest) BadToken Plain
   open_name : (byte : ℕ) (rest : List ℕ) → start_of byte ≡ Quote → quoted 39 [] 0 rest ≡ None → IsFaulty (byte ∷ rest) BadToken Plain
   open_string : (byte : ℕ) (rest : List ℕ) → start_of byte ≡ DoubleQuote → quoted 34 [] 0 rest ≡ None → IsFaulty (byte ∷ rest) BadToken Plain
-  no_integer : (byte : ℕ) (rest : List ℕ) → start_of byte ≡ Digit → integer_at (byte ∷ rest) ≡ None → IsFaulty (byte ∷ rest) BadToken Plain
+  no_character : (byte : ℕ) (rest : List ℕ) → start_of byte ≡ Digit → form_of (byte ∷ rest) ≡ CharacterForm → character_at (drop 1 rest) ≡ None → IsFaulty (byte ∷ rest) BadToken Plain
+  no_digit : (byte : ℕ) (rest : List ℕ) (base : ℕ) → start_of byte ≡ Digit → form_of (byte ∷ rest) ≡ Based base → begins_with (is_digit_of base) (drop 1 rest) ≡ false → IsFaulty (byte ∷ rest) BadToken Plain
   character : (byte : ℕ) (rest : List ℕ) → start_of byte ≡ Outside → IsFaulty (byte ∷ rest) OutsideProfile (Word Character)
   suffix : (byte : ℕ) (rest : List ℕ) (integer : Integer) → start_of byte ≡ Digit → integer_at (byte ∷ rest) ≡ Some integer → begins_with is_letter (drop integer.past (byte ∷ rest)) ≡ true → IsFaulty (byte ∷ rest) OutsideProfile (Word IntegerSuffix)
   float : (byte : ℕ) (rest : List ℕ) (integer : Integer) → start_of byte ≡ Digit → integer_at (byte ∷ rest) ≡ Some integer → integer.is_decimal ≡ true → begins_fraction (drop integer.past (byte ∷ rest)) ≡ true → IsFaulty (byte ∷ rest) OutsideProfile (Word Float)

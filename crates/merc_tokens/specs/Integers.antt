@@ -34,11 +34,11 @@ digits_len base (digit ∷ rest) = 1 + more_digits_len base rest
 abbrev pub based_integer : ℕ → ℕ → List ℕ → Option Integer
 based_integer base prefix digits =
     if begins_with (is_digit_of base) digits then
-        Some (record {
-          value = within_limit (digits_value base 0 (take (digits_len base digits) digits));
-          past = prefix + digits_len base digits;
-          is_decimal = base == 10;
-        })
+    Some (record {
+      value = within_limit (digits_value base 0 (take (digits_len base digits) digits));
+      past = prefix + digits_len base digits;
+      is_decimal = base == 10;
+    })
     else None
 
 -- the code point of the first of the characters that bytes spell, if they are UTF-8

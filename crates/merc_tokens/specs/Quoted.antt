@@ -16,8 +16,8 @@ quoted quote content past [] = None
 quoted quote content past (byte ∷ []) = if byte == quote then Some (content, past + 1) else None
 quoted quote content past (byte ∷ next ∷ rest) =
     if byte == quote then
-        (if next == quote then quoted quote (content ++ quote ∷ []) (past + 2) rest else Some (content, past + 1))
+    (if next == quote then quoted quote (content ++ quote ∷ []) (past + 2) rest else Some (content, past + 1))
     else if byte == 92 then
-        (if is_escape next then quoted quote (content ++ escaped next ∷ []) (past + 2) rest else None)
+    (if is_escape next then quoted quote (content ++ escaped next ∷ []) (past + 2) rest else None)
     else if byte == 10 then None
     else quoted quote (content ++ byte ∷ []) (past + 1) (next ∷ rest)

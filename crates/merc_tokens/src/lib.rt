@@ -6,8 +6,9 @@ mod integers;
 mod pieces;
 mod quoting;
 mod reading;
+#[cfg(test)]
+mod tests;
 mod token;
 
 pub use reading::tokens;
 pub use token::{Token, TokenKind, Tokens};
-

@@ -6,8 +6,8 @@ ghost use Rattle.merc_tokens.specs.Quoted.{quoted};
 ghost use Rattle.merc_tokens.specs.Integers.{integer_at};
 
 use crate::bytes::{
-    Class, Start, behind, begins_with_graphic, begins_with_letter, begins_with_digit, next_is, run_len,
-    start_of,
+    Class, Start, begins_with_digit, begins_with_graphic, begins_with_letter, behind, next_is,
+    run_len, start_of,
 };
 use crate::integers::integer_at;
 use crate::quoting::quoted;
@@ -242,7 +242,10 @@ pub fn first_piece(alloc: Global, after_name: bool, text: &[u8]) -> Result<Piece
         Start::CloseList => Ok(Piece::Token(Spelling::CloseList, 1)),
         Start::Comma => Ok(Piece::Token(Spelling::Comma, 1)),
         Start::Bar => Ok(Piece::Token(Spelling::Bar, 1)),
-        Start::Outside => Ok(Piece::Fault(Rule::OutsideProfile, Detail::Word(Construct::Character))),
+        Start::Outside => Ok(Piece::Fault(
+            Rule::OutsideProfile,
+            Detail::Word(Construct::Character),
+        )),
         Start::Graphic => graphic_piece(alloc, after_name, text),
         Start::Other => Ok(BAD_TOKEN),
     }

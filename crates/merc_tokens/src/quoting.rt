@@ -40,7 +40,11 @@ pub fn quoted(alloc: Global, quote: u8, text: &[u8]) -> Result<Option<(Text, usi
             [] => return Ok(None),
             [byte] => {
                 let closes = *byte == quote;
-                return Ok(if closes { Some((content, past + 1)) } else { None });
+                return Ok(if closes {
+                    Some((content, past + 1))
+                } else {
+                    None
+                });
             }
             [byte, next, ..] => {
                 if *byte == quote {

@@ -95,8 +95,15 @@ fn read_all(alloc: Global, text: &[u8], names: &mut Names) -> Result<Reading, No
         let rest = behind(text, at);
         let len = match first_piece(alloc, after_name, rest)? {
             Piece::Fault(rule, detail) => {
-                let place = Place { byte: at as u32, line };
-                return Ok(Reading::Faulty(Refusal { rule, place, detail }));
+                let place = Place {
+                    byte: at as u32,
+                    line,
+                };
+                return Ok(Reading::Faulty(Refusal {
+                    rule,
+                    place,
+                    detail,
+                }));
             }
             Piece::Gap(len) => {
                 after_name = false;

@@ -16,21 +16,21 @@ loop-at-preserved c =
     let behind = ap length c.behind-rest.ensures in
     let counted = rw c.behind-rest.ensures at c.line_ends_in-line.ensures.value in
     elim c.match-branch-2.branch [
-        in-Gap w ↦
-            let piece = rw c.behind-rest.ensures at (sym c.in_ok-rule.ensures.value ∙ w.in-Gap.is) in
-            let fits = rw w.in-Gap.is at c.in_ok-rule.ensures.fits in
-            rw (w.names-is, w.tokens-is, w.after_name-is, w.len-is)
-            (reads-gap c.args.text.now c.args.names.now c.loop-at.names c.loop-at.tokens at c.loop-at.line w.in-Gap.len c.line_ends_in-line.result c.loop-at.after_name c.loop-at.invariant
-            (omega (arith, fits.1)) (rw w.len-is at counted) (omega (arith, c.line_ends_in-line.ensures.bound)) piece)
-        | in-Token+in_ok-push_token-in-Token w ↦
-            let piece = rw c.behind-rest.ensures at (sym c.in_ok-rule.ensures.value ∙ w.in-Token.is) in
-            let fits = rw w.in-Token.is at c.in_ok-rule.ensures.fits in
-            let pushed = w.in_ok-push_token-in-Token.ensures.token in
-            let grows = w.push_token.ensures.grows in
-            rw (w.names-is, w.tokens-is, w.after_name-is, w.len-is, w.is_name-after_name.ensures)
-            (reads-token c.args.text.now c.args.names.now c.loop-at.names c.loop-at.tokens at c.loop-at.line w.in-Token.len c.line_ends_in-line.result c.loop-at.after_name c.loop-at.invariant
-            (omega (arith, fits.1)) (rw w.len-is at counted) (omega (arith, c.line_ends_in-line.ensures.bound))
-            w.in-Token.spelling w.push_token.new.names grows.0 pushed.0 w.push_token.new.tokens piece grows.1 pushed.1 pushed.2)
+      | in-Gap w ↦
+          let piece = rw c.behind-rest.ensures at (sym c.in_ok-rule.ensures.value ∙ w.in-Gap.is) in
+          let fits = rw w.in-Gap.is at c.in_ok-rule.ensures.fits in
+          rw (w.names-is, w.tokens-is, w.after_name-is, w.len-is)
+          (reads-gap c.args.text.now c.args.names.now c.loop-at.names c.loop-at.tokens at c.loop-at.line w.in-Gap.len c.line_ends_in-line.result c.loop-at.after_name c.loop-at.invariant
+          (omega (arith, fits.1)) (rw w.len-is at counted) (omega (arith, c.line_ends_in-line.ensures.bound)) piece)
+      | in-Token+in_ok-push_token-in-Token w ↦
+          let piece = rw c.behind-rest.ensures at (sym c.in_ok-rule.ensures.value ∙ w.in-Token.is) in
+          let fits = rw w.in-Token.is at c.in_ok-rule.ensures.fits in
+          let pushed = w.in_ok-push_token-in-Token.ensures.token in
+          let grows = w.push_token.ensures.grows in
+          rw (w.names-is, w.tokens-is, w.after_name-is, w.len-is, w.is_name-after_name.ensures)
+          (reads-token c.args.text.now c.args.names.now c.loop-at.names c.loop-at.tokens at c.loop-at.line w.in-Token.len c.line_ends_in-line.result c.loop-at.after_name c.loop-at.invariant
+          (omega (arith, fits.1)) (rw w.len-is at counted) (omega (arith, c.line_ends_in-line.ensures.bound))
+          w.in-Token.spelling w.push_token.new.names grows.0 pushed.0 w.push_token.new.tokens piece grows.1 pushed.1 pushed.2)
     ]
 
 pub returns-in-Fault-clause-reading : goal.returns-in-Fault-clause-reading

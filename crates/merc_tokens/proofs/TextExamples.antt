@@ -1,0 +1,86 @@
+-- Whole texts: their tokens, and their faults.
+use Rattle.std.proofs.Common.{◌≡◌, ℕ, inl, inr, Bool, true, false, List, [], ◌∷◌, ◌++◌, refl, sym, ◌∙◌, Some, None}
+use Rattle.std.specs.Prelude.{codes}
+use Rattle.std.specs.Char.{encode_utf8}
+use Rattle.std.specs.Str.{is_utf8, chars}
+use Rattle.std.specs.Str.Lossy.{utf8_valid_len}
+use Rattle.std.proofs.lemmas.Bool.{false≢true}
+use Rattle.std.proofs.lemmas.Str.{is_utf8-from_IsUtf8}
+use Rattle.merc_base.specs.declared.refusal.Rule.TheVariants.{BadToken, OutsideProfile}
+use Rattle.merc_base.specs.declared.refusal.Construct.TheVariants.{Character}
+use Rattle.merc_base.specs.declared.refusal.Detail.TheVariants.{Plain, Word}
+use Rattle.merc_tokens.specs.declared.token.TokenKind.TheVariants.{Name as NameKind}
+use Rattle.merc_tokens.specs.declared.pieces.Spelling.{Spelling}
+use Rattle.merc_tokens.specs.declared.pieces.Spelling.TheVariants.{Name, Int, Var, Dot, Stop}
+use Rattle.merc_tokens.specs.declared.pieces.Piece.TheVariants.{Token}
+use Rattle.merc_tokens.specs.Pieces.{first_piece}
+use Rattle.merc_tokens.specs.Tokens.{SpelledToken, HasTokens, spelling_in}
+use Rattle.merc_tokens.specs.Tokens.HasTokensFrom.{ends, gap, token}
+use Rattle.merc_tokens.specs.Faults.{HasFault, HasNoTokens, EndsUtf8}
+use Rattle.merc_tokens.specs.Faults.HasFaultFrom.{here, behind_gap, behind_token}
+use Rattle.merc_tokens.specs.Faults.IsFaulty.{character}
+use Rattle.merc_tokens.proofs.TokenLaws.{HasFault-no_tokens}
+
+-- a token of these bytes
+abbrev at : Spelling → ℕ → ℕ → ℕ → SpelledToken
+at spelling first past line = record { kind = spelling; span = record { first = first; past = past; line = line } }
+
+pub lines-example : HasTokens (codes "a." ++ 10 ∷ codes "b") (at (Name (codes "a")) 0 1 1 ∷ at Stop 1 2 1 ∷ at (Name (codes "b")) 3 4 2 ∷ [])
+unfolding encode_utf8
+lines-example = record {
+  utf8 = (codes "a." ++ 10 ∷ codes "b", (refl, refl));
+  all = token 0 1 false (Name (codes "a")) _ refl (token 1 1 true Stop _ refl (gap 2 1 false _ refl (token 3 1 false (Name (codes "b")) _ refl (ends 4 true refl))));
+}
+
+pub qualified-example : HasTokens (codes "a.b") (at (Name (codes "a")) 0 1 1 ∷ at Dot 1 2 1 ∷ at (Name (codes "b")) 2 3 1 ∷ [])
+unfolding encode_utf8
+qualified-example = record {
+  utf8 = (codes "a.b", (refl, refl));
+  all = token 0 1 false (Name (codes "a")) _ refl (token 1 1 true Dot _ refl (token 2 1 false (Name (codes "b")) _ refl (ends 3 true refl)));
+}
+
+-- behind a variable there is no qualifier mark
+pub variable_dot-example : HasTokens (codes "X.b") (at (Var (codes "X")) 0 1 1 ∷ at (Name (codes ".")) 1 2 1 ∷ at (Name (codes "b")) 2 3 1 ∷ [])
+unfolding encode_utf8
+variable_dot-example = record {
+  utf8 = (codes "X.b", (refl, refl));
+  all = token 0 1 false (Var (codes "X")) _ refl (token 1 1 false (Name (codes ".")) _ refl (token 2 1 true (Name (codes "b")) _ refl (ends 3 true refl)));
+}
+
+-- blanks alone
+pub blanks-example : HasTokens (codes " ") []
+unfolding encode_utf8
+blanks-example = record { utf8 = (codes " ", (refl, refl)); all = gap 0 1 false [] refl (ends 1 false refl) }
+
+backquote-fault : HasFault (codes "a `") 2 OutsideProfile (Word Character)
+backquote-fault = inl (behind_token 0 1 false (Name (codes "a")) refl (behind_gap 1 1 true refl (here 2 false refl (character 96 [] refl))))
+
+pub backquote-counterexample : HasNoTokens (codes "a `")
+backquote-counterexample tokens has = HasFault-no_tokens _ 2 OutsideProfile (Word Character) tokens backquote-fault has
+
+-- a character of two bytes that is cut short: its first byte
+pub cut_short-example : EndsUtf8 (97 ∷ 195 ∷ []) 1 BadToken Plain
+unfolding is_utf8 chars utf8_valid_len encode_utf8
+cut_short-example = record {
+  utf8 = λ text. false≢true (is_utf8-from_IsUtf8 (97 ∷ 195 ∷ []) text);
+  longest = refl;
+  rule_is = refl;
+  detail_is = refl;
+}
+
+-- `0'` and a character of two bytes
+pub character-example : first_piece false (codes "0'" ++ 195 ∷ 169 ∷ []) ≡ Token (Int 233) 4
+unfolding is_utf8 chars encode_utf8
+character-example = refl
+
+-- `0'` and a line end
+pub line_end-example : first_piece false (codes "0'" ++ 10 ∷ codes ".") ≡ Token (Int 10) 3
+unfolding is_utf8 chars encode_utf8
+line_end-example = refl
+
+pub spelling_in-example : spelling_in (codes "a" ∷ codes "b" ∷ []) (NameKind 1) ≡ Some (Name (codes "b"))
+spelling_in-example = refl
+
+-- a name that is not known spells nothing
+pub spelling_in-example-unknown : spelling_in (codes "a" ∷ []) (NameKind 1) ≡ None
+spelling_in-example-unknown = refl
