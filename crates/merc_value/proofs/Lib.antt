@@ -1,0 +1,5 @@
+mod ValueExamples
+mod BlockExamples
+mod TextExamples
+pub mod BlockLaws
+pub mod Values
