@@ -1,8 +1,7 @@
 -- What the definitions of Block say of a small block: a pair that holds one list twice.
-use Rattle.std.proofs.Common.{◌≡◌, ◌<◌, ℕ, pos, List, [], ◌∷◌, refl, arith}
+use Rattle.std.proofs.Common.{◌≡◌, ◌<◌, pos, [], ◌∷◌, refl, arith}
 use Rattle.merc_value.specs.Value.{Value, Int, Text, Con, none, more}
-use Rattle.merc_value.specs.Block.{CellData, BlockData, StandsFor, StandForAll, int, text, atom, cell, nothing, both, IsBelow, IsWhole, cell_values, value_of, root_values}
-use Rattle.merc_value.specs.declared.word.Word.{Word}
+use Rattle.merc_value.specs.Block.{BlockData, StandsFor, int, atom, cell, nothing, both, IsBelow, IsWhole, cell_values, value_of, root_values}
 use Rattle.merc_value.specs.declared.word.Word.TheVariants.{Int as IntWord, Text as TextWord, Atom as AtomWord, Cell as CellWord}
 
 -- `[7]`, and the pair of it with itself

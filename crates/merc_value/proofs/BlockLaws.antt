@@ -1,15 +1,11 @@
 -- Each word of a whole block stands for exactly one value.
-use Rattle.std.proofs.Common.{◌≡◌, ℕ, zero, suc, ◌+◌, ◌<◌, ◌≤◌, List, [], ◌∷◌, ◌++◌, length, Option, Some, None, get_or, refl, sym, ap, subst, ◌∙◌, arith, slice_get, length-append}
+use Rattle.std.proofs.Common.{◌≡◌, ℕ, zero, suc, ◌<◌, ◌≤◌, List, [], ◌∷◌, ◌++◌, length, Some, get_or, refl, sym, ap, subst, ◌∙◌, arith, slice_get}
 use Rattle.std.specs.List.{All}
-use Rattle.merc_value.specs.Value.{Value, Values, Int, Text, Con, none, more}
-use Rattle.merc_value.specs.Block.{CellData, BlockData, StandsFor, StandForAll, int, text, atom, cell, nothing, both, IsBelow, IsWhole, word_value, word_values, cell_value, cell_values, value_of, with_cell}
+use Rattle.merc_value.specs.Value.{Value, Values, Con, none}
+use Rattle.merc_value.specs.Block.{CellData, BlockData, StandsFor, StandForAll, int, text, atom, cell, nothing, both, IsBelow, AreLower, IsWhole, word_value, word_values, cell_values, value_of, with_cell}
 use Rattle.merc_value.specs.declared.word.Word.{Word}
 use Rattle.merc_value.specs.declared.word.Word.TheVariants.{Int as IntWord, Text as TextWord, Atom as AtomWord, Cell as CellWord}
 use Rattle.merc_value.proofs.Values.{get_or-append_front, get_or-append_last, All-first, All-rest, cell_value_at, cell_values-snoc, length-cell_values}
-
--- each word in a cell leads to a lower one
-abbrev pub AreLower : List CellData → Type 0
-AreLower cells = (place : ℕ) (at : CellData) → slice_get cells place ≡ Some at → All (IsBelow place) at.arguments
 
 mutual
   only_value : (cells : List CellData) → AreLower cells → (word : Word) (value : Value) → StandsFor cells word value → value ≡ value_of cells word
@@ -26,7 +22,7 @@ mutual
       let others = only_values cells lower words values rest in
       cc (one, others)
 
-found_below : (cells : List CellData) (place : ℕ) → place < length cells → (at : CellData) × (slice_get cells place ≡ Some at)
+pub found_below : (cells : List CellData) (place : ℕ) → place < length cells → (at : CellData) × (slice_get cells place ≡ Some at)
 found_below [] place below = absurd (omega (arith, below))
 found_below (at ∷ cells) zero below = (at, refl)
 found_below (at ∷ cells) (suc place) below = found_below cells place (omega (arith, below))
@@ -36,13 +32,13 @@ found_within [] place at found = absurd (cc)
 found_within (first ∷ cells) zero at found = omega arith
 found_within (first ∷ cells) (suc place) at found = omega (arith, found_within cells place at found)
 
-raised : (place bound : ℕ) → place ≤ bound → (word : Word) → IsBelow place word → IsBelow bound word
+pub raised : (place bound : ℕ) → place ≤ bound → (word : Word) → IsBelow place word → IsBelow bound word
 raised place bound under (IntWord number) below = tt
 raised place bound under (TextWord name) below = tt
 raised place bound under (AtomWord symbol) below = tt
 raised place bound under (CellWord other) below = omega (arith, below, under)
 
-all_raised : (place bound : ℕ) → place ≤ bound → (words : List Word) → All (IsBelow place) words → All (IsBelow bound) words
+pub all_raised : (place bound : ℕ) → place ≤ bound → (words : List Word) → All (IsBelow place) words → All (IsBelow bound) words
 all_raised place bound under words below k d within = raised place bound under (get_or words k d) (below k d within)
 
 module _ (cells : List CellData) (lower : AreLower cells) where

@@ -3,3 +3,4 @@ mod BlockExamples
 mod TextExamples
 pub mod BlockLaws
 pub mod Values
+pub mod WritingLemmas

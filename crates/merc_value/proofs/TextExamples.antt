@@ -1,9 +1,9 @@
 -- What the definitions of Text say of some values.
-use Rattle.std.specs.Prelude.{◌≡◌, ℕ, pos, negsuc, true, false, List, [], ◌∷◌, Some, codes, slice_get, refl}
+use Rattle.std.specs.Prelude.{◌≡◌, ℕ, pos, negsuc, List, [], ◌∷◌, Some, codes, slice_get, refl}
 use Rattle.std.specs.Fmt.{digits}
 use Rattle.merc_base.specs.Names.{fixed_names}
 use Rattle.merc_value.specs.Value.{Value, Int, Text, Con, none, more}
-use Rattle.merc_value.specs.Text.{escape, quoted, is_plain, name_text, word_operators, value_text}
+use Rattle.merc_value.specs.Text.{word_operators, value_text}
 
 -- the lists' constructors have these numbers in each table of names
 pub nil-name : slice_get fixed_names 1 ≡ Some (codes "[]")

@@ -1,7 +1,7 @@
 -- What the definitions of Value say of some values.
-use Rattle.std.proofs.Common.{◌≡◌, pos, negsuc, arith}
+use Rattle.std.proofs.Common.{pos, arith}
 use Rattle.std.proofs.Math.Facts.{sfits_lit}
-use Rattle.merc_value.specs.Value.{Value, Int, Text, Con, none, more, IsValue}
+use Rattle.merc_value.specs.Value.{Int, Text, Con, none, more, IsValue}
 
 -- the greatest integer of 64 bits, beside a text
 pub IsValue-example : IsValue (Con 2 (more (Int (pos 9223372036854775807)) (more (Text 5) none)))

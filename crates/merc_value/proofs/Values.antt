@@ -1,8 +1,8 @@
 -- The values of a block's cells, by place.
-use Rattle.std.proofs.Common.{◌≡◌, ℕ, zero, suc, ◌+◌, ◌<◌, ◌≤◌, List, [], ◌∷◌, ◌++◌, length, Some, None, get_or, refl, sym, ap, subst, ◌∙◌, arith, slice_get, append_assoc, length-append}
+use Rattle.std.proofs.Common.{◌≡◌, ℕ, zero, suc, ◌+◌, ◌<◌, List, [], ◌∷◌, ◌++◌, length, Some, get_or, refl, sym, ap, subst, ◌∙◌, arith, slice_get, length-append}
 use Rattle.std.specs.List.{All}
-use Rattle.merc_value.specs.Value.{Value, Values, Int, Text, Con, none, more}
-use Rattle.merc_value.specs.Block.{CellData, BlockData, IsBelow, IsWhole, word_value, word_values, cell_value, values_behind, cell_values, value_of}
+use Rattle.merc_value.specs.Value.{Value, Con, none}
+use Rattle.merc_value.specs.Block.{CellData, IsBelow, word_value, word_values, cell_value, values_behind, cell_values}
 use Rattle.merc_value.specs.declared.word.Word.{Word}
 use Rattle.merc_value.specs.declared.word.Word.TheVariants.{Int as IntWord, Text as TextWord, Atom as AtomWord, Cell as CellWord}
 

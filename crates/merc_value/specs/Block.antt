@@ -38,9 +38,13 @@ IsBelow place (TextWord name) = Unit {0}
 IsBelow place (AtomWord symbol) = Unit {0}
 IsBelow place (CellWord other) = other < place
 
+-- each word in a cell leads to a lower one
+abbrev pub AreLower : List CellData → Type 0
+AreLower cells = (place : ℕ) (at : CellData) → slice_get cells place ≡ Some at → All (IsBelow place) at.arguments
+
 -- each word of a block leads to a cell that is there, and in a cell to a lower one
 pub record IsWhole (block : BlockData) : Type 0 where
-  pub lower : (place : ℕ) (at : CellData) → slice_get block.cells place ≡ Some at → All (IsBelow place) at.arguments
+  pub lower : AreLower block.cells
   pub within : All (IsBelow (length block.cells)) block.roots
 
 -- the block with one cell more, which goes last

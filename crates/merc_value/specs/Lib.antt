@@ -1,3 +1,4 @@
 pub mod Value
 pub mod Block
 pub mod Text
+pub mod Writing

@@ -10,9 +10,9 @@ use std::marker::Model;
 
 // A constructor with a word for each argument.
 #[derive(Drop)]
-struct Cell {
-    symbol: Name,
-    arguments: Vec<Word>,
+pub(crate) struct Cell {
+    pub(crate) symbol: Name,
+    pub(crate) arguments: Vec<Word>,
 }
 
 impl Model for Cell {
@@ -84,5 +84,13 @@ impl Block {
         ensures whole { IsWhole self.now }
     {
         self.roots.get(number as usize).copied()
+    }
+
+    // The cells, by place.
+    pub(crate) fn cells(&self) -> &[Cell]
+        ensures value { result.now ≡ self.now.cells }
+        ensures whole { IsWhole self.now }
+    {
+        &self.cells
     }
 }

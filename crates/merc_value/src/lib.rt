@@ -2,7 +2,13 @@
 #![tactic(auto)]
 
 pub mod block;
+mod quoting;
+mod shape;
+#[cfg(test)]
+mod tests;
 pub mod word;
+pub mod writing;
 
 pub use block::Block;
 pub use word::Word;
+pub use writing::write_text;
