@@ -27,7 +27,7 @@ found_below [] place below = absurd (omega (arith, below))
 found_below (at ∷ cells) zero below = (at, refl)
 found_below (at ∷ cells) (suc place) below = found_below cells place (omega (arith, below))
 
-found_within : (cells : List CellData) (place : ℕ) (at : CellData) → slice_get cells place ≡ Some at → place < length cells
+pub found_within : (cells : List CellData) (place : ℕ) (at : CellData) → slice_get cells place ≡ Some at → place < length cells
 found_within [] place at found = absurd (cc)
 found_within (first ∷ cells) zero at found = omega arith
 found_within (first ∷ cells) (suc place) at found = omega (arith, found_within cells place at found)

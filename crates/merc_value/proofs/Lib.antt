@@ -4,3 +4,7 @@ mod TextExamples
 pub mod BlockLaws
 pub mod Values
 pub mod WritingLemmas
+pub mod SharingLemmas
+pub mod WordEquality
+mod WritingExamples
+mod SharingExamples

@@ -13,12 +13,12 @@ All-first P x xs all = all 0 x (omega arith)
 pub All-rest : {X : Type 0} (P : X → Type 0) (x : X) (xs : List X) → All P (x ∷ xs) → All P xs
 All-rest P x xs all k d below = all (suc k) d (omega (arith, below))
 
-pub get_or-append_front : (vs ws : List Value) (k : ℕ) (d : Value) → k < length vs → get_or (vs ++ ws) k d ≡ get_or vs k d
+pub get_or-append_front : {A : Type 0} (vs ws : List A) (k : ℕ) (d : A) → k < length vs → get_or (vs ++ ws) k d ≡ get_or vs k d
 get_or-append_front [] ws k d below = absurd (omega (arith, below))
 get_or-append_front (v ∷ vs) ws zero d below = refl
 get_or-append_front (v ∷ vs) ws (suc k) d below = get_or-append_front vs ws k d (omega (arith, below))
 
-pub get_or-append_last : (vs : List Value) (v d : Value) → get_or (vs ++ v ∷ []) (length vs) d ≡ v
+pub get_or-append_last : {A : Type 0} (vs : List A) (v d : A) → get_or (vs ++ v ∷ []) (length vs) d ≡ v
 get_or-append_last [] v d = refl
 get_or-append_last (w ∷ vs) v d = get_or-append_last vs v d
 

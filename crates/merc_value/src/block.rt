@@ -86,6 +86,11 @@ impl Block {
         self.roots.get(number as usize).copied()
     }
 
+    // Where the block takes its memory from.
+    pub(crate) fn alloc(&self) -> Global {
+        self.alloc
+    }
+
     // The cells, by place.
     pub(crate) fn cells(&self) -> &[Cell]
         ensures value { result.now ≡ self.now.cells }

@@ -4,11 +4,13 @@
 pub mod block;
 mod quoting;
 mod shape;
+pub mod sharing;
 #[cfg(test)]
 mod tests;
 pub mod word;
 pub mod writing;
 
 pub use block::Block;
+pub use sharing::equal;
 pub use word::Word;
 pub use writing::write_text;

@@ -23,3 +23,21 @@ fn writes_a_shared_list(rt: HostRuntime) -> Result<(), Fail> {
     assert_eq!(rt; text.bytes(), b"[pair([-7], [-7]) | \"it's\"]".as_slice());
     Ok(())
 }
+
+#[test]
+fn compares_values(rt: HostRuntime) -> Result<(), Fail> {
+    let alloc = rt.alloc();
+    let mut shared = Block::new(alloc);
+    shared.cell(Name::MAYBE, &[Word::Int(1)])?;
+    shared.cell(Name::COMMA, &[Word::Cell(0), Word::Cell(0)])?;
+    shared.add_root(Word::Cell(1))?;
+    let mut apart = Block::new(alloc);
+    apart.cell(Name::MAYBE, &[Word::Int(1)])?;
+    apart.cell(Name::MAYBE, &[Word::Int(1)])?;
+    apart.cell(Name::COMMA, &[Word::Cell(1), Word::Cell(0)])?;
+    apart.add_root(Word::Cell(0))?;
+    apart.add_root(Word::Cell(2))?;
+    assert!(rt; equal(&shared, 0, &apart, 1)?);
+    assert!(rt; !equal(&shared, 0, &apart, 0)?);
+    Ok(())
+}
