@@ -1,0 +1,39 @@
+-- What the definitions of Block say of a small block: a pair that holds one list twice.
+use Rattle.std.proofs.Common.{◌≡◌, ◌<◌, pos, [], ◌∷◌, refl, arith}
+use Rattle.merc_value.specs.Value.{Value, Int, Text, Con, none, more}
+use Rattle.merc_value.specs.Block.{BlockData, StandsFor, int, atom, cell, nothing, both, IsBelow, IsWhole, cell_values, value_of, root_values}
+use Rattle.merc_value.specs.declared.word.Word.TheVariants.{Int as IntWord, Text as TextWord, Atom as AtomWord, Cell as CellWord}
+
+-- `[7]`, and the pair of it with itself
+abbrev pub shared : BlockData
+shared = record {
+  cells = record { symbol = 2; arguments = IntWord (pos 7) ∷ AtomWord 1 ∷ [] } ∷ record { symbol = 90; arguments = CellWord 0 ∷ CellWord 0 ∷ [] } ∷ [];
+  roots = CellWord 1 ∷ TextWord 4 ∷ [];
+}
+
+abbrev pub seven : Value
+seven = Con 2 (more (Int (pos 7)) (more (Con 1 none) none))
+
+pub value_of-example : value_of shared.cells (CellWord 1) ≡ Con 90 (more seven (more seven none))
+unfolding cell_values
+value_of-example = refl
+
+pub StandsFor-example : StandsFor shared.cells (CellWord 0) seven
+StandsFor-example = cell 0 _ _ refl (both _ _ _ _ (int (pos 7)) (both _ _ _ _ (atom 1) nothing))
+
+pub root_values-example : root_values shared ≡ Con 90 (more seven (more seven none)) ∷ Text 4 ∷ []
+unfolding cell_values
+root_values-example = refl
+
+-- a cell does not stand for its argument
+pub value_of-counterexample : value_of shared.cells (CellWord 0) ≡ Int (pos 7) → ⊥
+unfolding cell_values
+value_of-counterexample same = cc
+
+-- a cell is not below itself
+pub IsBelow-counterexample : IsBelow 1 (CellWord 1) → ⊥
+IsBelow-counterexample below = omega (arith, below)
+
+-- a root that leads past the cells
+pub IsWhole-counterexample : IsWhole (record { cells = []; roots = CellWord 0 ∷ [] }) → ⊥
+IsWhole-counterexample whole = let inside : 0 < 0 = whole.within 0 (CellWord 0) (omega arith) in omega arith

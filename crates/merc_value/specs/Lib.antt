@@ -1,0 +1,5 @@
+pub mod Value
+pub mod Block
+pub mod Text
+pub mod Writing
+pub mod Sharing

@@ -1,0 +1,16 @@
+//! Values as they lie in memory, and their text.
+#![tactic(auto)]
+
+pub mod block;
+mod quoting;
+mod shape;
+pub mod sharing;
+#[cfg(test)]
+mod tests;
+pub mod word;
+pub mod writing;
+
+pub use block::Block;
+pub use sharing::equal;
+pub use word::Word;
+pub use writing::write_text;
