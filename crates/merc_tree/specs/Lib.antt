@@ -1,4 +1,7 @@
 pub mod Value
 pub mod Trace
 pub mod Meaning
+pub mod Term
+pub mod Nesting
+pub mod Shape
 pub mod Examples
