@@ -2,6 +2,7 @@
 #![tactic(auto)]
 
 pub mod goal;
+pub mod term;
 pub mod word;
 
 pub use goal::{Goal, Goals, Operator, Predicate, Procedures, Symbol, Var, Vars};

@@ -1,0 +1,5 @@
+pub mod Operators
+pub mod Reading
+pub mod Items
+pub mod Starting
+pub mod Reader
