@@ -1,7 +1,6 @@
 -- A number does not fall as digits are put behind it.
-use Rattle.std.proofs.Common.{◌≡◌, ℕ, ◌+◌, ◌*◌, ◌<◌, ◌≤◌, ◌≢◌, Bool, true, false, List, [], ◌∷◌, drop, length, None, arith, refl, ◌==◌, leb}
+use Rattle.std.proofs.Common.{◌≡◌, ℕ, ◌+◌, ◌*◌, ◌<◌, ◌≤◌, ◌≢◌, List, [], ◌∷◌, None, arith, ◌==◌}
 use Rattle.std.proofs.lemmas.Bool.{cond_both, ne_eqb, lt-leb}
-use Rattle.std.proofs.Math.Nat.{mul-le-mul_left}
 use Rattle.merc_tokens.specs.Bytes.{digit_of}
 use Rattle.merc_tokens.specs.Integers.{digits_value, within_limit}
 

@@ -1,5 +1,5 @@
 -- The first fault of a text, from what was read and from whether it is UTF-8.
-use Rattle.std.proofs.Common.{◌≡◌, ℕ, ◌+◌, ◌<◌, ◌≤◌, ◌⊎◌, inl, inr, Bool, true, false, cond, List, [], ◌∷◌, refl, sym, ◌∙◌, ap, subst, arith}
+use Rattle.std.proofs.Common.{◌≡◌, ℕ, ◌<◌, ◌≤◌, inl, inr, false, List, refl, arith}
 use Rattle.std.specs.Prelude.{nat_lt}
 use Rattle.std.specs.Str.{IsUtf8}
 use Rattle.std.specs.Str.Lossy.{utf8_valid_len}
@@ -9,13 +9,11 @@ use Rattle.merc_base.specs.Refusal.{rule_number}
 use Rattle.merc_base.specs.declared.refusal.Rule.{Rule}
 use Rattle.merc_base.specs.declared.refusal.Rule.TheVariants.{BadToken, NoTerm, WrongForm, UnknownType, DeclaredTwice, Undeclared, UnknownName, TypeMismatch, MissingMode, NeverReady, BindsOuter, UnboundOutput, WrongCategory, ParallelCategory, OutsideProfile, LimitPassed}
 use Rattle.merc_base.specs.declared.refusal.Detail.{Detail}
-use Rattle.merc_base.specs.declared.refusal.Detail.TheVariants.{Plain}
 use Rattle.merc_base.specs.declared.refusal.Refusal.{Refusal}
 use Rattle.merc_tokens.specs.declared.reading.Reading.{Reading}
 use Rattle.merc_tokens.specs.declared.reading.Reading.TheVariants.{All, Faulty}
-use Rattle.merc_tokens.specs.Tokens.{SpelledToken, HasTokens, line_at}
-use Rattle.merc_tokens.specs.Faults.{HasFault, HasFaultFrom, EndsUtf8, ComesFirst, FirstFault, HasNoTokens}
-use Rattle.merc_tokens.specs.Outcomes.{ReadsAll, ReadsFault, ReadsRightly, bad_byte, earlier}
+use Rattle.merc_tokens.specs.Faults.{HasFault, HasFaultFrom, ComesFirst, FirstFault, HasNoTokens}
+use Rattle.merc_tokens.specs.Outcomes.{ReadsFault, ReadsRightly, bad_byte, earlier}
 
 -- a refusal says the first fault of a text that has no tokens
 abbrev pub IsRight : List ℕ → Refusal → Type 0

@@ -7,3 +7,4 @@ pub mod ReadsTo
 pub mod FirstFaults
 pub mod TokenLaws
 pub mod TextExamples
+pub mod FirstFaultExamples

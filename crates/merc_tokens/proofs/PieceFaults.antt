@@ -1,5 +1,5 @@
 -- A piece is a fault exactly where its text is faulty, and then the fault with the least rule.
-use Rattle.std.proofs.Common.{◌≡◌, ℕ, ◌+◌, ◌-◌, ◌<◌, ◌≤◌, ◌≢◌, ◌⊎◌, inl, inr, Bool, true, false, ◌==◌, ◌&&◌, not, leb, cond, List, [], ◌∷◌, length, take, drop, suc, Option, Some, None, refl, sym, ◌∙◌, ap, subst, arith}
+use Rattle.std.proofs.Common.{◌≡◌, ℕ, ◌+◌, ◌-◌, ◌<◌, ◌≤◌, inl, inr, Bool, true, false, ◌==◌, ◌&&◌, not, leb, cond, List, [], ◌∷◌, length, take, drop, Option, Some, None, refl, sym, ◌∙◌, ap, subst, arith}
 use Rattle.std.proofs.lemmas.Bool.{false≢true, cond_both, lt-leb, lt-ltb, leb-true, leb-false}
 use Rattle.merc_base.specs.Refusal.{rule_number}
 use Rattle.merc_base.specs.declared.refusal.Rule.{Rule}
@@ -13,9 +13,9 @@ use Rattle.merc_tokens.specs.declared.bytes.Start.TheVariants.{Blank, Percent, L
 use Rattle.merc_tokens.specs.declared.bytes.Class.TheVariants.{Word as WordClass, Graphic as GraphicClass}
 use Rattle.merc_tokens.specs.declared.integers.Integer.{Integer}
 use Rattle.merc_tokens.specs.declared.pieces.Spelling.{Spelling}
-use Rattle.merc_tokens.specs.declared.pieces.Spelling.TheVariants.{Name, Quoted, Var, Text}
+use Rattle.merc_tokens.specs.declared.pieces.Spelling.TheVariants.{Name, Quoted, Var}
 use Rattle.merc_tokens.specs.declared.pieces.Piece.{Piece}
-use Rattle.merc_tokens.specs.declared.pieces.Piece.TheVariants.{Gap, Token, Fault}
+use Rattle.merc_tokens.specs.declared.pieces.Piece.TheVariants.{Token, Fault}
 use Rattle.merc_tokens.specs.Bytes.{is_digit, is_digit_of, is_letter, is_graphic, begins_with, class_test, next_is, start_of}
 use Rattle.std.specs.List.{prefix_len}
 use Rattle.std.specs.Option.{option_map}

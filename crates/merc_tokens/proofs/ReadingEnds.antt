@@ -1,21 +1,19 @@
 -- What a reading says at its end.
-use Rattle.std.proofs.Common.{◌≡◌, ℕ, ◌+◌, ◌<◌, ◌≤◌, ◌⊎◌, inl, inr, Bool, true, false, List, [], ◌∷◌, ◌++◌, length, take, drop, map, Some, refl, sym, ◌∙◌, ap, subst, arith, length-drop, nat_lt}
+use Rattle.std.proofs.Common.{◌≡◌, ℕ, ◌<◌, ◌≤◌, inr, Bool, false, List, [], length, drop, map, Some, refl, ap, subst, arith, length-drop}
 use Rattle.std.proofs.lemmas.List.{append-nil}
-use Rattle.std.specs.List.{count_by}
 use Rattle.merc_base.specs.Refusal.{rule_number}
 use Rattle.merc_base.specs.declared.refusal.Rule.{Rule}
 use Rattle.merc_base.specs.declared.refusal.Detail.{Detail}
-use Rattle.merc_base.specs.declared.refusal.Refusal.{Refusal}
 use Rattle.merc_tokens.specs.declared.token.Token.{Token}
-use Rattle.merc_tokens.specs.declared.pieces.Piece.TheVariants.{Gap, Token as TokenPiece, Fault}
+use Rattle.merc_tokens.specs.declared.pieces.Piece.TheVariants.{Fault}
 use Rattle.merc_tokens.specs.Pieces.{first_piece}
 use Rattle.merc_tokens.specs.Tokens.{SpelledToken, HasTokensFrom, with_texts, line_at}
 use Rattle.merc_tokens.specs.Tokens.HasTokensFrom.{ends, gap, token}
 use Rattle.merc_tokens.specs.Faults.{IsFaulty, HasFaultFrom, ComesFirst}
 use Rattle.merc_tokens.specs.Faults.HasFaultFrom.{here, behind_gap, behind_token}
 use Rattle.merc_tokens.specs.Outcomes.{ReadsAll, ReadsFault}
-use Rattle.merc_tokens.proofs.PieceFaults.{FaultAtMost, piece-faulty, faulty-piece, some-faulty}
-use Rattle.merc_tokens.proofs.SoFar.{ReadSoFar, piece-end, fault-le}
+use Rattle.merc_tokens.proofs.PieceFaults.{piece-faulty, faulty-piece, some-faulty}
+use Rattle.merc_tokens.proofs.SoFar.{ReadSoFar, piece-end}
 
 -- where a piece is a fault no tokens are
 no_tokens : (text : List ℕ) (at : ℕ) (after : Bool) (rule : Rule) (detail : Detail) (tokens : List SpelledToken) → at < length text → first_piece after (drop at text) ≡ Fault rule detail → HasTokensFrom text at after tokens → ⊥

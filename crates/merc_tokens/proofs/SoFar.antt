@@ -1,18 +1,15 @@
 -- The tokens that have been read so far, and the place behind them.
-use Rattle.std.proofs.Common.{◌≡◌, ℕ, ◌+◌, ◌<◌, ◌≤◌, ◌⊎◌, inl, inr, Bool, true, false, List, [], ◌∷◌, ◌++◌, length, drop, refl, sym, ◌∙◌, ap, subst, arith, append_assoc}
-use Rattle.std.proofs.lemmas.List.{append-nil}
-use Rattle.merc_base.specs.Refusal.{rule_number}
+use Rattle.std.proofs.Common.{◌≡◌, ℕ, ◌+◌, ◌≤◌, Bool, false, List, [], ◌∷◌, ◌++◌, drop, refl, sym, ◌∙◌, ap, subst, arith, append_assoc}
 use Rattle.merc_base.specs.declared.refusal.Rule.{Rule}
 use Rattle.merc_base.specs.declared.refusal.Detail.{Detail}
 use Rattle.merc_tokens.specs.declared.pieces.Spelling.{Spelling}
-use Rattle.merc_tokens.specs.declared.pieces.Piece.{Piece}
-use Rattle.merc_tokens.specs.declared.pieces.Piece.TheVariants.{Gap, Token, Fault}
+use Rattle.merc_tokens.specs.declared.pieces.Piece.TheVariants.{Gap, Token}
 use Rattle.merc_tokens.specs.Pieces.{first_piece}
 use Rattle.merc_tokens.specs.Tokens.{SpelledToken, HasTokensFrom, is_name, token_at}
 use Rattle.merc_tokens.specs.Tokens.HasTokensFrom.{ends, gap, token}
-use Rattle.merc_tokens.specs.Faults.{IsFaulty, HasFaultFrom}
+use Rattle.merc_tokens.specs.Faults.{HasFaultFrom}
 use Rattle.merc_tokens.specs.Faults.HasFaultFrom.{here, behind_gap, behind_token}
-use Rattle.merc_tokens.proofs.PieceFaults.{FaultAtMost, piece-faulty}
+use Rattle.merc_tokens.proofs.PieceFaults.{piece-faulty}
 
 -- at the end of a text no piece begins
 pub piece-end : (text : List ℕ) (at : ℕ) (after : Bool) → drop at text ≡ [] → first_piece after (drop at text) ≡ first_piece after []

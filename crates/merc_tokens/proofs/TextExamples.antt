@@ -1,5 +1,5 @@
 -- Whole texts: their tokens, and their faults.
-use Rattle.std.proofs.Common.{◌≡◌, ℕ, inl, inr, Bool, true, false, List, [], ◌∷◌, ◌++◌, refl, sym, ◌∙◌, Some, None}
+use Rattle.std.proofs.Common.{◌≡◌, ℕ, inl, true, false, [], ◌∷◌, ◌++◌, refl, Some, None}
 use Rattle.std.specs.Prelude.{codes}
 use Rattle.std.specs.Char.{encode_utf8}
 use Rattle.std.specs.Str.{is_utf8, chars}

@@ -1,10 +1,10 @@
 -- A text has at most one list of tokens, and none where it has a fault.
-use Rattle.std.proofs.Common.{◌≡◌, ℕ, ◌+◌, ◌⊎◌, inl, inr, Bool, false, List, [], ◌∷◌, drop, refl, sym, ◌∙◌, ap, subst}
+use Rattle.std.proofs.Common.{◌≡◌, ℕ, ◌+◌, inl, inr, Bool, false, List, [], ◌∷◌, drop, refl, sym, ◌∙◌, ap}
 use Rattle.merc_base.specs.declared.refusal.Rule.{Rule}
 use Rattle.merc_base.specs.declared.refusal.Detail.{Detail}
 use Rattle.merc_tokens.specs.Tokens.{SpelledToken, HasTokens, HasTokensFrom, is_name, token_at}
 use Rattle.merc_tokens.specs.Tokens.HasTokensFrom.{ends, gap, token}
-use Rattle.merc_tokens.specs.Faults.{HasFault, HasFaultFrom, IsFaulty}
+use Rattle.merc_tokens.specs.Faults.{HasFault, HasFaultFrom}
 use Rattle.merc_tokens.specs.Faults.HasFaultFrom.{here, behind_gap, behind_token}
 use Rattle.merc_tokens.proofs.PieceFaults.{piece-faulty, some-faulty}
 use Rattle.merc_tokens.proofs.SoFar.{piece-end, tokens-behind_gap, tokens-behind_token}

@@ -1,5 +1,5 @@
 -- Classes of bytes.
-use Rattle.std.specs.Prelude.{ℕ, ◌+◌, ◌-◌, Bool, true, false, ◌==◌, nat_le, nat_lt, ◌&&◌, ◌||◌, not, List, [], ◌∷◌, if◌then◌else◌, codes}
+use Rattle.std.specs.Prelude.{ℕ, ◌+◌, ◌-◌, Bool, false, ◌==◌, nat_le, nat_lt, ◌&&◌, ◌||◌, not, List, [], ◌∷◌, if◌then◌else◌, codes}
 use Rattle.std.specs.List.{list_any}
 use Rattle.merc_tokens.specs.declared.bytes.Start.{Start}
 use Rattle.merc_tokens.specs.declared.bytes.Start.TheVariants.{Blank, Percent, Lower, Upper, Digit, Quote, DoubleQuote, Semicolon, Open, Close, OpenList, CloseList, Comma, Bar, Outside, Graphic, Other}

@@ -1,5 +1,5 @@
 -- Texts that are faulty: for each rule one.
-use Rattle.std.specs.Prelude.{◌≡◌, ℕ, ◌<◌, List, [], ◌∷◌, ◌++◌, codes, refl}
+use Rattle.std.specs.Prelude.{[], ◌∷◌, ◌++◌, codes, refl}
 use Rattle.std.proofs.Common.{lit<, inl}
 use Rattle.std.proofs.Math.ListN.{replicate}
 use Rattle.merc_base.specs.declared.refusal.Rule.TheVariants.{BadToken, OutsideProfile, LimitPassed}
@@ -7,7 +7,7 @@ use Rattle.merc_base.specs.declared.refusal.Construct.TheVariants.{Character, Fl
 use Rattle.merc_base.specs.declared.refusal.LimitName.TheVariants.{Name as NameLimit, Integer as IntegerLimit}
 use Rattle.merc_base.specs.declared.refusal.Detail.TheVariants.{Plain, Word, Limit}
 use Rattle.merc_tokens.specs.Faults.{IsFaulty}
-use Rattle.merc_tokens.specs.Faults.IsFaulty.{no_token, open_comment, open_name, open_string, no_character, no_digit, character, suffix, float, great_integer, long_word, long_graphic, long_name}
+use Rattle.merc_tokens.specs.Faults.IsFaulty.{no_token, open_comment, open_name, open_string, no_character, no_digit, character, suffix, float, great_integer, long_word, long_graphic}
 
 pub beyond_ascii-example : IsFaulty (195 ∷ 169 ∷ []) BadToken Plain
 beyond_ascii-example = no_token 195 (169 ∷ []) refl

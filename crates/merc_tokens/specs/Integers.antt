@@ -1,5 +1,5 @@
 -- Integers: which number a text begins with, and how many bytes spell it.
-use Rattle.std.specs.Prelude.{ℕ, ◌+◌, ◌-◌, ◌*◌, Bool, true, false, ◌==◌, nat_le, ◌&&◌, ◌||◌, List, [], ◌∷◌, length, take, drop, reverse, slice_get, Option, Some, None, if◌then◌else◌}
+use Rattle.std.specs.Prelude.{ℕ, ◌+◌, ◌-◌, ◌*◌, false, ◌==◌, nat_le, List, [], ◌∷◌, length, take, drop, reverse, slice_get, Option, Some, None, if◌then◌else◌}
 use Rattle.std.specs.Option.{option_map}
 use Rattle.std.specs.List.{prefix_len}
 use Rattle.std.specs.Str.{chars, is_utf8, continuation_len}

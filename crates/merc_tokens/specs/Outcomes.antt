@@ -1,6 +1,5 @@
 -- What the reader's own functions return.
-use Rattle.std.specs.Prelude.{◌≡◌, ℕ, ◌≤◌, ◌⊎◌, Bool, false, nat_lt, List, map, Some, if◌then◌else◌}
-use Rattle.merc_base.specs.declared.place.Place.{Place}
+use Rattle.std.specs.Prelude.{◌≡◌, ℕ, false, nat_lt, List, map, Some, if◌then◌else◌}
 use Rattle.merc_base.specs.declared.refusal.Rule.{Rule}
 use Rattle.merc_base.specs.declared.refusal.Rule.TheVariants.{BadToken}
 use Rattle.merc_base.specs.declared.refusal.Detail.{Detail}

@@ -1,4 +1,4 @@
-use Rattle.std.proofs.Common.{◌≡◌, ◌<◌, length, sym, ◌∙◌, arith, drop-cons, ap, ◌*◌, ◌+◌, ℕ, get_or, drop, suc}
+use Rattle.std.proofs.Common.{◌<◌, sym, ◌∙◌, arith, drop-cons, ap, ◌*◌, ◌+◌, get_or, drop, suc}
 use Rattle.merc_tokens.specs.Bytes.{digit_of}
 use Rattle.merc_tokens.specs.Integers.{digits_value, within_limit}
 use Rattle.merc_tokens.proofs.Digits.{digits_value-above}

@@ -1,4 +1,4 @@
-use Rattle.std.proofs.Common.{Bool, true, false, ◌≡◌, List, ℕ, None, Option, sym, ◌∙◌, ap, refl, cond}
+use Rattle.std.proofs.Common.{◌≡◌, List, ℕ, None, ◌∙◌, ap, refl}
 use Rattle.std.proofs.lemmas.Bool.{cond_both}
 use Rattle.std.specs.Prelude.{slice_get}
 use Rattle.std.specs.Str.{is_utf8, chars, IsUtf8}

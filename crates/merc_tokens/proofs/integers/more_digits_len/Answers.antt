@@ -1,4 +1,4 @@
-use Rattle.std.proofs.Common.{List, ℕ, length, reverse, arith, take}
+use Rattle.std.proofs.Common.{reverse, arith, take}
 use Rattle.std.proofs.lemmas.List.{length-reverse}
 use Rattle.std.proofs.lemmas.List.Sums.{prefix_len-le-length}
 use Rattle.merc_tokens.specs.Bytes.{is_underscore}

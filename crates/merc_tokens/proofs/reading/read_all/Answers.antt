@@ -1,5 +1,4 @@
-use Rattle.std.proofs.Common.{◌≡◌, ◌≤◌, ◌+◌, ◌==◌, length, take, drop, sym, ◌∙◌, arith, length-drop, ap, eqb-true}
-use Rattle.std.specs.List.{count_by}
+use Rattle.std.proofs.Common.{length, sym, ◌∙◌, arith, length-drop, ap}
 use Rattle.std.proofs.lemmas.List.{drop_all}
 use Rattle.merc_tokens.proofs.ReadsTo.{reads-none, reads-gap, reads-token}
 use Rattle.merc_tokens.proofs.ReadingEnds.{reads-fault, reads-all}
