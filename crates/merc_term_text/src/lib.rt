@@ -1,0 +1,2 @@
+//! The text of a term, which reads as that term again.
+#![tactic(auto)]
