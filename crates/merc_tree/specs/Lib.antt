@@ -4,4 +4,5 @@ pub mod Meaning
 pub mod Term
 pub mod Nesting
 pub mod Shape
+pub mod Types
 pub mod Examples

@@ -1,0 +1,2 @@
+//! Substitutions of types, and most general unifiers.
+#![tactic(auto)]
