@@ -1,0 +1,4 @@
+pub mod Items
+pub mod Forms
+pub mod Entries
+pub mod Phases
