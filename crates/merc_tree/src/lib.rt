@@ -2,7 +2,9 @@
 #![tactic(auto)]
 
 pub mod goal;
+pub mod term;
 pub mod word;
 
 pub use goal::{Goal, Goals, Operator, Predicate, Procedures, Symbol, Var, Vars};
+pub use term::{Shape, TermRef};
 pub use word::Word;
