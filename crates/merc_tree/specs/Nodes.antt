@@ -13,6 +13,13 @@ with_root (IntegerShape value) span terms = terms ++ Integer value span ∷ []
 with_root (TextShape text) span terms = terms ++ Text text span ∷ []
 with_root (ApplicationShape name qualifier arity) span terms = applied name qualifier arity span terms
 
+-- how many arguments a root of this shape has
+abbrev pub arity_of : Shape → ℕ
+arity_of (VariableShape name) = 0
+arity_of (IntegerShape value) = 0
+arity_of (TextShape text) = 0
+arity_of (ApplicationShape name qualifier arity) = arity
+
 -- what terms become where nodes are read behind them
 abbrev pub built : List Node → List Term → List Term
 built [] terms = terms
