@@ -1,6 +1,6 @@
 //! Terms, as they are read from a text.
 ghost use Rattle.std.specs.Prelude.{◌≡◌, ◌≢◌, ◌≤◌, ◌<◌, ◌-◌, ◌↔◌, [], ◌∷◌, ◌++◌, length, take, map, slice_get, IfOk, OnOk, OnErr, MatchOption, IsTrue};
-ghost use Rattle.std.specs.List.{slice_index_or};
+ghost use Rattle.std.specs.List.{slice_index_or, slice_range};
 ghost use Rattle.merc_tree.specs.Nodes.{with_root, arity_of};
 ghost use Rattle.merc_tree.specs.Term.{Variable, Integer, Text, applied, enclosed, bare, span_of};
 ghost use Rattle.merc_tree.specs.Shape.{shape_of, arguments_of};
@@ -137,7 +137,7 @@ impl Terms {
         let start = start_of(&self.starts, index, self.nodes.len());
         let end = start_of(&self.starts, index + 1, self.nodes.len());
         Some(TermRef {
-            nodes: &self.nodes[start..end],
+            nodes: nodes_between(&self.nodes, start, end),
         })
     }
 
@@ -185,6 +185,15 @@ fn start_of(starts: &[usize], number: usize, end: usize) -> usize
     ensures { result ≡ slice_index_or starts.now number end }
 {
     if number < starts.len() { starts[number] } else { end }
+}
+
+// The nodes from one index to another.
+fn nodes_between(nodes: &[Node], start: usize, end: usize) -> &[Node]
+    requires order { start ≤ end }
+    requires within { end ≤ length nodes.now }
+    ensures { result.now ≡ slice_range nodes.now start end }
+{
+    &nodes[start..end]
 }
 
 /// A term.
@@ -273,10 +282,10 @@ impl<'a> TermRef<'a> {
     pub fn arguments(&self) -> Arguments<'a>
         ensures { result ≡ arguments_of self.now }
     {
-        let nodes = self.nodes;
+        let root = last_node(self.nodes);
         Arguments {
-            nodes: &nodes[..nodes.len() - 1],
-            count: last_node(nodes).shape.arity(),
+            nodes: nodes_between(self.nodes, 0, self.nodes.len() - 1),
+            count: root.shape.arity(),
         }
     }
 
@@ -355,15 +364,15 @@ impl<'a> Arguments<'a> {
     pub fn take_last(&mut self) -> Option<TermRef<'a>>
         ensures { MatchOption result ((self.old ≡ []) × (self.new ≡ [])) (λ last. self.old ≡ self.new ++ last ∷ []) }
     {
-        let all = self.nodes;
         if self.count == 0 {
             return None;
         }
-        let rest = all.len() - last_node(all).size;
-        self.nodes = &all[..rest];
+        let nodes = self.nodes;
+        let start = nodes.len() - last_node(nodes).size;
+        self.nodes = nodes_between(nodes, 0, start);
         self.count -= 1;
         Some(TermRef {
-            nodes: &all[rest..],
+            nodes: nodes_between(nodes, start, nodes.len()),
         })
     }
 }
