@@ -1,7 +1,7 @@
 //! Terms, as they are read from a text.
-ghost use Rattle.std.specs.Prelude.{◌≡◌, ◌≢◌, ◌≤◌, ◌<◌, ◌-◌, ◌↔◌, [], ◌∷◌, ◌++◌, length, take, map, slice_get, IfOk, OnOk, OnErr, MatchOption, IsTrue};
+ghost use Rattle.std.specs.Prelude.{◌≡◌, ◌≢◌, ◌≤◌, ◌<◌, ◌-◌, ◌↔◌, [], ◌∷◌, ◌++◌, length, take, slice_get, IfOk, OnOk, OnErr, MatchOption, IsTrue};
 ghost use Rattle.std.specs.List.{slice_index_or, slice_range};
-ghost use Rattle.merc_tree.specs.Nodes.{with_root, arity_of};
+ghost use Rattle.merc_tree.specs.Nodes.{with_root, arity_of, shapes};
 ghost use Rattle.merc_tree.specs.Term.{Variable, Integer, Text, applied, enclosed, bare, span_of};
 ghost use Rattle.merc_tree.specs.Shape.{shape_of, arguments_of};
 ghost use Rattle.merc_tree.specs.Nesting.{nesting};
@@ -315,17 +315,19 @@ fn last_node(nodes: &[Node]) -> Node
 
 // Whether nodes have the same shapes, in order.
 fn have_same_shapes(nodes: &[Node], others: &[Node]) -> bool
-    ensures { IsTrue result ↔ (map (λ n. n.shape) nodes.now ≡ map (λ n. n.shape) others.now) }
+    ensures { IsTrue result ↔ (shapes nodes.now ≡ shapes others.now) }
 {
-    if nodes.len() != others.len() {
-        return false;
-    }
-    for (node, other) in nodes.iter().zip(others) {
+    let mut others = others;
+    for node in nodes {
+        let [other, rest @ ..] = others else {
+            return false;
+        };
         if node.shape != other.shape {
             return false;
         }
+        others = rest;
     }
-    true
+    others.is_empty()
 }
 
 /// Arguments of a term, to be taken from the last to the first.
