@@ -2,7 +2,12 @@ pub mod Value
 pub mod Trace
 pub mod Meaning
 pub mod Term
+pub mod Types
 pub mod Nesting
 pub mod Shape
-pub mod Types
+pub mod Nodes
+pub mod TermCode
+pub mod Parts
 pub mod Examples
+pub mod TermExamples
+pub mod NodesExamples
