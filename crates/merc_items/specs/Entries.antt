@@ -2,15 +2,17 @@
 use Rattle.std.specs.Prelude.{◌≡◌, ℕ, Bool, true, false, ◌==◌, ◌&&◌, ◌||◌, not, List, [], ◌∷◌, ◌++◌, map, length, find, Option, Some, None, if◌then◌else◌}
 use Rattle.std.specs.List.{list_any, list_all, flat_map}
 use Rattle.merc_base.specs.declared.place.Place.{Place}
+use Rattle.merc_base.specs.declared.place.Span.{Span}
 use Rattle.merc_base.specs.declared.category.Category.{Category}
 use Rattle.merc_tree.specs.Term.{Term, Terms, Variable, Integer, Text, Application, none, more, span_of}
 use Rattle.merc_tree.specs.Shape.{arguments_of}
 use Rattle.merc_items.specs.Items.{Item, Opening, Ending, Section, Import, TypeItem, PredicateItem, ModeItem, ClauseItem, OtherType, OtherFunction, OtherGrammar, OtherDeclaration, Formless, item_of, plain_name}
 use Rattle.merc_items.specs.Forms.{is_in, is_moded, argument_mode, argument_type}
 
--- an item, the place of the item of the file at which it stands, and the unit that it comes from, none for the file's own
+-- An item with its span in its own text, the place of the item of the file at which it stands, and the unit that it comes from, none for the file's own.
 pub record Entry : Type 0 where
   pub item : Item
+  pub span : Span
   pub place : Place
   pub unit : Option ℕ
 
@@ -40,13 +42,13 @@ abbrev pub unit_entries : (ℕ → List Term) → Place → List ℕ → List �
 unit_entries items place seen [] = []
 unit_entries items place seen (unit ∷ rest) =
     if is_in unit seen then unit_entries items place seen rest
-    else map (λ term. record { item = item_of term; place = place; unit = Some unit }) (items unit) ++ unit_entries items place (seen ++ unit ∷ []) rest
+    else map (λ term. record { item = item_of term; span = span_of term; place = place; unit = Some unit }) (items unit) ++ unit_entries items place (seen ++ unit ∷ []) rest
 
 -- The entries of a file's items, where these units were imported before. The items of each unit are given.
 abbrev pub entries_from : (ℕ → List Term) → List ℕ → List Term → List Entry
 entries_from items seen [] = []
 entries_from items seen (term ∷ rest) =
-    record { item = item_of term; place = place_of term; unit = None } ∷
+    record { item = item_of term; span = span_of term; place = place_of term; unit = None } ∷
     (unit_entries items (place_of term) seen (imports (item_of term)) ++ entries_from items (with_units seen (imports (item_of term))) rest)
 
 abbrev pub entries : (ℕ → List Term) → List Term → List Entry

@@ -2,3 +2,4 @@ pub mod Items
 pub mod Forms
 pub mod Entries
 pub mod Phases
+pub mod ModuleOf

@@ -1,0 +1,134 @@
+-- The module that items are.
+use Rattle.std.specs.Prelude.{ℕ, Bool, true, false, ◌==◌, ◌&&◌, not, List, [], ◌∷◌, ◌++◌, map, length, Option, Some, None, if◌then◌else◌}
+use Rattle.std.specs.List.{list_any, flat_map}
+use Rattle.merc_base.specs.declared.place.Span.{Span}
+use Rattle.merc_base.specs.declared.category.Category.{Category}
+use Rattle.merc_base.specs.declared.category.Category.TheVariants.{Det}
+use Rattle.merc_tree.specs.Term.{Term, Terms, Variable, Integer, Text, Application, none, more}
+use Rattle.merc_tree.specs.Shape.{arguments_of}
+use Rattle.merc_tree.specs.Types.{TypeExpr, TypeExprs, TypeVariable, IntType, TextType, TypeApplication, no_types, more_types}
+use Rattle.merc_tree.specs.declared.declarations.Constructor.{Constructor}
+use Rattle.merc_tree.specs.declared.declarations.TypeDef.{TypeDef}
+use Rattle.merc_tree.specs.declared.declarations.Arg.{Arg}
+use Rattle.merc_tree.specs.declared.declarations.Arg.TheVariants.{Input, Output}
+use Rattle.merc_tree.specs.declared.declarations.ModeDecl.{ModeDecl}
+use Rattle.merc_tree.specs.declared.declarations.PredDecl.{PredDecl}
+use Rattle.merc_tree.specs.declared.declarations.Clause.{Clause}
+use Rattle.merc_tree.specs.declared.declarations.Module.{Module}
+use Rattle.merc_items.specs.Items.{Item, TypeItem, PredicateItem, ModeItem, ClauseItem, plain_name}
+use Rattle.merc_items.specs.Forms.{argument_type, argument_mode, category_named}
+use Rattle.merc_items.specs.Entries.{Entry, Key, key_of, has_mode, is_out, units_of}
+use Rattle.merc_items.specs.Phases.{own_name, own_entries, is_own, are_keys}
+
+-- the name of a head, 0 where it has none
+abbrev pub head_name : Term → ℕ
+head_name (Application name qualifier arguments span) = name
+head_name other = 0
+
+-- Types: `int` and `string` by name, and no qualifiers.
+
+abbrev pub named_type : ℕ → TypeExprs → TypeExpr
+named_type name no_types = if name == 57 then IntType else if name == 58 then TextType else TypeApplication name no_types
+named_type name (more_types first rest) = TypeApplication name (more_types first rest)
+
+abbrev mutual
+  pub declared_type : Term → TypeExpr
+  declared_type (Variable name span) = TypeVariable name
+  declared_type (Integer value span) = IntType
+  declared_type (Text name span) = TextType
+  declared_type (Application name qualifier arguments span) = named_type name (declared_types arguments)
+
+  pub declared_types : Terms → TypeExprs
+  declared_types none = no_types
+  declared_types (more first rest) = more_types (declared_type first) (declared_types rest)
+
+abbrev pub variable_names : List Term → List ℕ
+variable_names [] = []
+variable_names (Variable name span ∷ rest) = name ∷ variable_names rest
+variable_names (other ∷ rest) = variable_names rest
+
+abbrev pub constructor_of : Term → Constructor
+constructor_of term = record { name = head_name term; args = map declared_type (arguments_of term) }
+
+abbrev pub type_defs_of : Item → List TypeDef
+type_defs_of (TypeItem head constructors) =
+    record { name = head_name head; params = variable_names (arguments_of head); constructors = map constructor_of constructors } ∷ []
+type_defs_of other = []
+
+abbrev pub type_defs : Entry → List TypeDef
+type_defs entry = type_defs_of entry.item
+
+-- Modes
+
+abbrev pub arg_of : Bool → Arg
+arg_of true = Output
+arg_of false = Input
+
+abbrev pub args_of : List (Option Term) → List Arg
+args_of [] = []
+args_of (None ∷ rest) = args_of rest
+args_of (Some term ∷ rest) = arg_of (is_out (plain_name term)) ∷ args_of rest
+
+abbrev pub category_or_det : Option Category → Category
+category_or_det None = Det
+category_or_det (Some category) = category
+
+-- the category that a declaration names
+abbrev pub named_category : Option ℕ → Category
+named_category None = Det
+named_category (Some name) = category_or_det (category_named name)
+
+abbrev pub declared_category : Option Term → Category
+declared_category None = Det
+declared_category (Some term) = named_category (plain_name term)
+
+abbrev pub mode_decl : List (Option Term) → Option Term → Span → ModeDecl
+mode_decl arguments category span = record { args = args_of arguments; category = declared_category category; span = span }
+
+abbrev pub modes_in_item : List Key → Span → Item → List ModeDecl
+modes_in_item predicate span (PredicateItem head category) =
+    if are_keys predicate (key_of head) && has_mode head category then mode_decl (map argument_mode (arguments_of head)) category span ∷ [] else []
+modes_in_item predicate span (ModeItem head category) =
+    if are_keys predicate (key_of head) then mode_decl (map Some (arguments_of head)) category span ∷ [] else []
+modes_in_item predicate span other = []
+
+-- the modes that an item declares for a predicate
+abbrev pub modes_in : List Key → Entry → List ModeDecl
+modes_in predicate entry = modes_in_item predicate entry.span entry.item
+
+-- A predicate with all its modes among these entries, in order.
+abbrev pub pred_decls_of : List Entry → Span → Item → List PredDecl
+pred_decls_of entries span (PredicateItem head category) =
+    record {
+      name = head_name head;
+      args = map (λ argument. declared_type (argument_type argument)) (arguments_of head);
+      modes = flat_map (modes_in (key_of head)) entries;
+      span = span;
+    } ∷ []
+pred_decls_of entries span other = []
+
+abbrev pub pred_decls : List Entry → Entry → List PredDecl
+pred_decls entries entry = pred_decls_of entries entry.span entry.item
+
+abbrev pub clauses_of : Span → Item → List Clause
+clauses_of span (ClauseItem head body) = record { head = head; body = body; span = span } ∷ []
+clauses_of span other = []
+
+abbrev pub clauses_in : Entry → List Clause
+clauses_in entry = clauses_of entry.span entry.item
+
+-- the entries of units
+abbrev pub unit_items : List Entry → List Entry
+unit_items [] = []
+unit_items (entry ∷ rest) = if is_own entry then unit_items rest else entry ∷ unit_items rest
+
+-- A file's declarations stand before those of the units.
+abbrev pub module_of : List Term → List Entry → Module
+module_of terms entries = record {
+  name = own_name terms;
+  units = units_of terms;
+  types = flat_map type_defs (own_entries entries) ++ flat_map type_defs (unit_items entries);
+  preds = flat_map (pred_decls (own_entries entries)) (own_entries entries) ++ flat_map (pred_decls (unit_items entries)) (unit_items entries);
+  own = length (flat_map (pred_decls (own_entries entries)) (own_entries entries));
+  clauses = flat_map clauses_in (own_entries entries) ++ flat_map clauses_in (unit_items entries);
+}
