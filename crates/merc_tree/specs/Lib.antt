@@ -5,4 +5,7 @@ pub mod Term
 pub mod Nesting
 pub mod Shape
 pub mod Types
+pub mod Nodes
+pub mod TermCode
+pub mod Parts
 pub mod Examples
