@@ -7,5 +7,7 @@ pub mod Shape
 pub mod Types
 pub mod Nodes
 pub mod TermCode
+pub mod TypeTerms
+pub mod TypeShape
 pub mod Parts
 pub mod Examples

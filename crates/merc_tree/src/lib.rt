@@ -3,8 +3,10 @@
 
 pub mod goal;
 pub mod term;
+pub mod types;
 pub mod word;
 
 pub use goal::{Goal, Goals, Operator, Predicate, Procedures, Symbol, Var, Vars};
 pub use term::{Arguments, Shape, Term, TermRef, Terms};
+pub use types::{TypeArguments, TypeExpr, TypeExprs, TypeRef, TypeShape};
 pub use word::Word;
