@@ -7,6 +7,8 @@ pub mod Nesting
 pub mod Shape
 pub mod Nodes
 pub mod TermCode
+pub mod TypeTerms
+pub mod TypeShape
 pub mod Parts
 pub mod Examples
 pub mod TermExamples

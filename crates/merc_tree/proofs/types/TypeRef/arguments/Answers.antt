@@ -1,0 +1,8 @@
+use Rattle.std.proofs.Common.{map, ap, ◌∙◌}
+use Rattle.merc_tree.specs.TypeShape.{type_arguments_of}
+use Rattle.merc_tree.specs.TypeTerms.{type_of}
+use Rattle.merc_tree.proofs.TypeLaws.{kept_arguments}
+use Rattle.merc_tree.proofs.types.TypeRef.arguments.Goals as goal
+
+pub returns : goal.returns
+returns c = ap (map type_of) c.arguments.ensures ∙ kept_arguments c.self.inside.term ∙ ap type_arguments_of c.self.view_is
