@@ -10,8 +10,8 @@ pub mod types;
 pub mod word;
 
 pub use declarations::{
-    Arg, Args, Clause, Clauses, Constructor, Constructors, ModeDecl, ModeDecls, Module, NameList, PredDecl,
-    PredDecls, TypeDef, TypeDefs,
+    Arg, Args, Clause, Clauses, Constructor, Constructors, ModeDecl, ModeDecls, Module, NameList,
+    PredDecl, PredDecls, TypeDef, TypeDefs,
 };
 pub use goal::{Goal, Goals, Operator, Predicate, Procedures, Symbol, Var, Vars};
 pub use term::{Arguments, Shape, Term, TermRef, Terms};
