@@ -1,2 +1,4 @@
 pub mod Building
 pub mod Starts
+pub mod Table
+pub mod Sound
