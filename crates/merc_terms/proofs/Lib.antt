@@ -2,3 +2,5 @@ pub mod Building
 pub mod Starts
 pub mod Table
 pub mod Sound
+pub mod Shorter
+pub mod Steps

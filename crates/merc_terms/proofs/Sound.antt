@@ -102,7 +102,7 @@ record IsSound (parts : Reading) : Type 0 where
 
 -- where an infix operator goes on
 
-abbrev WhereInfix : Bound → ℕ → List Token → Option (Operator × List Token) → Type 0
+abbrev pub WhereInfix : Bound → ℕ → List Token → Option (Operator × List Token) → Type 0
 WhereInfix bound priority tokens None = Unit {0}
 WhereInfix bound priority tokens (Some found) =
     (kind : TokenKind) × (mark : Span) × (tokens ≡ token kind mark ∷ found.1) × IsInfix bound.commas kind found.0
@@ -133,7 +133,7 @@ infix_kind-is bound priority (Name n) mark rest = fitting-is bound priority (Nam
 infix_kind-is bound priority Comma mark rest = comma-is bound priority mark rest bound.commas refl
 infix_kind-is bound priority kind mark rest = tt
 
-infix_at-is : (bound : Bound) (priority : ℕ) (tokens : List Token) → WhereInfix bound priority tokens (infix_at bound priority tokens)
+pub infix_at-is : (bound : Bound) (priority : ℕ) (tokens : List Token) → WhereInfix bound priority tokens (infix_at bound priority tokens)
 infix_at-is bound priority [] = tt
 infix_at-is bound priority (first ∷ rest) = infix_kind-is bound priority first.kind first.span rest
 
@@ -158,7 +158,7 @@ tail_by-sound parts sound bound built old span priority tokens rest term read sp
 
 -- what stands behind a part
 
-abbrev WhereMark : List Token → Delimiter → List Token → Type 0
+abbrev pub WhereMark : List Token → Delimiter → List Token → Type 0
 WhereMark tokens CommaMark rest = (mark : Span) × (tokens ≡ token Comma mark ∷ rest)
 WhereMark tokens BarMark rest = (mark : Span) × (tokens ≡ token Bar mark ∷ rest)
 WhereMark tokens (CloseMark close) rest = tokens ≡ token Close close ∷ rest
@@ -173,7 +173,7 @@ delimiter_with-is Close span rest = refl
 delimiter_with-is CloseList span rest = refl
 delimiter_with-is kind span rest = tt
 
-delimiter_at-is : (tokens : List Token) → WhereMark tokens (delimiter_at tokens).0 (delimiter_at tokens).1
+pub delimiter_at-is : (tokens : List Token) → WhereMark tokens (delimiter_at tokens).0 (delimiter_at tokens).1
 delimiter_at-is [] = tt
 delimiter_at-is (first ∷ rest) = delimiter_with-is first.kind first.span rest
 
