@@ -4,3 +4,5 @@ pub mod Table
 pub mod Sound
 pub mod Shorter
 pub mod Steps
+pub mod Settled
+pub mod Complete

@@ -117,3 +117,10 @@ most_apart operator other apart apart' fits = go (ends_y operator.fixity) (begin
 
 pub first_most_two : (operator : Operator) → IsApart operator → takes_two operator.fixity ≡ true → first_most operator ≤ 999
 first_most_two operator apart two = let below = first_most_below operator in let most = apart.two two in omega arith
+
+pub first_most_least : (operator : Operator) → operator.priority ≤ first_most operator + 1
+first_most_least operator = go (begins_y operator.fixity)
+  where
+    go : (b : Bool) → operator.priority ≤ (if b then operator.priority else operator.priority - 1) + 1
+    go true = omega arith
+    go false = omega arith
