@@ -6,3 +6,4 @@ pub mod Shorter
 pub mod Steps
 pub mod Settled
 pub mod Complete
+pub mod WholeTerms
