@@ -7,3 +7,5 @@ pub mod Steps
 pub mod Settled
 pub mod Complete
 pub mod WholeTerms
+pub mod Renaming
+pub mod ReadingLaws
