@@ -1,9 +1,9 @@
 -- What is built of the terms that were read.
-use Rattle.std.proofs.Common.{◌≡◌, ℕ, zero, suc, ◌+◌, ◌-◌, ℤ, pos, negsuc, neg_ℤ, Bool, true, false, ◌||◌, not, nat_le, nat_lt, List, [], ◌∷◌, ◌++◌, length, take, drop, Option, Some, None, refl, sym, ap, ◌∙◌, arith, append_assoc, append-nil, length-append}
+use Rattle.std.proofs.Common.{◌≡◌, ℕ, zero, suc, ◌+◌, ◌-◌, ℤ, pos, negsuc, neg_ℤ, Bool, true, false, ◌||◌, not, nat_lt, List, [], ◌∷◌, ◌++◌, length, take, drop, Option, None, refl, sym, ap, ◌∙◌, arith, append_assoc, append-nil, length-append}
 use Rattle.std.specs.Bool.{if◌then◌else◌}
 use Rattle.merc_base.specs.declared.place.Span.{Span}
 use Rattle.merc_tree.specs.Term.{Term, Terms, Variable, Integer, Text, Application, none, more, terms_of, list_of, span_of, with_span, applied, enclosed}
-use Rattle.merc_terms.specs.Reader.{Built, Read, fits, integer_of, with_term, with_integer, clipped_integer, clipped, clipped_all, is_great_integer, is_great, are_great, pushed, with_application, with_cells, with_list, with_enclosed}
+use Rattle.merc_terms.specs.Reader.{Built, fits, with_term, with_integer, clipped, clipped_all, is_great, are_great, pushed, with_application, with_cells, with_list, with_enclosed}
 use Rattle.merc_terms.specs.Reading.{cell, nil}
 
 -- the terms and the mark of what is built decide it

@@ -1,5 +1,5 @@
 -- What tokens spell is decided: items, goals and what is wrong with them.
-use Rattle.std.proofs.Common.{◌≡◌, ℕ, ◌<◌, ◌≤◌, List, [], ◌∷◌, length, refl, sym, ap, ap₂, subst, ◌∙◌, arith}
+use Rattle.std.proofs.Common.{◌≡◌, ◌≤◌, List, [], ◌∷◌, refl, sym, ap₂, subst, arith}
 use Rattle.merc_base.specs.declared.refusal.Refusal.{Refusal}
 use Rattle.merc_base.specs.declared.refusal.Rule.{Rule}
 use Rattle.merc_base.specs.declared.refusal.Detail.{Detail}

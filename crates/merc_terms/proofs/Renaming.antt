@@ -1,5 +1,5 @@
 -- Tokens with other integers spell the term with those integers. So what tokens spell is decided, integers that do not fit among it.
-use Rattle.std.proofs.Common.{◌≡◌, ◌≢◌, ℕ, zero, suc, ◌<◌, ◌≤◌, ℤ, pos, negsuc, neg_ℤ, Bool, true, false, not, ◌||◌, ◌&&◌, ◌==◌, nat_lt, List, [], ◌∷◌, length, map, Option, Some, None, refl, sym, ap, ap₂, subst, subst₂, ◌∙◌, arith, eqb-true, eq-eqb}
+use Rattle.std.proofs.Common.{◌≡◌, ℕ, zero, suc, ◌≤◌, ℤ, pos, negsuc, neg_ℤ, Bool, true, false, ◌||◌, ◌&&◌, ◌==◌, List, [], ◌∷◌, Some, None, refl, sym, ap, ap₂, subst, subst₂, ◌∙◌, arith, eqb-true, eq-eqb}
 use Rattle.std.specs.Bool.{if◌then◌else◌}
 use Rattle.std.proofs.lemmas.Option.{same_Some}
 use Rattle.merc_base.specs.declared.place.Span.{Span}
@@ -8,8 +8,8 @@ use Rattle.merc_tokens.specs.declared.token.TokenKind.{TokenKind}
 use Rattle.merc_tokens.specs.declared.token.TokenKind.TheVariants.{Name, Quoted, Var, Int, Text as TextToken, OpenArgs, Open, Close, OpenList, CloseList, Comma, Bar, Dot, Stop}
 use Rattle.merc_tree.specs.Term.{Term, Terms, Variable, Integer, Text, Application, none, more, span_of, with_span}
 use Rattle.merc_terms.specs.declared.operators.Operator.{Operator}
-use Rattle.merc_terms.specs.Reading.{token, joined, begins_with, is_integer, goes_on_name, is_infix_name, leaves_plain, is_left_plain, is_sign, IsName, plain, left_plain, quoted, IsQualified, unquoted, quoted as quoted_behind, IsOpen, alone, behind_operator, IsPrefix, IsInfix, name as infix_name, comma as infix_comma, Spells, variable, integer, negative, text, constant, qualified, application, qualified_application, empty_list, list, parenthesis, before, quantifier, between, SpellsArguments, last_argument, argument, SpellsItems, last_item, items_tail, item}
-use Rattle.merc_terms.specs.Reader.{Built, Read, clipped, is_great, are_great, is_great_integer, pushed, whole_term}
+use Rattle.merc_terms.specs.Reading.{token, joined, begins_with, is_integer, goes_on_name, is_infix_name, leaves_plain, is_left_plain, IsName, plain, left_plain, quoted, IsQualified, unquoted, quoted as quoted_behind, IsOpen, alone, behind_operator, IsPrefix, IsInfix, name as infix_name, comma as infix_comma, Spells, variable, integer, negative, text, constant, qualified, application, qualified_application, empty_list, list, parenthesis, before, quantifier, between, SpellsArguments, last_argument, argument, SpellsItems, last_item, items_tail, item}
+use Rattle.merc_terms.specs.Reader.{Built, Read, clipped, is_great, are_great, is_great_integer, pushed}
 use Rattle.merc_terms.proofs.WholeTerms.{IsEnd, nothing, full_stop, whole_complete, great_fits}
 
 abbrev renamed_kind : (ℕ → ℕ) → TokenKind → TokenKind

@@ -1,11 +1,11 @@
 -- The reading with as many steps as serve, which is made of its own parts.
-use Rattle.std.proofs.Common.{◌≡◌, ℕ, zero, suc, ◌<◌, ◌≤◌, List, [], ◌∷◌, length, Option, Some, None, refl, sym, ap, ◌∙◌, arith}
+use Rattle.std.proofs.Common.{◌≡◌, ℕ, suc, ◌<◌, List, length, Option, Some, None, sym, ◌∙◌, arith}
 use Rattle.merc_base.specs.declared.place.Span.{Span}
 use Rattle.merc_tokens.specs.declared.token.Token.{Token}
 use Rattle.merc_terms.specs.declared.frame.Bound.{Bound}
 use Rattle.merc_terms.specs.declared.frame.Frame.{Frame}
 use Rattle.merc_terms.specs.Reader.{Built, Read, Reading, term_by, tail_by, filled_by, reading}
-use Rattle.merc_terms.proofs.Steps.{AreAlike, IsWithin, IsShorter, term_by-alike, tail_by-alike, filled_by-alike, term-shorter, filled-none, term-steps, tail-steps, filled-steps}
+use Rattle.merc_terms.proofs.Steps.{AreAlike, IsWithin, term_by-alike, tail_by-alike, filled_by-alike, term-shorter, filled-none, term-steps, tail-steps, filled-steps}
 
 -- how many steps serve for what goes on behind a part
 abbrev steps_behind : Option Read → ℕ

@@ -1,18 +1,16 @@
 -- What is left behind a term is shorter than what it began.
-use Rattle.std.proofs.Common.{◌≡◌, ℕ, suc, ◌<◌, ◌≤◌, Bool, true, false, ◌==◌, ◌&&◌, List, [], ◌∷◌, length, Option, Some, None, refl, arith}
+use Rattle.std.proofs.Common.{ℕ, suc, ◌<◌, ◌≤◌, Bool, true, false, List, [], ◌∷◌, length, Option, Some, None, arith}
 use Rattle.std.specs.Bool.{if◌then◌else◌}
 use Rattle.merc_base.specs.declared.place.Span.{Span}
 use Rattle.merc_tokens.specs.declared.token.Token.{Token}
 use Rattle.merc_tokens.specs.declared.token.TokenKind.{TokenKind}
-use Rattle.merc_tokens.specs.declared.token.TokenKind.TheVariants.{Name, Quoted, Var, Int, Text as TextToken, OpenArgs, Open, Close, OpenList, CloseList, Comma, Bar, Dot, Stop}
+use Rattle.merc_tokens.specs.declared.token.TokenKind.TheVariants.{Name, Quoted, Var, Int, Text as TextToken, OpenArgs, Open, OpenList, Dot}
 use Rattle.merc_tree.specs.Term.{Term, Terms}
 use Rattle.merc_terms.specs.declared.operators.Operator.{Operator}
 use Rattle.merc_terms.specs.declared.starting.Start.TheVariants.{Constant, List as ListStart, Prefix}
 use Rattle.merc_terms.specs.Operators.{prefix_named}
-use Rattle.merc_terms.specs.Reading.{token, joined, is_left_plain, is_sign, Spells, variable, integer, negative, text, constant, qualified, application, qualified_application, empty_list, list, parenthesis, before, quantifier, between, SpellsArguments, last_argument, argument, SpellsItems, last_item, items_tail, item}
+use Rattle.merc_terms.specs.Reading.{joined, is_left_plain, is_sign, Spells, variable, integer, negative, text, constant, qualified, application, qualified_application, empty_list, list, parenthesis, before, quantifier, between, SpellsArguments, last_argument, argument, SpellsItems, last_item, items_tail, item}
 use Rattle.merc_terms.specs.Starting.{Started, named_at, named_before, qualified_at, qualified_start, is_mark, plain_start, signed_at, signed_start, operator_start, is_list_end, list_start, start_with, start_at}
-use Rattle.merc_terms.specs.Reader.{Built, Read, whole_term, whole_bound}
-use Rattle.merc_terms.proofs.Sound.{IsRead, term-sound}
 
 mutual
   pub Spells-shorter : {commas : Bool} {term : Term} {priority : ℕ} {tokens rest : List Token} → Spells commas term priority tokens rest → length rest < length tokens

@@ -1,13 +1,13 @@
 -- What is read is what the tokens spell.
-use Rattle.std.proofs.Common.{◌≡◌, ℕ, zero, suc, ◌+◌, ◌≤◌, Bool, true, false, ◌&&◌, List, [], ◌∷◌, ◌++◌, length, nat_le, Option, Some, None, cond, refl, sym, ap, subst, ◌∙◌, arith, leb-true, add-one}
+use Rattle.std.proofs.Common.{◌≡◌, ℕ, zero, suc, ◌+◌, ◌≤◌, Bool, true, false, ◌&&◌, List, [], ◌∷◌, length, nat_le, Option, Some, None, refl, sym, ap, subst, ◌∙◌, arith, leb-true, add-one}
 use Rattle.std.specs.Bool.{if◌then◌else◌}
 use Rattle.std.proofs.lemmas.Bool.{and_parts}
 use Rattle.std.proofs.lemmas.Option.{same_Some}
 use Rattle.merc_base.specs.declared.place.Span.{Span}
 use Rattle.merc_tokens.specs.declared.token.Token.{Token}
 use Rattle.merc_tokens.specs.declared.token.TokenKind.{TokenKind}
-use Rattle.merc_tokens.specs.declared.token.TokenKind.TheVariants.{Name, Quoted, Var, Int, Text as TextToken, OpenArgs, Open, Close, OpenList, CloseList, Comma, Bar, Dot, Stop}
-use Rattle.merc_tree.specs.Term.{Term, Terms, Variable, Integer, Text, Application, none, more, span_of, with_span}
+use Rattle.merc_tokens.specs.declared.token.TokenKind.TheVariants.{Name, Close, CloseList, Comma, Bar}
+use Rattle.merc_tree.specs.Term.{Term, Terms, Variable, Text, Application, none, more, span_of, with_span}
 use Rattle.merc_terms.specs.declared.frame.Bound.{Bound}
 use Rattle.merc_terms.specs.declared.frame.Role.{Role}
 use Rattle.merc_terms.specs.declared.frame.Role.TheVariants.{Enclosed, Argument, Item, ListTail, Operand, FirstOperand, SecondOperand, RightOperand}
@@ -18,9 +18,9 @@ use Rattle.merc_terms.specs.declared.operators.Operator.{Operator}
 use Rattle.merc_terms.specs.declared.starting.Start.{Start}
 use Rattle.merc_terms.specs.declared.starting.Start.TheVariants.{Variable as VariableStart, Integer as IntegerStart, Text as TextStart, Constant, Application as ApplicationStart, List as ListStart, Parenthesis, Prefix}
 use Rattle.merc_terms.specs.Operators.{infix_named, first_most, last_most, takes_two}
-use Rattle.merc_terms.specs.Reading.{token, joined, begins_with, is_infix_name, IsInfix, name as infix_name, comma as infix_comma, Spells, before as spells_before, quantifier, between, SpellsArguments, last_argument, argument, SpellsItems, last_item, items_tail, item, cell, nil, IsPrefix}
+use Rattle.merc_terms.specs.Reading.{token, joined, begins_with, is_infix_name, IsInfix, name as infix_name, comma as infix_comma, Spells, before as spells_before, quantifier, between, SpellsArguments, last_argument, argument, SpellsItems, last_item, items_tail, item, cell, nil}
 use Rattle.merc_terms.specs.Starting.{Started, start_at}
-use Rattle.merc_terms.specs.Reader.{Built, Read, with_term, with_integer, pushed, with_application, with_cells, with_list, with_enclosed, whole_bound, argument_bound, operand_bound, frame_of, prefix_role, prefix_bound, fitting, infix_kind, infix_at, delimiter_with, delimiter_at, Reading, started_by, begun_by, term_by, going_by, tail_by, enclosed_by, argument_by, item_by, list_tail_by, operated_by, second_by, closed_by, filled_by, reading}
+use Rattle.merc_terms.specs.Reader.{Built, Read, pushed, with_application, with_cells, with_list, with_enclosed, whole_bound, argument_bound, operand_bound, frame_of, fitting, infix_kind, infix_at, delimiter_with, delimiter_at, Reading, started_by, begun_by, term_by, going_by, tail_by, enclosed_by, argument_by, item_by, list_tail_by, operated_by, second_by, closed_by, filled_by, reading}
 use Rattle.merc_terms.proofs.Building.{pushed_variable, pushed_text, pushed_constant, pushed_integer, pushed_negative, pushed_back, behind, pushed_application, cells, pushed_cells, pushed_list, pushed_enclosed, span_of-with_span}
 use Rattle.merc_terms.proofs.Starts.{Begins, WhereBegun, start_at-begins}
 use Rattle.merc_terms.proofs.Table.{prefix_name}

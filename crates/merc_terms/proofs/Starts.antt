@@ -1,18 +1,18 @@
 -- What the reader takes at the beginning of a term spells what it says.
-use Rattle.std.proofs.Common.{◌≡◌, ℕ, ◌≤◌, Bool, true, false, ◌||◌, ◌&&◌, not, ◌==◌, List, [], ◌∷◌, Option, Some, None, refl, sym, ap, subst, ◌∙◌, arith, eqb-true}
+use Rattle.std.proofs.Common.{◌≡◌, ℕ, ◌≤◌, Bool, true, false, ◌==◌, List, [], ◌∷◌, Option, Some, None, refl, eqb-true}
 use Rattle.std.specs.Bool.{if◌then◌else◌}
 use Rattle.std.proofs.lemmas.Bool.{and_parts}
 use Rattle.merc_base.specs.declared.place.Span.{Span}
 use Rattle.merc_tokens.specs.declared.token.Token.{Token}
 use Rattle.merc_tokens.specs.declared.token.TokenKind.{TokenKind}
-use Rattle.merc_tokens.specs.declared.token.TokenKind.TheVariants.{Name, Quoted, Var, Int, Text as TextToken, OpenArgs, Open, Close, OpenList, CloseList, Comma, Bar, Dot, Stop}
+use Rattle.merc_tokens.specs.declared.token.TokenKind.TheVariants.{Name, Quoted, Var, Int, Text as TextToken, OpenArgs, Open, Close, OpenList, CloseList, Dot}
 use Rattle.merc_tree.specs.Term.{Term, Terms, Variable, Integer, Text, Application, none, with_span}
 use Rattle.merc_terms.specs.declared.operators.Operator.{Operator}
 use Rattle.merc_terms.specs.declared.starting.Start.{Start}
 use Rattle.merc_terms.specs.declared.starting.Start.TheVariants.{Variable as VariableStart, Integer as IntegerStart, Text as TextStart, Constant, Application as ApplicationStart, List as ListStart, Parenthesis, Prefix}
 use Rattle.merc_terms.specs.Operators.{prefix_named}
-use Rattle.merc_terms.specs.Reading.{token, joined, begins_with, is_integer, goes_on_name, is_left_plain, is_sign, IsName, plain, left_plain, quoted, IsQualified, unquoted, quoted as quoted_behind, IsOpen, alone, behind_operator, IsPrefix, Spells, variable, integer, negative, text, constant, qualified, application, qualified_application, empty_list, list, parenthesis, SpellsArguments, SpellsItems}
-use Rattle.merc_terms.specs.Starting.{Started, named_at, named_before, qualified_at, qualified_start, is_mark, plain_start, signed_at, signed_start, operator_start, is_list_end, list_start, start_with, start_at}
+use Rattle.merc_terms.specs.Reading.{token, joined, begins_with, is_integer, goes_on_name, is_left_plain, is_sign, IsName, plain, left_plain, quoted, unquoted, quoted as quoted_behind, alone, behind_operator, IsPrefix, Spells, variable, integer, negative, text, constant, qualified, application, qualified_application, empty_list, list, parenthesis, SpellsArguments, SpellsItems}
+use Rattle.merc_terms.specs.Starting.{Started, named_at, named_before, qualified_at, plain_start, signed_at, signed_start, operator_start, list_start, start_with, start_at}
 use Rattle.merc_terms.specs.Reader.{integer_of}
 
 -- with this start, behind which this rest stands, the tokens spell a term, or spell one where the rest begins with its other parts

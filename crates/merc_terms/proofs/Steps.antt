@@ -1,5 +1,5 @@
 -- More steps than there are tokens change nothing.
-use Rattle.std.proofs.Common.{◌≡◌, ℕ, zero, suc, ◌+◌, ◌<◌, ◌≤◌, Bool, true, false, List, [], ◌∷◌, length, nat_le, Option, Some, None, refl, sym, ap, subst, ◌∙◌, arith}
+use Rattle.std.proofs.Common.{◌≡◌, ℕ, zero, suc, ◌+◌, ◌<◌, ◌≤◌, Bool, true, false, List, [], ◌∷◌, length, nat_le, Option, Some, None, refl, sym, ap, ◌∙◌, arith}
 use Rattle.std.specs.Bool.{if◌then◌else◌}
 use Rattle.merc_base.specs.declared.place.Span.{Span}
 use Rattle.merc_tokens.specs.declared.token.Token.{Token}
@@ -8,15 +8,15 @@ use Rattle.merc_terms.specs.declared.frame.Role.{Role}
 use Rattle.merc_terms.specs.declared.frame.Role.TheVariants.{Enclosed, Argument, Item, ListTail, Operand, FirstOperand, SecondOperand, RightOperand}
 use Rattle.merc_terms.specs.declared.frame.Frame.{Frame}
 use Rattle.merc_terms.specs.declared.frame.Delimiter.{Delimiter}
-use Rattle.merc_terms.specs.declared.frame.Delimiter.TheVariants.{Comma as CommaMark, Bar as BarMark, Close as CloseMark, CloseList as CloseListMark, Other}
+use Rattle.merc_terms.specs.declared.frame.Delimiter.TheVariants.{Comma as CommaMark, Bar as BarMark, Close as CloseMark, CloseList as CloseListMark}
 use Rattle.merc_terms.specs.declared.operators.Operator.{Operator}
 use Rattle.merc_terms.specs.declared.starting.Start.{Start}
 use Rattle.merc_terms.specs.declared.starting.Start.TheVariants.{Variable as VariableStart, Integer as IntegerStart, Text as TextStart, Constant, Application as ApplicationStart, List as ListStart, Parenthesis, Prefix}
-use Rattle.merc_terms.specs.Operators.{first_most, last_most, takes_two}
+use Rattle.merc_terms.specs.Operators.{last_most}
 use Rattle.merc_terms.specs.Reading.{joined, begins_with, is_infix_name}
 use Rattle.merc_terms.specs.Starting.{Started, start_at}
-use Rattle.merc_terms.specs.Reader.{Built, Read, with_application, with_cells, with_list, with_enclosed, whole_bound, argument_bound, operand_bound, frame_of, prefix_role, prefix_bound, infix_at, delimiter_at, Reading, started_by, begun_by, term_by, going_by, tail_by, enclosed_by, argument_by, item_by, list_tail_by, operated_by, second_by, closed_by, filled_by, reading, whole_term}
-use Rattle.merc_terms.proofs.Sound.{IsRead, term-sound, WhereInfix, infix_at-is, WhereMark, delimiter_at-is}
+use Rattle.merc_terms.specs.Reader.{Built, Read, with_application, with_cells, with_list, with_enclosed, whole_bound, argument_bound, operand_bound, frame_of, prefix_role, prefix_bound, infix_at, Reading, started_by, begun_by, term_by, going_by, tail_by, enclosed_by, argument_by, item_by, list_tail_by, operated_by, second_by, closed_by, filled_by, reading}
+use Rattle.merc_terms.proofs.Sound.{term-sound, WhereInfix, infix_at-is, WhereMark, delimiter_at-is}
 use Rattle.merc_terms.proofs.Shorter.{Spells-shorter, IsLeft, start_at-left}
 
 abbrev pub IsWithin : ℕ → Option Read → Type 0
