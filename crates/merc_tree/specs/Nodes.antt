@@ -1,5 +1,5 @@
 -- How terms lie in a list of nodes: the arguments of a term one after the other, then its root.
-use Rattle.std.specs.Prelude.{◌≡◌, ℕ, suc, ◌+◌, List, [], ◌∷◌, ◌++◌, length, Option}
+use Rattle.std.specs.Prelude.{◌≡◌, ℕ, suc, ◌+◌, List, [], ◌∷◌, ◌++◌, length, map, Option}
 use Rattle.merc_base.specs.declared.place.Span.{Span}
 use Rattle.merc_tree.specs.Term.{Term, Variable, Integer, Text, Application, Terms, none, more, list_of, applied, no_span}
 use Rattle.merc_tree.specs.declared.term.Node.{Node}
@@ -12,6 +12,13 @@ with_root (VariableShape name) span terms = terms ++ Variable name span ∷ []
 with_root (IntegerShape value) span terms = terms ++ Integer value span ∷ []
 with_root (TextShape text) span terms = terms ++ Text text span ∷ []
 with_root (ApplicationShape name qualifier arity) span terms = applied name qualifier arity span terms
+
+-- how many arguments a root of this shape has
+abbrev pub arity_of : Shape → ℕ
+arity_of (VariableShape name) = 0
+arity_of (IntegerShape value) = 0
+arity_of (TextShape text) = 0
+arity_of (ApplicationShape name qualifier arity) = arity
 
 -- what terms become where nodes are read behind them
 abbrev pub built : List Node → List Term → List Term
@@ -58,3 +65,7 @@ IsTerm nodes = nodes_of (term_of nodes) ≡ nodes
 
 abbrev pub AreTerms : List Node → Type 0
 AreTerms nodes = all_nodes (built nodes []) ≡ nodes
+
+-- the shapes of nodes, in order
+abbrev pub shapes : List Node → List Shape
+shapes nodes = map (λ n. n.shape) nodes
