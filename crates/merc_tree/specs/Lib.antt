@@ -6,4 +6,5 @@ pub mod Nesting
 pub mod Shape
 pub mod Nodes
 pub mod TermCode
+pub mod Parts
 pub mod Examples

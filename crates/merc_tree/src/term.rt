@@ -6,6 +6,8 @@ ghost use Rattle.merc_tree.specs.Term.{Variable, Integer, Text, applied, enclose
 ghost use Rattle.merc_tree.specs.Shape.{shape_of, arguments_of};
 ghost use Rattle.merc_tree.specs.Nesting.{nesting};
 
+mod nesting;
+
 use merc_base::{Name, NoMemory, Span};
 use std::alloc::Global;
 use std::marker::Model;
@@ -287,6 +289,14 @@ impl<'a> TermRef<'a> {
             nodes: nodes_between(self.nodes, 0, self.nodes.len() - 1),
             count: root.shape.arity(),
         }
+    }
+
+    /// How deep the term is nested: 1 for a variable, a literal and a plain name, and for an application 1 more than
+    /// its deepest argument. A chain to the right of `,`, `;`, `&`, `else` or of list cells counts once.
+    pub fn nesting(&self, alloc: Global) -> Result<usize, NoMemory>
+        ensures { IfOk result (λ depth. depth ≡ nesting self.now) }
+    {
+        nesting::nesting_of(self.nodes, alloc)
     }
 
     /// Whether both are the same term, spans aside.
