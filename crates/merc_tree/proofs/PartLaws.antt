@@ -1,19 +1,19 @@
 -- What is kept of terms for their nesting goes with the terms as their nodes are read.
-use Rattle.std.proofs.Common.{◌≡◌, ℕ, suc, zero, ◌+◌, ◌-◌, ◌<◌, ◌≤◌, max, get_or, add-one, drop-cons, Bool, true, false, ◌==◌, ◌&&◌, List, [], ◌∷◌, ◌++◌, length, map, take, drop, Option, Some, None, refl, ap, sym, ◌∙◌, arith, if◌then◌else◌}
+use Rattle.std.proofs.Common.{◌≡◌, ℕ, suc, ◌+◌, ◌-◌, ◌<◌, ◌≤◌, max, get_or, add-one, drop-cons, Bool, true, false, ◌==◌, ◌&&◌, List, [], ◌∷◌, ◌++◌, length, map, take, drop, Option, Some, None, refl, ap, sym, ◌∙◌, arith, if◌then◌else◌}
 use Rattle.std.proofs.Math.ListN.{drop_of_length-le}
 use Rattle.std.proofs.Math.Seq.{take-length, drop-length, take-suc}
 use Rattle.std.proofs.lemmas.Bool.Decides.{nat_tests}
-use Rattle.std.proofs.lemmas.List.{take-append-drop, length-drop, map-append, take-map, drop-map, length-map}
+use Rattle.std.proofs.lemmas.List.{take-append-drop, take_rest, map-append, take-map, drop-map, length-map}
 use Rattle.merc_base.specs.declared.place.Span.{Span}
-use Rattle.merc_tree.specs.Term.{Term, Variable, Integer, Text, Application, Terms, terms_of}
+use Rattle.merc_tree.specs.Term.{Term, Variable, Integer, Text, Application, terms_of}
 use Rattle.merc_tree.specs.Nesting.{is_chain, are_two, goes_on, greater, nesting, deepest, chain_nesting}
 use Rattle.merc_tree.specs.declared.term.Node.{Node}
 use Rattle.merc_tree.specs.declared.term.nesting.Part.{Part}
 use Rattle.merc_tree.specs.declared.term.Shape.{Shape}
 use Rattle.merc_tree.specs.declared.term.Shape.TheVariants.{Variable as VariableShape, Integer as IntegerShape, Text as TextShape, Application as ApplicationShape}
-use Rattle.merc_tree.specs.Nodes.{with_root, arity_of, built, term_of, IsTerm}
-use Rattle.merc_tree.specs.TermCode.{built-append, built-nodes_of}
-use Rattle.merc_tree.specs.Parts.{part_of, chain_of, deepest_part, is_name, goes_on_part, chain_name_of, plain_part, chain_part, joined, part_of_root, with_root_part}
+use Rattle.merc_tree.specs.Nodes.{with_root, arity_of, built}
+use Rattle.merc_tree.specs.TermCode.{built-append}
+use Rattle.merc_tree.specs.Parts.{part_of, deepest_part, is_name, goes_on_part, chain_name_of, plain_part, chain_part, joined, part_of_root, with_root_part}
 
 pub greater_max : (a b : ℕ) → greater a b ≡ max a b
 greater_max a b = grind (arith, nat_tests)
@@ -169,12 +169,7 @@ shallow_step shape parts kept limit shallow =
     omega (arith, ap deepest_part (take-append-drop kept parts), deepest_part-append (take kept parts) (drop kept parts), deepest_part-append (take kept parts) (root ∷ []),
     joined_shallow (chain_name_of shape) (drop kept parts), greater_max root.nesting 0)
 
--- at the end
-pub nesting_end : (nodes : List Node) (parts : List Part) (index : ℕ) → IsTerm nodes → index ≡ length nodes → parts ≡ map part_of (built (take index nodes) [])
-    → parts ≡ part_of (term_of nodes) ∷ []
-nesting_end nodes parts index is all parts_are =
-    parts_are ∙ ap (λ l. map part_of (built l [])) (ap (λ n. take n nodes) all ∙ take-length nodes) ∙ ap (map part_of) (ap (λ l. built l []) (sym is) ∙ built-nodes_of (term_of nodes) [])
-
+-- the parts from an index on
 pub rest_is : (items parts : List Part) (kept : ℕ) → items ≡ parts → take (length items - kept) (drop kept items) ≡ drop kept parts
 rest_is items parts kept same =
-    ap (λ n. take n (drop kept items)) (sym (length-drop kept items)) ∙ take-length (drop kept items) ∙ ap (drop kept) same
+    take_rest items kept ∙ ap (drop kept) same

@@ -8,3 +8,5 @@ pub mod Nodes
 pub mod TermCode
 pub mod Parts
 pub mod Examples
+pub mod TermExamples
+pub mod NodesExamples

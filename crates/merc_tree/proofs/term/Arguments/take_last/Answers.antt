@@ -1,5 +1,5 @@
 -- The last argument's nodes stand last, as many as its root says.
-use Rattle.std.proofs.Common.{◌≡◌, ◌<◌, ◌≤◌, ◌-◌, ◌++◌, ◌∷◌, [], length, ap, sym, ◌∙◌, arith}
+use Rattle.std.proofs.Common.{◌<◌, ◌++◌, ◌∷◌, [], length, ap, sym, ◌∙◌, arith}
 use Rattle.std.proofs.lemmas.List.{length-append}
 use Rattle.merc_tree.specs.Nodes.{built}
 use Rattle.merc_tree.proofs.NodeLaws.{last_cut, built_from, AreTerms_from, term_from, IsTerm_from}

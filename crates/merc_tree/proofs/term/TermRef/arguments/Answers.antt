@@ -1,6 +1,6 @@
 -- The arguments' nodes are all but the root.
-use Rattle.std.proofs.Common.{length, ap, sym, refl, ◌≡◌, [], ◌∙◌}
-use Rattle.merc_tree.specs.Nodes.{term_of, arity_of, built, all_nodes}
+use Rattle.std.proofs.Common.{length, ap, sym, refl, ◌≡◌, ◌∙◌}
+use Rattle.merc_tree.specs.Nodes.{term_of, arity_of, all_nodes}
 use Rattle.merc_tree.specs.Shape.{arguments_of}
 use Rattle.merc_tree.proofs.NodeLaws.{argument_part, term_root, arity_of-shape_of, built_from, AreTerms_from}
 use Rattle.merc_tree.proofs.term.TermRef.arguments.Goals as goal

@@ -1,5 +1,5 @@
 use Rattle.std.proofs.Common.{◌<◌, [], length, ap, sym, ◌∙◌, arith}
-use Rattle.merc_tree.specs.Nodes.{built, all_nodes, starts_from}
+use Rattle.merc_tree.specs.Nodes.{built, starts_from}
 use Rattle.merc_tree.specs.Term.{enclosed}
 use Rattle.merc_tree.proofs.NodeLaws.{built_from, AreTerms_from, enclosed_nodes, enclosed_starts}
 use Rattle.merc_tree.proofs.term.Terms.enclose.Goals as goal

@@ -1,5 +1,5 @@
 -- The parts of a root's arguments stand last, and none is nested deeper than there are nodes so far.
-use Rattle.std.proofs.Common.{◌≡◌, ◌≤◌, ◌<◌, ◌-◌, ◌∷◌, ◌++◌, [], length, take, drop, ap, arith, ◌∙◌}
+use Rattle.std.proofs.Common.{◌≡◌, ◌-◌, ◌∷◌, ◌++◌, [], length, take, drop, ap, arith, ◌∙◌}
 use Rattle.merc_tree.specs.Nodes.{arity_of}
 use Rattle.merc_tree.specs.Parts.{deepest_part, part_of_root}
 use Rattle.merc_tree.proofs.PartLaws.{rest_is, arguments_shallow, parts_step, shallow_step}
