@@ -105,7 +105,7 @@ rooted (ApplicationShape name qualifier arity) span terms enough =
       made = Application name qualifier (terms_of last) span;
       terms_are = refl;
       nodes_are = ap (λ n. root (ApplicationShape name qualifier n) span (argument_nodes (terms_of last))) count
-        ∙ ap (root (ApplicationShape name qualifier arity) span) (argument_nodes-terms_of last);
+          ∙ ap (root (ApplicationShape name qualifier arity) span) (argument_nodes-terms_of last);
     }
 
 -- a root behind the nodes of terms

@@ -166,8 +166,14 @@ pub shallow_step : (shape : Shape) (parts : List Part) (kept limit : ℕ) → de
     → deepest_part (take kept parts ++ part_of_root shape (drop kept parts) ∷ []) ≤ limit + 1
 shallow_step shape parts kept limit shallow =
     let root = part_of_root shape (drop kept parts) in
-    omega (arith, ap deepest_part (take-append-drop kept parts), deepest_part-append (take kept parts) (drop kept parts), deepest_part-append (take kept parts) (root ∷ []),
-    joined_shallow (chain_name_of shape) (drop kept parts), greater_max root.nesting 0)
+    omega (
+      arith,
+      ap deepest_part (take-append-drop kept parts),
+      deepest_part-append (take kept parts) (drop kept parts),
+      deepest_part-append (take kept parts) (root ∷ []),
+      joined_shallow (chain_name_of shape) (drop kept parts),
+      greater_max root.nesting 0,
+    )
 
 -- the parts from an index on
 pub rest_is : (items parts : List Part) (kept : ℕ) → items ≡ parts → take (length items - kept) (drop kept items) ≡ drop kept parts

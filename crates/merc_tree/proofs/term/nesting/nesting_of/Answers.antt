@@ -7,8 +7,11 @@ use Rattle.merc_tree.proofs.term.nesting.nesting_of.Goals as goal
 
 pub root_part-part-requires : goal.root_part-part-requires
 root_part-part-requires c =
-    omega (arith, ap deepest_part (rest_is c.deref.result.now c.loop-node.parts.items c.saturating_sub-kept.result c.deref.ensures.value),
-    arguments_shallow c.loop-node.parts.items c.saturating_sub-kept.result c.loop-node.node-index c.loop-node.invariant.shallow)
+    omega (
+      arith,
+      ap deepest_part (rest_is c.deref.result.now c.loop-node.parts.items c.saturating_sub-kept.result c.deref.ensures.value),
+      arguments_shallow c.loop-node.parts.items c.saturating_sub-kept.result c.loop-node.node-index c.loop-node.invariant.shallow,
+    )
 
 pub loop-node-preserved : goal.loop-node-preserved
 loop-node-preserved c =
