@@ -28,10 +28,7 @@ pub(super) fn nesting_of(nodes: &[Node], alloc: Global) -> Result<usize, NoMemor
         parts.truncate(kept);
         parts.push(part)?;
     }
-    match parts.first() {
-        Some(part) => Ok(part.nesting),
-        None => Ok(0),
-    }
+    Ok(parts[0].nesting)
 }
 
 // A root of this shape with these arguments.
