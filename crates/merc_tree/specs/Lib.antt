@@ -4,4 +4,9 @@ pub mod Meaning
 pub mod Term
 pub mod Nesting
 pub mod Shape
+pub mod Nodes
+pub mod TermCode
+pub mod Parts
 pub mod Examples
+pub mod TermExamples
+pub mod NodesExamples
