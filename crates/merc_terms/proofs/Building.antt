@@ -3,7 +3,8 @@ use Rattle.std.proofs.Common.{◌≡◌, ℕ, zero, suc, ◌+◌, ◌-◌, ℤ, 
 use Rattle.std.specs.Bool.{if◌then◌else◌}
 use Rattle.merc_base.specs.declared.place.Span.{Span}
 use Rattle.merc_tree.specs.Term.{Term, Terms, Variable, Integer, Text, Application, none, more, terms_of, list_of, span_of, with_span, applied, enclosed}
-use Rattle.merc_terms.specs.Reader.{Built, fits, with_term, with_integer, clipped, clipped_all, is_great, are_great, pushed, with_application, with_cells, with_list, with_enclosed}
+use Rattle.merc_terms.specs.declared.built.Built.{Built}
+use Rattle.merc_terms.specs.Reader.{fits, with_term, with_integer, clipped, clipped_all, is_great, are_great, pushed, with_application, with_cells, with_list, with_enclosed}
 use Rattle.merc_terms.specs.Reading.{cell, nil}
 
 -- the terms and the mark of what is built decide it

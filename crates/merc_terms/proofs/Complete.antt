@@ -16,7 +16,8 @@ use Rattle.merc_terms.specs.declared.starting.Start.TheVariants.{Variable as Var
 use Rattle.merc_terms.specs.Operators.{infix_named, prefix_named, first_most, last_most, takes_two}
 use Rattle.merc_terms.specs.Reading.{token, joined, begins_with, is_integer, goes_on_name, is_infix_name, leaves_plain, is_left_plain, is_sign, IsName, plain, left_plain, quoted, IsQualified, unquoted, quoted as quoted_behind, IsOpen, alone, behind_operator, IsPrefix, IsInfix, name as infix_name, comma as infix_comma, Spells, variable, integer, negative, text, constant, qualified, application, qualified_application, empty_list, list, parenthesis, before as spells_before, quantifier, between, SpellsArguments, last_argument, argument, SpellsItems, last_item, items_tail, item, cell, nil}
 use Rattle.merc_terms.specs.Starting.{named_at, named_before, qualified_start, is_mark, plain_start, operator_start, is_list_end, list_start, start_with, start_at}
-use Rattle.merc_terms.specs.Reader.{Built, Read, pushed, with_application, with_cells, with_list, with_enclosed, whole_bound, argument_bound, operand_bound, frame_of, fitting, infix_at, started_by, begun_by, going_by, tail_by, second_by, closed_by}
+use Rattle.merc_terms.specs.declared.built.Built.{Built}
+use Rattle.merc_terms.specs.Reader.{Read, pushed, with_application, with_cells, with_list, with_enclosed, whole_bound, argument_bound, operand_bound, frame_of, fitting, infix_at, started_by, begun_by, going_by, tail_by, second_by, closed_by}
 use Rattle.merc_terms.proofs.Building.{pushed_variable, pushed_text, pushed_constant, pushed_integer, pushed_negative, pushed_back, behind, pushed_application, cells, pushed_cells, pushed_list, pushed_enclosed, span_of-with_span}
 use Rattle.merc_terms.proofs.Table.{IsApart, infix_apart, prefix_apart, prefix_name, comma_row, minus_prefix, first_most_below, first_most_least, last_most_below, most_apart, first_most_two}
 use Rattle.merc_terms.proofs.Sound.{WhereInfix, infix_at-is}

@@ -9,7 +9,8 @@ use Rattle.merc_tokens.specs.declared.token.TokenKind.TheVariants.{Name, Quoted,
 use Rattle.merc_tree.specs.Term.{Term, Terms, Variable, Integer, Text, Application, none, more, span_of, with_span}
 use Rattle.merc_terms.specs.declared.operators.Operator.{Operator}
 use Rattle.merc_terms.specs.Reading.{token, joined, begins_with, is_integer, goes_on_name, is_infix_name, leaves_plain, is_left_plain, IsName, plain, left_plain, quoted, IsQualified, unquoted, quoted as quoted_behind, IsOpen, alone, behind_operator, IsPrefix, IsInfix, name as infix_name, comma as infix_comma, Spells, variable, integer, negative, text, constant, qualified, application, qualified_application, empty_list, list, parenthesis, before, quantifier, between, SpellsArguments, last_argument, argument, SpellsItems, last_item, items_tail, item}
-use Rattle.merc_terms.specs.Reader.{Built, Read, clipped, is_great, are_great, is_great_integer, pushed}
+use Rattle.merc_terms.specs.declared.built.Built.{Built}
+use Rattle.merc_terms.specs.Reader.{Read, clipped, is_great, are_great, is_great_integer, pushed}
 use Rattle.merc_terms.proofs.WholeTerms.{IsEnd, nothing, full_stop, whole_complete, great_fits}
 
 abbrev renamed_kind : (ℕ → ℕ) → TokenKind → TokenKind

@@ -4,7 +4,8 @@ use Rattle.merc_base.specs.declared.place.Span.{Span}
 use Rattle.merc_tokens.specs.declared.token.Token.{Token}
 use Rattle.merc_terms.specs.declared.frame.Bound.{Bound}
 use Rattle.merc_terms.specs.declared.frame.Frame.{Frame}
-use Rattle.merc_terms.specs.Reader.{Built, Read, Reading, term_by, tail_by, filled_by, reading}
+use Rattle.merc_terms.specs.declared.built.Built.{Built}
+use Rattle.merc_terms.specs.Reader.{Read, Reading, term_by, tail_by, filled_by, reading}
 use Rattle.merc_terms.proofs.Steps.{AreAlike, IsWithin, term_by-alike, tail_by-alike, filled_by-alike, term-shorter, filled-none, term-steps, tail-steps, filled-steps}
 
 -- how many steps serve for what goes on behind a part

@@ -20,7 +20,8 @@ use Rattle.merc_terms.specs.declared.starting.Start.TheVariants.{Variable as Var
 use Rattle.merc_terms.specs.Operators.{infix_named, first_most, last_most, takes_two}
 use Rattle.merc_terms.specs.Reading.{token, joined, begins_with, is_infix_name, IsInfix, name as infix_name, comma as infix_comma, Spells, before as spells_before, quantifier, between, SpellsArguments, last_argument, argument, SpellsItems, last_item, items_tail, item, cell, nil}
 use Rattle.merc_terms.specs.Starting.{Started, start_at}
-use Rattle.merc_terms.specs.Reader.{Built, Read, pushed, with_application, with_cells, with_list, with_enclosed, whole_bound, argument_bound, operand_bound, frame_of, fitting, infix_kind, infix_at, delimiter_with, delimiter_at, Reading, started_by, begun_by, term_by, going_by, tail_by, enclosed_by, argument_by, item_by, list_tail_by, operated_by, second_by, closed_by, filled_by, reading}
+use Rattle.merc_terms.specs.declared.built.Built.{Built}
+use Rattle.merc_terms.specs.Reader.{Read, pushed, with_application, with_cells, with_list, with_enclosed, whole_bound, argument_bound, operand_bound, frame_of, fitting, infix_kind, infix_at, delimiter_with, delimiter_at, Reading, started_by, begun_by, term_by, going_by, tail_by, enclosed_by, argument_by, item_by, list_tail_by, operated_by, second_by, closed_by, filled_by, reading}
 use Rattle.merc_terms.proofs.Building.{pushed_variable, pushed_text, pushed_constant, pushed_integer, pushed_negative, pushed_back, behind, pushed_application, cells, pushed_cells, pushed_list, pushed_enclosed, span_of-with_span}
 use Rattle.merc_terms.proofs.Starts.{Begins, WhereBegun, start_at-begins}
 use Rattle.merc_terms.proofs.Table.{prefix_name}

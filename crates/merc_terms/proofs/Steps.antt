@@ -15,7 +15,8 @@ use Rattle.merc_terms.specs.declared.starting.Start.TheVariants.{Variable as Var
 use Rattle.merc_terms.specs.Operators.{last_most}
 use Rattle.merc_terms.specs.Reading.{joined, begins_with, is_infix_name}
 use Rattle.merc_terms.specs.Starting.{Started, start_at}
-use Rattle.merc_terms.specs.Reader.{Built, Read, with_application, with_cells, with_list, with_enclosed, whole_bound, argument_bound, operand_bound, frame_of, prefix_role, prefix_bound, infix_at, Reading, started_by, begun_by, term_by, going_by, tail_by, enclosed_by, argument_by, item_by, list_tail_by, operated_by, second_by, closed_by, filled_by, reading}
+use Rattle.merc_terms.specs.declared.built.Built.{Built}
+use Rattle.merc_terms.specs.Reader.{Read, with_application, with_cells, with_list, with_enclosed, whole_bound, argument_bound, operand_bound, frame_of, prefix_role, prefix_bound, infix_at, Reading, started_by, begun_by, term_by, going_by, tail_by, enclosed_by, argument_by, item_by, list_tail_by, operated_by, second_by, closed_by, filled_by, reading}
 use Rattle.merc_terms.proofs.Sound.{term-sound, WhereInfix, infix_at-is, WhereMark, delimiter_at-is}
 use Rattle.merc_terms.proofs.Shorter.{Spells-shorter, IsLeft, start_at-left}
 

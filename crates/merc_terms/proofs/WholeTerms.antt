@@ -8,7 +8,8 @@ use Rattle.merc_tokens.specs.declared.token.TokenKind.TheVariants.{Stop}
 use Rattle.merc_tree.specs.Term.{Term, Terms, Variable, Integer, Text, Application, none, more, span_of, HasWords, HaveWords}
 use Rattle.merc_terms.specs.declared.frame.Bound.{Bound}
 use Rattle.merc_terms.specs.Reading.{token, begins_with, Spells}
-use Rattle.merc_terms.specs.Reader.{Built, Read, clipped, clipped_all, clipped_integer, is_great, are_great, is_great_integer, pushed, whole_bound, reading, whole_term}
+use Rattle.merc_terms.specs.declared.built.Built.{Built}
+use Rattle.merc_terms.specs.Reader.{Read, clipped, clipped_all, clipped_integer, is_great, are_great, is_great_integer, pushed, whole_bound, reading, whole_term}
 use Rattle.merc_terms.proofs.Sound.{term-sound}
 use Rattle.merc_terms.proofs.Complete.{may_go_on, Spells-read}
 use Rattle.merc_terms.proofs.Settled.{settled_term-is}
