@@ -9,3 +9,4 @@ pub mod Complete
 pub mod WholeTerms
 pub mod Renaming
 pub mod ReadingLaws
+pub mod ReadingExamples

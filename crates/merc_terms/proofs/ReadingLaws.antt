@@ -16,7 +16,7 @@ SpellsItem-unique one other tokens rest rest' is is' =
     let both = Spells-unique one other is.priority is'.priority tokens _ _ is.spelled is.within (full_stop is.stop rest) is'.spelled is'.within (full_stop is'.stop rest') in
     (both.0, let e = both.1 in cc)
 
-Ends-end : (rest : List Token) → Ends rest → IsEnd rest
+pub Ends-end : (rest : List Token) → Ends rest → IsEnd rest
 Ends-end rest at_once = nothing
 Ends-end rest (stopped stop) = full_stop stop []
 

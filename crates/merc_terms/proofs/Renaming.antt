@@ -285,7 +285,7 @@ IsEnd-renamed : (f : ℕ → ℕ) (rest : List Token) → IsEnd rest → IsEnd (
 IsEnd-renamed f rest nothing = nothing
 IsEnd-renamed f rest (full_stop stop others) = full_stop stop (renamed_all f others)
 
-abbrev built_none : Built
+abbrev pub built_none : Built
 built_none = record { terms = []; is_great = false }
 
 read_same : (one other : Read) → Some one ≡ Some other → one ≡ other
