@@ -1,5 +1,5 @@
 -- Tokens that spell a term, and tokens that spell none.
-use Rattle.std.proofs.Common.{◌≡◌, ℕ, suc, ℤ, pos, negsuc, Bool, true, false, ◌&&◌, ◌||◌, List, [], ◌∷◌, length, map, Option, Some, None, refl, sym, ap, ◌∙◌}
+use Rattle.std.proofs.Common.{◌≡◌, ℕ, suc, ℤ, pos, negsuc, Bool, true, false, ◌&&◌, List, [], ◌∷◌, map, Option, Some, None, refl, sym, ap, ◌∙◌}
 use Rattle.std.specs.Bool.{if◌then◌else◌}
 use Rattle.std.proofs.lemmas.Bool.{and_parts}
 use Rattle.std.proofs.lemmas.Option.{same_Some}
@@ -7,13 +7,13 @@ use Rattle.merc_base.specs.declared.place.Span.{Span}
 use Rattle.merc_tokens.specs.declared.token.Token.{Token}
 use Rattle.merc_tokens.specs.declared.token.TokenKind.{TokenKind}
 use Rattle.merc_tokens.specs.declared.token.TokenKind.TheVariants.{Name, Quoted, Var, Int, Text as TextToken, OpenArgs, Open, Close, OpenList, CloseList, Comma, Bar, Dot, Stop}
-use Rattle.merc_tree.specs.Term.{Term, Terms, Variable, Integer, Text, Application, none, more, terms_of, bare, no_span}
+use Rattle.merc_tree.specs.Term.{Term, Variable, Integer, Application, none, more, terms_of, bare, no_span}
 use Rattle.merc_terms.specs.declared.built.Built.{Built}
 use Rattle.merc_terms.specs.Operators.{operators}
-use Rattle.merc_terms.specs.Reading.{token, Spells}
+use Rattle.merc_terms.specs.Reading.{token}
 use Rattle.merc_terms.specs.Items.{SpellsGoal, Ends, at_once, stopped}
-use Rattle.merc_terms.specs.Reader.{Read, clipped, is_great, pushed, reading, whole_term}
-use Rattle.merc_terms.proofs.WholeTerms.{IsEnd, nothing, full_stop, whole_sound, whole_complete, great_fits}
+use Rattle.merc_terms.specs.Reader.{Read, clipped, is_great, reading, whole_term}
+use Rattle.merc_terms.proofs.WholeTerms.{whole_sound, whole_complete, great_fits}
 use Rattle.merc_terms.proofs.Renaming.{built_none}
 use Rattle.merc_terms.proofs.ReadingLaws.{Ends-end}
 
@@ -91,13 +91,14 @@ reads kinds shape same = go (whole_term built_none (placed 0 kinds)) refl same
         let parts = same_Some _ _ same' in
         let fits : is_great whole.term ≡ false = sym (ap (λ (b : Built). b.is_great) whole.built_is) ∙ ap (λ (p : List Term × Bool). p.1) parts in
         let terms : ◌≡◌ {A = List Term} (bare (clipped whole.term) ∷ []) (shape ∷ []) =
-            sym (ap (λ (b : Built). map bare b.terms) whole.built_is) ∙ ap (λ (p : List Term × Bool). p.0) parts in
+        sym (ap (λ (b : Built). map bare b.terms) whole.built_is) ∙ ap (λ (p : List Term × Bool). p.0) parts in
         let one : bare (clipped whole.term) ≡ shape = cc in
         record {
           term = whole.term;
           spelled = record { priority = read.priority; rest = read.rest; within = whole.within; spelled = whole.spelled; ends = ended read.rest ends };
           same = sym (ap bare (great_fits whole.term fits).1) ∙ one;
         }
+
     go : (part : Option Read) → whole_term built_none (placed 0 kinds) ≡ part → outcome part ≡ Some (shape ∷ [], false) → Reads kinds shape
     go None is same' = cc
     go (Some read) is same' = by read is (is_ended read.rest) refl same'
@@ -108,6 +109,7 @@ unread kinds same = record { none = no_term }
     by : (b : Bool) (x : List Term × Bool) → b ≡ true → (if b then Some x else None) ≡ None → ⊥
     by true x is' same' = cc
     by false x is' same' = cc
+
     no_term : (term : Term) → SpellsGoal term (placed 0 kinds) → ⊥
     no_term term is =
         let there = whole_complete built_none term is.priority (placed 0 kinds) is.rest is.spelled is.within (Ends-end is.rest is.ends) in

@@ -297,9 +297,10 @@ clipped_same one other same = let e : ◌≡◌ {A = List Term} (clipped one ∷
 -- What whole term the tokens spell is decided, and what is left behind it.
 pub Spells-unique : (one other : Term) (priority priority' : ℕ) (tokens rest rest' : List Token) → Spells true one priority tokens rest → priority ≤ 1200 → IsEnd rest
     → Spells true other priority' tokens rest' → priority' ≤ 1200 → IsEnd rest' → (one ≡ other) × (rest ≡ rest')
-Spells-unique one other priority priority' tokens rest rest' spelled within ends spelled' within' ends' =
-    (term_same one other (λ mark. alike (marked mark) refl (marked_fits mark one) (marked_fits mark other)),
-    ap (λ (r : Read). r.rest) (same_Some _ _ (sym (whole_complete built_none one priority tokens rest spelled within ends) ∙ whole_complete built_none other priority' tokens rest' spelled' within' ends')))
+Spells-unique one other priority priority' tokens rest rest' spelled within ends spelled' within' ends' = (
+  term_same one other (λ mark. alike (marked mark) refl (marked_fits mark one) (marked_fits mark other)),
+  ap (λ (r : Read). r.rest) (same_Some _ _ (sym (whole_complete built_none one priority tokens rest spelled within ends) ∙ whole_complete built_none other priority' tokens rest' spelled' within' ends')),
+)
   where
     alike : (f : ℕ → ℕ) → f 0 ≡ 0 → is_great (renamed f one) ≡ false → is_great (renamed f other) ≡ false → renamed f one ≡ renamed f other
     alike f same fits fits' =

@@ -147,9 +147,13 @@ going_by-sound parts sound bound built old span priority tokens rest term read s
     subst (λ (r : Read). IsRead bound old tokens r) (same_Some _ read same)
     (record { term = term; built_is = built_is; span_is = span_is; within = within; spelled = spelled })
 going_by-sound parts sound bound built old span priority tokens rest term read spelled within built_is span_is (Some found) going same =
-    sound.filled (RightOperand found.0 span) bound built old tokens found.1 (parts.term (operand_bound (last_most found.0) bound) built found.1) read
-    (term, built_is, going.4, λ right priority' left spelled' within'.
-    rw span_is (between bound.commas going.0 priority priority' found.0 term right going.1 tokens found.1 left (rw going.2 at spelled) going.3 going.5 spelled' within'))
+    sound.filled (RightOperand found.0 span) bound built old tokens found.1 (parts.term (operand_bound (last_most found.0) bound) built found.1) read (
+      term,
+      built_is,
+      going.4,
+      λ right priority' left spelled' within'.
+          rw span_is (between bound.commas going.0 priority priority' found.0 term right going.1 tokens found.1 left (rw going.2 at spelled) going.3 going.5 spelled' within'),
+    )
     (λ inner there. sound.term (operand_bound (last_most found.0) bound) built found.1 inner there) same
 
 tail_by-sound : (parts : Reading) → IsSound parts → IsSoundTail (tail_by parts)
@@ -204,10 +208,14 @@ argument_by-sound parts sound tail name qualifier span count bound built old tok
     (ap (with_application name qualifier count s) (is.built_is ∙ ap (pushed is.term) awaits.2)
     ∙ pushed_application name qualifier count s (is.term ∷ awaits.0) old awaits.1) refl same
 argument_by-sound parts sound tail name qualifier span count bound built old tokens rest awaits inner is CommaMark left at read same =
-    sound.filled (Argument name qualifier span (count + 1)) bound inner.built old tokens left (parts.term argument_bound inner.built left) read
-    (is.term ∷ awaits.0, add-one count ∙ ap suc awaits.1, is.built_is ∙ ap (pushed is.term) awaits.2, λ terms close left' spelled.
-    awaits.3 (more is.term terms) close left'
-    (argument is.term terms inner.priority at.0 close rest left left' (before_mark argument_bound built rest inner _ is at.1) is.within spelled))
+    sound.filled (Argument name qualifier span (count + 1)) bound inner.built old tokens left (parts.term argument_bound inner.built left) read (
+      is.term ∷ awaits.0,
+      add-one count ∙ ap suc awaits.1,
+      is.built_is ∙ ap (pushed is.term) awaits.2,
+      λ terms close left' spelled.
+          awaits.3 (more is.term terms) close left'
+          (argument is.term terms inner.priority at.0 close rest left left' (before_mark argument_bound built rest inner _ is at.1) is.within spelled),
+    )
     (λ next there. sound.term argument_bound inner.built left next there) same
 argument_by-sound parts sound tail name qualifier span count bound built old tokens rest awaits inner is mark left at read same = cc
 
@@ -227,16 +235,25 @@ item_by-sound parts sound tail span count bound built old tokens rest awaits inn
     ∙ ap (λ (n : ℕ). with_list n s (pushed_back (is.term ∷ awaits.0) old)) awaits.1 ∙ pushed_list s (is.term ∷ awaits.0) old)
     (sym (span_of-cells s awaits.0 (cell s is.term (nil s)) refl)) same
 item_by-sound parts sound tail span count bound built old tokens rest awaits inner is CommaMark left at read same =
-    sound.filled (Item span (count + 1)) bound inner.built old tokens left (parts.term argument_bound inner.built left) read
-    (is.term ∷ awaits.0, add-one count ∙ ap suc awaits.1, is.built_is ∙ ap (pushed is.term) awaits.2, λ others close left' spelled.
-    awaits.3 (cell (joined span close) is.term others) close left'
-    (item (joined span close) is.term others inner.priority at.0 close rest left left' (before_mark argument_bound built rest inner _ is at.1) is.within spelled))
+    sound.filled (Item span (count + 1)) bound inner.built old tokens left (parts.term argument_bound inner.built left) read (
+      is.term ∷ awaits.0,
+      add-one count ∙ ap suc awaits.1,
+      is.built_is ∙ ap (pushed is.term) awaits.2,
+      λ others close left' spelled.
+          awaits.3 (cell (joined span close) is.term others) close left'
+          (item (joined span close) is.term others inner.priority at.0 close rest left left' (before_mark argument_bound built rest inner _ is at.1) is.within spelled),
+    )
     (λ next there. sound.term argument_bound inner.built left next there) same
 item_by-sound parts sound tail span count bound built old tokens rest awaits inner is BarMark left at read same =
-    sound.filled (ListTail span count) bound inner.built old tokens left (parts.term argument_bound inner.built left) read
-    (is.term, awaits.0, awaits.1, is.built_is ∙ ap (pushed is.term) awaits.2, λ end priority close left' spelled within.
-    awaits.3 (cell (joined span close) is.term end) close left'
-    (items_tail (joined span close) is.term end inner.priority priority at.0 close rest left left' (before_mark argument_bound built rest inner _ is at.1) is.within spelled within))
+    sound.filled (ListTail span count) bound inner.built old tokens left (parts.term argument_bound inner.built left) read (
+      is.term,
+      awaits.0,
+      awaits.1,
+      is.built_is ∙ ap (pushed is.term) awaits.2,
+      λ end priority close left' spelled within.
+          awaits.3 (cell (joined span close) is.term end) close left'
+          (items_tail (joined span close) is.term end inner.priority priority at.0 close rest left left' (before_mark argument_bound built rest inner _ is at.1) is.within spelled within),
+    )
     (λ next there. sound.term argument_bound inner.built left next there) same
 item_by-sound parts sound tail span count bound built old tokens rest awaits inner is mark left at read same = cc
 
@@ -285,13 +302,18 @@ first_by-sound parts tail term operator span bound built old tokens rest awaits 
   where
     last_bound : Bound
     last_bound = operand_bound (last_most operator) bound
+
     go : (b : Bool) → begins_with is_infix_name inner.rest ≡ b
         → (if b then None else second_by parts operator span bound (term_by parts (operand_bound (last_most operator) bound) inner.built inner.rest)) ≡ Some read → IsRead bound old tokens read
     go true begins this = cc
     go false begins this =
-        second_by-sound parts tail operator span bound inner.built old tokens inner.rest
-        (is.term, is.built_is ∙ ap (pushed is.term) awaits.0, awaits.1, λ last priority left spelled within.
-        awaits.2 is.term last inner.priority priority inner.rest left is.spelled is.within begins spelled within)
+        second_by-sound parts tail operator span bound inner.built old tokens inner.rest (
+          is.term,
+          is.built_is ∙ ap (pushed is.term) awaits.0,
+          awaits.1,
+          λ last priority left spelled within.
+              awaits.2 is.term last inner.priority priority inner.rest left is.spelled is.within begins spelled within,
+        )
         (term_by parts (operand_bound (last_most operator) bound) inner.built inner.rest)
         (λ next there. term (operand_bound (last_most operator) bound) inner.built inner.rest next there) read this
 
@@ -330,20 +352,27 @@ prefix_by-sound parts sound operator span bound built tokens rest begins read sa
   where
     named : operator.name ≡ begins.0
     named = prefix_name begins.0 operator begins.1.row
+
     go : (low two : Bool) → nat_le operator.priority bound.max ≡ low → takes_two operator.fixity ≡ two
         → (if low then parts.filled (frame_of (if two then FirstOperand operator span else Operand operator span) bound)
         (parts.term (operand_bound (if two then first_most operator else last_most operator) bound) built rest) else None) ≡ Some read
         → IsRead bound built tokens read
     go false two is_low is_two this = cc
     go true false is_low is_two this =
-        sound.filled (Operand operator span) bound built built tokens rest (parts.term (operand_bound (last_most operator) bound) built rest) read
-        (refl, leb-true operator.priority bound.max is_low, λ term priority left spelled within.
-        rw (named, begins.2) (spells_before bound.commas begins.0 priority operator term span rest left begins.1 is_two spelled within))
+        sound.filled (Operand operator span) bound built built tokens rest (parts.term (operand_bound (last_most operator) bound) built rest) read (
+          refl,
+          leb-true operator.priority bound.max is_low,
+          λ term priority left spelled within.
+              rw (named, begins.2) (spells_before bound.commas begins.0 priority operator term span rest left begins.1 is_two spelled within),
+        )
         (λ inner there. sound.term (operand_bound (last_most operator) bound) built rest inner there) this
     go true true is_low is_two this =
-        sound.filled (FirstOperand operator span) bound built built tokens rest (parts.term (operand_bound (first_most operator) bound) built rest) read
-        (refl, leb-true operator.priority bound.max is_low, λ first term priority priority' middle left spelled within apart spelled' within'.
-        rw (named, begins.2) (quantifier bound.commas begins.0 priority priority' operator first term span rest middle left begins.1 is_two spelled within apart spelled' within'))
+        sound.filled (FirstOperand operator span) bound built built tokens rest (parts.term (operand_bound (first_most operator) bound) built rest) read (
+          refl,
+          leb-true operator.priority bound.max is_low,
+          λ first term priority priority' middle left spelled within apart spelled' within'.
+              rw (named, begins.2) (quantifier bound.commas begins.0 priority priority' operator first term span rest middle left begins.1 is_two spelled within apart spelled' within'),
+        )
         (λ inner there. sound.term (operand_bound (first_most operator) bound) built rest inner there) this
 
 started_by-sound : (parts : Reading) → IsSound parts → (bound : Bound) (built : Built) (tokens : List Token) (start : Start) (rest : List Token)
