@@ -288,9 +288,6 @@ IsEnd-renamed f rest (full_stop stop others) = full_stop stop (renamed_all f oth
 abbrev pub built_none : Built
 built_none = record { terms = []; is_great = false }
 
-read_same : (one other : Read) → Some one ≡ Some other → one ≡ other
-read_same one other same = same_Some one other same
-
 clipped_same : (one other : Term) → pushed one built_none ≡ pushed other built_none → clipped one ≡ clipped other
 clipped_same one other same = let e : ◌≡◌ {A = List Term} (clipped one ∷ []) (clipped other ∷ []) = ap (λ (b : Built). b.terms) same in cc
 

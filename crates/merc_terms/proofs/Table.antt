@@ -26,14 +26,14 @@ find_all property test (first ∷ rows) row all found =
     go true here later same = ap property (sym (same_Some first row same)) ∙ here
     go false here later same = later same
 
--- Each priority is from 1 to 1200. An operator that may have its own priority to the left has at most 500, one that may have it to the right
+-- No priority is 0. An operator that may have its own priority to the left has at most 500, one that may have it to the right
 -- more than 500. One that takes two operands has less than 1000.
 abbrev is_apart : Operator → Bool
 is_apart operator =
-    nat_le 1 operator.priority && (nat_le operator.priority 1200
+    nat_le 1 operator.priority
     && ((not (begins_y operator.fixity) || nat_le operator.priority 500)
     && ((not (ends_y operator.fixity) || nat_le 501 operator.priority)
-    && (not (takes_two operator.fixity) || nat_le operator.priority 999))))
+    && (not (takes_two operator.fixity) || nat_le operator.priority 999)))
 
 all_apart : list_all is_apart operators ≡ true
 unfolding operators
@@ -41,7 +41,6 @@ all_apart = refl
 
 pub record IsApart (operator : Operator) : Type 0 where
   pub least : 1 ≤ operator.priority
-  pub most : operator.priority ≤ 1200
   pub left : begins_y operator.fixity ≡ true → operator.priority ≤ 500
   pub right : ends_y operator.fixity ≡ true → 501 ≤ operator.priority
   pub two : takes_two operator.fixity ≡ true → operator.priority ≤ 999
@@ -53,12 +52,10 @@ implied false c either is = cc
 apart_by : (operator : Operator) → is_apart operator ≡ true → IsApart operator
 apart_by operator all =
     let a = and_parts (nat_le 1 operator.priority) _ all in
-    let b = and_parts (nat_le operator.priority 1200) _ a.1 in
-    let c = and_parts (not (begins_y operator.fixity) || nat_le operator.priority 500) _ b.1 in
+    let c = and_parts (not (begins_y operator.fixity) || nat_le operator.priority 500) _ a.1 in
     let d = and_parts (not (ends_y operator.fixity) || nat_le 501 operator.priority) _ c.1 in
     record {
       least = leb-true 1 operator.priority a.0;
-      most = leb-true operator.priority 1200 b.0;
       left = λ is. leb-true operator.priority 500 (implied (begins_y operator.fixity) (nat_le operator.priority 500) c.0 is);
       right = λ is. leb-true 501 operator.priority (implied (ends_y operator.fixity) (nat_le 501 operator.priority) d.0 is);
       two = λ is. leb-true operator.priority 999 (implied (takes_two operator.fixity) (nat_le operator.priority 999) d.1 is);
