@@ -1,1 +1,3 @@
 pub mod Parted
+pub mod Utf8Parts
+pub mod EscapedReads
