@@ -1,3 +1,5 @@
 pub mod Parted
 pub mod Utf8Parts
 pub mod EscapedReads
+pub mod Behind
+pub mod DecimalReads
