@@ -1,19 +1,20 @@
 -- A number in decimal digits reads as that number.
-use Rattle.std.proofs.Common.{◌≡◌, ℕ, zero, suc, ◌+◌, ◌-◌, ◌*◌, ◌/◌, ◌%◌, ◌^◌, ◌<◌, ◌≤◌, Bool, true, false, ◌==◌, ◌||◌, ◌&&◌, not, leb, ltb, cond, List, [], ◌∷◌, ◌++◌, length, take, drop, reverse, get_or, Some, refl, sym, ◌∙◌, ap, subst, arith, append_assoc, append-nil, length-append, decimal, inl, inr}
+use Rattle.std.proofs.Common.{◌≡◌, ℕ, zero, suc, ◌+◌, ◌-◌, ◌*◌, ◌/◌, ◌%◌, ◌^◌, ◌<◌, ◌≤◌, ap₂, one-add, Option, Bool, true, false, ◌==◌, ◌||◌, ◌&&◌, not, leb, ltb, cond, List, [], ◌∷◌, ◌++◌, length, take, drop, reverse, get_or, Some, refl, sym, ◌∙◌, ap, subst, arith, append_assoc, append-nil, length-append, decimal, inl, inr}
 use Rattle.std.specs.List.{list_all, prefix_len}
 use Rattle.std.proofs.lemmas.Bool.Decides.{nat_tests}
 use Rattle.std.proofs.Math.Seq.{take-append_seam, drop-append_seam}
-use Rattle.std.proofs.lemmas.Bool.{le-leb, lt-ltb, ne_eqb, leb-true, and_parts, and_from, not-true}
+use Rattle.std.proofs.lemmas.Bool.{le-leb, lt-ltb, ne_eqb, leb-true, and_parts, and_from, agree_below_at}
 use Rattle.std.proofs.lemmas.Fmt.{decimal_by_steps, decimal_digit, first_decimal}
 use Rattle.std.proofs.lemmas.List.{reverse-append}
 use Rattle.std.proofs.lemmas.List.Folds.{list_all-append, prefix_len-append}
 use Rattle.merc_tokens.specs.declared.bytes.Class.TheVariants.{Digits}
 use Rattle.merc_tokens.specs.declared.bytes.Start.TheVariants.{Digit}
 use Rattle.merc_tokens.specs.declared.integers.Form.TheVariants.{Decimal}
+use Rattle.merc_tokens.specs.declared.integers.Form.{Form}
 use Rattle.merc_tokens.specs.declared.integers.Integer.{Integer}
 use Rattle.merc_tokens.specs.declared.pieces.Spelling.TheVariants.{Int}
 use Rattle.merc_tokens.specs.declared.pieces.Piece.TheVariants.{Token}
-use Rattle.merc_tokens.specs.Bytes.{is_digit, digit_of, is_digit_of, is_underscore, class_test, begins_with, start_of}
+use Rattle.merc_tokens.specs.Bytes.{is_digit, digit_of, is_digit_of, is_underscore, class_test, is_graphic, begins_with, start_of}
 use Rattle.merc_tokens.specs.Integers.{digits_value, digits_len, more_digits_len, within_limit, based_integer, form_of, integer_of, integer_at}
 use Rattle.merc_tokens.specs.Pieces.{integer_piece, first_piece}
 use Rattle.merc_term_text.proofs.Behind.{EndsOperand, no_digit, no_letter, no_fraction, no_form}
@@ -126,12 +127,50 @@ form-of : (value : ℕ) (rest : List ℕ) → value < 2 ^ 64 → EndsOperand res
 form-of zero rest small ends = rw (decimal_digit 0 (omega arith)) (no_form rest ends)
 form-of (suc value) rest small ends = form-more (decimal (suc value)) rest (first_decimal (suc value) (omega arith) small)
 
+within : (value : ℕ) → value ≤ 9223372036854775808 → within_limit value ≡ Some value
+within value fits = rw (le-leb value 9223372036854775808 fits) refl
+
+front-first : (byte : ℕ) (digits rest : List ℕ) → take (1 + length digits) (byte ∷ (digits ++ rest)) ≡ byte ∷ digits
+front-first byte digits rest = rw one-add (ap (λ (t : List ℕ). byte ∷ t) (take-append_seam digits rest))
+
 based-reads : (value : ℕ) (digits rest : List ℕ) → value ≤ 9223372036854775808 → Spelled value digits → EndsOperand rest → based_integer 10 0 (digits ++ rest) ≡ Some (integer value digits)
 based-reads value [] rest fits spelled ends = absurd (omega (arith, spelled.some))
 based-reads value (byte ∷ digits) rest fits spelled ends =
     let parts = and_parts (is_digit byte) (list_all is_digit digits) spelled.all in
-    rw (digit-base byte parts.0, digits_len-run byte digits rest parts.1 (no_digit rest ends)) ?
+    let found : within_limit (digits_value 10 0 (take (1 + length digits) (byte ∷ (digits ++ rest)))) ≡ Some value =
+    ap (λ (t : List ℕ). within_limit (digits_value 10 0 t)) (front-first byte digits rest) ∙ ap within_limit spelled.says ∙ within value fits in
+    let many : 0 + (1 + length digits) ≡ length (byte ∷ digits) = omega arith in
+    rw (digit-base byte parts.0, digits_len-run byte digits rest parts.1 (no_digit rest ends))
+    (ap₂ (λ (v : Option ℕ) (n : ℕ). Some (record { value = v; past = n; is_decimal = true })) found many)
+
+integer-reads : (value : ℕ) (digits rest : List ℕ) → value ≤ 9223372036854775808 → EndsOperand rest → Spelled value digits → integer_piece (Some (integer value digits)) (digits ++ rest) ≡ Token (Int value) (length digits)
+integer-reads value digits rest fits ends spelled =
+    rw (drop-append_seam digits rest, no_letter rest ends, no_fraction rest ends) refl
+
+start-first : (value : ℕ) (digits rest : List ℕ) (after : Bool) → Spelled value digits → first_piece after (digits ++ rest) ≡ integer_piece (integer_at (digits ++ rest)) (digits ++ rest)
+start-first value [] rest after spelled = absurd (omega (arith, spelled.some))
+start-first value (byte ∷ digits) rest after spelled =
+    let parts = and_parts (is_digit byte) (list_all is_digit digits) spelled.all in
+    rw (digit-start byte parts.0) refl
 
 -- a number of at most 2^63 reads as itself, before what may stand behind it
 pub decimal-reads : (value : ℕ) (rest : List ℕ) (after : Bool) → value ≤ 9223372036854775808 → EndsOperand rest → first_piece after (decimal value ++ rest) ≡ Token (Int value) (length (decimal value))
-decimal-reads value rest after fits ends = ?
+decimal-reads value rest after fits ends =
+    let small : value < 2 ^ 64 = omega arith in
+    let found : integer_at (decimal value ++ rest) ≡ Some (integer value (decimal value)) =
+    ap (λ (f : Form). integer_of f (decimal value ++ rest)) (form-of value rest small ends) ∙ based-reads value (decimal value) rest fits (spelled value small) ends in
+    start-first value (decimal value) rest after (spelled value small)
+    ∙ ap (λ (o : Option Integer). integer_piece o (decimal value ++ rest)) found
+    ∙ integer-reads value (decimal value) rest fits ends (spelled value small)
+
+first-no_graphic : (value : ℕ) (digits rest : List ℕ) → Spelled value digits → begins_with is_graphic (digits ++ rest) ≡ false
+first-no_graphic value [] rest spelled = absurd (omega (arith, spelled.some))
+first-no_graphic value (byte ∷ digits) rest spelled =
+    let parts = and_parts (is_digit byte) (list_all is_digit digits) spelled.all in
+    let bounds = digit-bounds byte parts.0 in
+    let apart : is_digit byte && is_graphic byte ≡ false = agree_below_at (λ b. is_digit b && is_graphic b) (λ b. false) 58 byte refl (omega arith) in
+    ap (λ (b : Bool). b && is_graphic byte) (sym parts.0) ∙ apart
+
+-- no graphic character begins a number
+pub decimal-no_graphic : (value : ℕ) (rest : List ℕ) → value ≤ 9223372036854775808 → begins_with is_graphic (decimal value ++ rest) ≡ false
+decimal-no_graphic value rest fits = first-no_graphic value (decimal value) rest (spelled value (omega arith))
