@@ -3,3 +3,4 @@ pub mod Utf8Parts
 pub mod EscapedReads
 pub mod Behind
 pub mod DecimalReads
+pub mod NamesRead
