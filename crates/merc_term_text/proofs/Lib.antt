@@ -4,3 +4,4 @@ pub mod EscapedReads
 pub mod Behind
 pub mod DecimalReads
 pub mod NamesRead
+pub mod OperatorsRead
