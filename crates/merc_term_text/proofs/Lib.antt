@@ -5,3 +5,5 @@ pub mod Behind
 pub mod DecimalReads
 pub mod NamesRead
 pub mod OperatorsRead
+pub mod PiecesBehind
+pub mod TokensRead

@@ -1,9 +1,9 @@
 -- Plain names and variables read as themselves.
-use Rattle.std.proofs.Common.{◌≡◌, ℕ, zero, suc, ◌<◌, ◌≤◌, Bool, true, false, ◌==◌, ◌||◌, ◌&&◌, List, [], ◌∷◌, ◌++◌, length, take, refl, sym, ◌∙◌, ap, arith}
+use Rattle.std.proofs.Common.{◌≡◌, ℕ, zero, suc, ◌<◌, ◌≤◌, Bool, true, false, leb, ◌==◌, ◌||◌, ◌&&◌, List, [], ◌∷◌, ◌++◌, length, take, refl, sym, ◌∙◌, ap, arith}
 use Rattle.std.specs.List.{list_all}
 use Rattle.std.specs.Char.{is_ascii_lowercase}
 use Rattle.std.proofs.Math.Seq.{take-append_seam}
-use Rattle.std.proofs.lemmas.Bool.{le-leb, and_parts, and_from}
+use Rattle.std.proofs.lemmas.Bool.{le-leb, leb-true, and_parts, and_from}
 use Rattle.std.proofs.lemmas.Bool.Decides.{nat_tests}
 use Rattle.merc_value.specs.Text.{is_plain, is_word as is_word_text, is_word_byte, word_operators}
 use Rattle.merc_tokens.specs.declared.bytes.Class.{Class}
@@ -24,6 +24,9 @@ lower-same byte = grind (arith, nat_tests)
 
 word-same : (byte : ℕ) → is_word_byte byte ≡ is_word byte
 word-same byte = grind (arith, nat_tests)
+
+pub lower-bounds : (byte : ℕ) → is_lower byte ≡ true → (97 ≤ byte) × (byte ≤ 122)
+lower-bounds byte is = let parts = and_parts (leb 97 byte) (leb byte 122) is in (leb-true 97 byte parts.0, leb-true byte 122 parts.1)
 
 pub lower-start : (byte : ℕ) → is_lower byte ≡ true → start_of byte ≡ Lower
 lower-start byte is = grind (arith, nat_tests)
