@@ -98,7 +98,7 @@ minus-reads after rest other = let none : prefix_len (class_test Graphic) rest �
 pub text-fixed : (names : List (List ℕ)) (name : ℕ) (text : List ℕ) → HoldsFixed names → slice_get fixed_names name ≡ Some text → text_at names name ≡ text
 text-fixed names name text fixed is = ap (λ (o : Option (List ℕ)). unwrap_or o []) (fixed.text name text is)
 
-minus-fixed : slice_get fixed_names 43 ≡ Some (codes "-")
+pub minus-fixed : slice_get fixed_names 43 ≡ Some (codes "-")
 unfolding fixed_names
 minus-fixed = refl
 

@@ -1,5 +1,5 @@
 -- Each token reads as itself, given what stands before and behind it.
-use Rattle.std.proofs.Common.{◌≡◌, ℕ, zero, suc, ◌+◌, ◌≤◌, ◌⊎◌, Bool, true, false, ◌==◌, List, [], ◌∷◌, ◌++◌, length, Option, Some, None, is_some, slice_get, option_map, flat_map, codes, refl, sym, ◌∙◌, ap, ap₂, subst, arith, inl, inr, unwrap_or, append_assoc, length-append, decimal, IsUtf8}
+use Rattle.std.proofs.Common.{◌≡◌, ℕ, zero, suc, ◌+◌, ◌≤◌, ◌⊎◌, Bool, true, false, ◌==◌, List, [], ◌∷◌, ◌++◌, length, Option, Some, None, is_some, slice_get, option_map, flat_map, codes, refl, sym, ◌∙◌, ap, ap₂, subst, arith, inl, inr, unwrap_or, append-nil, append_assoc, length-append, decimal, IsUtf8}
 use Rattle.std.specs.List.{AllByRecursion}
 use Rattle.std.proofs.lemmas.Bool.{cases_Bool, le-leb, false≢true}
 use Rattle.merc_base.specs.Names.{HoldsFixed}
@@ -19,7 +19,7 @@ use Rattle.merc_term_text.proofs.Behind.{EndsOperand, EndsName, no_single_quote,
 use Rattle.merc_term_text.proofs.EscapedReads.{IsQuote, single_quote, double_quote, reads_escaped}
 use Rattle.merc_term_text.proofs.DecimalReads.{decimal-reads, decimal-no_graphic}
 use Rattle.merc_term_text.proofs.NamesRead.{plain-is, name-reads, variable-reads}
-use Rattle.merc_term_text.proofs.OperatorsRead.{Reads, reads, operator-reads, minus-reads, minus-text, text-fixed}
+use Rattle.merc_term_text.proofs.OperatorsRead.{Reads, reads, operator-reads, minus-reads, minus-fixed}
 use Rattle.merc_term_text.proofs.PiecesBehind.{allowed, is_name_token, after_name, open_args-before, dot-before, open-before, EndsItem, at_end, at_blank, stop-behind, operand-behind, name-behind, plain-touches, EndsSymbol, symbol_end, symbol_blank, symbol_sign, symbol-behind, BeginsName, begins, dot-behind}
 
 -- a token of this kind is the first piece of its text with the rest behind it
@@ -106,3 +106,61 @@ module _ (names : List (List ℕ)) (after : Bool) (name : ℕ) (rest : List ℕ)
         name = refl;
         piece = subst (λ (t : List ℕ). first_piece after (t ++ rest) ≡ TokenFound (NameOf text) (length t)) (sym same) found;
       }
+
+-- a token of one or two bytes
+fixed-token : (names : List (List ℕ)) (after : Bool) (kind : TokenKind) (rest : List ℕ) (spelling : Spelling) → spelling_in names kind ≡ Some spelling → is_name spelling ≡ is_name_token kind
+    → first_piece after (token_text names kind ++ rest) ≡ TokenFound spelling (length (token_text names kind)) → ReadsAsToken names after kind rest
+fixed-token names after kind rest spelling looked_up name piece = record { spelling = spelling; looked_up = looked_up; name = name; piece = piece }
+
+qualifier-reads : (rest : List ℕ) → BeginsName rest → first_piece true (46 ∷ rest) ≡ TokenFound DotOf 1
+qualifier-reads _ (begins byte rest other going name) = rw (other, going, name) refl
+
+stop-reads : (after : Bool) (rest : List ℕ) → EndsItem rest → first_piece after (46 ∷ rest) ≡ TokenFound StopOf 1
+stop-reads after _ at_end = refl
+stop-reads after _ (at_blank rest) = refl
+
+module _ (names : List (List ℕ)) (fixed : HoldsFixed names) where
+  -- an operator's symbol
+  symbol-reads : (after : Bool) (name : ℕ) (rest : List Piece) → Reads name → EndsSymbol name rest → AllByRecursion (IsSpelled names) (kinds_of rest) → ReadsAsToken names after (Name name) (pieces_text names rest)
+  symbol-reads after name _ (reads text is alone before_blank) symbol_end others =
+      operator-token names after name [] text (fixed.text name text is) (rw (append-nil text) (alone after))
+  symbol-reads after name _ (reads text is alone before_blank) (symbol_blank rest) others =
+      operator-token names after name (32 ∷ pieces_text names rest) text (fixed.text name text is) (before_blank after (pieces_text names rest))
+  symbol-reads after name _ (reads text is alone before_blank) (symbol_sign value rest same) others =
+      operator-token names after name (decimal value ++ pieces_text names rest) (codes "-")
+      (subst (λ (n : ℕ). slice_get names n ≡ Some (codes "-")) (sym same) (fixed.text 43 (codes "-") minus-fixed))
+      (minus-reads after (decimal value ++ pieces_text names rest) (decimal-no_graphic value (pieces_text names rest) others.0))
+
+  name-token : (after : Bool) (name : ℕ) (rest : List Piece) → parted names (Some (Name name)) rest ≡ true → HasName names name → (is_plain (text_at names name) ≡ true) ⊎ (is_operator name ≡ true)
+      → AllByRecursion (IsSpelled names) (kinds_of rest) → ReadsAsToken names after (Name name) (pieces_text names rest)
+  name-token after name rest on has either others = elim (cases_Bool (is_plain (text_at names name))) [
+      inl plain ↦ plain-token names after name (pieces_text names rest) has plain (name-behind names (Name name) rest (λ next touch. plain-touches names name next fixed plain touch) on)
+      | inr symbol ↦ elim either [
+        inl plain ↦ absurd (false≢true (sym symbol ∙ plain))
+        | inr operator ↦ symbol-reads after name rest (operator-reads name operator) (symbol-behind names name rest symbol on) others
+      ]
+  ]
+
+  -- each token reads as itself where it is parted well
+  pub token-reads : (before : Option TokenKind) (kind : TokenKind) (rest : List Piece) → allowed names before kind ≡ true → parted names (Some kind) rest ≡ true → IsSpelled names kind
+      → AllByRecursion (IsSpelled names) (kinds_of rest) → ReadsAsToken names (after_name before) kind (pieces_text names rest)
+  token-reads before (Name name) rest ok on spelled others = name-token (after_name before) name rest on spelled.0 spelled.1 others
+  token-reads before (Quoted name) rest ok on spelled others = quoted-token names (after_name before) name (pieces_text names rest) spelled (name-behind names (Quoted name) rest (λ next touch. touch) on)
+  token-reads before (Var name) rest ok on spelled others = variable-token names (after_name before) name (pieces_text names rest) spelled.0 spelled.1 (operand-behind names (Var name) rest (λ next touch. touch) on)
+  token-reads before (Int value) rest ok on spelled others =
+      fixed-token names (after_name before) (Int value) (pieces_text names rest) (IntOf value) refl refl
+      (decimal-reads value (pieces_text names rest) (after_name before) spelled (operand-behind names (Int value) rest (λ next touch. touch) on))
+  token-reads before (TextToken name) rest ok on spelled others = text-token names (after_name before) name (pieces_text names rest) spelled.0 spelled.1 (operand-behind names (TextToken name) rest (λ next touch. touch) on)
+  token-reads before OpenArgs rest ok on spelled others = fixed-token names (after_name before) OpenArgs (pieces_text names rest) OpenArgsOf refl refl (rw (open_args-before names before ok) refl)
+  token-reads before Open rest ok on spelled others = fixed-token names (after_name before) Open (pieces_text names rest) OpenOf refl refl (rw (open-before names before ok) refl)
+  token-reads before Close rest ok on spelled others = fixed-token names (after_name before) Close (pieces_text names rest) CloseOf refl refl refl
+  token-reads before OpenList rest ok on spelled others = fixed-token names (after_name before) OpenList (pieces_text names rest) OpenListOf refl refl refl
+  token-reads before CloseList rest ok on spelled others = fixed-token names (after_name before) CloseList (pieces_text names rest) CloseListOf refl refl refl
+  token-reads before Comma rest ok on spelled others = fixed-token names (after_name before) Comma (pieces_text names rest) CommaOf refl refl refl
+  token-reads before Bar rest ok on spelled others = fixed-token names (after_name before) Bar (pieces_text names rest) BarOf refl refl refl
+  token-reads before Dot rest ok on spelled others =
+      fixed-token names (after_name before) Dot (pieces_text names rest) DotOf refl refl
+      (rw (dot-before names before ok) (qualifier-reads (pieces_text names rest) (dot-behind names rest on)))
+  token-reads before Stop rest ok on spelled others =
+      fixed-token names (after_name before) Stop (pieces_text names rest) StopOf refl refl
+      (stop-reads (after_name before) (pieces_text names rest) (stop-behind names rest on))
