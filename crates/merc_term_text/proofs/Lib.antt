@@ -7,3 +7,4 @@ pub mod NamesRead
 pub mod OperatorsRead
 pub mod PiecesBehind
 pub mod TokensRead
+pub mod PiecesRead
