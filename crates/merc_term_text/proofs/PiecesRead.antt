@@ -2,7 +2,7 @@
 use Rattle.std.proofs.Common.{◌≡◌, ℕ, ◌+◌, ◌<◌, ◌≤◌, ◌^◌, Bool, true, false, ◌&&◌, List, [], ◌∷◌, ◌++◌, length, drop, map, Option, Some, None, slice_get, option_map, codes, refl, sym, ◌∙◌, ap, ap₂, subst, arith, unwrap_or, append_assoc, length-append, IsUtf8}
 use Rattle.std.specs.List.{AllByRecursion}
 use Rattle.std.proofs.Math.Seq.{drop-append_seam}
-use Rattle.std.proofs.lemmas.Bool.{and_parts}
+use Rattle.std.proofs.lemmas.Bool.{and_parts, and_from}
 use Rattle.std.proofs.lemmas.Fmt.{IsAscii-decimal}
 use Rattle.std.proofs.lemmas.Str.{IsUtf8-append, IsUtf8-from_ascii, IsUtf8-nil}
 use Rattle.merc_base.specs.Names.{HoldsFixed}
@@ -17,11 +17,11 @@ use Rattle.merc_tokens.specs.declared.pieces.Piece.TheVariants.{Gap, Token as To
 use Rattle.merc_tokens.specs.Pieces.{first_piece}
 use Rattle.merc_tokens.specs.Tokens.{SpelledToken, HasTokens, HasTokensFrom, is_name, spelling_in, token_at, with_texts}
 use Rattle.merc_tokens.specs.Tokens.HasTokensFrom.{ends, gap, token}
-use Rattle.merc_term_text.specs.Pieces.{Piece, Blank, Token, token_text, pieces_text, kinds_of}
-use Rattle.merc_term_text.proofs.Parted.{parted, may_end, HasName, HasKinds, IsSpelled}
+use Rattle.merc_term_text.specs.Pieces.{Piece, Blank, Token, token_text, piece_text, pieces_text, kinds_of}
+use Rattle.merc_term_text.proofs.Parted.{parted, may_end, begins_part, touches, HasName, HasKinds, IsSpelled}
 use Rattle.merc_term_text.proofs.Utf8Parts.{ascii_byte}
 use Rattle.merc_term_text.proofs.EscapedReads.{single_quote, double_quote, written_utf8}
-use Rattle.merc_term_text.proofs.PiecesBehind.{after_name, is_name_token, parted-token}
+use Rattle.merc_term_text.proofs.PiecesBehind.{allowed, after_name, is_name_token, parted-token}
 use Rattle.merc_term_text.proofs.TokensRead.{ReadsAsToken, token-reads}
 
 -- the text is UTF-8
@@ -124,3 +124,51 @@ pieces_read names pieces fixed well spelled =
       named = found.named;
       same = found.same;
     }
+
+-- the token that pieces end with, behind this one or none: none behind a blank
+abbrev pub last_token : Option TokenKind → List Piece → Option TokenKind
+last_token before [] = before
+last_token before (Blank ∷ rest) = last_token None rest
+last_token before (Token kind ∷ rest) = last_token (Some kind) rest
+
+token-parted : (names : List (List ℕ)) (before : Option TokenKind) (next : TokenKind) (rest : List Piece) → allowed names before next ≡ true → parted names (Some next) rest ≡ true → parted names before (Token next ∷ rest) ≡ true
+token-parted names None next rest here on = and_from (begins_part next) (parted names (Some next) rest) here on
+token-parted names (Some before) next rest here on = and_from (touches names before next) (parted names (Some next) rest) here on
+
+-- pieces behind well parted ones
+pub parted-append : (names : List (List ℕ)) (before : Option TokenKind) (front rest : List Piece) → parted names before front ≡ true → parted names (last_token before front) rest ≡ true → parted names before (front ++ rest) ≡ true
+parted-append names before [] rest well on = on
+parted-append names before (Blank ∷ front) rest well on =
+    let parts = and_parts (may_end before) (parted names None front) well in
+    and_from (may_end before) (parted names None (front ++ rest)) parts.0 (parted-append names None front rest parts.1 on)
+parted-append names before (Token kind ∷ front) rest well on =
+    let parts = parted-token names before kind front well in
+    token-parted names before kind (front ++ rest) parts.0 (parted-append names (Some kind) front rest parts.1 on)
+
+pub kinds_of-append : (front rest : List Piece) → kinds_of (front ++ rest) ≡ kinds_of front ++ kinds_of rest
+kinds_of-append [] rest = refl
+kinds_of-append (Blank ∷ front) rest = kinds_of-append front rest
+kinds_of-append (Token kind ∷ front) rest = ap (λ (kinds : List TokenKind). kind ∷ kinds) (kinds_of-append front rest)
+
+pub pieces_text-append : (names : List (List ℕ)) (front rest : List Piece) → pieces_text names (front ++ rest) ≡ pieces_text names front ++ pieces_text names rest
+pieces_text-append names [] rest = refl
+pieces_text-append names (first ∷ front) rest =
+    ap (λ (t : List ℕ). piece_text names first ++ t) (pieces_text-append names front rest)
+    ∙ sym (append_assoc (piece_text names first) (pieces_text names front) (pieces_text names rest))
+
+spelled-append : (names : List (List ℕ)) (front rest : List TokenKind) → AllByRecursion (IsSpelled names) front → AllByRecursion (IsSpelled names) rest → AllByRecursion (IsSpelled names) (front ++ rest)
+spelled-append names [] rest here on = on
+spelled-append names (first ∷ front) rest here on = (here.0, spelled-append names front rest here.1 on)
+
+-- and with a full stop behind the last token, where that may stand there
+pub pieces_stop : (names : List (List ℕ)) (pieces : List Piece) → HoldsFixed names → parted names None pieces ≡ true → allowed names (last_token None pieces) Stop ≡ true → AllByRecursion (IsSpelled names) (kinds_of pieces)
+    → HasKinds names (pieces_text names pieces ++ codes ".") (kinds_of pieces ++ Stop ∷ [])
+pieces_stop names pieces fixed well stops spelled =
+    let all : List Piece = pieces ++ Token Stop ∷ [] in
+    let kinds : kinds_of all ≡ kinds_of pieces ++ Stop ∷ [] = kinds_of-append pieces (Token Stop ∷ []) in
+    let found : HasKinds names (pieces_text names all) (kinds_of all) =
+    pieces_read names all fixed
+    (parted-append names None pieces (Token Stop ∷ []) well (token-parted names (last_token None pieces) Stop [] stops refl))
+    (subst (AllByRecursion (IsSpelled names)) (sym kinds) (spelled-append names (kinds_of pieces) (Stop ∷ []) spelled (tt, tt))) in
+    subst (HasKinds names (pieces_text names pieces ++ codes ".")) kinds
+    (subst (λ (t : List ℕ). HasKinds names t (kinds_of all)) (pieces_text-append names pieces (Token Stop ∷ [])) found)
