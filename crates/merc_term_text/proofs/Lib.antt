@@ -8,3 +8,4 @@ pub mod OperatorsRead
 pub mod PiecesBehind
 pub mod TokensRead
 pub mod PiecesRead
+pub mod PiecesValid
