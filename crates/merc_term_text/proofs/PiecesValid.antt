@@ -4,6 +4,9 @@ use Rattle.std.specs.List.{list_all, prefix_len}
 use Rattle.std.proofs.lemmas.Bool.{cond_both, cases_Bool, leb-true, eqb-true, and_parts, and_from}
 use Rattle.std.proofs.lemmas.Bool.Decides.{nat_tests}
 use Rattle.std.proofs.lemmas.Str.{IsUtf8-append, IsUtf8-from_ascii, IsUtf8-nil}
+use Rattle.merc_base.specs.declared.refusal.Rule.TheVariants.{OutsideProfile}
+use Rattle.merc_base.specs.declared.refusal.Construct.TheVariants.{Float, IntegerSuffix}
+use Rattle.merc_base.specs.declared.refusal.Detail.TheVariants.{Word}
 use Rattle.merc_tokens.specs.declared.bytes.Class.{Class}
 use Rattle.merc_tokens.specs.declared.bytes.Class.TheVariants.{Word as WordClass, Graphic as GraphicClass}
 use Rattle.merc_tokens.specs.declared.bytes.Start.{Start}
@@ -13,7 +16,7 @@ use Rattle.merc_tokens.specs.declared.pieces.Spelling.{Spelling}
 use Rattle.merc_tokens.specs.declared.pieces.Spelling.TheVariants.{Name, Quoted, Var, Int, Text, OpenArgs, Open, Close, OpenList, CloseList, Comma, Bar, Dot, Stop}
 use Rattle.merc_tokens.specs.declared.pieces.Piece.{Piece}
 use Rattle.merc_tokens.specs.declared.pieces.Piece.TheVariants.{Gap, Token, Fault}
-use Rattle.merc_tokens.specs.Bytes.{is_graphic, is_lower, is_upper, is_word, class_test, begins_with, next_is, start_of}
+use Rattle.merc_tokens.specs.Bytes.{is_graphic, is_letter, is_lower, is_upper, is_word, class_test, begins_with, next_is, start_of}
 use Rattle.merc_tokens.specs.Integers.{integer_at}
 use Rattle.merc_tokens.specs.Quoted.{is_escape, escaped, quoted}
 use Rattle.merc_tokens.specs.Pieces.{run_of, named, comment_past, comment_piece, begins_fraction, graphic_piece, integer_piece, limited, dot_of, ends_item, begins_name, quoted_piece, string_piece, piece_of, first_piece}
@@ -86,10 +89,6 @@ run-utf8 class byte bytes small first =
     IsUtf8-from_ascii _ (all_small (class_test class) small (run_of class (byte ∷ bytes)) (and_from (class_test class byte) _ first (run-all (class_test class) bytes)))
 
 -- within quotes
-chosen : {X : Type 0} (P : X → Type 0) (b : Bool) (x y z : X) → (b ≡ true → x ≡ z → P z) → (b ≡ false → y ≡ z → P z) → cond b x y ≡ z → P z
-chosen P true x y z one other is = one refl is
-chosen P false x y z one other is = other refl is
-
 module _ (quote : ℕ) (small : quote < 128) where
   escaped-utf8 : (content rest : List ℕ) (byte next other : ℕ) → byte < 128 → next < 128 → other < 128 → IsUtf8 (content ++ byte ∷ next ∷ rest) → IsUtf8 ((content ++ other ∷ []) ++ rest)
   escaped-utf8 content rest byte next other small' small'' small''' whole =
@@ -134,3 +133,104 @@ named-valid make name len spelling len' valid is =
     (λ short same. let here : make name ≡ spelling = cc in subst IsValid here (valid (leb-true (length name) 255 short)))
     (λ _ same. absurd (cc))
     is
+
+-- a name, quoted or not, in ASCII or as it was read
+name-text : (text : List ℕ) → IsUtf8 text → length text ≤ 255 → IsNameText text
+name-text text whole short = record { utf8 = whole; short = short }
+
+word-valid : (byte : ℕ) (bytes : List ℕ) (spelling : Spelling) (len : ℕ) → start_of byte ≡ Lower
+    → named Name (run_of WordClass (byte ∷ bytes)) (length (run_of WordClass (byte ∷ bytes))) ≡ Token spelling len → IsValid spelling
+word-valid byte bytes spelling len starts is =
+    named-valid Name (run_of WordClass (byte ∷ bytes)) _ spelling len
+    (λ short. name-text _ (run-utf8 WordClass byte bytes word-small (lower-is byte starts)) short)
+    is
+
+variable-valid : (byte : ℕ) (bytes : List ℕ) (spelling : Spelling) (len : ℕ) → start_of byte ≡ Upper
+    → named Var (run_of WordClass (byte ∷ bytes)) (length (run_of WordClass (byte ∷ bytes))) ≡ Token spelling len → IsValid spelling
+variable-valid byte bytes spelling len starts is =
+    let first = upper-is byte starts in
+    named-valid Var (run_of WordClass (byte ∷ bytes)) _ spelling len
+    (λ short. (name-text _ (run-utf8 WordClass byte bytes word-small (upper-word byte first)) short, and_from _ _ first (run-all is_word bytes)))
+    is
+
+comment-valid : (found : Option ℕ) (spelling : Spelling) (len : ℕ) → comment_piece found ≡ Token spelling len → IsValid spelling
+comment-valid None spelling len is = absurd (cc)
+comment-valid (Some past) spelling len is = absurd (cc)
+
+dot-valid : (after : Bool) (rest : List ℕ) → IsValid (dot_of after rest)
+dot-valid after rest =
+    cond_both (ends_item rest) Stop _ IsValid
+    (λ _. tt)
+    (λ _. cond_both (after && begins_with begins_name rest) Dot (Name (codes ".")) IsValid (λ _. tt) (λ _. name-text (codes ".") (ascii_byte 46 (omega arith)) (omega arith)))
+
+graphic-valid : (after : Bool) (byte : ℕ) (bytes : List ℕ) (spelling : Spelling) (len : ℕ) → start_of byte ≡ Graphic → graphic_piece after byte bytes ≡ Token spelling len → IsValid spelling
+graphic-valid after byte bytes spelling len starts is =
+    cond_both ((byte == 47) && next_is 42 bytes) (comment_piece (option_map (λ past. 2 + past) (comment_past 0 (drop 1 bytes)))) _ (λ piece. piece ≡ Token spelling len → IsValid spelling)
+    (λ _ here. comment-valid (option_map (λ past. 2 + past) (comment_past 0 (drop 1 bytes))) spelling len here)
+    (λ _ here. cond_both ((byte == 46) && not (begins_with is_graphic bytes)) (Token (dot_of after bytes) 1) _ (λ piece. piece ≡ Token spelling len → IsValid spelling)
+    (λ _ on. let same : dot_of after bytes ≡ spelling = cc in subst IsValid same (dot-valid after bytes))
+    (λ _ on. named-valid Name (run_of GraphicClass (byte ∷ bytes)) _ spelling len (λ short. name-text _ (run-utf8 GraphicClass byte bytes graphic-small (graphic-is byte starts)) short) on)
+    here)
+    is
+
+limited-valid : (value : Option ℕ) (past : ℕ) (spelling : Spelling) (len : ℕ) → limited value past ≡ Token spelling len → IsValid spelling
+limited-valid None past spelling len is = absurd (cc)
+limited-valid (Some value) past spelling len is = let same : Int value ≡ spelling = cc in subst IsValid same tt
+
+integer-valid : (found : Option Integer) (text : List ℕ) (spelling : Spelling) (len : ℕ) → integer_piece found text ≡ Token spelling len → IsValid spelling
+integer-valid None text spelling len is = absurd (cc)
+integer-valid (Some integer) text spelling len is =
+    cond_both (begins_with is_letter (drop integer.past text)) (Fault OutsideProfile (Word IntegerSuffix)) _ (λ piece. piece ≡ Token spelling len → IsValid spelling)
+    (λ _ here. absurd (cc))
+    (λ _ here. cond_both (integer.is_decimal && begins_fraction (drop integer.past text)) (Fault OutsideProfile (Word Float)) _ (λ piece. piece ≡ Token spelling len → IsValid spelling)
+    (λ _ on. absurd (cc))
+    (λ _ on. limited-valid integer.value integer.past spelling len on)
+    here)
+    is
+
+quoted-valid : (rest : List ℕ) (found : Option (List ℕ × ℕ)) (spelling : Spelling) (len : ℕ) → IsUtf8 rest → quoted 39 [] 0 rest ≡ found → quoted_piece found ≡ Token spelling len → IsValid spelling
+quoted-valid rest None spelling len whole read is = absurd (cc)
+quoted-valid rest (Some found) spelling len whole read is =
+    named-valid Quoted found.0 (1 + found.1) spelling len (λ short. name-text found.0 (quoted-utf8 39 (omega arith) [] rest 0 found whole read) short) is
+
+string-valid : (rest : List ℕ) (found : Option (List ℕ × ℕ)) (spelling : Spelling) (len : ℕ) → IsUtf8 rest → quoted 34 [] 0 rest ≡ found → string_piece found ≡ Token spelling len → IsValid spelling
+string-valid rest None spelling len whole read is = absurd (cc)
+string-valid rest (Some found) spelling len whole read is =
+    let same : Text found.0 ≡ spelling = cc in subst IsValid same (quoted-utf8 34 (omega arith) [] rest 0 found whole read)
+
+open-valid : (after : Bool) (spelling : Spelling) (len : ℕ) → Token (cond after OpenArgs Open) 1 ≡ Token spelling len → IsValid spelling
+open-valid true spelling len is = let same : OpenArgs ≡ spelling = cc in subst IsValid same tt
+open-valid false spelling len is = let same : Open ≡ spelling = cc in subst IsValid same tt
+
+single-small : (byte : ℕ) → start_of byte ≡ Quote → byte < 128
+single-small byte is = grind (arith, nat_tests)
+
+double-small : (byte : ℕ) → start_of byte ≡ DoubleQuote → byte < 128
+double-small byte is = grind (arith, nat_tests)
+
+fixed-valid : (here spelling : Spelling) (len : ℕ) → IsValid here → Token here 1 ≡ Token spelling len → IsValid spelling
+fixed-valid here spelling len valid is = let same : here ≡ spelling = cc in subst IsValid same valid
+
+-- a piece at a place of a UTF-8 text
+start-valid : (start : Start) (after : Bool) (front : List ℕ) (byte : ℕ) (rest : List ℕ) (spelling : Spelling) (len : ℕ) → start_of byte ≡ start → IsUtf8 (front ++ byte ∷ rest) → piece_of start after byte rest ≡ Token spelling len → IsValid spelling
+start-valid Blank after front byte rest spelling len starts whole is = absurd (cc)
+start-valid Percent after front byte rest spelling len starts whole is = absurd (cc)
+start-valid Lower after front byte rest spelling len starts whole is = word-valid byte rest spelling len starts is
+start-valid Upper after front byte rest spelling len starts whole is = variable-valid byte rest spelling len starts is
+start-valid Digit after front byte rest spelling len starts whole is = integer-valid (integer_at (byte ∷ rest)) (byte ∷ rest) spelling len is
+start-valid Quote after front byte rest spelling len starts whole is = quoted-valid rest (quoted 39 [] 0 rest) spelling len (after_ascii front rest byte (single-small byte starts) whole) refl is
+start-valid DoubleQuote after front byte rest spelling len starts whole is = string-valid rest (quoted 34 [] 0 rest) spelling len (after_ascii front rest byte (double-small byte starts) whole) refl is
+start-valid Semicolon after front byte rest spelling len starts whole is = fixed-valid (Name (codes ";")) spelling len (name-text (codes ";") (ascii_byte 59 (omega arith)) (omega arith)) is
+start-valid OpenStart after front byte rest spelling len starts whole is = open-valid after spelling len is
+start-valid CloseStart after front byte rest spelling len starts whole is = fixed-valid Close spelling len tt is
+start-valid OpenListStart after front byte rest spelling len starts whole is = fixed-valid OpenList spelling len tt is
+start-valid CloseListStart after front byte rest spelling len starts whole is = fixed-valid CloseList spelling len tt is
+start-valid CommaStart after front byte rest spelling len starts whole is = fixed-valid Comma spelling len tt is
+start-valid BarStart after front byte rest spelling len starts whole is = fixed-valid Bar spelling len tt is
+start-valid Outside after front byte rest spelling len starts whole is = absurd (cc)
+start-valid Graphic after front byte rest spelling len starts whole is = graphic-valid after byte rest spelling len starts is
+start-valid Other after front byte rest spelling len starts whole is = absurd (cc)
+
+pub piece-valid : (after : Bool) (front rest : List ℕ) (spelling : Spelling) (len : ℕ) → IsUtf8 (front ++ rest) → first_piece after rest ≡ Token spelling len → IsValid spelling
+piece-valid after front [] spelling len whole is = absurd (cc)
+piece-valid after front (byte ∷ rest) spelling len whole is = start-valid (start_of byte) after front byte rest spelling len refl whole is
