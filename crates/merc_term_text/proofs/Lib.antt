@@ -9,3 +9,5 @@ pub mod PiecesBehind
 pub mod TokensRead
 pub mod PiecesRead
 pub mod PiecesValid
+pub mod TokensKnown
+pub mod Writable
