@@ -1,10 +1,15 @@
 -- What stands behind a token that its own bytes must not go on with.
-use Rattle.std.proofs.Common.{◌≡◌, ℕ, true, false, ◌==◌, List, [], ◌∷◌, refl}
+use Rattle.std.proofs.Common.{◌≡◌, ℕ, false, List, [], ◌∷◌, refl}
 use Rattle.merc_tokens.specs.declared.bytes.Class.TheVariants.{Word, Digits}
 use Rattle.merc_tokens.specs.declared.integers.Form.TheVariants.{Decimal}
-use Rattle.merc_tokens.specs.Bytes.{is_letter, class_test, begins_with, next_is}
+use Rattle.merc_tokens.specs.Bytes.{is_letter, is_graphic, class_test, begins_with, next_is}
 use Rattle.merc_tokens.specs.Integers.{form_of}
 use Rattle.merc_tokens.specs.Pieces.{begins_fraction}
+
+-- behind a full stop: nothing, or a blank
+pub data EndsItem : List ℕ → Type 0 where
+  at_end : EndsItem []
+  at_blank : (rest : List ℕ) → EndsItem (32 ∷ rest)
 
 -- behind an operand: nothing, a blank, a closing bracket, a comma or a full stop
 pub data EndsOperand : List ℕ → Type 0 where
@@ -21,6 +26,18 @@ pub data EndsName : List ℕ → Type 0 where
   operand : (rest : List ℕ) → EndsOperand rest → EndsName rest
   open_args : (rest : List ℕ) → EndsName (40 ∷ rest)
   dot : (rest : List ℕ) → EndsName (46 ∷ rest)
+
+pub stopped : (rest : List ℕ) → EndsItem rest → EndsOperand (46 ∷ rest)
+stopped _ at_end = stop
+stopped _ (at_blank rest) = stop_blank rest
+
+pub ended : (rest : List ℕ) → EndsItem rest → EndsName rest
+ended _ at_end = operand [] nothing
+ended _ (at_blank rest) = operand (32 ∷ rest) (blank rest)
+
+pub ended-no_graphic : (rest : List ℕ) → EndsItem rest → begins_with is_graphic rest ≡ false
+ended-no_graphic _ at_end = refl
+ended-no_graphic _ (at_blank rest) = refl
 
 pub no_digit : (rest : List ℕ) → EndsOperand rest → begins_with (class_test (Digits 10)) rest ≡ false
 no_digit _ nothing = refl

@@ -1,12 +1,12 @@
 -- A number in decimal digits reads as that number.
-use Rattle.std.proofs.Common.{◌≡◌, ℕ, zero, suc, ◌+◌, ◌-◌, ◌*◌, ◌/◌, ◌%◌, ◌^◌, ◌<◌, ◌≤◌, ap₂, one-add, Option, Bool, true, false, ◌==◌, ◌||◌, ◌&&◌, not, leb, ltb, cond, List, [], ◌∷◌, ◌++◌, length, take, drop, reverse, get_or, Some, refl, sym, ◌∙◌, ap, subst, arith, append_assoc, append-nil, length-append, decimal, inl, inr}
+use Rattle.std.proofs.Common.{◌≡◌, ℕ, zero, suc, ◌+◌, ◌-◌, ◌*◌, ◌/◌, ◌%◌, ◌^◌, ◌<◌, ◌≤◌, ap₂, one-add, Option, Bool, true, false, ◌==◌, ◌&&◌, leb, cond, List, [], ◌∷◌, ◌++◌, length, take, reverse, get_or, Some, refl, sym, ◌∙◌, ap, arith, length-append, decimal}
 use Rattle.std.specs.List.{list_all, prefix_len}
 use Rattle.std.proofs.lemmas.Bool.Decides.{nat_tests}
 use Rattle.std.proofs.Math.Seq.{take-append_seam, drop-append_seam}
 use Rattle.std.proofs.lemmas.Bool.{le-leb, lt-ltb, ne_eqb, leb-true, and_parts, and_from, agree_below_at}
 use Rattle.std.proofs.lemmas.Fmt.{decimal_by_steps, decimal_digit, first_decimal}
 use Rattle.std.proofs.lemmas.List.{reverse-append}
-use Rattle.std.proofs.lemmas.List.Folds.{list_all-append, prefix_len-append}
+use Rattle.std.proofs.lemmas.List.Folds.{list_all-append}
 use Rattle.merc_tokens.specs.declared.bytes.Class.TheVariants.{Digits}
 use Rattle.merc_tokens.specs.declared.bytes.Start.TheVariants.{Digit}
 use Rattle.merc_tokens.specs.declared.integers.Form.TheVariants.{Decimal}
@@ -15,7 +15,7 @@ use Rattle.merc_tokens.specs.declared.integers.Integer.{Integer}
 use Rattle.merc_tokens.specs.declared.pieces.Spelling.TheVariants.{Int}
 use Rattle.merc_tokens.specs.declared.pieces.Piece.TheVariants.{Token}
 use Rattle.merc_tokens.specs.Bytes.{is_digit, digit_of, is_digit_of, is_underscore, class_test, is_graphic, begins_with, start_of}
-use Rattle.merc_tokens.specs.Integers.{digits_value, digits_len, more_digits_len, within_limit, based_integer, form_of, integer_of, integer_at}
+use Rattle.merc_tokens.specs.Integers.{digits_value, digits_len, within_limit, based_integer, form_of, integer_of, integer_at}
 use Rattle.merc_tokens.specs.Pieces.{integer_piece, first_piece}
 use Rattle.merc_term_text.proofs.Behind.{EndsOperand, no_digit, no_letter, no_fraction, no_form}
 

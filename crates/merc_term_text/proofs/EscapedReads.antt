@@ -1,6 +1,6 @@
 -- What was escaped within quotes reads as the text that it was.
-use Rattle.std.proofs.Common.{◌≡◌, ℕ, ◌+◌, ◌<◌, ◌≤◌, true, false, ◌==◌, ◌||◌, cond, List, [], ◌∷◌, ◌++◌, length, Some, refl, sym, ◌∙◌, ap, subst, arith, append_assoc, append-nil, length-append, IsUtf8, flat_map, codes, inl, inr}
-use Rattle.std.proofs.lemmas.Bool.{eqb-true, eqb-false, or_cases, or_parts, cases_Bool}
+use Rattle.std.proofs.Common.{◌≡◌, ℕ, ◌+◌, ◌<◌, true, false, ◌==◌, List, [], ◌∷◌, ◌++◌, length, Some, refl, sym, ◌∙◌, ap, subst, arith, append_assoc, append-nil, length-append, IsUtf8, flat_map, inl, inr}
+use Rattle.std.proofs.lemmas.Bool.{eqb-true, eqb-false, cases_Bool}
 use Rattle.std.proofs.lemmas.Str.{IsUtf8-append}
 use Rattle.merc_value.specs.Text.{escape, quoted as written}
 use Rattle.merc_tokens.specs.Bytes.{next_is}
@@ -30,13 +30,13 @@ double_quote = record { escapes = refl; stays = refl; small = omega arith; no_ba
 module _ (quote : ℕ) (is_quote : IsQuote quote) where
   escaping : (byte : ℕ) → Escaping quote byte
   escaping byte = elim (cases_Bool (byte == 10)) [
-    inl line ↦ special 110 (omega (arith, eqb-true byte 10 line)) (omega arith) refl (sym (eqb-true byte 10 line)) (rw line refl)
+    | inl line ↦ special 110 (omega (arith, eqb-true byte 10 line)) (omega arith) refl (sym (eqb-true byte 10 line)) (rw line refl)
     | inr no_line ↦ elim (cases_Bool (byte == 9)) [
-      inl tab ↦ special 116 (omega (arith, eqb-true byte 9 tab)) (omega arith) refl (sym (eqb-true byte 9 tab)) (rw (no_line, tab) refl)
+      | inl tab ↦ special 116 (omega (arith, eqb-true byte 9 tab)) (omega arith) refl (sym (eqb-true byte 9 tab)) (rw (no_line, tab) refl)
       | inr no_tab ↦ elim (cases_Bool (byte == 92)) [
-        inl back ↦ special 92 (omega (arith, eqb-true byte 92 back)) (omega arith) refl (sym (eqb-true byte 92 back)) (rw (no_line, no_tab, back) (ap (λ (b : ℕ). 92 ∷ b ∷ []) (eqb-true byte 92 back)))
+        | inl back ↦ special 92 (omega (arith, eqb-true byte 92 back)) (omega arith) refl (sym (eqb-true byte 92 back)) (rw (no_line, no_tab, back) (ap (λ (b : ℕ). 92 ∷ b ∷ []) (eqb-true byte 92 back)))
         | inr no_back ↦ elim (cases_Bool (byte == quote)) [
-          inl same ↦ special quote (omega (arith, eqb-true byte quote same, is_quote.small)) is_quote.small is_quote.escapes (is_quote.stays ∙ sym (eqb-true byte quote same)) (rw (no_line, no_tab, no_back, same) (ap (λ (b : ℕ). 92 ∷ b ∷ []) (eqb-true byte quote same)))
+          | inl same ↦ special quote (omega (arith, eqb-true byte quote same, is_quote.small)) is_quote.small is_quote.escapes (is_quote.stays ∙ sym (eqb-true byte quote same)) (rw (no_line, no_tab, no_back, same) (ap (λ (b : ℕ). 92 ∷ b ∷ []) (eqb-true byte quote same)))
           | inr other ↦ plain other no_back no_line (rw (no_line, no_tab, no_back, other) refl)
         ]
       ]
@@ -61,15 +61,15 @@ module _ (quote : ℕ) (is_quote : IsQuote quote) where
       → Reads content (byte ∷ text) past (escape quote byte ++ spelled) rest
   reads_more content text spelled rest past byte (special letter small small' escapes stands is) others =
       rw is (
-        step_special content (spelled ++ quote ∷ rest) rest past byte letter escapes stands
-        ∙ others (content ++ byte ∷ []) (past + 2)
-        ∙ rw (append_assoc content (byte ∷ []) text) (ap (λ (n : ℕ). Some (content ++ byte ∷ text, n)) (omega arith))
+      step_special content (spelled ++ quote ∷ rest) rest past byte letter escapes stands
+      ∙ others (content ++ byte ∷ []) (past + 2)
+      ∙ rw (append_assoc content (byte ∷ []) text) (ap (λ (n : ℕ). Some (content ++ byte ∷ text, n)) (omega arith))
       )
   reads_more content text spelled rest past byte (plain other no_back no_line is) others =
       rw is (
-        step_plain content spelled rest past byte other no_back no_line
-        ∙ others (content ++ byte ∷ []) (past + 1)
-        ∙ rw (append_assoc content (byte ∷ []) text) (ap (λ (n : ℕ). Some (content ++ byte ∷ text, n)) (omega arith))
+      step_plain content spelled rest past byte other no_back no_line
+      ∙ others (content ++ byte ∷ []) (past + 1)
+      ∙ rw (append_assoc content (byte ∷ []) text) (ap (λ (n : ℕ). Some (content ++ byte ∷ text, n)) (omega arith))
       )
 
   -- reading stops at the closing quote, if no second one follows
@@ -85,15 +85,15 @@ module _ (quote : ℕ) (is_quote : IsQuote quote) where
       → IsUtf8 (front ++ byte ∷ text) → IsUtf8 (front ++ (escape quote byte ++ spelled))
   more_utf8 front text spelled byte (special letter small small' escapes stands is) others whole =
       rw is (
-        IsUtf8-append front (92 ∷ letter ∷ spelled) (before_ascii front text byte small whole)
-        (IsUtf8-append (92 ∷ []) (letter ∷ spelled) (ascii_byte 92 (omega arith))
-        (IsUtf8-append (letter ∷ []) spelled (ascii_byte letter small')
-        (others [] (after_ascii front text byte small whole))))
+      IsUtf8-append front (92 ∷ letter ∷ spelled) (before_ascii front text byte small whole)
+      (IsUtf8-append (92 ∷ []) (letter ∷ spelled) (ascii_byte 92 (omega arith))
+      (IsUtf8-append (letter ∷ []) spelled (ascii_byte letter small')
+      (others [] (after_ascii front text byte small whole))))
       )
   more_utf8 front text spelled byte (plain other no_back no_line is) others whole =
       rw is (
-        subst IsUtf8 (append_assoc front (byte ∷ []) spelled)
-        (others (front ++ byte ∷ []) (subst IsUtf8 (sym (append_assoc front (byte ∷ []) text)) whole))
+      subst IsUtf8 (append_assoc front (byte ∷ []) spelled)
+      (others (front ++ byte ∷ []) (subst IsUtf8 (sym (append_assoc front (byte ∷ []) text)) whole))
       )
 
   -- what was escaped is UTF-8 if the text is

@@ -1,19 +1,18 @@
 -- Plain names and variables read as themselves.
-use Rattle.std.proofs.Common.{◌≡◌, ℕ, zero, suc, ◌<◌, ◌≤◌, Bool, true, false, leb, ◌==◌, ◌||◌, ◌&&◌, List, [], ◌∷◌, ◌++◌, length, take, refl, sym, ◌∙◌, ap, arith}
+use Rattle.std.proofs.Common.{◌≡◌, ℕ, ◌≤◌, Bool, true, false, leb, ◌==◌, ◌||◌, ◌&&◌, List, [], ◌∷◌, ◌++◌, length, refl, sym, ◌∙◌, ap, arith}
 use Rattle.std.specs.List.{list_all}
 use Rattle.std.specs.Char.{is_ascii_lowercase}
 use Rattle.std.proofs.Math.Seq.{take-append_seam}
-use Rattle.std.proofs.lemmas.Bool.{le-leb, leb-true, and_parts, and_from}
+use Rattle.std.proofs.lemmas.Bool.{le-leb, leb-true, and_parts}
 use Rattle.std.proofs.lemmas.Bool.Decides.{nat_tests}
-use Rattle.merc_value.specs.Text.{is_plain, is_word as is_word_text, is_word_byte, word_operators}
-use Rattle.merc_tokens.specs.declared.bytes.Class.{Class}
+use Rattle.merc_value.specs.Text.{is_plain, is_word_byte}
 use Rattle.merc_tokens.specs.declared.bytes.Class.TheVariants.{Word}
 use Rattle.merc_tokens.specs.declared.bytes.Start.TheVariants.{Lower, Upper}
 use Rattle.merc_tokens.specs.declared.pieces.Spelling.{Spelling}
 use Rattle.merc_tokens.specs.declared.pieces.Spelling.TheVariants.{Name, Var}
 use Rattle.merc_tokens.specs.declared.pieces.Piece.TheVariants.{Token}
 use Rattle.merc_tokens.specs.Bytes.{is_lower, is_upper, is_word, class_test, begins_with, start_of}
-use Rattle.merc_tokens.specs.Pieces.{run_of, named, first_piece, begins_name}
+use Rattle.merc_tokens.specs.Pieces.{run_of, named, first_piece}
 use Rattle.merc_term_text.proofs.Parted.{is_variable_text}
 use Rattle.merc_term_text.proofs.Behind.{EndsOperand, EndsName, operand, no_word}
 use Rattle.merc_term_text.proofs.DecimalReads.{prefix_len-run}
@@ -42,7 +41,7 @@ words-same (byte ∷ bytes) = rw (word-same byte, words-same bytes) refl
 run-is : (byte : ℕ) (bytes rest : List ℕ) → list_all is_word bytes ≡ true → begins_with (class_test Word) rest ≡ false → run_of Word (byte ∷ (bytes ++ rest)) ≡ byte ∷ bytes
 run-is byte bytes rest all other = rw (prefix_len-run (class_test Word) bytes rest all other, take-append_seam bytes rest) refl
 
-named-short : (make : List ℕ → Spelling) (name : List ℕ) (len : ℕ) → length name ≤ 255 → named make name len ≡ Token (make name) len
+pub named-short : (make : List ℕ → Spelling) (name : List ℕ) (len : ℕ) → length name ≤ 255 → named make name len ≡ Token (make name) len
 named-short make name len short = rw (le-leb (length name) 255 short) refl
 
 run-named : (make : List ℕ → Spelling) (byte : ℕ) (bytes rest : List ℕ) → length (byte ∷ bytes) ≤ 255 → list_all is_word bytes ≡ true → begins_with (class_test Word) rest ≡ false

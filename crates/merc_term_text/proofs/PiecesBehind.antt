@@ -1,15 +1,15 @@
 -- What well parted pieces have behind a token, and what stands before it.
-use Rattle.std.proofs.Common.{◌≡◌, ℕ, ◌<◌, Bool, true, false, ◌==◌, ◌||◌, ◌&&◌, List, [], ◌∷◌, ◌++◌, Option, Some, None, codes, refl, sym, ◌∙◌, ap, subst, arith, inl, inr}
+use Rattle.std.proofs.Common.{◌≡◌, ℕ, ◌<◌, Bool, true, false, ◌==◌, ◌||◌, ◌&&◌, List, [], ◌∷◌, ◌++◌, Option, Some, None, refl, sym, ◌∙◌, ap, arith, inl, inr}
 use Rattle.std.proofs.lemmas.Bool.{and_parts, or_cases, and_right, or_from, eqb-true, false≢true, agree_below_at}
 use Rattle.merc_base.specs.Names.{HoldsFixed}
 use Rattle.merc_value.specs.Text.{text_at, is_plain}
-use Rattle.merc_tokens.specs.Bytes.{is_blank, is_lower, is_graphic, begins_with}
+use Rattle.merc_tokens.specs.Bytes.{is_blank, is_lower, is_graphic}
 use Rattle.merc_tokens.specs.Pieces.{ends_item, begins_name}
 use Rattle.merc_tokens.specs.declared.token.TokenKind.{TokenKind}
 use Rattle.merc_tokens.specs.declared.token.TokenKind.TheVariants.{Name, Quoted, Var, Int, Text as TextToken, OpenArgs, Open, Close, OpenList, CloseList, Comma, Bar, Dot, Stop}
 use Rattle.merc_term_text.specs.Pieces.{Piece, Blank, Token, pieces_text}
-use Rattle.merc_term_text.proofs.Parted.{parted, touches, begins_part, ends_operand, ends_name, is_integer, is_name_kind, may_end}
-use Rattle.merc_term_text.proofs.Behind.{EndsOperand, nothing, blank, close, close_list, comma, stop, stop_blank, EndsName, operand, open_args, dot}
+use Rattle.merc_term_text.proofs.Parted.{parted, touches, begins_part, ends_operand, ends_name, is_integer, is_name_kind}
+use Rattle.merc_term_text.proofs.Behind.{EndsItem, at_end, at_blank, stopped, EndsOperand, nothing, blank, close, close_list, comma, stop, stop_blank, EndsName, operand, open_args, dot}
 use Rattle.merc_term_text.proofs.NamesRead.{IsPlain, plain, plain-is, lower-bounds}
 use Rattle.merc_term_text.proofs.OperatorsRead.{minus-text}
 
@@ -99,18 +99,10 @@ open-before names (Some Dot) is = refl
 open-before names (Some Stop) is = refl
 
 -- behind a full stop stands the end or a blank
-pub data EndsItem : List ℕ → Type 0 where
-  at_end : EndsItem []
-  at_blank : (rest : List ℕ) → EndsItem (32 ∷ rest)
-
 pub stop-behind : (names : List (List ℕ)) (rest : List Piece) → parted names (Some Stop) rest ≡ true → EndsItem (pieces_text names rest)
 stop-behind names [] is = at_end
 stop-behind names (Blank ∷ rest) is = at_blank (pieces_text names rest)
 stop-behind names (Token next ∷ rest) is = absurd (cc)
-
-stopped : (rest : List ℕ) → EndsItem rest → EndsOperand (46 ∷ rest)
-stopped _ at_end = stop
-stopped _ (at_blank rest) = stop_blank rest
 
 -- behind an operand
 token-ends : (names : List (List ℕ)) (next : TokenKind) (rest : List Piece) → ends_operand next ≡ true → parted names (Some next) rest ≡ true → EndsOperand (pieces_text names (Token next ∷ rest))
@@ -163,11 +155,11 @@ name-behind names before (Token next ∷ rest) ends is =
 -- what may stand behind a plain name
 pub plain-touches : (names : List (List ℕ)) (name : ℕ) (next : TokenKind) → HoldsFixed names → is_plain (text_at names name) ≡ true → touches names (Name name) next ≡ true → ends_name next ≡ true
 plain-touches names name next fixed is touch = elim (or_cases (is_plain (text_at names name) && ends_name next) ((name == 43) && is_integer next) touch) [
-    inl here ↦ (and_parts (is_plain (text_at names name)) (ends_name next) here).1
-    | inr sign ↦ absurd (
+  | inl here ↦ (and_parts (is_plain (text_at names name)) (ends_name next) here).1
+  | inr sign ↦ absurd (
       let same = eqb-true name 43 (and_parts (name == 43) (is_integer next) sign).0 in
       false≢true (ap is_plain (sym (minus-text names fixed)) ∙ ap (λ (n : ℕ). is_plain (text_at names n)) (sym same) ∙ is)
-    )
+      )
 ]
 
 -- behind an operator's symbol stands the end, a blank, or behind `-` an integer
@@ -198,7 +190,7 @@ symbol-behind names name (Blank ∷ rest) symbol is = symbol_blank rest
 symbol-behind names name (Token next ∷ rest) symbol is =
     let touch = (parted-token names (Some (Name name)) next rest is).0 in
     elim (or_cases (is_plain (text_at names name) && ends_name next) ((name == 43) && is_integer next) touch) [
-      inl here ↦ absurd (false≢true (sym symbol ∙ (and_parts (is_plain (text_at names name)) (ends_name next) here).0))
+      | inl here ↦ absurd (false≢true (sym symbol ∙ (and_parts (is_plain (text_at names name)) (ends_name next) here).0))
       | inr sign ↦ let parts = and_parts (name == 43) (is_integer next) sign in only_integer name next rest (eqb-true name 43 parts.0) parts.1
     ]
 

@@ -1,13 +1,12 @@
 -- The text of well parted pieces has the tokens that they name.
-use Rattle.std.proofs.Common.{◌≡◌, ℕ, ◌+◌, ◌<◌, ◌≤◌, ◌^◌, Bool, true, false, ◌&&◌, List, [], ◌∷◌, ◌++◌, length, drop, map, Option, Some, None, slice_get, option_map, codes, refl, sym, ◌∙◌, ap, ap₂, subst, arith, unwrap_or, append_assoc, length-append, IsUtf8}
+use Rattle.std.proofs.Common.{◌≡◌, ℕ, ◌+◌, Bool, true, false, List, [], ◌∷◌, ◌++◌, length, drop, map, Option, Some, None, slice_get, option_map, codes, refl, sym, ◌∙◌, ap, ap₂, subst, arith, unwrap_or, append_assoc, length-append, IsUtf8}
 use Rattle.std.specs.List.{AllByRecursion}
 use Rattle.std.proofs.Math.Seq.{drop-append_seam}
 use Rattle.std.proofs.lemmas.Bool.{and_parts, and_from}
 use Rattle.std.proofs.lemmas.Fmt.{IsAscii-decimal}
 use Rattle.std.proofs.lemmas.Str.{IsUtf8-append, IsUtf8-from_ascii, IsUtf8-nil}
 use Rattle.merc_base.specs.Names.{HoldsFixed}
-use Rattle.merc_base.specs.declared.place.Span.{Span}
-use Rattle.merc_value.specs.Text.{text_at, quoted as written}
+use Rattle.merc_value.specs.Text.{text_at}
 use Rattle.merc_tokens.specs.declared.token.Token.{Token as TokenOf}
 use Rattle.merc_tokens.specs.declared.token.TokenKind.{TokenKind}
 use Rattle.merc_tokens.specs.declared.token.TokenKind.TheVariants.{Name, Quoted, Var, Int, Text as TextToken, OpenArgs, Open, Close, OpenList, CloseList, Comma, Bar, Dot, Stop}
@@ -15,7 +14,7 @@ use Rattle.merc_tokens.specs.declared.pieces.Spelling.{Spelling}
 use Rattle.merc_tokens.specs.declared.pieces.Piece.{Piece as PieceFound}
 use Rattle.merc_tokens.specs.declared.pieces.Piece.TheVariants.{Gap, Token as TokenFound}
 use Rattle.merc_tokens.specs.Pieces.{first_piece}
-use Rattle.merc_tokens.specs.Tokens.{SpelledToken, HasTokens, HasTokensFrom, is_name, spelling_in, token_at, with_texts}
+use Rattle.merc_tokens.specs.Tokens.{SpelledToken, HasTokensFrom, token_at, with_texts}
 use Rattle.merc_tokens.specs.Tokens.HasTokensFrom.{ends, gap, token}
 use Rattle.merc_term_text.specs.Pieces.{Piece, Blank, Token, token_text, piece_text, pieces_text, kinds_of}
 use Rattle.merc_term_text.proofs.Parted.{parted, may_end, begins_part, touches, HasName, HasKinds, IsSpelled}

@@ -1,9 +1,9 @@
 -- What a token that was read from a text can name.
-use Rattle.std.proofs.Common.{◌≡◌, ℕ, zero, suc, ◌+◌, ◌-◌, ◌<◌, ◌≤◌, Bool, true, false, ◌==◌, ◌||◌, ◌&&◌, not, leb, cond, List, [], ◌∷◌, ◌++◌, length, take, drop, get_or, Option, Some, None, option_map, codes, refl, sym, ◌∙◌, ap, subst, arith, one-add, append_assoc, unwrap_or, IsUtf8, IsAscii}
+use Rattle.std.proofs.Common.{◌≡◌, ℕ, zero, suc, ◌+◌, ◌<◌, ◌≤◌, Bool, true, false, ◌==◌, ◌||◌, ◌&&◌, not, leb, cond, List, [], ◌∷◌, ◌++◌, length, take, drop, Option, Some, None, option_map, codes, refl, sym, ap, subst, arith, one-add, append_assoc, unwrap_or, IsUtf8, IsAscii}
 use Rattle.std.specs.List.{list_all, prefix_len}
-use Rattle.std.proofs.lemmas.Bool.{cond_both, cases_Bool, leb-true, eqb-true, and_parts, and_from}
+use Rattle.std.proofs.lemmas.Bool.{cond_both, leb-true, eqb-true, and_parts, and_from}
 use Rattle.std.proofs.lemmas.Bool.Decides.{nat_tests}
-use Rattle.std.proofs.lemmas.Str.{IsUtf8-append, IsUtf8-from_ascii, IsUtf8-nil}
+use Rattle.std.proofs.lemmas.Str.{IsUtf8-append, IsUtf8-from_ascii}
 use Rattle.merc_base.specs.declared.refusal.Rule.TheVariants.{OutsideProfile}
 use Rattle.merc_base.specs.declared.refusal.Construct.TheVariants.{Float, IntegerSuffix}
 use Rattle.merc_base.specs.declared.refusal.Detail.TheVariants.{Word}
@@ -14,9 +14,8 @@ use Rattle.merc_tokens.specs.declared.bytes.Start.TheVariants.{Blank, Percent, L
 use Rattle.merc_tokens.specs.declared.integers.Integer.{Integer}
 use Rattle.merc_tokens.specs.declared.pieces.Spelling.{Spelling}
 use Rattle.merc_tokens.specs.declared.pieces.Spelling.TheVariants.{Name, Quoted, Var, Int, Text, OpenArgs, Open, Close, OpenList, CloseList, Comma, Bar, Dot, Stop}
-use Rattle.merc_tokens.specs.declared.pieces.Piece.{Piece}
-use Rattle.merc_tokens.specs.declared.pieces.Piece.TheVariants.{Gap, Token, Fault}
-use Rattle.merc_tokens.specs.Bytes.{is_graphic, is_letter, is_lower, is_upper, is_word, class_test, begins_with, next_is, start_of}
+use Rattle.merc_tokens.specs.declared.pieces.Piece.TheVariants.{Token, Fault}
+use Rattle.merc_tokens.specs.Bytes.{is_graphic, is_letter, is_upper, is_word, class_test, begins_with, next_is, start_of}
 use Rattle.merc_tokens.specs.Integers.{integer_at}
 use Rattle.merc_tokens.specs.Quoted.{is_escape, escaped, quoted}
 use Rattle.merc_tokens.specs.Pieces.{run_of, named, comment_past, comment_piece, begins_fraction, graphic_piece, integer_piece, limited, dot_of, ends_item, begins_name, quoted_piece, string_piece, piece_of, first_piece}

@@ -1,5 +1,5 @@
 -- What the table has of the tokens that were read from a text.
-use Rattle.std.proofs.Common.{◌≡◌, ℕ, ◌+◌, ◌≤◌, Bool, true, false, List, [], ◌∷◌, ◌++◌, length, take, drop, map, Option, Some, None, slice_get, option_map, refl, sym, ap, subst, unwrap_or, take-append-drop, IsUtf8}
+use Rattle.std.proofs.Common.{◌≡◌, ℕ, ◌+◌, Bool, true, false, List, [], ◌∷◌, take, drop, map, Option, Some, None, slice_get, option_map, refl, sym, ap, subst, unwrap_or, take-append-drop, IsUtf8}
 use Rattle.std.specs.List.{AllByRecursion}
 use Rattle.merc_base.specs.declared.place.Span.{Span}
 use Rattle.merc_value.specs.Text.{text_at}
@@ -8,7 +8,7 @@ use Rattle.merc_tokens.specs.declared.token.TokenKind.{TokenKind}
 use Rattle.merc_tokens.specs.declared.token.TokenKind.TheVariants.{Name, Quoted, Var, Int, Text as TextToken, OpenArgs, Open, Close, OpenList, CloseList, Comma, Bar, Dot, Stop}
 use Rattle.merc_tokens.specs.declared.pieces.Spelling.{Spelling}
 use Rattle.merc_tokens.specs.declared.pieces.Spelling.TheVariants.{Name as NameOf, Quoted as QuotedOf, Var as VarOf, Text as TextOf}
-use Rattle.merc_tokens.specs.Tokens.{SpelledToken, HasTokens, HasTokensFrom, is_name, spelling_in, token_at, with_texts}
+use Rattle.merc_tokens.specs.Tokens.{SpelledToken, HasTokensFrom, is_name, spelling_in, with_texts}
 use Rattle.merc_tokens.specs.Tokens.HasTokensFrom.{ends, gap, token}
 use Rattle.merc_term_text.proofs.Parted.{HasName, is_variable_text}
 use Rattle.merc_term_text.proofs.PiecesValid.{IsValid, IsNameText, piece-valid}

@@ -1,5 +1,5 @@
 -- Each token reads as itself, given what stands before and behind it.
-use Rattle.std.proofs.Common.{◌≡◌, ℕ, zero, suc, ◌+◌, ◌≤◌, ◌⊎◌, Bool, true, false, ◌==◌, List, [], ◌∷◌, ◌++◌, length, Option, Some, None, is_some, slice_get, option_map, flat_map, codes, refl, sym, ◌∙◌, ap, ap₂, subst, arith, inl, inr, unwrap_or, append-nil, append_assoc, length-append, decimal, IsUtf8}
+use Rattle.std.proofs.Common.{◌≡◌, ℕ, ◌+◌, ◌≤◌, ◌⊎◌, Bool, true, false, List, [], ◌∷◌, ◌++◌, length, Option, Some, slice_get, option_map, flat_map, codes, refl, sym, ◌∙◌, ap, subst, arith, inl, inr, unwrap_or, append-nil, append_assoc, length-append, decimal}
 use Rattle.std.specs.List.{AllByRecursion}
 use Rattle.std.proofs.lemmas.Bool.{cases_Bool, le-leb, false≢true}
 use Rattle.merc_base.specs.Names.{HoldsFixed}
@@ -13,14 +13,14 @@ use Rattle.merc_tokens.specs.Bytes.{next_is}
 use Rattle.merc_tokens.specs.Quoted.{quoted}
 use Rattle.merc_tokens.specs.Pieces.{first_piece, quoted_piece, string_piece, named}
 use Rattle.merc_tokens.specs.Tokens.{is_name, spelling_in}
-use Rattle.merc_term_text.specs.Pieces.{Piece, Blank, Token, token_text, pieces_text, kinds_of}
-use Rattle.merc_term_text.proofs.Parted.{parted, touches, ends_operand, HasName, IsSpelled, is_operator, is_variable_text}
-use Rattle.merc_term_text.proofs.Behind.{EndsOperand, EndsName, no_single_quote, no_double_quote}
+use Rattle.merc_term_text.specs.Pieces.{Piece, token_text, pieces_text, kinds_of}
+use Rattle.merc_term_text.proofs.Parted.{parted, HasName, IsSpelled, is_operator, is_variable_text}
+use Rattle.merc_term_text.proofs.Behind.{EndsItem, at_end, at_blank, EndsOperand, EndsName, no_single_quote, no_double_quote}
 use Rattle.merc_term_text.proofs.EscapedReads.{IsQuote, single_quote, double_quote, reads_escaped}
 use Rattle.merc_term_text.proofs.DecimalReads.{decimal-reads, decimal-no_graphic}
-use Rattle.merc_term_text.proofs.NamesRead.{plain-is, name-reads, variable-reads}
-use Rattle.merc_term_text.proofs.OperatorsRead.{Reads, reads, operator-reads, minus-reads, minus-fixed}
-use Rattle.merc_term_text.proofs.PiecesBehind.{allowed, is_name_token, after_name, open_args-before, dot-before, open-before, EndsItem, at_end, at_blank, stop-behind, operand-behind, name-behind, plain-touches, EndsSymbol, symbol_end, symbol_blank, symbol_sign, symbol-behind, BeginsName, begins, dot-behind}
+use Rattle.merc_term_text.proofs.NamesRead.{named-short, plain-is, name-reads, variable-reads}
+use Rattle.merc_term_text.proofs.OperatorsRead.{Reads, operator-reads, minus-reads, minus-fixed}
+use Rattle.merc_term_text.proofs.PiecesBehind.{allowed, is_name_token, after_name, open_args-before, dot-before, open-before, stop-behind, operand-behind, name-behind, plain-touches, EndsSymbol, symbol_end, symbol_blank, symbol_sign, symbol-behind, BeginsName, begins, dot-behind}
 
 -- a token of this kind is the first piece of its text with the rest behind it
 pub record ReadsAsToken (names : List (List ℕ)) (after : Bool) (kind : TokenKind) (rest : List ℕ) : Type 0 where
@@ -41,9 +41,6 @@ quoted-found quote is_quote text rest apart =
 
 quoted-length : (quote : ℕ) (text : List ℕ) → 1 + (length (flat_map (escape quote) text) + 1) ≡ length (written quote text)
 quoted-length quote text = omega (arith, length-append (flat_map (escape quote) text) (quote ∷ []))
-
-named-short : (make : List ℕ → Spelling) (name : List ℕ) (len : ℕ) → length name ≤ 255 → named make name len ≡ TokenFound (make name) len
-named-short make name len short = rw (le-leb (length name) 255 short) refl
 
 quoted-reads : (text rest : List ℕ) (after : Bool) → length text ≤ 255 → EndsName rest → first_piece after (written 39 text ++ rest) ≡ TokenFound (QuotedOf text) (length (written 39 text))
 quoted-reads text rest after short ends =
@@ -122,11 +119,11 @@ stop-reads after _ (at_blank rest) = refl
 module _ (names : List (List ℕ)) (fixed : HoldsFixed names) where
   -- an operator's symbol
   symbol-reads : (after : Bool) (name : ℕ) (rest : List Piece) → Reads name → EndsSymbol name rest → AllByRecursion (IsSpelled names) (kinds_of rest) → ReadsAsToken names after (Name name) (pieces_text names rest)
-  symbol-reads after name _ (reads text is alone before_blank) symbol_end others =
-      operator-token names after name [] text (fixed.text name text is) (rw (append-nil text) (alone after))
-  symbol-reads after name _ (reads text is alone before_blank) (symbol_blank rest) others =
-      operator-token names after name (32 ∷ pieces_text names rest) text (fixed.text name text is) (before_blank after (pieces_text names rest))
-  symbol-reads after name _ (reads text is alone before_blank) (symbol_sign value rest same) others =
+  symbol-reads after name _ reads symbol_end others =
+      operator-token names after name [] reads.text (fixed.text name reads.text reads.is) (reads.piece after [] at_end)
+  symbol-reads after name _ reads (symbol_blank rest) others =
+      operator-token names after name (32 ∷ pieces_text names rest) reads.text (fixed.text name reads.text reads.is) (reads.piece after (32 ∷ pieces_text names rest) (at_blank (pieces_text names rest)))
+  symbol-reads after name _ reads (symbol_sign value rest same) others =
       operator-token names after name (decimal value ++ pieces_text names rest) (codes "-")
       (subst (λ (n : ℕ). slice_get names n ≡ Some (codes "-")) (sym same) (fixed.text 43 (codes "-") minus-fixed))
       (minus-reads after (decimal value ++ pieces_text names rest) (decimal-no_graphic value (pieces_text names rest) others.0))
@@ -134,11 +131,11 @@ module _ (names : List (List ℕ)) (fixed : HoldsFixed names) where
   name-token : (after : Bool) (name : ℕ) (rest : List Piece) → parted names (Some (Name name)) rest ≡ true → HasName names name → (is_plain (text_at names name) ≡ true) ⊎ (is_operator name ≡ true)
       → AllByRecursion (IsSpelled names) (kinds_of rest) → ReadsAsToken names after (Name name) (pieces_text names rest)
   name-token after name rest on has either others = elim (cases_Bool (is_plain (text_at names name))) [
-      inl plain ↦ plain-token names after name (pieces_text names rest) has plain (name-behind names (Name name) rest (λ next touch. plain-touches names name next fixed plain touch) on)
-      | inr symbol ↦ elim either [
-        inl plain ↦ absurd (false≢true (sym symbol ∙ plain))
-        | inr operator ↦ symbol-reads after name rest (operator-reads name operator) (symbol-behind names name rest symbol on) others
-      ]
+    | inl plain ↦ plain-token names after name (pieces_text names rest) has plain (name-behind names (Name name) rest (λ next touch. plain-touches names name next fixed plain touch) on)
+    | inr symbol ↦ elim either [
+      | inl plain ↦ absurd (false≢true (sym symbol ∙ plain))
+      | inr operator ↦ symbol-reads after name rest (operator-reads name operator) (symbol-behind names name rest symbol on) others
+    ]
   ]
 
   -- each token reads as itself where it is parted well
