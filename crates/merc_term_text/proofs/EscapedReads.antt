@@ -43,9 +43,9 @@ module _ (quote : ℕ) (is_quote : IsQuote quote) where
     ]
   ]
 
-  step_special : (content text rest : List ℕ) (past byte letter : ℕ) → is_escape letter ≡ true → escaped letter ≡ byte
+  step_special : (content text : List ℕ) (past byte letter : ℕ) → is_escape letter ≡ true → escaped letter ≡ byte
       → quoted quote content past (92 ∷ letter ∷ text) ≡ quoted quote (content ++ byte ∷ []) (past + 2) text
-  step_special content text rest past byte letter escapes stands = rw (is_quote.no_backslash, escapes, stands) refl
+  step_special content text past byte letter escapes stands = rw (is_quote.no_backslash, escapes, stands) refl
 
   step_plain : (content text rest : List ℕ) (past byte : ℕ) → byte == quote ≡ false → byte == 92 ≡ false → byte == 10 ≡ false
       → quoted quote content past (byte ∷ (text ++ quote ∷ rest)) ≡ quoted quote (content ++ byte ∷ []) (past + 1) (text ++ quote ∷ rest)
@@ -61,7 +61,7 @@ module _ (quote : ℕ) (is_quote : IsQuote quote) where
       → Reads content (byte ∷ text) past (escape quote byte ++ spelled) rest
   reads_more content text spelled rest past byte (special letter small small' escapes stands is) others =
       rw is (
-      step_special content (spelled ++ quote ∷ rest) rest past byte letter escapes stands
+      step_special content (spelled ++ quote ∷ rest) past byte letter escapes stands
       ∙ others (content ++ byte ∷ []) (past + 2)
       ∙ rw (append_assoc content (byte ∷ []) text) (ap (λ (n : ℕ). Some (content ++ byte ∷ text, n)) (omega arith))
       )

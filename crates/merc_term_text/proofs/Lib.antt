@@ -1,4 +1,5 @@
 pub mod Parted
+pub mod PartedExamples
 pub mod Utf8Parts
 pub mod EscapedReads
 pub mod Behind

@@ -48,8 +48,8 @@ second-slash (byte ∷ bytes) rest is = ne_eqb byte 42 (λ same. omega (arith, e
 
 no_comment : (byte : ℕ) (bytes rest : List ℕ) → not (byte == 47) || next_is 47 bytes ≡ true → (byte == 47) && next_is 42 (bytes ++ rest) ≡ false
 no_comment byte bytes rest is = elim (cases_Bool (byte == 47)) [
-    inl slash ↦ and_right (byte == 47) (next_is 42 (bytes ++ rest)) (second-slash bytes rest (subst (λ (b : Bool). not b || next_is 47 bytes ≡ true) slash is))
-    | inr other ↦ and_left (byte == 47) (next_is 42 (bytes ++ rest)) other
+  | inl slash ↦ and_right (byte == 47) (next_is 42 (bytes ++ rest)) (second-slash bytes rest (subst (λ (b : Bool). not b || next_is 47 bytes ≡ true) slash is))
+  | inr other ↦ and_left (byte == 47) (next_is 42 (bytes ++ rest)) other
 ]
 
 -- graphic characters
@@ -70,11 +70,11 @@ semicolon-reads byte (next ∷ bytes) rest after is = absurd (false≢true (sym 
 alone-reads : (text rest : List ℕ) (after : Bool) → length text ≤ 255 → is_alone text ≡ true → EndsItem rest → first_piece after (text ++ rest) ≡ Token (Name text) (length text)
 alone-reads [] rest after short is behind = absurd (cc)
 alone-reads (byte ∷ bytes) rest after short is behind = elim (or_cases _ ((byte == 59) && is_nothing bytes) is) [
-    inr semicolon ↦ semicolon-reads byte bytes rest after semicolon
-    | inl other ↦ elim (or_cases (is_lower byte && list_all is_word bytes) _ other) [
-      inl word ↦ let parts = and_parts (is_lower byte) (list_all is_word bytes) word in name-reads (byte ∷ bytes) rest after short (plain byte bytes parts.0 parts.1) (ended rest behind)
-      | inr graphic ↦ let parts = and_parts (is_graphic byte && list_all is_graphic bytes) _ graphic in graphic-reads byte bytes rest after short parts.0 parts.1 (ended-no_graphic rest behind)
-    ]
+  | inr semicolon ↦ semicolon-reads byte bytes rest after semicolon
+  | inl other ↦ elim (or_cases (is_lower byte && list_all is_word bytes) _ other) [
+    | inl word ↦ let parts = and_parts (is_lower byte) (list_all is_word bytes) word in name-reads (byte ∷ bytes) rest after short (plain byte bytes parts.0 parts.1) (ended rest behind)
+    | inr graphic ↦ let parts = and_parts (is_graphic byte && list_all is_graphic bytes) _ graphic in graphic-reads byte bytes rest after short parts.0 parts.1 (ended-no_graphic rest behind)
+  ]
 ]
 
 -- a constant's text is one that reads as a name
@@ -95,7 +95,7 @@ found-passes test each [] all some = absurd (cc)
 found-passes test each (x ∷ xs) all some =
     let parts = and_parts (each x) (list_all each xs) all in
     elim (cases_Bool (test x)) [
-      inl here ↦ (x, here, parts.0)
+      | inl here ↦ (x, here, parts.0)
       | inr other ↦ found-passes test each xs parts.1 (subst (λ (b : Bool). is_some (cond b (Some x) (find test xs)) ≡ true) other some)
     ]
 
@@ -111,7 +111,7 @@ operator-reads name is =
     let parts = and_parts (is_some (infix_named name) || is_some (prefix_named name)) (not (name == 26)) is in
     let other = not-true (name == 26) parts.1 in
     elim (or_cases (is_some (infix_named name)) (is_some (prefix_named name)) parts.0) [
-      inl infix' ↦ operator-named name (λ operator. is_infix operator.fixity) other infix'
+      | inl infix' ↦ operator-named name (λ operator. is_infix operator.fixity) other infix'
       | inr prefix ↦ operator-named name (λ operator. not (is_infix operator.fixity)) other prefix
     ]
 
@@ -120,7 +120,7 @@ pub minus-reads : (after : Bool) (rest : List ℕ) → begins_with is_graphic re
 minus-reads after rest other = let none : prefix_len (class_test GraphicClass) rest ≡ 0 = prefix_len-run is_graphic [] rest refl other in rw none refl
 
 -- the text of a constant
-pub text-fixed : (names : List (List ℕ)) (name : ℕ) (text : List ℕ) → HoldsFixed names → slice_get fixed_names name ≡ Some text → text_at names name ≡ text
+text-fixed : (names : List (List ℕ)) (name : ℕ) (text : List ℕ) → HoldsFixed names → slice_get fixed_names name ≡ Some text → text_at names name ≡ text
 text-fixed names name text fixed is = ap (λ (o : Option (List ℕ)). unwrap_or o []) (fixed.text name text is)
 
 pub minus-fixed : slice_get fixed_names 43 ≡ Some (codes "-")

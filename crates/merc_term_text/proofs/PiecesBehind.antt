@@ -9,7 +9,7 @@ use Rattle.merc_tokens.specs.declared.token.TokenKind.{TokenKind}
 use Rattle.merc_tokens.specs.declared.token.TokenKind.TheVariants.{Name, Quoted, Var, Int, Text as TextToken, OpenArgs, Open, Close, OpenList, CloseList, Comma, Bar, Dot, Stop}
 use Rattle.merc_term_text.specs.Pieces.{Piece, Blank, Token, pieces_text}
 use Rattle.merc_term_text.proofs.Parted.{parted, touches, begins_part, ends_operand, ends_name, is_integer, is_name_kind}
-use Rattle.merc_term_text.proofs.Behind.{EndsItem, at_end, at_blank, stopped, EndsOperand, nothing, blank, close, close_list, comma, stop, stop_blank, EndsName, operand, open_args, dot}
+use Rattle.merc_term_text.proofs.Behind.{EndsItem, at_end, at_blank, stopped, EndsOperand, nothing, blank, close, close_list, comma, EndsName, operand, open_args, dot}
 use Rattle.merc_term_text.proofs.NamesRead.{IsPlain, plain, plain-is, lower-bounds}
 use Rattle.merc_term_text.proofs.OperatorsRead.{minus-text}
 

@@ -1,7 +1,7 @@
 -- Each token reads as itself, given what stands before and behind it.
-use Rattle.std.proofs.Common.{◌≡◌, ℕ, ◌+◌, ◌≤◌, ◌⊎◌, Bool, true, false, List, [], ◌∷◌, ◌++◌, length, Option, Some, slice_get, option_map, flat_map, codes, refl, sym, ◌∙◌, ap, subst, arith, inl, inr, unwrap_or, append-nil, append_assoc, length-append, decimal}
+use Rattle.std.proofs.Common.{◌≡◌, ℕ, ◌+◌, ◌≤◌, ◌⊎◌, Bool, true, false, List, [], ◌∷◌, ◌++◌, length, Option, Some, slice_get, option_map, flat_map, codes, refl, sym, ◌∙◌, ap, subst, arith, inl, inr, unwrap_or, append_assoc, length-append, decimal}
 use Rattle.std.specs.List.{AllByRecursion}
-use Rattle.std.proofs.lemmas.Bool.{cases_Bool, le-leb, false≢true}
+use Rattle.std.proofs.lemmas.Bool.{cases_Bool, false≢true}
 use Rattle.merc_base.specs.Names.{HoldsFixed}
 use Rattle.merc_value.specs.Text.{text_at, is_plain, escape, quoted as written}
 use Rattle.merc_tokens.specs.declared.token.TokenKind.{TokenKind}
@@ -11,7 +11,7 @@ use Rattle.merc_tokens.specs.declared.pieces.Spelling.TheVariants.{Name as NameO
 use Rattle.merc_tokens.specs.declared.pieces.Piece.TheVariants.{Token as TokenFound}
 use Rattle.merc_tokens.specs.Bytes.{next_is}
 use Rattle.merc_tokens.specs.Quoted.{quoted}
-use Rattle.merc_tokens.specs.Pieces.{first_piece, quoted_piece, string_piece, named}
+use Rattle.merc_tokens.specs.Pieces.{first_piece, quoted_piece, string_piece}
 use Rattle.merc_tokens.specs.Tokens.{is_name, spelling_in}
 use Rattle.merc_term_text.specs.Pieces.{Piece, token_text, pieces_text, kinds_of}
 use Rattle.merc_term_text.proofs.Parted.{parted, HasName, IsSpelled, is_operator, is_variable_text}
@@ -104,7 +104,7 @@ module _ (names : List (List ℕ)) (after : Bool) (name : ℕ) (rest : List ℕ)
         piece = subst (λ (t : List ℕ). first_piece after (t ++ rest) ≡ TokenFound (NameOf text) (length t)) (sym same) found;
       }
 
--- a token of one or two bytes
+-- a token that has no name
 fixed-token : (names : List (List ℕ)) (after : Bool) (kind : TokenKind) (rest : List ℕ) (spelling : Spelling) → spelling_in names kind ≡ Some spelling → is_name spelling ≡ is_name_token kind
     → first_piece after (token_text names kind ++ rest) ≡ TokenFound spelling (length (token_text names kind)) → ReadsAsToken names after kind rest
 fixed-token names after kind rest spelling looked_up name piece = record { spelling = spelling; looked_up = looked_up; name = name; piece = piece }
