@@ -1,0 +1,156 @@
+-- What the nodes of terms are once terms are taken apart, put together, or given a root.
+use Rattle.std.proofs.Common.{◌≡◌, ℕ, suc, zero, ◌+◌, ◌-◌, ◌<◌, ◌≤◌, List, [], ◌∷◌, ◌++◌, length, take, drop, get_or, Option, Some, refl, ap, sym, ◌∙◌, arith, rules}
+use Rattle.std.specs.List.{slice_get}
+use Rattle.std.proofs.Math.Nat.{sub-zero}
+use Rattle.std.proofs.Math.Seq.{take-length, drop-length}
+use Rattle.std.proofs.lemmas.List.{length-append, length-drop, append_assoc, append-nil, take-append-drop}
+use Rattle.merc_base.specs.declared.place.Span.{Span}
+use Rattle.merc_tree.specs.Term.{Term, Variable, Integer, Text, Application, Terms, none, more, terms_of, list_of, applied}
+use Rattle.merc_tree.specs.declared.term.Node.{Node}
+use Rattle.merc_tree.specs.declared.term.Shape.{Shape}
+use Rattle.merc_tree.specs.declared.term.Shape.TheVariants.{Variable as VariableShape, Integer as IntegerShape, Text as TextShape, Application as ApplicationShape}
+use Rattle.merc_tree.specs.Nodes.{with_root, arity_of, built, first_of, root, nodes_of, argument_nodes, all_nodes, starts_from, AreTerms}
+use Rattle.merc_tree.specs.TermCode.{built-append, built-nodes_of}
+
+-- terms and their nodes
+
+pub list_of-terms_of : (terms : List Term) → list_of (terms_of terms) ≡ terms
+list_of-terms_of [] = refl
+list_of-terms_of (first ∷ rest) = ap (λ l. first ∷ l) (list_of-terms_of rest)
+
+pub argument_nodes-terms_of : (terms : List Term) → argument_nodes (terms_of terms) ≡ all_nodes terms
+argument_nodes-terms_of [] = refl
+argument_nodes-terms_of (first ∷ rest) = ap (λ nodes. nodes_of first ++ nodes) (argument_nodes-terms_of rest)
+
+pub argument_nodes-all : (arguments : Terms) → argument_nodes arguments ≡ all_nodes (list_of arguments)
+argument_nodes-all none = refl
+argument_nodes-all (more first rest) = ap (λ nodes. nodes_of first ++ nodes) (argument_nodes-all rest)
+
+pub all_nodes-append : (front back : List Term) → all_nodes (front ++ back) ≡ all_nodes front ++ all_nodes back
+all_nodes-append [] back = refl
+all_nodes-append (first ∷ front) back =
+    ap (λ nodes. nodes_of first ++ nodes) (all_nodes-append front back) ∙ sym (append_assoc (nodes_of first) (all_nodes front) (all_nodes back))
+
+pub built-all_nodes : (terms before : List Term) → built (all_nodes terms) before ≡ before ++ terms
+built-all_nodes [] before = sym (append-nil before)
+built-all_nodes (first ∷ rest) before =
+    built-append (nodes_of first) (all_nodes rest) before
+    ∙ ap (built (all_nodes rest)) (built-nodes_of first before)
+    ∙ built-all_nodes rest (before ++ first ∷ [])
+    ∙ append_assoc before (first ∷ []) rest
+
+-- nodes that are those of terms stand for them
+pub built_from : (nodes : List Node) (terms : List Term) → nodes ≡ all_nodes terms → built nodes [] ≡ terms
+built_from nodes terms same = ap (λ n. built n []) same ∙ built-all_nodes terms []
+
+pub AreTerms_from : (nodes : List Node) (terms : List Term) → nodes ≡ all_nodes terms → AreTerms nodes
+AreTerms_from nodes terms same = ap all_nodes (built_from nodes terms same) ∙ sym same
+
+-- starts
+
+pub length-starts_from : (start : ℕ) (terms : List Term) → length (starts_from start terms) ≡ length terms
+length-starts_from start [] = refl
+length-starts_from start (first ∷ rest) = ap suc (length-starts_from (start + length (nodes_of first)) rest)
+
+pub starts_from-take : (count start : ℕ) (terms : List Term) → take count (starts_from start terms) ≡ starts_from start (take count terms)
+starts_from-take zero start [] = refl
+starts_from-take (suc count) start [] = refl
+starts_from-take zero start (first ∷ rest) = refl
+starts_from-take (suc count) start (first ∷ rest) = ap (λ starts. start ∷ starts) (starts_from-take count (start + length (nodes_of first)) rest)
+
+pub starts_from-last : (start : ℕ) (terms : List Term) (last : Term)
+    → starts_from start (terms ++ last ∷ []) ≡ starts_from start terms ++ (start + length (all_nodes terms)) ∷ []
+starts_from-last start [] last = ap (λ n. n ∷ []) (omega arith)
+starts_from-last start (first ∷ rest) last =
+    let more_nodes : start + length (nodes_of first) + length (all_nodes rest) ≡ start + length (nodes_of first ++ all_nodes rest) = omega (arith, length-append (nodes_of first) (all_nodes rest)) in
+    ap (λ starts. start ∷ starts) (starts_from-last (start + length (nodes_of first)) rest last
+    ∙ ap (λ n. starts_from (start + length (nodes_of first)) rest ++ n ∷ []) more_nodes)
+
+pub start_at : (count start : ℕ) (terms : List Term) (end : ℕ) → count ≤ length terms → end ≡ start + length (all_nodes terms)
+    → get_or (starts_from start terms) count end ≡ start + length (all_nodes (take count terms))
+start_at zero start [] end within is_end = is_end
+start_at (suc count) start [] end within is_end = absurd (omega arith)
+start_at zero start (first ∷ rest) end within is_end = omega arith
+start_at (suc count) start (first ∷ rest) end within is_end =
+    let nodes = nodes_of first in
+    let behind : end ≡ start + length nodes + length (all_nodes rest) = omega (arith, is_end, length-append nodes (all_nodes rest)) in
+    start_at count (start + length nodes) rest end (omega arith) behind ∙ omega (arith, length-append nodes (all_nodes (take count rest)))
+
+-- the last terms of these are the arguments of a root
+pub record Rooted (shape : Shape) (span : Span) (terms : List Term) : Type 0 where
+  pub made : Term
+  pub terms_are : with_root shape span terms ≡ take (length terms - arity_of shape) terms ++ made ∷ []
+  pub nodes_are : nodes_of made ≡ root shape span (all_nodes (drop (length terms - arity_of shape) terms))
+
+leaf-terms : (terms : List Term) (made : Term) → terms ++ made ∷ [] ≡ take (length terms - 0) terms ++ made ∷ []
+leaf-terms terms made = ap (λ l. l ++ made ∷ []) (sym (ap (λ n. take n terms) (sub-zero (length terms)) ∙ take-length terms))
+
+leaf-nodes : (shape : Shape) (span : Span) (terms : List Term) → root shape span [] ≡ root shape span (all_nodes (drop (length terms - 0) terms))
+leaf-nodes shape span terms = ap (λ l. root shape span (all_nodes l)) (sym (ap (λ n. drop n terms) (sub-zero (length terms)) ∙ drop-length terms))
+
+pub rooted : (shape : Shape) (span : Span) (terms : List Term) → arity_of shape ≤ length terms → Rooted shape span terms
+rooted (VariableShape name) span terms enough =
+    record { made = Variable name span; terms_are = leaf-terms terms _; nodes_are = leaf-nodes (VariableShape name) span terms }
+rooted (IntegerShape value) span terms enough =
+    record { made = Integer value span; terms_are = leaf-terms terms _; nodes_are = leaf-nodes (IntegerShape value) span terms }
+rooted (TextShape text) span terms enough =
+    record { made = Text text span; terms_are = leaf-terms terms _; nodes_are = leaf-nodes (TextShape text) span terms }
+rooted (ApplicationShape name qualifier arity) span terms enough =
+    let last = drop (length terms - arity) terms in
+    let count : length (list_of (terms_of last)) ≡ arity =
+    ap length (list_of-terms_of last) ∙ length-drop (length terms - arity) terms ∙ omega (arith, enough) in
+    record {
+      made = Application name qualifier (terms_of last) span;
+      terms_are = refl;
+      nodes_are = ap (λ n. root (ApplicationShape name qualifier n) span (argument_nodes (terms_of last))) count
+        ∙ ap (root (ApplicationShape name qualifier arity) span) (argument_nodes-terms_of last);
+    }
+
+-- a root behind the nodes of terms
+module _ (terms : List Term) (nodes : List Node) (starts : List ℕ) (are : all_nodes terms ≡ nodes) (start : starts ≡ starts_from 0 terms) where
+  abbrev front : ℕ → List Term
+  front count = take count terms
+
+  front_and_back : (count : ℕ) → nodes ≡ all_nodes (take count terms) ++ all_nodes (drop count terms)
+  front_and_back count =
+      sym are ∙ ap all_nodes (sym (take-append-drop count terms)) ∙ all_nodes-append (take count terms) (drop count terms)
+
+  pub start_is : (count : ℕ) → count ≤ length terms → get_or starts count (length nodes) ≡ length (all_nodes (take count terms))
+  start_is count within =
+      ap (λ s. get_or s count (length nodes)) start ∙ start_at count 0 terms (length nodes) within (ap length (sym are) ∙ omega arith) ∙ omega arith
+
+  pub start_within : (count : ℕ) → count ≤ length terms → get_or starts count (length nodes) ≤ length nodes
+  start_within count within =
+      omega (arith, start_is count within, ap length (front_and_back count), length-append (all_nodes (take count terms)) (all_nodes (drop count terms)))
+
+  module _ (shape : Shape) (span : Span) (enough : arity_of shape ≤ length terms) (kept : ℕ) (kept_is : kept ≡ length terms - arity_of shape) where
+    abbrev root_node : Node
+    root_node = record { shape = shape; span = span; size = length nodes - get_or starts kept (length nodes) + 1 }
+
+    pub nodes_behind : nodes ++ root_node ∷ [] ≡ all_nodes (with_root shape span terms)
+    nodes_behind =
+        let made = rooted shape span terms enough in
+        let kept_terms = take (length terms - arity_of shape) terms in
+        let last = drop (length terms - arity_of shape) terms in
+        let parts : nodes ≡ all_nodes kept_terms ++ all_nodes last = front_and_back (length terms - arity_of shape) in
+        let at : get_or starts kept (length nodes) ≡ length (all_nodes kept_terms) =
+        ap (λ k. get_or starts k (length nodes)) kept_is ∙ start_is (length terms - arity_of shape) (omega arith) in
+        let size : length nodes - get_or starts kept (length nodes) + 1 ≡ suc (length (all_nodes last)) =
+        omega (arith, at, ap length parts, length-append (all_nodes kept_terms) (all_nodes last)) in
+        ap (λ n. nodes ++ record { shape = shape; span = span; size = n } ∷ []) size
+        ∙ ap (λ l. l ++ record { shape = shape; span = span; size = suc (length (all_nodes last)) } ∷ []) parts
+        ∙ append_assoc (all_nodes kept_terms) (all_nodes last) _
+        ∙ ap (λ l. all_nodes kept_terms ++ l) (sym made.nodes_are ∙ sym (append-nil (nodes_of made.made)))
+        ∙ sym (all_nodes-append kept_terms (made.made ∷ []))
+        ∙ ap all_nodes (sym made.terms_are)
+
+    pub starts_behind : take kept starts ++ get_or starts kept (length nodes) ∷ [] ≡ starts_from 0 (with_root shape span terms)
+    starts_behind =
+        let made = rooted shape span terms enough in
+        let before = length terms - arity_of shape in
+        let at : get_or starts kept (length nodes) ≡ 0 + length (all_nodes (take before terms)) =
+        ap (λ k. get_or starts k (length nodes)) kept_is ∙ start_is before (omega arith) ∙ omega arith in
+        ap (λ n. take kept starts ++ n ∷ []) at
+        ∙ ap (λ l. l ++ (0 + length (all_nodes (take before terms))) ∷ []) (ap (λ k. take k starts) kept_is ∙ ap (take before) start ∙ starts_from-take before 0 terms)
+        ∙ sym (starts_from-last 0 (take before terms) made.made)
+        ∙ ap (starts_from 0) (sym made.terms_are)
