@@ -2,14 +2,16 @@
 use Rattle.std.proofs.Common.{◌≡◌, ℕ, suc, zero, ◌+◌, ◌-◌, ◌<◌, ◌≤◌, List, [], ◌∷◌, ◌++◌, length, take, drop, get_or, Option, Some, refl, ap, sym, ◌∙◌, arith, rules}
 use Rattle.std.specs.List.{slice_get}
 use Rattle.std.proofs.Math.Nat.{sub-zero}
-use Rattle.std.proofs.Math.Seq.{take-length, drop-length}
+use Rattle.std.proofs.Math.Seq.{take-length, drop-length, get_or-append_seam, set-append_seam}
+use Rattle.std.proofs.Math.ListN.{set}
 use Rattle.std.proofs.lemmas.List.{length-append, length-drop, append_assoc, append-nil, take-append-drop}
 use Rattle.merc_base.specs.declared.place.Span.{Span}
-use Rattle.merc_tree.specs.Term.{Term, Variable, Integer, Text, Application, Terms, none, more, terms_of, list_of, applied}
+use Rattle.merc_tree.specs.Term.{Term, Variable, Integer, Text, Application, Terms, none, more, terms_of, list_of, applied, enclosed, with_span, span_of}
+use Rattle.merc_tree.specs.Shape.{shape_of, arguments_of}
 use Rattle.merc_tree.specs.declared.term.Node.{Node}
 use Rattle.merc_tree.specs.declared.term.Shape.{Shape}
 use Rattle.merc_tree.specs.declared.term.Shape.TheVariants.{Variable as VariableShape, Integer as IntegerShape, Text as TextShape, Application as ApplicationShape}
-use Rattle.merc_tree.specs.Nodes.{with_root, arity_of, built, first_of, root, nodes_of, argument_nodes, all_nodes, starts_from, AreTerms}
+use Rattle.merc_tree.specs.Nodes.{with_root, arity_of, built, first_of, term_of, root, nodes_of, argument_nodes, all_nodes, starts_from, IsTerm, AreTerms}
 use Rattle.merc_tree.specs.TermCode.{built-append, built-nodes_of}
 
 -- terms and their nodes
@@ -154,3 +156,95 @@ module _ (terms : List Term) (nodes : List Node) (starts : List ℕ) (are : all_
         ∙ ap (λ l. l ++ (0 + length (all_nodes (take before terms))) ∷ []) (ap (λ k. take k starts) kept_is ∙ ap (take before) start ∙ starts_from-take before 0 terms)
         ∙ sym (starts_from-last 0 (take before terms) made.made)
         ∙ ap (starts_from 0) (sym made.terms_are)
+
+-- one term alone
+
+pub only_term : (terms : List Term) → length terms ≡ 1 → terms ≡ first_of terms ∷ []
+only_term [] one = absurd (omega arith)
+only_term (term ∷ []) one = refl
+only_term (term ∷ next ∷ rest) one = absurd (omega arith)
+
+pub only_nodes : (nodes : List Node) → AreTerms nodes → length (built nodes []) ≡ 1 → IsTerm nodes
+only_nodes nodes are one =
+    sym (append-nil (nodes_of (term_of nodes))) ∙ ap all_nodes (sym (only_term (built nodes []) one)) ∙ are
+
+-- the last of terms
+
+abbrev pub root_of : Term → Node
+root_of term = record { shape = shape_of term; span = span_of term; size = length (nodes_of term) }
+
+pub root_last : (term : Term) → nodes_of term ≡ all_nodes (arguments_of term) ++ root_of term ∷ []
+root_last (Variable name span) = refl
+root_last (Integer value span) = refl
+root_last (Text text span) = refl
+root_last (Application name qualifier arguments span) =
+    let nodes = argument_nodes arguments in
+    let shape = shape_of (Application name qualifier arguments span) in
+    let made : Node = record { shape = shape; span = span; size = suc (length nodes) } in
+    let size : suc (length nodes) ≡ length (nodes ++ made ∷ []) = omega (arith, length-append nodes (made ∷ [])) in
+    ap (λ n. nodes ++ record { shape = shape; span = span; size = n } ∷ []) size
+    ∙ ap (λ l. l ++ root_of (Application name qualifier arguments span) ∷ []) (argument_nodes-all arguments)
+
+pub root_enclosed : (span : Span) (term : Term)
+    → nodes_of (with_span span term) ≡ all_nodes (arguments_of term) ++ record { shape = shape_of term; span = span; size = length (nodes_of term) } ∷ []
+root_enclosed span (Variable name old) = refl
+root_enclosed span (Integer value old) = refl
+root_enclosed span (Text text old) = refl
+root_enclosed span (Application name qualifier arguments old) =
+    root_last (Application name qualifier arguments span)
+    ∙ ap (λ n. all_nodes (list_of arguments) ++ record { shape = shape_of (Application name qualifier arguments old); span = span; size = n } ∷ [])
+    (length-append (argument_nodes arguments) _ ∙ sym (length-append (argument_nodes arguments) _))
+
+pub record Last (terms : List Term) : Type 0 where
+  pub front : List Term
+  pub last : Term
+  pub are : terms ≡ front ++ last ∷ []
+
+pub last_of : (terms : List Term) → 0 < length terms → Last terms
+last_of [] some = absurd (omega arith)
+last_of (only ∷ []) some = record { front = []; last = only; are = refl }
+last_of (first ∷ next ∷ rest) some =
+    let found = last_of (next ∷ rest) (omega arith) in
+    record { front = first ∷ found.front; last = found.last; are = ap (λ l. first ∷ l) found.are }
+
+pub enclosed_last : (span : Span) (front : List Term) (last : Term) → enclosed span (front ++ last ∷ []) ≡ front ++ with_span span last ∷ []
+enclosed_last span [] last = refl
+enclosed_last span (only ∷ []) last = refl
+enclosed_last span (first ∷ next ∷ rest) last = ap (λ l. first ∷ l) (enclosed_last span (next ∷ rest) last)
+
+-- the nodes of terms end with the last one's root
+pub all_nodes-last : (front : List Term) (last : Term) (root : Node) (inner : List Node) → nodes_of last ≡ inner ++ root ∷ []
+    → all_nodes (front ++ last ∷ []) ≡ (all_nodes front ++ inner) ++ root ∷ []
+all_nodes-last front last root inner nodes_are =
+    all_nodes-append front (last ∷ [])
+    ∙ ap (λ l. all_nodes front ++ l) (append-nil (nodes_of last) ∙ nodes_are)
+    ∙ sym (append_assoc (all_nodes front) inner (root ∷ []))
+
+module _ (span : Span) (terms : List Term) (nodes : List Node) (are : all_nodes terms ≡ nodes) (some : 0 < length nodes) where
+  some_terms : 0 < length terms
+  some_terms = elim terms as (λ t. all_nodes t ≡ nodes → 0 < length t) [ [] ↦ (λ e. absurd (omega (arith, ap length e))) | first ∷ rest ↦ (λ e. omega arith) ] are
+
+  pub enclosed_nodes : (index : ℕ) (node : Node) → index ≡ length nodes - 1 → node ≡ get_or nodes index node
+      → set nodes index (record { shape = node.shape; span = span; size = node.size }) ≡ all_nodes (enclosed span terms)
+  enclosed_nodes index node index_is node_is =
+      let found = last_of terms some_terms in
+      let inner = all_nodes found.front ++ all_nodes (arguments_of found.last) in
+      let nodes_are : nodes ≡ inner ++ root_of found.last ∷ [] =
+      sym are ∙ ap all_nodes found.are ∙ all_nodes-last found.front found.last _ _ (root_last found.last) in
+      let index_at : index ≡ length inner = omega (arith, index_is, ap length nodes_are, length-append inner (root_of found.last ∷ [])) in
+      let node_at : node ≡ root_of found.last =
+      node_is ∙ ap (λ l. get_or l index node) nodes_are ∙ ap (λ i. get_or (inner ++ root_of found.last ∷ []) i node) index_at ∙ get_or-append_seam inner (root_of found.last) [] node in
+      ap (λ n. set nodes index (record { shape = n.shape; span = span; size = n.size })) node_at
+      ∙ ap (λ l. set l index (record { shape = shape_of found.last; span = span; size = length (nodes_of found.last) })) nodes_are
+      ∙ ap (λ i. set (inner ++ root_of found.last ∷ []) i (record { shape = shape_of found.last; span = span; size = length (nodes_of found.last) })) index_at
+      ∙ set-append_seam inner (root_of found.last) [] _
+      ∙ sym (all_nodes-last found.front (with_span span found.last) _ _ (root_enclosed span found.last))
+      ∙ ap all_nodes (sym (enclosed_last span found.front found.last) ∙ ap (enclosed span) (sym found.are))
+
+  pub enclosed_starts : starts_from 0 terms ≡ starts_from 0 (enclosed span terms)
+  enclosed_starts =
+      let found = last_of terms some_terms in
+      ap (starts_from 0) found.are
+      ∙ starts_from-last 0 found.front found.last
+      ∙ sym (starts_from-last 0 found.front (with_span span found.last))
+      ∙ ap (starts_from 0) (sym (enclosed_last span found.front found.last) ∙ ap (enclosed span) (sym found.are))

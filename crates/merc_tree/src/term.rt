@@ -121,8 +121,9 @@ impl Terms {
     pub fn enclose(&mut self, span: Span)
         ensures { self.new ≡ enclosed span self.old }
     {
-        if let Some(root) = self.nodes.last_mut() {
-            root.span = span;
+        let count = self.nodes.len();
+        if count > 0 {
+            self.nodes[count - 1].span = span;
         }
     }
 
