@@ -3,3 +3,5 @@ pub mod Reading
 pub mod Items
 pub mod Starting
 pub mod Reader
+pub mod OperatorRows
+pub mod Starts
