@@ -1,1 +1,2 @@
 pub mod OperatorLaws
+pub mod BuiltLaws
