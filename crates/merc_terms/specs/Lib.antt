@@ -4,4 +4,5 @@ pub mod Items
 pub mod Starting
 pub mod Reader
 pub mod OperatorRows
-pub mod Starts
+pub mod Finds
+pub mod Moves

@@ -2,6 +2,7 @@
 #![tactic(auto)]
 
 mod built;
+mod moving;
 mod frame;
 mod operators;
 mod starting;

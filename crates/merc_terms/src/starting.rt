@@ -3,7 +3,7 @@ ghost use Rattle.std.specs.Prelude.{◌≡◌, Some};
 ghost use Rattle.merc_tokens.specs.declared.token.TokenKind.TheVariants.{Name as NameKind};
 ghost use Rattle.merc_terms.specs.Reading.{joined, begins_with, is_integer, is_infix_name, leaves_plain, is_left_plain, is_sign};
 ghost use Rattle.merc_terms.specs.Starting.{named_before, qualified_start, plain_start, signed_start, operator_start, list_start, start_with, start_at};
-ghost use Rattle.merc_terms.specs.Starts.{Starts};
+ghost use Rattle.merc_terms.specs.Finds.{Finds};
 
 use crate::operators::{self, Operator};
 use merc_base::{Name, Span};
@@ -41,7 +41,7 @@ pub(crate) fn joined(from: Span, to: Span) -> Span
 
 /// What stands where a term must begin, and the tokens behind it.
 pub(crate) fn first_start(tokens: &[Token]) -> Option<(Start, &[Token])>
-    ensures { Starts (start_at tokens.now) result }
+    ensures { Finds (start_at tokens.now) result }
 {
     let [first, rest @ ..] = tokens else {
         return None;
@@ -66,7 +66,7 @@ pub(crate) fn first_start(tokens: &[Token]) -> Option<(Start, &[Token])>
 
 // A name that is not quoted, before these tokens.
 fn name_start(name: Name, span: Span, tokens: &[Token]) -> Option<(Start, &[Token])>
-    ensures { Starts (start_with (NameKind name) span tokens.now) result }
+    ensures { Finds (start_with (NameKind name) span tokens.now) result }
 {
     if is_sign(name, tokens) {
         return signed_start(span, tokens);
@@ -84,7 +84,7 @@ fn operator_start(
     span: Span,
     tokens: &[Token],
 ) -> Option<(Start, &[Token])>
-    ensures { Starts (operator_start (Some operator) name span tokens.now) result }
+    ensures { Finds (operator_start (Some operator) name span tokens.now) result }
 {
     if is_left_plain(tokens) {
         return plain_start(name, span, tokens);
@@ -94,7 +94,7 @@ fn operator_start(
 
 // `-` before these tokens, as the sign of a literal where an integer comes first.
 fn signed_start(sign: Span, tokens: &[Token]) -> Option<(Start, &[Token])>
-    ensures { Starts (signed_start sign tokens.now) result }
+    ensures { Finds (signed_start sign tokens.now) result }
 {
     let [first, rest @ ..] = tokens else {
         return None;
@@ -109,7 +109,7 @@ fn signed_start(sign: Span, tokens: &[Token]) -> Option<(Start, &[Token])>
 
 // A name that is no operator, before these tokens.
 fn plain_start(name: Name, span: Span, tokens: &[Token]) -> Option<(Start, &[Token])>
-    ensures { Starts (plain_start name span tokens.now) result }
+    ensures { Finds (plain_start name span tokens.now) result }
 {
     let [first, rest @ ..] = tokens else {
         return Some((Start::Constant(name, None, span), tokens));
@@ -122,7 +122,7 @@ fn plain_start(name: Name, span: Span, tokens: &[Token]) -> Option<(Start, &[Tok
 
 // A name behind a qualifier mark.
 fn qualified_start(qualifier: Name, span: Span, tokens: &[Token]) -> Option<(Start, &[Token])>
-    ensures { Starts (qualified_start qualifier span tokens.now) result }
+    ensures { Finds (qualified_start qualifier span tokens.now) result }
 {
     let [first, rest @ ..] = tokens else {
         return None;
@@ -143,7 +143,7 @@ fn named_before(
     span: Span,
     tokens: &[Token],
 ) -> Option<(Start, &[Token])>
-    ensures { Starts (named_before name qualifier span tokens.now) result }
+    ensures { Finds (named_before name qualifier span tokens.now) result }
 {
     let [first, rest @ ..] = tokens else {
         return Some((Start::Constant(name, qualifier, span), tokens));
