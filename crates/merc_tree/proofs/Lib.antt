@@ -1,2 +1,4 @@
 pub mod Depth
 pub mod NodeLaws
+pub mod SameTerms
+pub mod PartLaws

@@ -1,18 +1,18 @@
 -- What the nodes of terms are once terms are taken apart, put together, or given a root.
-use Rattle.std.proofs.Common.{◌≡◌, ℕ, suc, zero, ◌+◌, ◌-◌, ◌<◌, ◌≤◌, List, [], ◌∷◌, ◌++◌, length, take, drop, get_or, Option, Some, refl, ap, sym, ◌∙◌, arith, rules}
-use Rattle.std.specs.List.{slice_get}
+use Rattle.std.proofs.Common.{◌≡◌, ℕ, suc, zero, ◌+◌, ◌-◌, ◌<◌, ◌≤◌, List, [], ◌∷◌, ◌++◌, length, take, drop, get_or, Some, refl, ap, sym, ◌∙◌, arith}
+use Rattle.std.specs.List.{slice_get, slice_range}
 use Rattle.std.proofs.Math.Nat.{sub-zero}
-use Rattle.std.proofs.Math.Seq.{take-length, drop-length, get_or-append_seam, set-append_seam}
+use Rattle.std.proofs.Math.Seq.{take-length, drop-length, take-append_seam, drop-append_seam, get_or-append_seam, set-append_seam}
 use Rattle.std.proofs.Math.ListN.{set}
 use Rattle.std.proofs.lemmas.List.{length-append, length-drop, append_assoc, append-nil, take-append-drop}
 use Rattle.merc_base.specs.declared.place.Span.{Span}
-use Rattle.merc_tree.specs.Term.{Term, Variable, Integer, Text, Application, Terms, none, more, terms_of, list_of, applied, enclosed, with_span, span_of}
+use Rattle.merc_tree.specs.Term.{Term, Variable, Integer, Text, Application, Terms, none, more, terms_of, list_of, enclosed, with_span, span_of}
 use Rattle.merc_tree.specs.Shape.{shape_of, arguments_of}
 use Rattle.merc_tree.specs.declared.term.Node.{Node}
 use Rattle.merc_tree.specs.declared.term.Shape.{Shape}
 use Rattle.merc_tree.specs.declared.term.Shape.TheVariants.{Variable as VariableShape, Integer as IntegerShape, Text as TextShape, Application as ApplicationShape}
 use Rattle.merc_tree.specs.Nodes.{with_root, arity_of, built, first_of, term_of, root, nodes_of, argument_nodes, all_nodes, starts_from, IsTerm, AreTerms}
-use Rattle.merc_tree.specs.TermCode.{built-append, built-nodes_of}
+use Rattle.merc_tree.specs.TermCode.{built-append, built-nodes_of, term_of-nodes_of}
 
 -- terms and their nodes
 
@@ -105,7 +105,7 @@ rooted (ApplicationShape name qualifier arity) span terms enough =
       made = Application name qualifier (terms_of last) span;
       terms_are = refl;
       nodes_are = ap (λ n. root (ApplicationShape name qualifier n) span (argument_nodes (terms_of last))) count
-        ∙ ap (root (ApplicationShape name qualifier arity) span) (argument_nodes-terms_of last);
+          ∙ ap (root (ApplicationShape name qualifier arity) span) (argument_nodes-terms_of last);
     }
 
 -- a root behind the nodes of terms
@@ -248,3 +248,119 @@ module _ (span : Span) (terms : List Term) (nodes : List Node) (are : all_nodes 
       ∙ starts_from-last 0 found.front found.last
       ∙ sym (starts_from-last 0 found.front (with_span span found.last))
       ∙ ap (starts_from 0) (sym (enclosed_last span found.front found.last) ∙ ap (enclosed span) (sym found.are))
+
+-- one of terms, by its index
+
+pub record Place (terms : List Term) (index : ℕ) : Type 0 where
+  pub term : Term
+  pub is : slice_get terms index ≡ Some term
+  pub next : take (suc index) terms ≡ take index terms ++ term ∷ []
+
+pub place : (terms : List Term) (index : ℕ) → index < length terms → Place terms index
+place [] index within = absurd (omega arith)
+place (first ∷ rest) zero within = record { term = first; is = refl; next = refl }
+place (first ∷ rest) (suc index) within =
+    let found = place rest index (omega arith) in
+    record { term = found.term; is = found.is; next = ap (λ l. first ∷ l) found.next }
+
+pub cut_between : (front middle back : List Node) (nodes : List Node) (start end : ℕ) → nodes ≡ front ++ (middle ++ back) → start ≡ length front → end ≡ length front + length middle
+    → slice_range nodes start end ≡ middle
+cut_between front middle back nodes start end nodes_are start_is end_is =
+    let size : end - start ≡ length middle = omega arith in
+    ap (λ n. take n (drop start nodes)) size
+    ∙ ap (λ n. take (length middle) (drop n nodes)) start_is
+    ∙ ap (λ l. take (length middle) (drop (length front) l)) nodes_are
+    ∙ ap (take (length middle)) (drop-append_seam front (middle ++ back))
+    ∙ take-append_seam middle back
+
+-- the nodes of one of terms
+pub record Between (terms : List Term) (nodes : List Node) (starts : List ℕ) (index start end : ℕ) : Type 0 where
+  pub term : Term
+  pub is : slice_get terms index ≡ Some term
+  pub order : start ≤ end
+  pub within : end ≤ length nodes
+  pub nodes_are : slice_range nodes start end ≡ nodes_of term
+
+pub between : (terms : List Term) (nodes : List Node) (starts : List ℕ) (index start end : ℕ) → all_nodes terms ≡ nodes → starts ≡ starts_from 0 terms → index < length terms
+    → start ≡ get_or starts index (length nodes) → end ≡ get_or starts (index + 1) (length nodes) → Between terms nodes starts index start end
+between terms nodes starts index start end are starts_are inside start_at end_at =
+    let found = place terms index inside in
+    let front = all_nodes (take index terms) in
+    let back = all_nodes (drop (suc index) terms) in
+    let next_nodes : all_nodes (take (suc index) terms) ≡ front ++ nodes_of found.term =
+    ap all_nodes found.next ∙ all_nodes-append (take index terms) (found.term ∷ []) ∙ ap (λ l. front ++ l) (append-nil (nodes_of found.term)) in
+    let whole : nodes ≡ front ++ (nodes_of found.term ++ back) =
+    front_and_back terms nodes starts are starts_are (suc index) ∙ ap (λ l. l ++ back) next_nodes ∙ append_assoc front (nodes_of found.term) back in
+    let start_length : start ≡ length front = start_at ∙ start_is terms nodes starts are starts_are index (omega arith) in
+    let end_length : end ≡ length front + length (nodes_of found.term) =
+    end_at ∙ ap (λ k. get_or starts k (length nodes)) (omega arith) ∙ start_is terms nodes starts are starts_are (suc index) (omega arith)
+    ∙ ap length next_nodes ∙ length-append front (nodes_of found.term) in
+    record {
+      term = found.term;
+      is = found.is;
+      order = omega arith;
+      within = omega (arith, ap length whole, length-append front (nodes_of found.term ++ back), length-append (nodes_of found.term) back);
+      nodes_are = cut_between front (nodes_of found.term) back nodes start end whole start_length end_length;
+    }
+
+-- nodes that are those of a term stand for it
+pub term_from : (nodes : List Node) (term : Term) → nodes ≡ nodes_of term → term_of nodes ≡ term
+term_from nodes term same = ap term_of same ∙ term_of-nodes_of term
+
+pub IsTerm_from : (nodes : List Node) (term : Term) → nodes ≡ nodes_of term → IsTerm nodes
+IsTerm_from nodes term same = ap nodes_of (term_from nodes term same) ∙ sym same
+
+-- the root of terms' last one, and what stands before it
+
+pub root_is : (nodes inner : List Node) (root other : Node) → nodes ≡ take (length nodes - 1) nodes ++ root ∷ [] → nodes ≡ inner ++ other ∷ [] → root ≡ other
+root_is nodes inner root other whole parts =
+    let before = take (length nodes - 1) nodes in
+    let size : length before ≡ length inner = omega (arith, ap length whole, ap length parts, length-append before (root ∷ []), length-append inner (other ∷ [])) in
+    sym (get_or-append_seam before root [] root)
+    ∙ ap (λ l. get_or l (length before) root) (sym whole ∙ parts)
+    ∙ ap (λ n. get_or (inner ++ other ∷ []) n root) size
+    ∙ get_or-append_seam inner other [] root
+
+pub argument_part : (nodes : List Node) (term : Term) → IsTerm nodes → term ≡ term_of nodes → slice_range nodes 0 (length nodes - 1) ≡ all_nodes (arguments_of term)
+argument_part nodes term is same =
+    let parts : nodes ≡ all_nodes (arguments_of term) ++ root_of term ∷ [] = sym is ∙ ap nodes_of (sym same) ∙ root_last term in
+    cut_between [] (all_nodes (arguments_of term)) (root_of term ∷ []) nodes 0 (length nodes - 1) parts refl
+    (omega (arith, ap length parts, length-append (all_nodes (arguments_of term)) (root_of term ∷ [])))
+
+pub term_root : (nodes : List Node) (term : Term) (root : Node) → IsTerm nodes → term ≡ term_of nodes → nodes ≡ take (length nodes - 1) nodes ++ root ∷ [] → root ≡ root_of term
+term_root nodes term root is same whole = root_is nodes (all_nodes (arguments_of term)) root (root_of term) whole (sym is ∙ ap nodes_of (sym same) ∙ root_last term)
+
+pub record LastCut (terms : List Term) (nodes : List Node) (root : Node) : Type 0 where
+  pub front : List Term
+  pub last : Term
+  pub are : terms ≡ front ++ last ∷ []
+  pub size : root.size ≤ length nodes
+  pub front_nodes : slice_range nodes 0 (length nodes - root.size) ≡ all_nodes front
+  pub last_nodes : slice_range nodes (length nodes - root.size) (length nodes) ≡ nodes_of last
+
+pub last_cut : (terms : List Term) (nodes : List Node) (root : Node) → all_nodes terms ≡ nodes → 0 < length terms → nodes ≡ take (length nodes - 1) nodes ++ root ∷ []
+    → LastCut terms nodes root
+last_cut terms nodes root are some whole =
+    let found = last_of terms some in
+    let front = all_nodes found.front in
+    let parts : nodes ≡ (front ++ all_nodes (arguments_of found.last)) ++ root_of found.last ∷ [] =
+    sym are ∙ ap all_nodes found.are ∙ all_nodes-last found.front found.last _ _ (root_last found.last) in
+    let both : nodes ≡ front ++ nodes_of found.last =
+    parts ∙ append_assoc front (all_nodes (arguments_of found.last)) (root_of found.last ∷ []) ∙ ap (λ l. front ++ l) (sym (root_last found.last)) in
+    let root_same : root ≡ root_of found.last = root_is nodes _ root (root_of found.last) whole parts in
+    let size : root.size ≡ length (nodes_of found.last) = ap (λ n. n.size) root_same in
+    let lengths : length nodes ≡ length front + length (nodes_of found.last) = ap length both ∙ length-append front (nodes_of found.last) in
+    record {
+      front = found.front;
+      last = found.last;
+      are = found.are;
+      size = omega arith;
+      front_nodes = cut_between [] front (nodes_of found.last) nodes 0 (length nodes - root.size) both refl (omega arith);
+      last_nodes = cut_between front (nodes_of found.last) [] nodes (length nodes - root.size) (length nodes) (both ∙ ap (λ l. front ++ l) (sym (append-nil (nodes_of found.last)))) (omega arith) lengths;
+    }
+
+pub arity_of-shape_of : (term : Term) → arity_of (shape_of term) ≡ length (arguments_of term)
+arity_of-shape_of (Variable name span) = refl
+arity_of-shape_of (Integer value span) = refl
+arity_of-shape_of (Text text span) = refl
+arity_of-shape_of (Application name qualifier arguments span) = refl

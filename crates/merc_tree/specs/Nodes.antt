@@ -1,5 +1,5 @@
 -- How terms lie in a list of nodes: the arguments of a term one after the other, then its root.
-use Rattle.std.specs.Prelude.{◌≡◌, ℕ, suc, ◌+◌, List, [], ◌∷◌, ◌++◌, length, Option}
+use Rattle.std.specs.Prelude.{◌≡◌, ℕ, suc, ◌+◌, List, [], ◌∷◌, ◌++◌, length, map}
 use Rattle.merc_base.specs.declared.place.Span.{Span}
 use Rattle.merc_tree.specs.Term.{Term, Variable, Integer, Text, Application, Terms, none, more, list_of, applied, no_span}
 use Rattle.merc_tree.specs.declared.term.Node.{Node}
@@ -65,3 +65,7 @@ IsTerm nodes = nodes_of (term_of nodes) ≡ nodes
 
 abbrev pub AreTerms : List Node → Type 0
 AreTerms nodes = all_nodes (built nodes []) ≡ nodes
+
+-- the shapes of nodes, in order
+abbrev pub shapes : List Node → List Shape
+shapes nodes = map (λ n. n.shape) nodes

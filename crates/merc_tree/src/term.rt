@@ -1,10 +1,12 @@
 //! Terms, as they are read from a text.
-ghost use Rattle.std.specs.Prelude.{◌≡◌, ◌≢◌, ◌≤◌, ◌<◌, ◌-◌, ◌↔◌, [], ◌∷◌, ◌++◌, length, take, map, slice_get, IfOk, OnOk, OnErr, MatchOption, IsTrue};
-ghost use Rattle.std.specs.List.{slice_index_or};
-ghost use Rattle.merc_tree.specs.Nodes.{with_root, arity_of};
+ghost use Rattle.std.specs.Prelude.{◌≡◌, ◌≢◌, ◌≤◌, ◌<◌, ◌-◌, ◌↔◌, [], ◌∷◌, ◌++◌, length, take, slice_get, IfOk, OnOk, OnErr, MatchOption, IsTrue};
+ghost use Rattle.std.specs.List.{slice_index_or, slice_range};
+ghost use Rattle.merc_tree.specs.Nodes.{with_root, arity_of, shapes};
 ghost use Rattle.merc_tree.specs.Term.{Variable, Integer, Text, applied, enclosed, bare, span_of};
 ghost use Rattle.merc_tree.specs.Shape.{shape_of, arguments_of};
 ghost use Rattle.merc_tree.specs.Nesting.{nesting};
+
+mod nesting;
 
 use merc_base::{Name, NoMemory, Span};
 use std::alloc::Global;
@@ -102,7 +104,13 @@ impl Terms {
     }
 
     /// Makes the last `arity` terms the arguments of one application.
-    pub fn apply(&mut self, name: Name, qualifier: Option<Name>, arity: usize, span: Span) -> Result<(), NoMemory>
+    pub fn apply(
+        &mut self,
+        name: Name,
+        qualifier: Option<Name>,
+        arity: usize,
+        span: Span,
+    ) -> Result<(), NoMemory>
         requires { arity ≤ length self.old }
         ensures ok { OnOk result (self.new ≡ applied name qualifier arity span self.old) }
         ensures err { OnErr result (self.new ≡ self.old) }
@@ -137,7 +145,7 @@ impl Terms {
         let start = start_of(&self.starts, index, self.nodes.len());
         let end = start_of(&self.starts, index + 1, self.nodes.len());
         Some(TermRef {
-            nodes: &self.nodes[start..end],
+            nodes: nodes_between(&self.nodes, start, end),
         })
     }
 
@@ -184,7 +192,20 @@ impl Shape {
 fn start_of(starts: &[usize], number: usize, end: usize) -> usize
     ensures { result ≡ slice_index_or starts.now number end }
 {
-    if number < starts.len() { starts[number] } else { end }
+    if number < starts.len() {
+        starts[number]
+    } else {
+        end
+    }
+}
+
+// The nodes from one index to another.
+fn nodes_between(nodes: &[Node], start: usize, end: usize) -> &[Node]
+    requires order { start ≤ end }
+    requires within { end ≤ length nodes.now }
+    ensures { result.now ≡ slice_range nodes.now start end }
+{
+    &nodes[start..end]
 }
 
 /// A term.
@@ -273,11 +294,19 @@ impl<'a> TermRef<'a> {
     pub fn arguments(&self) -> Arguments<'a>
         ensures { result ≡ arguments_of self.now }
     {
-        let nodes = self.nodes;
+        let root = last_node(self.nodes);
         Arguments {
-            nodes: &nodes[..nodes.len() - 1],
-            count: last_node(nodes).shape.arity(),
+            nodes: nodes_between(self.nodes, 0, self.nodes.len() - 1),
+            count: root.shape.arity(),
         }
+    }
+
+    /// How deep the term is nested: 1 for a variable, a literal and a plain name, and for an application 1 more than
+    /// its deepest argument. A chain to the right of `,`, `;`, `&`, `else` or of list cells counts once.
+    pub fn nesting(&self, alloc: Global) -> Result<usize, NoMemory>
+        ensures { IfOk result (λ depth. depth ≡ nesting self.now) }
+    {
+        nesting::nesting_of(self.nodes, alloc)
     }
 
     /// Whether both are the same term, spans aside.
@@ -306,17 +335,19 @@ fn last_node(nodes: &[Node]) -> Node
 
 // Whether nodes have the same shapes, in order.
 fn have_same_shapes(nodes: &[Node], others: &[Node]) -> bool
-    ensures { IsTrue result ↔ (map (λ n. n.shape) nodes.now ≡ map (λ n. n.shape) others.now) }
+    ensures { IsTrue result ↔ (shapes nodes.now ≡ shapes others.now) }
 {
-    if nodes.len() != others.len() {
-        return false;
-    }
-    for (node, other) in nodes.iter().zip(others) {
+    let mut others = others;
+    for node in nodes {
+        let [other, rest @ ..] = others else {
+            return false;
+        };
         if node.shape != other.shape {
             return false;
         }
+        others = rest;
     }
-    true
+    others.is_empty()
 }
 
 /// Arguments of a term, to be taken from the last to the first.
@@ -355,15 +386,15 @@ impl<'a> Arguments<'a> {
     pub fn take_last(&mut self) -> Option<TermRef<'a>>
         ensures { MatchOption result ((self.old ≡ []) × (self.new ≡ [])) (λ last. self.old ≡ self.new ++ last ∷ []) }
     {
-        let all = self.nodes;
         if self.count == 0 {
             return None;
         }
-        let rest = all.len() - last_node(all).size;
-        self.nodes = &all[..rest];
+        let nodes = self.nodes;
+        let start = nodes.len() - last_node(nodes).size;
+        self.nodes = nodes_between(nodes, 0, start);
         self.count -= 1;
         Some(TermRef {
-            nodes: &all[rest..],
+            nodes: nodes_between(nodes, start, nodes.len()),
         })
     }
 }
