@@ -1,2 +1,4 @@
 pub mod OperatorLaws
 pub mod BuiltLaws
+pub mod ReaderLaws
+pub mod ReaderSteps

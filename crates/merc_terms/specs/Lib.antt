@@ -6,3 +6,4 @@ pub mod Reader
 pub mod OperatorRows
 pub mod Finds
 pub mod Moves
+pub mod Standing

@@ -5,4 +5,5 @@ mod built;
 mod moving;
 mod frame;
 mod operators;
+mod reading;
 mod starting;

@@ -1,5 +1,5 @@
 //! What stands where a term must begin.
-ghost use Rattle.std.specs.Prelude.{◌≡◌, Some};
+ghost use Rattle.std.specs.Prelude.{◌≡◌, ◌≤◌, ◌<◌, length, Some, IfSome};
 ghost use Rattle.merc_tokens.specs.declared.token.TokenKind.TheVariants.{Name as NameKind};
 ghost use Rattle.merc_terms.specs.Reading.{joined, begins_with, is_integer, is_infix_name, leaves_plain, is_left_plain, is_sign};
 ghost use Rattle.merc_terms.specs.Starting.{named_before, qualified_start, plain_start, signed_start, operator_start, list_start, start_with, start_at};
@@ -41,7 +41,8 @@ pub(crate) fn joined(from: Span, to: Span) -> Span
 
 /// What stands where a term must begin, and the tokens behind it.
 pub(crate) fn first_start(tokens: &[Token]) -> Option<(Start, &[Token])>
-    ensures { Finds (start_at tokens.now) result }
+    ensures there { Finds (start_at tokens.now) result }
+    ensures shorter { IfSome result (λ found. length found.1.now < length tokens.now) }
 {
     let [first, rest @ ..] = tokens else {
         return None;
@@ -66,7 +67,8 @@ pub(crate) fn first_start(tokens: &[Token]) -> Option<(Start, &[Token])>
 
 // A name that is not quoted, before these tokens.
 fn name_start(name: Name, span: Span, tokens: &[Token]) -> Option<(Start, &[Token])>
-    ensures { Finds (start_with (NameKind name) span tokens.now) result }
+    ensures there { Finds (start_with (NameKind name) span tokens.now) result }
+    ensures shorter { IfSome result (λ found. length found.1.now ≤ length tokens.now) }
 {
     if is_sign(name, tokens) {
         return signed_start(span, tokens);
@@ -84,7 +86,8 @@ fn operator_start(
     span: Span,
     tokens: &[Token],
 ) -> Option<(Start, &[Token])>
-    ensures { Finds (operator_start (Some operator) name span tokens.now) result }
+    ensures there { Finds (operator_start (Some operator) name span tokens.now) result }
+    ensures shorter { IfSome result (λ found. length found.1.now ≤ length tokens.now) }
 {
     if is_left_plain(tokens) {
         return plain_start(name, span, tokens);
@@ -94,7 +97,8 @@ fn operator_start(
 
 // `-` before these tokens, as the sign of a literal where an integer comes first.
 fn signed_start(sign: Span, tokens: &[Token]) -> Option<(Start, &[Token])>
-    ensures { Finds (signed_start sign tokens.now) result }
+    ensures there { Finds (signed_start sign tokens.now) result }
+    ensures shorter { IfSome result (λ found. length found.1.now ≤ length tokens.now) }
 {
     let [first, rest @ ..] = tokens else {
         return None;
@@ -109,7 +113,8 @@ fn signed_start(sign: Span, tokens: &[Token]) -> Option<(Start, &[Token])>
 
 // A name that is no operator, before these tokens.
 fn plain_start(name: Name, span: Span, tokens: &[Token]) -> Option<(Start, &[Token])>
-    ensures { Finds (plain_start name span tokens.now) result }
+    ensures there { Finds (plain_start name span tokens.now) result }
+    ensures shorter { IfSome result (λ found. length found.1.now ≤ length tokens.now) }
 {
     let [first, rest @ ..] = tokens else {
         return Some((Start::Constant(name, None, span), tokens));
@@ -122,7 +127,8 @@ fn plain_start(name: Name, span: Span, tokens: &[Token]) -> Option<(Start, &[Tok
 
 // A name behind a qualifier mark.
 fn qualified_start(qualifier: Name, span: Span, tokens: &[Token]) -> Option<(Start, &[Token])>
-    ensures { Finds (qualified_start qualifier span tokens.now) result }
+    ensures there { Finds (qualified_start qualifier span tokens.now) result }
+    ensures shorter { IfSome result (λ found. length found.1.now ≤ length tokens.now) }
 {
     let [first, rest @ ..] = tokens else {
         return None;
@@ -143,7 +149,8 @@ fn named_before(
     span: Span,
     tokens: &[Token],
 ) -> Option<(Start, &[Token])>
-    ensures { Finds (named_before name qualifier span tokens.now) result }
+    ensures there { Finds (named_before name qualifier span tokens.now) result }
+    ensures shorter { IfSome result (λ found. length found.1.now ≤ length tokens.now) }
 {
     let [first, rest @ ..] = tokens else {
         return Some((Start::Constant(name, qualifier, span), tokens));
@@ -157,7 +164,8 @@ fn named_before(
 
 // A list's opening bracket, before these tokens.
 fn list_start(span: Span, tokens: &[Token]) -> (Start, &[Token])
-    ensures { list_start span tokens.now ≡ Some (result.0, result.1.now) }
+    ensures there { list_start span tokens.now ≡ Some (result.0, result.1.now) }
+    ensures shorter { length result.1.now ≤ length tokens.now }
 {
     match tokens {
         [first, rest @ ..] if first.kind == TokenKind::CloseList => (
