@@ -168,4 +168,10 @@ impl Frames {
     {
         self.stack.pop()
     }
+
+    pub(crate) fn clear(&mut self)
+        ensures { self.new ≡ [] }
+    {
+        self.stack.clear();
+    }
 }

@@ -4,7 +4,7 @@ ghost use Rattle.merc_tokens.specs.declared.token.Token.{Token};
 ghost use Rattle.merc_terms.specs.declared.reading.State.TheVariants.{Need, Have};
 ghost use Rattle.merc_terms.specs.Reader.{infix_at, infix_kind, fitting};
 ghost use Rattle.merc_terms.specs.Finds.{Finds};
-ghost use Rattle.merc_terms.specs.Standing.{Stands, Steps, Entered, pending_all, counted_all};
+ghost use Rattle.merc_terms.specs.Standing.{Stands, Steps, Entered, ReadsTerm, pending_all, counted_all};
 
 use crate::frame::{Bound, Frames, Role};
 use crate::moving::{Move, Progress, begin};
@@ -37,6 +37,23 @@ struct Reader<'t> {
 }
 
 impl Reader<'_> {
+    /// Reads the whole term that the tokens begin with, and says whether there is one.
+    pub(crate) fn read_whole(&mut self) -> Result<bool, NoMemory>
+        ensures { IfOk result (ReadsTerm self.old.progress self.new.progress) }
+    {
+        self.bound = Bound::whole();
+        self.frames.clear();
+        let mut state = State::Need;
+        loop {
+            state = match state {
+                State::Need => self.begin()?,
+                State::Have(span, priority) => self.go_on(span, priority)?,
+                State::Whole => return Ok(true),
+                State::Refused => return Ok(false),
+            };
+        }
+    }
+
     // A term must begin.
     fn begin(&mut self) -> Result<State, NoMemory>
         requires { Stands Need self.old }
