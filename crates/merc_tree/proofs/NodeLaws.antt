@@ -110,9 +110,6 @@ rooted (ApplicationShape name qualifier arity) span terms enough =
 
 -- a root behind the nodes of terms
 module _ (terms : List Term) (nodes : List Node) (starts : List ℕ) (are : all_nodes terms ≡ nodes) (start : starts ≡ starts_from 0 terms) where
-  abbrev front : ℕ → List Term
-  front count = take count terms
-
   front_and_back : (count : ℕ) → nodes ≡ all_nodes (take count terms) ++ all_nodes (drop count terms)
   front_and_back count =
       sym are ∙ ap all_nodes (sym (take-append-drop count terms)) ∙ all_nodes-append (take count terms) (drop count terms)
