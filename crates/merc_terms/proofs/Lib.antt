@@ -14,3 +14,4 @@ pub mod WholeTerms
 pub mod Renaming
 pub mod ReadingLaws
 pub mod ReadingExamples
+pub mod ItemLaws

@@ -1,5 +1,5 @@
 -- Each move of the reader is a step.
-use Rattle.std.proofs.Common.{◌≡◌, ℕ, ◌+◌, ◌*◌, ◌<◌, ◌≤◌, List, [], ◌∷◌, length, Option, Some, None, refl, sym, ap, subst, ◌∙◌, arith}
+use Rattle.std.proofs.Common.{◌≡◌, ℕ, suc, ◌+◌, ◌*◌, ◌<◌, ◌≤◌, List, [], ◌∷◌, length, Option, Some, None, refl, sym, ap, subst, ◌∙◌, arith}
 use Rattle.std.specs.Borrow.{Bor}
 use Rattle.merc_base.specs.declared.place.Span.{Span}
 use Rattle.merc_tokens.specs.declared.token.Token.{Token}
@@ -16,7 +16,7 @@ use Rattle.merc_terms.specs.declared.reading.Reader.{Reader}
 use Rattle.merc_terms.specs.declared.reading.State.{State}
 use Rattle.merc_terms.specs.declared.reading.State.TheVariants.{Need, Have, Whole, Refused}
 use Rattle.merc_terms.specs.Operators.{last_most}
-use Rattle.merc_terms.specs.Reader.{Reading, Read, frame_of, operand_bound, started_by, closed_by, infix_at, reading, finished}
+use Rattle.merc_terms.specs.Reader.{Reading, Read, frame_of, operand_bound, started_by, closed_by, infix_at, reading, finished, whole_bound, whole_term}
 use Rattle.merc_terms.specs.Starting.{start_at}
 use Rattle.merc_terms.specs.Moves.{begun_in, filled_in, pending_in, counted_in, least_taken, read_of, Keeps}
 use Rattle.merc_terms.specs.Standing.{pending_all, counted_all, Stands, Comes, Leads, Steps, Entered}
@@ -121,3 +121,14 @@ filled_step old new built rest frame frames span priority RefusedMove state enou
       leads = λ answer comes. part_filled old built rest.now frame frames span priority RefusedMove answer e popped same keeps.taken comes;
       falls = omega (arith, ap (λ (frames : List Frame). length frames) popped, keeps.taken);
     })
+
+-- The reading of a whole term starts.
+pub record Starts (progress : Progress) (reader : Reader) : Type 0 where
+  pub stands : Stands Need reader
+  pub leads : Leads Need reader (whole_term progress.built progress.rest.now)
+
+pub starts : (progress : Progress) (bound : Bound) (frames : List Frame) → length progress.rest.now < 18446744073709551616 → bound ≡ whole_bound → frames ≡ [] → Starts progress (reader_of progress bound frames)
+starts progress bound frames few whole none = rw (whole, none) (record {
+  stands = record { built = omega arith; few = omega arith };
+  leads = record { n = suc (length progress.rest.now); steps = []; enough = omega arith; each = tt; is = refl };
+})

@@ -7,3 +7,4 @@ pub mod OperatorRows
 pub mod Finds
 pub mod Moves
 pub mod Standing
+pub mod Outcomes

@@ -1,11 +1,15 @@
 //! Terms that are being built.
-ghost use Rattle.std.specs.Prelude.{◌≡◌, ◌≤◌, ◌+◌, [], false, length, Some, None, if◌then◌else◌, OnOk};
+ghost use Rattle.std.specs.Prelude.{◌≡◌, ◌≤◌, ◌<◌, ◌+◌, [], false, length, Some, None, if◌then◌else◌, OnOk, IfOk};
+ghost use Rattle.merc_terms.specs.Outcomes.{PassesLimit};
 ghost use Rattle.merc_tree.specs.Term.{Variable, Text};
 ghost use Rattle.merc_terms.specs.Reader.{fits, integer_of, with_term, with_integer, with_application, with_cells, with_list, with_enclosed};
 
-use merc_base::{Name, NoMemory, Span};
+use merc_base::{LimitName, Name, NoMemory, Span};
 use merc_tree::Terms;
 use std::alloc::Global;
+
+/// How deep a term may be nested.
+const NESTING_LIMIT: usize = 256;
 
 /// The terms so far, and whether an integer among them passes the limit. Such a one stands as 0.
 #[derive(Drop)]
@@ -89,6 +93,21 @@ impl Built {
     {
         self.apply(Name::NIL, None, 0, span)?;
         self.apply_cells(count, span)
+    }
+
+    /// The limit that the last term passes, that on integers first.
+    pub(crate) fn passed_limit(&self, alloc: Global) -> Result<Option<LimitName>, NoMemory>
+        requires { 0 < length self.now.terms }
+        ensures { IfOk result (PassesLimit self.now) }
+    {
+        if self.is_great {
+            return Ok(Some(LimitName::Integer));
+        }
+        let last = self.terms.get(self.terms.len() - 1).unwrap();
+        if last.nesting(alloc)? > NESTING_LIMIT {
+            return Ok(Some(LimitName::Nesting));
+        }
+        Ok(None)
     }
 
     /// Gives the last term another span.

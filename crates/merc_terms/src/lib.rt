@@ -4,6 +4,9 @@
 mod built;
 mod moving;
 mod frame;
+mod items;
 mod operators;
 mod reading;
 mod starting;
+
+pub use items::{read_goal, read_items};

@@ -1,17 +1,19 @@
 //! Reads one whole term, with the open terms on a stack in memory.
-ghost use Rattle.std.specs.Prelude.{◌≡◌, ◌<◌, ◌≤◌, ◌+◌, ℕ, List, None, length, IfOk, IfSome};
+ghost use Rattle.std.specs.Prelude.{◌≡◌, ◌<◌, ◌≤◌, ◌+◌, ℕ, false, List, [], None, length, IfOk, IfSome};
 ghost use Rattle.merc_tokens.specs.declared.token.Token.{Token};
 ghost use Rattle.merc_terms.specs.declared.reading.State.TheVariants.{Need, Have};
 ghost use Rattle.merc_terms.specs.Reader.{infix_at, infix_kind, fitting};
 ghost use Rattle.merc_terms.specs.Finds.{Finds};
 ghost use Rattle.merc_terms.specs.Standing.{Stands, Steps, Entered, ReadsTerm, pending_all, counted_all};
 
+use crate::built::Built;
 use crate::frame::{Bound, Frames, Role};
 use crate::moving::{Move, Progress, begin};
 use crate::operators::{self, Operator};
 use crate::starting::first_start;
 use merc_base::{Name, NoMemory, Span};
 use merc_tokens::{Token, TokenKind};
+use merc_tree::Terms;
 use std::alloc::Global;
 
 /// What the reader is at.
@@ -27,18 +29,50 @@ enum State {
     Refused,
 }
 
-/// A reader of one whole term.
+/// A reader of whole terms, one after the other.
 #[derive(Drop)]
-struct Reader<'t> {
-    progress: Progress<'t>,
+pub(crate) struct Reader<'t> {
+    pub(crate) progress: Progress<'t>,
     // how far the term is read that is being read
     bound: Bound,
     frames: Frames,
 }
 
+impl<'t> Reader<'t> {
+    pub(crate) fn new(alloc: Global, tokens: &'t [Token]) -> Reader<'t>
+        ensures terms { result.progress.built.terms ≡ [] }
+        ensures great { result.progress.built.is_great ≡ false }
+        ensures rest { result.progress.rest.now ≡ tokens.now }
+    {
+        Reader {
+            progress: Progress {
+                built: Built::new(alloc),
+                rest: tokens,
+            },
+            bound: Bound::whole(),
+            frames: Frames::new(alloc),
+        }
+    }
+}
+
 impl Reader<'_> {
+    /// How many tokens are left.
+    pub(crate) fn left(&self) -> usize
+        ensures { result ≡ length self.now.progress.rest.now }
+    {
+        self.progress.rest.len()
+    }
+
+    /// The terms that were read.
+    pub(crate) fn into_terms(self) -> Terms
+        ensures { result ≡ self.entry.progress.built.terms }
+    {
+        self.progress.built.terms
+    }
+
     /// Reads the whole term that the tokens begin with, and says whether there is one.
     pub(crate) fn read_whole(&mut self) -> Result<bool, NoMemory>
+        requires { length self.old.progress.rest.now < 18446744073709551616 }
         ensures { IfOk result (ReadsTerm self.old.progress self.new.progress) }
     {
         self.bound = Bound::whole();
