@@ -1,6 +1,5 @@
 -- What was read is an item or a goal, or there is none.
-use Rattle.std.proofs.Common.{◌≡◌, ◌||◌, if◌then◌else◌, ℕ, suc, ◌+◌, ◌<◌, ◌≤◌, Bool, true, false, nat_lt, List, [], ◌∷◌, ◌++◌, length, get_or, Option, Some, None, refl, sym, ap, subst, ◌∙◌, arith, ltb-true, ltb-false, append_assoc, append-nil}
-use Rattle.merc_base.specs.declared.place.Span.{Span}
+use Rattle.std.proofs.Common.{◌≡◌, ◌||◌, if◌then◌else◌, ◌<◌, ◌≤◌, Bool, true, false, nat_lt, List, [], ◌∷◌, ◌++◌, length, get_or, Option, Some, None, refl, sym, ap, subst, ◌∙◌, arith, ltb-true, ltb-false, append_assoc, append-nil}
 use Rattle.merc_base.specs.declared.place.Place.{Place}
 use Rattle.merc_base.specs.declared.refusal.Refusal.{Refusal}
 use Rattle.merc_base.specs.declared.refusal.Rule.{Rule}

@@ -1,5 +1,5 @@
 -- Laws of the operator table.
-use Rattle.std.proofs.Common.{◌≡◌, ℕ, Bool, true, false, List, [], ◌∷◌, Option, Some, None, map, find, cond, ◌==◌, ◌&&◌, refl, ap, ◌∙◌}
+use Rattle.std.proofs.Common.{◌≡◌, ℕ, Bool, true, false, List, [], ◌∷◌, Option, Some, map, find, cond, ◌==◌, ◌&&◌, refl, ap, ◌∙◌}
 use Rattle.std.specs.Option.{option_map}
 use Rattle.merc_terms.specs.declared.operators.Fixity.{Fixity}
 use Rattle.merc_terms.specs.declared.operators.Operator.{Operator}

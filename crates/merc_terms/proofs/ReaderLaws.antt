@@ -1,5 +1,5 @@
 -- Each move of the reader comes to the same in the end.
-use Rattle.std.proofs.Common.{◌≡◌, ℕ, zero, suc, ◌+◌, ◌-◌, ◌*◌, ◌<◌, ◌≤◌, Bool, true, false, List, [], ◌∷◌, length, Option, Some, None, if◌then◌else◌, refl, sym, ap, subst, ◌∙◌, arith}
+use Rattle.std.proofs.Common.{◌≡◌, ℕ, zero, suc, ◌+◌, ◌<◌, ◌≤◌, Bool, true, false, List, [], ◌∷◌, length, Option, Some, None, if◌then◌else◌, refl, sym, ap, ◌∙◌, arith}
 use Rattle.merc_base.specs.declared.place.Span.{Span}
 use Rattle.merc_tokens.specs.declared.token.Token.{Token}
 use Rattle.merc_terms.specs.declared.built.Built.{Built}
@@ -12,7 +12,7 @@ use Rattle.merc_terms.specs.Operators.{last_most}
 use Rattle.merc_terms.specs.declared.starting.Start.{Start}
 use Rattle.merc_terms.specs.declared.moving.Move.{Move}
 use Rattle.merc_terms.specs.declared.moving.Move.TheVariants.{Have as HaveMove, Open, Refused as RefusedMove}
-use Rattle.merc_terms.specs.Reader.{Reading, Read, frame_of, term_by, begun_by, started_by, tail_by, going_by, filled_by, closed_by, infix_at, operand_bound, reading, finished}
+use Rattle.merc_terms.specs.Reader.{Reading, Read, frame_of, term_by, begun_by, started_by, going_by, filled_by, closed_by, infix_at, operand_bound, reading, finished}
 use Rattle.merc_terms.specs.Starting.{Started, start_at}
 use Rattle.merc_terms.specs.Moves.{begun_in, filled_in, is_second, least_taken}
 use Rattle.merc_terms.specs.Standing.{Suffice, Comes}
@@ -101,8 +101,13 @@ ended bound built span priority tokens frames answer e comes = from comes.n come
     from : (n : ℕ) (steps : List ℕ) → length tokens < n → Suffice (length tokens) steps frames → finished steps frames ((reading n).tail bound built span priority tokens) ≡ answer
         → Comes (λ n. Some (record { built = built; span = span; priority = priority; rest = tokens })) frames (length tokens) answer
     from zero steps h each is = absurd (omega (arith, h))
-    from (suc n) steps h each is = record { n = suc n; steps = steps; enough = h; each = each;
-      is = ap (λ (found : Option (Operator × List Token)). finished steps frames (going_by (reading n) bound built span priority tokens found)) (sym e) ∙ is }
+    from (suc n) steps h each is = record {
+      n = suc n;
+      steps = steps;
+      enough = h;
+      each = each;
+      is = ap (λ (found : Option (Operator × List Token)). finished steps frames (going_by (reading n) bound built span priority tokens found)) (sym e) ∙ is;
+    }
 
 -- an infix operator goes on behind a term
 pub gone_on : (bound : Bound) (built : Built) (span : Span) (priority : ℕ) (tokens rest : List Token) (operator : Operator) (frames : List Frame) (answer : Option Read) → infix_at bound priority tokens ≡ Some (operator, rest)
@@ -115,5 +120,10 @@ gone_on bound built span priority tokens rest operator frames answer e shorter c
     from : (n : ℕ) (steps : List ℕ) → length tokens < n → Suffice (length tokens) steps frames → finished steps frames ((reading n).tail bound built span priority tokens) ≡ answer
         → Comes (λ n. (reading n).term (operand_bound (last_most operator) bound) built rest) (frame_of (RightOperand operator span) bound ∷ frames) (length rest) answer
     from zero steps h each is = absurd (omega (arith, h))
-    from (suc n) steps h each is = record { n = n; steps = n ∷ steps; enough = omega arith; each = (omega arith, Suffice-less _ _ steps frames (omega arith) each);
-      is = ap (λ (found : Option (Operator × List Token)). finished steps frames (going_by (reading n) bound built span priority tokens found)) (sym e) ∙ is }
+    from (suc n) steps h each is = record {
+      n = n;
+      steps = n ∷ steps;
+      enough = omega arith;
+      each = (omega arith, Suffice-less _ _ steps frames (omega arith) each);
+      is = ap (λ (found : Option (Operator × List Token)). finished steps frames (going_by (reading n) bound built span priority tokens found)) (sym e) ∙ is;
+    }

@@ -1,5 +1,5 @@
 -- Each move of the reader is a step.
-use Rattle.std.proofs.Common.{◌≡◌, ℕ, suc, ◌+◌, ◌*◌, ◌<◌, ◌≤◌, List, [], ◌∷◌, length, Option, Some, None, refl, sym, ap, subst, ◌∙◌, arith}
+use Rattle.std.proofs.Common.{◌≡◌, ℕ, suc, ◌+◌, ◌<◌, ◌≤◌, List, [], ◌∷◌, length, Option, Some, None, refl, sym, ap, subst, ◌∙◌, arith}
 use Rattle.std.specs.Borrow.{Bor}
 use Rattle.merc_base.specs.declared.place.Span.{Span}
 use Rattle.merc_tokens.specs.declared.token.Token.{Token}
@@ -16,7 +16,7 @@ use Rattle.merc_terms.specs.declared.reading.Reader.{Reader}
 use Rattle.merc_terms.specs.declared.reading.State.{State}
 use Rattle.merc_terms.specs.declared.reading.State.TheVariants.{Need, Have, Whole, Refused}
 use Rattle.merc_terms.specs.Operators.{last_most}
-use Rattle.merc_terms.specs.Reader.{Reading, Read, frame_of, operand_bound, started_by, closed_by, infix_at, reading, finished, whole_bound, whole_term}
+use Rattle.merc_terms.specs.Reader.{Reading, Read, frame_of, operand_bound, started_by, closed_by, infix_at, finished, whole_bound, whole_term}
 use Rattle.merc_terms.specs.Starting.{start_at}
 use Rattle.merc_terms.specs.Moves.{begun_in, filled_in, pending_in, counted_in, least_taken, read_of, Keeps}
 use Rattle.merc_terms.specs.Standing.{pending_all, counted_all, Stands, Comes, Leads, Steps, Entered}
@@ -93,8 +93,8 @@ part_filled : (old : Reader) (built : Built) (rest : List Token) (frame : Frame)
     → length rest + least_taken to ≤ length old.progress.rest.now → Leads (Have span priority) old answer → Arrives to frame.bound built frames rest answer
 part_filled old built rest frame frames span priority to answer e popped same taken comes =
     let open' : Comes (λ n. Some (read_of old.progress span priority)) (frame ∷ frames) (length old.progress.rest.now) answer =
-        subst (λ (frames : List Frame). Comes (λ n. Some (read_of old.progress span priority)) frames (length old.progress.rest.now) answer) popped
-        (ended old.bound old.progress.built span priority old.progress.rest.now old.frames answer e comes) in
+    subst (λ (frames : List Frame). Comes (λ n. Some (read_of old.progress span priority)) frames (length old.progress.rest.now) answer) popped
+    (ended old.bound old.progress.built span priority old.progress.rest.now old.frames answer e comes) in
     filled frame (read_of old.progress span priority) built rest to frames answer (λ parts. same parts priority) taken open'
 
 -- an open term whose part was read

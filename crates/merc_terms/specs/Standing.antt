@@ -1,8 +1,6 @@
 -- What stands between the moves of the reader.
-use Rattle.std.specs.Prelude.{◌≡◌, ℕ, suc, ◌+◌, ◌*◌, ◌≤◌, ◌<◌, Bool, true, false, List, [], ◌∷◌, length, Option, Some, None}
+use Rattle.std.specs.Prelude.{◌≡◌, ℕ, ◌+◌, ◌*◌, ◌≤◌, ◌<◌, Bool, true, false, List, [], ◌∷◌, length, Option, Some, None}
 use Rattle.merc_base.specs.declared.place.Span.{Span}
-use Rattle.merc_tokens.specs.declared.token.Token.{Token}
-use Rattle.merc_terms.specs.declared.built.Built.{Built}
 use Rattle.merc_terms.specs.declared.frame.Frame.{Frame}
 use Rattle.merc_terms.specs.declared.moving.Progress.{Progress}
 use Rattle.merc_terms.specs.declared.reading.Reader.{Reader}

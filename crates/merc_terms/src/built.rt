@@ -123,7 +123,11 @@ fn integer(negative: bool, magnitude: u64) -> Option<i64>
     ensures { result ≡ (if fits negative magnitude then Some (integer_of negative magnitude) else None) }
 {
     if negative {
-        if magnitude <= 1 << 63 { Some(0i64.wrapping_sub_unsigned(magnitude)) } else { None }
+        if magnitude <= 1 << 63 {
+            Some(0i64.wrapping_sub_unsigned(magnitude))
+        } else {
+            None
+        }
     } else {
         i64::try_from(magnitude).ok()
     }

@@ -2,9 +2,9 @@
 #![tactic(auto)]
 
 mod built;
-mod moving;
 mod frame;
 mod items;
+mod moving;
 mod operators;
 mod reading;
 mod starting;

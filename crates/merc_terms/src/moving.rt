@@ -169,10 +169,7 @@ impl Progress<'_> {
         ensures kept { IfOk result (λ to. Keeps (Item from count) self.old to self.new) }
     {
         match self.take_delimiter() {
-            Delimiter::Comma => Ok(Move::Open(
-                Role::Item(from, count + 1),
-                Bound::argument(),
-            )),
+            Delimiter::Comma => Ok(Move::Open(Role::Item(from, count + 1), Bound::argument())),
             Delimiter::Bar => Ok(Move::Open(Role::ListTail(from, count), Bound::argument())),
             Delimiter::CloseList(close) => {
                 let span = joined(from, close);

@@ -1,5 +1,4 @@
 use Rattle.std.proofs.Common.{rules}
-use Rattle.merc_tokens.specs.declared.token.TokenKind.TheVariants.{Stop}
 use Rattle.merc_terms.proofs.ItemLaws.{at_end_none, at_end_one}
 use Rattle.merc_terms.proofs.items.is_at_end.Goals as goal
 

@@ -1,4 +1,4 @@
-use Rattle.std.proofs.Common.{ap, sym, ◌∙◌, ◌∷◌}
+use Rattle.std.proofs.Common.{sym, ◌∙◌}
 use Rattle.merc_terms.proofs.ItemLaws.{goal_found, goal_refused}
 use Rattle.merc_terms.proofs.items.read_goal.Goals as goal
 

@@ -1,4 +1,4 @@
-use Rattle.std.proofs.Common.{◌+◌, ◌≤◌, ap, length, arith, ◌∙◌}
+use Rattle.std.proofs.Common.{ap, length, arith}
 use Rattle.merc_terms.specs.declared.built.Built.{Built}
 use Rattle.merc_terms.proofs.BuiltLaws.{length-enclosed}
 use Rattle.merc_terms.proofs.moving.Progress.close_parenthesis.Goals as goal

@@ -1,4 +1,4 @@
-use Rattle.std.proofs.Common.{◌+◌, ◌≤◌, ap, length, arith, ◌∙◌}
+use Rattle.std.proofs.Common.{◌≤◌, ap, length, arith}
 use Rattle.merc_terms.specs.declared.built.Built.{Built}
 use Rattle.merc_terms.proofs.BuiltLaws.{length-with_list}
 use Rattle.merc_terms.proofs.moving.Progress.go_on_list.Goals as goal
