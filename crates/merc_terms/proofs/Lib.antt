@@ -1,3 +1,7 @@
+pub mod OperatorLaws
+pub mod BuiltLaws
+pub mod ReaderLaws
+pub mod ReaderSteps
 pub mod Building
 pub mod Starts
 pub mod Table
@@ -10,3 +14,4 @@ pub mod WholeTerms
 pub mod Renaming
 pub mod ReadingLaws
 pub mod ReadingExamples
+pub mod ItemLaws

@@ -3,5 +3,10 @@
 
 mod built;
 mod frame;
+mod items;
+mod moving;
 mod operators;
+mod reading;
 mod starting;
+
+pub use items::{read_goal, read_items};
