@@ -11,3 +11,5 @@ pub mod TypeTerms
 pub mod TypeShape
 pub mod Parts
 pub mod Examples
+pub mod TermExamples
+pub mod NodesExamples

@@ -3,6 +3,8 @@
 
 pub mod goal;
 pub mod term;
+#[cfg(test)]
+mod tests;
 pub mod types;
 pub mod word;
 

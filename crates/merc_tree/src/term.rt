@@ -104,7 +104,13 @@ impl Terms {
     }
 
     /// Makes the last `arity` terms the arguments of one application.
-    pub fn apply(&mut self, name: Name, qualifier: Option<Name>, arity: usize, span: Span) -> Result<(), NoMemory>
+    pub fn apply(
+        &mut self,
+        name: Name,
+        qualifier: Option<Name>,
+        arity: usize,
+        span: Span,
+    ) -> Result<(), NoMemory>
         requires { arity ≤ length self.old }
         ensures ok { OnOk result (self.new ≡ applied name qualifier arity span self.old) }
         ensures err { OnErr result (self.new ≡ self.old) }
@@ -186,7 +192,11 @@ impl Shape {
 fn start_of(starts: &[usize], number: usize, end: usize) -> usize
     ensures { result ≡ slice_index_or starts.now number end }
 {
-    if number < starts.len() { starts[number] } else { end }
+    if number < starts.len() {
+        starts[number]
+    } else {
+        end
+    }
 }
 
 // The nodes from one index to another.

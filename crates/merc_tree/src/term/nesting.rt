@@ -28,10 +28,7 @@ pub(super) fn nesting_of(nodes: &[Node], alloc: Global) -> Result<usize, NoMemor
         parts.truncate(kept);
         parts.push(part)?;
     }
-    match parts.first() {
-        Some(part) => Ok(part.nesting),
-        None => Ok(0),
-    }
+    Ok(parts[0].nesting)
 }
 
 // A root of this shape with these arguments.
@@ -41,7 +38,11 @@ fn root_part(shape: &Shape, arguments: &[Part]) -> Part
 {
     if let Some(name) = chain_name(shape) {
         if let [first, last] = arguments {
-            let end = if goes_on(last, name) { last.nesting } else { last.nesting + 1 };
+            let end = if goes_on(last, name) {
+                last.nesting
+            } else {
+                last.nesting + 1
+            };
             return Part {
                 nesting: end.max(first.nesting + 1),
                 chain: Some(name),
@@ -59,7 +60,11 @@ fn chain_name(shape: &Shape) -> Option<Name>
     ensures { result ≡ chain_name_of shape.now }
 {
     match shape {
-        Shape::Application { name, qualifier, .. } => {
+        Shape::Application {
+            name,
+            qualifier,
+            ..
+        } => {
             if qualifier.is_none() && is_chain(*name) {
                 Some(*name)
             } else {
