@@ -1,13 +1,4 @@
 -- What is kept of terms for their nesting goes with the terms as their nodes are read.
-<<<<<<< HEAD
-use Rattle.std.proofs.Common.{◌≡◌, ℕ, suc, zero, ◌+◌, ◌-◌, ◌<◌, ◌≤◌, max, get_or, add-one, drop-cons, Bool, true, false, ◌==◌, ◌&&◌, List, [], ◌∷◌, ◌++◌, length, map, take, drop, Option, Some, None, refl, ap, sym, ◌∙◌, arith, if◌then◌else◌}
-use Rattle.std.proofs.Math.ListN.{drop_of_length-le}
-use Rattle.std.proofs.lemmas.Bool.Decides.{nat_tests}
-use Rattle.std.proofs.lemmas.List.{map-append, take-map, drop-map, length-map}
-use Rattle.merc_tree.specs.Nesting.{greater}
-use Rattle.merc_tree.specs.declared.term.nesting.Part.{Part}
-use Rattle.merc_tree.specs.Parts.{deepest_part}
-=======
 use Rattle.std.proofs.Common.{◌≡◌, ℕ, suc, ◌+◌, ◌-◌, ◌<◌, ◌≤◌, max, get_or, add-one, drop-cons, Bool, true, false, ◌==◌, ◌&&◌, List, [], ◌∷◌, ◌++◌, length, map, take, drop, Option, Some, None, refl, ap, sym, ◌∙◌, arith, if◌then◌else◌}
 use Rattle.std.proofs.Math.ListN.{drop_of_length-le}
 use Rattle.std.proofs.Math.Seq.{take-length, drop-length, take-suc}
@@ -23,7 +14,6 @@ use Rattle.merc_tree.specs.declared.term.Shape.TheVariants.{Variable as Variable
 use Rattle.merc_tree.specs.Nodes.{with_root, arity_of, built}
 use Rattle.merc_tree.specs.TermCode.{built-append}
 use Rattle.merc_tree.specs.Parts.{part_of, deepest_part, is_name, goes_on_part, chain_name_of, plain_part, chain_part, joined, part_of_root, with_root_part}
->>>>>>> c37b7cd39ef77bda068c42809d5b006e90689379
 
 pub greater_max : (a b : ℕ) → greater a b ≡ max a b
 greater_max a b = grind (arith, nat_tests)
@@ -47,8 +37,6 @@ pub deepest_end : (parts : List Part) (index deepest : ℕ) → length parts ≤
 deepest_end parts index deepest past before =
     let none_left : drop index parts ≡ [] = drop_of_length-le parts past in
     sym (ap (λ l. greater deepest (deepest_part l)) none_left ∙ greater_max deepest 0 ∙ omega arith) ∙ before
-<<<<<<< HEAD
-=======
 
 -- whether a term goes on a chain is seen from its part
 
@@ -191,4 +179,3 @@ shallow_step shape parts kept limit shallow =
 pub rest_is : (items parts : List Part) (kept : ℕ) → items ≡ parts → take (length items - kept) (drop kept items) ≡ drop kept parts
 rest_is items parts kept same =
     take_rest items kept ∙ ap (drop kept) same
->>>>>>> c37b7cd39ef77bda068c42809d5b006e90689379

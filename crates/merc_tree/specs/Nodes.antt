@@ -1,9 +1,5 @@
 -- How terms lie in a list of nodes: the arguments of a term one after the other, then its root.
-<<<<<<< HEAD
-use Rattle.std.specs.Prelude.{◌≡◌, ℕ, suc, ◌+◌, List, [], ◌∷◌, ◌++◌, length, map, Option}
-=======
 use Rattle.std.specs.Prelude.{◌≡◌, ℕ, suc, ◌+◌, List, [], ◌∷◌, ◌++◌, length, map}
->>>>>>> c37b7cd39ef77bda068c42809d5b006e90689379
 use Rattle.merc_base.specs.declared.place.Span.{Span}
 use Rattle.merc_tree.specs.Term.{Term, Variable, Integer, Text, Application, Terms, none, more, list_of, applied, no_span}
 use Rattle.merc_tree.specs.declared.term.Node.{Node}

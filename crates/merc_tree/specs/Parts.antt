@@ -1,9 +1,5 @@
 -- The nesting of a term, from what is kept of its arguments.
 use Rattle.std.specs.Prelude.{ℕ, ◌+◌, ◌-◌, Bool, false, ◌==◌, ◌&&◌, List, [], ◌∷◌, ◌++◌, length, take, drop, Option, Some, None, if◌then◌else◌}
-<<<<<<< HEAD
-use Rattle.merc_base.specs.declared.place.Span.{Span}
-=======
->>>>>>> c37b7cd39ef77bda068c42809d5b006e90689379
 use Rattle.merc_tree.specs.Term.{Term, Variable, Integer, Text, Application}
 use Rattle.merc_tree.specs.Nesting.{is_chain, are_two, greater, nesting}
 use Rattle.merc_tree.specs.Nodes.{arity_of}

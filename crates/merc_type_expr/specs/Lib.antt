@@ -1,1 +1,3 @@
 pub mod Unifier
+pub mod Solving
+pub mod SubstCode

@@ -1,9 +1,5 @@
 -- The nodes between two starts are those of one term.
-<<<<<<< HEAD
-use Rattle.std.proofs.Common.{◌≡◌, ◌<◌, ◌≤◌, ◌+◌, [], length, get_or, Some, ap, subst, sym, ◌∙◌, arith}
-=======
 use Rattle.std.proofs.Common.{◌≡◌, ◌<◌, ◌≤◌, ◌+◌, [], length, get_or, Some, ap, sym, ◌∙◌, arith}
->>>>>>> c37b7cd39ef77bda068c42809d5b006e90689379
 use Rattle.std.proofs.lemmas.Option.{slice_get_past}
 use Rattle.std.specs.List.{slice_get, slice_range}
 use Rattle.merc_tree.specs.Nodes.{built}
