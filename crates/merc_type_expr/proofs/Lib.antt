@@ -1,1 +1,3 @@
 pub mod Replacing
+pub mod Lists
+pub mod General

@@ -89,6 +89,10 @@ smaller f IntType inner has = absurd has
 smaller f TextType inner has = absurd has
 smaller f (TypeApplication name arguments) inner has = omega (arith, argument_smaller f arguments inner has)
 
+or-true : (a : Bool) → (a || true) ≡ true
+or-true true = refl
+or-true false = refl
+
 among_inside : (f : ℕ → TypeExpr) (x : ℕ) (types : TypeExprs) (inner : TypeExpr) → Has inner (type_list types) → occurs x (replaced f inner) ≡ true
     → occurs_among x (replaced_all f types) ≡ true
 among_inside f x no_types inner has in_it = absurd has
@@ -97,10 +101,6 @@ among_inside f x (more_types first rest) inner has in_it =
       inl here ↦ (let at : occurs x (replaced f first) ≡ true = ap (λ t. occurs x (replaced f t)) here ∙ in_it in rw at refl) |
       inr there ↦ (rw (among_inside f x rest inner there in_it) (or-true (occurs x (replaced f first))))
     ]
-
-or-true : (a : Bool) → (a || true) ≡ true
-or-true true = refl
-or-true false = refl
 
 -- a variable that occurs in an argument occurs in the type
 pub argument_inside : (f : ℕ → TypeExpr) (x : ℕ) (type inner : TypeExpr) → Has inner (type_arguments_of type) → occurs x (replaced f inner) ≡ true
@@ -118,10 +118,10 @@ among_outside f x (more_types first rest) out = rw (out first (inl refl)) (among
 -- and one that occurs in no argument does not occur in a type that is no variable
 pub arguments_outside : (f : ℕ → TypeExpr) (x : ℕ) (type : TypeExpr) → ((name : ℕ) → type ≡ TypeVariable name → ⊥)
     → ((inner : TypeExpr) → Has inner (type_arguments_of type) → occurs x (replaced f inner) ≡ false) → occurs x (replaced f type) ≡ false
-arguments_outside f x (TypeVariable name) no out = absurd (no name refl)
-arguments_outside f x IntType no out = refl
-arguments_outside f x TextType no out = refl
-arguments_outside f x (TypeApplication name arguments) no out = among_outside f x arguments out
+arguments_outside f x (TypeVariable name) free out = absurd (free name refl)
+arguments_outside f x IntType free out = refl
+arguments_outside f x TextType free out = refl
+arguments_outside f x (TypeApplication name arguments) free out = among_outside f x arguments out
 
 -- pairs of arguments
 
@@ -130,10 +130,10 @@ count-replaced_all f no_types = refl
 count-replaced_all f (more_types first rest) = ap suc (count-replaced_all f rest)
 
 pub shape-replaced : (f : ℕ → TypeExpr) (type : TypeExpr) → ((name : ℕ) → type ≡ TypeVariable name → ⊥) → type_shape_of (replaced f type) ≡ type_shape_of type
-shape-replaced f (TypeVariable name) no = absurd (no name refl)
-shape-replaced f IntType no = refl
-shape-replaced f TextType no = refl
-shape-replaced f (TypeApplication name arguments) no = ap (ApplicationShape name) (count-replaced_all f arguments)
+shape-replaced f (TypeVariable name) free = absurd (free name refl)
+shape-replaced f IntType free = refl
+shape-replaced f TextType free = refl
+shape-replaced f (TypeApplication name arguments) free = ap (ApplicationShape name) (count-replaced_all f arguments)
 
 all_same : (f : ℕ → TypeExpr) (ones others : TypeExprs) → length (type_list ones) ≡ length (type_list others)
     → ((pair : TypeExpr × TypeExpr) → Has pair (zipped (type_list ones) (type_list others)) → IsSame f pair) → replaced_all f ones ≡ replaced_all f others
@@ -148,22 +148,22 @@ all_same f (more_types first rest) (more_types other others) count same =
 -- types of one shape are equal where their arguments are
 pub same_by_arguments : (f : ℕ → TypeExpr) (one other : TypeExpr) → ((name : ℕ) → one ≡ TypeVariable name → ⊥) → type_shape_of one ≡ type_shape_of other
     → ((pair : TypeExpr × TypeExpr) → Has pair (zipped (type_arguments_of one) (type_arguments_of other)) → IsSame f pair) → replaced f one ≡ replaced f other
-same_by_arguments f (TypeVariable name) other no shape same = absurd (no name refl)
-same_by_arguments f IntType IntType no shape same = refl
-same_by_arguments f TextType TextType no shape same = refl
-same_by_arguments f (TypeApplication name ones) (TypeApplication name' others) no shape same =
+same_by_arguments f (TypeVariable name) other free shape same = absurd (free name refl)
+same_by_arguments f IntType IntType free shape same = refl
+same_by_arguments f TextType TextType free shape same = refl
+same_by_arguments f (TypeApplication name ones) (TypeApplication name' others) free shape same =
     let named : name ≡ name' = cc in
     let count : length (type_list ones) ≡ length (type_list others) = cc in
     ap (TypeApplication name) (all_same f ones others count same) ∙ ap (λ n. TypeApplication n (replaced_all f others)) named
-same_by_arguments f IntType (TypeVariable name) no shape same = absurd (cc)
-same_by_arguments f IntType TextType no shape same = absurd (cc)
-same_by_arguments f IntType (TypeApplication name others) no shape same = absurd (cc)
-same_by_arguments f TextType (TypeVariable name) no shape same = absurd (cc)
-same_by_arguments f TextType IntType no shape same = absurd (cc)
-same_by_arguments f TextType (TypeApplication name others) no shape same = absurd (cc)
-same_by_arguments f (TypeApplication name ones) (TypeVariable name') no shape same = absurd (cc)
-same_by_arguments f (TypeApplication name ones) IntType no shape same = absurd (cc)
-same_by_arguments f (TypeApplication name ones) TextType no shape same = absurd (cc)
+same_by_arguments f IntType (TypeVariable name) free shape same = absurd (cc)
+same_by_arguments f IntType TextType free shape same = absurd (cc)
+same_by_arguments f IntType (TypeApplication name others) free shape same = absurd (cc)
+same_by_arguments f TextType (TypeVariable name) free shape same = absurd (cc)
+same_by_arguments f TextType IntType free shape same = absurd (cc)
+same_by_arguments f TextType (TypeApplication name others) free shape same = absurd (cc)
+same_by_arguments f (TypeApplication name ones) (TypeVariable name') free shape same = absurd (cc)
+same_by_arguments f (TypeApplication name ones) IntType free shape same = absurd (cc)
+same_by_arguments f (TypeApplication name ones) TextType free shape same = absurd (cc)
 
 all_parts : (f : ℕ → TypeExpr) (ones others : TypeExprs) → replaced_all f ones ≡ replaced_all f others
     → (pair : TypeExpr × TypeExpr) → Has pair (zipped (type_list ones) (type_list others)) → IsSame f pair
@@ -177,6 +177,10 @@ all_parts f (more_types first rest) (more_types other others) same pair has =
       inr later ↦ all_parts f rest others there pair later
     ]
 
+no_pairs : (ones : List TypeExpr) (pair : TypeExpr × TypeExpr) → Has pair (zipped ones []) → ⊥
+no_pairs [] pair has = has
+no_pairs (first ∷ rest) pair has = has
+
 -- and arguments are equal where the types are
 pub arguments_by_same : (f : ℕ → TypeExpr) (one other : TypeExpr) → replaced f one ≡ replaced f other
     → (pair : TypeExpr × TypeExpr) → Has pair (zipped (type_arguments_of one) (type_arguments_of other)) → IsSame f pair
@@ -188,10 +192,6 @@ arguments_by_same f (TypeApplication name ones) IntType same pair has = absurd (
 arguments_by_same f (TypeApplication name ones) TextType same pair has = absurd (no_pairs (type_list ones) pair has)
 arguments_by_same f (TypeApplication name ones) (TypeApplication name' others) same pair has =
     let all : replaced_all f ones ≡ replaced_all f others = cc in all_parts f ones others all pair has
-
-no_pairs : (ones : List TypeExpr) (pair : TypeExpr × TypeExpr) → Has pair (zipped ones []) → ⊥
-no_pairs [] pair has = has
-no_pairs (first ∷ rest) pair has = has
 
 pub first_of_pair : (ones others : List TypeExpr) (pair : TypeExpr × TypeExpr) → Has pair (zipped ones others) → Has pair.0 ones
 first_of_pair [] others pair has = absurd has
