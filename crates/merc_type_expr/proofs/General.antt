@@ -4,21 +4,24 @@ use Rattle.std.specs.Prelude.{◌==◌, if◌then◌else◌}
 use Rattle.std.proofs.lemmas.Bool.Decides.{nat_tests}
 use Rattle.merc_tree.specs.Types.{TypeExpr, TypeExprs, TypeVariable, IntType, TextType, TypeApplication, replaced, replaced_all}
 use Rattle.merc_type_expr.specs.Unifier.{Bindings, bound_to, Solves, IsMostGeneral, IsSolvable}
-use Rattle.merc_type_expr.specs.Solving.{size, occurs, followed, walked, IsRoot, IsSubst, Differ}
+use Rattle.merc_type_expr.specs.Solving.{size, occurs, is_variable, followed, walked, IsRoot, IsSubst, Differ}
 use Rattle.merc_type_expr.proofs.Replacing.{replaced-replaced, replaced_alike, replaced_elsewhere, sizes_inside}
 use Rattle.merc_type_expr.proofs.Lists.{solves_front, solves_back, solves_both, bound_to-append, free_front, walked-append}
 
 -- where a type leads stands for the same type
 
+variable_is : (type : TypeExpr) (name : ℕ) → is_variable type name ≡ true → type ≡ TypeVariable name
+variable_is (TypeVariable other) name it_is = let same : name ≡ other = grind (arith, nat_tests) in ap TypeVariable (sym same)
+variable_is IntType name it_is = absurd (cc)
+variable_is TextType name it_is = absurd (cc)
+variable_is (TypeApplication symbol arguments) name it_is = absurd (cc)
+
 followed_same : (values : ℕ → TypeExpr) (binding : ℕ × TypeExpr) (type : TypeExpr) → values binding.0 ≡ replaced values binding.1 → replaced values (followed binding type) ≡ replaced values type
-followed_same values binding (TypeVariable name) solves =
-    elim (binding.0 == name) as (λ b. (binding.0 == name) ≡ b → replaced values (if b then binding.1 else TypeVariable name) ≡ values name) [
-      true ↦ (λ e. let same : binding.0 ≡ name = grind (arith, nat_tests) in sym solves ∙ ap values same) |
+followed_same values binding type solves =
+    elim (is_variable type binding.0) as (λ b. is_variable type binding.0 ≡ b → replaced values (if b then binding.1 else type) ≡ replaced values type) [
+      true ↦ (λ e. sym solves ∙ sym (ap (replaced values) (variable_is type binding.0 e))) |
       false ↦ (λ e. refl)
     ] refl
-followed_same values binding IntType solves = refl
-followed_same values binding TextType solves = refl
-followed_same values binding (TypeApplication name arguments) solves = refl
 
 pub walked_same : (values : ℕ → TypeExpr) (bindings : Bindings) → Solves values bindings → (type : TypeExpr) → replaced values (walked bindings type) ≡ replaced values type
 walked_same values [] solves type = refl
@@ -108,16 +111,11 @@ more_free bindings name type other free apart = bound_to-append bindings ((name,
 
 more_ends : (bindings : Bindings) (name : ℕ) (type : TypeExpr) → IsRoot bindings type → (type ≡ TypeVariable name → ⊥)
     → (end : TypeExpr) → IsRoot bindings end → IsRoot (bindings ++ (name, type) ∷ []) (followed (name, type) end)
-more_ends bindings name type root apart (TypeVariable at) end other leads =
-    elim (name == at) as (λ b. (name == at) ≡ b → (if b then type else TypeVariable at) ≡ TypeVariable other → bound_to (bindings ++ (name, type) ∷ []) other ≡ None) [
-      true ↦ (λ e to. more_free bindings name type other (root other to)
-        (apart_from name other (λ same. apart (to ∙ ap TypeVariable (sym same))))) |
-      false ↦ (λ e to. let same : at ≡ other = cc in
-        more_free bindings name type other (end other (ap TypeVariable same)) (ap (λ n. name == n) (sym same) ∙ e))
+more_ends bindings name type root apart end rooted other leads =
+    elim (is_variable end name) as (λ b. is_variable end name ≡ b → (if b then type else end) ≡ TypeVariable other → bound_to (bindings ++ (name, type) ∷ []) other ≡ None) [
+      true ↦ (λ e to. more_free bindings name type other (root other to) (apart_from name other (λ same. apart (to ∙ ap TypeVariable (sym same))))) |
+      false ↦ (λ e to. more_free bindings name type other (rooted other to) (sym (ap (λ t. is_variable t name) to) ∙ e))
     ] refl leads
-more_ends bindings name type root apart IntType end other leads = absurd (cc)
-more_ends bindings name type root apart TextType end other leads = absurd (cc)
-more_ends bindings name type root apart (TypeApplication symbol arguments) end other leads = absurd (cc)
 
 -- one more binding
 pub more_bound : (bindings : Bindings) → IsSubst bindings → (name : ℕ) (type : TypeExpr) → bound_to bindings name ≡ None → IsRoot bindings type
@@ -128,3 +126,9 @@ more_bound bindings subst name type free root apart out =
       ends = λ start other leads. more_ends bindings name type root apart (walked bindings start) (subst.ends start) other (sym (walked-append bindings ((name, type) ∷ []) start) ∙ leads);
       solvable = (extended subst.solvable.0 name type, extended_most bindings subst.solvable.0 subst.solvable.1 name type free (out subst.solvable.0 subst.solvable.1));
     }
+
+pub no_bindings : IsSubst []
+no_bindings = record {
+  ends = λ type name leads. refl;
+  solvable = (TypeVariable, record { solves = tt; free = λ name free. refl; general = λ other solves name. refl });
+}

@@ -1,3 +1,4 @@
 pub mod Unifier
+pub mod Outcome
 pub mod Solving
 pub mod SubstCode

@@ -1,7 +1,7 @@
 -- How the equations of types are solved, step by step.
 use Rattle.std.specs.Prelude.{◌≡◌, ◌<◌, ℕ, suc, ◌+◌, Bool, true, false, ◌==◌, ◌||◌, ◌⊎◌, List, [], ◌∷◌, ◌++◌, take, Option, Some, None, if◌then◌else◌}
 use Rattle.merc_tree.specs.Types.{TypeExpr, TypeExprs, TypeVariable, IntType, TextType, TypeApplication, no_types, more_types, replaced}
-use Rattle.merc_type_expr.specs.Unifier.{Bindings, bound_to, Solves, Unifies, IsMostGeneral, IsSolvable}
+use Rattle.merc_type_expr.specs.Unifier.{Bindings, bound_to, Solves, Unifies, IsMostGeneral, IsSolvable, IsUnifier}
 
 -- an element of a list
 abbrev pub Has : {A : Type 0} → A → List A → Type 0
@@ -32,12 +32,23 @@ abbrev mutual
   occurs_among name no_types = false
   occurs_among name (more_types first rest) = occurs name first || occurs_among name rest
 
--- a type, where a variable with this binding is replaced by what it is bound to
+-- the name of a variable
+abbrev pub variable_of : TypeExpr → Option ℕ
+variable_of (TypeVariable name) = Some name
+variable_of IntType = None
+variable_of TextType = None
+variable_of (TypeApplication name arguments) = None
+
+-- whether a type is this variable
+abbrev pub is_variable : TypeExpr → ℕ → Bool
+is_variable (TypeVariable other) name = name == other
+is_variable IntType name = false
+is_variable TextType name = false
+is_variable (TypeApplication symbol arguments) name = false
+
+-- a type, where the variable of this binding is replaced by what it is bound to
 abbrev pub followed : (ℕ × TypeExpr) → TypeExpr → TypeExpr
-followed binding (TypeVariable name) = if binding.0 == name then binding.1 else TypeVariable name
-followed binding IntType = IntType
-followed binding TextType = TextType
-followed binding (TypeApplication name arguments) = TypeApplication name arguments
+followed binding type = if is_variable type binding.0 then binding.1 else type
 
 -- where a type leads, one binding after the other
 abbrev pub walked : Bindings → TypeExpr → TypeExpr
@@ -96,6 +107,15 @@ pub record Settles (old new : Bindings) (pairs after : Pairs) (one other : TypeE
       → ((pair : TypeExpr × TypeExpr) → Has pair after → size (replaced values pair.0) < size (replaced values one) → IsSame values pair)
       → replaced values one ≡ replaced values other
 
+-- what an attempt to bind a variable, or to make two types equal, comes to
+abbrev pub BindsOrDiffer : Bool → Bindings → Bindings → ℕ → TypeExpr → Type 0
+BindsOrDiffer true old new name type = Binds old new name type
+BindsOrDiffer false old new name type = Differ old (TypeVariable name) type
+
+abbrev pub SettlesOrDiffer : Bool → Bindings → Bindings → Pairs → Pairs → TypeExpr → TypeExpr → Type 0
+SettlesOrDiffer true old new pairs after one other = Settles old new pairs after one other
+SettlesOrDiffer false old new pairs after one other = Differ old one other
+
 -- What solves the bindings makes those of these pairs equal whose first types are smaller than this.
 abbrev pub AreSameBelow : (ℕ → TypeExpr) → ℕ → Pairs → Type 0
 AreSameBelow values bound pairs = (pair : TypeExpr × TypeExpr) → Has pair pairs → size (replaced values pair.0) < bound → IsSame values pair
@@ -107,6 +127,11 @@ pub record IsSolving (under bindings : Bindings) (a b : TypeExpr) (pairs : Pairs
   pub solves : (values : ℕ → TypeExpr) → Solves values bindings → Solves values under
   pub needed : (values : ℕ → TypeExpr) → Unifies values a b under → Solves values bindings × ((pair : TypeExpr × TypeExpr) → Has pair pairs → IsSame values pair)
   pub enough : (values : ℕ → TypeExpr) → Solves values bindings → (bound : ℕ) → AreSameBelow values bound pairs → AreSameBelow values (suc bound) (take settled pairs)
+
+-- A substitution that goes on from another is the most general unifier of two types under it.
+pub record Solved (under found : Bindings) (a b : TypeExpr) : Type 0 where
+  pub subst : IsSubst found
+  pub unifier : IsUnifier found a b under
 
 -- So many types have been looked at in the search for a variable in a type.
 pub record IsSearching (bindings : Bindings) (name : ℕ) (type : TypeExpr) (types : List TypeExpr) (searched : ℕ) : Type 0 where
