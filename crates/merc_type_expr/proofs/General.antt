@@ -10,7 +10,7 @@ use Rattle.merc_type_expr.proofs.Lists.{solves_front, solves_back, solves_both, 
 
 -- where a type leads stands for the same type
 
-variable_is : (type : TypeExpr) (name : ℕ) → is_variable type name ≡ true → type ≡ TypeVariable name
+pub variable_is : (type : TypeExpr) (name : ℕ) → is_variable type name ≡ true → type ≡ TypeVariable name
 variable_is (TypeVariable other) name it_is = let same : name ≡ other = grind (arith, nat_tests) in ap TypeVariable (sym same)
 variable_is IntType name it_is = absurd (cc)
 variable_is TextType name it_is = absurd (cc)
@@ -53,7 +53,7 @@ not_bound : (name : ℕ) (type : TypeExpr) (other : ℕ) → bound_to ((name, ty
 not_bound name type other free =
     elim (name == other) as (λ b. (if b then Some type else None) ≡ None → b ≡ false) [ true ↦ (λ e. absurd (cc)) | false ↦ (λ e. refl) ] free
 
-turned_apart : (name other : ℕ) → (name == other) ≡ false → (other == name) ≡ false
+pub turned_apart : (name other : ℕ) → (name == other) ≡ false → (other == name) ≡ false
 turned_apart name other apart = grind (arith, nat_tests)
 
 one_general : (other : ℕ → TypeExpr) (name : ℕ) (whole : TypeExpr) → replaced other whole ≡ other name → (n : ℕ) → replaced other (one name whole n) ≡ other n

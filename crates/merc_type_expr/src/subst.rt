@@ -58,7 +58,7 @@ impl Subst {
 
     /// Binds variables so that two types become one, and says whether that is possible. Where it is not, and where memory
     /// is refused, the substitution stays as it is.
-    pub fn unify(&mut self, a: &TypeRef<'_>, b: &TypeRef<'_>) -> Result<bool, NoMemory>
+    pub fn unify<'a>(&mut self, a: &TypeRef<'a>, b: &TypeRef<'a>) -> Result<bool, NoMemory>
         ensures found { IfOk result (λ unified. BecomesUnifier unified self.new a.now b.now self.old) }
         ensures err { OnErr result (self.new ≡ self.old) }
     {
