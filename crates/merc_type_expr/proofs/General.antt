@@ -4,7 +4,7 @@ use Rattle.std.specs.Prelude.{◌==◌, if◌then◌else◌}
 use Rattle.std.proofs.lemmas.Bool.Decides.{nat_tests}
 use Rattle.merc_tree.specs.Types.{TypeExpr, TypeExprs, TypeVariable, IntType, TextType, TypeApplication, replaced, replaced_all}
 use Rattle.merc_type_expr.specs.Unifier.{Bindings, bound_to, Solves, IsMostGeneral, IsSolvable}
-use Rattle.merc_type_expr.specs.Solving.{size, occurs, is_variable, followed, walked, IsRoot, IsSubst, Differ}
+use Rattle.merc_type_expr.specs.Solving.{size, occurs, is_variable, followed, walked, IsRoot, IsSubst, Differ, Binds}
 use Rattle.merc_type_expr.proofs.Replacing.{replaced-replaced, replaced_alike, replaced_elsewhere, sizes_inside}
 use Rattle.merc_type_expr.proofs.Lists.{solves_front, solves_back, solves_both, bound_to-append, free_front, walked-append}
 
@@ -132,3 +132,30 @@ no_bindings = record {
   ends = λ type name leads. refl;
   solvable = (TypeVariable, record { solves = tt; free = λ name free. refl; general = λ other solves name. refl });
 }
+
+not_itself : (name : ℕ) (type : TypeExpr) → is_variable type name ≡ false → type ≡ TypeVariable name → ⊥
+not_itself name type apart same =
+    let itself : (name == name) ≡ true = grind (arith, nat_tests) in
+    let other : (name == name) ≡ false = ap (λ t. is_variable t name) (sym same) ∙ apart in
+    cc
+
+-- a variable is never the type that it occurs in
+pub inside_differs : (bindings : Bindings) (name : ℕ) (type : TypeExpr) → IsSubst bindings → IsRoot bindings type → is_variable type name ≡ false
+    → ((values : ℕ → TypeExpr) → IsMostGeneral values bindings → occurs name (replaced values type) ≡ true) → Differ bindings (TypeVariable name) type
+inside_differs bindings name type subst_is root apart inside =
+    let most = subst_is.solvable in
+    never_inside bindings most.0 most.1 name type root (not_itself name type apart) (inside most.0 most.1)
+
+-- and is bound to one that it does not occur in
+pub outside_binds : (bindings after : Bindings) (name : ℕ) (type : TypeExpr) → IsSubst bindings → IsRoot bindings (TypeVariable name) → IsRoot bindings type → is_variable type name ≡ false
+    → ((values : ℕ → TypeExpr) → IsMostGeneral values bindings → occurs name (replaced values type) ≡ false) → after ≡ bindings ++ (name, type) ∷ []
+    → Binds bindings after name type
+outside_binds bindings after name type subst_is unbound root apart outside grown =
+    let free : bound_to bindings name ≡ None = unbound name refl in
+    let more : (values : ℕ → TypeExpr) → Solves values after → Solves values (bindings ++ (name, type) ∷ []) = λ values solves. subst (Solves values) grown solves in
+    record {
+      subst = subst IsSubst (sym grown) (more_bound bindings subst_is name type free root (not_itself name type apart) outside);
+      needed = λ values solves same. subst (Solves values) (sym grown) (solves_both values bindings ((name, type) ∷ []) solves (same, tt));
+      solves = λ values solves. solves_front values bindings ((name, type) ∷ []) (more values solves);
+      enough = λ values solves. (solves_back values bindings ((name, type) ∷ []) (more values solves)).0;
+    }

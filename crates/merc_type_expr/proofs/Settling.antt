@@ -2,6 +2,8 @@
 use Rattle.std.proofs.Common.{◌≡◌, ℕ, zero, suc, ◌+◌, ◌<◌, ◌≤◌, Bool, true, false, ◌⊎◌, inl, inr, List, [], ◌∷◌, ◌++◌, length, take, get_or, Option, Some, None, ap, sym, refl, ◌∙◌, subst, arith, add-one}
 use Rattle.std.proofs.lemmas.List.{take_all, append-nil}
 use Rattle.merc_tree.specs.Types.{TypeExpr, TypeVariable, IntType, TextType, TypeApplication, replaced}
+use Rattle.merc_tree.specs.declared.types.TypeShape.{TypeShape}
+use Rattle.merc_tree.specs.declared.types.TypeShape.TheVariants.{Variable as VariableShape, Int as IntShape, Text as TextShape, Application as ApplicationShape}
 use Rattle.merc_tree.specs.TypeShape.{type_shape_of, type_arguments_of}
 use Rattle.merc_type_expr.specs.Unifier.{Bindings, bound_to, Solves, Unifies, HasNoUnifier}
 use Rattle.merc_type_expr.specs.Solving.{Has, Adds, Pairs, size, variable_of, walked, zipped, IsRoot, IsSubst, IsSame, Binds, Differ, Settles, AreSameBelow, IsSolving, Solved, BindsOrDiffer, SettlesOrDiffer}
@@ -55,6 +57,22 @@ second_bound false old new pairs name one other is differ =
     λ values solves same. differ values solves (ap (replaced values) (sym is) ∙ sym same)
 
 -- two types that are no variables
+
+arity_in : TypeShape → ℕ
+arity_in (VariableShape name) = 0
+arity_in IntShape = 0
+arity_in TextShape = 0
+arity_in (ApplicationShape name arity) = arity
+
+count_of : (type : TypeExpr) → arity_in (type_shape_of type) ≡ length (type_arguments_of type)
+unfolding arity_in
+count_of (TypeVariable name) = refl
+count_of IntType = refl
+count_of TextType = refl
+count_of (TypeApplication name arguments) = refl
+
+pub same_count : (one other : TypeExpr) → type_shape_of one ≡ type_shape_of other → length (type_arguments_of one) ≡ length (type_arguments_of other)
+same_count one other same = sym (count_of one) ∙ ap arity_in same ∙ count_of other
 
 pub shapes_differ : (bindings : Bindings) (one other : TypeExpr) → ((name : ℕ) → one ≡ TypeVariable name → ⊥) → ((name : ℕ) → other ≡ TypeVariable name → ⊥)
     → (type_shape_of one ≡ type_shape_of other → ⊥) → Differ bindings one other

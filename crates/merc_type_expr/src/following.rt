@@ -1,5 +1,6 @@
 //! Where types lead under bindings.
-ghost use Rattle.std.specs.Prelude.{◌≡◌, ◌++◌};
+ghost use Rattle.std.specs.Prelude.{◌≡◌, ◌↔◌, ◌++◌, IsTrue};
+ghost use Rattle.merc_tree.specs.TypeShape.{type_shape_of};
 ghost use Rattle.merc_type_expr.specs.Solving.{is_variable, variable_of, walked};
 
 use merc_base::Name;
@@ -60,4 +61,11 @@ pub(crate) fn is_variable(of: &TypeRef<'_>, name: Name) -> bool
         TypeShape::Variable(other) => name == other,
         TypeShape::Int | TypeShape::Text | TypeShape::Application { .. } => false,
     }
+}
+
+/// Whether two types are alike at their roots.
+pub(crate) fn same_shape(one: &TypeRef<'_>, other: &TypeRef<'_>) -> bool
+    ensures { IsTrue result ↔ (type_shape_of one.now ≡ type_shape_of other.now) }
+{
+    one.shape() == other.shape()
 }

@@ -4,7 +4,7 @@ ghost use Rattle.merc_tree.specs.Types.{TypeVariable};
 ghost use Rattle.merc_type_expr.specs.Solving.{BindsOrDiffer, IsRoot, IsSubst, SettlesOrDiffer, Solved};
 ghost use Rattle.merc_type_expr.specs.Unifier.{HasNoUnifier};
 
-use crate::following::{is_variable, variable, walked};
+use crate::following::{is_variable, same_shape, variable, walked};
 use crate::occurring::occurs;
 use crate::pairing::push_pairs;
 use merc_base::{Name, NoMemory};
@@ -89,7 +89,7 @@ fn settle<'a>(
     if let Some(name) = variable(&other) {
         return bind(alloc, under, name, one, found);
     }
-    if one.shape() != other.shape() {
+    if !same_shape(&one, &other) {
         return Ok(false);
     }
     push_pairs(one.arguments(), other.arguments(), pairs)?;
