@@ -58,12 +58,14 @@ impl Subst {
 
     /// Binds variables so that two types become one, and says whether that is possible. Where it is not, and where memory
     /// is refused, the substitution stays as it is.
-    pub fn unify<'a>(&mut self, a: &TypeRef<'a>, b: &TypeRef<'a>) -> Result<bool, NoMemory>
+    pub fn unify(&mut self, a: &TypeRef<'_>, b: &TypeRef<'_>) -> Result<bool, NoMemory>
         ensures found { IfOk result (λ unified. BecomesUnifier unified self.new a.now b.now self.old) }
         ensures err { OnErr result (self.new ≡ self.old) }
     {
         let alloc = *self.bindings.allocator();
-        let mut more = match new_bindings(alloc, &self.bindings, a, b)? {
+        let a = a.to_type(alloc)?;
+        let b = b.to_type(alloc)?;
+        let mut more = match new_bindings(alloc, &self.bindings, &a.as_ref(), &b.as_ref())? {
             Some(found) => found,
             None => return Ok(false),
         };
