@@ -1,2 +1,6 @@
 //! The items of a module: its declarations and clauses.
 #![tactic(auto)]
+
+mod item;
+mod members;
+mod operands;
