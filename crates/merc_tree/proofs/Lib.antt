@@ -2,3 +2,4 @@ pub mod Depth
 pub mod NodeLaws
 pub mod SameTerms
 pub mod PartLaws
+pub mod PartShapes

@@ -7,7 +7,9 @@ pub mod Nesting
 pub mod Shape
 pub mod Nodes
 pub mod TermCode
+pub mod Postfix
 pub mod Parts
 pub mod Examples
 pub mod TermExamples
 pub mod NodesExamples
+pub mod PostfixExamples
