@@ -5,3 +5,4 @@ pub mod Phases
 pub mod Operands
 pub mod ItemValue
 pub mod Members
+pub mod Parts

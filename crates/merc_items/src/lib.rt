@@ -4,3 +4,4 @@
 mod item;
 mod members;
 mod operands;
+mod parts;
