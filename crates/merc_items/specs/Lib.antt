@@ -6,3 +6,4 @@ pub mod Operands
 pub mod ItemValue
 pub mod Members
 pub mod Parts
+pub mod FormChecks
