@@ -2,3 +2,4 @@ pub mod OperandLaws
 pub mod Chains
 pub mod PartTests
 pub mod Indexes
+pub mod Words

@@ -7,3 +7,4 @@ pub mod ItemValue
 pub mod Members
 pub mod Parts
 pub mod FormChecks
+pub mod Parameters

@@ -1,5 +1,5 @@
 //! Arguments of declarations: types, modes and categories.
-ghost use Rattle.std.specs.Prelude.{◌≡◌, Some};
+ghost use Rattle.std.specs.Prelude.{◌≡◌, not, Some};
 ghost use Rattle.std.specs.List.{list_any, flat_map};
 ghost use Rattle.merc_items.specs.Forms.{is_moded, has_part, is_literal, is_wide, argument_type, argument_mode, is_mode, lacks_mode, is_category, is_outside_category, lacks_category};
 ghost use Rattle.merc_items.specs.Forms.{is_unit, word_if, mode_words, argument_words, constructor_words, category_words};
@@ -79,9 +79,19 @@ fn has_literal_type(arguments: &[TermRef<'_>]) -> bool
 fn is_partly_moded(arguments: &[TermRef<'_>]) -> bool
     ensures { result ≡ is_partly_moded arguments.now }
 {
-    let some = arguments.iter().any(|argument| is_moded(argument));
-    let others = arguments.iter().any(|argument| !is_moded(argument));
-    some && others
+    any_is_moded(arguments) && any_is_plain(arguments)
+}
+
+fn any_is_moded(arguments: &[TermRef<'_>]) -> bool
+    ensures { result ≡ list_any is_moded arguments.now }
+{
+    arguments.iter().any(|argument| is_moded(argument))
+}
+
+fn any_is_plain(arguments: &[TermRef<'_>]) -> bool
+    ensures { result ≡ list_any (λ argument. not (is_moded argument)) arguments.now }
+{
+    arguments.iter().any(|argument| !is_moded(argument))
 }
 
 fn any_lacks_mode(arguments: &[TermRef<'_>]) -> bool

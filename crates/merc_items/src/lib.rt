@@ -2,8 +2,10 @@
 #![tactic(auto)]
 
 mod arguments;
+mod declarations;
 mod heads;
 mod item;
 mod members;
 mod operands;
+mod parameters;
 mod parts;
