@@ -3,3 +3,4 @@ pub mod Chains
 pub mod PartTests
 pub mod Indexes
 pub mod Words
+pub mod Doubles

@@ -8,3 +8,4 @@ pub mod Members
 pub mod Parts
 pub mod FormChecks
 pub mod Parameters
+pub mod FormFaults
