@@ -3,6 +3,7 @@
 
 mod arguments;
 mod declarations;
+mod forms;
 mod heads;
 mod item;
 mod members;
