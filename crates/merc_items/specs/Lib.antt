@@ -3,3 +3,10 @@ pub mod Forms
 pub mod Entries
 pub mod Phases
 pub mod ModuleOf
+pub mod Operands
+pub mod ItemValue
+pub mod Members
+pub mod Parts
+pub mod FormChecks
+pub mod Parameters
+pub mod FormFaults

@@ -1,2 +1,12 @@
 //! The items of a module: its declarations and clauses.
 #![tactic(auto)]
+
+mod arguments;
+mod declarations;
+mod forms;
+mod heads;
+mod item;
+mod members;
+mod operands;
+mod parameters;
+mod parts;
