@@ -1,4 +1,4 @@
-//! Items and goals with ample memory.
+//! Items and goals, with ample memory.
 
 use crate::{read_goal, read_items};
 use merc_base::{Detail, Fault, LimitName, Name, Names, Refusal, Rule, Text};
