@@ -85,7 +85,13 @@ fn groups_by_the_table(rt: HostRuntime) -> Result<(), Fail> {
     assert!(rt; is_same(alloc, b"(int, list, bool)", b"','(int, ','(list, bool))")?);
     assert!(rt; is_same(alloc, b"some [X] int, list", b"','(some([X], int), list)")?);
     assert!(rt; is_same(alloc, b"list.int(X) = Y", b"=(list.int(X), Y)")?);
-    assert!(rt; is_same(alloc, b"[int, list | bool]", b"'[|]'(int, '[|]'(list, bool))")?);
+    assert!(rt;
+        is_same(
+            alloc,
+            b"[int, list | bool]",
+            b"'[|]'(int, '[|]'(list, bool))"
+        )?
+    );
     assert!(rt; !is_same(alloc, b"int - (list - bool)", b"int - list - bool")?);
     Ok(())
 }
