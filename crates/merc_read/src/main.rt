@@ -1,5 +1,5 @@
-//! Reads the tokens and the items of a file, and prints how many there are. tools/time_reader.sh measures the reader
-//! with it.
+//! Reads the tokens and the items of a file, and prints how many there are, or the line and the text of the refusal.
+//! tools/time_reader.sh measures the reader with it.
 #![tactic(auto)]
 
 ghost use Rattle.std.specs.Prelude.{◌≤◌, length};
@@ -12,8 +12,10 @@ use std::process::ExitCode;
 use std::rt::{Env, Files};
 use std::{fs, io};
 
-// The statuses of a refused text, of a file that is not read, of a write that failed, of want of memory, and of a
-// file that is too long.
+// The statuses of a text that was read, of a refused one, of a file that is not read, of a write that failed, of want
+// of memory, and of a file that is too long.
+const READ: u8 = 0;
+
 const REFUSED: u8 = 4;
 
 const UNREAD: u8 = 7;
@@ -41,18 +43,18 @@ fn main(rt: HostRuntime) -> ExitCode {
     if text.len() > FILE_LIMIT {
         return ExitCode::from(TOO_LONG);
     }
-    match read(rt.alloc(), &text) {
-        Ok(counts) => {
-            let printed = println!(rt; "{} tokens, {} items", counts.tokens, counts.items);
-            if printed.is_ok() {
-                ExitCode::SUCCESS
-            } else {
-                ExitCode::from(UNWRITTEN)
-            }
-        }
-        Err(Fault::Refused(_)) => ExitCode::from(REFUSED),
-        Err(Fault::NoMemory) => ExitCode::from(NO_MEMORY),
-    }
+    let (printed, status) = match read(rt.alloc(), &text) {
+        Ok(counts) => (
+            println!(rt; "{} tokens, {} items", counts.tokens, counts.items),
+            READ,
+        ),
+        Err(Fault::Refused(refusal)) => (
+            println!(rt; "{}: {}", refusal.place.line, refusal),
+            REFUSED,
+        ),
+        Err(Fault::NoMemory) => (Ok(()), NO_MEMORY),
+    };
+    ExitCode::from(if printed.is_ok() { status } else { UNWRITTEN })
 }
 
 // The bytes of the file that the first word names.
