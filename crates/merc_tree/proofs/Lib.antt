@@ -1,1 +1,3 @@
 pub mod Depth
+pub mod NodeLaws
+pub mod SameTerms

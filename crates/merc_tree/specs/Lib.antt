@@ -4,4 +4,6 @@ pub mod Meaning
 pub mod Term
 pub mod Nesting
 pub mod Shape
+pub mod Nodes
+pub mod TermCode
 pub mod Examples

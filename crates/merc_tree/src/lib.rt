@@ -6,4 +6,5 @@ pub mod term;
 pub mod word;
 
 pub use goal::{Goal, Goals, Operator, Predicate, Procedures, Symbol, Var, Vars};
+pub use term::{Arguments, Shape, Term, TermRef, Terms};
 pub use word::Word;
