@@ -4,3 +4,5 @@
 mod frame;
 mod operators;
 mod starting;
+
+pub use operators::{Fixity, Operator, infix, prefix};
