@@ -5,3 +5,5 @@ pub mod TermPieces
 pub mod WalkLemmas
 pub mod Table
 pub mod IntegerText
+pub mod TokenKinds
+pub mod WrittenSpells

@@ -12,7 +12,11 @@ pub and_second : (a b : Bool) → a && b ≡ true → b ≡ true
 and_second true b h = h
 and_second false b h = absurd (cc)
 
-found_checked : (test check : Operator → Bool) (rows : List Operator) (operator : Operator) → list_all check rows ≡ true → find test rows ≡ Some operator → check operator ≡ true
+pub not_true : (b : Bool) → not b ≡ true → b ≡ false
+not_true true h = absurd (cc)
+not_true false h = refl
+
+pub found_checked : (test check : Operator → Bool) (rows : List Operator) (operator : Operator) → list_all check rows ≡ true → find test rows ≡ Some operator → check operator ≡ true
 found_checked test check [] operator all found = absurd (cc)
 found_checked test check (row ∷ rows) operator all found =
     elim (test row) as (λ b. cond b (Some row) (find test rows) ≡ Some operator → check operator ≡ true) [
@@ -20,7 +24,7 @@ found_checked test check (row ∷ rows) operator all found =
       | false ↦ (λ h. found_checked test check rows operator (and_second (check row) (list_all check rows) all) h)
     ] found
 
-found_tested : (test : Operator → Bool) (rows : List Operator) (operator : Operator) → find test rows ≡ Some operator → test operator ≡ true
+pub found_tested : (test : Operator → Bool) (rows : List Operator) (operator : Operator) → find test rows ≡ Some operator → test operator ≡ true
 found_tested test [] operator found = absurd (cc)
 found_tested test (row ∷ rows) operator found =
     elim (test row) as (λ b. test row ≡ b → cond b (Some row) (find test rows) ≡ Some operator → test operator ≡ true) [

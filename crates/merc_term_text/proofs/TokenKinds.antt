@@ -1,0 +1,141 @@
+-- Tokens by their kinds, and what the table tells of them.
+use Rattle.std.proofs.Common.{◌≡◌, ℕ, ◌≤◌, ◌==◌, ◌&&◌, ◌||◌, not, nat_le, Bool, true, false, List, [], ◌∷◌, ◌++◌, map, Option, Some, None, is_some, is_none, slice_get, find, cond, refl, ap, sym, ◌∙◌, subst, eqb-true, leb-true, arith}
+use Rattle.std.specs.List.{list_all}
+use Rattle.std.specs.Option.{unwrap_or}
+use Rattle.merc_base.specs.Names.{HoldsFixed, fixed_names}
+use Rattle.merc_base.specs.declared.place.Span.{Span}
+use Rattle.merc_value.specs.Text.{text_at, is_plain, word_operators}
+use Rattle.merc_tokens.specs.declared.token.Token.{Token}
+use Rattle.merc_tokens.specs.declared.token.TokenKind.{TokenKind}
+use Rattle.merc_tokens.specs.declared.token.TokenKind.TheVariants.{Name, Quoted}
+use Rattle.merc_terms.specs.declared.operators.Operator.{Operator}
+use Rattle.merc_terms.specs.Operators.{operators, infix_named, prefix_named, takes_two, is_infix, last_most}
+use Rattle.merc_terms.specs.Reading.{token, begins_with, is_left_plain, leaves_plain}
+use Rattle.merc_term_text.proofs.Table.{found_checked, found_tested, and_first, and_second, not_true, infix_name, prefix_name}
+
+abbrev pub kinds : List Token → List TokenKind
+kinds tokens = map (λ (t : Token). t.kind) tokens
+
+-- the first token
+pub record Taken (kind : TokenKind) (tokens : List Token) (after : List TokenKind) : Type 0 where
+  pub span : Span
+  pub rest : List Token
+  pub is : tokens ≡ token kind span ∷ rest
+  pub left : kinds rest ≡ after
+
+pub take_token : (kind : TokenKind) (tokens : List Token) (after : List TokenKind) → kinds tokens ≡ kind ∷ after → Taken kind tokens after
+take_token kind [] after same = absurd (cc)
+take_token kind (first ∷ rest) after same = record {
+  span = first.span;
+  rest = rest;
+  is = (let e : first.kind ≡ kind = cc in ap (λ k. token k first.span ∷ rest) e);
+  left = cc;
+}
+
+-- what the first kind is
+abbrev pub begins : (TokenKind → Bool) → List TokenKind → Bool
+begins test [] = false
+begins test (first ∷ rest) = test first
+
+pub begins_is : (test : TokenKind → Bool) (tokens : List Token) → begins_with test tokens ≡ begins test (kinds tokens)
+begins_is test [] = refl
+begins_is test (first ∷ rest) = refl
+
+-- the rows of the table
+
+bounded_check : Operator → Bool
+bounded_check operator = nat_le 200 operator.priority && nat_le operator.priority 1200
+
+all_bounded : list_all bounded_check operators ≡ true
+unfolding operators bounded_check
+all_bounded = refl
+
+minus_check : Operator → Bool
+minus_check operator = not (operator.name == 43) || (is_infix operator.fixity || (not (takes_two operator.fixity) && last_most operator == 199))
+
+all_minus : list_all minus_check operators ≡ true
+unfolding operators minus_check
+all_minus = refl
+
+text_check : Operator → Bool
+text_check operator = is_some (slice_get fixed_names operator.name) && not (is_plain (text_at fixed_names operator.name))
+
+all_texts : list_all text_check operators ≡ true
+unfolding operators text_check fixed_names word_operators
+all_texts = refl
+
+infix_checked : (check : Operator → Bool) → list_all check operators ≡ true → (name : ℕ) (operator : Operator) → infix_named name ≡ Some operator → check operator ≡ true
+infix_checked check all name operator found = found_checked (λ o. (o.name == name) && is_infix o.fixity) check operators operator all found
+
+prefix_checked : (check : Operator → Bool) → list_all check operators ≡ true → (name : ℕ) (operator : Operator) → prefix_named name ≡ Some operator → check operator ≡ true
+prefix_checked check all name operator found = found_checked (λ o. (o.name == name) && not (is_infix o.fixity)) check operators operator all found
+
+-- the least and the greatest priority of an operator
+pub record IsBounded (priority : ℕ) : Type 0 where
+  pub low : 200 ≤ priority
+  pub high : priority ≤ 1200
+
+bounded_by : (operator : Operator) → bounded_check operator ≡ true → IsBounded operator.priority
+unfolding bounded_check
+bounded_by operator h = record {
+  low = leb-true 200 operator.priority (and_first (nat_le 200 operator.priority) (nat_le operator.priority 1200) h);
+  high = leb-true operator.priority 1200 (and_second (nat_le 200 operator.priority) (nat_le operator.priority 1200) h);
+}
+
+pub infix_bounded : (name : ℕ) (operator : Operator) → infix_named name ≡ Some operator → IsBounded operator.priority
+infix_bounded name operator found = bounded_by operator (infix_checked bounded_check all_bounded name operator found)
+
+pub prefix_bounded : (name : ℕ) (operator : Operator) → prefix_named name ≡ Some operator → IsBounded operator.priority
+prefix_bounded name operator found = bounded_by operator (prefix_checked bounded_check all_bounded name operator found)
+
+-- the prefix operator that may be a sign takes one operand, which binds tighter than each operator
+
+minus_by : (operator : Operator) → operator.name ≡ 43 → is_infix operator.fixity ≡ false → minus_check operator ≡ true → not (takes_two operator.fixity) && last_most operator == 199 ≡ true
+unfolding minus_check
+minus_by operator minus prefix h =
+    sym (ap (λ (n : ℕ). not (n == 43) || (is_infix operator.fixity || (not (takes_two operator.fixity) && last_most operator == 199))) minus
+    ∙ ap (λ b. b || (not (takes_two operator.fixity) && last_most operator == 199)) prefix) ∙ h
+
+prefix_fixity : (name : ℕ) (operator : Operator) → prefix_named name ≡ Some operator → is_infix operator.fixity ≡ false
+prefix_fixity name operator found = not_true (is_infix operator.fixity) (and_second (operator.name == name) (not (is_infix operator.fixity)) (found_tested (λ o. (o.name == name) && not (is_infix o.fixity)) operators operator found))
+
+pub minus_row : (operator : Operator) → prefix_named 43 ≡ Some operator → (takes_two operator.fixity ≡ false) × (last_most operator ≡ 199)
+minus_row operator found =
+    let h = minus_by operator (prefix_name 43 operator found) (prefix_fixity 43 operator found) (prefix_checked minus_check all_minus 43 operator found) in
+    (not_true (takes_two operator.fixity) (and_first (not (takes_two operator.fixity)) (last_most operator == 199) h),
+    eqb-true (last_most operator) 199 (and_second (not (takes_two operator.fixity)) (last_most operator == 199) h))
+
+-- a plain name is no operator
+
+fixed_known : (names : List (List ℕ)) → HoldsFixed names → (name : ℕ) (found : Option (List ℕ)) → slice_get fixed_names name ≡ found → is_some found ≡ true → text_at names name ≡ text_at fixed_names name
+fixed_known names fixed name None e there = absurd (cc)
+fixed_known names fixed name (Some text) e there = ap (λ o. unwrap_or o []) (fixed.text name text e ∙ sym e)
+
+fixed_text : (names : List (List ℕ)) → HoldsFixed names → (name : ℕ) → is_some (slice_get fixed_names name) ≡ true → text_at names name ≡ text_at fixed_names name
+fixed_text names fixed name there = fixed_known names fixed name (slice_get fixed_names name) refl there
+
+text_by : (names : List (List ℕ)) → HoldsFixed names → (operator : Operator) → text_check operator ≡ true → is_plain (text_at names operator.name) ≡ false
+unfolding text_check
+text_by names fixed operator h =
+    ap is_plain (fixed_text names fixed operator.name (and_first (is_some (slice_get fixed_names operator.name)) (not (is_plain (text_at fixed_names operator.name))) h))
+    ∙ not_true (is_plain (text_at fixed_names operator.name)) (and_second (is_some (slice_get fixed_names operator.name)) (not (is_plain (text_at fixed_names operator.name))) h)
+
+none_by : {A : Type 0} (found : Option A) → ((operator : A) → found ≡ Some operator → ⊥) → found ≡ None
+none_by None never = refl
+none_by (Some operator) never = absurd (never operator refl)
+
+clash : (b : Bool) → b ≡ true → b ≡ false → ⊥
+clash b e f = absurd (cc)
+
+pub no_infix : (names : List (List ℕ)) → HoldsFixed names → (name : ℕ) → is_plain (text_at names name) ≡ true → infix_named name ≡ None
+no_infix names fixed name plain = none_by (infix_named name) (λ operator found.
+    clash (is_plain (text_at names name)) plain (ap (λ (n : ℕ). is_plain (text_at names n)) (sym (infix_name name operator found)) ∙ text_by names fixed operator (infix_checked text_check all_texts name operator found)))
+
+pub no_prefix : (names : List (List ℕ)) → HoldsFixed names → (name : ℕ) → is_plain (text_at names name) ≡ true → prefix_named name ≡ None
+no_prefix names fixed name plain = none_by (prefix_named name) (λ operator found.
+    clash (is_plain (text_at names name)) plain (ap (λ (n : ℕ). is_plain (text_at names n)) (sym (prefix_name name operator found)) ∙ text_by names fixed operator (prefix_checked text_check all_texts name operator found)))
+
+-- the sign itself is a prefix operator too, which leaves one before it as it is
+pub minus_kept : leaves_plain (Name 43) ≡ false
+unfolding operators
+minus_kept = refl

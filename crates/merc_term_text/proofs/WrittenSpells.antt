@@ -1,0 +1,171 @@
+-- Tokens of the kinds that a term is written with spell that term.
+use Rattle.std.proofs.Common.{◌≡◌, ℕ, zero, suc, ◌+◌, ◌-◌, ◌≤◌, ◌<◌, ◌==◌, ◌&&◌, ◌||◌, not, nat_lt, ℤ, pos, negsuc, neg_ℤ, Bool, true, false, List, [], ◌∷◌, ◌++◌, map, Option, Some, None, is_some, is_none, cond, refl, ap, sym, ◌∙◌, subst, eqb-true, ltb-false, arith, append_assoc, add-one}
+use Rattle.merc_base.specs.Names.{HoldsFixed}
+use Rattle.merc_base.specs.declared.place.Span.{Span}
+use Rattle.merc_value.specs.Text.{text_at, is_plain}
+use Rattle.merc_tokens.specs.declared.token.Token.{Token as TokenOf}
+use Rattle.merc_tokens.specs.declared.token.TokenKind.{TokenKind}
+use Rattle.merc_tokens.specs.declared.token.TokenKind.TheVariants.{Name, Quoted, Var, Int, Text as TextToken, OpenArgs, Open, Close, OpenList, CloseList, Comma, Bar, Dot, Stop}
+use Rattle.merc_tree.specs.Term.{Term, Terms, Variable, Integer, Text, Application, none, more, bare, bare_all, no_span, span_of, with_span}
+use Rattle.merc_terms.specs.declared.operators.Operator.{Operator}
+use Rattle.merc_terms.specs.Operators.{infix_named, prefix_named, takes_two, first_most, last_most}
+use Rattle.merc_terms.specs.Reading.{token, joined, begins_with, is_integer, goes_on_name, is_infix_name, leaves_plain, is_left_plain, is_sign, IsName, plain, left_plain, quoted, IsQualified, unquoted, IsOpen, alone, IsPrefix, IsInfix, name, comma, cell, nil, Spells, variable, integer, negative, text, constant, qualified, application, qualified_application, empty_list, list, parenthesis, before, quantifier, between, SpellsArguments, last_argument, argument, SpellsItems, last_item, items_tail, item}
+use Rattle.merc_term_text.specs.Pieces.{Piece, Blank, Token, kinds_of, name_piece}
+use Rattle.merc_term_text.specs.Written.{Form, ListForm, InfixForm, PrefixForm, QuantifierForm, PlainForm, form_of, form_priority, is_comma_form, is_enclosed, enclosed_if, Part, part_of, parts_of, part_pieces, operand_pieces, operator_pieces, integer_pieces, other_pieces, item_pieces, infix_pieces, prefix_pieces, quantifier_pieces, plain_pieces, constant_pieces, qualified_pieces, bar_pieces, tail_pieces, formed, is_nil}
+use Rattle.merc_term_text.proofs.FormViews.{IsForm, is_list, is_infix, is_prefix, is_quantifier, is_plain as is_plain_form, seen}
+use Rattle.merc_term_text.proofs.Table.{infix_name, prefix_name}
+use Rattle.merc_term_text.proofs.TokenKinds.{kinds, Taken, take_token, begins, begins_is, IsBounded, infix_bounded, prefix_bounded, minus_row, no_infix, no_prefix, minus_kept}
+
+abbrev pub is_integer_term : Term → Bool
+is_integer_term (Variable name' span) = false
+is_integer_term (Integer value span) = true
+is_integer_term (Text name' span) = false
+is_integer_term (Application name' qualifier arguments span) = false
+
+-- Tokens begin with some that spell a term, spans aside, at this priority at most. The pieces that follow have the kinds of the rest.
+pub record Read (commas : Bool) (term : Term) (most : ℕ) (tokens : List TokenOf) (after : List Piece) : Type 0 where
+  pub found : Term
+  pub priority : ℕ
+  pub rest : List TokenOf
+  pub within : priority ≤ most
+  pub spells : Spells commas found priority tokens rest
+  pub left : kinds rest ≡ kinds_of after
+  pub same : bare found ≡ bare term
+  pub starts : is_left_plain tokens ≡ false
+  pub unsigned : most < 200 → is_integer_term term ≡ false → begins_with is_integer tokens ≡ false
+
+-- arguments and their closing parenthesis
+pub record ReadArguments (terms : Terms) (tokens : List TokenOf) (after : List Piece) : Type 0 where
+  pub found : Terms
+  pub close : Span
+  pub rest : List TokenOf
+  pub spells : SpellsArguments found close tokens rest
+  pub left : kinds rest ≡ kinds_of after
+  pub same : bare_all found ≡ bare_all terms
+
+-- the items of a list from a cell on, and the closing bracket
+pub record ReadItems (head tail : Term) (tokens : List TokenOf) (after : List Piece) : Type 0 where
+  pub found : Span → Term
+  pub close : Span
+  pub rest : List TokenOf
+  pub spells : (whole : Span) → SpellsItems whole (found whole) close tokens rest
+  pub left : kinds rest ≡ kinds_of after
+  pub same : (whole : Span) → bare (found whole) ≡ Application 2 None (more (bare head) (more (bare tail) none)) no_span
+
+-- A part is read where it stands without parentheses, where these may be needed for a chain of commas alone.
+abbrev pub ReadsWhole : Term → ℕ → Bool → (Bool → List Piece) → Type 0
+ReadsWhole term priority is_chain pieces = (commas : Bool) (tokens : List TokenOf) (after : List Piece) → is_chain && not commas ≡ false
+    → kinds tokens ≡ kinds_of (pieces commas ++ after) → begins goes_on_name (kinds_of after) ≡ false → Read commas term priority tokens after
+
+-- and as a list's tail, behind a head
+abbrev pub ReadsTail : Term → List Piece → Type 0
+ReadsTail term pieces = (head : Term) (priority : ℕ) (tokens rest : List TokenOf) (after : List Piece) → Spells false head priority tokens rest → priority ≤ 1199
+    → kinds rest ≡ kinds_of (pieces ++ Token CloseList ∷ after) → ReadItems head term tokens after
+
+pub record Reads (names : List (List ℕ)) (term : Term) : Type 0 where
+  pub bounded : form_priority (part_of names term).form ≤ 1200
+  pub whole : ReadsWhole term (form_priority (part_of names term).form) (is_comma_form (part_of names term).form) (part_of names term).pieces
+  pub tail : ReadsTail term (part_of names term).tail
+  pub tail_first : (after : List Piece) → begins goes_on_name (kinds_of ((part_of names term).tail ++ Token CloseList ∷ after)) ≡ false
+
+abbrev pub AllRead : List (List ℕ) → Terms → Type 0
+AllRead names none = Unit {0}
+AllRead names (more first rest) = Reads names first × AllRead names rest
+
+-- tests
+
+and_false : (b : Bool) → b && false ≡ false
+and_false true = refl
+and_false false = refl
+
+or_true : (b : Bool) → b || true ≡ true
+or_true true = refl
+or_true false = refl
+
+or_false : (b : Bool) → b || false ≡ b
+or_false true = refl
+or_false false = refl
+
+or_first : (a b : Bool) → a || b ≡ false → a ≡ false
+or_first true b h = absurd (cc)
+or_first false b h = refl
+
+or_second : (a b : Bool) → a || b ≡ false → b ≡ false
+or_second true b h = absurd (cc)
+or_second false b h = h
+
+-- parts of a reading
+
+raised : {commas : Bool} {term : Term} {most : ℕ} {tokens : List TokenOf} {after : List Piece} → Read commas term most tokens after → (greater : ℕ) → most ≤ greater → Read commas term greater tokens after
+raised {commas} {term} {most} {tokens} {after} read greater order = record {
+  found = read.found;
+  priority = read.priority;
+  rest = read.rest;
+  within = omega (arith, read.within, order);
+  spells = read.spells;
+  left = read.left;
+  same = read.same;
+  starts = read.starts;
+  unsigned = λ low other. read.unsigned (omega (arith, low, order)) other;
+}
+
+bare_with : (span : Span) (term : Term) → bare (with_span span term) ≡ bare term
+bare_with span (Variable name' old) = refl
+bare_with span (Integer value old) = refl
+bare_with span (Text name' old) = refl
+bare_with span (Application name' qualifier arguments old) = refl
+
+-- a term in parentheses
+module _ (commas : Bool) (term : Term) (pieces : List Piece)
+    (inner : (tokens : List TokenOf) (after : List Piece) → kinds tokens ≡ kinds_of (pieces ++ after) → begins goes_on_name (kinds_of after) ≡ false → Read true term 1200 tokens after) where
+  enclosed_read : (tokens : List TokenOf) (after : List Piece) → kinds tokens ≡ kinds_of ((Token Open ∷ (pieces ++ Token Close ∷ [])) ++ after) → Read commas term 0 tokens after
+  enclosed_read tokens after same =
+      let open' = take_token Open tokens (kinds_of ((pieces ++ Token Close ∷ []) ++ after)) same in
+      let read = inner open'.rest (Token Close ∷ after) (open'.left ∙ ap kinds_of (append_assoc pieces (Token Close ∷ []) after)) refl in
+      let close = take_token Close read.rest (kinds_of after) read.left in
+      record {
+        found = with_span (joined open'.span close.span) read.found;
+        priority = 0;
+        rest = close.rest;
+        within = omega arith;
+        spells = subst (λ ts. Spells commas (with_span (joined open'.span close.span) read.found) 0 ts close.rest) (sym open'.is)
+            (parenthesis commas Open read.found read.priority open'.span close.span open'.rest close.rest alone
+            (subst (λ ts. Spells true read.found read.priority open'.rest ts) close.is read.spells) read.within);
+        left = close.left;
+        same = bare_with (joined open'.span close.span) read.found ∙ read.same;
+        starts = ap is_left_plain open'.is;
+        unsigned = λ low other. ap (begins_with is_integer) open'.is;
+      }
+
+-- a part where terms of at most this priority may stand
+module _ (names : List (List ℕ)) (term : Term) (reads : Reads names term) where
+  part_by : (max : ℕ) (commas enclosed : Bool) → is_enclosed max commas (part_of names term).form ≡ enclosed → (tokens : List TokenOf) (after : List Piece)
+      → kinds tokens ≡ kinds_of (enclosed_if enclosed ((part_of names term).pieces (commas || enclosed)) ++ after) → begins goes_on_name (kinds_of after) ≡ false → Read commas term max tokens after
+  part_by max commas true e tokens after same fits =
+      raised (enclosed_read commas term ((part_of names term).pieces (commas || true)) (λ tokens' after' same' fits'.
+      raised (reads.whole true tokens' after' (and_false (is_comma_form (part_of names term).form)) (same' ∙ ap (λ b. kinds_of ((part_of names term).pieces b ++ after')) (or_true commas)) fits') 1200 reads.bounded) tokens after same) max (omega arith)
+  part_by max commas false e tokens after same fits =
+      raised (reads.whole commas tokens after (or_second (nat_lt max (form_priority (part_of names term).form)) (is_comma_form (part_of names term).form && not commas) e)
+      (same ∙ ap (λ b. kinds_of ((part_of names term).pieces b ++ after)) (or_false commas)) fits) max
+      (ltb-false max (form_priority (part_of names term).form) (or_first (nat_lt max (form_priority (part_of names term).form)) (is_comma_form (part_of names term).form && not commas) e))
+
+  pub part_read : (max : ℕ) (commas : Bool) (tokens : List TokenOf) (after : List Piece)
+      → kinds tokens ≡ kinds_of (part_pieces max commas (part_of names term) ++ after) → begins goes_on_name (kinds_of after) ≡ false → Read commas term max tokens after
+  part_read max commas tokens after same fits = part_by max commas (is_enclosed max commas (part_of names term).form) refl tokens after same fits
+
+  -- a list's tail behind a bar
+  pub tail_by_bar : bar_pieces (part_pieces 1199 false (part_of names term)) ≡ (part_of names term).tail → ReadsTail term (part_of names term).tail
+  tail_by_bar barred head priority tokens rest after head_spells within same =
+      let bar = take_token Bar rest (kinds_of (part_pieces 1199 false (part_of names term) ++ Token CloseList ∷ after)) (same ∙ ap (λ pieces. kinds_of (pieces ++ Token CloseList ∷ after)) (sym barred)) in
+      let read = part_read 1199 false bar.rest (Token CloseList ∷ after) bar.left refl in
+      let close = take_token CloseList read.rest (kinds_of after) read.left in
+      record {
+        found = λ whole. cell whole head read.found;
+        close = close.span;
+        rest = close.rest;
+        spells = λ whole. items_tail whole head read.found priority read.priority bar.span close.span tokens bar.rest close.rest
+            (subst (λ ts. Spells false head priority tokens ts) bar.is head_spells) within
+            (subst (λ ts. Spells false read.found read.priority bar.rest ts) close.is read.spells) read.within;
+        left = close.left;
+        same = λ whole. ap (λ t. Application 2 None (more (bare head) (more t none)) no_span) read.same;
+      }
