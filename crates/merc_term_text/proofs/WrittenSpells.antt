@@ -169,3 +169,153 @@ module _ (names : List (List ℕ)) (term : Term) (reads : Reads names term) wher
         left = close.left;
         same = λ whole. ap (λ t. Application 2 None (more (bare head) (more t none)) no_span) read.same;
       }
+
+-- a term of one token
+token_read : (commas : Bool) (term found : Term) (kind : TokenKind) (span : Span) (tokens rest : List TokenOf) (after : List Piece)
+    → tokens ≡ token kind span ∷ rest → kinds rest ≡ kinds_of after → Spells commas found 0 (token kind span ∷ rest) rest → bare found ≡ bare term
+    → leaves_plain kind ≡ false → (is_integer_term term ≡ false → is_integer kind ≡ false) → Read commas term 0 tokens after
+token_read commas term found kind span tokens rest after is left spells same kept other = record {
+  found = found;
+  priority = 0;
+  rest = rest;
+  within = omega arith;
+  spells = subst (λ ts. Spells commas found 0 ts rest) (sym is) spells;
+  left = left;
+  same = same;
+  starts = ap is_left_plain is ∙ kept;
+  unsigned = λ low plain'. ap (begins_with is_integer) is ∙ other plain';
+}
+
+variable_read : (name' : ℕ) (span : Span) → ReadsWhole (Variable name' span) 0 false (λ commas. Token (Var name') ∷ [])
+variable_read name' span commas tokens after chain same fits =
+    let first = take_token (Var name') tokens (kinds_of after) same in
+    token_read commas (Variable name' span) (Variable name' first.span) (Var name') first.span tokens first.rest after first.is first.left (variable commas name' first.span first.rest) refl refl (λ other. refl)
+
+text_read : (name' : ℕ) (span : Span) → ReadsWhole (Text name' span) 0 false (λ commas. Token (TextToken name') ∷ [])
+text_read name' span commas tokens after chain same fits =
+    let first = take_token (TextToken name') tokens (kinds_of after) same in
+    token_read commas (Text name' span) (Text name' first.span) (TextToken name') first.span tokens first.rest after first.is first.left (text commas name' first.span first.rest) refl refl (λ other. refl)
+
+negated : (n : ℕ) → neg_ℤ (pos (n + 1)) ≡ negsuc n
+negated n = ap (λ (k : ℕ). neg_ℤ (pos k)) (add-one n)
+
+true_not_false : true ≡ false → ⊥
+true_not_false h = cc
+
+integer_read : (value : ℤ) (span : Span) → ReadsWhole (Integer value span) 0 false (λ commas. integer_pieces value)
+integer_read (pos n) span commas tokens after chain same fits =
+    let first = take_token (Int n) tokens (kinds_of after) same in
+    token_read commas (Integer (pos n) span) (Integer (pos n) first.span) (Int n) first.span tokens first.rest after first.is first.left (integer commas n first.span first.rest) refl refl (λ other. absurd (true_not_false other))
+integer_read (negsuc n) span commas tokens after chain same fits =
+    let sign = take_token (Name 43) tokens (Int (n + 1) ∷ kinds_of after) same in
+    let last = take_token (Int (n + 1)) sign.rest (kinds_of after) sign.left in
+    record {
+      found = Integer (neg_ℤ (pos (n + 1))) (joined sign.span last.span);
+      priority = 0;
+      rest = last.rest;
+      within = omega arith;
+      spells = subst (λ ts. Spells commas (Integer (neg_ℤ (pos (n + 1))) (joined sign.span last.span)) 0 ts last.rest) (sym sign.is)
+          (subst (λ ts. Spells commas (Integer (neg_ℤ (pos (n + 1))) (joined sign.span last.span)) 0 (token (Name 43) sign.span ∷ ts) last.rest) (sym last.is)
+          (negative commas (n + 1) sign.span last.span last.rest));
+      left = last.left;
+      same = ap (λ z. Integer z no_span) (negated n);
+      starts = ap is_left_plain sign.is ∙ minus_kept;
+      unsigned = λ low other. absurd (true_not_false other);
+    }
+
+-- a name, in quotes or not
+record Named (name' : ℕ) (tokens : List TokenOf) (after : List Piece) : Type 0 where
+  kind : TokenKind
+  span : Span
+  rest : List TokenOf
+  is : tokens ≡ token kind span ∷ rest
+  left : kinds rest ≡ kinds_of after
+  named : (behind : List TokenOf) → IsName kind name' behind
+  part : IsQualified kind name'
+  kept : leaves_plain kind ≡ false
+  other : is_integer kind ≡ false
+
+named_by : (names : List (List ℕ)) → HoldsFixed names → (name' : ℕ) (bare' : Bool) → is_plain (text_at names name') ≡ bare' → (tokens : List TokenOf) (after : List Piece)
+    → kinds tokens ≡ kinds_of (cond bare' (Token (Name name')) (Token (Quoted name')) ∷ after) → Named name' tokens after
+named_by names fixed name' true e tokens after same =
+    let first = take_token (Name name') tokens (kinds_of after) same in
+    record {
+      kind = Name name';
+      span = first.span;
+      rest = first.rest;
+      is = first.is;
+      left = first.left;
+      named = λ behind. plain name' behind (no_prefix names fixed name' e);
+      part = unquoted name';
+      kept = ap (λ o. is_some o && is_none (prefix_named name')) (no_infix names fixed name' e);
+      other = refl;
+    }
+named_by names fixed name' false e tokens after same =
+    let first = take_token (Quoted name') tokens (kinds_of after) same in
+    record {
+      kind = Quoted name';
+      span = first.span;
+      rest = first.rest;
+      is = first.is;
+      left = first.left;
+      named = λ behind. quoted name' behind;
+      part = quoted name';
+      kept = refl;
+      other = refl;
+    }
+
+take_name : (names : List (List ℕ)) → HoldsFixed names → (name' : ℕ) (tokens : List TokenOf) (after : List Piece) → kinds tokens ≡ kinds_of (name_piece names name' ∷ after) → Named name' tokens after
+take_name names fixed name' tokens after same = named_by names fixed name' (is_plain (text_at names name')) refl tokens after same
+
+-- an infix operator
+
+operator_kind : Operator → TokenKind
+operator_kind operator = cond (operator.name == 26) Comma (Name operator.name)
+
+record Operated (commas : Bool) (operator : Operator) (tokens : List TokenOf) (after : List Piece) : Type 0 where
+  kind : TokenKind
+  span : Span
+  rest : List TokenOf
+  is : tokens ≡ token kind span ∷ rest
+  left : kinds rest ≡ kinds_of after
+  operates : IsInfix commas kind operator
+
+operator_by : (commas : Bool) (name' : ℕ) (operator : Operator) → infix_named operator.name ≡ Some operator → (test : Bool) → (operator.name == 26) ≡ test → (test && not commas ≡ false) → (tokens : List TokenOf) (after : List Piece)
+    → kinds tokens ≡ kinds_of (cond test (Token Comma ∷ Blank ∷ []) (Blank ∷ Token (Name operator.name) ∷ Blank ∷ []) ++ after) → Operated commas operator tokens after
+operator_by true name' operator row true e chain tokens after same =
+    let first = take_token Comma tokens (kinds_of after) same in
+    record { kind = Comma; span = first.span; rest = first.rest; is = first.is; left = first.left; operates = comma operator (ap infix_named (sym (eqb-true operator.name 26 e)) ∙ row) }
+operator_by false name' operator row true e chain tokens after same = absurd (true_not_false chain)
+operator_by commas name' operator row false e chain tokens after same =
+    let first = take_token (Name operator.name) tokens (kinds_of after) same in
+    record { kind = Name operator.name; span = first.span; rest = first.rest; is = first.is; left = first.left; operates = name commas operator.name operator row }
+
+operator_first : (operator : Operator) (after : List Piece) → begins goes_on_name (kinds_of (operator_pieces operator ++ after)) ≡ false
+operator_first operator after = elim (operator.name == 26) as (λ b. begins goes_on_name (kinds_of (cond b (Token Comma ∷ Blank ∷ []) (Blank ∷ Token (Name operator.name) ∷ Blank ∷ []) ++ after)) ≡ false) [ true ↦ refl | false ↦ refl ]
+
+module _ (names : List (List ℕ)) (name' : ℕ) (operator : Operator) (left right : Term) (span : Span) (row : infix_named name' ≡ Some operator)
+    (reads_left : Reads names left) (reads_right : Reads names right) where
+  infix_read : ReadsWhole (Application name' None (more left (more right none)) span) operator.priority (operator.name == 26) (λ commas. infix_pieces commas operator (part_of names left ∷ part_of names right ∷ []))
+  infix_read commas tokens after chain same fits =
+      let named : operator.name ≡ name' = infix_name name' operator row in
+      let lefts : List Piece = part_pieces (first_most operator) commas (part_of names left) in
+      let rights : List Piece = part_pieces (last_most operator) commas (part_of names right) in
+      let one = part_read names left reads_left (first_most operator) commas tokens (operator_pieces operator ++ (rights ++ after))
+          (same ∙ ap kinds_of (append_assoc lefts (operator_pieces operator ++ rights) after ∙ ap (λ t. lefts ++ t) (append_assoc (operator_pieces operator) rights after)))
+          (operator_first operator (rights ++ after)) in
+      let between' = operator_by commas name' operator (ap infix_named named ∙ row) (operator.name == 26) refl chain one.rest (rights ++ after) one.left in
+      let two = part_read names right reads_right (last_most operator) commas between'.rest after between'.left fits in
+      record {
+        found = Application operator.name None (more one.found (more two.found none)) (joined (span_of one.found) (span_of two.found));
+        priority = operator.priority;
+        rest = two.rest;
+        within = omega arith;
+        spells = between commas between'.kind one.priority two.priority operator one.found two.found between'.span tokens between'.rest two.rest
+            (subst (λ ts. Spells commas one.found one.priority tokens ts) between'.is one.spells) between'.operates one.within two.spells two.within;
+        left = two.left;
+        same = ap (λ (n : ℕ). Application n None (more (bare one.found) (more (bare two.found) none)) no_span) named
+            ∙ ap (λ t. Application name' None (more t (more (bare two.found) none)) no_span) one.same
+            ∙ ap (λ t. Application name' None (more (bare left) (more t none)) no_span) two.same;
+        starts = one.starts;
+        unsigned = λ low other. absurd (omega (arith, low, (infix_bounded name' operator row).low));
+      }
