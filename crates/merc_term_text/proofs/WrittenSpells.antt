@@ -1,5 +1,5 @@
 -- Tokens of the kinds that a term is written with spell that term.
-use Rattle.std.proofs.Common.{◌≡◌, ℕ, zero, suc, ◌+◌, ◌-◌, ◌≤◌, ◌<◌, ◌==◌, ◌&&◌, ◌||◌, not, nat_lt, ℤ, pos, negsuc, neg_ℤ, Bool, true, false, List, [], ◌∷◌, ◌++◌, map, Option, Some, None, is_some, is_none, cond, refl, ap, sym, ◌∙◌, subst, eqb-true, ltb-false, arith, append_assoc, add-one}
+use Rattle.std.proofs.Common.{◌≡◌, ℕ, zero, suc, ◌+◌, ◌-◌, ◌≤◌, ◌<◌, ◌==◌, ◌&&◌, ◌||◌, not, nat_lt, ℤ, pos, negsuc, neg_ℤ, Bool, true, false, List, [], ◌∷◌, ◌++◌, map, Option, Some, None, is_some, is_none, cond, refl, ap, sym, ◌∙◌, subst, eqb-true, ltb-false, le-ltb, arith, append_assoc, add-one}
 use Rattle.merc_base.specs.Names.{HoldsFixed}
 use Rattle.merc_base.specs.declared.place.Span.{Span}
 use Rattle.merc_value.specs.Text.{text_at, is_plain}
@@ -319,3 +319,132 @@ module _ (names : List (List ℕ)) (name' : ℕ) (operator : Operator) (left rig
         starts = one.starts;
         unsigned = λ low other. absurd (omega (arith, low, (infix_bounded name' operator row).low));
       }
+
+-- a prefix operator's operand
+
+record Operand (commas : Bool) (term : Term) (most : ℕ) (tokens : List TokenOf) (after : List Piece) : Type 0 where
+  read : Read commas term most tokens after
+  unsigned : most < 200 → begins_with is_integer tokens ≡ false
+
+nat_lt_zero : (max : ℕ) → nat_lt max 0 ≡ false
+nat_lt_zero max = le-ltb max 0 (omega arith)
+
+never_enclosed : (max : ℕ) (commas : Bool) → is_enclosed max commas PlainForm ≡ false
+never_enclosed max commas = ap (λ b. b || (false && not commas)) (nat_lt_zero max)
+
+module _ (names : List (List ℕ)) (max : ℕ) (commas : Bool) where
+  parted_operand : (term : Term) → Reads names term → is_integer_term term ≡ false → (tokens : List TokenOf) (after : List Piece)
+      → kinds tokens ≡ kinds_of (part_pieces max commas (part_of names term) ++ after) → begins goes_on_name (kinds_of after) ≡ false → Operand commas term max tokens after
+  parted_operand term reads other tokens after same fits =
+      let part = part_read names term reads max commas tokens after same fits in
+      record { read = part; unsigned = λ low. part.unsigned low other }
+
+  operand_read : (term : Term) → Reads names term → (tokens : List TokenOf) (after : List Piece)
+      → kinds tokens ≡ kinds_of (operand_pieces max commas (part_of names term) ++ after) → begins goes_on_name (kinds_of after) ≡ false → Operand commas term max tokens after
+  operand_read (Variable name' span) reads tokens after same fits = parted_operand (Variable name' span) reads refl tokens after same fits
+  operand_read (Text name' span) reads tokens after same fits = parted_operand (Text name' span) reads refl tokens after same fits
+  operand_read (Application name' qualifier arguments span) reads tokens after same fits = parted_operand (Application name' qualifier arguments span) reads refl tokens after same fits
+  operand_read (Integer value span) reads tokens after same fits =
+      let inner : (tokens' : List TokenOf) (after' : List Piece) → kinds tokens' ≡ kinds_of (part_pieces max commas (part_of names (Integer value span)) ++ after') → begins goes_on_name (kinds_of after') ≡ false → Read true (Integer value span) 1200 tokens' after' =
+          λ tokens' after' same' fits'. raised (integer_read value span true tokens' after' refl (same' ∙ ap (λ b. kinds_of (enclosed_if b (integer_pieces value) ++ after')) (never_enclosed max commas)) fits') 1200 (omega arith) in
+      let open' = take_token Open tokens (kinds_of ((part_pieces max commas (part_of names (Integer value span)) ++ Token Close ∷ []) ++ after)) same in
+      record {
+        read = raised (enclosed_read commas (Integer value span) (part_pieces max commas (part_of names (Integer value span))) inner tokens after same) max (omega arith);
+        unsigned = λ low. ap (begins_with is_integer) open'.is;
+      }
+
+-- a prefix operator's name is no sign before its operand
+no_sign : (name' : ℕ) (operator : Operator) → prefix_named name' ≡ Some operator → (tokens : List TokenOf) → (last_most operator < 200 → begins_with is_integer tokens ≡ false)
+    → (test : Bool) → (name' == 43) ≡ test → test && begins_with is_integer tokens ≡ false
+no_sign name' operator row tokens unsigned true e =
+    let minus = minus_row operator (ap prefix_named (sym (eqb-true name' 43 e)) ∙ row) in
+    unsigned (omega (arith, minus.1))
+no_sign name' operator row tokens unsigned false e = refl
+
+module _ (names : List (List ℕ)) (name' : ℕ) (operator : Operator) (operand : Term) (span : Span) (row : prefix_named name' ≡ Some operator) (one : takes_two operator.fixity ≡ false)
+    (reads : Reads names operand) where
+  prefix_read : ReadsWhole (Application name' None (more operand none) span) operator.priority false (λ commas. prefix_pieces commas operator (part_of names operand ∷ []))
+  prefix_read commas tokens after chain same fits =
+      let named : operator.name ≡ name' = prefix_name name' operator row in
+      let first = take_token (Name operator.name) tokens (kinds_of (operand_pieces (last_most operator) commas (part_of names operand) ++ after)) same in
+      let inner = operand_read names (last_most operator) commas operand reads first.rest after first.left fits in
+      let row' : prefix_named operator.name ≡ Some operator = ap prefix_named named ∙ row in
+      record {
+        found = Application operator.name None (more inner.read.found none) (joined first.span (span_of inner.read.found));
+        priority = operator.priority;
+        rest = inner.read.rest;
+        within = omega arith;
+        spells = subst (λ ts. Spells commas (Application operator.name None (more inner.read.found none) (joined first.span (span_of inner.read.found))) operator.priority ts inner.read.rest) (sym first.is)
+            (before commas operator.name inner.read.priority operator inner.read.found first.span first.rest inner.read.rest
+            (record { row = row'; not_plain = inner.read.starts; no_sign = no_sign operator.name operator row' first.rest inner.unsigned (operator.name == 43) refl })
+            one inner.read.spells inner.read.within);
+        left = inner.read.left;
+        same = ap (λ (n : ℕ). Application n None (more (bare inner.read.found) none) no_span) named ∙ ap (λ t. Application name' None (more t none) no_span) inner.read.same;
+        starts = ap is_left_plain first.is ∙ (ap (λ o. is_some (infix_named operator.name) && is_none o) row' ∙ and_false (is_some (infix_named operator.name)));
+        unsigned = λ low other. ap (begins_with is_integer) first.is;
+      }
+
+no_minus : (operator : Operator) → takes_two operator.fixity ≡ true → prefix_named operator.name ≡ Some operator → (tokens : List TokenOf)
+    → (test : Bool) → (operator.name == 43) ≡ test → test && begins_with is_integer tokens ≡ false
+no_minus operator two row tokens true e =
+    let minus = minus_row operator (ap prefix_named (sym (eqb-true operator.name 43 e)) ∙ row) in
+    absurd (true_not_false (sym two ∙ minus.0))
+no_minus operator two row tokens false e = refl
+
+module _ (names : List (List ℕ)) (name' : ℕ) (operator : Operator) (variables goal : Term) (span : Span) (row : prefix_named name' ≡ Some operator) (two : takes_two operator.fixity ≡ true)
+    (reads_variables : Reads names variables) (reads_goal : Reads names goal) where
+  quantifier_read : ReadsWhole (Application name' None (more variables (more goal none)) span) operator.priority false (λ commas. quantifier_pieces commas operator (part_of names variables ∷ part_of names goal ∷ []))
+  quantifier_read commas tokens after chain same fits =
+      let named : operator.name ≡ name' = prefix_name name' operator row in
+      let row' : prefix_named operator.name ≡ Some operator = ap prefix_named named ∙ row in
+      let bound : List Piece = part_pieces 0 commas (part_of names variables) in
+      let enclosed : List Piece = Token Open ∷ (part_pieces 1200 true (part_of names goal) ++ Token Close ∷ []) in
+      let first = take_token (Name operator.name) tokens (kinds_of ((bound ++ (Blank ∷ enclosed)) ++ after)) same in
+      let one = part_read names variables reads_variables 0 commas first.rest (Blank ∷ (enclosed ++ after)) (first.left ∙ ap kinds_of (append_assoc bound (Blank ∷ enclosed) after)) refl in
+      let last = enclosed_read commas goal (part_pieces 1200 true (part_of names goal)) (λ tokens' after' same' fits'. part_read names goal reads_goal 1200 true tokens' after' same' fits') one.rest after one.left in
+      record {
+        found = Application operator.name None (more one.found (more last.found none)) (joined first.span (span_of last.found));
+        priority = operator.priority;
+        rest = last.rest;
+        within = omega arith;
+        spells = subst (λ ts. Spells commas (Application operator.name None (more one.found (more last.found none)) (joined first.span (span_of last.found))) operator.priority ts last.rest) (sym first.is)
+            (quantifier commas operator.name one.priority last.priority operator one.found last.found first.span first.rest one.rest last.rest
+            (record { row = row'; not_plain = one.starts; no_sign = no_minus operator two row' first.rest (operator.name == 43) refl })
+            two one.spells (omega (arith, one.within)) (begins_is is_infix_name one.rest ∙ ap (begins is_infix_name) one.left) last.spells (omega (arith, last.within)));
+        left = last.left;
+        same = ap (λ (n : ℕ). Application n None (more (bare one.found) (more (bare last.found) none)) no_span) named
+            ∙ ap (λ t. Application name' None (more t (more (bare last.found) none)) no_span) one.same
+            ∙ ap (λ t. Application name' None (more (bare variables) (more t none)) no_span) last.same;
+        starts = ap is_left_plain first.is ∙ (ap (λ o. is_some (infix_named operator.name) && is_none o) row' ∙ and_false (is_some (infix_named operator.name)));
+        unsigned = λ low other. ap (begins_with is_integer) first.is;
+      }
+
+-- arguments
+
+arguments_read : (names : List (List ℕ)) (first : Term) (others : Terms) → Reads names first → AllRead names others → (tokens : List TokenOf) (after : List Piece)
+    → kinds tokens ≡ kinds_of ((part_pieces 1199 false (part_of names first) ++ other_pieces (parts_of names others)) ++ after) → ReadArguments (more first others) tokens after
+arguments_read names first none reads all tokens after same =
+    let one = part_read names first reads 1199 false tokens (Token Close ∷ after) (same ∙ ap kinds_of (append_assoc (part_pieces 1199 false (part_of names first)) (Token Close ∷ []) after)) refl in
+    let close = take_token Close one.rest (kinds_of after) one.left in
+    record {
+      found = more one.found none;
+      close = close.span;
+      rest = close.rest;
+      spells = last_argument one.found one.priority close.span tokens close.rest (subst (λ ts. Spells false one.found one.priority tokens ts) close.is one.spells) one.within;
+      left = close.left;
+      same = ap (λ t. more t none) one.same;
+    }
+arguments_read names first (more second others) reads all tokens after same =
+    let behind : List Piece = part_pieces 1199 false (part_of names second) ++ other_pieces (parts_of names others) in
+    let one = part_read names first reads 1199 false tokens (Token Comma ∷ Blank ∷ (behind ++ after))
+        (same ∙ ap kinds_of (append_assoc (part_pieces 1199 false (part_of names first)) (Token Comma ∷ Blank ∷ behind) after)) refl in
+    let mark = take_token Comma one.rest (kinds_of (behind ++ after)) one.left in
+    let inner = arguments_read names second others all.0 all.1 mark.rest after mark.left in
+    record {
+      found = more one.found inner.found;
+      close = inner.close;
+      rest = inner.rest;
+      spells = argument one.found inner.found one.priority mark.span inner.close tokens mark.rest inner.rest (subst (λ ts. Spells false one.found one.priority tokens ts) mark.is one.spells) one.within inner.spells;
+      left = inner.left;
+      same = ap (λ t. more t (bare_all inner.found)) one.same ∙ ap (λ ts. more (bare first) ts) inner.same;
+    }
