@@ -448,3 +448,162 @@ arguments_read names first (more second others) reads all tokens after same =
       left = inner.left;
       same = ap (λ t. more t (bare_all inner.found)) one.same ∙ ap (λ ts. more (bare first) ts) inner.same;
     }
+
+-- lists
+
+token_list : (commas : Bool) (term found : Term) (open' close : Span) (tokens inner rest : List TokenOf) (after : List Piece)
+    → tokens ≡ token OpenList open' ∷ inner → kinds rest ≡ kinds_of after → SpellsItems (joined open' close) found close inner rest → bare found ≡ bare term → is_integer_term term ≡ false → Read commas term 0 tokens after
+token_list commas term found open' close tokens inner rest after is left spells same other = record {
+  found = found;
+  priority = 0;
+  rest = rest;
+  within = omega arith;
+  spells = subst (λ ts. Spells commas found 0 ts rest) (sym is) (list commas found open' close inner rest spells);
+  left = left;
+  same = same;
+  starts = ap is_left_plain is;
+  unsigned = λ low plain'. ap (begins_with is_integer) is;
+}
+
+module _ (names : List (List ℕ)) (head tail : Term) (reads_head : Reads names head) (reads_tail : Reads names tail) where
+  items_read : (tokens : List TokenOf) (after : List Piece) → kinds tokens ≡ kinds_of (item_pieces (part_of names head ∷ part_of names tail ∷ []) ++ Token CloseList ∷ after) → ReadItems head tail tokens after
+  items_read tokens after same =
+      let one = part_read names head reads_head 1199 false tokens ((part_of names tail).tail ++ Token CloseList ∷ after)
+          (same ∙ ap kinds_of (append_assoc (part_pieces 1199 false (part_of names head)) (part_of names tail).tail (Token CloseList ∷ after))) (reads_tail.tail_first after) in
+      let items = reads_tail.tail one.found one.priority tokens one.rest after one.spells one.within one.left in
+      record {
+        found = items.found;
+        close = items.close;
+        rest = items.rest;
+        spells = items.spells;
+        left = items.left;
+        same = λ whole. items.same whole ∙ ap (λ t. Application 2 None (more t (more (bare tail) none)) no_span) one.same;
+      }
+
+  module _ (name' : ℕ) (span : Span) (cons : name' ≡ 2) where
+    list_bare : Application 2 None (more (bare head) (more (bare tail) none)) no_span ≡ Application name' None (more (bare head) (more (bare tail) none)) no_span
+    list_bare = ap (λ (n : ℕ). Application n None (more (bare head) (more (bare tail) none)) no_span) (sym cons)
+
+    list_read : ReadsWhole (Application name' None (more head (more tail none)) span) 0 false (λ commas. Token OpenList ∷ (item_pieces (part_of names head ∷ part_of names tail ∷ []) ++ Token CloseList ∷ []))
+    list_read commas tokens after chain same fits =
+        let pieces : List Piece = item_pieces (part_of names head ∷ part_of names tail ∷ []) in
+        let open' = take_token OpenList tokens (kinds_of ((pieces ++ Token CloseList ∷ []) ++ after)) same in
+        let items = items_read open'.rest after (open'.left ∙ ap kinds_of (append_assoc pieces (Token CloseList ∷ []) after)) in
+        let whole : Span = joined open'.span items.close in
+        token_list commas (Application name' None (more head (more tail none)) span) (items.found whole) open'.span items.close tokens open'.rest items.rest after open'.is items.left (items.spells whole) (items.same whole ∙ list_bare) refl
+
+    list_tail_read : ReadsTail (Application name' None (more head (more tail none)) span) (Token Comma ∷ Blank ∷ item_pieces (part_of names head ∷ part_of names tail ∷ []))
+    list_tail_read first priority tokens rest after spells within same =
+        let mark = take_token Comma rest (kinds_of (item_pieces (part_of names head ∷ part_of names tail ∷ []) ++ Token CloseList ∷ after)) same in
+        let items = items_read mark.rest after mark.left in
+        record {
+          found = λ whole. cell whole first (items.found whole);
+          close = items.close;
+          rest = items.rest;
+          spells = λ whole. item whole first (items.found whole) priority mark.span items.close tokens mark.rest items.rest (subst (λ ts. Spells false first priority tokens ts) mark.is spells) within (items.spells whole);
+          left = items.left;
+          same = λ whole. ap (λ t. Application 2 None (more (bare first) (more t none)) no_span) (items.same whole ∙ list_bare);
+        }
+
+-- names with their arguments
+
+module _ (names : List (List ℕ)) (fixed : HoldsFixed names) (name' : ℕ) (span : Span) where
+  nil_read : (name' ≡ 1) → ReadsWhole (Application name' None none span) 0 false (λ commas. Token OpenList ∷ Token CloseList ∷ [])
+  nil_read nils commas tokens after chain same fits =
+      let open' = take_token OpenList tokens (CloseList ∷ kinds_of after) same in
+      let close = take_token CloseList open'.rest (kinds_of after) open'.left in
+      record {
+        found = nil (joined open'.span close.span);
+        priority = 0;
+        rest = close.rest;
+        within = omega arith;
+        spells = subst (λ ts. Spells commas (nil (joined open'.span close.span)) 0 ts close.rest) (sym open'.is)
+            (subst (λ ts. Spells commas (nil (joined open'.span close.span)) 0 (token OpenList open'.span ∷ ts) close.rest) (sym close.is)
+            (empty_list commas open'.span close.span close.rest));
+        left = close.left;
+        same = ap (λ (n : ℕ). Application n None none no_span) (sym nils);
+        starts = ap is_left_plain open'.is;
+        unsigned = λ low other. ap (begins_with is_integer) open'.is;
+      }
+
+  name_read : ReadsWhole (Application name' None none span) 0 false (λ commas. name_piece names name' ∷ [])
+  name_read commas tokens after chain same fits =
+      let first = take_name names fixed name' tokens after same in
+      token_read commas (Application name' None none span) (Application name' None none first.span) first.kind first.span tokens first.rest after first.is first.left
+      (constant commas first.kind name' first.span first.rest (first.named first.rest) (begins_is goes_on_name first.rest ∙ ap (begins goes_on_name) first.left ∙ fits)) refl first.kept (λ other. first.other)
+
+  constant_by : (test : Bool) → (name' == 1) ≡ test → ReadsWhole (Application name' None none span) 0 false (λ commas. cond test (Token OpenList ∷ Token CloseList ∷ []) (name_piece names name' ∷ []))
+  constant_by true e = nil_read (eqb-true name' 1 e)
+  constant_by false e = name_read
+
+  module _ (first : Term) (others : Terms) (reads : Reads names first) (all : AllRead names others) where
+    abbrev inner : List Piece
+    inner = part_pieces 1199 false (part_of names first) ++ other_pieces (parts_of names others)
+
+    application_read : ReadsWhole (Application name' None (more first others) span) 0 false (λ commas. name_piece names name' ∷ Token OpenArgs ∷ inner)
+    application_read commas tokens after chain same fits =
+        let start = take_name names fixed name' tokens (Token OpenArgs ∷ (inner ++ after)) same in
+        let open' = take_token OpenArgs start.rest (kinds_of (inner ++ after)) start.left in
+        let arguments = arguments_read names first others reads all open'.rest after open'.left in
+        record {
+          found = Application name' None arguments.found (joined start.span arguments.close);
+          priority = 0;
+          rest = arguments.rest;
+          within = omega arith;
+          spells = subst (λ ts. Spells commas (Application name' None arguments.found (joined start.span arguments.close)) 0 ts arguments.rest) (sym start.is)
+              (subst (λ ts. Spells commas (Application name' None arguments.found (joined start.span arguments.close)) 0 (token start.kind start.span ∷ ts) arguments.rest) (sym open'.is)
+              (application commas start.kind name' arguments.found start.span open'.span arguments.close open'.rest arguments.rest (start.named (token OpenArgs open'.span ∷ open'.rest)) arguments.spells));
+          left = arguments.left;
+          same = ap (λ ts. Application name' None ts no_span) arguments.same;
+          starts = ap is_left_plain start.is ∙ start.kept;
+          unsigned = λ low other. ap (begins_with is_integer) start.is ∙ start.other;
+        }
+
+module _ (names : List (List ℕ)) (fixed : HoldsFixed names) (name' qualifier : ℕ) (span : Span) where
+  qualified_read : ReadsWhole (Application name' (Some qualifier) none span) 0 false (λ commas. name_piece names qualifier ∷ Token Dot ∷ name_piece names name' ∷ [])
+  qualified_read commas tokens after chain same fits =
+      let first = take_name names fixed qualifier tokens (Token Dot ∷ name_piece names name' ∷ after) same in
+      let mark = take_token Dot first.rest (kinds_of (name_piece names name' ∷ after)) first.left in
+      let last = take_name names fixed name' mark.rest after mark.left in
+      let rest_is : first.rest ≡ token Dot mark.span ∷ token last.kind last.span ∷ last.rest = mark.is ∙ ap (λ ts. token Dot mark.span ∷ ts) last.is in
+      record {
+        found = Application name' (Some qualifier) none (joined first.span last.span);
+        priority = 0;
+        rest = last.rest;
+        within = omega arith;
+        spells = subst (λ ts. Spells commas (Application name' (Some qualifier) none (joined first.span last.span)) 0 ts last.rest) (sym first.is)
+            (subst (λ ts. Spells commas (Application name' (Some qualifier) none (joined first.span last.span)) 0 (token first.kind first.span ∷ ts) last.rest) (sym rest_is)
+            (qualified commas first.kind last.kind qualifier name' first.span mark.span last.span last.rest (first.named (token Dot mark.span ∷ token last.kind last.span ∷ last.rest)) last.part
+            (begins_is goes_on_name last.rest ∙ ap (begins goes_on_name) last.left ∙ fits)));
+        left = last.left;
+        same = refl;
+        starts = ap is_left_plain first.is ∙ first.kept;
+        unsigned = λ low other. ap (begins_with is_integer) first.is ∙ first.other;
+      }
+
+  module _ (first : Term) (others : Terms) (reads : Reads names first) (all : AllRead names others) where
+    qualified_application_read : ReadsWhole (Application name' (Some qualifier) (more first others) span) 0 false
+        (λ commas. name_piece names qualifier ∷ Token Dot ∷ name_piece names name' ∷ Token OpenArgs ∷ (part_pieces 1199 false (part_of names first) ++ other_pieces (parts_of names others)))
+    qualified_application_read commas tokens after chain same fits =
+        let pieces : List Piece = part_pieces 1199 false (part_of names first) ++ other_pieces (parts_of names others) in
+        let start = take_name names fixed qualifier tokens (Token Dot ∷ name_piece names name' ∷ Token OpenArgs ∷ (pieces ++ after)) same in
+        let mark = take_token Dot start.rest (kinds_of (name_piece names name' ∷ Token OpenArgs ∷ (pieces ++ after))) start.left in
+        let last = take_name names fixed name' mark.rest (Token OpenArgs ∷ (pieces ++ after)) mark.left in
+        let open' = take_token OpenArgs last.rest (kinds_of (pieces ++ after)) last.left in
+        let arguments = arguments_read names first others reads all open'.rest after open'.left in
+        let rest_is : start.rest ≡ token Dot mark.span ∷ token last.kind last.span ∷ token OpenArgs open'.span ∷ open'.rest =
+            mark.is ∙ ap (λ ts. token Dot mark.span ∷ ts) (last.is ∙ ap (λ ts. token last.kind last.span ∷ ts) open'.is) in
+        record {
+          found = Application name' (Some qualifier) arguments.found (joined start.span arguments.close);
+          priority = 0;
+          rest = arguments.rest;
+          within = omega arith;
+          spells = subst (λ ts. Spells commas (Application name' (Some qualifier) arguments.found (joined start.span arguments.close)) 0 ts arguments.rest) (sym start.is)
+              (subst (λ ts. Spells commas (Application name' (Some qualifier) arguments.found (joined start.span arguments.close)) 0 (token start.kind start.span ∷ ts) arguments.rest) (sym rest_is)
+              (qualified_application commas start.kind last.kind qualifier name' arguments.found start.span mark.span last.span open'.span arguments.close open'.rest arguments.rest
+              (start.named (token Dot mark.span ∷ token last.kind last.span ∷ token OpenArgs open'.span ∷ open'.rest)) last.part arguments.spells));
+          left = arguments.left;
+          same = ap (λ ts. Application name' (Some qualifier) ts no_span) arguments.same;
+          starts = ap is_left_plain start.is ∙ start.kept;
+          unsigned = λ low other. ap (begins_with is_integer) start.is ∙ start.other;
+        }
