@@ -1,18 +1,20 @@
 -- Tokens of the kinds that a term is written with spell that term.
-use Rattle.std.proofs.Common.{◌≡◌, ℕ, zero, suc, ◌+◌, ◌-◌, ◌≤◌, ◌<◌, ◌==◌, ◌&&◌, ◌||◌, not, nat_lt, ℤ, pos, negsuc, neg_ℤ, Bool, true, false, List, [], ◌∷◌, ◌++◌, map, Option, Some, None, is_some, is_none, cond, refl, ap, sym, ◌∙◌, subst, eqb-true, ltb-false, le-ltb, arith, append_assoc, add-one}
+use Rattle.std.proofs.Common.{◌≡◌, ℕ, zero, suc, ◌+◌, ◌-◌, ◌≤◌, ◌<◌, ◌==◌, ◌&&◌, ◌||◌, not, nat_lt, ℤ, pos, negsuc, neg_ℤ, Bool, true, false, List, [], ◌∷◌, ◌++◌, map, Option, Some, None, is_some, is_none, cond, refl, ap, sym, ◌∙◌, subst, eqb-true, ltb-false, le-ltb, ne_eqb, length, arith, append_assoc, add-one}
 use Rattle.merc_base.specs.Names.{HoldsFixed}
 use Rattle.merc_base.specs.declared.place.Span.{Span}
 use Rattle.merc_value.specs.Text.{text_at, is_plain}
 use Rattle.merc_tokens.specs.declared.token.Token.{Token as TokenOf}
 use Rattle.merc_tokens.specs.declared.token.TokenKind.{TokenKind}
 use Rattle.merc_tokens.specs.declared.token.TokenKind.TheVariants.{Name, Quoted, Var, Int, Text as TextToken, OpenArgs, Open, Close, OpenList, CloseList, Comma, Bar, Dot, Stop}
-use Rattle.merc_tree.specs.Term.{Term, Terms, Variable, Integer, Text, Application, none, more, bare, bare_all, no_span, span_of, with_span}
+use Rattle.merc_tree.specs.Term.{Term, Terms, Variable, Integer, Text, Application, none, more, bare, bare_all, list_of, no_span, span_of, with_span}
 use Rattle.merc_terms.specs.declared.operators.Operator.{Operator}
 use Rattle.merc_terms.specs.Operators.{infix_named, prefix_named, takes_two, first_most, last_most}
 use Rattle.merc_terms.specs.Reading.{token, joined, begins_with, is_integer, goes_on_name, is_infix_name, leaves_plain, is_left_plain, is_sign, IsName, plain, left_plain, quoted, IsQualified, unquoted, IsOpen, alone, IsPrefix, IsInfix, name, comma, cell, nil, Spells, variable, integer, negative, text, constant, qualified, application, qualified_application, empty_list, list, parenthesis, before, quantifier, between, SpellsArguments, last_argument, argument, SpellsItems, last_item, items_tail, item}
 use Rattle.merc_term_text.specs.Pieces.{Piece, Blank, Token, kinds_of, name_piece}
 use Rattle.merc_term_text.specs.Written.{Form, ListForm, InfixForm, PrefixForm, QuantifierForm, PlainForm, form_of, form_priority, is_comma_form, is_enclosed, enclosed_if, Part, part_of, parts_of, part_pieces, operand_pieces, operator_pieces, integer_pieces, other_pieces, item_pieces, infix_pieces, prefix_pieces, quantifier_pieces, plain_pieces, constant_pieces, qualified_pieces, bar_pieces, tail_pieces, formed, is_nil}
 use Rattle.merc_term_text.proofs.FormViews.{IsForm, is_list, is_infix, is_prefix, is_quantifier, is_plain as is_plain_form, seen}
+use Rattle.merc_term_text.specs.Walking.{is_nil_term}
+use Rattle.merc_term_text.proofs.TermPieces.{other_tail, list_tail}
 use Rattle.merc_term_text.proofs.Table.{infix_name, prefix_name}
 use Rattle.merc_term_text.proofs.TokenKinds.{kinds, Taken, take_token, begins, begins_is, IsBounded, infix_bounded, prefix_bounded, minus_row, no_infix, no_prefix, minus_kept}
 
@@ -138,37 +140,42 @@ module _ (commas : Bool) (term : Term) (pieces : List Piece)
       }
 
 -- a part where terms of at most this priority may stand
-module _ (names : List (List ℕ)) (term : Term) (reads : Reads names term) where
+module _ (names : List (List ℕ)) (term : Term) (bounded : form_priority (part_of names term).form ≤ 1200)
+    (whole : ReadsWhole term (form_priority (part_of names term).form) (is_comma_form (part_of names term).form) (part_of names term).pieces) where
   part_by : (max : ℕ) (commas enclosed : Bool) → is_enclosed max commas (part_of names term).form ≡ enclosed → (tokens : List TokenOf) (after : List Piece)
       → kinds tokens ≡ kinds_of (enclosed_if enclosed ((part_of names term).pieces (commas || enclosed)) ++ after) → begins goes_on_name (kinds_of after) ≡ false → Read commas term max tokens after
   part_by max commas true e tokens after same fits =
       raised (enclosed_read commas term ((part_of names term).pieces (commas || true)) (λ tokens' after' same' fits'.
-      raised (reads.whole true tokens' after' (and_false (is_comma_form (part_of names term).form)) (same' ∙ ap (λ b. kinds_of ((part_of names term).pieces b ++ after')) (or_true commas)) fits') 1200 reads.bounded) tokens after same) max (omega arith)
+      raised (whole true tokens' after' (and_false (is_comma_form (part_of names term).form)) (same' ∙ ap (λ b. kinds_of ((part_of names term).pieces b ++ after')) (or_true commas)) fits') 1200 bounded) tokens after same) max (omega arith)
   part_by max commas false e tokens after same fits =
-      raised (reads.whole commas tokens after (or_second (nat_lt max (form_priority (part_of names term).form)) (is_comma_form (part_of names term).form && not commas) e)
+      raised (whole commas tokens after (or_second (nat_lt max (form_priority (part_of names term).form)) (is_comma_form (part_of names term).form && not commas) e)
       (same ∙ ap (λ b. kinds_of ((part_of names term).pieces b ++ after)) (or_false commas)) fits) max
       (ltb-false max (form_priority (part_of names term).form) (or_first (nat_lt max (form_priority (part_of names term).form)) (is_comma_form (part_of names term).form && not commas) e))
 
-  pub part_read : (max : ℕ) (commas : Bool) (tokens : List TokenOf) (after : List Piece)
+  part_from : (max : ℕ) (commas : Bool) (tokens : List TokenOf) (after : List Piece)
       → kinds tokens ≡ kinds_of (part_pieces max commas (part_of names term) ++ after) → begins goes_on_name (kinds_of after) ≡ false → Read commas term max tokens after
-  part_read max commas tokens after same fits = part_by max commas (is_enclosed max commas (part_of names term).form) refl tokens after same fits
+  part_from max commas tokens after same fits = part_by max commas (is_enclosed max commas (part_of names term).form) refl tokens after same fits
 
   -- a list's tail behind a bar
-  pub tail_by_bar : bar_pieces (part_pieces 1199 false (part_of names term)) ≡ (part_of names term).tail → ReadsTail term (part_of names term).tail
+  tail_by_bar : bar_pieces (part_pieces 1199 false (part_of names term)) ≡ (part_of names term).tail → ReadsTail term (part_of names term).tail
   tail_by_bar barred head priority tokens rest after head_spells within same =
       let bar = take_token Bar rest (kinds_of (part_pieces 1199 false (part_of names term) ++ Token CloseList ∷ after)) (same ∙ ap (λ pieces. kinds_of (pieces ++ Token CloseList ∷ after)) (sym barred)) in
-      let read = part_read 1199 false bar.rest (Token CloseList ∷ after) bar.left refl in
+      let read = part_from 1199 false bar.rest (Token CloseList ∷ after) bar.left refl in
       let close = take_token CloseList read.rest (kinds_of after) read.left in
       record {
-        found = λ whole. cell whole head read.found;
+        found = λ all'. cell all' head read.found;
         close = close.span;
         rest = close.rest;
-        spells = λ whole. items_tail whole head read.found priority read.priority bar.span close.span tokens bar.rest close.rest
+        spells = λ all'. items_tail all' head read.found priority read.priority bar.span close.span tokens bar.rest close.rest
             (subst (λ ts. Spells false head priority tokens ts) bar.is head_spells) within
             (subst (λ ts. Spells false read.found read.priority bar.rest ts) close.is read.spells) read.within;
         left = close.left;
-        same = λ whole. ap (λ t. Application 2 None (more (bare head) (more t none)) no_span) read.same;
+        same = λ all'. ap (λ t. Application 2 None (more (bare head) (more t none)) no_span) read.same;
       }
+
+part_read : (names : List (List ℕ)) (term : Term) → Reads names term → (max : ℕ) (commas : Bool) (tokens : List TokenOf) (after : List Piece)
+    → kinds tokens ≡ kinds_of (part_pieces max commas (part_of names term) ++ after) → begins goes_on_name (kinds_of after) ≡ false → Read commas term max tokens after
+part_read names term reads max commas tokens after same fits = part_from names term reads.bounded reads.whole max commas tokens after same fits
 
 -- a term of one token
 token_read : (commas : Bool) (term found : Term) (kind : TokenKind) (span : Span) (tokens rest : List TokenOf) (after : List Piece)
@@ -607,3 +614,131 @@ module _ (names : List (List ℕ)) (fixed : HoldsFixed names) (name' qualifier :
           starts = ap is_left_plain start.is ∙ start.kept;
           unsigned = λ low other. ap (begins_with is_integer) start.is ∙ start.other;
         }
+
+-- a name with its arguments in its form
+
+plain_not_list : PlainForm ≡ ListForm → ⊥
+plain_not_list h = cc
+
+infix_not_list : (operator : Operator) → InfixForm operator ≡ ListForm → ⊥
+infix_not_list operator h = cc
+
+prefix_not_list : (operator : Operator) → PrefixForm operator ≡ ListForm → ⊥
+prefix_not_list operator h = cc
+
+quantifier_not_list : (operator : Operator) → QuantifierForm operator ≡ ListForm → ⊥
+quantifier_not_list operator h = cc
+
+no_nil : (name' : ℕ) (first : Term) (others : Terms) → is_nil_term (Application name' None (more first others) no_span) ≡ false
+no_nil name' first others = ap (λ b. name' == 1 && b) (ne_eqb (suc (length (list_of others))) 0 (λ same. absurd (omega arith))) ∙ and_false (name' == 1)
+
+module _ (names : List (List ℕ)) (fixed : HoldsFixed names) (name' : ℕ) (span : Span) where
+  plain_read : (arguments : Terms) → AllRead names arguments → ReadsWhole (Application name' None arguments span) 0 false (λ commas. plain_pieces names name' None (parts_of names arguments))
+  plain_read none all = constant_by names fixed name' span (name' == 1) refl
+  plain_read (more first others) all = application_read names fixed name' span first others all.0 all.1
+
+  abbrev Whole : Terms → Form → Type 0
+  Whole arguments form = AllRead names arguments → ReadsWhole (Application name' None arguments span) (form_priority form) (is_comma_form form) (λ commas. formed names commas form name' None (parts_of names arguments))
+
+  whole_by : (arguments : Terms) (form : Form) → IsForm name' arguments form → Whole arguments form
+  whole_by arguments form (is_list head tail a f cons) = subst (λ ts. Whole ts form) (sym a) (subst (λ g. Whole (more head (more tail none)) g) (sym f)
+      (λ all. list_read names head tail all.0 all.1.0 name' span cons))
+  whole_by arguments form (is_infix left right operator a f row) = subst (λ ts. Whole ts form) (sym a) (subst (λ g. Whole (more left (more right none)) g) (sym f)
+      (λ all. infix_read names name' operator left right span row all.0 all.1.0))
+  whole_by arguments form (is_prefix operand operator a f row one) = subst (λ ts. Whole ts form) (sym a) (subst (λ g. Whole (more operand none) g) (sym f)
+      (λ all. prefix_read names name' operator operand span row one all.0))
+  whole_by arguments form (is_quantifier variables goal operator a f row two) = subst (λ ts. Whole ts form) (sym a) (subst (λ g. Whole (more variables (more goal none)) g) (sym f)
+      (λ all. quantifier_read names name' operator variables goal span row two all.0 all.1.0))
+  whole_by arguments form (is_plain_form f) = subst (λ g. Whole arguments g) (sym f) (plain_read arguments)
+
+  form_bounded : (arguments : Terms) (form : Form) → IsForm name' arguments form → form_priority form ≤ 1200
+  form_bounded arguments form (is_list head tail a f cons) = rw f (omega arith)
+  form_bounded arguments form (is_infix left right operator a f row) = rw f (infix_bounded name' operator row).high
+  form_bounded arguments form (is_prefix operand operator a f row one) = rw f (prefix_bounded name' operator row).high
+  form_bounded arguments form (is_quantifier variables goal operator a f row two) = rw f (prefix_bounded name' operator row).high
+  form_bounded arguments form (is_plain_form f) = rw f (omega arith)
+
+  module _ (arguments : Terms) (all : AllRead names arguments) where
+    abbrev term : Term
+    term = Application name' None arguments span
+
+    barred : (form_of name' None arguments ≡ ListForm → ⊥) → is_nil_term term ≡ false → ReadsTail term (part_of names term).tail
+    barred unlisted other = tail_by_bar names term (form_bounded arguments (form_of name' None arguments) (seen name' arguments))
+        (whole_by arguments (form_of name' None arguments) (seen name' arguments) all) (other_tail names term unlisted other)
+
+  nil_tail : name' ≡ 1 → ReadsTail (Application name' None none span) []
+  nil_tail nils head priority tokens rest after spells within same =
+      let close = take_token CloseList rest (kinds_of after) same in
+      record {
+        found = λ whole. cell whole head (nil whole);
+        close = close.span;
+        rest = close.rest;
+        spells = λ whole. last_item whole head priority close.span tokens close.rest (subst (λ ts. Spells false head priority tokens ts) close.is spells) within;
+        left = close.left;
+        same = λ whole. ap (λ (n : ℕ). Application 2 None (more (bare head) (more (Application n None none no_span) none)) no_span) (sym nils);
+      }
+
+  plain_tail_none : form_of name' None none ≡ PlainForm → (test : Bool) → (name' == 1) ≡ test → ReadsTail (Application name' None none span) (part_of names (Application name' None none span)).tail
+  plain_tail_none f true e = subst (λ ts. ReadsTail (Application name' None none span) ts)
+      (sym (ap (λ g. tail_pieces names g name' None []) f ∙ ap (λ b. cond b [] (bar_pieces (plain_pieces names name' None []))) e)) (nil_tail (eqb-true name' 1 e))
+  plain_tail_none f false e = barred none tt (λ l. plain_not_list (sym f ∙ l)) (ap (λ b. b && true) e)
+
+  plain_tail : (arguments : Terms) → AllRead names arguments → form_of name' None arguments ≡ PlainForm → ReadsTail (Application name' None arguments span) (part_of names (Application name' None arguments span)).tail
+  plain_tail none all f = plain_tail_none f (name' == 1) refl
+  plain_tail (more first others) all f = barred (more first others) all (λ l. plain_not_list (sym f ∙ l)) (no_nil name' first others)
+
+  abbrev Tail : Terms → Type 0
+  Tail arguments = AllRead names arguments → form_of name' None arguments ≡ ListForm → ReadsTail (Application name' None arguments span) (part_of names (Application name' None arguments span)).tail
+
+  abbrev Barred : Form → Terms → Type 0
+  Barred form arguments = AllRead names arguments → form_of name' None arguments ≡ form → ReadsTail (Application name' None arguments span) (part_of names (Application name' None arguments span)).tail
+
+  tail_by_form : (arguments : Terms) (form : Form) → form_of name' None arguments ≡ form → IsForm name' arguments form → AllRead names arguments → ReadsTail (Application name' None arguments span) (part_of names (Application name' None arguments span)).tail
+  tail_by_form arguments form e (is_list head tail a f cons) all = subst Tail (sym a) (λ all' l.
+      subst (λ ts. ReadsTail (Application name' None (more head (more tail none)) span) ts) (sym (list_tail names (Application name' None (more head (more tail none)) span) (sym l)))
+      (list_tail_read names head tail all'.0 all'.1.0 name' span cons)) all (e ∙ f)
+  tail_by_form arguments form e (is_infix left right operator a f row) all = subst (Barred form) (sym a) (λ all' l. barred (more left (more right none)) all' (λ l'. infix_not_list operator (sym f ∙ sym l ∙ l')) (no_nil name' left (more right none))) all e
+  tail_by_form arguments form e (is_prefix operand operator a f row one) all = subst (Barred form) (sym a) (λ all' l. barred (more operand none) all' (λ l'. prefix_not_list operator (sym f ∙ sym l ∙ l')) (no_nil name' operand none)) all e
+  tail_by_form arguments form e (is_quantifier variables goal operator a f row two) all = subst (Barred form) (sym a) (λ all' l. barred (more variables (more goal none)) all' (λ l'. quantifier_not_list operator (sym f ∙ sym l ∙ l')) (no_nil name' variables (more goal none))) all e
+  tail_by_form arguments form e (is_plain_form f) all = plain_tail arguments all (e ∙ f)
+
+-- what a tail begins with
+tail_begins : (names : List (List ℕ)) (form : Form) (name' : ℕ) (qualifier : Option ℕ) (parts : List Part) (after : List Piece) → begins goes_on_name (kinds_of (tail_pieces names form name' qualifier parts ++ Token CloseList ∷ after)) ≡ false
+tail_begins names ListForm name' qualifier parts after = refl
+tail_begins names (InfixForm operator) name' qualifier parts after = refl
+tail_begins names (PrefixForm operator) name' qualifier parts after = refl
+tail_begins names (QuantifierForm operator) name' qualifier parts after = refl
+tail_begins names PlainForm name' qualifier parts after =
+    elim (is_nil name' qualifier parts) as (λ b. begins goes_on_name (kinds_of (cond b [] (bar_pieces (plain_pieces names name' qualifier parts)) ++ Token CloseList ∷ after)) ≡ false) [ true ↦ refl | false ↦ refl ]
+
+qualified_whole : (names : List (List ℕ)) → HoldsFixed names → (name' qualifier : ℕ) (arguments : Terms) (span : Span) → AllRead names arguments
+    → ReadsWhole (Application name' (Some qualifier) arguments span) 0 false (λ commas. plain_pieces names name' (Some qualifier) (parts_of names arguments))
+qualified_whole names fixed name' qualifier none span all = qualified_read names fixed name' qualifier span
+qualified_whole names fixed name' qualifier (more first others) span all = qualified_application_read names fixed name' qualifier span first others all.0 all.1
+
+-- each term reads as it is written
+
+leaf_reads : (names : List (List ℕ)) (term : Term) (whole : ReadsWhole term (form_priority (part_of names term).form) (is_comma_form (part_of names term).form) (part_of names term).pieces)
+    → form_priority (part_of names term).form ≤ 1200 → bar_pieces (part_pieces 1199 false (part_of names term)) ≡ (part_of names term).tail
+    → ((after : List Piece) → begins goes_on_name (kinds_of ((part_of names term).tail ++ Token CloseList ∷ after)) ≡ false) → Reads names term
+leaf_reads names term whole bounded barred' first = record { bounded = bounded; whole = whole; tail = tail_by_bar names term bounded whole barred'; tail_first = first }
+
+mutual
+  pub reads : (names : List (List ℕ)) → HoldsFixed names → (term : Term) → Reads names term
+  reads names fixed (Variable name' span) = leaf_reads names (Variable name' span) (variable_read name' span) (omega arith) refl (λ after. refl)
+  reads names fixed (Integer value span) = leaf_reads names (Integer value span) (integer_read value span) (omega arith) refl (λ after. refl)
+  reads names fixed (Text name' span) = leaf_reads names (Text name' span) (text_read name' span) (omega arith) refl (λ after. refl)
+  reads names fixed (Application name' (Some qualifier) arguments span) =
+      leaf_reads names (Application name' (Some qualifier) arguments span) (qualified_whole names fixed name' qualifier arguments span (all_read names fixed arguments)) (omega arith)
+      (other_tail names (Application name' (Some qualifier) arguments span) (λ l. plain_not_list l) refl)
+      (tail_begins names PlainForm name' (Some qualifier) (parts_of names arguments))
+  reads names fixed (Application name' None arguments span) = record {
+    bounded = form_bounded names fixed name' span arguments (form_of name' None arguments) (seen name' arguments);
+    whole = whole_by names fixed name' span arguments (form_of name' None arguments) (seen name' arguments) (all_read names fixed arguments);
+    tail = tail_by_form names fixed name' span arguments (form_of name' None arguments) refl (seen name' arguments) (all_read names fixed arguments);
+    tail_first = tail_begins names (form_of name' None arguments) name' None (parts_of names arguments);
+  }
+
+  all_read : (names : List (List ℕ)) → HoldsFixed names → (terms : Terms) → AllRead names terms
+  all_read names fixed none = tt
+  all_read names fixed (more first rest) = (reads names fixed first, all_read names fixed rest)
