@@ -20,3 +20,4 @@ pub mod PiecesRead
 pub mod PiecesValid
 pub mod TokensKnown
 pub mod Writable
+pub mod WrittenParted

@@ -115,3 +115,20 @@ other_tail names (Text name span) unlisted other = refl
 other_tail names (Application name (Some qualifier) arguments span) unlisted other = refl
 other_tail names (Application name None arguments span) unlisted other =
     tail_by names name arguments (form_of name None arguments) (seen name arguments) unlisted (sym (nil_parts names name arguments) ∙ other)
+
+-- a form that is no list
+
+pub plain_not_list : PlainForm ≡ ListForm → ⊥
+plain_not_list h = cc
+
+pub infix_not_list : (operator : Operator) → InfixForm operator ≡ ListForm → ⊥
+infix_not_list operator h = cc
+
+pub prefix_not_list : (operator : Operator) → PrefixForm operator ≡ ListForm → ⊥
+prefix_not_list operator h = cc
+
+pub quantifier_not_list : (operator : Operator) → QuantifierForm operator ≡ ListForm → ⊥
+quantifier_not_list operator h = cc
+
+pub no_nil : (name : ℕ) (first : Term) (others : Terms) → is_nil_term (Application name None (more first others) record { first = 0; past = 0; line = 0 }) ≡ false
+no_nil name first others = ap (λ b. name == 1 && b) (ne_eqb (suc (length (list_of others))) 0 (λ same. absurd (omega arith))) ∙ and_false (name == 1)

@@ -1,7 +1,11 @@
 -- Tokens by their kinds, and what the table tells of them.
-use Rattle.std.proofs.Common.{◌≡◌, ℕ, ◌≤◌, ◌==◌, ◌&&◌, ◌||◌, not, nat_le, Bool, true, false, List, [], ◌∷◌, ◌++◌, map, Option, Some, None, is_some, is_none, slice_get, find, cond, refl, ap, sym, ◌∙◌, subst, eqb-true, leb-true, arith}
+use Rattle.std.proofs.Common.{◌≡◌, ℕ, ◌≤◌, ◌==◌, ◌&&◌, ◌||◌, not, nat_le, Bool, true, false, List, [], ◌∷◌, ◌++◌, map, Option, Some, None, is_some, is_none, slice_get, find, cond, refl, ap, sym, ◌∙◌, subst, eqb-true, leb-true, ltb-true, nat_lt, inr, length, arith}
 use Rattle.std.specs.List.{list_all}
 use Rattle.std.specs.Option.{unwrap_or}
+use Rattle.std.specs.Str.{IsUtf8}
+use Rattle.std.proofs.lemmas.Str.{IsUtf8-append, IsUtf8-nil}
+use Rattle.merc_term_text.proofs.Utf8Parts.{ascii_byte}
+use Rattle.merc_term_text.proofs.Parted.{HasName, IsSpelled, is_operator}
 use Rattle.merc_base.specs.Names.{HoldsFixed, fixed_names}
 use Rattle.merc_base.specs.declared.place.Span.{Span}
 use Rattle.merc_value.specs.Text.{text_at, is_plain, word_operators}
@@ -139,3 +143,77 @@ no_prefix names fixed name plain = none_by (prefix_named name) (λ operator foun
 pub minus_kept : leaves_plain (Name 43) ≡ false
 unfolding operators
 minus_kept = refl
+
+-- each operator's name can be spelled
+
+is_small : ℕ → Bool
+is_small byte = nat_lt byte 128
+
+ascii_utf8 : (text : List ℕ) → list_all is_small text ≡ true → IsUtf8 text
+unfolding is_small
+ascii_utf8 [] small = IsUtf8-nil
+ascii_utf8 (byte ∷ bytes) small =
+    IsUtf8-append (byte ∷ []) bytes (ascii_byte byte (ltb-true byte 128 (and_first (nat_lt byte 128) (list_all is_small bytes) small))) (ascii_utf8 bytes (and_second (nat_lt byte 128) (list_all is_small bytes) small))
+
+abbrev has_text : Option (List ℕ) → Bool
+has_text None = false
+has_text (Some text) = list_all is_small text && nat_le (length text) 255
+
+name_check : Operator → Bool
+name_check operator = has_text (slice_get fixed_names operator.name)
+
+all_names : list_all name_check operators ≡ true
+unfolding operators name_check fixed_names is_small
+all_names = refl
+
+known_name : (names : List (List ℕ)) → HoldsFixed names → (name : ℕ) (found : Option (List ℕ)) → slice_get fixed_names name ≡ found → has_text found ≡ true → HasName names name
+known_name names fixed name None e good = absurd (cc)
+known_name names fixed name (Some text) e good = record {
+  text = text;
+  there = fixed.text name text e;
+  utf8 = ascii_utf8 text (and_first (list_all is_small text) (nat_le (length text) 255) good);
+  short = leb-true (length text) 255 (and_second (list_all is_small text) (nat_le (length text) 255) good);
+}
+
+name_by : (names : List (List ℕ)) → HoldsFixed names → (operator : Operator) → name_check operator ≡ true → HasName names operator.name
+unfolding name_check
+name_by names fixed operator good = known_name names fixed operator.name (slice_get fixed_names operator.name) refl good
+
+pub infix_spelled : (names : List (List ℕ)) → HoldsFixed names → (operator : Operator) → infix_named operator.name ≡ Some operator → (operator.name == 26) ≡ false → IsSpelled names (Name operator.name)
+infix_spelled names fixed operator row other =
+    (name_by names fixed operator (infix_checked name_check all_names operator.name operator row),
+    inr (ap (λ o. (is_some o || is_some (prefix_named operator.name)) && not (operator.name == 26)) row ∙ ap not other))
+
+-- a comma is no prefix operator
+comma_check : Operator → Bool
+comma_check operator = is_infix operator.fixity || not (operator.name == 26)
+
+all_commas : list_all comma_check operators ≡ true
+unfolding operators comma_check
+all_commas = refl
+
+comma_by : (operator : Operator) → is_infix operator.fixity ≡ false → comma_check operator ≡ true → not (operator.name == 26) ≡ true
+unfolding comma_check
+comma_by operator prefix h = sym (ap (λ b. b || not (operator.name == 26)) prefix) ∙ h
+
+or_true_first : (a : Bool) → a || true ≡ true
+or_true_first true = refl
+or_true_first false = refl
+
+pub prefix_spelled : (names : List (List ℕ)) → HoldsFixed names → (operator : Operator) → prefix_named operator.name ≡ Some operator → IsSpelled names (Name operator.name)
+prefix_spelled names fixed operator row =
+    (name_by names fixed operator (prefix_checked name_check all_names operator.name operator row),
+    inr (ap (λ o. (is_some (infix_named operator.name) || is_some o) && not (operator.name == 26)) row
+    ∙ ap (λ b. b && not (operator.name == 26)) (or_true_first (is_some (infix_named operator.name)))
+    ∙ comma_by operator (prefix_fixity operator.name operator row) (prefix_checked comma_check all_commas operator.name operator row)))
+
+minus_known : has_text (slice_get fixed_names 43) ≡ true
+unfolding fixed_names is_small
+minus_known = refl
+
+minus_operator : is_operator 43 ≡ true
+unfolding operators
+minus_operator = refl
+
+pub minus_spelled : (names : List (List ℕ)) → HoldsFixed names → IsSpelled names (Name 43)
+minus_spelled names fixed = (known_name names fixed 43 (slice_get fixed_names 43) refl minus_known, inr minus_operator)

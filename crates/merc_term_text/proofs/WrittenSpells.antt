@@ -14,7 +14,7 @@ use Rattle.merc_term_text.specs.Pieces.{Piece, Blank, Token, kinds_of, name_piec
 use Rattle.merc_term_text.specs.Written.{Form, ListForm, InfixForm, PrefixForm, QuantifierForm, PlainForm, form_of, form_priority, is_comma_form, is_enclosed, enclosed_if, Part, part_of, parts_of, part_pieces, operand_pieces, operator_pieces, integer_pieces, other_pieces, item_pieces, infix_pieces, prefix_pieces, quantifier_pieces, plain_pieces, constant_pieces, qualified_pieces, bar_pieces, tail_pieces, formed, is_nil}
 use Rattle.merc_term_text.proofs.FormViews.{IsForm, is_list, is_infix, is_prefix, is_quantifier, is_plain as is_plain_form, seen}
 use Rattle.merc_term_text.specs.Walking.{is_nil_term}
-use Rattle.merc_term_text.proofs.TermPieces.{other_tail, list_tail}
+use Rattle.merc_term_text.proofs.TermPieces.{other_tail, list_tail, plain_not_list, infix_not_list, prefix_not_list, quantifier_not_list, no_nil}
 use Rattle.merc_term_text.proofs.Table.{infix_name, prefix_name}
 use Rattle.merc_term_text.proofs.TokenKinds.{kinds, Taken, take_token, begins, begins_is, IsBounded, infix_bounded, prefix_bounded, minus_row, no_infix, no_prefix, minus_kept}
 
@@ -616,21 +616,6 @@ module _ (names : List (List ℕ)) (fixed : HoldsFixed names) (name' qualifier :
         }
 
 -- a name with its arguments in its form
-
-plain_not_list : PlainForm ≡ ListForm → ⊥
-plain_not_list h = cc
-
-infix_not_list : (operator : Operator) → InfixForm operator ≡ ListForm → ⊥
-infix_not_list operator h = cc
-
-prefix_not_list : (operator : Operator) → PrefixForm operator ≡ ListForm → ⊥
-prefix_not_list operator h = cc
-
-quantifier_not_list : (operator : Operator) → QuantifierForm operator ≡ ListForm → ⊥
-quantifier_not_list operator h = cc
-
-no_nil : (name' : ℕ) (first : Term) (others : Terms) → is_nil_term (Application name' None (more first others) no_span) ≡ false
-no_nil name' first others = ap (λ b. name' == 1 && b) (ne_eqb (suc (length (list_of others))) 0 (λ same. absurd (omega arith))) ∙ and_false (name' == 1)
 
 module _ (names : List (List ℕ)) (fixed : HoldsFixed names) (name' : ℕ) (span : Span) where
   plain_read : (arguments : Terms) → AllRead names arguments → ReadsWhole (Application name' None arguments span) 0 false (λ commas. plain_pieces names name' None (parts_of names arguments))
