@@ -21,3 +21,5 @@ pub mod PiecesValid
 pub mod TokensKnown
 pub mod Writable
 pub mod WrittenParted
+pub mod BareTerms
+pub mod ReadsBack
