@@ -32,6 +32,7 @@ pub fn write_term(
 ) -> Result<(), NoMemory>
     ensures text { OnOk result (into.new ≡ into.old ++ term_text names.now term.now) }
     ensures front { OnErr result (AppendsFront (term_text names.now term.now) into.old into.new) }
+    ensures reads_back { (text : List ℕ) → ReadsAs names.now text term.now → ReadsAs names.now (term_text names.now term.now ++ codes ".") term.now }
 {
     // Every table holds the constants, as the sign of an integer.
     let _minus = names.text(Name::MINUS);
