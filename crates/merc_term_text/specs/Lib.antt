@@ -2,3 +2,4 @@ pub mod Pieces
 pub mod Written
 pub mod ReadsAs
 pub mod Walking
+pub mod WrittenExamples
