@@ -2,6 +2,8 @@
 #![tactic(auto)]
 
 mod form;
+#[cfg(test)]
+mod tests;
 mod work;
 pub mod writing;
 
