@@ -34,7 +34,7 @@ pub fn write_term(
     ensures front { OnErr result (AppendsFront (term_text names.now term.now) into.old into.new) }
     ensures reads_back { (text : List ℕ) → ReadsAs names.now text term.now → ReadsAs names.now (term_text names.now term.now ++ codes ".") term.now }
 {
-    // Every table holds the constants, as the sign of an integer.
+    // Every table holds the constants, `-` among them, so that what is written reads back.
     let _minus = names.text(Name::MINUS);
     write_whole(alloc, term.as_ref(), names, into)
 }
@@ -118,6 +118,7 @@ fn operand_mark<'a>(
     part_mark(term, max, commas, stack)
 }
 
+// Whether a term is an integer.
 fn is_integer(term: &TermRef<'_>) -> bool
     ensures { (names : List (List ℕ)) → result ≡ (part_of names term.now).is_integer }
 {
@@ -369,6 +370,7 @@ fn mark_before(count: usize) -> Mark
     }
 }
 
+// Writes a mark. Where memory is refused the text is unchanged.
 fn write_mark(alloc: Global, mark: Mark, names: &Names, into: &mut Text) -> Result<(), NoMemory>
     requires { HoldsFixed names.now }
     ensures ok { OnOk result (into.new ≡ into.old ++ pieces_text names.now (mark_pieces names.now mark)) }
@@ -404,6 +406,7 @@ fn write_name(alloc: Global, text: &[u8], into: &mut Text) -> Result<(), NoMemor
     }
 }
 
+// Writes an integer, with its sign where it is negative.
 fn write_integer(alloc: Global, value: i64, into: &mut Text) -> Result<(), NoMemory>
     ensures ok { OnOk result (into.new ≡ into.old ++ signed_decimal value) }
     ensures err { OnErr result (into.new ≡ into.old) }
