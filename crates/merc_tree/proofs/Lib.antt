@@ -1,3 +1,4 @@
 pub mod Depth
 pub mod NodeLaws
 pub mod SameTerms
+pub mod PartLaws

@@ -1,12 +1,12 @@
 -- What the nodes of terms are once terms are taken apart, put together, or given a root.
-use Rattle.std.proofs.Common.{◌≡◌, ℕ, suc, zero, ◌+◌, ◌-◌, ◌<◌, ◌≤◌, List, [], ◌∷◌, ◌++◌, length, take, drop, get_or, Option, Some, refl, ap, sym, ◌∙◌, arith, rules}
+use Rattle.std.proofs.Common.{◌≡◌, ℕ, suc, zero, ◌+◌, ◌-◌, ◌<◌, ◌≤◌, List, [], ◌∷◌, ◌++◌, length, take, drop, get_or, Some, refl, ap, sym, ◌∙◌, arith}
 use Rattle.std.specs.List.{slice_get, slice_range}
 use Rattle.std.proofs.Math.Nat.{sub-zero}
 use Rattle.std.proofs.Math.Seq.{take-length, drop-length, take-append_seam, drop-append_seam, get_or-append_seam, set-append_seam}
 use Rattle.std.proofs.Math.ListN.{set}
 use Rattle.std.proofs.lemmas.List.{length-append, length-drop, append_assoc, append-nil, take-append-drop}
 use Rattle.merc_base.specs.declared.place.Span.{Span}
-use Rattle.merc_tree.specs.Term.{Term, Variable, Integer, Text, Application, Terms, none, more, terms_of, list_of, applied, enclosed, with_span, span_of}
+use Rattle.merc_tree.specs.Term.{Term, Variable, Integer, Text, Application, Terms, none, more, terms_of, list_of, enclosed, with_span, span_of}
 use Rattle.merc_tree.specs.Shape.{shape_of, arguments_of}
 use Rattle.merc_tree.specs.declared.term.Node.{Node}
 use Rattle.merc_tree.specs.declared.term.Shape.{Shape}
@@ -105,14 +105,11 @@ rooted (ApplicationShape name qualifier arity) span terms enough =
       made = Application name qualifier (terms_of last) span;
       terms_are = refl;
       nodes_are = ap (λ n. root (ApplicationShape name qualifier n) span (argument_nodes (terms_of last))) count
-        ∙ ap (root (ApplicationShape name qualifier arity) span) (argument_nodes-terms_of last);
+          ∙ ap (root (ApplicationShape name qualifier arity) span) (argument_nodes-terms_of last);
     }
 
 -- a root behind the nodes of terms
 module _ (terms : List Term) (nodes : List Node) (starts : List ℕ) (are : all_nodes terms ≡ nodes) (start : starts ≡ starts_from 0 terms) where
-  abbrev front : ℕ → List Term
-  front count = take count terms
-
   front_and_back : (count : ℕ) → nodes ≡ all_nodes (take count terms) ++ all_nodes (drop count terms)
   front_and_back count =
       sym are ∙ ap all_nodes (sym (take-append-drop count terms)) ∙ all_nodes-append (take count terms) (drop count terms)

@@ -74,6 +74,7 @@ same_by_shapes term other same =
     ap first_of (ap (map bare) (sym (built-nodes_of term [])) ∙ built-bare (nodes_of term) (nodes_of other) [] [] same refl ∙ ap (map bare) (built-nodes_of other []))
 
 pub same_exactly : (nodes others : List Node) → IsTerm nodes → IsTerm others → (shapes nodes ≡ shapes others) ↔ (bare (term_of nodes) ≡ bare (term_of others))
-same_exactly nodes others is are =
-    (λ same. same_by_shapes (term_of nodes) (term_of others) (ap shapes is ∙ same ∙ ap shapes (sym are)),
-    λ same. ap shapes (sym is) ∙ sym (shapes-bare (term_of nodes)) ∙ ap (λ t. shapes (nodes_of t)) same ∙ shapes-bare (term_of others) ∙ ap shapes are)
+same_exactly nodes others is are = (
+  λ same. same_by_shapes (term_of nodes) (term_of others) (ap shapes is ∙ same ∙ ap shapes (sym are)),
+  λ same. ap shapes (sym is) ∙ sym (shapes-bare (term_of nodes)) ∙ ap (λ t. shapes (nodes_of t)) same ∙ shapes-bare (term_of others) ∙ ap shapes are,
+)

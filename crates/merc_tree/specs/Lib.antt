@@ -6,4 +6,7 @@ pub mod Nesting
 pub mod Shape
 pub mod Nodes
 pub mod TermCode
+pub mod Parts
 pub mod Examples
+pub mod TermExamples
+pub mod NodesExamples

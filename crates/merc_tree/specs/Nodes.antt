@@ -1,5 +1,5 @@
 -- How terms lie in a list of nodes: the arguments of a term one after the other, then its root.
-use Rattle.std.specs.Prelude.{◌≡◌, ℕ, suc, ◌+◌, List, [], ◌∷◌, ◌++◌, length, map, Option}
+use Rattle.std.specs.Prelude.{◌≡◌, ℕ, suc, ◌+◌, List, [], ◌∷◌, ◌++◌, length, map}
 use Rattle.merc_base.specs.declared.place.Span.{Span}
 use Rattle.merc_tree.specs.Term.{Term, Variable, Integer, Text, Application, Terms, none, more, list_of, applied, no_span}
 use Rattle.merc_tree.specs.declared.term.Node.{Node}

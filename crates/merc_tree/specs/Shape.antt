@@ -1,8 +1,8 @@
 -- What a term is at its root.
-use Rattle.std.specs.Prelude.{ℕ, List, [], length, Option}
+use Rattle.std.specs.Prelude.{List, [], length}
 use Rattle.merc_tree.specs.declared.term.Shape.{Shape}
 use Rattle.merc_tree.specs.declared.term.Shape.TheVariants.{Variable as VariableShape, Integer as IntegerShape, Text as TextShape, Application as ApplicationShape}
-use Rattle.merc_tree.specs.Term.{Term, Variable, Integer, Text, Application, Terms, none, more, list_of}
+use Rattle.merc_tree.specs.Term.{Term, Variable, Integer, Text, Application, list_of}
 
 abbrev pub shape_of : Term → Shape
 shape_of (Variable name span) = VariableShape name

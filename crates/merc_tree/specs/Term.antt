@@ -1,7 +1,6 @@
 -- Terms, as they are read from a text. Names are numbers in a table of names.
-use Rattle.std.specs.Prelude.{◌≡◌, ℕ, ◌+◌, ◌-◌, ℤ, Bool, true, false, ◌==◌, ◌&&◌, List, [], ◌∷◌, ◌++◌, length, take, drop, Option, Some, None, if◌then◌else◌, FitsSigned}
+use Rattle.std.specs.Prelude.{ℕ, ◌-◌, ℤ, List, [], ◌∷◌, ◌++◌, length, take, drop, Option, FitsSigned}
 use Rattle.std.specs.Int.{w64}
-use Rattle.std.specs.List.{list_any}
 use Rattle.merc_base.specs.declared.place.Span.{Span}
 
 -- a term is a variable, an integer, a text, or a name with arguments and perhaps a qualifier

@@ -3,6 +3,8 @@
 
 pub mod goal;
 pub mod term;
+#[cfg(test)]
+mod tests;
 pub mod word;
 
 pub use goal::{Goal, Goals, Operator, Predicate, Procedures, Symbol, Var, Vars};

@@ -6,6 +6,8 @@ ghost use Rattle.merc_tree.specs.Term.{Variable, Integer, Text, applied, enclose
 ghost use Rattle.merc_tree.specs.Shape.{shape_of, arguments_of};
 ghost use Rattle.merc_tree.specs.Nesting.{nesting};
 
+mod nesting;
+
 use merc_base::{Name, NoMemory, Span};
 use std::alloc::Global;
 use std::marker::Model;
@@ -102,7 +104,13 @@ impl Terms {
     }
 
     /// Makes the last `arity` terms the arguments of one application.
-    pub fn apply(&mut self, name: Name, qualifier: Option<Name>, arity: usize, span: Span) -> Result<(), NoMemory>
+    pub fn apply(
+        &mut self,
+        name: Name,
+        qualifier: Option<Name>,
+        arity: usize,
+        span: Span,
+    ) -> Result<(), NoMemory>
         requires { arity ≤ length self.old }
         ensures ok { OnOk result (self.new ≡ applied name qualifier arity span self.old) }
         ensures err { OnErr result (self.new ≡ self.old) }
@@ -184,7 +192,11 @@ impl Shape {
 fn start_of(starts: &[usize], number: usize, end: usize) -> usize
     ensures { result ≡ slice_index_or starts.now number end }
 {
-    if number < starts.len() { starts[number] } else { end }
+    if number < starts.len() {
+        starts[number]
+    } else {
+        end
+    }
 }
 
 // The nodes from one index to another.
@@ -287,6 +299,14 @@ impl<'a> TermRef<'a> {
             nodes: nodes_between(self.nodes, 0, self.nodes.len() - 1),
             count: root.shape.arity(),
         }
+    }
+
+    /// How deep the term is nested: 1 for a variable, a literal and a plain name, and for an application 1 more than
+    /// its deepest argument. A chain to the right of `,`, `;`, `&`, `else` or of list cells counts once.
+    pub fn nesting(&self, alloc: Global) -> Result<usize, NoMemory>
+        ensures { IfOk result (λ depth. depth ≡ nesting self.now) }
+    {
+        nesting::nesting_of(self.nodes, alloc)
     }
 
     /// Whether both are the same term, spans aside.

@@ -1,5 +1,5 @@
 -- The last argument's nodes stand last, as many as its root says.
-use Rattle.std.proofs.Common.{◌≡◌, ◌<◌, ◌≤◌, ◌-◌, ◌++◌, ◌∷◌, [], length, ap, sym, ◌∙◌, arith}
+use Rattle.std.proofs.Common.{◌<◌, ◌++◌, ◌∷◌, [], length, ap, sym, ◌∙◌, arith}
 use Rattle.std.proofs.lemmas.List.{length-append}
 use Rattle.merc_tree.specs.Nodes.{built}
 use Rattle.merc_tree.proofs.NodeLaws.{last_cut, built_from, AreTerms_from, term_from, IsTerm_from}
@@ -23,9 +23,10 @@ invariant_of-self c =
     let nodes = c.self.inside.nodes.now in
     let some : 0 < length (built nodes []) = omega (arith, c.self.invariant.1) in
     let cut = last_cut (built nodes []) nodes c.last_node.result c.self.invariant.0 some c.last_node.ensures in
-    let front = c.nodes_between-self-inside.ensures ∙ cut.front_nodes in
-    (AreTerms_from c.nodes_between-self-inside.result.now cut.front front,
-    omega (arith, c.self.invariant.1, ap length cut.are, length-append cut.front (cut.last ∷ []), ap length (built_from c.nodes_between-self-inside.result.now cut.front front)))
+    let front = c.nodes_between-self-inside.ensures ∙ cut.front_nodes in (
+      AreTerms_from c.nodes_between-self-inside.result.now cut.front front,
+      omega (arith, c.self.invariant.1, ap length cut.are, length-append cut.front (cut.last ∷ []), ap length (built_from c.nodes_between-self-inside.result.now cut.front front)),
+    )
 
 pub returns : goal.returns
 returns c =
