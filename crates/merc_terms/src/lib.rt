@@ -1,8 +1,15 @@
 //! The terms of Mercury text: the second phase of reading it, exact for every list of tokens.
 #![tactic(auto)]
 
+mod built;
 mod frame;
+mod items;
+mod moving;
 mod operators;
+mod reading;
 mod starting;
+#[cfg(test)]
+mod tests;
 
+pub use items::{read_goal, read_items};
 pub use operators::{Fixity, Operator, infix, prefix};

@@ -1,5 +1,7 @@
 //! The operator table.
-ghost use Rattle.std.specs.Prelude.{◌≡◌, ◌==◌, ◌&&◌, not, find};
+ghost use Rattle.std.specs.Prelude.{◌≡◌, ◌==◌, ◌&&◌, not, map, find};
+ghost use Rattle.std.specs.Option.{option_map};
+ghost use Rattle.merc_terms.specs.OperatorRows.{operator_of};
 ghost use Rattle.merc_terms.specs.Operators.{operators, is_infix, begins_y, ends_y, takes_two, infix_named, prefix_named, first_most, last_most};
 
 use merc_base::Name;
@@ -96,249 +98,104 @@ impl Operator {
     }
 }
 
-// The operators, the loosest first.
-const OPERATORS: [Operator; 41] = [
-    Operator {
-        name: Name::COLON_MINUS,
-        priority: 1200,
-        fixity: Fixity::Xfx,
-    },
-    Operator {
-        name: Name::COLON_MINUS,
-        priority: 1200,
-        fixity: Fixity::Fx,
-    },
-    Operator {
-        name: Name::GRAMMAR_ARROW,
-        priority: 1200,
-        fixity: Fixity::Xfx,
-    },
-    Operator {
-        name: Name::MODULE,
-        priority: 1199,
-        fixity: Fixity::Fx,
-    },
-    Operator {
-        name: Name::END_MODULE,
-        priority: 1199,
-        fixity: Fixity::Fx,
-    },
-    Operator {
-        name: Name::IMPORT_MODULE,
-        priority: 1199,
-        fixity: Fixity::Fx,
-    },
-    Operator {
-        name: Name::MODE,
-        priority: 1199,
-        fixity: Fixity::Fx,
-    },
-    Operator {
-        name: Name::TYPE,
-        priority: 1180,
-        fixity: Fixity::Fx,
-    },
-    Operator {
-        name: Name::TYPE_ARROW,
-        priority: 1179,
-        fixity: Fixity::Xfy,
-    },
-    Operator {
-        name: Name::COLON_COLON,
-        priority: 1175,
-        fixity: Fixity::Xfx,
-    },
-    Operator {
-        name: Name::EQUAL_EQUAL,
-        priority: 1175,
-        fixity: Fixity::Xfx,
-    },
-    Operator {
-        name: Name::ELSE,
-        priority: 1170,
-        fixity: Fixity::Xfy,
-    },
-    Operator {
-        name: Name::IF,
-        priority: 1160,
-        fixity: Fixity::Fx,
-    },
-    Operator {
-        name: Name::THEN,
-        priority: 1150,
-        fixity: Fixity::Xfx,
-    },
-    Operator {
-        name: Name::SEMICOLON,
-        priority: 1100,
-        fixity: Fixity::Xfy,
-    },
-    Operator {
-        name: Name::ARROW,
-        priority: 1050,
-        fixity: Fixity::Xfy,
-    },
-    Operator {
-        name: Name::AMPERSAND,
-        priority: 1025,
-        fixity: Fixity::Xfy,
-    },
-    Operator {
-        name: Name::COMMA,
-        priority: 1000,
-        fixity: Fixity::Xfy,
-    },
-    Operator {
-        name: Name::SOME,
-        priority: 950,
-        fixity: Fixity::Fxy,
-    },
-    Operator {
-        name: Name::ALL,
-        priority: 950,
-        fixity: Fixity::Fxy,
-    },
-    Operator {
-        name: Name::IMPLIES,
-        priority: 920,
-        fixity: Fixity::Xfy,
-    },
-    Operator {
-        name: Name::EQUIVALENT,
-        priority: 920,
-        fixity: Fixity::Xfy,
-    },
-    Operator {
-        name: Name::NOT,
-        priority: 900,
-        fixity: Fixity::Fy,
-    },
-    Operator {
-        name: Name::NOT_PROVABLE,
-        priority: 900,
-        fixity: Fixity::Fy,
-    },
-    Operator {
-        name: Name::PRED,
-        priority: 800,
-        fixity: Fixity::Fx,
-    },
-    Operator {
-        name: Name::FUNC,
-        priority: 800,
-        fixity: Fixity::Fx,
-    },
-    Operator {
-        name: Name::IS,
-        priority: 701,
-        fixity: Fixity::Xfx,
-    },
-    Operator {
-        name: Name::EQUAL,
-        priority: 700,
-        fixity: Fixity::Xfx,
-    },
-    Operator {
-        name: Name::NOT_EQUAL,
-        priority: 700,
-        fixity: Fixity::Xfx,
-    },
-    Operator {
-        name: Name::LESS,
-        priority: 700,
-        fixity: Fixity::Xfx,
-    },
-    Operator {
-        name: Name::GREATER,
-        priority: 700,
-        fixity: Fixity::Xfx,
-    },
-    Operator {
-        name: Name::AT_MOST,
-        priority: 700,
-        fixity: Fixity::Xfx,
-    },
-    Operator {
-        name: Name::AT_LEAST,
-        priority: 700,
-        fixity: Fixity::Xfx,
-    },
-    Operator {
-        name: Name::PLUS,
-        priority: 500,
-        fixity: Fixity::Yfx,
-    },
-    Operator {
-        name: Name::MINUS,
-        priority: 500,
-        fixity: Fixity::Yfx,
-    },
-    Operator {
-        name: Name::STAR,
-        priority: 400,
-        fixity: Fixity::Yfx,
-    },
-    Operator {
-        name: Name::SLASH_SLASH,
-        priority: 400,
-        fixity: Fixity::Yfx,
-    },
-    Operator {
-        name: Name::DIV,
-        priority: 400,
-        fixity: Fixity::Yfx,
-    },
-    Operator {
-        name: Name::MOD,
-        priority: 400,
-        fixity: Fixity::Xfx,
-    },
-    Operator {
-        name: Name::REM,
-        priority: 400,
-        fixity: Fixity::Xfx,
-    },
-    Operator {
-        name: Name::MINUS,
-        priority: 200,
-        fixity: Fixity::Fx,
-    },
+// The operators by priority, fixity and name, the loosest first.
+const ROWS: [(u32, Fixity, Name); 41] = [
+    (1200, Fixity::Xfx, Name::COLON_MINUS),
+    (1200, Fixity::Fx, Name::COLON_MINUS),
+    (1200, Fixity::Xfx, Name::GRAMMAR_ARROW),
+    (1199, Fixity::Fx, Name::MODULE),
+    (1199, Fixity::Fx, Name::END_MODULE),
+    (1199, Fixity::Fx, Name::IMPORT_MODULE),
+    (1199, Fixity::Fx, Name::MODE),
+    (1180, Fixity::Fx, Name::TYPE),
+    (1179, Fixity::Xfy, Name::TYPE_ARROW),
+    (1175, Fixity::Xfx, Name::COLON_COLON),
+    (1175, Fixity::Xfx, Name::EQUAL_EQUAL),
+    (1170, Fixity::Xfy, Name::ELSE),
+    (1160, Fixity::Fx, Name::IF),
+    (1150, Fixity::Xfx, Name::THEN),
+    (1100, Fixity::Xfy, Name::SEMICOLON),
+    (1050, Fixity::Xfy, Name::ARROW),
+    (1025, Fixity::Xfy, Name::AMPERSAND),
+    (1000, Fixity::Xfy, Name::COMMA),
+    (950, Fixity::Fxy, Name::SOME),
+    (950, Fixity::Fxy, Name::ALL),
+    (920, Fixity::Xfy, Name::IMPLIES),
+    (920, Fixity::Xfy, Name::EQUIVALENT),
+    (900, Fixity::Fy, Name::NOT),
+    (900, Fixity::Fy, Name::NOT_PROVABLE),
+    (800, Fixity::Fx, Name::PRED),
+    (800, Fixity::Fx, Name::FUNC),
+    (701, Fixity::Xfx, Name::IS),
+    (700, Fixity::Xfx, Name::EQUAL),
+    (700, Fixity::Xfx, Name::NOT_EQUAL),
+    (700, Fixity::Xfx, Name::LESS),
+    (700, Fixity::Xfx, Name::GREATER),
+    (700, Fixity::Xfx, Name::AT_MOST),
+    (700, Fixity::Xfx, Name::AT_LEAST),
+    (500, Fixity::Yfx, Name::PLUS),
+    (500, Fixity::Yfx, Name::MINUS),
+    (400, Fixity::Yfx, Name::STAR),
+    (400, Fixity::Yfx, Name::SLASH_SLASH),
+    (400, Fixity::Yfx, Name::DIV),
+    (400, Fixity::Xfx, Name::MOD),
+    (400, Fixity::Xfx, Name::REM),
+    (200, Fixity::Fx, Name::MINUS),
 ];
 
+fn operator_of(row: &(u32, Fixity, Name)) -> Operator
+    ensures { result ≡ operator_of row.now }
+{
+    let (priority, fixity, name) = *row;
+    Operator {
+        name,
+        priority,
+        fixity,
+    }
+}
+
 /// The infix operator of this name.
-#[tactic(auto, unfolding(crate::specs::Operators::operators))]
 pub fn infix(name: Name) -> Option<Operator>
     ensures { result ≡ infix_named name }
 {
-    first_infix(&OPERATORS, name)
+    infix_in(&ROWS, name)
 }
 
-fn first_infix(rows: &[Operator], name: Name) -> Option<Operator>
-    ensures { result ≡ find (λ operator. (operator.name == name) && is_infix operator.fixity) rows.now }
+// The same, among the rows of the whole table.
+fn infix_in(rows: &[(u32, Fixity, Name)], name: Name) -> Option<Operator>
+    requires { map operator_of rows.now ≡ operators }
+    ensures { result ≡ infix_named name }
 {
-    for operator in rows {
-        if operator.name == name && operator.fixity.is_infix() {
-            return Some(*operator);
-        }
-    }
-    None
+    first_infix(rows, name)
+}
+
+fn first_infix(rows: &[(u32, Fixity, Name)], name: Name) -> Option<Operator>
+    ensures { result ≡ option_map operator_of (find (λ row. (row.2 == name) && is_infix row.1) rows.now) }
+{
+    rows.iter()
+        .find(|row| row.2 == name && row.1.is_infix())
+        .map(operator_of)
 }
 
 /// The prefix operator of this name.
-#[tactic(auto, unfolding(crate::specs::Operators::operators))]
 pub fn prefix(name: Name) -> Option<Operator>
     ensures { result ≡ prefix_named name }
 {
-    first_prefix(&OPERATORS, name)
+    prefix_in(&ROWS, name)
 }
 
-fn first_prefix(rows: &[Operator], name: Name) -> Option<Operator>
-    ensures { result ≡ find (λ operator. (operator.name == name) && not (is_infix operator.fixity)) rows.now }
+// The same, among the rows of the whole table.
+fn prefix_in(rows: &[(u32, Fixity, Name)], name: Name) -> Option<Operator>
+    requires { map operator_of rows.now ≡ operators }
+    ensures { result ≡ prefix_named name }
 {
-    for operator in rows {
-        if operator.name == name && !operator.fixity.is_infix() {
-            return Some(*operator);
-        }
-    }
-    None
+    first_prefix(rows, name)
+}
+
+fn first_prefix(rows: &[(u32, Fixity, Name)], name: Name) -> Option<Operator>
+    ensures { result ≡ option_map operator_of (find (λ row. (row.2 == name) && not (is_infix row.1)) rows.now) }
+{
+    rows.iter()
+        .find(|row| row.2 == name && !row.1.is_infix())
+        .map(operator_of)
 }
