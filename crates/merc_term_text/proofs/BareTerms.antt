@@ -1,5 +1,5 @@
 -- The limits on a term do not look at its spans.
-use Rattle.std.proofs.Common.{◌≡◌, ℕ, ◌+◌, ◌≤◌, ◌==◌, ◌&&◌, Bool, true, false, Option, Some, None, cond, refl, ap, sym, ◌∙◌, subst}
+use Rattle.std.proofs.Common.{◌≡◌, ℕ, ◌+◌, ◌≤◌, ◌==◌, ◌&&◌, Some, None, cond, refl, ap, sym, ◌∙◌, subst}
 use Rattle.merc_tree.specs.Term.{Term, Terms, Variable, Integer, Text, Application, none, more, bare, bare_all, HasWords, HaveWords}
 use Rattle.merc_tree.specs.Nesting.{nesting, deepest, chain_nesting, end_nesting, greater, goes_on, are_two, is_chain}
 use Rattle.merc_terms.specs.Items.{IsAllowed}

@@ -1,19 +1,20 @@
 -- What is written of a term that was read, and a full stop, read as that term again.
-use Rattle.std.proofs.Common.{◌≡◌, ℕ, ◌≤◌, ◌&&◌, Bool, true, false, not, List, [], ◌∷◌, ◌++◌, Option, Some, None, refl, ap, sym, ◌∙◌, subst, arith, codes}
+use Rattle.std.proofs.Common.{◌≡◌, ℕ, ◌&&◌, Bool, true, false, List, [], ◌∷◌, ◌++◌, refl, ap, sym, ◌∙◌, subst, arith, codes}
+use Rattle.std.proofs.Math.Bool.{and-false}
 use Rattle.merc_base.specs.Names.{HoldsFixed}
 use Rattle.merc_tokens.specs.declared.token.Token.{Token as TokenOf}
 use Rattle.merc_tokens.specs.declared.token.TokenKind.TheVariants.{Stop}
 use Rattle.merc_tree.specs.Term.{Term, bare}
 use Rattle.merc_terms.specs.Reading.{token, Spells}
-use Rattle.merc_terms.specs.Items.{HasItems, none, item, SpellsItem, IsAllowed}
+use Rattle.merc_terms.specs.Items.{HasItems, none, item, IsAllowed}
 use Rattle.merc_term_text.specs.Pieces.{Piece, Token, kinds_of, pieces_text}
-use Rattle.merc_term_text.specs.Written.{part_of, term_text, is_comma_form, form_priority}
+use Rattle.merc_term_text.specs.Written.{part_of, term_text, is_comma_form}
 use Rattle.merc_term_text.specs.ReadsAs.{ReadsAs}
 use Rattle.merc_term_text.proofs.Parted.{HasKinds}
 use Rattle.merc_term_text.proofs.PiecesRead.{pieces_read, pieces_text-append}
 use Rattle.merc_term_text.proofs.Writable.{writable}
 use Rattle.merc_term_text.proofs.WrittenParted.{written_parted, written_spelled}
-use Rattle.merc_term_text.proofs.WrittenSpells.{Read, Reads, reads}
+use Rattle.merc_term_text.proofs.WrittenSpells.{Reads, reads}
 use Rattle.merc_term_text.proofs.TokenKinds.{kinds, take_token}
 use Rattle.merc_term_text.proofs.BareTerms.{allowed_same}
 
@@ -24,24 +25,21 @@ no_tokens : (tokens : List TokenOf) → kinds tokens ≡ [] → tokens ≡ []
 no_tokens [] e = refl
 no_tokens (first ∷ rest) e = absurd (cc)
 
-and_false : (b : Bool) → b && false ≡ false
-and_false true = refl
-and_false false = refl
-
 module _ (names : List (List ℕ)) (term : Term) (fixed : HoldsFixed names) where
   -- the tokens of these kinds are the term and its full stop
   one_item : (tokens : List TokenOf) → kinds tokens ≡ kinds_of ((part_of names term).pieces true ++ Token Stop ∷ []) → (known : Term) → IsAllowed known → bare known ≡ bare term
       → (found : Term) × HasItems tokens (found ∷ []) × (bare found ≡ bare term)
   one_item tokens same known allowed as_known =
       let written : Reads names term = reads names fixed term in
-      let read = written.whole true tokens (Token Stop ∷ []) (and_false (is_comma_form (part_of names term).form)) same refl in
+      let read = written.whole true tokens (Token Stop ∷ []) (and-false (is_comma_form (part_of names term).form)) same refl in
       let stop = take_token Stop read.rest [] read.left in
-      let behind : read.rest ≡ token Stop stop.span ∷ [] = stop.is ∙ ap (λ ts. token Stop stop.span ∷ ts) (no_tokens stop.rest stop.left) in
-      (read.found,
-      item read.found [] tokens []
-      (record { priority = read.priority; stop = stop.span; within = omega (arith, read.within, written.bounded); spelled = subst (λ ts. Spells true read.found read.priority tokens ts) behind read.spells })
-      (allowed_same known read.found (as_known ∙ sym read.same) allowed) none,
-      read.same)
+      let behind : read.rest ≡ token Stop stop.span ∷ [] = stop.is ∙ ap (λ ts. token Stop stop.span ∷ ts) (no_tokens stop.rest stop.left) in (
+        read.found,
+        item read.found [] tokens []
+            (record { priority = read.priority; stop = stop.span; within = omega (arith, read.within, written.bounded); spelled = subst (λ ts. Spells true read.found read.priority tokens ts) behind read.spells })
+            (allowed_same known read.found (as_known ∙ sym read.same) allowed) none,
+        read.same,
+      )
 
 pub reads_back : (names : List (List ℕ)) (text : List ℕ) (term : Term) → HoldsFixed names → ReadsAs names text term → ReadsAs names (term_text names term ++ codes ".") term
 reads_back names text term fixed read =

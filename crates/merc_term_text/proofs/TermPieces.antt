@@ -1,5 +1,6 @@
 -- The pieces of a term by those of its arguments in a list.
 use Rattle.std.proofs.Common.{◌≡◌, ℕ, suc, ◌+◌, Bool, Option, Some, None, length, map, List, [], ◌∷◌, ◌++◌, ◌==◌, ◌&&◌, ◌||◌, nat_lt, true, false, cond, refl, ap, sym, ◌∙◌, arith, ne_eqb}
+use Rattle.std.proofs.Math.Bool.{and-false}
 use Rattle.merc_tree.specs.Shape.{arguments_of, shape_of}
 use Rattle.merc_tree.specs.declared.term.Shape.TheVariants.{Application as ApplicationShape}
 use Rattle.merc_term_text.proofs.Table.{quantifier_priority}
@@ -10,10 +11,6 @@ use Rattle.merc_term_text.specs.Written.{Form, ListForm, InfixForm, PrefixForm, 
 use Rattle.merc_term_text.specs.Pieces.{Blank, Token, name_piece}
 use Rattle.merc_tokens.specs.declared.token.TokenKind.TheVariants.{OpenArgs, OpenList, CloseList, Comma}
 use Rattle.merc_term_text.specs.Walking.{size, sizes, sizes_of, head_pieces, arguments_pieces, is_nil_term, is_nil_shape}
-
-and_false : (b : Bool) → b && false ≡ false
-and_false true = refl
-and_false false = refl
 
 pub parts_is : (names : List (List ℕ)) (arguments : Terms) → parts_of names arguments ≡ map (part_of names) (list_of arguments)
 parts_is names none = refl
@@ -76,13 +73,13 @@ head_written names name None none = elim (name == 1) as (λ b. cond (b && true) 
 head_written names name (Some qualifier) none = refl
 head_written names name None (more first rest) =
     ap (λ (b : Bool). cond (name == 1 && b) (Token OpenList ∷ Token CloseList ∷ []) (name_piece names name ∷ []) ++ arguments_pieces (map (part_of names) (list_of (more first rest)))) (not_none (length (list_of rest)))
-    ∙ ap (λ (b : Bool). cond b (Token OpenList ∷ Token CloseList ∷ []) (name_piece names name ∷ []) ++ arguments_pieces (map (part_of names) (list_of (more first rest)))) (and_false (name == 1)) ∙ ap (λ parts. name_piece names name ∷ Token OpenArgs ∷ (part_pieces 1199 false (part_of names first) ++ other_pieces parts)) (sym (parts_is names rest))
+    ∙ ap (λ (b : Bool). cond b (Token OpenList ∷ Token CloseList ∷ []) (name_piece names name ∷ []) ++ arguments_pieces (map (part_of names) (list_of (more first rest)))) (and-false (name == 1)) ∙ ap (λ parts. name_piece names name ∷ Token OpenArgs ∷ (part_pieces 1199 false (part_of names first) ++ other_pieces parts)) (sym (parts_is names rest))
 head_written names name (Some qualifier) (more first rest) =
     ap (λ parts. qualified_pieces names name (Some qualifier) ++ (Token OpenArgs ∷ (part_pieces 1199 false (part_of names first) ++ other_pieces parts))) (sym (parts_is names rest))
 
 nil_parts : (names : List (List ℕ)) (name : ℕ) (arguments : Terms) → is_nil_shape name None (length (list_of arguments)) ≡ is_nil name None (parts_of names arguments)
 nil_parts names name none = elim (name == 1) as (λ b. b && true ≡ b) [ true ↦ refl | false ↦ refl ]
-nil_parts names name (more first rest) = ap (λ b. name == 1 && b) (not_none (length (list_of rest))) ∙ and_false (name == 1)
+nil_parts names name (more first rest) = ap (λ b. name == 1 && b) (not_none (length (list_of rest))) ∙ and-false (name == 1)
 
 tail_by : (names : List (List ℕ)) (name : ℕ) (arguments : Terms) (form : Form) → IsForm name arguments form → (form ≡ ListForm → ⊥) → is_nil name None (parts_of names arguments) ≡ false
     → bar_pieces (enclosed_if (is_enclosed 1199 false form) (formed names (is_enclosed 1199 false form) form name None (parts_of names arguments))) ≡ tail_pieces names form name None (parts_of names arguments)
@@ -131,4 +128,4 @@ pub quantifier_not_list : (operator : Operator) → QuantifierForm operator ≡ 
 quantifier_not_list operator h = cc
 
 pub no_nil : (name : ℕ) (first : Term) (others : Terms) → is_nil_term (Application name None (more first others) record { first = 0; past = 0; line = 0 }) ≡ false
-no_nil name first others = ap (λ b. name == 1 && b) (ne_eqb (suc (length (list_of others))) 0 (λ same. absurd (omega arith))) ∙ and_false (name == 1)
+no_nil name first others = ap (λ b. name == 1 && b) (ne_eqb (suc (length (list_of others))) 0 (λ same. absurd (omega arith))) ∙ and-false (name == 1)

@@ -1,5 +1,6 @@
 -- Tokens by their kinds, and what the table tells of them.
-use Rattle.std.proofs.Common.{◌≡◌, ℕ, ◌≤◌, ◌==◌, ◌&&◌, ◌||◌, not, nat_le, Bool, true, false, List, [], ◌∷◌, ◌++◌, map, Option, Some, None, is_some, is_none, slice_get, find, cond, refl, ap, sym, ◌∙◌, subst, eqb-true, leb-true, ltb-true, nat_lt, inr, length, arith}
+use Rattle.std.proofs.Common.{◌≡◌, ℕ, ◌≤◌, ◌==◌, ◌&&◌, ◌||◌, not, nat_le, Bool, true, false, List, [], ◌∷◌, map, Option, Some, None, is_some, slice_get, refl, ap, sym, ◌∙◌, eqb-true, leb-true, ltb-true, nat_lt, inr, length}
+use Rattle.std.proofs.Math.Bool.{or-true}
 use Rattle.std.specs.List.{list_all}
 use Rattle.std.specs.Option.{unwrap_or}
 use Rattle.std.specs.Str.{IsUtf8}
@@ -11,11 +12,12 @@ use Rattle.merc_base.specs.declared.place.Span.{Span}
 use Rattle.merc_value.specs.Text.{text_at, is_plain, word_operators}
 use Rattle.merc_tokens.specs.declared.token.Token.{Token}
 use Rattle.merc_tokens.specs.declared.token.TokenKind.{TokenKind}
-use Rattle.merc_tokens.specs.declared.token.TokenKind.TheVariants.{Name, Quoted}
+use Rattle.merc_tokens.specs.declared.token.TokenKind.TheVariants.{Name}
 use Rattle.merc_terms.specs.declared.operators.Operator.{Operator}
 use Rattle.merc_terms.specs.Operators.{operators, infix_named, prefix_named, takes_two, is_infix, last_most}
-use Rattle.merc_terms.specs.Reading.{token, begins_with, is_left_plain, leaves_plain}
-use Rattle.merc_term_text.proofs.Table.{found_checked, found_tested, and_first, and_second, not_true, infix_name, prefix_name}
+use Rattle.merc_terms.specs.Reading.{token, begins_with, leaves_plain}
+use Rattle.merc_term_text.proofs.Table.{found_checked, found_tested, infix_name, prefix_name}
+use Rattle.merc_term_text.proofs.Tests.{not_true, and_first, and_second}
 
 abbrev pub kinds : List Token → List TokenKind
 kinds tokens = map (λ (t : Token). t.kind) tokens
@@ -105,9 +107,10 @@ prefix_fixity name operator found = not_true (is_infix operator.fixity) (and_sec
 
 pub minus_row : (operator : Operator) → prefix_named 43 ≡ Some operator → (takes_two operator.fixity ≡ false) × (last_most operator ≡ 199)
 minus_row operator found =
-    let h = minus_by operator (prefix_name 43 operator found) (prefix_fixity 43 operator found) (prefix_checked minus_check all_minus 43 operator found) in
-    (not_true (takes_two operator.fixity) (and_first (not (takes_two operator.fixity)) (last_most operator == 199) h),
-    eqb-true (last_most operator) 199 (and_second (not (takes_two operator.fixity)) (last_most operator == 199) h))
+    let h = minus_by operator (prefix_name 43 operator found) (prefix_fixity 43 operator found) (prefix_checked minus_check all_minus 43 operator found) in (
+      not_true (takes_two operator.fixity) (and_first (not (takes_two operator.fixity)) (last_most operator == 199) h),
+      eqb-true (last_most operator) 199 (and_second (not (takes_two operator.fixity)) (last_most operator == 199) h),
+    )
 
 -- a plain name is no operator
 
@@ -180,9 +183,10 @@ unfolding name_check
 name_by names fixed operator good = known_name names fixed operator.name (slice_get fixed_names operator.name) refl good
 
 pub infix_spelled : (names : List (List ℕ)) → HoldsFixed names → (operator : Operator) → infix_named operator.name ≡ Some operator → (operator.name == 26) ≡ false → IsSpelled names (Name operator.name)
-infix_spelled names fixed operator row other =
-    (name_by names fixed operator (infix_checked name_check all_names operator.name operator row),
-    inr (ap (λ o. (is_some o || is_some (prefix_named operator.name)) && not (operator.name == 26)) row ∙ ap not other))
+infix_spelled names fixed operator row other = (
+  name_by names fixed operator (infix_checked name_check all_names operator.name operator row),
+  inr (ap (λ o. (is_some o || is_some (prefix_named operator.name)) && not (operator.name == 26)) row ∙ ap not other),
+)
 
 -- a comma is no prefix operator
 comma_check : Operator → Bool
@@ -196,16 +200,13 @@ comma_by : (operator : Operator) → is_infix operator.fixity ≡ false → comm
 unfolding comma_check
 comma_by operator prefix h = sym (ap (λ b. b || not (operator.name == 26)) prefix) ∙ h
 
-or_true_first : (a : Bool) → a || true ≡ true
-or_true_first true = refl
-or_true_first false = refl
-
 pub prefix_spelled : (names : List (List ℕ)) → HoldsFixed names → (operator : Operator) → prefix_named operator.name ≡ Some operator → IsSpelled names (Name operator.name)
-prefix_spelled names fixed operator row =
-    (name_by names fixed operator (prefix_checked name_check all_names operator.name operator row),
-    inr (ap (λ o. (is_some (infix_named operator.name) || is_some o) && not (operator.name == 26)) row
-    ∙ ap (λ b. b && not (operator.name == 26)) (or_true_first (is_some (infix_named operator.name)))
-    ∙ comma_by operator (prefix_fixity operator.name operator row) (prefix_checked comma_check all_commas operator.name operator row)))
+prefix_spelled names fixed operator row = (
+  name_by names fixed operator (prefix_checked name_check all_names operator.name operator row),
+  inr (ap (λ o. (is_some (infix_named operator.name) || is_some o) && not (operator.name == 26)) row
+      ∙ ap (λ b. b && not (operator.name == 26)) (or-true (is_some (infix_named operator.name)))
+      ∙ comma_by operator (prefix_fixity operator.name operator row) (prefix_checked comma_check all_commas operator.name operator row)),
+)
 
 minus_known : has_text (slice_get fixed_names 43) ≡ true
 unfolding fixed_names is_small

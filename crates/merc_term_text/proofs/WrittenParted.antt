@@ -1,5 +1,6 @@
 -- The pieces of a term that can be written are parted well, and their tokens can be spelled.
-use Rattle.std.proofs.Common.{◌≡◌, ℕ, ◌+◌, ◌≤◌, ◌==◌, ◌&&◌, ◌||◌, not, ℤ, pos, negsuc, Bool, true, false, List, [], ◌∷◌, ◌++◌, Option, Some, None, cond, refl, ap, sym, ◌∙◌, subst, inl, arith, append_assoc, FitsSigned}
+use Rattle.std.proofs.Common.{◌≡◌, ℕ, ◌+◌, ◌==◌, ◌&&◌, ◌||◌, ℤ, pos, negsuc, Bool, true, false, List, [], ◌∷◌, ◌++◌, Option, Some, None, cond, refl, ap, sym, ◌∙◌, subst, inl, arith, append_assoc, FitsSigned}
+use Rattle.std.proofs.Math.Bool.{or-true}
 use Rattle.std.specs.Int.{w64}
 use Rattle.std.specs.List.{AllByRecursion}
 use Rattle.merc_base.specs.Names.{HoldsFixed}
@@ -9,23 +10,16 @@ use Rattle.merc_tokens.specs.declared.token.TokenKind.{TokenKind}
 use Rattle.merc_tokens.specs.declared.token.TokenKind.TheVariants.{Name, Quoted, Var, Int, Text as TextToken, OpenArgs, Open, Close, OpenList, CloseList, Comma, Bar, Dot, Stop}
 use Rattle.merc_tree.specs.Term.{Term, Terms, Variable, Integer, Text, Application, none, more}
 use Rattle.merc_terms.specs.declared.operators.Operator.{Operator}
-use Rattle.merc_terms.specs.Operators.{infix_named, prefix_named, takes_two, first_most, last_most}
+use Rattle.merc_terms.specs.Operators.{infix_named, prefix_named, first_most, last_most}
 use Rattle.merc_term_text.specs.Pieces.{Piece, Blank, Token, kinds_of, name_piece}
-use Rattle.merc_term_text.specs.Written.{Form, ListForm, InfixForm, PrefixForm, QuantifierForm, PlainForm, form_of, form_priority, is_comma_form, is_enclosed, enclosed_if, Part, part_of, parts_of, part_pieces, operand_pieces, operator_pieces, integer_pieces, other_pieces, item_pieces, infix_pieces, prefix_pieces, quantifier_pieces, plain_pieces, constant_pieces, qualified_pieces, bar_pieces, tail_pieces, formed, is_nil}
-use Rattle.merc_term_text.proofs.Parted.{parted, may_end, begins_part, ends_operand, ends_name, touches, is_name_kind, is_integer, HasName, IsSpelled, IsWritable, AreWritable}
+use Rattle.merc_term_text.specs.Written.{Form, ListForm, PlainForm, form_of, is_enclosed, enclosed_if, part_of, parts_of, part_pieces, operand_pieces, operator_pieces, integer_pieces, other_pieces, item_pieces, infix_pieces, prefix_pieces, quantifier_pieces, plain_pieces, bar_pieces, tail_pieces, formed}
+use Rattle.merc_term_text.proofs.Parted.{parted, begins_part, ends_operand, ends_name, touches, is_integer, HasName, IsSpelled, IsWritable, AreWritable}
 use Rattle.merc_term_text.proofs.FormViews.{IsForm, is_list, is_infix, is_prefix, is_quantifier, is_plain as is_plain_form, seen}
 use Rattle.merc_term_text.specs.Walking.{is_nil_term}
 use Rattle.merc_term_text.proofs.TermPieces.{other_tail, list_tail, plain_not_list, infix_not_list, prefix_not_list, quantifier_not_list, no_nil}
-use Rattle.merc_term_text.proofs.Table.{infix_name, prefix_name, and_first, and_second}
+use Rattle.merc_term_text.proofs.Table.{infix_name, prefix_name}
 use Rattle.merc_term_text.proofs.TokenKinds.{infix_spelled, prefix_spelled, minus_spelled}
-
-both : (a b : Bool) → a ≡ true → b ≡ true → a && b ≡ true
-both true b first second = second
-both false b first second = absurd (cc)
-
-or_true : (b : Bool) → b || true ≡ true
-or_true true = refl
-or_true false = refl
+use Rattle.merc_term_text.proofs.Tests.{both, and_first, and_second}
 
 -- what may stand before a part
 pub data IsStart (before : Option TokenKind) : Type 0 where
@@ -280,8 +274,11 @@ module _ (names : List (List ℕ)) where
           (part_placed goal well_goal.placed well_goal.spelled 1200 true (Some Open) (Token Close ∷ rest) (open_parenthesis refl) fits))))
 
       quantifier_spells : AreSpelled names (quantifier_pieces commas operator (part_of names variables ∷ part_of names goal ∷ []))
-      quantifier_spells = (prefix_spelled names fixed operator row, spelled_append names bound (Blank ∷ Token Open ∷ (goals ++ Token Close ∷ [])) (part_spelled variables well_variables.placed well_variables.spelled 0 commas)
-          (tt, spelled_append names goals (Token Close ∷ []) (part_spelled goal well_goal.placed well_goal.spelled 1200 true) (tt, tt)))
+      quantifier_spells = (
+        prefix_spelled names fixed operator row,
+        spelled_append names bound (Blank ∷ Token Open ∷ (goals ++ Token Close ∷ [])) (part_spelled variables well_variables.placed well_variables.spelled 0 commas)
+            (tt, spelled_append names goals (Token Close ∷ []) (part_spelled goal well_goal.placed well_goal.spelled 1200 true) (tt, tt)),
+      )
 
   -- variables and literals
 
@@ -292,7 +289,7 @@ module _ (names : List (List ℕ)) where
   text_well name span writable = barred (Text name span) (λ commas before rest start well. started names before (TextToken name) rest start refl (behind_text names name rest well)) (λ commas. (writable, tt)) refl
 
   sign_touches : (value : ℕ) → touches names (Name 43) (Int value) ≡ true
-  sign_touches value = or_true (is_plain (text_at names 43) && false)
+  sign_touches value = or-true (is_plain (text_at names 43) && false)
 
   integer_placed : (value : ℤ) → ArePlaced names (integer_pieces value)
   integer_placed (pos n) before rest start well = started names before (Int n) rest start refl (behind_integer names n rest well)
@@ -315,20 +312,23 @@ module _ (names : List (List ℕ)) where
 
   plain_well : (name : ℕ) (arguments : Terms) → HasName names name → AreWell names arguments → ArePlaced names (plain_pieces names name None (parts_of names arguments)) × AreSpelled names (plain_pieces names name None (parts_of names arguments))
   plain_well name none known all = constant_by name (name == 1) known
-  plain_well name (more first others) known all =
-      ((λ before rest start well. named names name before (Token OpenArgs ∷ (inner first others all.0 all.1 ++ rest)) start (inner_placed first others all.0 all.1 (Some OpenArgs) rest (open_arguments refl) well)),
-      name_spelled names name (Token OpenArgs ∷ inner first others all.0 all.1) known (tt, inner_spelled first others all.0 all.1))
+  plain_well name (more first others) known all = (
+    (λ before rest start well. named names name before (Token OpenArgs ∷ (inner first others all.0 all.1 ++ rest)) start (inner_placed first others all.0 all.1 (Some OpenArgs) rest (open_arguments refl) well)),
+    name_spelled names name (Token OpenArgs ∷ inner first others all.0 all.1) known (tt, inner_spelled first others all.0 all.1),
+  )
 
   qualified_well : (name qualifier : ℕ) (arguments : Terms) → HasName names name → HasName names qualifier → AreWell names arguments
       → ArePlaced names (plain_pieces names name (Some qualifier) (parts_of names arguments)) × AreSpelled names (plain_pieces names name (Some qualifier) (parts_of names arguments))
-  qualified_well name qualifier none known qualified all =
-      ((λ before rest start well. named names qualifier before (Token Dot ∷ name_piece names name ∷ rest) start (marked names name rest (behind_quoted names name rest well))),
-      name_spelled names qualifier (Token Dot ∷ name_piece names name ∷ []) qualified (tt, name_spelled names name [] known tt))
-  qualified_well name qualifier (more first others) known qualified all =
-      ((λ before rest start well. named names qualifier before (Token Dot ∷ name_piece names name ∷ Token OpenArgs ∷ (inner first others all.0 all.1 ++ rest)) start
-      (marked names name (Token OpenArgs ∷ (inner first others all.0 all.1 ++ rest)) (inner_placed first others all.0 all.1 (Some OpenArgs) rest (open_arguments refl) well))),
-      name_spelled names qualifier (Token Dot ∷ name_piece names name ∷ Token OpenArgs ∷ inner first others all.0 all.1) qualified
-      (tt, name_spelled names name (Token OpenArgs ∷ inner first others all.0 all.1) known (tt, inner_spelled first others all.0 all.1)))
+  qualified_well name qualifier none known qualified all = (
+    (λ before rest start well. named names qualifier before (Token Dot ∷ name_piece names name ∷ rest) start (marked names name rest (behind_quoted names name rest well))),
+    name_spelled names qualifier (Token Dot ∷ name_piece names name ∷ []) qualified (tt, name_spelled names name [] known tt),
+  )
+  qualified_well name qualifier (more first others) known qualified all = (
+    (λ before rest start well. named names qualifier before (Token Dot ∷ name_piece names name ∷ Token OpenArgs ∷ (inner first others all.0 all.1 ++ rest)) start
+        (marked names name (Token OpenArgs ∷ (inner first others all.0 all.1 ++ rest)) (inner_placed first others all.0 all.1 (Some OpenArgs) rest (open_arguments refl) well))),
+    name_spelled names qualifier (Token Dot ∷ name_piece names name ∷ Token OpenArgs ∷ inner first others all.0 all.1) qualified
+        (tt, name_spelled names name (Token OpenArgs ∷ inner first others all.0 all.1) known (tt, inner_spelled first others all.0 all.1)),
+  )
 
   -- a name with its arguments in its form
 

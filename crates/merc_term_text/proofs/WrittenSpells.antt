@@ -1,22 +1,24 @@
 -- Tokens of the kinds that a term is written with spell that term.
-use Rattle.std.proofs.Common.{◌≡◌, ℕ, zero, suc, ◌+◌, ◌-◌, ◌≤◌, ◌<◌, ◌==◌, ◌&&◌, ◌||◌, not, nat_lt, ℤ, pos, negsuc, neg_ℤ, Bool, true, false, List, [], ◌∷◌, ◌++◌, map, Option, Some, None, is_some, is_none, cond, refl, ap, sym, ◌∙◌, subst, eqb-true, ltb-false, le-ltb, ne_eqb, length, arith, append_assoc, add-one}
+use Rattle.std.proofs.Common.{◌≡◌, ℕ, ◌+◌, ◌≤◌, ◌<◌, ◌==◌, ◌&&◌, ◌||◌, not, nat_lt, ℤ, pos, negsuc, neg_ℤ, Bool, true, false, List, [], ◌∷◌, ◌++◌, Option, Some, None, is_some, is_none, cond, refl, ap, sym, ◌∙◌, subst, eqb-true, ltb-false, le-ltb, arith, append_assoc, add-one}
+use Rattle.std.proofs.Math.Bool.{and-false, or-false, or-true}
 use Rattle.merc_base.specs.Names.{HoldsFixed}
 use Rattle.merc_base.specs.declared.place.Span.{Span}
 use Rattle.merc_value.specs.Text.{text_at, is_plain}
 use Rattle.merc_tokens.specs.declared.token.Token.{Token as TokenOf}
 use Rattle.merc_tokens.specs.declared.token.TokenKind.{TokenKind}
-use Rattle.merc_tokens.specs.declared.token.TokenKind.TheVariants.{Name, Quoted, Var, Int, Text as TextToken, OpenArgs, Open, Close, OpenList, CloseList, Comma, Bar, Dot, Stop}
-use Rattle.merc_tree.specs.Term.{Term, Terms, Variable, Integer, Text, Application, none, more, bare, bare_all, list_of, no_span, span_of, with_span}
+use Rattle.merc_tokens.specs.declared.token.TokenKind.TheVariants.{Name, Quoted, Var, Int, Text as TextToken, OpenArgs, Open, Close, OpenList, CloseList, Comma, Bar, Dot}
+use Rattle.merc_tree.specs.Term.{Term, Terms, Variable, Integer, Text, Application, none, more, bare, bare_all, no_span, span_of, with_span}
 use Rattle.merc_terms.specs.declared.operators.Operator.{Operator}
 use Rattle.merc_terms.specs.Operators.{infix_named, prefix_named, takes_two, first_most, last_most}
-use Rattle.merc_terms.specs.Reading.{token, joined, begins_with, is_integer, goes_on_name, is_infix_name, leaves_plain, is_left_plain, is_sign, IsName, plain, left_plain, quoted, IsQualified, unquoted, IsOpen, alone, IsPrefix, IsInfix, name, comma, cell, nil, Spells, variable, integer, negative, text, constant, qualified, application, qualified_application, empty_list, list, parenthesis, before, quantifier, between, SpellsArguments, last_argument, argument, SpellsItems, last_item, items_tail, item}
+use Rattle.merc_terms.specs.Reading.{token, joined, begins_with, is_integer, goes_on_name, is_infix_name, leaves_plain, is_left_plain, IsName, plain, quoted, IsQualified, unquoted, alone, IsInfix, name, comma, cell, nil, Spells, variable, integer, negative, text, constant, qualified, application, qualified_application, empty_list, list, parenthesis, before, quantifier, between, SpellsArguments, last_argument, argument, SpellsItems, last_item, items_tail, item}
 use Rattle.merc_term_text.specs.Pieces.{Piece, Blank, Token, kinds_of, name_piece}
-use Rattle.merc_term_text.specs.Written.{Form, ListForm, InfixForm, PrefixForm, QuantifierForm, PlainForm, form_of, form_priority, is_comma_form, is_enclosed, enclosed_if, Part, part_of, parts_of, part_pieces, operand_pieces, operator_pieces, integer_pieces, other_pieces, item_pieces, infix_pieces, prefix_pieces, quantifier_pieces, plain_pieces, constant_pieces, qualified_pieces, bar_pieces, tail_pieces, formed, is_nil}
+use Rattle.merc_term_text.specs.Written.{Form, ListForm, InfixForm, PrefixForm, QuantifierForm, PlainForm, form_of, form_priority, is_comma_form, is_enclosed, enclosed_if, Part, part_of, parts_of, part_pieces, operand_pieces, operator_pieces, integer_pieces, other_pieces, item_pieces, infix_pieces, prefix_pieces, quantifier_pieces, plain_pieces, bar_pieces, tail_pieces, formed, is_nil}
 use Rattle.merc_term_text.proofs.FormViews.{IsForm, is_list, is_infix, is_prefix, is_quantifier, is_plain as is_plain_form, seen}
 use Rattle.merc_term_text.specs.Walking.{is_nil_term}
 use Rattle.merc_term_text.proofs.TermPieces.{other_tail, list_tail, plain_not_list, infix_not_list, prefix_not_list, quantifier_not_list, no_nil}
 use Rattle.merc_term_text.proofs.Table.{infix_name, prefix_name}
-use Rattle.merc_term_text.proofs.TokenKinds.{kinds, Taken, take_token, begins, begins_is, IsBounded, infix_bounded, prefix_bounded, minus_row, no_infix, no_prefix, minus_kept}
+use Rattle.merc_term_text.proofs.TokenKinds.{kinds, take_token, begins, begins_is, infix_bounded, prefix_bounded, minus_row, no_infix, no_prefix, minus_kept}
+use Rattle.merc_term_text.proofs.Tests.{or_first, or_second, true_not_false}
 
 abbrev pub is_integer_term : Term → Bool
 is_integer_term (Variable name' span) = false
@@ -76,26 +78,6 @@ AllRead names (more first rest) = Reads names first × AllRead names rest
 
 -- tests
 
-and_false : (b : Bool) → b && false ≡ false
-and_false true = refl
-and_false false = refl
-
-or_true : (b : Bool) → b || true ≡ true
-or_true true = refl
-or_true false = refl
-
-or_false : (b : Bool) → b || false ≡ b
-or_false true = refl
-or_false false = refl
-
-or_first : (a b : Bool) → a || b ≡ false → a ≡ false
-or_first true b h = absurd (cc)
-or_first false b h = refl
-
-or_second : (a b : Bool) → a || b ≡ false → b ≡ false
-or_second true b h = absurd (cc)
-or_second false b h = h
-
 -- parts of a reading
 
 raised : {commas : Bool} {term : Term} {most : ℕ} {tokens : List TokenOf} {after : List Piece} → Read commas term most tokens after → (greater : ℕ) → most ≤ greater → Read commas term greater tokens after
@@ -146,10 +128,10 @@ module _ (names : List (List ℕ)) (term : Term) (bounded : form_priority (part_
       → kinds tokens ≡ kinds_of (enclosed_if enclosed ((part_of names term).pieces (commas || enclosed)) ++ after) → begins goes_on_name (kinds_of after) ≡ false → Read commas term max tokens after
   part_by max commas true e tokens after same fits =
       raised (enclosed_read commas term ((part_of names term).pieces (commas || true)) (λ tokens' after' same' fits'.
-      raised (whole true tokens' after' (and_false (is_comma_form (part_of names term).form)) (same' ∙ ap (λ b. kinds_of ((part_of names term).pieces b ++ after')) (or_true commas)) fits') 1200 bounded) tokens after same) max (omega arith)
+      raised (whole true tokens' after' (and-false (is_comma_form (part_of names term).form)) (same' ∙ ap (λ b. kinds_of ((part_of names term).pieces b ++ after')) (or-true commas)) fits') 1200 bounded) tokens after same) max (omega arith)
   part_by max commas false e tokens after same fits =
       raised (whole commas tokens after (or_second (nat_lt max (form_priority (part_of names term).form)) (is_comma_form (part_of names term).form && not commas) e)
-      (same ∙ ap (λ b. kinds_of ((part_of names term).pieces b ++ after)) (or_false commas)) fits) max
+      (same ∙ ap (λ b. kinds_of ((part_of names term).pieces b ++ after)) (or-false commas)) fits) max
       (ltb-false max (form_priority (part_of names term).form) (or_first (nat_lt max (form_priority (part_of names term).form)) (is_comma_form (part_of names term).form && not commas) e))
 
   part_from : (max : ℕ) (commas : Bool) (tokens : List TokenOf) (after : List Piece)
@@ -205,9 +187,6 @@ text_read name' span commas tokens after chain same fits =
 
 negated : (n : ℕ) → neg_ℤ (pos (n + 1)) ≡ negsuc n
 negated n = ap (λ (k : ℕ). neg_ℤ (pos k)) (add-one n)
-
-true_not_false : true ≡ false → ⊥
-true_not_false h = cc
 
 integer_read : (value : ℤ) (span : Span) → ReadsWhole (Integer value span) 0 false (λ commas. integer_pieces value)
 integer_read (pos n) span commas tokens after chain same fits =
@@ -308,8 +287,8 @@ module _ (names : List (List ℕ)) (name' : ℕ) (operator : Operator) (left rig
       let lefts : List Piece = part_pieces (first_most operator) commas (part_of names left) in
       let rights : List Piece = part_pieces (last_most operator) commas (part_of names right) in
       let one = part_read names left reads_left (first_most operator) commas tokens (operator_pieces operator ++ (rights ++ after))
-          (same ∙ ap kinds_of (append_assoc lefts (operator_pieces operator ++ rights) after ∙ ap (λ t. lefts ++ t) (append_assoc (operator_pieces operator) rights after)))
-          (operator_first operator (rights ++ after)) in
+      (same ∙ ap kinds_of (append_assoc lefts (operator_pieces operator ++ rights) after ∙ ap (λ t. lefts ++ t) (append_assoc (operator_pieces operator) rights after)))
+      (operator_first operator (rights ++ after)) in
       let between' = operator_by commas name' operator (ap infix_named named ∙ row) (operator.name == 26) refl chain one.rest (rights ++ after) one.left in
       let two = part_read names right reads_right (last_most operator) commas between'.rest after between'.left fits in
       record {
@@ -353,7 +332,7 @@ module _ (names : List (List ℕ)) (max : ℕ) (commas : Bool) where
   operand_read (Application name' qualifier arguments span) reads tokens after same fits = parted_operand (Application name' qualifier arguments span) reads refl tokens after same fits
   operand_read (Integer value span) reads tokens after same fits =
       let inner : (tokens' : List TokenOf) (after' : List Piece) → kinds tokens' ≡ kinds_of (part_pieces max commas (part_of names (Integer value span)) ++ after') → begins goes_on_name (kinds_of after') ≡ false → Read true (Integer value span) 1200 tokens' after' =
-          λ tokens' after' same' fits'. raised (integer_read value span true tokens' after' refl (same' ∙ ap (λ b. kinds_of (enclosed_if b (integer_pieces value) ++ after')) (never_enclosed max commas)) fits') 1200 (omega arith) in
+      λ tokens' after' same' fits'. raised (integer_read value span true tokens' after' refl (same' ∙ ap (λ b. kinds_of (enclosed_if b (integer_pieces value) ++ after')) (never_enclosed max commas)) fits') 1200 (omega arith) in
       let open' = take_token Open tokens (kinds_of ((part_pieces max commas (part_of names (Integer value span)) ++ Token Close ∷ []) ++ after)) same in
       record {
         read = raised (enclosed_read commas (Integer value span) (part_pieces max commas (part_of names (Integer value span))) inner tokens after same) max (omega arith);
@@ -387,7 +366,7 @@ module _ (names : List (List ℕ)) (name' : ℕ) (operator : Operator) (operand 
             one inner.read.spells inner.read.within);
         left = inner.read.left;
         same = ap (λ (n : ℕ). Application n None (more (bare inner.read.found) none) no_span) named ∙ ap (λ t. Application name' None (more t none) no_span) inner.read.same;
-        starts = ap is_left_plain first.is ∙ (ap (λ o. is_some (infix_named operator.name) && is_none o) row' ∙ and_false (is_some (infix_named operator.name)));
+        starts = ap is_left_plain first.is ∙ (ap (λ o. is_some (infix_named operator.name) && is_none o) row' ∙ and-false (is_some (infix_named operator.name)));
         unsigned = λ low other. ap (begins_with is_integer) first.is;
       }
 
@@ -422,7 +401,7 @@ module _ (names : List (List ℕ)) (name' : ℕ) (operator : Operator) (variable
         same = ap (λ (n : ℕ). Application n None (more (bare one.found) (more (bare last.found) none)) no_span) named
             ∙ ap (λ t. Application name' None (more t (more (bare last.found) none)) no_span) one.same
             ∙ ap (λ t. Application name' None (more (bare variables) (more t none)) no_span) last.same;
-        starts = ap is_left_plain first.is ∙ (ap (λ o. is_some (infix_named operator.name) && is_none o) row' ∙ and_false (is_some (infix_named operator.name)));
+        starts = ap is_left_plain first.is ∙ (ap (λ o. is_some (infix_named operator.name) && is_none o) row' ∙ and-false (is_some (infix_named operator.name)));
         unsigned = λ low other. ap (begins_with is_integer) first.is;
       }
 
@@ -444,7 +423,7 @@ arguments_read names first none reads all tokens after same =
 arguments_read names first (more second others) reads all tokens after same =
     let behind : List Piece = part_pieces 1199 false (part_of names second) ++ other_pieces (parts_of names others) in
     let one = part_read names first reads 1199 false tokens (Token Comma ∷ Blank ∷ (behind ++ after))
-        (same ∙ ap kinds_of (append_assoc (part_pieces 1199 false (part_of names first)) (Token Comma ∷ Blank ∷ behind) after)) refl in
+    (same ∙ ap kinds_of (append_assoc (part_pieces 1199 false (part_of names first)) (Token Comma ∷ Blank ∷ behind) after)) refl in
     let mark = take_token Comma one.rest (kinds_of (behind ++ after)) one.left in
     let inner = arguments_read names second others all.0 all.1 mark.rest after mark.left in
     record {
@@ -476,7 +455,7 @@ module _ (names : List (List ℕ)) (head tail : Term) (reads_head : Reads names 
   items_read : (tokens : List TokenOf) (after : List Piece) → kinds tokens ≡ kinds_of (item_pieces (part_of names head ∷ part_of names tail ∷ []) ++ Token CloseList ∷ after) → ReadItems head tail tokens after
   items_read tokens after same =
       let one = part_read names head reads_head 1199 false tokens ((part_of names tail).tail ++ Token CloseList ∷ after)
-          (same ∙ ap kinds_of (append_assoc (part_pieces 1199 false (part_of names head)) (part_of names tail).tail (Token CloseList ∷ after))) (reads_tail.tail_first after) in
+      (same ∙ ap kinds_of (append_assoc (part_pieces 1199 false (part_of names head)) (part_of names tail).tail (Token CloseList ∷ after))) (reads_tail.tail_first after) in
       let items = reads_tail.tail one.found one.priority tokens one.rest after one.spells one.within one.left in
       record {
         found = items.found;
@@ -599,7 +578,7 @@ module _ (names : List (List ℕ)) (fixed : HoldsFixed names) (name' qualifier :
         let open' = take_token OpenArgs last.rest (kinds_of (pieces ++ after)) last.left in
         let arguments = arguments_read names first others reads all open'.rest after open'.left in
         let rest_is : start.rest ≡ token Dot mark.span ∷ token last.kind last.span ∷ token OpenArgs open'.span ∷ open'.rest =
-            mark.is ∙ ap (λ ts. token Dot mark.span ∷ ts) (last.is ∙ ap (λ ts. token last.kind last.span ∷ ts) open'.is) in
+        mark.is ∙ ap (λ ts. token Dot mark.span ∷ ts) (last.is ∙ ap (λ ts. token last.kind last.span ∷ ts) open'.is) in
         record {
           found = Application name' (Some qualifier) arguments.found (joined start.span arguments.close);
           priority = 0;

@@ -1,9 +1,9 @@
 -- Worked examples of how terms are written, which the prover computes, and false statements that it refutes.
-use Rattle.std.specs.Prelude.{◌≡◌, ℕ, pos, negsuc, List, [], ◌∷◌, ◌++◌, Option, Some, None, codes, refl}
+use Rattle.std.specs.Prelude.{◌≡◌, ℕ, pos, negsuc, List, [], ◌∷◌, ◌++◌, Some, None, codes, refl}
 use Rattle.std.specs.Fmt.{digits}
 use Rattle.merc_base.specs.Names.{fixed_names}
 use Rattle.merc_value.specs.Text.{word_operators}
-use Rattle.merc_tree.specs.Term.{Term, Terms, Variable, Integer, Text, Application, none, more, no_span}
+use Rattle.merc_tree.specs.Term.{Term, Variable, Integer, Application, none, more, no_span}
 use Rattle.merc_terms.specs.Operators.{operators}
 use Rattle.merc_term_text.specs.Written.{term_text}
 

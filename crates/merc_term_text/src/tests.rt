@@ -74,7 +74,10 @@ fn writes_operators(rt: HostRuntime) -> Result<(), Fail> {
         Step::Apply(Name::COLON_MINUS, 2),
     ];
     let text = written(alloc, &names, &steps)?;
-    assert_eq!(rt; text.bytes(), b"X :- some [X] (\\+ X ; - (2)), X".as_slice());
+    assert_eq!(rt;
+        text.bytes(),
+        b"X :- some [X] (\\+ X ; - (2)), X".as_slice()
+    );
     Ok(())
 }
 
@@ -97,6 +100,9 @@ fn writes_names_and_lists(rt: HostRuntime) -> Result<(), Fail> {
         Step::Apply(it, 2),
     ];
     let text = written(alloc, &names, &steps)?;
-    assert_eq!(rt; text.bytes(), b"'It'([-1, list.'It'((\"It\", 'mode')) | X], 1)".as_slice());
+    assert_eq!(rt;
+        text.bytes(),
+        b"'It'([-1, list.'It'((\"It\", 'mode')) | X], 1)".as_slice()
+    );
     Ok(())
 }
