@@ -7,6 +7,7 @@ pub mod WalkLemmas
 pub mod Table
 pub mod IntegerText
 pub mod TokenKinds
+pub mod OperatorFacts
 pub mod WrittenSpells
 pub mod PartedExamples
 pub mod Utf8Parts

@@ -1,5 +1,5 @@
 -- What is written of a term that was read, and a full stop, read as that term again.
-use Rattle.std.proofs.Common.{◌≡◌, ℕ, ◌&&◌, Bool, true, false, List, [], ◌∷◌, ◌++◌, refl, ap, sym, ◌∙◌, subst, arith, codes}
+use Rattle.std.proofs.Common.{◌≡◌, ℕ, true, List, [], ◌∷◌, ◌++◌, refl, ap, sym, ◌∙◌, subst, arith, codes}
 use Rattle.std.proofs.Math.Bool.{and-false}
 use Rattle.merc_base.specs.Names.{HoldsFixed}
 use Rattle.merc_tokens.specs.declared.token.Token.{Token as TokenOf}

@@ -17,7 +17,8 @@ use Rattle.merc_term_text.proofs.FormViews.{IsForm, is_list, is_infix, is_prefix
 use Rattle.merc_term_text.specs.Walking.{is_nil_term}
 use Rattle.merc_term_text.proofs.TermPieces.{other_tail, list_tail, plain_not_list, infix_not_list, prefix_not_list, quantifier_not_list, no_nil}
 use Rattle.merc_term_text.proofs.Table.{infix_name, prefix_name}
-use Rattle.merc_term_text.proofs.TokenKinds.{kinds, take_token, begins, begins_is, infix_bounded, prefix_bounded, minus_row, no_infix, no_prefix, minus_kept}
+use Rattle.merc_term_text.proofs.TokenKinds.{kinds, take_token, begins, begins_is}
+use Rattle.merc_term_text.proofs.OperatorFacts.{infix_bounded, prefix_bounded, minus_row, no_infix, no_prefix, minus_kept}
 use Rattle.merc_term_text.proofs.Tests.{or_first, or_second, true_not_false}
 
 abbrev pub is_integer_term : Term → Bool
