@@ -1,4 +1,4 @@
-pub mod Tests
+pub mod BoolLaws
 pub mod Parted
 pub mod Forms
 pub mod FormViews

@@ -14,7 +14,7 @@ use Rattle.merc_terms.specs.declared.operators.Operator.{Operator}
 use Rattle.merc_terms.specs.Operators.{operators, infix_named, prefix_named, takes_two, is_infix, last_most}
 use Rattle.merc_terms.specs.Reading.{leaves_plain}
 use Rattle.merc_term_text.proofs.Table.{found_checked, found_tested, infix_name, prefix_name}
-use Rattle.merc_term_text.proofs.Tests.{not_true, and_first, and_second}
+use Rattle.merc_term_text.proofs.BoolLaws.{not_true, and_first, and_second}
 
 -- the rows of the table
 

@@ -3,7 +3,7 @@ use Rattle.std.proofs.Common.{◌≡◌, ℕ, ◌==◌, ◌&&◌, ◌||◌, not,
 use Rattle.std.specs.List.{list_all}
 use Rattle.merc_terms.specs.declared.operators.Operator.{Operator}
 use Rattle.merc_terms.specs.Operators.{operators, infix_named, prefix_named, takes_two, is_infix}
-use Rattle.merc_term_text.proofs.Tests.{and_first, and_second}
+use Rattle.merc_term_text.proofs.BoolLaws.{and_first, and_second}
 
 pub found_checked : (test check : Operator → Bool) (rows : List Operator) (operator : Operator) → list_all check rows ≡ true → find test rows ≡ Some operator → check operator ≡ true
 found_checked test check [] operator all found = absurd (cc)

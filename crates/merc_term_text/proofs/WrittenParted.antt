@@ -19,7 +19,7 @@ use Rattle.merc_term_text.specs.Walking.{is_nil_term}
 use Rattle.merc_term_text.proofs.TermPieces.{other_tail, list_tail, plain_not_list, infix_not_list, prefix_not_list, quantifier_not_list, no_nil}
 use Rattle.merc_term_text.proofs.Table.{infix_name, prefix_name}
 use Rattle.merc_term_text.proofs.OperatorFacts.{infix_spelled, prefix_spelled, minus_spelled}
-use Rattle.merc_term_text.proofs.Tests.{both, and_first, and_second}
+use Rattle.merc_term_text.proofs.BoolLaws.{both, and_first, and_second}
 
 -- what may stand before a part
 pub data IsStart (before : Option TokenKind) : Type 0 where

@@ -19,7 +19,7 @@ use Rattle.merc_term_text.proofs.TermPieces.{other_tail, list_tail, plain_not_li
 use Rattle.merc_term_text.proofs.Table.{infix_name, prefix_name}
 use Rattle.merc_term_text.proofs.TokenKinds.{kinds, take_token, begins, begins_is}
 use Rattle.merc_term_text.proofs.OperatorFacts.{infix_bounded, prefix_bounded, minus_row, no_infix, no_prefix, minus_kept}
-use Rattle.merc_term_text.proofs.Tests.{or_first, or_second, true_not_false}
+use Rattle.merc_term_text.proofs.BoolLaws.{or_first, or_second, true_not_false}
 
 abbrev pub is_integer_term : Term → Bool
 is_integer_term (Variable name' span) = false
