@@ -1,4 +1,14 @@
+pub mod BoolLaws
 pub mod Parted
+pub mod Forms
+pub mod FormViews
+pub mod TermPieces
+pub mod WalkLemmas
+pub mod Table
+pub mod IntegerText
+pub mod TokenKinds
+pub mod OperatorFacts
+pub mod WrittenSpells
 pub mod PartedExamples
 pub mod Utf8Parts
 pub mod EscapedReads
@@ -12,3 +22,6 @@ pub mod PiecesRead
 pub mod PiecesValid
 pub mod TokensKnown
 pub mod Writable
+pub mod WrittenParted
+pub mod BareTerms
+pub mod ReadsBack

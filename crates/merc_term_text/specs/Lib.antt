@@ -1,3 +1,5 @@
 pub mod Pieces
 pub mod Written
 pub mod ReadsAs
+pub mod Walking
+pub mod WrittenExamples

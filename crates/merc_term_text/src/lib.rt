@@ -1,2 +1,10 @@
 //! The text of a term, which reads as that term again.
 #![tactic(auto)]
+
+mod form;
+#[cfg(test)]
+mod tests;
+mod work;
+pub mod writing;
+
+pub use writing::write_term;

@@ -12,3 +12,4 @@ mod starting;
 mod tests;
 
 pub use items::{read_goal, read_items};
+pub use operators::{Fixity, Operator, infix, prefix};

@@ -64,7 +64,7 @@ impl Fixity {
     }
 
     /// Whether a prefix operator takes two operands.
-    pub(crate) fn takes_two(&self) -> bool
+    pub fn takes_two(&self) -> bool
         ensures { result ≡ takes_two self.now }
     {
         match self {
@@ -76,7 +76,7 @@ impl Fixity {
 
 impl Operator {
     /// The greatest priority of the first of two operands.
-    pub(crate) fn first_most(&self) -> u32
+    pub fn first_most(&self) -> u32
         ensures { result ≡ first_most self.now }
     {
         if self.fixity.begins_y() {
@@ -87,7 +87,7 @@ impl Operator {
     }
 
     /// The greatest priority of the last operand, which is the only one where there is one.
-    pub(crate) fn last_most(&self) -> u32
+    pub fn last_most(&self) -> u32
         ensures { result ≡ last_most self.now }
     {
         if self.fixity.ends_y() {
@@ -155,7 +155,7 @@ fn operator_of(row: &(u32, Fixity, Name)) -> Operator
 }
 
 /// The infix operator of this name.
-pub(crate) fn infix(name: Name) -> Option<Operator>
+pub fn infix(name: Name) -> Option<Operator>
     ensures { result ≡ infix_named name }
 {
     infix_in(&ROWS, name)
@@ -178,7 +178,7 @@ fn first_infix(rows: &[(u32, Fixity, Name)], name: Name) -> Option<Operator>
 }
 
 /// The prefix operator of this name.
-pub(crate) fn prefix(name: Name) -> Option<Operator>
+pub fn prefix(name: Name) -> Option<Operator>
     ensures { result ≡ prefix_named name }
 {
     prefix_in(&ROWS, name)

@@ -11,6 +11,7 @@ pub mod word;
 pub mod writing;
 
 pub use block::Block;
+pub use quoting::{is_plain, quoted, text_of};
 pub use sharing::equal;
 pub use word::Word;
 pub use writing::write_text;

@@ -28,15 +28,16 @@ const WORD_OPERATORS: [&[u8]; 17] = [
     b"rem",
 ];
 
-// The text of a name, which is empty where the table does not hold the name.
-pub(crate) fn text_of<'a>(names: &'a Names, name: Name) -> &'a [u8]
+/// The text of a name, which is empty where the table does not hold the name.
+pub fn text_of<'a>(names: &'a Names, name: Name) -> &'a [u8]
     ensures { result.now ≡ text_at names.now name }
 {
     names.text(name).unwrap_or(b"")
 }
 
-// A text within quotes.
-pub(crate) fn quoted(alloc: Global, quote: u8, text: &[u8]) -> Result<Text, NoMemory>
+/// A text within quotes of this byte: a backslash stands before that byte and a backslash, and a line end and a tab are
+/// written as `\n` and `\t`.
+pub fn quoted(alloc: Global, quote: u8, text: &[u8]) -> Result<Text, NoMemory>
     ensures { IfOk result (λ written. written ≡ quoted quote text.now) }
 {
     let mut written = Text::new(alloc);
@@ -73,9 +74,10 @@ pub(crate) fn name_text(alloc: Global, text: &[u8]) -> Result<Text, NoMemory>
     }
 }
 
-// Whether a name with this text needs no quotes.
+/// Whether a name with this text needs no quotes: a lower-case letter followed by letters, digits and `_`, and no
+/// operator.
 #[tactic(auto, unfolding(crate::specs::Text::word_operators))]
-fn is_plain(text: &[u8]) -> bool
+pub fn is_plain(text: &[u8]) -> bool
     ensures { result ≡ is_plain text.now }
 {
     is_word(text) && !is_word_among(text, &WORD_OPERATORS)
