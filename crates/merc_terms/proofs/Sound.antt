@@ -300,7 +300,6 @@ first_by-sound : (parts : Reading) → IsSoundTail (tail_by parts) → IsSoundTe
     → (read : Read) → closed_by parts (FirstOperand operator span) bound inner ≡ Some read → IsRead bound old tokens read
 first_by-sound parts tail term operator span bound built old tokens rest awaits inner is read same = go (begins_with is_infix_name inner.rest) refl same
   where
-
     go : (b : Bool) → begins_with is_infix_name inner.rest ≡ b
         → (if b then None else second_by parts operator span bound (term_by parts (operand_bound (last_most operator) bound) inner.built inner.rest)) ≡ Some read → IsRead bound old tokens read
     go true begins this = cc

@@ -1,5 +1,5 @@
 -- The operator table.
-use Rattle.std.specs.Prelude.{ℕ, ◌-◌, Bool, true, false, ◌==◌, ◌&&◌, not, List, [], ◌∷◌, find, Option, Some, None, is_some, if◌then◌else◌}
+use Rattle.std.specs.Prelude.{ℕ, ◌-◌, Bool, true, false, ◌==◌, ◌&&◌, not, List, [], ◌∷◌, find, Option, if◌then◌else◌}
 use Rattle.merc_terms.specs.declared.operators.Fixity.{Fixity}
 use Rattle.merc_terms.specs.declared.operators.Fixity.TheVariants.{Xfx, Xfy, Yfx, Fx, Fy, Fxy}
 use Rattle.merc_terms.specs.declared.operators.Operator.{Operator}

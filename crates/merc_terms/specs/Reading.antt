@@ -1,10 +1,9 @@
 -- Which tokens spell a term.
-use Rattle.std.specs.Prelude.{◌≡◌, ℕ, ◌≤◌, ℤ, pos, neg_ℤ, Bool, true, false, ◌==◌, ◌&&◌, not, List, [], ◌∷◌, Option, Some, None, is_some, is_none}
+use Rattle.std.specs.Prelude.{◌≡◌, ℕ, ◌≤◌, pos, neg_ℤ, Bool, true, false, ◌==◌, ◌&&◌, List, [], ◌∷◌, Some, None, is_some, is_none}
 use Rattle.merc_base.specs.declared.place.Span.{Span}
 use Rattle.merc_tokens.specs.declared.token.Token.{Token}
 use Rattle.merc_tokens.specs.declared.token.TokenKind.{TokenKind}
 use Rattle.merc_tokens.specs.declared.token.TokenKind.TheVariants.{Name, Quoted, Var, Int, Text as TextToken, OpenArgs, Open, Close, OpenList, CloseList, Comma, Bar, Dot, Stop}
-use Rattle.merc_terms.specs.declared.operators.Fixity.TheVariants.{Fxy}
 use Rattle.merc_terms.specs.declared.operators.Operator.{Operator}
 use Rattle.merc_tree.specs.Term.{Term, Terms, Variable, Integer, Text, Application, none, more, span_of, with_span}
 use Rattle.merc_terms.specs.Operators.{infix_named, prefix_named, first_most, last_most, takes_two}

@@ -1,5 +1,5 @@
 -- What stands where a term must begin: the reader's first look at the tokens.
-use Rattle.std.specs.Prelude.{ℕ, Bool, true, false, ◌||◌, ◌&&◌, not, List, [], ◌∷◌, Option, Some, None, if◌then◌else◌}
+use Rattle.std.specs.Prelude.{ℕ, Bool, true, false, List, [], ◌∷◌, Option, Some, None, if◌then◌else◌}
 use Rattle.merc_base.specs.declared.place.Span.{Span}
 use Rattle.merc_tokens.specs.declared.token.Token.{Token}
 use Rattle.merc_tokens.specs.declared.token.TokenKind.{TokenKind}
@@ -8,7 +8,7 @@ use Rattle.merc_terms.specs.declared.operators.Operator.{Operator}
 use Rattle.merc_terms.specs.declared.starting.Start.{Start}
 use Rattle.merc_terms.specs.declared.starting.Start.TheVariants.{Variable, Integer, Text as TextStart, Constant, Application, List as ListStart, Parenthesis, Prefix}
 use Rattle.merc_terms.specs.Operators.{prefix_named}
-use Rattle.merc_terms.specs.Reading.{joined, is_integer, is_left_plain, is_sign}
+use Rattle.merc_terms.specs.Reading.{joined, is_left_plain, is_sign}
 
 -- a start and the tokens behind it
 abbrev pub Started : Type 0
