@@ -1,10 +1,9 @@
 -- Which pieces may stand side by side, so that their texts are the tokens that they name; and which terms can be written.
-use Rattle.std.specs.Prelude.{◌≡◌, ℕ, ◌≤◌, ◌⊎◌, Bool, true, false, ◌==◌, ◌&&◌, ◌||◌, not, List, [], ◌∷◌, ◌++◌, map, length, Option, Some, None, is_some, slice_get, FitsSigned}
+use Rattle.std.specs.Prelude.{◌≡◌, ℕ, ◌≤◌, ◌⊎◌, Bool, true, false, ◌==◌, ◌&&◌, ◌||◌, not, List, [], ◌∷◌, map, length, Option, Some, None, is_some, slice_get, FitsSigned}
 use Rattle.std.specs.Int.{w64}
-use Rattle.std.specs.List.{list_all, AllByRecursion}
+use Rattle.std.specs.List.{list_all}
 use Rattle.std.specs.Str.{IsUtf8}
-use Rattle.merc_base.specs.Names.{HoldsFixed}
-use Rattle.merc_value.specs.Text.{text_at, is_plain, is_word_byte}
+use Rattle.merc_value.specs.Text.{text_at, is_plain}
 use Rattle.merc_tokens.specs.Bytes.{is_upper, is_word}
 use Rattle.merc_tokens.specs.declared.token.Token.{Token as TokenOf}
 use Rattle.merc_tokens.specs.declared.token.TokenKind.{TokenKind}
@@ -12,7 +11,7 @@ use Rattle.merc_tokens.specs.declared.token.TokenKind.TheVariants.{Name, Quoted,
 use Rattle.merc_tokens.specs.Tokens.{SpelledToken, HasTokens, with_texts}
 use Rattle.merc_tree.specs.Term.{Term, Terms, Variable, Integer, Text, Application, none, more}
 use Rattle.merc_terms.specs.Operators.{infix_named, prefix_named}
-use Rattle.merc_term_text.specs.Pieces.{Piece, Blank, Token, kinds_of, pieces_text}
+use Rattle.merc_term_text.specs.Pieces.{Piece, Blank, Token}
 
 -- what may stand directly behind a variable, a literal or a closing bracket
 abbrev pub ends_operand : TokenKind → Bool
