@@ -2,6 +2,8 @@
 
 use crate::*;
 use merc_base::{Name, Names, Span, Text};
+use merc_terms::read_items;
+use merc_tokens::tokens;
 use merc_tree::{Term, Terms};
 use std::alloc::Global;
 use std::test::Fail;
@@ -104,5 +106,50 @@ fn writes_names_and_lists(rt: HostRuntime) -> Result<(), Fail> {
         text.bytes(),
         b"'It'([-1, list.'It'((\"It\", 'mode')) | X], 1)".as_slice()
     );
+    Ok(())
+}
+
+// The first item of a text; none where the text is long.
+fn first_item(alloc: Global, names: &mut Names, text: &[u8]) -> Result<Terms, Fail> {
+    if text.len() > 1000 {
+        return Ok(Terms::new(alloc));
+    }
+    let tokens = tokens(alloc, text, names)?;
+    Ok(read_items(alloc, &tokens)?)
+}
+
+// Whether an item is written as a text that reads as the same term.
+fn reads_back(alloc: Global, text: &[u8]) -> Result<bool, Fail> {
+    let mut names = Names::new(alloc);
+    let terms = first_item(alloc, &mut names, text)?;
+    let Some(term) = terms.into_only() else {
+        return Ok(false);
+    };
+    let mut written = Text::new(alloc);
+    write_term(alloc, &term, &names, &mut written)?;
+    written.push(b".")?;
+    let again = first_item(alloc, &mut names, written.bytes())?;
+    match again.get(0) {
+        Some(found) => Ok(found.is_same(&term.as_ref())),
+        None => Ok(false),
+    }
+}
+
+#[test]
+fn what_is_written_reads_back(rt: HostRuntime) -> Result<(), Fail> {
+    let alloc = rt.alloc();
+    let texts: [&[u8]; 8] = [
+        b"-(1).",
+        b"- - 1 - -1.",
+        b"p(X, [a, 'B' | T]) :- not q, ( a, b ; c -> d ; e ), \"it\\n\" = \"\".",
+        b"( if A = B then p & q else if \\+ r then true else all [X] s(X) ).",
+        b":- pred p(list(T)::in, m.t::out) is det.",
+        b"f((a , b), (c :- d), [(e , f)], 'x y', [], '[]'(1)).",
+        b"some [X] - Y = - (1) ; some x (y).",
+        b"a mod 'mod' = (b :- c) rem (- (-1)).",
+    ];
+    for text in texts {
+        assert!(rt; reads_back(alloc, text)?);
+    }
     Ok(())
 }
