@@ -145,7 +145,7 @@ fn what_is_written_reads_back(rt: HostRuntime) -> Result<(), Fail> {
         b"( if A = B then p & q else if \\+ r then true else all [X] s(X) ).",
         b":- pred p(list(T)::in, m.t::out) is det.",
         b"f((a , b), (c :- d), [(e , f)], 'x y', [], '[]'(1)).",
-        b"some [X] - Y = - (1) ; some x (y).",
+        b"some [X] (- Y = - (1)) ; some x (y).",
         b"a mod 'mod' = (b :- c) rem (- (-1)).",
     ];
     for text in texts {
