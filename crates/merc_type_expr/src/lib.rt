@@ -7,4 +7,4 @@ mod pairing;
 mod solving;
 pub mod subst;
 
-pub use subst::{unify, Subst};
+pub use subst::{Subst, unify};
