@@ -1,9 +1,9 @@
 -- Most general solutions, and how a new binding changes them.
-use Rattle.std.proofs.Common.{◌≡◌, ℕ, suc, ◌+◌, ◌<◌, ◌≤◌, Bool, true, false, ◌⊎◌, inl, inr, List, [], ◌∷◌, ◌++◌, Option, Some, None, ap, sym, refl, ◌∙◌, subst, arith}
+use Rattle.std.proofs.Common.{◌≡◌, ℕ, true, false, [], ◌∷◌, ◌++◌, Some, None, ap, sym, refl, ◌∙◌, subst, arith}
 use Rattle.std.specs.Prelude.{◌==◌, if◌then◌else◌}
 use Rattle.std.proofs.lemmas.Bool.Decides.{nat_tests}
-use Rattle.merc_tree.specs.Types.{TypeExpr, TypeExprs, TypeVariable, IntType, TextType, TypeApplication, replaced, replaced_all}
-use Rattle.merc_type_expr.specs.Unifier.{Bindings, bound_to, Solves, IsMostGeneral, IsSolvable}
+use Rattle.merc_tree.specs.Types.{TypeExpr, TypeVariable, IntType, TextType, TypeApplication, replaced, replaced_all}
+use Rattle.merc_type_expr.specs.Unifier.{Bindings, bound_to, Solves, IsMostGeneral}
 use Rattle.merc_type_expr.specs.Solving.{size, occurs, is_variable, followed, walked, IsRoot, IsSubst, Differ, Binds}
 use Rattle.merc_type_expr.proofs.Replacing.{replaced-replaced, replaced_alike, replaced_elsewhere, sizes_inside}
 use Rattle.merc_type_expr.proofs.Lists.{solves_front, solves_back, solves_both, bound_to-append, free_front, walked-append}
@@ -19,8 +19,8 @@ variable_is (TypeApplication symbol arguments) name it_is = absurd (cc)
 followed_same : (values : ℕ → TypeExpr) (binding : ℕ × TypeExpr) (type : TypeExpr) → values binding.0 ≡ replaced values binding.1 → replaced values (followed binding type) ≡ replaced values type
 followed_same values binding type solves =
     elim (is_variable type binding.0) as (λ b. is_variable type binding.0 ≡ b → replaced values (if b then binding.1 else type) ≡ replaced values type) [
-      true ↦ (λ e. sym solves ∙ sym (ap (replaced values) (variable_is type binding.0 e))) |
-      false ↦ (λ e. refl)
+      | true ↦ (λ e. sym solves ∙ sym (ap (replaced values) (variable_is type binding.0 e)))
+      | false ↦ (λ e. refl)
     ] refl
 
 pub walked_same : (values : ℕ → TypeExpr) (bindings : Bindings) → Solves values bindings → (type : TypeExpr) → replaced values (walked bindings type) ≡ replaced values type
@@ -59,8 +59,8 @@ turned_apart name other apart = grind (arith, nat_tests)
 one_general : (other : ℕ → TypeExpr) (name : ℕ) (whole : TypeExpr) → replaced other whole ≡ other name → (n : ℕ) → replaced other (one name whole n) ≡ other n
 one_general other name whole same n =
     elim (n == name) as (λ b. (n == name) ≡ b → replaced other (if b then whole else TypeVariable n) ≡ other n) [
-      true ↦ (λ e. let at : n ≡ name = grind (arith, nat_tests) in same ∙ ap other (sym at)) |
-      false ↦ (λ e. refl)
+      | true ↦ (λ e. let at : n ≡ name = grind (arith, nat_tests) in same ∙ ap other (sym at))
+      | false ↦ (λ e. refl)
     ] refl
 
 pub extended_most : (bindings : Bindings) (values : ℕ → TypeExpr) → IsMostGeneral values bindings → (name : ℕ) (type : TypeExpr) → bound_to bindings name ≡ None
@@ -73,18 +73,18 @@ extended_most bindings values most name type free out =
     let itself : values name ≡ TypeVariable name = most.free name free in
     record {
       solves = solves_both (extended values name type) bindings ((name, type) ∷ []) (extended_solves values swap bindings most.solves)
-        (ap (replaced swap) itself ∙ one_here name whole ∙ sym stays ∙ onto type, tt);
+          (ap (replaced swap) itself ∙ one_here name whole ∙ sym stays ∙ onto type, tt);
       free = λ other unbound.
-        let old : bound_to bindings other ≡ None = free_front bindings ((name, type) ∷ []) other unbound in
-        let apart : (name == other) ≡ false = not_bound name type other (sym (bound_to-append bindings ((name, type) ∷ []) other old) ∙ unbound) in
-        let turned : (other == name) ≡ false = turned_apart name other apart in
-        ap (replaced swap) (most.free other old) ∙ rw turned refl;
+          let old : bound_to bindings other ≡ None = free_front bindings ((name, type) ∷ []) other unbound in
+          let apart : (name == other) ≡ false = not_bound name type other (sym (bound_to-append bindings ((name, type) ∷ []) other old) ∙ unbound) in
+          let turned : (other == name) ≡ false = turned_apart name other apart in
+          ap (replaced swap) (most.free other old) ∙ rw turned refl;
       general = λ other solves at.
-        let old = solves_front other bindings ((name, type) ∷ []) solves in
-        let new = solves_back other bindings ((name, type) ∷ []) solves in
-        replaced-replaced other swap (values at)
-        ∙ replaced_alike (λ n. replaced other (swap n)) other (one_general other name whole (general_type bindings values other most old type ∙ sym new.0)) (values at)
-        ∙ most.general other old at;
+          let old = solves_front other bindings ((name, type) ∷ []) solves in
+          let new = solves_back other bindings ((name, type) ∷ []) solves in
+          replaced-replaced other swap (values at)
+          ∙ replaced_alike (λ n. replaced other (swap n)) other (one_general other name whole (general_type bindings values other most old type ∙ sym new.0)) (values at)
+          ∙ most.general other old at;
     }
 
 -- A variable that occurs in another type cannot be that type.
@@ -113,8 +113,8 @@ more_ends : (bindings : Bindings) (name : ℕ) (type : TypeExpr) → IsRoot bind
     → (end : TypeExpr) → IsRoot bindings end → IsRoot (bindings ++ (name, type) ∷ []) (followed (name, type) end)
 more_ends bindings name type root apart end rooted other leads =
     elim (is_variable end name) as (λ b. is_variable end name ≡ b → (if b then type else end) ≡ TypeVariable other → bound_to (bindings ++ (name, type) ∷ []) other ≡ None) [
-      true ↦ (λ e to. more_free bindings name type other (root other to) (apart_from name other (λ same. apart (to ∙ ap TypeVariable (sym same))))) |
-      false ↦ (λ e to. more_free bindings name type other (rooted other to) (sym (ap (λ t. is_variable t name) to) ∙ e))
+      | true ↦ (λ e to. more_free bindings name type other (root other to) (apart_from name other (λ same. apart (to ∙ ap TypeVariable (sym same)))))
+      | false ↦ (λ e to. more_free bindings name type other (rooted other to) (sym (ap (λ t. is_variable t name) to) ∙ e))
     ] refl leads
 
 -- one more binding

@@ -1,9 +1,8 @@
 -- Elements of lists, and bindings behind others.
-use Rattle.std.proofs.Common.{◌≡◌, ℕ, zero, suc, ◌+◌, ◌<◌, ◌≤◌, Bool, true, false, ◌⊎◌, inl, inr, List, [], ◌∷◌, ◌++◌, length, take, drop, get_or, Option, Some, None, ap, sym, refl, ◌∙◌, subst, arith}
+use Rattle.std.proofs.Common.{◌≡◌, ℕ, zero, suc, ◌<◌, true, false, ◌⊎◌, inl, inr, List, [], ◌∷◌, ◌++◌, length, take, get_or, Some, None, ap, sym, refl, ◌∙◌, subst, arith}
 use Rattle.std.proofs.lemmas.List.{append-nil, append_assoc}
 use Rattle.std.specs.Prelude.{◌==◌, if◌then◌else◌}
-use Rattle.std.specs.List.{AllByRecursion}
-use Rattle.merc_tree.specs.Types.{TypeExpr, replaced}
+use Rattle.merc_tree.specs.Types.{TypeExpr}
 use Rattle.merc_type_expr.specs.Unifier.{Bindings, bound_to, Solves}
 use Rattle.merc_type_expr.specs.Solving.{Has, Adds, zipped, followed, walked}
 
@@ -19,8 +18,8 @@ pub has_either : {A : Type 0} (x : A) (front back : List A) → Has x (front ++ 
 has_either x [] back has = inr has
 has_either x (first ∷ rest) back has =
     elim has [
-      inl here ↦ inl (inl here) |
-      inr there ↦ elim (has_either x rest back there) [ inl in_front ↦ inl (inr in_front) | inr in_back ↦ inr in_back ]
+      | inl here ↦ inl (inl here)
+      | inr there ↦ elim (has_either x rest back there) [ inl in_front ↦ inl (inr in_front) | inr in_back ↦ inr in_back ]
     ]
 
 -- one more of the first elements
@@ -29,8 +28,8 @@ has_next x [] n item within at has = absurd has
 has_next x (first ∷ rest) zero item within at has = elim has [ inl here ↦ inr (at ∙ here) | inr there ↦ absurd there ]
 has_next x (first ∷ rest) (suc n) item within at has =
     elim has [
-      inl here ↦ inl (inl here) |
-      inr there ↦ elim (has_next x rest n item (omega arith) at there) [ inl earlier ↦ inl (inr earlier) | inr here ↦ inr here ]
+      | inl here ↦ inl (inl here)
+      | inr there ↦ elim (has_next x rest n item (omega arith) at there) [ inl earlier ↦ inl (inr earlier) | inr here ↦ inr here ]
     ]
 
 pub has_at : {A : Type 0} (list : List A) (n : ℕ) (item : A) → n < length list → item ≡ get_or list n item → Has item list
@@ -62,16 +61,16 @@ pub bound_to-append : (front back : Bindings) (name : ℕ) → bound_to front na
 bound_to-append [] back name free = refl
 bound_to-append ((other, type) ∷ rest) back name free =
     elim (other == name) as (λ b. (if b then Some type else bound_to rest name) ≡ None → (if b then Some type else bound_to (rest ++ back) name) ≡ bound_to back name) [
-      true ↦ (λ e. absurd (cc)) |
-      false ↦ (λ e. bound_to-append rest back name e)
+      | true ↦ (λ e. absurd (cc))
+      | false ↦ (λ e. bound_to-append rest back name e)
     ] free
 
 pub free_front : (front back : Bindings) (name : ℕ) → bound_to (front ++ back) name ≡ None → bound_to front name ≡ None
 free_front [] back name free = refl
 free_front ((other, type) ∷ rest) back name free =
     elim (other == name) as (λ b. (if b then Some type else bound_to (rest ++ back) name) ≡ None → (if b then Some type else bound_to rest name) ≡ None) [
-      true ↦ (λ e. absurd (cc)) |
-      false ↦ (λ e. free_front rest back name e)
+      | true ↦ (λ e. absurd (cc))
+      | false ↦ (λ e. free_front rest back name e)
     ] free
 
 pub walked-append : (front back : Bindings) (type : TypeExpr) → walked (front ++ back) type ≡ walked back (walked front type)
@@ -103,11 +102,11 @@ one_there rest less last all old new parts there adds = record {
   added = adds.added;
   grown = adds.grown;
   has = λ x has. elim (adds.has x has) [
-    inl left ↦ elim (has_either x less (last ∷ []) (subst (Has x) parts left)) [
-      inl earlier ↦ inl earlier |
-      inr at ↦ elim at [ inl here ↦ inr (subst (λ y. Has y new) here there) | inr past ↦ absurd past ]
-    ] |
-    inr done ↦ inr done
+    | inl left ↦ elim (has_either x less (last ∷ []) (subst (Has x) parts left)) [
+      | inl earlier ↦ inl earlier
+      | inr at ↦ elim at [ inl here ↦ inr (subst (λ y. Has y new) here there) | inr past ↦ absurd past ]
+    ]
+    | inr done ↦ inr done
   ];
   only = adds.only;
   some = λ x has. adds.some x (subst (Has x) (sym parts) (has_front x less (last ∷ []) has));
@@ -120,15 +119,15 @@ one_added rest less last all old new next parts grown adds = record {
   added = adds.added ++ last ∷ [];
   grown = grown ∙ ap (λ l. l ++ last ∷ []) adds.grown ∙ append_assoc old adds.added (last ∷ []);
   has = λ x has. elim (adds.has x has) [
-    inl left ↦ elim (has_either x less (last ∷ []) (subst (Has x) parts left)) [
-      inl earlier ↦ inl earlier |
-      inr at ↦ inr (subst (Has x) (sym grown) (has_back x new (last ∷ []) at))
-    ] |
-    inr done ↦ inr (subst (Has x) (sym grown) (has_front x new (last ∷ []) done))
+    | inl left ↦ elim (has_either x less (last ∷ []) (subst (Has x) parts left)) [
+      | inl earlier ↦ inl earlier
+      | inr at ↦ inr (subst (Has x) (sym grown) (has_back x new (last ∷ []) at))
+    ]
+    | inr done ↦ inr (subst (Has x) (sym grown) (has_front x new (last ∷ []) done))
   ];
   only = λ x has. elim (has_either x adds.added (last ∷ []) has) [
-    inl earlier ↦ adds.only x earlier |
-    inr at ↦ adds.some x (subst (Has x) (sym parts) (has_back x less (last ∷ []) at))
+    | inl earlier ↦ adds.only x earlier
+    | inr at ↦ adds.some x (subst (Has x) (sym parts) (has_back x less (last ∷ []) at))
   ];
   some = λ x has. adds.some x (subst (Has x) (sym parts) (has_front x less (last ∷ []) has));
 }

@@ -1,5 +1,5 @@
 -- Types with variables replaced.
-use Rattle.std.proofs.Common.{◌≡◌, ◌≢◌, ℕ, suc, ◌+◌, ◌<◌, ◌≤◌, Bool, true, false, ◌⊎◌, inl, inr, List, [], ◌∷◌, length, ap, sym, refl, ◌∙◌, subst, arith}
+use Rattle.std.proofs.Common.{◌≡◌, ℕ, suc, ◌+◌, ◌<◌, ◌≤◌, Bool, true, false, ◌⊎◌, inl, inr, List, [], ◌∷◌, length, ap, sym, refl, ◌∙◌, subst, arith}
 use Rattle.std.specs.Prelude.{◌==◌, ◌||◌}
 use Rattle.std.proofs.lemmas.Bool.Decides.{nat_tests}
 use Rattle.merc_tree.specs.Types.{TypeExpr, TypeExprs, TypeVariable, IntType, TextType, TypeApplication, no_types, more_types, replaced, replaced_all, type_list}
@@ -69,8 +69,8 @@ mutual
   sizes_inside f x no_types in_it = absurd (cc)
   sizes_inside f x (more_types first rest) in_it =
       elim (or_true (occurs x first) (occurs_among x rest) in_it) [
-        inl here ↦ omega (arith, size_inside f x first here) |
-        inr there ↦ omega (arith, sizes_inside f x rest there)
+        | inl here ↦ omega (arith, size_inside f x first here)
+        | inr there ↦ omega (arith, sizes_inside f x rest there)
       ]
 
 -- a type's arguments
@@ -79,8 +79,8 @@ pub argument_smaller : (f : ℕ → TypeExpr) (types : TypeExprs) (inner : TypeE
 argument_smaller f no_types inner has = absurd has
 argument_smaller f (more_types first rest) inner has =
     elim has [
-      inl here ↦ subst (λ t. size (replaced f t) ≤ size (replaced f first) + sizes (replaced_all f rest)) here (omega arith) |
-      inr there ↦ omega (arith, argument_smaller f rest inner there)
+      | inl here ↦ subst (λ t. size (replaced f t) ≤ size (replaced f first) + sizes (replaced_all f rest)) here (omega arith)
+      | inr there ↦ omega (arith, argument_smaller f rest inner there)
     ]
 
 pub smaller : (f : ℕ → TypeExpr) (type inner : TypeExpr) → Has inner (type_arguments_of type) → size (replaced f inner) < size (replaced f type)
@@ -98,8 +98,8 @@ among_inside : (f : ℕ → TypeExpr) (x : ℕ) (types : TypeExprs) (inner : Typ
 among_inside f x no_types inner has in_it = absurd has
 among_inside f x (more_types first rest) inner has in_it =
     elim has [
-      inl here ↦ (let at : occurs x (replaced f first) ≡ true = ap (λ t. occurs x (replaced f t)) here ∙ in_it in rw at refl) |
-      inr there ↦ (rw (among_inside f x rest inner there in_it) (or-true (occurs x (replaced f first))))
+      | inl here ↦ (let at : occurs x (replaced f first) ≡ true = ap (λ t. occurs x (replaced f t)) here ∙ in_it in rw at refl)
+      | inr there ↦ (rw (among_inside f x rest inner there in_it) (or-true (occurs x (replaced f first))))
     ]
 
 -- a variable that occurs in an argument occurs in the type
@@ -173,8 +173,8 @@ all_parts f (more_types first rest) (more_types other others) same pair has =
     let here : replaced f first ≡ replaced f other = cc in
     let there : replaced_all f rest ≡ replaced_all f others = cc in
     elim has [
-      inl at ↦ subst (IsSame f) at here |
-      inr later ↦ all_parts f rest others there pair later
+      | inl at ↦ subst (IsSame f) at here
+      | inr later ↦ all_parts f rest others there pair later
     ]
 
 no_pairs : (ones : List TypeExpr) (pair : TypeExpr × TypeExpr) → Has pair (zipped ones []) → ⊥
@@ -198,6 +198,6 @@ first_of_pair [] others pair has = absurd has
 first_of_pair (first ∷ rest) [] pair has = absurd has
 first_of_pair (first ∷ rest) (other ∷ others) pair has =
     elim has [
-      inl here ↦ inl (ap (λ p. p.0) here) |
-      inr there ↦ inr (first_of_pair rest others pair there)
+      | inl here ↦ inl (ap (λ p. p.0) here)
+      | inr there ↦ inr (first_of_pair rest others pair there)
     ]

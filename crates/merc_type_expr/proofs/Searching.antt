@@ -1,5 +1,5 @@
 -- The search for a variable in a type.
-use Rattle.std.proofs.Common.{◌≡◌, ℕ, zero, suc, ◌+◌, ◌<◌, ◌≤◌, Bool, true, false, ◌⊎◌, inl, inr, List, [], ◌∷◌, ◌++◌, length, take, get_or, Some, None, ap, sym, refl, ◌∙◌, subst, arith, add-one}
+use Rattle.std.proofs.Common.{◌≡◌, ℕ, zero, suc, ◌+◌, ◌<◌, ◌≤◌, true, false, inl, inr, List, ◌++◌, length, take, get_or, None, ap, sym, refl, ◌∙◌, subst, arith, add-one}
 use Rattle.std.specs.Prelude.{◌==◌}
 use Rattle.std.proofs.lemmas.Bool.Decides.{nat_tests}
 use Rattle.std.proofs.lemmas.List.{take-append-le, take_all}
@@ -47,20 +47,20 @@ search_next bindings name type types after next at root subst_is search within a
     record {
       asked = old_has type search.asked;
       inside = λ values most inner has in_it. elim (has_either inner types adds.added (subst (Has inner) adds.grown has)) [
-        inl old ↦ search.inside values most inner old in_it |
-        inr new ↦ search.inside values most at (has_at types next at within at_is)
-          (ap (occurs name) (sym (leads values most)) ∙ argument_inside values name root inner (adds.only inner new) in_it)
+        | inl old ↦ search.inside values most inner old in_it
+        | inr new ↦ search.inside values most at (has_at types next at within at_is)
+            (ap (occurs name) (sym (leads values most)) ∙ argument_inside values name root inner (adds.only inner new) in_it)
       ];
       outside = λ values most bound below inner has less.
-        let has_old : Has inner (take (suc next) types) = subst (Has inner) (ap (λ n. take n after) (add-one next) ∙ taken_before types adds.added after next adds.grown within) has in
-        elim (has_next inner types next at within at_is has_old) [
-          inl earlier ↦ search.outside values most bound (λ x x_has x_less. below x (old_has x x_has) x_less) inner earlier less |
-          inr here ↦
-            let size_is : size (replaced values root) ≡ size (replaced values inner) = ap size (leads values most) ∙ ap (λ t. size (replaced values t)) here in
-            ap (λ t. occurs name (replaced values t)) (sym here) ∙ ap (occurs name) (sym (leads values most))
-            ∙ root_outside bindings name values most root rooted apart
-              (λ x x_has. below x (adds.has x x_has) (let part = smaller values root x x_has in omega arith))
-        ];
+          let has_old : Has inner (take (suc next) types) = subst (Has inner) (ap (λ n. take n after) (add-one next) ∙ taken_before types adds.added after next adds.grown within) has in
+          elim (has_next inner types next at within at_is has_old) [
+            | inl earlier ↦ search.outside values most bound (λ x x_has x_less. below x (old_has x x_has) x_less) inner earlier less
+            | inr here ↦
+                let size_is : size (replaced values root) ≡ size (replaced values inner) = ap size (leads values most) ∙ ap (λ t. size (replaced values t)) here in
+                ap (λ t. occurs name (replaced values t)) (sym here) ∙ ap (occurs name) (sym (leads values most))
+                ∙ root_outside bindings name values most root rooted apart
+                (λ x x_has. below x (adds.has x x_has) (let part = smaller values root x x_has in omega arith))
+          ];
     }
 
 -- Where all are looked at, the variable occurs in none, by their size.

@@ -1,12 +1,12 @@
 -- The equations of types settled, pair by pair.
-use Rattle.std.proofs.Common.{◌≡◌, ℕ, zero, suc, ◌+◌, ◌<◌, ◌≤◌, Bool, true, false, ◌⊎◌, inl, inr, List, [], ◌∷◌, ◌++◌, length, take, get_or, Option, Some, None, ap, sym, refl, ◌∙◌, subst, arith, add-one}
+use Rattle.std.proofs.Common.{◌≡◌, ℕ, zero, suc, ◌+◌, ◌<◌, ◌≤◌, Bool, true, false, inl, inr, [], ◌∷◌, ◌++◌, length, take, get_or, Some, None, ap, sym, refl, ◌∙◌, subst, arith, add-one}
 use Rattle.std.proofs.lemmas.List.{take_all, append-nil}
 use Rattle.merc_tree.specs.Types.{TypeExpr, TypeVariable, IntType, TextType, TypeApplication, replaced}
 use Rattle.merc_tree.specs.declared.types.TypeShape.{TypeShape}
 use Rattle.merc_tree.specs.declared.types.TypeShape.TheVariants.{Variable as VariableShape, Int as IntShape, Text as TextShape, Application as ApplicationShape}
 use Rattle.merc_tree.specs.TypeShape.{type_shape_of, type_arguments_of}
-use Rattle.merc_type_expr.specs.Unifier.{Bindings, bound_to, Solves, Unifies, HasNoUnifier}
-use Rattle.merc_type_expr.specs.Solving.{Has, Adds, Pairs, size, variable_of, walked, zipped, IsRoot, IsSubst, IsSame, Binds, Differ, Settles, AreSameBelow, IsSolving, Solved, BindsOrDiffer, SettlesOrDiffer}
+use Rattle.merc_type_expr.specs.Unifier.{Bindings, Solves, Unifies, HasNoUnifier}
+use Rattle.merc_type_expr.specs.Solving.{Has, Adds, Pairs, size, variable_of, walked, zipped, IsSubst, IsSame, Binds, Differ, Settles, AreSameBelow, IsSolving, Solved, BindsOrDiffer, SettlesOrDiffer}
 use Rattle.merc_type_expr.proofs.Replacing.{smaller, same_by_arguments, arguments_by_same, shape-replaced, first_of_pair}
 use Rattle.merc_type_expr.proofs.Lists.{has_front, has_either, has_next, has_at}
 use Rattle.merc_type_expr.proofs.General.{walked_same}
@@ -88,7 +88,7 @@ arguments_paired bindings pairs after one other subst_is first shape adds = reco
   solves = λ values solves. solves;
   needed = λ values solves same. (solves, λ pair has. arguments_by_same values one other same pair (adds.only pair has));
   enough = λ values solves smaller_same. same_by_arguments values one other first shape
-    (λ pair has. smaller_same pair (adds.has pair has) (smaller values one pair.0 (first_of_pair (type_arguments_of one) (type_arguments_of other) pair has)));
+      (λ pair has. smaller_same pair (adds.has pair has) (smaller values one pair.0 (first_of_pair (type_arguments_of one) (type_arguments_of other) pair has)));
 }
 
 -- the list of pairs
@@ -100,8 +100,10 @@ solving_start under a b subst_is =
       subst = subst IsSubst nothing subst_is;
       asked = inl refl;
       solves = λ values solves. subst (Solves values) (sym nothing) solves;
-      needed = λ values unifies. (subst (Solves values) nothing unifies.solves,
-        λ pair has. elim has [ inl here ↦ subst (IsSame values) here unifies.same | inr there ↦ absurd there ]);
+      needed = λ values unifies. (
+        subst (Solves values) nothing unifies.solves,
+        λ pair has. elim has [ inl here ↦ subst (IsSame values) here unifies.same | inr there ↦ absurd there ],
+      );
       enough = λ values solves bound below pair has. absurd has;
     }
 
@@ -130,20 +132,20 @@ module _ (under bindings : Bindings) (a b : TypeExpr) (pairs : Pairs) (next : �
         asked = old_has (a, b) solving.asked;
         solves = λ values solves. solving.solves values (settles.solves values solves);
         needed = λ values unifies.
-          let known = solving.needed values unifies in
-          let more = settles.needed values known.0 (both_same values unifies) in
-          (more.0, λ pair has. elim (has_either pair pairs settles.added (subst (Has pair) settles.grown has)) [ inl old ↦ known.1 pair old | inr added ↦ more.1 pair added ]);
+            let known = solving.needed values unifies in
+            let more = settles.needed values known.0 (both_same values unifies) in
+            (more.0, λ pair has. elim (has_either pair pairs settles.added (subst (Has pair) settles.grown has)) [ inl old ↦ known.1 pair old | inr added ↦ more.1 pair added ]);
         enough = λ values solves bound below pair has less.
-          let before = settles.solves values solves in
-          let has_old : Has pair (take (suc next) pairs) = subst (Has pair) (ap (λ n. take n after) (add-one next) ∙ taken_before pairs settles.added after next settles.grown within) has in
-          elim (has_next pair pairs next at within at_is has_old) [
-            inl earlier ↦ solving.enough values before bound (λ p p_has p_less. below p (old_has p p_has) p_less) pair earlier less |
-            inr here ↦
-              let size_is : size (replaced values one) ≡ size (replaced values pair.0) = ap size (first_leads values before) ∙ ap (λ p. size (replaced values p.0)) here in
-              let same : replaced values one ≡ replaced values other =
-              settles.enough values solves (λ p p_has p_less. below p p_has (omega arith)) in
-              subst (IsSame values) here (sym (first_leads values before) ∙ same ∙ second_leads values before)
-          ];
+            let before = settles.solves values solves in
+            let has_old : Has pair (take (suc next) pairs) = subst (Has pair) (ap (λ n. take n after) (add-one next) ∙ taken_before pairs settles.added after next settles.grown within) has in
+            elim (has_next pair pairs next at within at_is has_old) [
+              | inl earlier ↦ solving.enough values before bound (λ p p_has p_less. below p (old_has p p_has) p_less) pair earlier less
+              | inr here ↦
+                  let size_is : size (replaced values one) ≡ size (replaced values pair.0) = ap size (first_leads values before) ∙ ap (λ p. size (replaced values p.0)) here in
+                  let same : replaced values one ≡ replaced values other =
+                  settles.enough values solves (λ p p_has p_less. below p p_has (omega arith)) in
+                  subst (IsSame values) here (sym (first_leads values before) ∙ same ∙ second_leads values before)
+            ];
       }
 
 -- Where all pairs are settled, they are equal, by the size of their first types.
@@ -159,11 +161,12 @@ solving_done under bindings a b pairs next solving past = record {
   subst = solving.subst;
   unifier = record {
     solvable = solving.subst.solvable;
-    solutions = λ values.
-      (λ solves. record {
+    solutions = λ values. (
+      λ solves. record {
         solves = solving.solves values solves;
         same = all_same_below under bindings a b pairs next solving past values solves (suc (size (replaced values a))) (a, b) solving.asked (omega arith);
       },
-      λ unifies. (solving.needed values unifies).0);
+      λ unifies. (solving.needed values unifies).0,
+    );
   };
 }

@@ -2,3 +2,5 @@ pub mod Unifier
 pub mod Outcome
 pub mod Solving
 pub mod SubstCode
+pub mod UnifierExamples
+pub mod SolvingExamples

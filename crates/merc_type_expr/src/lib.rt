@@ -6,5 +6,7 @@ mod occurring;
 mod pairing;
 mod solving;
 pub mod subst;
+#[cfg(test)]
+mod tests;
 
-pub use subst::{unify, Subst};
+pub use subst::{Subst, unify};

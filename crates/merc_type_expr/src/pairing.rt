@@ -40,7 +40,10 @@ fn has_pair(pairs: &[(TypeRef<'_>, TypeRef<'_>)], one: &TypeRef<'_>, other: &Typ
 }
 
 /// Puts a type's arguments behind other types, each that is not yet there.
-pub(crate) fn push_arguments<'a>(arguments: TypeArguments<'a>, types: &mut Vec<TypeRef<'a>>) -> Result<(), NoMemory>
+pub(crate) fn push_arguments<'a>(
+    arguments: TypeArguments<'a>,
+    types: &mut Vec<TypeRef<'a>>,
+) -> Result<(), NoMemory>
     ensures { OnOk result (Adds arguments.entry types.old.items types.new.items) }
 {
     let mut arguments = arguments;

@@ -89,7 +89,12 @@ impl Subst {
 ///
 /// Types are shared and not written out, and each pair of types is compared once: with n places in the types of both and
 /// of the substitution the cost is at most of the order of n to the fifth power, in ordinary cases linear.
-pub fn unify(alloc: Global, a: &TypeExpr, b: &TypeExpr, under: &Subst) -> Result<Option<Subst>, NoMemory>
+pub fn unify(
+    alloc: Global,
+    a: &TypeExpr,
+    b: &TypeExpr,
+    under: &Subst,
+) -> Result<Option<Subst>, NoMemory>
     ensures found { IfOk result (λ answer. MatchOption answer (HasNoUnifier a.now b.now under.now) (λ found. IsUnifier found a.now b.now under.now)) }
 {
     let mut subst = under.try_clone(alloc)?;

@@ -1,4 +1,4 @@
-use Rattle.std.proofs.Common.{◌≡◌, ◌<◌, ◌≤◌, ◌++◌, length, get_or, sym, subst, arith}
+use Rattle.std.proofs.Common.{◌<◌, ◌≤◌, ◌++◌, length, sym, subst, arith}
 use Rattle.merc_type_expr.specs.Solving.{Adds}
 use Rattle.merc_type_expr.proofs.Searching.{search_found, search_next, search_done}
 use Rattle.merc_type_expr.proofs.occurring.occurs.Goals as goal

@@ -1,5 +1,4 @@
-use Rattle.std.proofs.Common.{◌≡◌, ap, sym, subst, refl, ◌∙◌}
-use Rattle.merc_tree.specs.Types.{TypeExpr}
+use Rattle.std.proofs.Common.{◌≡◌, ap, subst, refl, ◌∙◌}
 use Rattle.merc_type_expr.specs.Solving.{Has}
 use Rattle.merc_type_expr.proofs.Lists.{has_at}
 use Rattle.merc_type_expr.proofs.pairing.has_pair.Goals as goal

@@ -1,6 +1,6 @@
 use Rattle.std.proofs.Common.{◌≡◌, [], refl, sym, subst}
 use Rattle.merc_type_expr.specs.Solving.{Has}
-use Rattle.merc_type_expr.proofs.Lists.{one_there, one_added, all_added, none_added, AddsBut}
+use Rattle.merc_type_expr.proofs.Lists.{one_there, one_added, all_added, AddsBut}
 use Rattle.merc_type_expr.proofs.pairing.push_arguments.Goals as goal
 
 pub loop-argument-preserved-in-Continue-1 : goal.loop-argument-preserved-in-Continue-1

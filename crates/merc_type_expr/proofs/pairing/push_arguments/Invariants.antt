@@ -1,6 +1,4 @@
-use Rattle.std.proofs.Common.{◌≡◌, ◌++◌, ◌⊎◌, List, length}
-use Rattle.merc_tree.specs.Types.{TypeExpr}
-use Rattle.merc_type_expr.specs.Solving.{Has}
+use Rattle.std.proofs.Common.{length}
 use Rattle.merc_type_expr.proofs.Lists.{AddsBut}
 use Rattle.merc_type_expr.proofs.pairing.push_arguments.Given as goal
 

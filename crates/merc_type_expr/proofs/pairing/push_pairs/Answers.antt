@@ -1,8 +1,8 @@
-use Rattle.std.proofs.Common.{◌≡◌, List, length, refl, ap, sym, subst, ◌++◌, ◌∷◌, [], ◌∙◌, arith}
+use Rattle.std.proofs.Common.{◌≡◌, List, length, refl, ap, subst, ◌++◌, ◌∷◌, [], ◌∙◌, arith}
 use Rattle.std.proofs.lemmas.List.{length-append}
 use Rattle.merc_tree.specs.Types.{TypeExpr}
 use Rattle.merc_type_expr.specs.Solving.{Has, zipped}
-use Rattle.merc_type_expr.proofs.Lists.{one_there, one_added, all_added, none_added, zipped-last, AddsBut}
+use Rattle.merc_type_expr.proofs.Lists.{one_there, one_added, all_added, zipped-last, AddsBut}
 use Rattle.merc_type_expr.proofs.pairing.push_pairs.Goals as goal
 
 -- the last pair, and those before it
@@ -23,21 +23,21 @@ last_pair ones others less fewer one other count ones_are others_are =
 pub loop-one-preserved-in-Continue-1 : goal.loop-one-preserved-in-Continue-1
 loop-one-preserved-in-Continue-1 c =
     let last = last_pair c.loop-one.ones c.loop-one.others c.take_last.new.self c.take_last-in-Some.new.self c.in-Some.one c.in-Some-take_last.other
-      c.loop-one.invariant.count c.in-Some.ensures c.in-Some-take_last.ensures in
+    c.loop-one.invariant.count c.in-Some.ensures c.in-Some-take_last.ensures in
     record {
       count = last.count;
       adds = one_added _ _ (c.in-Some.one, c.in-Some-take_last.other) (zipped c.args.ones c.args.others) c.args.pairs.now.items c.loop-one.pairs.items c.push.new.self.items
-        last.parts c.in_ok-push.ensures.items c.loop-one.invariant.adds;
+          last.parts c.in_ok-push.ensures.items c.loop-one.invariant.adds;
     }
 
 pub loop-one-preserved : goal.loop-one-preserved
 loop-one-preserved c =
     let last = last_pair c.loop-one.ones c.loop-one.others c.take_last.new.self c.take_last-in-Some.new.self c.in-Some.one c.in-Some-take_last.other
-      c.loop-one.invariant.count c.in-Some.ensures c.in-Some-take_last.ensures in
+    c.loop-one.invariant.count c.in-Some.ensures c.in-Some-take_last.ensures in
     record {
       count = last.count;
       adds = one_there _ _ (c.in-Some.one, c.in-Some-take_last.other) (zipped c.args.ones c.args.others) c.args.pairs.now.items c.loop-one.pairs.items
-        last.parts (subst (Has (c.in-Some.one, c.in-Some-take_last.other)) c.deref.ensures.value (c.if-not-has_pair.ensures.0 refl)) c.loop-one.invariant.adds;
+          last.parts (subst (Has (c.in-Some.one, c.in-Some-take_last.other)) c.deref.ensures.value (c.if-not-has_pair.ensures.0 refl)) c.loop-one.invariant.adds;
     }
 
 pub returns : goal.returns

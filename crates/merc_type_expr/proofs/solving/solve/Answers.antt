@@ -1,4 +1,4 @@
-use Rattle.std.proofs.Common.{◌≡◌, ◌<◌, ◌≤◌, ◌++◌, length, ap, sym, subst, ◌∙◌, arith}
+use Rattle.std.proofs.Common.{◌<◌, ◌≤◌, ◌++◌, length, ap, subst, ◌∙◌, arith}
 use Rattle.merc_type_expr.specs.Solving.{walked, SettlesOrDiffer}
 use Rattle.merc_type_expr.proofs.Settling.{solving_differ, solving_next, solving_done}
 use Rattle.merc_type_expr.proofs.solving.solve.Goals as goal

@@ -1,6 +1,5 @@
 -- With no binding, types lead to themselves, and variables stand for themselves.
-use Rattle.std.proofs.Common.{[], refl, sym, subst}
-use Rattle.merc_tree.specs.Types.{TypeVariable}
+use Rattle.std.proofs.Common.{sym, subst}
 use Rattle.merc_type_expr.specs.Solving.{IsSubst}
 use Rattle.merc_type_expr.proofs.General.{no_bindings}
 use Rattle.merc_type_expr.proofs.subst.Subst.new.Goals as goal
