@@ -11,10 +11,10 @@ use Rattle.merc_base.specs.declared.refusal.LimitName.TheVariants.{Arity}
 use Rattle.merc_base.specs.declared.refusal.Refusal.{Refusal}
 use Rattle.merc_tree.specs.Term.{Term, span_of}
 use Rattle.merc_items.specs.Items.{Item, item_of}
-use Rattle.merc_items.specs.Forms.{IsWrong, words, is_too_wide}
+use Rattle.merc_items.specs.Forms.{words, is_too_wide}
 use Rattle.merc_items.specs.Entries.{place_of}
 use Rattle.merc_items.specs.Phases.{is_nil, opened, own_name, HasFormFault, no_item as no_item_at_all, wrong, outside, wide}
-use Rattle.merc_items.specs.FormChecks.{is_wrong, first_of, wide_fault, outside_fault, least_fault, fault_of, at_place, refusal_of, or_else, refusal_from, first_refusal}
+use Rattle.merc_items.specs.FormChecks.{is_wrong, first_of, least_fault, fault_of, at_place, or_else, refusal_from, no_item, first_refusal}
 use Rattle.merc_items.specs.FormFaults.{Rises, IsFirstFormFault}
 use Rattle.merc_items.proofs.WrongForms.{wrong_if, if_wrong}
 
@@ -192,7 +192,7 @@ module _ (names : List (List ℕ)) (own : ℕ) (first : Bool) (start : Term) (re
       record {
         is = moved others.is;
         least = λ other other_detail place at.
-        others.least other other_detail place (not_here names own first start rest none other other_detail place (split names own first start rest at));
+            others.least other other_detail place (not_here names own first start rest none other other_detail place (split names own first start rest at));
       }
 
 nothing_in_none : (names : List (List ℕ)) (own : ℕ) (first : Bool) (rule : Rule) (detail : Detail) (place : Place) (front back : List Term) (term : Term)
@@ -204,3 +204,74 @@ refusal_is : (names : List (List ℕ)) (own : ℕ) (first : Bool) (terms : List 
 refusal_is names own first [] up = λ rule detail place at. nothing_in_none names own first rule detail place at.front at.back at.term at.whole
 refusal_is names own first (start ∷ rest) up =
     or_behind names own first start rest _ _ up (fault_is names own first (is_nil rest) (item_of start)) (refusal_is names own false rest (rises_rest start rest up))
+
+-- such faults are the faults of the forms
+
+first_word : (word : Construct) (all : List Construct) → first_of all ≡ Some word → (rest : List Construct) × (all ≡ word ∷ rest)
+first_word word [] is = absurd (no_word word is)
+first_word word (other ∷ rest) is = let same : other ≡ word = cc in (rest, ap (λ w. w ∷ rest) same)
+
+module _ (names : List (List ℕ)) (terms : List Term) where
+  form_fault : {rule : Rule} {detail : Detail} (front back : List Term) (term : Term) → terms ≡ front ++ term ∷ back
+      → ItemFault names (own_name terms) (is_nil front) (is_nil back) (item_of term) rule detail → HasFormFault names terms rule detail (place_of term)
+  form_fault front back term whole (wrong_item is) = wrong front back term whole (wrong_if names (own_name terms) (is_nil front) (is_nil back) (item_of term) is)
+  form_fault front back term whole (outside_item word is) = let found = first_word word (words (item_of term)) is in outside front back term word found.0 whole found.1
+  form_fault front back term whole (wide_item is) = wide front back term whole is
+
+  from_place : (rule : Rule) (detail : Detail) (place : Place) → FaultAt names (own_name terms) true terms rule detail place → HasFormFault names terms rule detail place
+  from_place rule detail place at =
+      let P : Bool → Type 0 = λ b. ItemFault names (own_name terms) b (is_nil at.back) (item_of at.term) rule detail in
+      let Q : Place → Type 0 = λ p. HasFormFault names terms rule detail p in
+      subst Q (sym at.there) (form_fault at.front at.back at.term at.whole (subst P (at_front-true at.front) at.fault))
+
+  to_front : {rule : Rule} {detail : Detail} (front back : List Term) (term : Term) → terms ≡ front ++ term ∷ back
+      → ItemFault names (own_name terms) (is_nil front) (is_nil back) (item_of term) rule detail → FaultAt names (own_name terms) true terms rule detail (place_of term)
+  to_front {rule} {detail} front back term whole fault =
+      let P : Bool → Type 0 = λ b. ItemFault names (own_name terms) b (is_nil back) (item_of term) rule detail in
+      record { front = front; term = term; back = back; whole = whole; fault = subst P (sym (at_front-true front)) fault; there = refl }
+
+  to_place : (terms ≡ [] → ⊥) → {rule : Rule} {detail : Detail} {place : Place} → HasFormFault names terms rule detail place → FaultAt names (own_name terms) true terms rule detail place
+  to_place some (no_item_at_all empty) = absurd (some empty)
+  to_place some (wrong front back term whole is) = to_front front back term whole (wrong_item (if_wrong names (own_name terms) is))
+  to_place some (outside front back term word rest whole is) = to_front front back term whole (outside_item word (ap first_of is))
+  to_place some (wide front back term whole is) = to_front front back term whole (wide_item is)
+
+some_term : (start : Term) (rest : List Term) → start ∷ rest ≡ [] → ⊥
+some_term start rest same = grind (arith, same)
+
+some_refusal : (refusal : Refusal) → None ≡ Some refusal → ⊥
+some_refusal refusal same = grind (arith, same)
+
+pub no_fault : (names : List (List ℕ)) (terms : List Term) → Rises terms → None ≡ first_refusal names terms
+    → (rule : Rule) (detail : Detail) (place : Place) → HasFormFault names terms rule detail place → ⊥
+no_fault names [] up none rule detail place fault = some_refusal no_item none
+no_fault names (start ∷ rest) up none rule detail place fault =
+    let P : Option Refusal → Type 0 = λ o. IsRefusalOf names (opened (item_of start)) true (start ∷ rest) o in
+    let clear : IsRefusalOf names (opened (item_of start)) true (start ∷ rest) None =
+    subst P (sym none) (refusal_is names (opened (item_of start)) true (start ∷ rest) up) in
+    clear rule detail place (to_place names (start ∷ rest) (some_term start rest) fault)
+
+only_no_item : (names : List (List ℕ)) {rule : Rule} {detail : Detail} {place : Place} → HasFormFault names [] rule detail place
+    → (no_item.place.byte < place.byte) ⊎ ((place ≡ no_item.place) × (rule_number no_item.rule ≤ rule_number rule))
+only_no_item names (no_item_at_all empty) = inr (refl, omega arith)
+only_no_item names (wrong front back term whole is) = absurd (nothing_in_none names 0 true WrongForm Plain no_item.place front back term whole)
+only_no_item names (outside front back term word rest whole is) = absurd (nothing_in_none names 0 true WrongForm Plain no_item.place front back term whole)
+only_no_item names (wide front back term whole is) = absurd (nothing_in_none names 0 true WrongForm Plain no_item.place front back term whole)
+
+first_no_item : (names : List (List ℕ)) → IsFirstFormFault names [] no_item
+first_no_item names = record { fault = no_item_at_all refl; first = λ rule detail place fault. only_no_item names fault }
+
+same_refusal : (refusal other : Refusal) → Some refusal ≡ Some other → refusal ≡ other
+same_refusal refusal other same = cc
+
+pub first_fault : (names : List (List ℕ)) (terms : List Term) (refusal : Refusal) → Rises terms → Some refusal ≡ first_refusal names terms → IsFirstFormFault names terms refusal
+first_fault names [] refusal up found =
+    let P : Refusal → Type 0 = λ r. IsFirstFormFault names [] r in subst P (sym (same_refusal refusal no_item found)) (first_no_item names)
+first_fault names (start ∷ rest) refusal up found =
+    let P : Option Refusal → Type 0 = λ o. IsRefusalOf names (opened (item_of start)) true (start ∷ rest) o in
+    let least : IsFirst names (opened (item_of start)) true (start ∷ rest) refusal =
+    subst P (sym found) (refusal_is names (opened (item_of start)) true (start ∷ rest) up) in
+    record {
+      fault = from_place names (start ∷ rest) refusal.rule refusal.detail refusal.place least.is;
+      first = λ rule detail place fault. least.least rule detail place (to_place names (start ∷ rest) (some_term start rest) fault);
+    }

@@ -1,11 +1,9 @@
 -- The computed test tells exactly the items that are not of their form.
-use Rattle.std.proofs.Common.{◌≡◌, ℕ, ◌==◌, ◌⊎◌, inl, inr, Bool, true, false, not, ◌&&◌, ◌||◌, List, Option, Some, None, refl, ap, sym, ◌∙◌}
-use Rattle.std.specs.List.{list_any, list_all}
+use Rattle.std.proofs.Common.{◌≡◌, ℕ, ◌⊎◌, inl, inr, Bool, true, false, not, ◌&&◌, ◌||◌, List, Option, refl, ap}
 use Rattle.merc_tree.specs.Term.{Term}
-use Rattle.merc_tree.specs.Shape.{arguments_of}
 use Rattle.merc_items.specs.Items.{Item, Opening, Ending, Section, Import, TypeItem, PredicateItem, ModeItem, ClauseItem, OtherType, OtherFunction, OtherGrammar, OtherDeclaration, Formless}
-use Rattle.merc_items.specs.Forms.{is_application, is_head, is_foreign, is_variable, is_literal, has_part, repeats, argument_type, argument_mode, is_moded, lacks_mode, lacks_category, is_opening, IsWrong, no_opening, second_opening, early_end, other_end, formless, type_head, type_qualifier, parameters, parameters_repeat, constructor_head, constructor_qualifier, constructor_literal, predicate_head, predicate_qualifier, predicate_literal, partly_moded, predicate_mode, predicate_category, mode_head, mode_qualifier, mode_argument, mode_category, clause_head}
-use Rattle.merc_items.specs.FormChecks.{is_partly_moded, is_wrong_head, are_wrong_arguments, are_wrong_parameters, are_wrong_constructors, is_wrong_type, is_wrong_predicate, is_wrong_mode, is_wrong_there, is_wrong}
+use Rattle.merc_items.specs.Forms.{is_opening, IsWrong, no_opening, second_opening, early_end, other_end, formless, type_head, type_qualifier, parameters, parameters_repeat, constructor_head, constructor_qualifier, constructor_literal, predicate_head, predicate_qualifier, predicate_literal, partly_moded, predicate_mode, predicate_category, mode_head, mode_qualifier, mode_argument, mode_category, clause_head}
+use Rattle.merc_items.specs.FormChecks.{is_wrong_type, is_wrong_predicate, is_wrong_mode, is_wrong_there, is_wrong}
 
 -- tests
 
@@ -40,19 +38,19 @@ module _ (names : List (List ℕ)) (own : ℕ) (first last : Bool) where
   wrong_type : (head : Term) (constructors : List Term) → is_wrong_type names own head constructors ≡ true → Wrong (TypeItem head constructors)
   wrong_type head constructors is =
       elim (either_of _ _ is) [
-        inl start ↦ elim (either_of _ _ start) [
-          inl heads ↦ elim (either_of _ _ heads) [
-            inl plain ↦ type_head first last head constructors (no_longer _ plain)
+        | inl start ↦ elim (either_of _ _ start) [
+          | inl heads ↦ elim (either_of _ _ heads) [
+            | inl plain ↦ type_head first last head constructors (no_longer _ plain)
             | inr foreign ↦ type_qualifier first last head constructors foreign
           ]
           | inr variables ↦ elim (either_of _ _ variables) [
-            inl kinds ↦ parameters first last head constructors (no_longer _ kinds)
+            | inl kinds ↦ parameters first last head constructors (no_longer _ kinds)
             | inr twice ↦ parameters_repeat first last head constructors twice
           ]
         ]
         | inr rest ↦ elim (either_of _ _ rest) [
-          inl start ↦ elim (either_of _ _ start) [
-            inl kinds ↦ constructor_head first last head constructors (no_longer _ kinds)
+          | inl start ↦ elim (either_of _ _ start) [
+            | inl kinds ↦ constructor_head first last head constructors (no_longer _ kinds)
             | inr foreign ↦ constructor_qualifier first last head constructors foreign
           ]
           | inr literal ↦ constructor_literal first last head constructors literal
@@ -62,14 +60,14 @@ module _ (names : List (List ℕ)) (own : ℕ) (first last : Bool) where
   wrong_predicate : (head : Term) (category : Option Term) → is_wrong_predicate own head category ≡ true → Wrong (PredicateItem head category)
   wrong_predicate head category is =
       elim (either_of _ _ is) [
-        inl start ↦ elim (either_of _ _ start) [
-          inl heads ↦ elim (either_of _ _ heads) [
-            inl plain ↦ predicate_head first last head category (no_longer _ plain)
+        | inl start ↦ elim (either_of _ _ start) [
+          | inl heads ↦ elim (either_of _ _ heads) [
+            | inl plain ↦ predicate_head first last head category (no_longer _ plain)
             | inr foreign ↦ predicate_qualifier first last head category foreign
           ]
           | inr arguments ↦ elim (either_of _ _ arguments) [
-            inl start ↦ elim (either_of _ _ start) [
-              inl literal ↦ predicate_literal first last head category literal
+            | inl start ↦ elim (either_of _ _ start) [
+              | inl literal ↦ predicate_literal first last head category literal
               | inr partly ↦ partly_moded first last head category partly
             ]
             | inr lacking ↦ predicate_mode first last head category lacking
@@ -81,9 +79,9 @@ module _ (names : List (List ℕ)) (own : ℕ) (first last : Bool) where
   wrong_mode : (head : Term) (category : Option Term) → is_wrong_mode own head category ≡ true → Wrong (ModeItem head category)
   wrong_mode head category is =
       elim (either_of _ _ is) [
-        inl start ↦ elim (either_of _ _ start) [
-          inl heads ↦ elim (either_of _ _ heads) [
-            inl plain ↦ mode_head first last head category (no_longer _ plain)
+        | inl start ↦ elim (either_of _ _ start) [
+          | inl heads ↦ elim (either_of _ _ heads) [
+            | inl plain ↦ mode_head first last head category (no_longer _ plain)
             | inr foreign ↦ mode_qualifier first last head category foreign
           ]
           | inr kinds ↦ mode_argument first last head category (no_longer _ kinds)
@@ -115,7 +113,7 @@ wrong_first names own false last item is = cc
 pub wrong_if : (names : List (List ℕ)) (own : ℕ) (first last : Bool) (item : Item) → is_wrong names own first last item ≡ true → IsWrong names own first last item
 wrong_if names own first last item is =
     elim (either_of _ _ is) [
-      inl start ↦ wrong_first names own first last item start
+      | inl start ↦ wrong_first names own first last item start
       | inr there ↦ wrong_there names own first last item there
     ]
 
