@@ -10,3 +10,4 @@ pub mod FormChecks
 pub mod Parameters
 pub mod FormFaults
 pub mod FormsExamples
+pub mod FormChecksExamples
