@@ -1,13 +1,16 @@
 -- Worked examples of how the forms are checked, which the prover computes, and false statements that it refutes.
-use Rattle.std.specs.Prelude.{◌≡◌, ℕ, true, false, List, [], ◌∷◌, Some, None, refl}
-use Rattle.std.proofs.Common.{lit<, arith}
+use Rattle.std.specs.Prelude.{◌≡◌, ℕ, ◌≤◌, true, false, List, [], ◌∷◌, ◌++◌, Some, None, refl}
+use Rattle.std.proofs.Common.{ap, inr, lit<, arith}
 use Rattle.merc_base.specs.declared.place.Place.{Place}
 use Rattle.merc_base.specs.declared.place.Span.{Span}
+use Rattle.merc_base.specs.Refusal.{rule_number}
+use Rattle.merc_base.specs.declared.refusal.Detail.{Detail}
 use Rattle.merc_base.specs.declared.refusal.Detail.TheVariants.{Plain, Word, Limit}
 use Rattle.merc_base.specs.declared.refusal.Construct.TheVariants.{Declaration}
 use Rattle.merc_base.specs.declared.refusal.Fault.TheVariants.{Refused}
 use Rattle.merc_base.specs.declared.refusal.LimitName.TheVariants.{Arity}
 use Rattle.merc_base.specs.declared.refusal.Refusal.{Refusal}
+use Rattle.merc_base.specs.declared.refusal.Rule.{Rule}
 use Rattle.merc_base.specs.declared.refusal.Rule.TheVariants.{WrongForm, OutsideProfile, LimitPassed}
 use Rattle.merc_tree.specs.Term.{Term, Application, none, more}
 use Rattle.merc_tree.specs.declared.term.Shape.TheVariants.{Application as ApplicationShape}
@@ -19,7 +22,7 @@ use Rattle.merc_items.specs.Members.{link_of, stacked}
 use Rattle.merc_items.specs.Operands.{operands_of, head_and_category}
 use Rattle.merc_items.specs.Parameters.{own_variables, has_double, has_equal_neighbors}
 use Rattle.merc_items.specs.Parts.{is_outside_shape, is_moded_shape, is_wide_shape}
-use Rattle.merc_items.specs.Phases.{HasFormFault, wrong}
+use Rattle.merc_items.specs.Phases.{HasFormFault, no_item, wrong, outside, wide}
 use Rattle.merc_items.specs.declared.operands.Operands.TheVariants.{Two, Qualified}
 
 -- terms by their operands
@@ -127,3 +130,25 @@ first_refusal-none = refl
 
 pub HasFormFault-example : HasFormFault names (opening 0 ∷ opening 20 ∷ []) WrongForm Plain at_twenty
 HasFormFault-example = wrong (opening 0 ∷ []) [] (opening 20) refl (second_opening true m)
+
+-- a module without items is refused at its front, and nowhere else
+
+nothing : (front back : List Term) (term : Term) → [] ≡ front ++ term ∷ back → ⊥
+nothing [] back term whole = cc
+nothing (first ∷ front) back term whole = cc
+
+no_item_only : {rule : Rule} {detail : Detail} {place : Place} → HasFormFault names [] rule detail place → (place ≡ record { byte = 0; line = 1 }) × (rule ≡ WrongForm)
+no_item_only (no_item empty) = (refl, refl)
+no_item_only (wrong front back term whole is) = absurd (nothing front back term whole)
+no_item_only (outside front back term word rest whole is) = absurd (nothing front back term whole)
+no_item_only (wide front back term whole is) = absurd (nothing front back term whole)
+
+three_of : (rule : Rule) → rule ≡ WrongForm → 3 ≤ rule_number rule
+three_of rule same = omega (arith, ap rule_number same)
+
+pub IsFormRefusal-example : IsFormRefusal names [] (Refused (record { rule = WrongForm; place = record { byte = 0; line = 1 }; detail = Plain }))
+IsFormRefusal-example =
+    record { fault = no_item refl; first = λ rule detail place fault. let found = no_item_only fault in inr (found.0, three_of rule found.1) }
+
+pub IsFormRefusal-not : IsFormRefusal names [] (Refused (record { rule = WrongForm; place = at_twenty; detail = Plain })) → ⊥
+IsFormRefusal-not refused = omega (arith, ap (λ place. place.byte) (no_item_only refused.fault).0)
