@@ -1,7 +1,6 @@
 //! What is wrong with a declaration or a clause by itself.
-ghost use Rattle.std.specs.Prelude.{◌≡◌, false, not, ◌||◌, IfOk};
-ghost use Rattle.std.specs.List.{list_any, list_all, flat_map};
-ghost use Rattle.merc_tree.specs.Shape.{arguments_of};
+ghost use Rattle.std.specs.Prelude.{◌≡◌, false, not, IfOk};
+ghost use Rattle.std.specs.List.{list_any, list_all};
 ghost use Rattle.merc_items.specs.Items.{Import, TypeItem, PredicateItem, ModeItem, ClauseItem, chain};
 ghost use Rattle.merc_items.specs.Forms.{is_application, is_variable, is_foreign, has_part, is_literal, is_wide, is_head, is_opening, words, is_too_wide};
 ghost use Rattle.merc_items.specs.ItemValue.{item_value};
