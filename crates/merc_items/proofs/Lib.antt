@@ -5,3 +5,5 @@ pub mod Indexes
 pub mod Words
 pub mod Doubles
 pub mod FormWalk
+pub mod WrongForms
+pub mod FormLaws

@@ -10,3 +10,5 @@ pub mod Parts
 pub mod FormChecks
 pub mod Parameters
 pub mod FormFaults
+pub mod FormsExamples
+pub mod FormChecksExamples

@@ -10,3 +10,5 @@ mod members;
 mod operands;
 mod parameters;
 mod parts;
+#[cfg(test)]
+mod tests;

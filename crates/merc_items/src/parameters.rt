@@ -1,7 +1,7 @@
 //! Parameters of types.
-ghost use Rattle.std.specs.Prelude.{◌≡◌, IfOk, Some, None, ◌==◌};
+ghost use Rattle.std.specs.Prelude.{◌≡◌, IfOk};
 ghost use Rattle.merc_items.specs.Forms.{is_blank, repeats};
-ghost use Rattle.merc_items.specs.Parameters.{own_variable, own_variables, has_double, has_equal_neighbors};
+ghost use Rattle.merc_items.specs.Parameters.{own_variable, own_variables, has_equal_neighbors};
 
 use merc_base::{Name, Names, NoMemory};
 use merc_tree::{Shape, TermRef};
