@@ -3,3 +3,4 @@ pub mod Forms
 pub mod Entries
 pub mod Phases
 pub mod ModuleOf
+pub mod KeyValue
