@@ -3,4 +3,8 @@ pub mod Forms
 pub mod Entries
 pub mod Phases
 pub mod ModuleOf
+pub mod Operands
+pub mod ItemValue
+pub mod Members
 pub mod KeyValue
+pub mod EntryValue
