@@ -1,2 +1,4 @@
 pub mod OperandLaws
 pub mod Chains
+pub mod PartTests
+pub mod Indexes

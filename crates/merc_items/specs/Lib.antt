@@ -8,3 +8,4 @@ pub mod ItemValue
 pub mod Members
 pub mod KeyValue
 pub mod EntryValue
+pub mod Parts

@@ -6,3 +6,4 @@ mod item;
 mod key;
 mod members;
 mod operands;
+mod parts;
