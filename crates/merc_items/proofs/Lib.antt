@@ -2,3 +2,5 @@ pub mod OperandLaws
 pub mod Chains
 pub mod PartTests
 pub mod Indexes
+pub mod ListSteps
+pub mod Joined

@@ -9,3 +9,5 @@ pub mod Members
 pub mod KeyValue
 pub mod EntryValue
 pub mod Parts
+pub mod Units
+pub mod Joining
