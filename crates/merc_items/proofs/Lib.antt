@@ -4,3 +4,4 @@ pub mod PartTests
 pub mod Indexes
 pub mod ListSteps
 pub mod Joined
+pub mod Words

@@ -11,3 +11,5 @@ pub mod EntryValue
 pub mod Parts
 pub mod Units
 pub mod Joining
+pub mod FormChecks
+pub mod Parameters

@@ -1,12 +1,16 @@
 //! The items of a module: its declarations and clauses.
 #![tactic(auto)]
 
+mod arguments;
+mod declarations;
 mod distinct_names;
 mod entry;
+mod heads;
 mod item;
 mod joining;
 mod key;
 mod members;
 mod operands;
+mod parameters;
 mod parts;
 mod units;
