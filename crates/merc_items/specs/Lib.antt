@@ -4,3 +4,7 @@ pub mod Entries
 pub mod Phases
 pub mod ModuleOf
 pub mod KeyValue
+pub mod EntryValue
+pub mod Operands
+pub mod ItemValue
+pub mod Members

@@ -1,4 +1,8 @@
 //! The items of a module: its declarations and clauses.
 #![tactic(auto)]
 
+mod entry;
+mod item;
 mod key;
+mod members;
+mod operands;
