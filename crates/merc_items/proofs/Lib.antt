@@ -1,2 +1,4 @@
 pub mod OperandLaws
 pub mod Chains
+pub mod KeyLaws
+pub mod EntryLaws

@@ -8,3 +8,6 @@ pub mod EntryValue
 pub mod Operands
 pub mod ItemValue
 pub mod Members
+pub mod KeySets
+pub mod PhaseFaults
+pub mod ClauseHeads

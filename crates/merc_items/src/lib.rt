@@ -1,8 +1,10 @@
 //! The items of a module: its declarations and clauses.
 #![tactic(auto)]
 
+mod clause_heads;
 mod entry;
 mod item;
 mod key;
+mod key_set;
 mod members;
 mod operands;
