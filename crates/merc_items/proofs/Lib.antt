@@ -2,3 +2,4 @@ pub mod OperandLaws
 pub mod Chains
 pub mod KeyLaws
 pub mod EntryLaws
+pub mod FaultLaws
