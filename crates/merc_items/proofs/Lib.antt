@@ -5,3 +5,6 @@ pub mod Indexes
 pub mod ListSteps
 pub mod Joined
 pub mod Words
+pub mod KeyLaws
+pub mod EntryLaws
+pub mod FaultLaws

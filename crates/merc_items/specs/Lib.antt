@@ -13,3 +13,6 @@ pub mod Units
 pub mod Joining
 pub mod FormChecks
 pub mod Parameters
+pub mod KeySets
+pub mod PhaseFaults
+pub mod ClauseHeads

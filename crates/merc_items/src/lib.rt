@@ -2,6 +2,7 @@
 #![tactic(auto)]
 
 mod arguments;
+mod clause_heads;
 mod declarations;
 mod distinct_names;
 mod entry;
@@ -9,6 +10,7 @@ mod heads;
 mod item;
 mod joining;
 mod key;
+mod key_set;
 mod members;
 mod operands;
 mod parameters;
