@@ -8,3 +8,4 @@ pub mod Words
 pub mod KeyLaws
 pub mod EntryLaws
 pub mod FaultLaws
+pub mod TypeParts

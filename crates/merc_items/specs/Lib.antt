@@ -16,3 +16,5 @@ pub mod Parameters
 pub mod KeySets
 pub mod PhaseFaults
 pub mod ClauseHeads
+pub mod DeclaredTypes
+pub mod DeclaredModes

@@ -4,6 +4,8 @@
 mod arguments;
 mod clause_heads;
 mod declarations;
+mod declared_modes;
+mod declared_types;
 mod distinct_names;
 mod entry;
 mod heads;
