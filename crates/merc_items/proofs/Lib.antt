@@ -3,3 +3,5 @@ pub mod Chains
 pub mod KeyLaws
 pub mod EntryLaws
 pub mod FaultLaws
+pub mod ModeLaws
+pub mod ModeFaultLaws

@@ -11,3 +11,4 @@ pub mod Members
 pub mod KeySets
 pub mod PhaseFaults
 pub mod ClauseHeads
+pub mod ModeCounts

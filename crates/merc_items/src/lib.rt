@@ -7,4 +7,5 @@ mod item;
 mod key;
 mod key_set;
 mod members;
+mod mode_counts;
 mod operands;
