@@ -5,3 +5,7 @@ pub mod EntryLaws
 pub mod FaultLaws
 pub mod ModeLaws
 pub mod ModeFaultLaws
+pub mod PartTests
+pub mod Indexes
+pub mod Words
+pub mod Doubles

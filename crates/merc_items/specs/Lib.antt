@@ -12,3 +12,7 @@ pub mod KeySets
 pub mod PhaseFaults
 pub mod ClauseHeads
 pub mod ModeCounts
+pub mod Parts
+pub mod FormChecks
+pub mod Parameters
+pub mod FormFaults

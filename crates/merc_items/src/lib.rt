@@ -3,9 +3,14 @@
 
 mod clause_heads;
 mod entry;
+mod arguments;
+mod declarations;
+mod heads;
 mod item;
 mod key;
 mod key_set;
 mod members;
 mod mode_counts;
 mod operands;
+mod parameters;
+mod parts;
