@@ -1,6 +1,7 @@
 -- Sets of keys: what an insertion adds.
-use Rattle.std.proofs.Common.{◌≡◌, ℕ, ◌==◌, Bool, true, false, ◌||◌, ◌&&◌, List, [], ◌∷◌, Ordering, Less, Equal, Greater, refl, sym, ◌∙◌, ap, arith, eqb}
+use Rattle.std.proofs.Common.{◌≡◌, ℕ, ◌==◌, Bool, true, false, cond, ◌||◌, ◌&&◌, Option, Some, None, List, [], ◌∷◌, Ordering, Less, Equal, Greater, refl, sym, ◌∙◌, ap, arith, eqb}
 use Rattle.std.specs.List.{list_any}
+use Rattle.std.specs.Map.{lookup}
 use Rattle.std.specs.Ordering.{is_eq, nat_cmp, ordering_then, match_ordering}
 use Rattle.std.specs.BTreeSet.{insert_key}
 use Rattle.std.proofs.lemmas.Bool.Decides.{nat_tests}
@@ -69,3 +70,52 @@ any-insert found (first ∷ rest) key = any-insert-by found first rest key (any-
 pub none-found : (keys : List CodeKey) → list_any (is_found []) keys ≡ false
 none-found [] = refl
 none-found (first ∷ rest) = none-found rest
+
+-- Maps by keys: a look-up by a key in the definitions' sense is one by the code's key
+
+then-both : (a b : Ordering) → is_eq (ordering_then a b) ≡ (is_eq a && is_eq b)
+then-both Less b = refl
+then-both Equal b = refl
+then-both Greater b = refl
+
+number-test : (a b : ℕ) → is_eq (nat_cmp a b) ≡ (a == b)
+number-test a b = grind (arith, nat_tests)
+
+pub same-test : (a b : CodeKey) → is_eq (compare_keys a b) ≡ is_key (key_value a) (key_value b)
+same-test a b =
+    then-both (nat_cmp a.name b.name) (nat_cmp a.arity b.arity)
+    ∙ ap (λ (test : Bool). test && is_eq (nat_cmp a.arity b.arity)) (number-test a.name b.name)
+    ∙ ap (λ (test : Bool). (a.name == b.name) && test) (number-test a.arity b.arity)
+
+lookup-by : {X : Type 0} (key : CodeKey) (entry : CodeKey × X) (rest : List (CodeKey × X)) → lookup (λ other. is_eq (compare_keys key other)) rest ≡ lookup (is_found (key_value key ∷ [])) rest → lookup (λ other. is_eq (compare_keys key other)) (entry ∷ rest) ≡ lookup (is_found (key_value key ∷ [])) (entry ∷ rest)
+lookup-by {X} key entry rest hypothesis =
+    ap (λ (test : Bool). cond test (Some entry.1) (lookup (λ other. is_eq (compare_keys key other)) rest)) (same-test key entry.0)
+    ∙ ap (λ (found : Option X). cond (is_found (key_value key ∷ []) entry.0) (Some entry.1) found) hypothesis
+
+pub lookup-same : {X : Type 0} (key : CodeKey) (entries : List (CodeKey × X)) → lookup (λ other. is_eq (compare_keys key other)) entries ≡ lookup (is_found (key_value key ∷ [])) entries
+lookup-same key [] = refl
+lookup-same key (entry ∷ rest) = lookup-by key entry rest (lookup-same key rest)
+
+pub lookup-nothing : {X : Type 0} (entries : List (CodeKey × X)) → lookup (is_found []) entries ≡ None
+lookup-nothing [] = refl
+lookup-nothing (entry ∷ rest) = lookup-nothing rest
+
+pub lookup-many : {X : Type 0} (a b : Key) (more : List Key) (entries : List (CodeKey × X)) → lookup (is_found (a ∷ b ∷ more)) entries ≡ None
+lookup-many a b more [] = refl
+lookup-many a b more (entry ∷ rest) = lookup-many a b more rest
+
+number-swap : (a b : ℕ) → (a == b) ≡ (b == a)
+number-swap a b = grind (arith, nat_tests)
+
+pub key-swap : (a b : Key) → is_key a b ≡ is_key b a
+key-swap a b =
+    ap (λ (test : Bool). test && (a.arity == b.arity)) (number-swap a.name b.name)
+    ∙ ap (λ (test : Bool). (b.name == a.name) && test) (number-swap a.arity b.arity)
+
+is-equal : (order : Ordering) → is_eq order ≡ true → order ≡ Equal
+is-equal Less same = cc
+is-equal Equal same = refl
+is-equal Greater same = cc
+
+pub test-equal : (a b : CodeKey) → is_eq (compare_keys a b) ≡ true → a ≡ b
+test-equal a b same = keys-equal a b (is-equal (compare_keys a b) same)

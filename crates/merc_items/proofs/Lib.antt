@@ -9,3 +9,6 @@ pub mod KeyLaws
 pub mod EntryLaws
 pub mod FaultLaws
 pub mod TypeParts
+pub mod ModeLaws
+pub mod ModeFaultLaws
+pub mod Doubles

@@ -8,9 +8,13 @@ use Rattle.merc_base.specs.declared.refusal.Rule.TheVariants.{WrongForm, Outside
 use Rattle.merc_base.specs.declared.refusal.Detail.{Detail}
 use Rattle.merc_base.specs.declared.refusal.Detail.TheVariants.{Plain, Word, Limit}
 use Rattle.merc_base.specs.declared.refusal.LimitName.TheVariants.{Arity}
+use Rattle.merc_base.specs.declared.refusal.Refusal.{Refusal}
+use Rattle.merc_base.specs.declared.place.Place.{Place}
 use Rattle.merc_tree.specs.Term.{Term}
 use Rattle.merc_tree.specs.Shape.{arguments_of}
-use Rattle.merc_items.specs.Items.{Item, Opening, Ending, Section, Import, TypeItem, PredicateItem, ModeItem, ClauseItem, OtherType, OtherFunction, OtherGrammar, OtherDeclaration, Formless, plain_name}
+use Rattle.merc_items.specs.Items.{Item, Opening, Ending, Section, Import, TypeItem, PredicateItem, ModeItem, ClauseItem, OtherType, OtherFunction, OtherGrammar, OtherDeclaration, Formless, item_of, plain_name}
+use Rattle.merc_items.specs.Entries.{place_of}
+use Rattle.merc_items.specs.Phases.{is_nil, opened}
 use Rattle.merc_items.specs.Forms.{is_application, is_head, is_foreign, is_variable, repeats, has_part, is_literal, argument_type, argument_mode, is_moded, lacks_mode, lacks_category, is_opening, word_if, is_unit, words, is_too_wide}
 
 -- a head of a predicate or a mode that is none, or another module's
@@ -93,3 +97,24 @@ least_fault false word wide = outside_fault word wide
 -- the first fault of an item
 abbrev pub fault_of : List (List ℕ) → ℕ → (first last : Bool) → Item → Option (Rule × Detail)
 fault_of names own first last item = least_fault (is_wrong names own first last item) (first_of (words item)) (is_too_wide item)
+
+abbrev pub at_place : Place → Option (Rule × Detail) → Option Refusal
+at_place place None = None
+at_place place (Some (rule, detail)) = Some (record { rule = rule; place = place; detail = detail })
+
+abbrev pub refusal_of : List (List ℕ) → ℕ → (first last : Bool) → Term → Option Refusal
+refusal_of names own first last term = at_place (place_of term) (fault_of names own first last (item_of term))
+
+abbrev pub or_else : Option Refusal → Option Refusal → Option Refusal
+or_else None other = other
+or_else (Some refusal) other = Some refusal
+
+-- the refusal at the first of these items that has a fault; behind the first item none is the first
+abbrev pub refusal_from : List (List ℕ) → ℕ → Bool → List Term → Option Refusal
+refusal_from names own first [] = None
+refusal_from names own first (term ∷ rest) = or_else (refusal_of names own first (is_nil rest) term) (refusal_from names own false rest)
+
+-- the refusal of the items of a module
+abbrev pub first_refusal : List (List ℕ) → List Term → Option Refusal
+first_refusal names [] = Some (record { rule = WrongForm; place = record { byte = 0; line = 1 }; detail = Plain })
+first_refusal names (first ∷ rest) = refusal_from names (opened (item_of first)) true (first ∷ rest)

@@ -18,3 +18,5 @@ pub mod PhaseFaults
 pub mod ClauseHeads
 pub mod DeclaredTypes
 pub mod DeclaredModes
+pub mod ModeCounts
+pub mod FormFaults

@@ -3,7 +3,7 @@ ghost use Rattle.std.specs.Prelude.{◌≡◌, false, not, ◌||◌, IfOk};
 ghost use Rattle.std.specs.List.{list_any, list_all, flat_map};
 ghost use Rattle.merc_tree.specs.Shape.{arguments_of};
 ghost use Rattle.merc_items.specs.Items.{Import, TypeItem, PredicateItem, ModeItem, ClauseItem, chain};
-ghost use Rattle.merc_items.specs.Forms.{is_application, is_variable, is_foreign, has_part, is_literal, is_wide, is_head, words, is_too_wide};
+ghost use Rattle.merc_items.specs.Forms.{is_application, is_variable, is_foreign, has_part, is_literal, is_wide, is_head, is_opening, words, is_too_wide};
 ghost use Rattle.merc_items.specs.ItemValue.{item_value};
 ghost use Rattle.merc_items.specs.FormChecks.{are_wrong_parameters, are_wrong_constructors, is_wrong_type, is_wrong_predicate, is_wrong_mode, first_of, wide_fault, least_fault, fault_of};
 
@@ -22,6 +22,13 @@ use crate::parts::{has_part, PartTest};
 use merc_base::{Construct, Detail, LimitName, Name, Names, NoMemory, Rule};
 use merc_tree::TermRef;
 use std::alloc::Global;
+
+/// Where an item stands among the others.
+#[derive(Clone, Copy)]
+pub(crate) struct Position {
+    pub(crate) is_first: bool,
+    pub(crate) is_last: bool,
+}
 
 // The fault of the lowest rule among a wrong form, what the profile leaves out, and too many arguments.
 fn least_fault(is_wrong: bool, word: Option<Construct>, is_too_wide: bool) -> Option<(Rule, Detail)>
@@ -209,4 +216,40 @@ fn clause_fault(head: &TermRef<'_>) -> Option<(Rule, Detail)>
         None
     };
     least_fault(!is_head(head), word, is_wide(head))
+}
+
+/// The first fault of an item in a module of this name. It may stand first, and it may stand last.
+pub(crate) fn item_fault(
+    alloc: Global,
+    names: &Names,
+    own: Name,
+    position: Position,
+    item: &Item<'_>,
+) -> Result<Option<(Rule, Detail)>, NoMemory>
+    ensures { IfOk result (λ fault. fault ≡ fault_of names.now own position.is_first position.is_last (item_value item.now)) }
+{
+    if position.is_first && !is_opening(item) {
+        return Ok(Some((Rule::WrongForm, Detail::Plain)));
+    }
+    match item {
+        Item::Opening(_) => Ok(least_fault(!position.is_first, None, false)),
+        Item::Ending(name) => Ok(least_fault(!position.is_last || *name != own, None, false)),
+        Item::Section => Ok(None),
+        Item::Import(root) => import_fault(alloc, root),
+        Item::Type(head, root) => type_fault(alloc, names, own, head, root),
+        Item::Predicate(head, category) => predicate_fault(alloc, own, head, category),
+        Item::Mode(head, category) => mode_fault(alloc, own, head, category),
+        Item::Clause(head, _) => Ok(clause_fault(head)),
+        Item::OtherType => Ok(least_fault(false, Some(Construct::Type), false)),
+        Item::OtherFunction => Ok(least_fault(false, Some(Construct::Function), false)),
+        Item::OtherGrammar => Ok(least_fault(false, Some(Construct::GrammarRule), false)),
+        Item::OtherDeclaration => Ok(least_fault(false, Some(Construct::Declaration), false)),
+        Item::Formless => Ok(least_fault(true, None, false)),
+    }
+}
+
+fn is_opening(item: &Item<'_>) -> bool
+    ensures { result ≡ is_opening (item_value item.now) }
+{
+    matches!(item, Item::Opening(_))
 }

@@ -14,6 +14,7 @@ mod joining;
 mod key;
 mod key_set;
 mod members;
+mod mode_counts;
 mod operands;
 mod parameters;
 mod parts;
