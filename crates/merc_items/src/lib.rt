@@ -8,6 +8,7 @@ mod declared_modes;
 mod declared_types;
 mod distinct_names;
 mod entry;
+mod forms;
 mod heads;
 mod item;
 mod joining;

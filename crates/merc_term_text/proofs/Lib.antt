@@ -1,1 +1,14 @@
 pub mod Parted
+pub mod PartedExamples
+pub mod Utf8Parts
+pub mod EscapedReads
+pub mod Behind
+pub mod DecimalReads
+pub mod NamesRead
+pub mod OperatorsRead
+pub mod PiecesBehind
+pub mod TokensRead
+pub mod PiecesRead
+pub mod PiecesValid
+pub mod TokensKnown
+pub mod Writable

@@ -115,10 +115,28 @@ touches names Bar next = false
 touches names Dot next = is_name_kind names next
 touches names Stop next = false
 
+-- whether a blank or the end may stand behind this token or none: behind a qualifier mark it would make that a full stop
+abbrev pub may_end : Option TokenKind → Bool
+may_end None = true
+may_end (Some (Name name)) = true
+may_end (Some (Quoted name)) = true
+may_end (Some (Var name)) = true
+may_end (Some (Int value)) = true
+may_end (Some (TextToken name)) = true
+may_end (Some OpenArgs) = true
+may_end (Some Open) = true
+may_end (Some Close) = true
+may_end (Some OpenList) = true
+may_end (Some CloseList) = true
+may_end (Some Comma) = true
+may_end (Some Bar) = true
+may_end (Some Dot) = false
+may_end (Some Stop) = true
+
 -- whether pieces are parted well, directly behind this token or none
 abbrev pub parted : List (List ℕ) → Option TokenKind → List Piece → Bool
-parted names before [] = true
-parted names before (Blank ∷ rest) = parted names None rest
+parted names before [] = may_end before
+parted names before (Blank ∷ rest) = may_end before && parted names None rest
 parted names None (Token next ∷ rest) = begins_part next && parted names (Some next) rest
 parted names (Some before) (Token next ∷ rest) = touches names before next && parted names (Some next) rest
 
@@ -134,9 +152,9 @@ abbrev pub is_variable_text : List ℕ → Bool
 is_variable_text [] = false
 is_variable_text (byte ∷ rest) = (is_upper byte || (byte == 95)) && list_all is_word rest
 
--- a name of the operator table
+-- a name of the operator table but for the comma, which is a token of its own
 abbrev pub is_operator : ℕ → Bool
-is_operator name = is_some (infix_named name) || is_some (prefix_named name)
+is_operator name = (is_some (infix_named name) || is_some (prefix_named name)) && not (name == 26)
 
 -- the table has what a token names, and the token can be spelled so
 abbrev pub IsSpelled : List (List ℕ) → TokenKind → Type 0

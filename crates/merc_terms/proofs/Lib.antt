@@ -1,0 +1,17 @@
+pub mod OperatorLaws
+pub mod BuiltLaws
+pub mod ReaderLaws
+pub mod ReaderSteps
+pub mod Building
+pub mod Starts
+pub mod Table
+pub mod Sound
+pub mod Shorter
+pub mod Steps
+pub mod Settled
+pub mod Complete
+pub mod WholeTerms
+pub mod Renaming
+pub mod ReadingLaws
+pub mod ReadingExamples
+pub mod ItemLaws

@@ -1,6 +1,12 @@
 //! The terms of Mercury text: the second phase of reading it, exact for every list of tokens.
 #![tactic(auto)]
 
+mod built;
 mod frame;
+mod items;
+mod moving;
 mod operators;
+mod reading;
 mod starting;
+
+pub use items::{read_goal, read_items};

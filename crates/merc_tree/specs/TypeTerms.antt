@@ -1,5 +1,5 @@
 -- How types are kept as terms: `int` as an integer, `string` as a text, and no span anywhere.
-use Rattle.std.specs.Prelude.{◌≡◌, List, None, pos, refl}
+use Rattle.std.specs.Prelude.{◌≡◌, List, map, None, pos, refl}
 use Rattle.std.specs.Coded.{Coded, code_by, coded_list}
 use Rattle.std.proofs.Common.{ap, ◌∙◌}
 use Rattle.merc_tree.specs.Term.{Term, Terms, Variable, Integer, Text, Application, none, more, no_span}
@@ -41,6 +41,13 @@ mutual
   all_types-terms_for no_types = refl
   all_types-terms_for (more_types first rest) =
       ap (λ t. more_types t (all_types (terms_for rest))) (type_of-term_for first) ∙ ap (more_types first) (all_types-terms_for rest)
+
+-- Terms that keep types are those that `term_for` makes.
+abbrev pub KeepsType : Term → Type 0
+KeepsType term = term_for (type_of term) ≡ term
+
+abbrev pub KeepTypes : List Term → Type 0
+KeepTypes terms = map term_for (map type_of terms) ≡ terms
 
 -- a type is stored as the term that keeps it
 abbrev pub type_code : Coded TypeExpr

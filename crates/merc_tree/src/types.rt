@@ -1,5 +1,5 @@
 //! Types, as declarations and the checker of types have them.
-ghost use Rattle.std.specs.Prelude.{◌≡◌, ◌≢◌, ◌≤◌, ◌==◌, ◌&&◌, [], ◌∷◌, ◌++◌, length, slice_get, IfOk, OnOk, OnErr, MatchOption};
+ghost use Rattle.std.specs.Prelude.{◌≡◌, ◌≢◌, ◌≤◌, ◌==◌, ◌&&◌, ◌↔◌, [], ◌∷◌, ◌++◌, length, slice_get, IfOk, OnOk, OnErr, MatchOption, IsTrue};
 ghost use Rattle.merc_tree.specs.Types.{TypeVariable, IntType, TextType};
 ghost use Rattle.merc_tree.specs.TypeShape.{type_arguments_of, type_shape_of, types_applied};
 
@@ -41,11 +41,13 @@ impl Model for TypeExprs {
 
     ghost Value = { List TypeExpr };
 
-    ghost use Rattle.merc_tree.specs.TypeTerms.{type_of, types_code};
+    ghost use Rattle.merc_tree.specs.TypeTerms.{type_of, types_code, KeepTypes};
 
     ghost coded = { types_code };
 
     ghost view = { λ t. map type_of t.terms };
+
+    ghost invariant = { λ t. KeepTypes t.terms };
 }
 
 impl TypeExprs {
@@ -144,11 +146,13 @@ impl Model for TypeExpr {
 
     ghost Value = { TypeExpr };
 
-    ghost use Rattle.merc_tree.specs.TypeTerms.{type_of, type_code};
+    ghost use Rattle.merc_tree.specs.TypeTerms.{type_of, type_code, KeepsType};
 
     ghost coded = { type_code };
 
     ghost view = { λ t. type_of t.term };
+
+    ghost invariant = { λ t. KeepsType t.term };
 }
 
 impl TypeExpr {
@@ -180,11 +184,13 @@ impl<'a> Model for TypeRef<'a> {
 
     ghost Value = { TypeExpr };
 
-    ghost use Rattle.merc_tree.specs.TypeTerms.{type_of, type_code};
+    ghost use Rattle.merc_tree.specs.TypeTerms.{type_of, type_code, KeepsType};
 
     ghost coded = { type_code };
 
     ghost view = { λ t. type_of t.term };
+
+    ghost invariant = { λ t. KeepsType t.term };
 }
 
 impl<'a> TypeRef<'a> {
@@ -218,6 +224,13 @@ impl<'a> TypeRef<'a> {
         }
     }
 
+    /// Whether both are the same type.
+    pub fn is_same(&self, other: &TypeRef<'_>) -> bool
+        ensures { IsTrue result ↔ (self.now ≡ other.now) }
+    {
+        self.term.is_same(&other.term)
+    }
+
     /// A copy of its own.
     pub fn to_type(&self, alloc: Global) -> Result<TypeExpr, NoMemory>
         ensures { IfOk result (λ copy. copy ≡ self.now) }
@@ -239,11 +252,13 @@ impl<'a> Model for TypeArguments<'a> {
 
     ghost Value = { List TypeExpr };
 
-    ghost use Rattle.merc_tree.specs.TypeTerms.{type_of, types_code};
+    ghost use Rattle.merc_tree.specs.TypeTerms.{type_of, types_code, KeepTypes};
 
     ghost coded = { types_code };
 
     ghost view = { λ a. map type_of a.terms };
+
+    ghost invariant = { λ a. KeepTypes a.terms };
 }
 
 impl<'a> TypeArguments<'a> {

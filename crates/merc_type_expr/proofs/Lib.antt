@@ -1,0 +1,5 @@
+pub mod Replacing
+pub mod Lists
+pub mod General
+pub mod Searching
+pub mod Settling

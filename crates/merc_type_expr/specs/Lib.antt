@@ -1,1 +1,4 @@
 pub mod Unifier
+pub mod Outcome
+pub mod Solving
+pub mod SubstCode

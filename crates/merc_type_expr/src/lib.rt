@@ -1,2 +1,10 @@
 //! Substitutions of types, and most general unifiers.
 #![tactic(auto)]
+
+mod following;
+mod occurring;
+mod pairing;
+mod solving;
+pub mod subst;
+
+pub use subst::{unify, Subst};
