@@ -13,3 +13,6 @@ pub mod ModeLaws
 pub mod ModeFaultLaws
 pub mod Doubles
 pub mod FormWalk
+pub mod TokenLengths
+pub mod Rising
+pub mod ReadingLaws

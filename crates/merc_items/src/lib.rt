@@ -19,4 +19,5 @@ mod mode_counts;
 mod operands;
 mod parameters;
 mod parts;
+mod reading;
 mod units;
