@@ -1,2 +1,3 @@
 pub mod OperandLaws
 pub mod Chains
+pub mod FirstAgain

@@ -8,3 +8,5 @@ pub mod ItemValue
 pub mod Members
 pub mod KeyValue
 pub mod EntryValue
+pub mod FirstPlaces
+pub mod ModeValue

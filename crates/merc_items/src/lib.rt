@@ -1,6 +1,7 @@
 //! The items of a module: its declarations and clauses.
 #![tactic(auto)]
 
+mod doubles;
 mod entry;
 mod item;
 mod key;

@@ -1,0 +1,5 @@
+//! Doubled declarations.
+
+mod again;
+mod declarations;
+mod modes;
