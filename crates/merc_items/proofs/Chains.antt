@@ -76,32 +76,48 @@ link_less operator (Application name (Some qualifier) arguments span) = tt
 pub link_smaller : (operator : ℕ) (term : Term) (link : Term × Term) → Some link ≡ link_of operator term → size link.0 + size link.1 < size term
 link_smaller operator term link is = let P : Option (Term × Term) → Type 0 = λ o. IsLess (size term) o in subst P (sym is) (link_less operator term)
 
--- one step: a link gives way to its two sides, a member joins those before
+-- one step: a link gives way to its two sides, and a member joins those before it
 
-pub link_step : (operator : ℕ) (members stack : List Term) (term : Term) (link : Term × Term) → Some link ≡ link_of operator term
-    → members ++ stacked operator ((stack ++ link.1 ∷ []) ++ link.0 ∷ []) ≡ members ++ stacked operator (stack ++ term ∷ [])
-link_step operator members stack term (first, second) is =
-    ap (λ l. members ++ l) (
-      stacked-push operator (stack ++ second ∷ []) first
-      ∙ ap (λ l. chain operator first ++ l) (stacked-push operator stack second)
-      ∙ sym (append_assoc (chain operator first) (chain operator second) (stacked operator stack))
-      ∙ ap (λ l. l ++ stacked operator stack) (ap (members_by operator term) is ∙ sym (chain-by operator term))
-      ∙ sym (stacked-push operator stack term)
-    )
+module _ (operator : ℕ) (members old popped : List Term) (term : Term) (popping : old ≡ popped ++ term ∷ []) where
+  pub link_step : (once twice : List Term) (first second : Term) → once ≡ popped ++ second ∷ [] → twice ≡ once ++ first ∷ []
+      → Some (first, second) ≡ link_of operator term → (whole : List Term) → members ++ stacked operator old ≡ whole → members ++ stacked operator twice ≡ whole
+  link_step once twice first second one two is whole before =
+      ap (λ l. members ++ l) (
+        ap (stacked operator) (two ∙ ap (λ l. l ++ first ∷ []) one)
+        ∙ stacked-push operator (popped ++ second ∷ []) first
+        ∙ ap (λ l. chain operator first ++ l) (stacked-push operator popped second)
+        ∙ sym (append_assoc (chain operator first) (chain operator second) (stacked operator popped))
+        ∙ ap (λ l. l ++ stacked operator popped) (ap (members_by operator term) is ∙ sym (chain-by operator term))
+        ∙ sym (stacked-push operator popped term)
+        ∙ ap (stacked operator) (sym popping)
+      )
+      ∙ before
 
-pub member_step : (operator : ℕ) (members stack : List Term) (term : Term) → None ≡ link_of operator term
-    → (members ++ term ∷ []) ++ stacked operator stack ≡ members ++ stacked operator (stack ++ term ∷ [])
-member_step operator members stack term is =
-    append_assoc members (term ∷ []) (stacked operator stack)
-    ∙ ap (λ l. members ++ l) (
-      ap (λ l. l ++ stacked operator stack) (ap (members_by operator term) is ∙ sym (chain-by operator term))
-      ∙ sym (stacked-push operator stack term)
-    )
+  pub link_size : (once twice : List Term) (first second : Term) → once ≡ popped ++ second ∷ [] → twice ≡ once ++ first ∷ []
+      → Some (first, second) ≡ link_of operator term → stack_size twice < stack_size old
+  link_size once twice first second one two is =
+      omega (
+        arith,
+        ap stack_size two,
+        ap stack_size one,
+        ap stack_size popping,
+        stack_size-push once first,
+        stack_size-push popped second,
+        stack_size-push popped term,
+        link_smaller operator term (first, second) is,
+      )
 
-pub link_size : (operator : ℕ) (stack : List Term) (term : Term) (link : Term × Term) → Some link ≡ link_of operator term
-    → stack_size ((stack ++ link.1 ∷ []) ++ link.0 ∷ []) < stack_size (stack ++ term ∷ [])
-link_size operator stack term (first, second) is =
-    omega (arith, stack_size-push (stack ++ second ∷ []) first, stack_size-push stack second, stack_size-push stack term, link_smaller operator term (first, second) is)
+  pub member_step : (more_members : List Term) → more_members ≡ members ++ term ∷ [] → None ≡ link_of operator term
+      → (whole : List Term) → members ++ stacked operator old ≡ whole → more_members ++ stacked operator popped ≡ whole
+  member_step more_members pushing is whole before =
+      ap (λ l. l ++ stacked operator popped) pushing
+      ∙ append_assoc members (term ∷ []) (stacked operator popped)
+      ∙ ap (λ l. members ++ l) (
+        ap (λ l. l ++ stacked operator popped) (ap (members_by operator term) is ∙ sym (chain-by operator term))
+        ∙ sym (stacked-push operator popped term)
+        ∙ ap (stacked operator) (sym popping)
+      )
+      ∙ before
 
 size_some : (term : Term) → 0 < size term
 size_some (Variable name span) = omega arith
@@ -109,5 +125,5 @@ size_some (Integer value span) = omega arith
 size_some (Text text span) = omega arith
 size_some (Application name qualifier arguments span) = omega arith
 
-pub member_size : (stack : List Term) (term : Term) → stack_size stack < stack_size (stack ++ term ∷ [])
-member_size stack term = omega (arith, stack_size-push stack term, size_some term)
+pub member_size : (old popped : List Term) (term : Term) → old ≡ popped ++ term ∷ [] → stack_size popped < stack_size old
+member_size old popped term popping = omega (arith, ap stack_size popping, stack_size-push popped term, size_some term)

@@ -1,3 +1,5 @@
 pub mod OperandLaws
 pub mod Chains
 pub mod FirstAgain
+pub mod PartTests
+pub mod Indexes

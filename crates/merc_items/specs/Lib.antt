@@ -10,3 +10,4 @@ pub mod KeyValue
 pub mod EntryValue
 pub mod FirstPlaces
 pub mod ModeValue
+pub mod Parts

@@ -7,3 +7,4 @@ mod item;
 mod key;
 mod members;
 mod operands;
+mod parts;

@@ -3,3 +3,4 @@ pub mod NodeLaws
 pub mod SameTerms
 pub mod PartLaws
 pub mod TypeLaws
+pub mod PartShapes

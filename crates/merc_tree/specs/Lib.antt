@@ -9,7 +9,9 @@ pub mod Nodes
 pub mod TermCode
 pub mod TypeTerms
 pub mod TypeShape
+pub mod Postfix
 pub mod Parts
 pub mod Examples
 pub mod TermExamples
 pub mod NodesExamples
+pub mod PostfixExamples

@@ -5,6 +5,7 @@ ghost use Rattle.merc_tree.specs.Nodes.{with_root, arity_of, shapes};
 ghost use Rattle.merc_tree.specs.Term.{Variable, Integer, Text, applied, enclosed, bare, span_of};
 ghost use Rattle.merc_tree.specs.Shape.{shape_of, arguments_of};
 ghost use Rattle.merc_tree.specs.Nesting.{nesting};
+ghost use Rattle.merc_tree.specs.Postfix.{shapes_of};
 
 mod nesting;
 
@@ -301,6 +302,20 @@ impl<'a> TermRef<'a> {
         }
     }
 
+    /// The number of the term's parts, itself among them.
+    pub fn part_count(&self) -> usize
+        ensures { result ≡ length (shapes_of self.now) }
+    {
+        self.nodes.len()
+    }
+
+    /// The shape of the part at an index, None past the last. The parts of its arguments stand before the term itself.
+    pub fn part_shape(&self, index: usize) -> Option<Shape>
+        ensures { result ≡ slice_get (shapes_of self.now) index }
+    {
+        shape_at(self.nodes, index)
+    }
+
     /// How deep the term is nested: 1 for a variable, a literal and a plain name, and for an application 1 more than
     /// its deepest argument. A chain to the right of `,`, `;`, `&`, `else` or of list cells counts once.
     pub fn nesting(&self, alloc: Global) -> Result<usize, NoMemory>
@@ -331,6 +346,13 @@ fn last_node(nodes: &[Node]) -> Node
     ensures { nodes.now ≡ take (length nodes.now - 1) nodes.now ++ result ∷ [] }
 {
     nodes[nodes.len() - 1]
+}
+
+// The shape of the node at an index.
+fn shape_at(nodes: &[Node], index: usize) -> Option<Shape>
+    ensures { result ≡ slice_get (shapes nodes.now) index }
+{
+    nodes.get(index).map(|node| node.shape)
 }
 
 // Whether nodes have the same shapes, in order.
