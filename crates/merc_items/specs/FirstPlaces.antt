@@ -3,8 +3,8 @@ use Rattle.std.specs.Prelude.{Bool, nat_le, List, [], ◌∷◌, ◌++◌, map, 
 use Rattle.std.specs.List.{list_any}
 use Rattle.merc_base.specs.declared.place.Place.{Place}
 use Rattle.merc_items.specs.declared.doubles.again.Declared.{Declared as CodeDeclared}
-use Rattle.merc_items.specs.Entries.{Declared}
-use Rattle.merc_items.specs.Phases.{later}
+use Rattle.merc_items.specs.Entries.{Entry, Declared, is_key, is_same_mode, constructors_of, predicates_of, modes_of, declared_by}
+use Rattle.merc_items.specs.Phases.{type_keys, is_arithmetic, key, own_entries, import_place, later}
 
 -- what the code's declaration stands for, by what its key stands for
 abbrev pub declared_value : {C K : Type 0} → (C → K) → CodeDeclared C → Declared K
@@ -39,3 +39,22 @@ abbrev pub earlier : Option Place → Option Place → Option Place
 earlier None b = b
 earlier (Some a) None = Some a
 earlier (Some a) (Some b) = if nat_le a.byte b.byte then Some a else Some b
+
+-- the place of the first constructor that is declared again or is an arithmetic one
+abbrev pub constructor_double : List Entry → Option Place
+constructor_double entries = earlier (first_again is_key (declared_by constructors_of entries)) (first_such is_arithmetic (declared_by constructors_of entries))
+
+-- the place of the first predicate that is declared again, or of `error/1` beside the unit `require`
+abbrev pub predicate_double : List Entry → Option Place
+predicate_double entries =
+    earlier (first_again is_key (declared_by predicates_of entries))
+    (both_later (import_place 62 entries) (first_such (is_key (key 54 1)) (declared_by predicates_of entries)))
+
+-- the place of the first doubled declaration
+abbrev pub first_double : List Entry → Option Place
+first_double entries =
+    earlier (first_again is_key (type_keys entries))
+    (earlier (constructor_double entries)
+    (earlier (predicate_double entries)
+    (earlier (first_again is_same_mode (declared_by modes_of (own_entries entries)))
+    (both_later (import_place 60 entries) (import_place 61 entries)))))

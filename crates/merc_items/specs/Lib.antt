@@ -11,3 +11,4 @@ pub mod EntryValue
 pub mod FirstPlaces
 pub mod ModeValue
 pub mod Parts
+pub mod DoubleFaults

@@ -2,7 +2,7 @@
 ghost use Rattle.std.specs.Prelude.{◌≡◌, ◌++◌, map, IfOk, OnOk};
 ghost use Rattle.std.specs.Option.{option_to_list};
 ghost use Rattle.merc_items.specs.Entries.{key_of, types_of, constructors_of, predicates_of, modes_of, declared_by};
-ghost use Rattle.merc_items.specs.Phases.{type_keys, own_entries};
+ghost use Rattle.merc_items.specs.Phases.{type_keys, at_start, key, own_entries};
 ghost use Rattle.merc_items.specs.ItemValue.{item_value};
 ghost use Rattle.merc_items.specs.EntryValue.{entry_value, entry_values};
 ghost use Rattle.merc_items.specs.KeyValue.{key_value};
@@ -10,7 +10,7 @@ ghost use Rattle.merc_items.specs.ModeValue.{mode_value};
 ghost use Rattle.merc_items.specs.FirstPlaces.{declared_value, declared_at};
 
 use super::again::Declared;
-use super::modes::{mode_of, Mode};
+use super::modes::{Mode, mode_of};
 use crate::entry::Entry;
 use crate::item::Item;
 use crate::key::Key;
@@ -83,7 +83,9 @@ pub(crate) fn modes(alloc: Global, entries: &[Entry<'_>]) -> Result<Vec<Declared
 }
 
 // A type without arguments that is declared before any item.
-fn at_start(name: Name) -> Declared<Key> {
+fn at_start(name: Name) -> Declared<Key>
+    ensures { declared_value key_value result ≡ at_start (key name 0) }
+{
     Declared {
         key: Key { name, arity: 0 },
         place: Place { byte: 0, line: 1 },

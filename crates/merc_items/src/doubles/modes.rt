@@ -13,7 +13,7 @@ use super::declarations::key_of;
 use crate::item::Item;
 use crate::key::Key;
 use crate::members::arguments;
-use crate::operands::{operands_of, plain_name, Operands};
+use crate::operands::{Operands, operands_of, plain_name};
 use merc_base::{Name, NoMemory};
 use merc_tree::TermRef;
 use std::alloc::Global;

@@ -1,6 +1,5 @@
 use Rattle.std.proofs.Common.{◌≡◌, ◌++◌, map, drop}
 use Rattle.merc_items.specs.Entries.{declared_by, predicates_of}
-use Rattle.merc_items.specs.Phases.{type_keys}
 use Rattle.merc_items.specs.EntryValue.{entry_values}
 use Rattle.merc_items.specs.KeyValue.{key_value}
 use Rattle.merc_items.specs.FirstPlaces.{declared_value}
