@@ -12,3 +12,4 @@ pub mod FirstPlaces
 pub mod ModeValue
 pub mod Parts
 pub mod DoubleFaults
+pub mod DoubleExamples
