@@ -14,6 +14,8 @@ mod declarations;
 mod imports;
 mod modes;
 mod places;
+#[cfg(test)]
+mod tests;
 
 use crate::entry::Entry;
 use crate::key::Key;

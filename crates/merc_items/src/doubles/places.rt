@@ -29,5 +29,9 @@ pub(crate) fn both_later(first: Option<Place>, second: Option<Place>) -> Option<
 fn later(a: Place, b: Place) -> Place
     ensures { result ≡ later a b }
 {
-    if a.byte <= b.byte { b } else { a }
+    if b.byte < a.byte {
+        a
+    } else {
+        b
+    }
 }
