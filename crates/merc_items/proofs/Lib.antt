@@ -6,3 +6,13 @@ pub mod Indexes
 pub mod DeclarationSteps
 pub mod FirstDoubles
 pub mod SameKeys
+pub mod ListSteps
+pub mod Joined
+pub mod Words
+pub mod KeyLaws
+pub mod EntryLaws
+pub mod FaultLaws
+pub mod TypeParts
+pub mod ModeLaws
+pub mod ModeFaultLaws
+pub mod Doubles

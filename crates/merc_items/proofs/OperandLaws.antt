@@ -1,5 +1,5 @@
 -- What items are, by the operands of their terms.
-use Rattle.std.proofs.Common.{◌≡◌, ℕ, ◌==◌, [], ◌∷◌, Bool, true, false, Option, Some, None, if◌then◌else◌, refl}
+use Rattle.std.proofs.Common.{◌≡◌, ℕ, ◌==◌, Bool, true, false, Option, Some, None, if◌then◌else◌, refl}
 use Rattle.merc_tree.specs.Term.{Term, Variable, Integer, Text, Application, none, more}
 use Rattle.merc_items.specs.Items.{Item, OtherType, OtherGrammar, OtherDeclaration, Formless, TypeItem, ClauseItem, item_of, declaration, nullary, unary, wider, type_item, chain, plain_name, with_category}
 use Rattle.merc_items.specs.Operands.{operands_of, head_and_category}

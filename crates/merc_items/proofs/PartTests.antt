@@ -1,11 +1,12 @@
 -- Tests on the parts of a term are tests on its shapes.
-use Rattle.std.proofs.Common.{◌≡◌, ℕ, suc, zero, ◌+◌, ◌==◌, nat_le, Bool, true, false, ◌&&◌, ◌||◌, List, [], ◌∷◌, ◌++◌, Some, None, length, refl, ap, sym, ◌∙◌, ne_eqb, arith}
+use Rattle.std.proofs.Common.{◌≡◌, ℕ, suc, zero, ◌+◌, ◌-◌, ◌==◌, nat_le, Bool, true, false, ◌&&◌, ◌||◌, List, [], ◌∷◌, ◌++◌, Some, None, length, take, refl, ap, sym, ◌∙◌, ne_eqb, arith}
 use Rattle.std.specs.List.{list_any}
+use Rattle.std.proofs.lemmas.List.{take_at, length-append}
 use Rattle.std.proofs.lemmas.List.Folds.{list_any-append}
 use Rattle.merc_tree.specs.declared.term.Shape.{Shape}
 use Rattle.merc_tree.specs.declared.term.Shape.TheVariants.{Application as ApplicationShape}
 use Rattle.merc_tree.specs.Term.{Term, Terms, Variable, Integer, Text, Application, none, more, list_of}
-use Rattle.merc_tree.specs.Shape.{shape_of}
+use Rattle.merc_tree.specs.Shape.{shape_of, arguments_of}
 use Rattle.merc_tree.specs.Postfix.{shapes_of, all_shapes}
 use Rattle.merc_items.specs.Forms.{has_part, have_part}
 use Rattle.merc_items.specs.Parts.{test_of, shape_test}
@@ -88,3 +89,23 @@ test_same Wide term = wide_same term
 
 pub has_part-by_shapes : (test : PartTest) (term : Term) → has_part (test_of test) term ≡ list_any (shape_test test) (shapes_of term)
 has_part-by_shapes test term = has_part-shapes (test_of test) (shape_test test) (test_same test) term
+
+-- the parts of arguments are those before the last
+
+any_argument : (test : PartTest) (arguments : Terms) → list_any (has_part (test_of test)) (list_of arguments) ≡ list_any (shape_test test) (all_shapes arguments)
+any_argument test none = refl
+any_argument test (more first rest) =
+    ap (λ b. b || list_any (has_part (test_of test)) (list_of rest)) (has_part-by_shapes test first)
+    ∙ ap (λ b. list_any (shape_test test) (shapes_of first) || b) (any_argument test rest)
+    ∙ sym (list_any-append (shape_test test) (shapes_of first) (all_shapes rest))
+
+all_but_last : (shapes : List Shape) (last : Shape) → take (length (shapes ++ last ∷ []) - 1) (shapes ++ last ∷ []) ≡ shapes
+all_but_last shapes last = take_at shapes (last ∷ []) (length (shapes ++ last ∷ []) - 1) (omega (arith, length-append shapes (last ∷ [])))
+
+pub arguments-by_shapes : (test : PartTest) (term : Term)
+    → list_any (shape_test test) (take (length (shapes_of term) - 1) (shapes_of term)) ≡ list_any (has_part (test_of test)) (arguments_of term)
+arguments-by_shapes test (Variable name span) = refl
+arguments-by_shapes test (Integer value span) = refl
+arguments-by_shapes test (Text text span) = refl
+arguments-by_shapes test (Application name qualifier arguments span) =
+    ap (list_any (shape_test test)) (all_but_last (all_shapes arguments) _) ∙ sym (any_argument test arguments)

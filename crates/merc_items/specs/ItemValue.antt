@@ -1,5 +1,4 @@
 -- What the code's items stand for.
-use Rattle.std.specs.Prelude.{ℕ}
 use Rattle.merc_items.specs.declared.item.Item.{Item as CodeItem}
 use Rattle.merc_items.specs.declared.item.Item.TheVariants.{Opening as CodeOpening, Ending as CodeEnding, Section as CodeSection, Import as CodeImport, «Type» as CodeType, Predicate as CodePredicate, Mode as CodeMode, Clause as CodeClause, OtherType as CodeOtherType, OtherFunction as CodeOtherFunction, OtherGrammar as CodeOtherGrammar, OtherDeclaration as CodeOtherDeclaration, Formless as CodeFormless}
 use Rattle.merc_items.specs.Items.{Item, Opening, Ending, Section, Import, TypeItem, PredicateItem, ModeItem, ClauseItem, OtherType, OtherFunction, OtherGrammar, OtherDeclaration, Formless, chain}

@@ -13,3 +13,14 @@ pub mod ModeValue
 pub mod Parts
 pub mod DoubleFaults
 pub mod DoubleExamples
+pub mod Units
+pub mod Joining
+pub mod FormChecks
+pub mod Parameters
+pub mod KeySets
+pub mod PhaseFaults
+pub mod ClauseHeads
+pub mod DeclaredTypes
+pub mod DeclaredModes
+pub mod ModeCounts
+pub mod FormFaults

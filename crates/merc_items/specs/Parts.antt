@@ -1,5 +1,5 @@
 -- Tests on the parts of a term, which look at the shape of each part alone.
-use Rattle.std.specs.Prelude.{ℕ, Bool, true, false, ◌==◌, ◌&&◌, ◌||◌, nat_le, nat_lt, Option, Some, None}
+use Rattle.std.specs.Prelude.{ℕ, Bool, true, false, ◌==◌, ◌&&◌, ◌||◌, nat_le, nat_lt, Some, None}
 use Rattle.merc_tree.specs.declared.term.Shape.{Shape}
 use Rattle.merc_tree.specs.declared.term.Shape.TheVariants.{Variable as VariableShape, Integer as IntegerShape, Text as TextShape, Application as ApplicationShape}
 use Rattle.merc_tree.specs.Term.{Term}

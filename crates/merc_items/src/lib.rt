@@ -1,10 +1,22 @@
 //! The items of a module: its declarations and clauses.
 #![tactic(auto)]
 
+mod arguments;
+mod clause_heads;
+mod declarations;
+mod declared_modes;
+mod declared_types;
+mod distinct_names;
 mod doubles;
 mod entry;
+mod heads;
 mod item;
+mod joining;
 mod key;
+mod key_set;
 mod members;
+mod mode_counts;
 mod operands;
+mod parameters;
 mod parts;
+mod units;

@@ -1,7 +1,8 @@
 //! Tests on all parts of a term.
-ghost use Rattle.std.specs.Prelude.{◌≡◌};
+ghost use Rattle.std.specs.Prelude.{◌≡◌, take};
 ghost use Rattle.std.specs.List.{list_any};
 ghost use Rattle.merc_tree.specs.Postfix.{shapes_of};
+ghost use Rattle.merc_tree.specs.Shape.{arguments_of};
 ghost use Rattle.merc_items.specs.Forms.{has_part};
 ghost use Rattle.merc_items.specs.Parts.{test_of, shape_test, is_literal_shape, is_outside_shape, is_outside_name, is_moded_shape, is_wide_shape};
 
@@ -28,7 +29,21 @@ pub(crate) enum PartTest {
 pub(crate) fn has_part(term: &TermRef<'_>, test: PartTest) -> bool
     ensures { result ≡ has_part (test_of test) term.now }
 {
-    for index in 0..term.part_count() {
+    any_part(term, term.part_count(), test)
+}
+
+/// Whether some part of some argument of a term passes a test.
+pub(crate) fn arguments_have_part(term: &TermRef<'_>, test: PartTest) -> bool
+    ensures { result ≡ list_any (has_part (test_of test)) (arguments_of term.now) }
+{
+    any_part(term, term.part_count().saturating_sub(1), test)
+}
+
+// Whether one of so many parts passes a test.
+fn any_part(term: &TermRef<'_>, count: usize, test: PartTest) -> bool
+    ensures { result ≡ list_any (shape_test test) (take count (shapes_of term.now)) }
+{
+    for index in 0..count {
         if let Some(shape) = term.part_shape(index) {
             if passes(&shape, test) {
                 return true;
@@ -38,7 +53,8 @@ pub(crate) fn has_part(term: &TermRef<'_>, test: PartTest) -> bool
     false
 }
 
-fn passes(shape: &Shape, test: PartTest) -> bool
+/// Whether a term of this shape passes a test.
+pub(crate) fn passes(shape: &Shape, test: PartTest) -> bool
     ensures { result ≡ shape_test test shape.now }
 {
     match test {
@@ -55,8 +71,8 @@ fn is_literal(shape: &Shape) -> bool
     matches!(shape, Shape::Integer(_) | Shape::Text(_))
 }
 
-/// Whether a term of this shape is a type that the profile leaves out.
-pub(crate) fn is_outside_type(shape: &Shape) -> bool
+// Whether a term of this shape is a type that the profile leaves out.
+fn is_outside_type(shape: &Shape) -> bool
     ensures { result ≡ is_outside_shape shape.now }
 {
     match shape {
