@@ -8,7 +8,11 @@ pub mod ItemValue
 pub mod Members
 pub mod KeyValue
 pub mod EntryValue
+pub mod FirstPlaces
+pub mod ModeValue
 pub mod Parts
+pub mod DoubleFaults
+pub mod DoubleExamples
 pub mod Units
 pub mod Joining
 pub mod FormChecks

@@ -7,6 +7,7 @@ mod declarations;
 mod declared_modes;
 mod declared_types;
 mod distinct_names;
+mod doubles;
 mod entry;
 mod forms;
 mod heads;
