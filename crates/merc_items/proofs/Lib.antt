@@ -20,3 +20,5 @@ pub mod FormWalk
 pub mod TokenLengths
 pub mod Rising
 pub mod ReadingLaws
+pub mod WrongForms
+pub mod FormLaws

@@ -1,5 +1,5 @@
 -- What is wrong with an item, computed: each kind of item by itself.
-use Rattle.std.specs.Prelude.{ℕ, ◌+◌, Bool, true, false, ◌==◌, ◌&&◌, ◌||◌, not, List, [], ◌∷◌, length, slice_get, Option, Some, None, if◌then◌else◌}
+use Rattle.std.specs.Prelude.{ℕ, ◌+◌, Bool, true, false, ◌==◌, ◌&&◌, ◌||◌, not, List, [], ◌∷◌, length, slice_get, Option, Some, None}
 use Rattle.std.specs.List.{list_any, list_all}
 use Rattle.merc_base.specs.declared.refusal.Construct.{Construct}
 use Rattle.merc_base.specs.declared.refusal.Construct.TheVariants.{Import as ImportWord}

@@ -26,3 +26,4 @@ pub mod ModeCounts
 pub mod FormFaults
 pub mod ReadItems
 pub mod ReadModule
+pub mod FormsExamples

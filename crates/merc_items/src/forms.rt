@@ -9,8 +9,8 @@ ghost use Rattle.merc_items.specs.ItemValue.{item_value};
 ghost use Rattle.merc_items.specs.FormChecks.{at_place, refusal_at, no_item, first_refusal};
 ghost use Rattle.merc_items.specs.FormFaults.{Rises, IsFormRefusal};
 
-use crate::declarations::{item_fault, Position};
-use crate::item::{item_of, Item};
+use crate::declarations::{Position, item_fault};
+use crate::item::{Item, item_of};
 use merc_base::{Detail, Fault, Name, Names, NoMemory, Place, Refusal, Rule};
 use merc_tree::{TermRef, Terms};
 use std::alloc::Global;
@@ -27,11 +27,7 @@ pub(crate) fn check_forms(alloc: Global, terms: &Terms, names: &Names) -> Result
     }
 }
 
-fn first_refusal(
-    alloc: Global,
-    terms: &Terms,
-    names: &Names,
-) -> Result<Option<Refusal>, NoMemory>
+fn first_refusal(alloc: Global, terms: &Terms, names: &Names) -> Result<Option<Refusal>, NoMemory>
     ensures { IfOk result (λ refusal. refusal ≡ first_refusal names.now terms.now) }
 {
     let own = match terms.get(0) {

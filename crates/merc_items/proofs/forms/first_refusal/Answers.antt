@@ -1,4 +1,4 @@
-use Rattle.std.proofs.Common.{◌≡◌, ◌<◌, ◌==◌, length, sym, ap, ◌∙◌, arith}
+use Rattle.std.proofs.Common.{◌<◌, ◌==◌, length, sym, ap, ◌∙◌, arith}
 use Rattle.merc_items.specs.Phases.{opened}
 use Rattle.merc_items.proofs.FormWalk.{refused_at, passed_at, first_by, all_passed}
 use Rattle.merc_items.proofs.forms.first_refusal.Goals as goal
