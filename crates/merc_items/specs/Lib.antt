@@ -16,3 +16,4 @@ pub mod Parts
 pub mod FormChecks
 pub mod Parameters
 pub mod FormFaults
+pub mod KnownTypes

@@ -1,14 +1,15 @@
 //! The items of a module: its declarations and clauses.
 #![tactic(auto)]
 
-mod clause_heads;
-mod entry;
 mod arguments;
+mod clause_heads;
 mod declarations;
+mod entry;
 mod heads;
 mod item;
 mod key;
 mod key_set;
+mod known_types;
 mod members;
 mod mode_counts;
 mod operands;
