@@ -9,3 +9,4 @@ pub mod PartTests
 pub mod Indexes
 pub mod Words
 pub mod Doubles
+pub mod TypeLaws

@@ -169,11 +169,10 @@ impl KnownTypes {
     fn add(&mut self, entry: &Entry<'_>) -> Result<(), NoMemory>
         ensures { OnOk result (AddsTypes self.old self.new (entry_value entry.now)) }
     {
-        let key = type_key(&entry.item);
-        self.any.insert(key)?;
+        self.any.insert(type_key(&entry.item))?;
         match entry.unit {
-            Some(unit) => self.units.insert(unit, key)?,
-            None => self.file.insert(key)?,
+            Some(unit) => self.units.insert(unit, type_key(&entry.item))?,
+            None => self.file.insert(type_key(&entry.item))?,
         }
         Ok(())
     }
