@@ -79,7 +79,7 @@ then-both Less b = refl
 then-both Equal b = refl
 then-both Greater b = refl
 
-number-test : (a b : ℕ) → is_eq (nat_cmp a b) ≡ (a == b)
+pub number-test : (a b : ℕ) → is_eq (nat_cmp a b) ≡ (a == b)
 number-test a b = grind (arith, nat_tests)
 
 pub same-test : (a b : CodeKey) → is_eq (compare_keys a b) ≡ is_key (key_value a) (key_value b)
@@ -105,7 +105,7 @@ pub lookup-many : {X : Type 0} (a b : Key) (more : List Key) (entries : List (Co
 lookup-many a b more [] = refl
 lookup-many a b more (entry ∷ rest) = lookup-many a b more rest
 
-number-swap : (a b : ℕ) → (a == b) ≡ (b == a)
+pub number-swap : (a b : ℕ) → (a == b) ≡ (b == a)
 number-swap a b = grind (arith, nat_tests)
 
 pub key-swap : (a b : Key) → is_key a b ≡ is_key b a

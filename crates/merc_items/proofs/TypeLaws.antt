@@ -1,12 +1,13 @@
 -- The types that declarations name, against those that are declared.
-use Rattle.std.proofs.Common.{◌≡◌, ℕ, ◌-◌, ◌==◌, Bool, true, false, not, ◌||◌, ◌&&◌, Option, Some, None, List, [], ◌∷◌, ◌++◌, Ordering, Equal, length, take, refl, sym, ◌∙◌, ap, arith}
+use Rattle.std.proofs.Common.{◌≡◌, ℕ, ◌-◌, ◌==◌, Bool, true, false, cond, not, ◌||◌, ◌&&◌, Option, Some, None, List, [], ◌∷◌, ◌++◌, Ordering, Equal, length, take, refl, sym, ◌∙◌, ap, arith}
 use Rattle.std.specs.List.{list_any}
-use Rattle.std.specs.Ordering.{nat_cmp, ordering_then}
+use Rattle.std.specs.Ordering.{is_eq, nat_cmp, ordering_then}
 use Rattle.std.specs.BTreeSet.{BTreeSet, contains, insert_key}
 use Rattle.std.proofs.lemmas.List.{take_at, length-append}
 use Rattle.std.proofs.lemmas.List.Folds.{list_any-append}
 use Rattle.merc_tree.specs.Term.{Term, Terms, Variable, Integer, Text, Application, none, more, list_of}
 use Rattle.merc_tree.specs.declared.term.Shape.{Shape}
+use Rattle.merc_tree.specs.declared.term.Shape.TheVariants.{Variable as VariableShape}
 use Rattle.merc_tree.specs.Shape.{shape_of, arguments_of}
 use Rattle.merc_tree.specs.Postfix.{shapes_of, all_shapes}
 use Rattle.merc_items.specs.declared.known_types.UnitKey.{UnitKey}
@@ -19,7 +20,7 @@ use Rattle.merc_items.specs.Forms.{is_blank, is_this_variable, has_part, argumen
 use Rattle.merc_items.specs.Entries.{Entry, Key, is_key}
 use Rattle.merc_items.specs.Phases.{is_known_type, is_unknown, is_unbound, key, has_unknown}
 use Rattle.merc_items.specs.KnownTypes.{HoldsTypes, is_known_by, is_wrong_shape, HoldsVariables}
-use Rattle.merc_items.proofs.KeyLaws.{compare_keys, number-equal, then-equal, keys-equal, any-insert}
+use Rattle.merc_items.proofs.KeyLaws.{compare_keys, number-test, number-swap, number-equal, then-equal, keys-equal, any-insert}
 use Rattle.merc_items.proofs.PartTests.{has_part-shapes}
 
 -- Keys of units
@@ -100,3 +101,24 @@ type-agrees names own entries types head constructors set holds variables =
       ∙ sym (any-same (has_part test) (λ argument. list_any (is_wrong_shape names types (Only set)) (shapes_of argument))
         (has_part-shapes test (is_wrong_shape names types (Only set)) (wrong-agrees names own entries types (arguments_of head) set holds variables)) (arguments_of constructor)))
     constructors
+
+-- the variables among parameters, from the right
+
+shuffle : (a test held : Bool) → (a || cond test true held) ≡ ((a || (test || false)) || held)
+shuffle true test held = refl
+shuffle false true held = refl
+shuffle false false held = refl
+
+pub variable-step : (name other : ℕ) (argument : Term) (rest old : List Term) (held after whole : Bool) → VariableShape other ≡ shape_of argument → old ≡ rest ++ argument ∷ [] → after ≡ cond (is_eq (nat_cmp other name)) true held → (list_any (is_this_variable name) old || held) ≡ whole → (list_any (is_this_variable name) rest || after) ≡ whole
+variable-step name other (Variable stands span) rest old held after whole shape before added walked =
+    let same : other ≡ stands = cc in
+    let test : is_eq (nat_cmp other name) ≡ (name == stands) = number-test other name ∙ number-swap other name ∙ ap (λ (n : ℕ). name == n) same in
+    let now : after ≡ cond (name == stands) true held = added ∙ ap (λ (b : Bool). cond b true held) test in
+    ap (λ (b : Bool). list_any (is_this_variable name) rest || b) now
+    ∙ shuffle (list_any (is_this_variable name) rest) (name == stands) held
+    ∙ ap (λ (b : Bool). b || held) (sym (list_any-append (is_this_variable name) rest (Variable stands span ∷ [])))
+    ∙ ap (λ (terms : List Term). list_any (is_this_variable name) terms || held) (sym before)
+    ∙ walked
+variable-step name other (Integer value span) rest old held after whole shape before added walked = cc
+variable-step name other (Text text span) rest old held after whole shape before added walked = cc
+variable-step name other (Application root qualifier arguments span) rest old held after whole shape before added walked = cc

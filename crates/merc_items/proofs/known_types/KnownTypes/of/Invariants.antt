@@ -4,4 +4,4 @@ use Rattle.merc_items.specs.KnownTypes.{HoldsTypes}
 use Rattle.merc_items.proofs.known_types.KnownTypes.of.Given as goal
 
 abbrev pub invariant-loop-entry : goal.invariant-loop-entry
-invariant-loop-entry l = HoldsTypes l.own (entry_values (take l.entry-index l.entries)) l.types
+invariant-loop-entry l = HoldsTypes l.fn.own (entry_values (take l.entry-index l.entries)) l.types
