@@ -16,10 +16,10 @@ compare_keys a b = ordering_then (nat_cmp a.name b.name) (nat_cmp a.arity b.arit
 abbrev pub is_found : List Key → CodeKey → Bool
 is_found found key = are_keys found (key_value key ∷ [])
 
-number-equal : (a b : ℕ) → nat_cmp a b ≡ Equal → a ≡ b
+pub number-equal : (a b : ℕ) → nat_cmp a b ≡ Equal → a ≡ b
 number-equal a b same = grind (arith, nat_tests)
 
-then-equal : (a b : Ordering) → ordering_then a b ≡ Equal → (a ≡ Equal) × (b ≡ Equal)
+pub then-equal : (a b : Ordering) → ordering_then a b ≡ Equal → (a ≡ Equal) × (b ≡ Equal)
 then-equal Less b same = cc
 then-equal Equal b same = (refl, same)
 then-equal Greater b same = cc
@@ -54,18 +54,19 @@ alone : (a : Bool) → (a || false) ≡ (false || a)
 alone true = refl
 alone false = refl
 
-any-insert-by : (found : List Key) (first : CodeKey) (rest : List CodeKey) (key : CodeKey) → list_any (is_found found) (insert_key compare_keys rest key) ≡ (list_any (is_found found) rest || is_found found key) → (order : Ordering) → compare_keys key first ≡ order → list_any (is_found found) (match_ordering order (key ∷ first ∷ rest) (first ∷ rest) (first ∷ insert_key compare_keys rest key)) ≡ (list_any (is_found found) (first ∷ rest) || is_found found key)
-any-insert-by found first rest key hypothesis Less order = swap (is_found found key) (is_found found first) (list_any (is_found found) rest)
-any-insert-by found first rest key hypothesis Equal order =
-    let same : is_found found key ≡ is_found found first = ap (is_found found) (keys-equal key first order) in
-    again (is_found found first) (list_any (is_found found) rest) ∙ ap (λ (b : Bool). list_any (is_found found) (first ∷ rest) || b) (sym same)
-any-insert-by found first rest key hypothesis Greater order =
-    ap (λ (b : Bool). is_found found first || b) hypothesis
-    ∙ regroup (is_found found first) (list_any (is_found found) rest) (is_found found key)
+module _ {K : Type 0} (compare : K → K → Ordering) (test : K → Bool) (same : (a b : K) → compare a b ≡ Equal → test a ≡ test b) where
+  any-insert-by : (first : K) (rest : List K) (key : K) → list_any test (insert_key compare rest key) ≡ (list_any test rest || test key) → (order : Ordering) → compare key first ≡ order → list_any test (match_ordering order (key ∷ first ∷ rest) (first ∷ rest) (first ∷ insert_key compare rest key)) ≡ (list_any test (first ∷ rest) || test key)
+  any-insert-by first rest key hypothesis Less order = swap (test key) (test first) (list_any test rest)
+  any-insert-by first rest key hypothesis Equal order = again (test first) (list_any test rest) ∙ ap (λ (b : Bool). list_any test (first ∷ rest) || b) (sym (same key first order))
+  any-insert-by first rest key hypothesis Greater order = ap (λ (b : Bool). test first || b) hypothesis ∙ regroup (test first) (list_any test rest) (test key)
 
-pub any-insert : (found : List Key) (keys : List CodeKey) (key : CodeKey) → list_any (is_found found) (insert_key compare_keys keys key) ≡ (list_any (is_found found) keys || is_found found key)
-any-insert found [] key = alone (is_found found key)
-any-insert found (first ∷ rest) key = any-insert-by found first rest key (any-insert found rest key) (compare_keys key first) refl
+  -- a key is inserted among others
+  pub any-insert : (keys : List K) (key : K) → list_any test (insert_key compare keys key) ≡ (list_any test keys || test key)
+  any-insert [] key = alone (test key)
+  any-insert (first ∷ rest) key = any-insert-by first rest key (any-insert rest key) (compare key first) refl
+
+pub any-key : (found : List Key) (keys : List CodeKey) (key : CodeKey) → list_any (is_found found) (insert_key compare_keys keys key) ≡ (list_any (is_found found) keys || is_found found key)
+any-key found = any-insert compare_keys (is_found found) (λ a b equal. ap (is_found found) (keys-equal a b equal))
 
 pub none-found : (keys : List CodeKey) → list_any (is_found []) keys ≡ false
 none-found [] = refl
@@ -78,7 +79,7 @@ then-both Less b = refl
 then-both Equal b = refl
 then-both Greater b = refl
 
-number-test : (a b : ℕ) → is_eq (nat_cmp a b) ≡ (a == b)
+pub number-test : (a b : ℕ) → is_eq (nat_cmp a b) ≡ (a == b)
 number-test a b = grind (arith, nat_tests)
 
 pub same-test : (a b : CodeKey) → is_eq (compare_keys a b) ≡ is_key (key_value a) (key_value b)
@@ -104,7 +105,7 @@ pub lookup-many : {X : Type 0} (a b : Key) (more : List Key) (entries : List (Co
 lookup-many a b more [] = refl
 lookup-many a b more (entry ∷ rest) = lookup-many a b more rest
 
-number-swap : (a b : ℕ) → (a == b) ≡ (b == a)
+pub number-swap : (a b : ℕ) → (a == b) ≡ (b == a)
 number-swap a b = grind (arith, nat_tests)
 
 pub key-swap : (a b : Key) → is_key a b ≡ is_key b a

@@ -22,3 +22,4 @@ pub mod Rising
 pub mod ReadingLaws
 pub mod WrongForms
 pub mod FormLaws
+pub mod TypeLaws

@@ -27,3 +27,4 @@ pub mod FormFaults
 pub mod ReadItems
 pub mod ReadModule
 pub mod FormsExamples
+pub mod KnownTypes
