@@ -15,7 +15,7 @@ pub mod FaultLaws
 pub mod TypeParts
 pub mod ModeLaws
 pub mod ModeFaultLaws
-pub mod Doubles
+pub mod RepeatedNames
 pub mod FormWalk
 pub mod TokenLengths
 pub mod Rising
@@ -23,3 +23,4 @@ pub mod ReadingLaws
 pub mod WrongForms
 pub mod FormLaws
 pub mod TypeLaws
+pub mod FirstFaults

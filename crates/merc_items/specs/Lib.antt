@@ -28,3 +28,4 @@ pub mod ReadItems
 pub mod ReadModule
 pub mod FormsExamples
 pub mod KnownTypes
+pub mod ModuleFaults
