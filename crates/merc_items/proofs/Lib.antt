@@ -12,3 +12,4 @@ pub mod TypeParts
 pub mod ModeLaws
 pub mod ModeFaultLaws
 pub mod Doubles
+pub mod ModeGrouping

@@ -47,16 +47,21 @@ impl<'e, 'a> ModeGroups<'e, 'a> {
         Ok(groups)
     }
 
-    /// The entries that declare modes of the predicate with this head.
-    pub(crate) fn of_predicate(&self, head: &TermRef<'_>) -> &[&'e Entry<'a>]
-        ensures { lent result.now ≡ group_of self.now (key_of head.now) }
+    /// The modes of the predicate with this head, in order.
+    pub(crate) fn modes(
+        &self,
+        alloc: Global,
+        head: &TermRef<'_>,
+    ) -> Result<ModeDecls, NoMemory>
+        ensures { IfOk result (λ modes. modes ≡ flat_map entry_modes (group_of self.now (key_of head.now))) }
     {
-        match key_of(head) {
-            Some(key) => match self.by_key.get(&key) {
-                Some(group) => group,
-                None => &[],
-            },
-            None => &[],
+        let key = match key_of(head) {
+            Some(key) => key,
+            None => return Ok(ModeDecls::new(alloc)),
+        };
+        match self.by_key.get(&key) {
+            Some(group) => modes(alloc, group),
+            None => Ok(ModeDecls::new(alloc)),
         }
     }
 
@@ -122,8 +127,8 @@ fn are_moded(mut arguments: Arguments<'_>) -> bool
     true
 }
 
-/// The modes that entries declare, in order.
-pub(crate) fn modes(alloc: Global, entries: &[&Entry<'_>]) -> Result<ModeDecls, NoMemory>
+// The modes that entries declare, in order.
+fn modes(alloc: Global, entries: &[&Entry<'_>]) -> Result<ModeDecls, NoMemory>
     ensures { IfOk result (λ modes. modes ≡ flat_map entry_modes (lent entries.now)) }
 {
     let mut modes = ModeDecls::new(alloc);
