@@ -20,3 +20,5 @@ pub mod DeclaredTypes
 pub mod DeclaredModes
 pub mod ModeCounts
 pub mod FormFaults
+pub mod Parting
+pub mod Assembling

@@ -2,6 +2,7 @@
 #![tactic(auto)]
 
 mod arguments;
+mod assembling;
 mod clause_heads;
 mod declarations;
 mod declared_modes;
@@ -17,5 +18,6 @@ mod members;
 mod mode_counts;
 mod operands;
 mod parameters;
+mod parting;
 mod parts;
 mod units;
