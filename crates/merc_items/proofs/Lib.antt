@@ -13,3 +13,4 @@ pub mod ModeLaws
 pub mod ModeFaultLaws
 pub mod Doubles
 pub mod ModeGrouping
+pub mod Assembled

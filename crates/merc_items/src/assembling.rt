@@ -1,10 +1,11 @@
 //! The module that items are.
-ghost use Rattle.std.specs.Prelude.{◌≡◌, [], ◌∷◌, ◌++◌, List, map, IfOk, OnOk};
+ghost use Rattle.std.specs.Prelude.{◌≡◌, [], ◌∷◌, ◌++◌, map, IfOk, OnOk};
 ghost use Rattle.std.specs.List.{flat_map};
 ghost use Rattle.merc_items.specs.Entries.{with_units, units_of};
-ghost use Rattle.merc_items.specs.EntryValue.{entry_value, entry_values};
-ghost use Rattle.merc_items.specs.Items.{chain, TypeItem, ClauseItem, item_of};
-ghost use Rattle.merc_items.specs.Phases.{own_name};
+ghost use Rattle.merc_items.specs.EntryValue.{entry_values};
+ghost use Rattle.merc_items.specs.ItemValue.{item_value};
+ghost use Rattle.merc_items.specs.Items.{chain, TypeItem};
+ghost use Rattle.merc_items.specs.Phases.{opened, own_name};
 ghost use Rattle.merc_items.specs.ModuleOf.{constructor_of, clauses_in, head_name, module_of, pred_decls, type_defs, type_defs_of, variable_names};
 ghost use Rattle.merc_items.specs.Assembling.{clause_of, pred_decl_of, preds_by};
 ghost use Rattle.merc_items.specs.Parting.{kept, part_of};
@@ -59,11 +60,17 @@ fn own_name(terms: &Terms) -> Name
     ensures { result ≡ own_name terms.now }
 {
     match terms.get(0) {
-        Some(term) => match item_of(&term) {
-            Item::Opening(name) => name,
-            _ => ANY_NAME,
-        },
+        Some(first) => opened(&item_of(&first)),
         None => ANY_NAME,
+    }
+}
+
+fn opened(item: &Item<'_>) -> Name
+    ensures { result ≡ opened (item_value item.now) }
+{
+    match item {
+        Item::Opening(name) => *name,
+        _ => ANY_NAME,
     }
 }
 
