@@ -83,13 +83,13 @@ module _ (operator : ℕ) (members old popped : List Term) (term : Term) (poppin
       → Some (first, second) ≡ link_of operator term → (whole : List Term) → members ++ stacked operator old ≡ whole → members ++ stacked operator twice ≡ whole
   link_step once twice first second one two is whole before =
       ap (λ l. members ++ l) (
-        ap (stacked operator) (two ∙ ap (λ l. l ++ first ∷ []) one)
-        ∙ stacked-push operator (popped ++ second ∷ []) first
-        ∙ ap (λ l. chain operator first ++ l) (stacked-push operator popped second)
-        ∙ sym (append_assoc (chain operator first) (chain operator second) (stacked operator popped))
-        ∙ ap (λ l. l ++ stacked operator popped) (ap (members_by operator term) is ∙ sym (chain-by operator term))
-        ∙ sym (stacked-push operator popped term)
-        ∙ ap (stacked operator) (sym popping)
+      ap (stacked operator) (two ∙ ap (λ l. l ++ first ∷ []) one)
+      ∙ stacked-push operator (popped ++ second ∷ []) first
+      ∙ ap (λ l. chain operator first ++ l) (stacked-push operator popped second)
+      ∙ sym (append_assoc (chain operator first) (chain operator second) (stacked operator popped))
+      ∙ ap (λ l. l ++ stacked operator popped) (ap (members_by operator term) is ∙ sym (chain-by operator term))
+      ∙ sym (stacked-push operator popped term)
+      ∙ ap (stacked operator) (sym popping)
       )
       ∙ before
 
@@ -113,9 +113,9 @@ module _ (operator : ℕ) (members old popped : List Term) (term : Term) (poppin
       ap (λ l. l ++ stacked operator popped) pushing
       ∙ append_assoc members (term ∷ []) (stacked operator popped)
       ∙ ap (λ l. members ++ l) (
-        ap (λ l. l ++ stacked operator popped) (ap (members_by operator term) is ∙ sym (chain-by operator term))
-        ∙ sym (stacked-push operator popped term)
-        ∙ ap (stacked operator) (sym popping)
+      ap (λ l. l ++ stacked operator popped) (ap (members_by operator term) is ∙ sym (chain-by operator term))
+      ∙ sym (stacked-push operator popped term)
+      ∙ ap (stacked operator) (sym popping)
       )
       ∙ before
 

@@ -1,5 +1,5 @@
 -- Steps of a walk over a list by index.
-use Rattle.std.proofs.Common.{◌≡◌, ℕ, suc, zero, ◌+◌, ◌<◌, Bool, true, false, ◌||◌, List, [], ◌∷◌, Option, Some, None, length, take, refl, ap, sym, ◌∙◌, add-one, arith}
+use Rattle.std.proofs.Common.{◌≡◌, ℕ, suc, zero, ◌+◌, ◌<◌, Bool, true, false, ◌||◌, List, [], ◌∷◌, Some, None, length, take, refl, ap, sym, ◌∙◌, add-one, arith}
 use Rattle.std.specs.List.{list_any, slice_get}
 
 or_true : (b : Bool) → (b || true) ≡ true
@@ -46,3 +46,8 @@ slice_get-take (first ∷ rest) (suc count) (suc index) below = slice_get-take r
 pub found_before : {X : Type 0} (test : X → Bool) (items : List X) (count index : ℕ) (item : X) → index < count → Some item ≡ slice_get items index
     → true ≡ test item → true ≡ list_any test (take count items)
 found_before test items count index item below at passes = found test (take count items) index item (at ∙ sym (slice_get-take items count index below)) passes
+
+pub within_items : {X : Type 0} (items : List X) (index : ℕ) (item : X) → Some item ≡ slice_get items index → index < length items
+within_items [] index item at = cc
+within_items (first ∷ rest) zero item at = omega arith
+within_items (first ∷ rest) (suc index) item at = omega (arith, within_items rest index item at)

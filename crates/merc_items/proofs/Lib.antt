@@ -14,3 +14,6 @@ pub mod ModeFaultLaws
 pub mod Doubles
 pub mod ModeGrouping
 pub mod Assembled
+pub mod FormWalk
+pub mod WrongForms
+pub mod FormLaws

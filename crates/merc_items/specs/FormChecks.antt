@@ -1,5 +1,5 @@
 -- What is wrong with an item, computed: each kind of item by itself.
-use Rattle.std.specs.Prelude.{ℕ, Bool, true, false, ◌==◌, ◌&&◌, ◌||◌, not, List, [], ◌∷◌, Option, Some, None, if◌then◌else◌}
+use Rattle.std.specs.Prelude.{ℕ, ◌+◌, Bool, true, false, ◌==◌, ◌&&◌, ◌||◌, not, List, [], ◌∷◌, length, slice_get, Option, Some, None}
 use Rattle.std.specs.List.{list_any, list_all}
 use Rattle.merc_base.specs.declared.refusal.Construct.{Construct}
 use Rattle.merc_base.specs.declared.refusal.Construct.TheVariants.{Import as ImportWord}
@@ -105,6 +105,14 @@ at_place place (Some (rule, detail)) = Some (record { rule = rule; place = place
 abbrev pub refusal_of : List (List ℕ) → ℕ → (first last : Bool) → Term → Option Refusal
 refusal_of names own first last term = at_place (place_of term) (fault_of names own first last (item_of term))
 
+-- the refusal at the item of this index
+abbrev pub refusal_at_term : List (List ℕ) → ℕ → (first last : Bool) → Option Term → Option Refusal
+refusal_at_term names own first last None = None
+refusal_at_term names own first last (Some term) = refusal_of names own first last term
+
+abbrev pub refusal_at : List (List ℕ) → ℕ → List Term → ℕ → Option Refusal
+refusal_at names own terms index = refusal_at_term names own (index == 0) (index + 1 == length terms) (slice_get terms index)
+
 abbrev pub or_else : Option Refusal → Option Refusal → Option Refusal
 or_else None other = other
 or_else (Some refusal) other = Some refusal
@@ -114,7 +122,10 @@ abbrev pub refusal_from : List (List ℕ) → ℕ → Bool → List Term → Opt
 refusal_from names own first [] = None
 refusal_from names own first (term ∷ rest) = or_else (refusal_of names own first (is_nil rest) term) (refusal_from names own false rest)
 
+abbrev pub no_item : Refusal
+no_item = record { rule = WrongForm; place = record { byte = 0; line = 1 }; detail = Plain }
+
 -- the refusal of the items of a module
 abbrev pub first_refusal : List (List ℕ) → List Term → Option Refusal
-first_refusal names [] = Some (record { rule = WrongForm; place = record { byte = 0; line = 1 }; detail = Plain })
+first_refusal names [] = Some no_item
 first_refusal names (first ∷ rest) = refusal_from names (opened (item_of first)) true (first ∷ rest)

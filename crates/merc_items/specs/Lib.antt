@@ -22,3 +22,5 @@ pub mod ModeCounts
 pub mod FormFaults
 pub mod Parting
 pub mod Assembling
+pub mod FormsExamples
+pub mod FormChecksExamples

@@ -1,6 +1,5 @@
 -- Parameters that repeat, by the names of the variables.
-use Rattle.std.specs.Prelude.{ℕ, Bool, true, false, ◌==◌, ◌||◌, List, [], ◌∷◌, ◌++◌, Option, Some, None, if◌then◌else◌}
-use Rattle.std.specs.List.{flat_map}
+use Rattle.std.specs.Prelude.{ℕ, Bool, false, ◌==◌, ◌||◌, List, [], ◌∷◌, Option, Some, None, if◌then◌else◌}
 use Rattle.merc_tree.specs.Term.{Term, Variable, Integer, Text, Application}
 use Rattle.merc_items.specs.Forms.{is_in, is_blank}
 

@@ -6,8 +6,8 @@ ghost use Rattle.merc_items.specs.Forms.{is_unit, word_if, mode_words, argument_
 ghost use Rattle.merc_items.specs.FormChecks.{first_of, unit_words, is_partly_moded, are_wrong_arguments};
 
 use crate::heads::is_application;
-use crate::operands::{operands_of, plain_name, Operands};
-use crate::parts::{arguments_have_part, has_part, passes, PartTest};
+use crate::operands::{Operands, operands_of, plain_name};
+use crate::parts::{PartTest, arguments_have_part, has_part, passes};
 use merc_base::{Construct, Name};
 use merc_tree::TermRef;
 
@@ -71,9 +71,7 @@ pub(crate) fn are_wrong_arguments(arguments: &[TermRef<'_>]) -> bool
 fn has_literal_type(arguments: &[TermRef<'_>]) -> bool
     ensures { result ≡ list_any (λ argument. has_part is_literal (argument_type argument)) arguments.now }
 {
-    arguments
-        .iter()
-        .any(|argument| has_part(&argument_type(argument), PartTest::Literal))
+    arguments.iter().any(|argument| has_part(&argument_type(argument), PartTest::Literal))
 }
 
 fn is_partly_moded(arguments: &[TermRef<'_>]) -> bool
@@ -104,9 +102,7 @@ fn any_lacks_mode(arguments: &[TermRef<'_>]) -> bool
 pub(crate) fn has_wide_type(arguments: &[TermRef<'_>]) -> bool
     ensures { result ≡ list_any (λ argument. has_part is_wide (argument_type argument)) arguments.now }
 {
-    arguments
-        .iter()
-        .any(|argument| has_part(&argument_type(argument), PartTest::Wide))
+    arguments.iter().any(|argument| has_part(&argument_type(argument), PartTest::Wide))
 }
 
 /// Whether a category is no category's name.
@@ -151,11 +147,7 @@ pub(crate) fn category_word(category: &Option<TermRef<'_>>) -> Option<Construct>
 fn word_if(test: bool, word: Construct) -> Option<Construct>
     ensures { result ≡ first_of (word_if test word) }
 {
-    if test {
-        Some(word)
-    } else {
-        None
-    }
+    if test { Some(word) } else { None }
 }
 
 // Whether a mode is `in` or `out`.

@@ -18,7 +18,7 @@ use crate::heads::{
 use crate::item::Item;
 use crate::members::{arguments, members};
 use crate::parameters::repeats;
-use crate::parts::{has_part, PartTest};
+use crate::parts::{PartTest, has_part};
 use merc_base::{Construct, Detail, LimitName, Name, Names, NoMemory, Rule};
 use merc_tree::TermRef;
 use std::alloc::Global;
@@ -142,9 +142,7 @@ fn any_is_foreign(terms: &[TermRef<'_>], own: Name) -> bool
 fn any_has_literal(terms: &[TermRef<'_>]) -> bool
     ensures { result ≡ list_any (has_part is_literal) terms.now }
 {
-    terms
-        .iter()
-        .any(|term| has_part(term, PartTest::Literal))
+    terms.iter().any(|term| has_part(term, PartTest::Literal))
 }
 
 fn any_is_wide(terms: &[TermRef<'_>]) -> bool
@@ -173,18 +171,15 @@ fn predicate_fault(
     ensures { IfOk result (λ fault. fault ≡ least_fault (is_wrong_predicate own head.now category.now) (first_of (words (PredicateItem head.now category.now))) (is_too_wide (PredicateItem head.now category.now))) }
 {
     let arguments = arguments(alloc, head)?;
-    let is_wrong =
-        is_wrong_head(head, own) || are_wrong_arguments(&arguments) || lacks_category(category);
+    let is_wrong = is_wrong_head(head, own)
+        || are_wrong_arguments(&arguments)
+        || lacks_category(category);
     let word = if is_function_head(head) {
         Some(Construct::Function)
     } else {
         first_argument_word(&arguments).or(category_word(category))
     };
-    Ok(least_fault(
-        is_wrong,
-        word,
-        is_wide(head) || has_wide_type(&arguments),
-    ))
+    Ok(least_fault(is_wrong, word, is_wide(head) || has_wide_type(&arguments)))
 }
 
 // The first fault of a mode's declaration.
@@ -197,7 +192,9 @@ fn mode_fault(
     ensures { IfOk result (λ fault. fault ≡ least_fault (is_wrong_mode own head.now category.now) (first_of (words (ModeItem head.now category.now))) (is_wide head.now)) }
 {
     let modes = arguments(alloc, head)?;
-    let is_wrong = is_wrong_head(head, own) || !are_applications(&modes) || lacks_category(category);
+    let is_wrong = is_wrong_head(head, own)
+        || !are_applications(&modes)
+        || lacks_category(category);
     let word = if is_function_head(head) {
         Some(Construct::Function)
     } else {

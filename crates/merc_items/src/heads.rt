@@ -3,7 +3,7 @@ ghost use Rattle.std.specs.Prelude.{◌≡◌};
 ghost use Rattle.merc_items.specs.Forms.{is_application, is_head, is_reserved, is_function_head, is_foreign, is_wide, is_variable, is_outside_type};
 ghost use Rattle.merc_items.specs.FormChecks.{is_wrong_head, is_other};
 
-use crate::parts::{passes, PartTest};
+use crate::parts::{PartTest, passes};
 use merc_base::Name;
 use merc_tree::{Shape, TermRef};
 

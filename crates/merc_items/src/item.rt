@@ -4,7 +4,7 @@ ghost use Rattle.merc_items.specs.Items.{item_of, declaration, unary, nullary, w
 ghost use Rattle.merc_items.specs.ItemValue.{item_value};
 ghost use Rattle.merc_items.specs.Operands.{head_and_category};
 
-use crate::operands::{operands_of, plain_name, Operands};
+use crate::operands::{Operands, operands_of, plain_name};
 use merc_base::Name;
 use merc_tree::TermRef;
 

@@ -1,5 +1,6 @@
 //! The items of a module: its declarations and clauses.
 #![tactic(auto)]
+#[cfg(test)]
 
 mod arguments;
 mod assembling;
@@ -9,6 +10,7 @@ mod declared_modes;
 mod declared_types;
 mod distinct_names;
 mod entry;
+mod forms;
 mod heads;
 mod item;
 mod joining;
@@ -20,4 +22,5 @@ mod operands;
 mod parameters;
 mod parting;
 mod parts;
+mod tests;
 mod units;

@@ -4,16 +4,13 @@ ghost use Rattle.merc_tree.specs.Shape.{arguments_of};
 ghost use Rattle.merc_items.specs.Items.{chain};
 ghost use Rattle.merc_items.specs.Members.{link_of};
 
-use crate::operands::{operands_of, Operands};
+use crate::operands::{Operands, operands_of};
 use merc_base::{Name, NoMemory};
 use merc_tree::TermRef;
 use std::alloc::Global;
 
 /// The arguments of a term, from the left.
-pub(crate) fn arguments<'a>(
-    alloc: Global,
-    term: &TermRef<'a>,
-) -> Result<Vec<TermRef<'a>>, NoMemory>
+pub(crate) fn arguments<'a>(alloc: Global, term: &TermRef<'a>) -> Result<Vec<TermRef<'a>>, NoMemory>
     ensures { IfOk result (λ arguments. arguments.items ≡ arguments_of term.now) }
 {
     let mut rest = term.arguments();

@@ -13,7 +13,7 @@ returns-then-passes c =
 pub loop-index-preserved : goal.loop-index-preserved
 loop-index-preserved c =
     elim c.match-part_shape.branch [
-      in-Some+else-passes w ↦ not_past (shape_test c.args.test) _ c.loop-index.index w.in-Some.shape w.in-Some.ensures w.if-passes.ensures c.loop-index.invariant
+      | in-Some+else-passes w ↦ not_past (shape_test c.args.test) _ c.loop-index.index w.in-Some.shape w.in-Some.ensures w.if-passes.ensures c.loop-index.invariant
       | in_default w ↦ none_past (shape_test c.args.test) _ c.loop-index.index w.in_default.ensures c.loop-index.invariant
     ]
 

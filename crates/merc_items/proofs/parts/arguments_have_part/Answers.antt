@@ -1,4 +1,4 @@
-use Rattle.std.proofs.Common.{◌-◌, take, ap, sym, ◌∙◌}
+use Rattle.std.proofs.Common.{◌-◌, take, ap, ◌∙◌}
 use Rattle.std.specs.List.{list_any}
 use Rattle.merc_tree.specs.Postfix.{shapes_of}
 use Rattle.merc_items.specs.Parts.{shape_test}
