@@ -3,3 +3,8 @@ pub mod Reading
 pub mod Items
 pub mod Starting
 pub mod Reader
+pub mod OperatorRows
+pub mod Finds
+pub mod Moves
+pub mod Standing
+pub mod Outcomes

@@ -2,5 +2,12 @@
 #![tactic(auto)]
 
 mod frame;
+mod items;
+mod moving;
 mod operators;
+mod reading;
 mod starting;
+#[cfg(test)]
+mod tests;
+
+pub use items::{read_goal, read_items};

@@ -1,0 +1,6 @@
+use Rattle.merc_terms.specs.Operators.{is_infix}
+use Rattle.merc_terms.proofs.OperatorLaws.{found_named}
+use Rattle.merc_terms.proofs.operators.infix_in.Goals as goal
+
+pub returns : goal.returns
+returns c = found_named is_infix c.args.name c.args.rows.now _ c.requires c.first_infix.ensures
