@@ -16,6 +16,8 @@ pub mod TypeParts
 pub mod ModeLaws
 pub mod ModeFaultLaws
 pub mod RepeatedNames
+pub mod ModeGrouping
+pub mod Assembled
 pub mod FormWalk
 pub mod TokenLengths
 pub mod Rising
@@ -24,3 +26,5 @@ pub mod WrongForms
 pub mod FormLaws
 pub mod TypeLaws
 pub mod FirstFaults
+pub mod UnitReading
+pub mod EntryOrder

@@ -77,3 +77,22 @@ all_parts term types = subst (λ l. AreParts l types) (append-nil (shapes_of ter
 
 pub built_whole : (term : Term) (types : List TypeExpr) → with_parts (shapes_of term) types ≡ types ++ declared_type term ∷ []
 built_whole term types = ap (λ l. with_parts l types) (sym (append-nil (shapes_of term))) ∙ built_term term [] types
+
+-- one part more
+module _ (shapes : List Shape) (i : ℕ) (shape : Shape) (types : List TypeExpr) (found : slice_get shapes i ≡ Some shape) where
+  pub part_fits : AreParts (drop i shapes) types → arity_of shape ≤ length types
+  part_fits parts = (subst (λ l. AreParts l types) (got shapes i shape found) parts).0
+
+  pub parts_left : (now : List TypeExpr) → now ≡ with_part shape types → AreParts (drop i shapes) types → AreParts (drop (i + 1) shapes) now
+  parts_left now now_is parts = subst (AreParts (drop (i + 1) shapes)) (sym now_is) (subst (λ l. AreParts l types) (got shapes i shape found) parts).1
+
+  pub types_left : (now whole : List TypeExpr) → now ≡ with_part shape types → with_parts (drop i shapes) types ≡ whole → with_parts (drop (i + 1) shapes) now ≡ whole
+  types_left now whole now_is left = ap (with_parts (drop (i + 1) shapes)) now_is ∙ ap (λ l. with_parts l types) (sym (got shapes i shape found)) ∙ left
+
+-- no part more
+module _ (shapes : List Shape) (i : ℕ) (types now : List TypeExpr) (found : slice_get shapes i ≡ None) (now_is : now ≡ types) where
+  pub no_parts_left : AreParts (drop i shapes) types → AreParts (drop (i + 1) shapes) now
+  no_parts_left parts = subst (AreParts (drop (i + 1) shapes)) (sym now_is) (subst (λ l. AreParts l types) (sym (gone_on shapes i found)) parts)
+
+  pub no_types_left : (whole : List TypeExpr) → with_parts (drop i shapes) types ≡ whole → with_parts (drop (i + 1) shapes) now ≡ whole
+  no_types_left whole left = ap (with_parts (drop (i + 1) shapes)) now_is ∙ ap (λ l. with_parts l types) (gone_on shapes i found) ∙ left

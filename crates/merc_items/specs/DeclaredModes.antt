@@ -1,15 +1,10 @@
 -- The modes that items declare, by their predicates.
-use Rattle.std.specs.Prelude.{◌≡◌, Bool, ◌∷◌, List, [], map, Option, Some, None, if◌then◌else◌}
-use Rattle.std.specs.Borrow.{Bor}
+use Rattle.std.specs.Prelude.{◌∷◌, List, [], map, Option, Some, None, if◌then◌else◌}
 use Rattle.std.specs.Map.{lookup}
-use Rattle.std.specs.declared.vec.Vec.{Vec}
-use Rattle.std.specs.declared.alloc.Global.{Global}
 use Rattle.merc_base.specs.declared.place.Span.{Span}
 use Rattle.merc_tree.specs.Shape.{arguments_of}
 use Rattle.merc_tree.specs.declared.declarations.ModeDecl.{ModeDecl}
-use Rattle.merc_items.specs.declared.entry.Entry.{Entry as CodeEntry}
-use Rattle.merc_items.specs.declared.declared_modes.ModeGroups.{ModeGroups}
-use Rattle.merc_items.specs.EntryValue.{entry_value}
+use Rattle.merc_items.specs.declared.declared_modes.ModeTable.{ModeTable}
 use Rattle.merc_items.specs.KeyValue.{key_value}
 use Rattle.merc_items.specs.Items.{Item, Opening, Ending, Section, Import, TypeItem, PredicateItem, ModeItem, ClauseItem, OtherType, OtherFunction, OtherGrammar, OtherDeclaration, Formless}
 use Rattle.merc_items.specs.Forms.{argument_mode}
@@ -42,18 +37,10 @@ item_modes span other = []
 abbrev pub entry_modes : Entry → List ModeDecl
 entry_modes entry = item_modes entry.span entry.item
 
--- whether an entry declares a mode of this predicate
-abbrev pub declares_mode : List Key → Entry → Bool
-declares_mode predicate entry = are_keys predicate (moded_predicate entry.item)
+abbrev pub listed : Option (List ModeDecl) → List ModeDecl
+listed None = []
+listed (Some modes) = modes
 
--- the entries that references lead to
-abbrev pub lent : List (Bor CodeEntry) → List Entry
-lent entries = map (λ entry. entry_value entry.now) entries
-
-abbrev pub grouped : Option (Vec (Bor CodeEntry) Global) → List Entry
-grouped None = []
-grouped (Some group) = lent group.items
-
--- the entries that are kept for a predicate
-abbrev pub group_of : ModeGroups → List Key → List Entry
-group_of groups predicate = grouped (lookup (λ key. are_keys predicate (key_value key ∷ [])) groups.by_key.entries)
+-- the modes that are kept for a predicate
+abbrev pub kept_modes : ModeTable → List Key → List ModeDecl
+kept_modes table predicate = listed (lookup (λ key. are_keys predicate (key_value key ∷ [])) table.by_key.entries)

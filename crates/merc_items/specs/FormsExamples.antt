@@ -9,34 +9,34 @@ use Rattle.merc_items.specs.Items.{Item, Opening, Ending, TypeItem, PredicateIte
 
 -- Terms. The table of names has `_` and `T`. The module is `m`, the other names are `f`, `p` and `other`.
 
-abbrev names : List (List ℕ)
+abbrev pub names : List (List ℕ)
 names = codes "_" ∷ codes "T" ∷ []
 
-abbrev blank : Term
+abbrev pub blank : Term
 blank = Variable 0 no_span
 
-abbrev t : Term
+abbrev pub t : Term
 t = Variable 1 no_span
 
 abbrev three : Term
 three = Integer (pos 3) no_span
 
-abbrev apply : ℕ → List Term → Term
+abbrev pub apply : ℕ → List Term → Term
 apply name arguments = Application name None (terms_of arguments) no_span
 
-abbrev plain : ℕ → Term
+abbrev pub plain : ℕ → Term
 plain name = apply name []
 
-abbrev m : ℕ
+abbrev pub m : ℕ
 m = 90
 
-abbrev other : ℕ
+abbrev pub other : ℕ
 other = 91
 
-abbrev f : ℕ
+abbrev pub f : ℕ
 f = 92
 
-abbrev p : ℕ
+abbrev pub p : ℕ
 p = 93
 
 -- `other.f`, and `m.f`
@@ -48,20 +48,20 @@ abbrev own_f : Term
 own_f = Application f (Some m) none no_span
 
 -- `A op B`
-abbrev both : ℕ → Term → Term → Term
+abbrev pub both : ℕ → Term → Term → Term
 both operator left right = apply operator (left ∷ right ∷ [])
 
 -- `:- word argument`
-abbrev declared : ℕ → Term → Item
+abbrev pub declared : ℕ → Term → Item
 declared word argument = item_of (apply 10 (apply word (argument ∷ []) ∷ []))
 
 abbrev type_item : Term → Term → Item
 type_item head constructors = declared 16 (both 17 head constructors)
 
-abbrev moded : Term → Term → Term
+abbrev pub moded : Term → Term → Term
 moded term mode = both 18 term mode
 
-abbrev int : Term
+abbrev pub int : Term
 int = plain 57
 
 abbrev char : Term

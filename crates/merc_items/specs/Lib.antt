@@ -29,3 +29,6 @@ pub mod ReadModule
 pub mod FormsExamples
 pub mod KnownTypes
 pub mod ModuleFaults
+pub mod Parting
+pub mod Assembling
+pub mod FormChecksExamples

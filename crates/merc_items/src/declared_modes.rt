@@ -1,16 +1,17 @@
 //! The modes that items declare, by their predicates.
-ghost use Rattle.std.specs.Prelude.{◌≡◌, [], ◌∷◌, ◌++◌, List, Some, filter, map, IfOk, OnOk, if◌then◌else◌};
+ghost use Rattle.std.specs.Prelude.{◌≡◌, [], ◌∷◌, ◌++◌, List, Some, map, IfOk, OnOk, if◌then◌else◌};
 ghost use Rattle.std.specs.List.{flat_map, list_all};
 ghost use Rattle.merc_tree.specs.Shape.{arguments_of};
 ghost use Rattle.merc_items.specs.Items.{plain_name};
 ghost use Rattle.merc_items.specs.Forms.{argument_mode, category_named, is_moded};
 ghost use Rattle.merc_items.specs.Entries.{Key as key_record, has_mode, is_out, key_of};
 ghost use Rattle.merc_items.specs.Phases.{are_keys};
-ghost use Rattle.merc_items.specs.EntryValue.{entry_value};
+ghost use Rattle.merc_items.specs.EntryValue.{entry_value, entry_values};
 ghost use Rattle.merc_items.specs.ItemValue.{item_value};
 ghost use Rattle.merc_items.specs.KeySets.{keys_at};
-ghost use Rattle.merc_items.specs.ModuleOf.{arg_of, args_of, category_or_det, declared_category};
-ghost use Rattle.merc_items.specs.DeclaredModes.{declares_mode, entry_modes, group_of, lent, moded_predicate};
+ghost use Rattle.merc_items.specs.ModuleOf.{arg_of, args_of, category_or_det, declared_category, modes_in};
+ghost use Rattle.merc_items.specs.DeclaredModes.{entry_modes, kept_modes, moded_predicate};
+ghost use Rattle.merc_items.specs.Parting.{kept};
 
 use crate::arguments::argument_mode;
 use crate::entry::Entry;
@@ -19,66 +20,91 @@ use crate::key::Key;
 use crate::key_set::key_of;
 use crate::members::arguments;
 use crate::operands::plain_name;
-use merc_base::{Category, Name, NoMemory, Span};
+use crate::parting::Part;
+use merc_base::{Category, Name, NoMemory};
 use merc_tree::{Arg, Args, Arguments, ModeDecl, ModeDecls, TermRef};
 use std::alloc::Global;
 use std::collections::BTreeMap;
 
-/// The entries that declare modes, in order, by the keys of their predicates.
+/// Modes in the order of their declarations, by the keys of their predicates.
 #[derive(Drop)]
-pub(crate) struct ModeGroups<'e, 'a> {
-    by_key: BTreeMap<Key, Vec<&'e Entry<'a>>>,
+pub(crate) struct ModeTable {
+    by_key: BTreeMap<Key, ModeDecls>,
 }
 
-impl<'e, 'a> ModeGroups<'e, 'a> {
-    /// Those of some entries.
+impl ModeTable {
+    /// The modes that the entries of a part of the module declare.
     pub(crate) fn of(
         alloc: Global,
-        entries: &[&'e Entry<'a>],
-    ) -> Result<ModeGroups<'e, 'a>, NoMemory>
-        ensures { IfOk result (λ groups. (predicate : List key_record) → group_of groups predicate ≡ filter (declares_mode predicate) (lent entries.now)) }
+        part: Part,
+        entries: &[Entry<'_>],
+    ) -> Result<ModeTable, NoMemory>
+        ensures { IfOk result (λ table. (predicate : List key_record) → kept_modes table predicate ≡ flat_map (kept part (modes_in predicate)) (entry_values entries.now)) }
     {
-        let mut groups = ModeGroups {
+        let mut table = ModeTable {
             by_key: BTreeMap::new(alloc),
         };
         for entry in entries {
-            groups.add(alloc, moded_predicate(&entry.item), entry)?;
+            if part.has(entry) {
+                table.add(alloc, moded_predicate(&entry.item), entry)?;
+            }
         }
-        Ok(groups)
+        Ok(table)
     }
 
-    /// The entries that declare modes of the predicate with this head.
-    pub(crate) fn of_predicate(&self, head: &TermRef<'_>) -> &[&'e Entry<'a>]
-        ensures { lent result.now ≡ group_of self.now (key_of head.now) }
-    {
-        match key_of(head) {
-            Some(key) => match self.by_key.get(&key) {
-                Some(group) => group,
-                None => &[],
-            },
-            None => &[],
-        }
-    }
-
-    // Puts an entry behind the others of its predicate, where there is one.
-    fn add(
-        &mut self,
-        alloc: Global,
-        key: Option<Key>,
-        entry: &'e Entry<'a>,
-    ) -> Result<(), NoMemory>
-        ensures { OnOk result ((predicate : List key_record) → group_of self.new predicate ≡ (if are_keys predicate (keys_at key) then group_of self.old predicate ++ entry_value entry.now ∷ [] else group_of self.old predicate)) }
+    // Puts the mode that an entry declares behind the others of its predicate, where there is one.
+    fn add(&mut self, alloc: Global, key: Option<Key>, entry: &Entry<'_>) -> Result<(), NoMemory>
+        ensures { OnOk result ((predicate : List key_record) → kept_modes self.new predicate ≡ (if are_keys predicate (keys_at key) then kept_modes self.old predicate ++ entry_modes (entry_value entry.now) else kept_modes self.old predicate)) }
     {
         if let Some(key) = key {
-            let mut group = match self.by_key.remove(&key) {
-                Some(group) => group,
-                None => Vec::new(alloc),
+            let mut modes = match self.by_key.remove(&key) {
+                Some(modes) => modes,
+                None => ModeDecls::new(alloc),
             };
-            group.push(entry)?;
-            self.by_key.insert(key, group)?;
+            push_mode(alloc, entry, &mut modes)?;
+            self.by_key.insert(key, modes)?;
         }
         Ok(())
     }
+
+    /// The modes of the predicate with this head.
+    pub(crate) fn modes(
+        &self,
+        alloc: Global,
+        head: &TermRef<'_>,
+    ) -> Result<ModeDecls, NoMemory>
+        ensures { IfOk result (λ modes. modes ≡ kept_modes self.now (key_of head.now)) }
+    {
+        let key = match key_of(head) {
+            Some(key) => key,
+            None => return Ok(ModeDecls::new(alloc)),
+        };
+        match self.by_key.get(&key) {
+            Some(modes) => copy_modes(alloc, modes),
+            None => Ok(ModeDecls::new(alloc)),
+        }
+    }
+}
+
+fn copy_modes(alloc: Global, modes: &ModeDecls) -> Result<ModeDecls, NoMemory>
+    ensures { IfOk result (λ copy. copy ≡ modes.now) }
+{
+    let mut copy = ModeDecls::new(alloc);
+    for mode in modes.as_slice() {
+        copy.push(copy_mode(alloc, mode)?)?;
+    }
+    Ok(copy)
+}
+
+fn copy_mode(alloc: Global, mode: &ModeDecl) -> Result<ModeDecl, NoMemory>
+    ensures { IfOk result (λ copy. copy ≡ mode.now) }
+{
+    let args = Vec::from_slice(alloc, mode.args.as_slice())?;
+    Ok(ModeDecl {
+        args: Args::from_vec(args),
+        category: mode.category,
+        span: mode.span,
+    })
 }
 
 // The predicate for which an item declares a mode, None where it declares none.
@@ -120,17 +146,6 @@ fn are_moded(mut arguments: Arguments<'_>) -> bool
         }
     }
     true
-}
-
-/// The modes that entries declare, in order.
-pub(crate) fn modes(alloc: Global, entries: &[&Entry<'_>]) -> Result<ModeDecls, NoMemory>
-    ensures { IfOk result (λ modes. modes ≡ flat_map entry_modes (lent entries.now)) }
-{
-    let mut modes = ModeDecls::new(alloc);
-    for entry in entries {
-        push_mode(alloc, entry, &mut modes)?;
-    }
-    Ok(modes)
 }
 
 // Puts the mode that an entry declares behind the others.

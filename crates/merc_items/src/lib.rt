@@ -2,6 +2,7 @@
 #![tactic(auto)]
 
 mod arguments;
+mod assembling;
 mod clause_heads;
 mod declarations;
 mod declared_modes;
@@ -20,7 +21,12 @@ mod members;
 mod mode_counts;
 mod operands;
 mod parameters;
+mod parting;
 mod parts;
 mod phases;
 mod reading;
+#[cfg(test)]
+mod tests;
 mod units;
+
+pub use reading::read_module;

@@ -15,3 +15,4 @@ pub mod Renaming
 pub mod ReadingLaws
 pub mod ReadingExamples
 pub mod ItemLaws
+pub mod OutcomesExamples

@@ -25,7 +25,7 @@ pub fn read_items(alloc: Global, tokens: &Tokens) -> Result<Terms, Fault>
     while reader.left() > 0 {
         let place = reader.place();
         let found = reader.read_item()?;
-        if let Some((rule, detail)) = reader.wrong(alloc, found)? {
+        if let Some((rule, detail)) = reader.find_fault(alloc, found)? {
             return Err(Fault::Refused(Refusal {
                 rule,
                 place,
@@ -51,7 +51,7 @@ pub fn read_goal(alloc: Global, tokens: &Tokens) -> Result<Term, Fault>
     let mut reader = Reader::new(alloc, tokens.as_slice());
     let place = reader.place();
     let found = reader.read_goal()?;
-    if let Some((rule, detail)) = reader.wrong(alloc, found)? {
+    if let Some((rule, detail)) = reader.find_fault(alloc, found)? {
         return Err(Fault::Refused(Refusal {
             rule,
             place,
@@ -115,7 +115,7 @@ impl Reader<'_> {
     }
 
     // What is wrong with the term that was read, or that none was: a rule and what is said beside it.
-    fn wrong(&self, alloc: Global, found: bool) -> Result<Option<(Rule, Detail)>, NoMemory>
+    fn find_fault(&self, alloc: Global, found: bool) -> Result<Option<(Rule, Detail)>, NoMemory>
         requires { found ≡ true → 0 < length self.now.progress.built.terms }
         ensures { IfOk result (SaysWrong self.now.progress.built found) }
     {

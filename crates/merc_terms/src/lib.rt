@@ -8,5 +8,7 @@ mod moving;
 mod operators;
 mod reading;
 mod starting;
+#[cfg(test)]
+mod tests;
 
 pub use items::{read_goal, read_items};

@@ -98,6 +98,7 @@ impl Reader<'_> {
         };
         let bound = self.bound;
         self.progress.rest = rest;
+        // No `?`, here and below: the kit proves none where the result holds a move.
         match begin(&mut self.progress.built, &bound, start) {
             Ok(to) => self.enter(&to, bound),
             Err(error) => Err(error),
