@@ -17,3 +17,4 @@ pub mod Assembled
 pub mod FormWalk
 pub mod WrongForms
 pub mod FormLaws
+pub mod UnitReading

@@ -1,6 +1,5 @@
 //! The items of a module: its declarations and clauses.
 #![tactic(auto)]
-#[cfg(test)]
 
 mod arguments;
 mod assembling;
@@ -22,5 +21,6 @@ mod operands;
 mod parameters;
 mod parting;
 mod parts;
+#[cfg(test)]
 mod tests;
 mod units;

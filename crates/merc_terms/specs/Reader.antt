@@ -6,6 +6,7 @@ use Rattle.merc_tokens.specs.declared.token.Token.{Token}
 use Rattle.merc_tokens.specs.declared.token.TokenKind.{TokenKind}
 use Rattle.merc_tokens.specs.declared.token.TokenKind.TheVariants.{Name, Quoted, Var, Int, Text as TextToken, OpenArgs, Open, Close, OpenList, CloseList, Comma, Bar, Dot, Stop}
 use Rattle.merc_tree.specs.Term.{Term, Terms, Variable, Integer, Text, Application, none, more, span_of, applied, enclosed}
+use Rattle.merc_terms.specs.declared.built.Built.{Built}
 use Rattle.merc_terms.specs.declared.frame.Bound.{Bound}
 use Rattle.merc_terms.specs.declared.frame.Role.{Role}
 use Rattle.merc_terms.specs.declared.frame.Role.TheVariants.{Enclosed, Argument, Item, ListTail, Operand, FirstOperand, SecondOperand, RightOperand}
@@ -18,10 +19,6 @@ use Rattle.merc_terms.specs.declared.starting.Start.TheVariants.{Variable as Var
 use Rattle.merc_terms.specs.Operators.{infix_named, first_most, last_most, takes_two}
 use Rattle.merc_terms.specs.Reading.{joined, begins_with, is_infix_name}
 use Rattle.merc_terms.specs.Starting.{start_at, Started}
-
-pub record Built : Type 0 where
-  pub terms : List Term
-  pub is_great : Bool
 
 -- a term that was read, where it stands, its priority and the tokens behind it
 pub record Read : Type 0 where

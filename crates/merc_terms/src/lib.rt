@@ -1,6 +1,7 @@
 //! The terms of Mercury text: the second phase of reading it, exact for every list of tokens.
 #![tactic(auto)]
 
+mod built;
 mod frame;
 mod items;
 mod moving;
