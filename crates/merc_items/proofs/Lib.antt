@@ -18,3 +18,4 @@ pub mod FormWalk
 pub mod WrongForms
 pub mod FormLaws
 pub mod UnitReading
+pub mod EntryOrder

@@ -24,3 +24,5 @@ pub mod Parting
 pub mod Assembling
 pub mod FormsExamples
 pub mod FormChecksExamples
+pub mod EntriesExamples
+pub mod ModuleOfExamples
