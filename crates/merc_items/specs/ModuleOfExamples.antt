@@ -67,6 +67,6 @@ made : whole ≡ record {
 }
 made = refl
 
--- they do not come before those with their modes
-other_order : whole.preds ≡ declared_q ∷ declared_p ∷ [] → ⊥
-other_order same = cc
+-- it is not left out
+without_q : whole.preds ≡ declared_p ∷ [] → ⊥
+without_q same = cc
