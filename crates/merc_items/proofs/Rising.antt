@@ -16,7 +16,7 @@ use Rattle.merc_items.specs.FormFaults.{Rises}
 use Rattle.merc_items.proofs.TokenLengths.{token-long}
 
 -- tokens begin at this byte or behind it, one behind the other
-abbrev pub StartFrom : ℕ → List Token → Type 0
+abbrev StartFrom : ℕ → List Token → Type 0
 StartFrom at [] = Unit {0}
 StartFrom at (first ∷ rest) = (at ≤ first.span.first) × StartFrom (suc first.span.first) rest
 
@@ -105,7 +105,7 @@ mutual
       (refl, (items-start at whole others close middle rest spelt' (earlier (suc comma.first) at middle (omega (arith, inside.0, inside.1.0)) inside.1.1)).1)
 
 -- terms begin at this byte or behind it, one behind the other
-abbrev pub RiseFrom : ℕ → List Term → Type 0
+abbrev RiseFrom : ℕ → List Term → Type 0
 RiseFrom at [] = Unit {0}
 RiseFrom at (first ∷ rest) = (at ≤ (span_of first).first) × RiseFrom (suc (span_of first).first) rest
 
@@ -119,10 +119,6 @@ rises : (at : ℕ) (terms : List Term) → RiseFrom at terms → Rises terms
 rises at [] rise = tt
 rises at (only ∷ []) rise = tt
 rises at (first ∷ next ∷ rest) rise = (omega (arith, rise.1.0), rises (suc (span_of first).first) (next ∷ rest) rise.1)
-
-pub rises-behind : (first : Term) (rest : List Term) → Rises (first ∷ rest) → RiseFrom (suc (span_of first).first) rest
-rises-behind first [] rise = tt
-rises-behind first (next ∷ rest) rise = (omega (arith, rise.0), rises-behind next rest rise.1)
 
 -- the items of a text rise
 pub items-rises : (names : List (List ℕ)) (bytes : List ℕ) (spelled : List SpelledToken) (tokens : List Token) (terms : List Term)

@@ -32,3 +32,5 @@ pub mod ModuleFaults
 pub mod Parting
 pub mod Assembling
 pub mod FormChecksExamples
+pub mod EntriesExamples
+pub mod ModuleOfExamples

@@ -5,7 +5,6 @@ ghost use Rattle.merc_items.specs.Entries.{with_units, units_of};
 ghost use Rattle.merc_items.specs.EntryValue.{entry_values};
 ghost use Rattle.merc_items.specs.ItemValue.{item_value};
 ghost use Rattle.merc_items.specs.Items.{chain, TypeItem};
-ghost use Rattle.merc_items.specs.Phases.{opened, own_name};
 ghost use Rattle.merc_items.specs.ModuleOf.{constructor_of, clauses_in, head_name, module_of, pred_decls, type_defs, type_defs_of, variable_names};
 ghost use Rattle.merc_items.specs.Assembling.{clause_of, pred_decl_of, preds_by};
 ghost use Rattle.merc_items.specs.Parting.{kept, part_of};
@@ -14,6 +13,7 @@ use crate::declared_modes::ModeTable;
 use crate::declared_types::{argument_types, declared_types};
 use crate::distinct_names::DistinctNames;
 use crate::entry::Entry;
+use crate::forms::own_name;
 use crate::item::{Item, item_of};
 use crate::joining::imports;
 use crate::members::{arguments, members};
@@ -53,25 +53,6 @@ pub(crate) fn module_of(
         own,
         clauses,
     })
-}
-
-// The name of the module, which its first item gives.
-fn own_name(terms: &Terms) -> Name
-    ensures { result ≡ own_name terms.now }
-{
-    match terms.get(0) {
-        Some(first) => opened(&item_of(&first)),
-        None => ANY_NAME,
-    }
-}
-
-fn opened(item: &Item<'_>) -> Name
-    ensures { result ≡ opened (item_value item.now) }
-{
-    match item {
-        Item::Opening(name) => *name,
-        _ => ANY_NAME,
-    }
 }
 
 // What stands where a name is missing.
