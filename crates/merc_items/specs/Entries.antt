@@ -1,13 +1,12 @@
 -- The items of a module in the order in which they stand, those of a library unit at its first import.
-use Rattle.std.specs.Prelude.{◌≡◌, ℕ, Bool, true, false, ◌==◌, ◌&&◌, ◌||◌, not, List, [], ◌∷◌, ◌++◌, map, length, find, Option, Some, None, if◌then◌else◌}
-use Rattle.std.specs.List.{list_any, list_all, flat_map}
+use Rattle.std.specs.Prelude.{ℕ, Bool, true, false, ◌==◌, ◌&&◌, not, List, [], ◌∷◌, ◌++◌, map, length, Option, Some, None, if◌then◌else◌}
+use Rattle.std.specs.List.{list_all, flat_map}
 use Rattle.merc_base.specs.declared.place.Place.{Place}
 use Rattle.merc_base.specs.declared.place.Span.{Span}
-use Rattle.merc_base.specs.declared.category.Category.{Category}
-use Rattle.merc_tree.specs.Term.{Term, Terms, Variable, Integer, Text, Application, none, more, span_of}
+use Rattle.merc_tree.specs.Term.{Term, Application, span_of}
 use Rattle.merc_tree.specs.Shape.{arguments_of}
-use Rattle.merc_items.specs.Items.{Item, Opening, Ending, Section, Import, TypeItem, PredicateItem, ModeItem, ClauseItem, OtherType, OtherFunction, OtherGrammar, OtherDeclaration, Formless, item_of, plain_name}
-use Rattle.merc_items.specs.Forms.{is_in, is_moded, argument_mode, argument_type}
+use Rattle.merc_items.specs.Items.{Item, Import, TypeItem, PredicateItem, ModeItem, item_of, plain_name}
+use Rattle.merc_items.specs.Forms.{is_in, is_moded, argument_mode}
 
 -- An item with its span in its own text, the place of the item of the file at which it stands, and the unit that it comes from, none for the file's own.
 pub record Entry : Type 0 where

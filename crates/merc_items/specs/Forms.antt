@@ -1,5 +1,5 @@
 -- The forms of declarations and clause heads: what is wrong with an item by itself. The name of the module is that of the first item.
-use Rattle.std.specs.Prelude.{◌≡◌, ℕ, ◌<◌, ◌≤◌, Bool, true, false, ◌==◌, ◌&&◌, ◌||◌, not, nat_le, nat_lt, List, [], ◌∷◌, ◌++◌, length, Option, Some, None, is_some, is_none, if◌then◌else◌, codes}
+use Rattle.std.specs.Prelude.{◌≡◌, ℕ, Bool, true, false, ◌==◌, ◌&&◌, ◌||◌, not, nat_le, nat_lt, List, [], ◌∷◌, ◌++◌, length, Option, Some, None, is_some, if◌then◌else◌, codes}
 use Rattle.std.specs.List.{list_any, list_all, flat_map}
 use Rattle.std.specs.Str.{bytes_eq}
 use Rattle.merc_value.specs.Text.{text_at}
@@ -7,9 +7,9 @@ use Rattle.merc_base.specs.declared.category.Category.{Category}
 use Rattle.merc_base.specs.declared.category.Category.TheVariants.{Det, Semidet, Multi, Nondet, Erroneous, Failure}
 use Rattle.merc_base.specs.declared.refusal.Construct.{Construct}
 use Rattle.merc_base.specs.declared.refusal.Construct.TheVariants.{Declaration, Import as ImportWord, ModeName, Category as CategoryWord, «Type» as TypeWord, Function, GrammarRule}
-use Rattle.merc_tree.specs.Term.{Term, Terms, Variable, Integer, Text, Application, none, more, list_of}
+use Rattle.merc_tree.specs.Term.{Term, Terms, Variable, Integer, Text, Application, none, more}
 use Rattle.merc_tree.specs.Shape.{arguments_of}
-use Rattle.merc_items.specs.Items.{Item, Opening, Ending, Section, Import, TypeItem, PredicateItem, ModeItem, ClauseItem, OtherType, OtherFunction, OtherGrammar, OtherDeclaration, Formless, plain_name}
+use Rattle.merc_items.specs.Items.{Item, Opening, Ending, Import, TypeItem, PredicateItem, ModeItem, ClauseItem, OtherType, OtherFunction, OtherGrammar, OtherDeclaration, Formless, plain_name}
 
 abbrev pub is_in : ℕ → List ℕ → Bool
 is_in name names = list_any (λ other. name == other) names

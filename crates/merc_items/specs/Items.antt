@@ -1,7 +1,7 @@
 -- What an item of a module is, told by its term.
-use Rattle.std.specs.Prelude.{ℕ, Bool, true, false, ◌==◌, ◌&&◌, ◌||◌, List, [], ◌∷◌, ◌++◌, Option, Some, None, if◌then◌else◌}
+use Rattle.std.specs.Prelude.{ℕ, Bool, ◌==◌, ◌&&◌, ◌||◌, List, [], ◌∷◌, ◌++◌, Option, Some, None, if◌then◌else◌}
 use Rattle.std.specs.List.{list_any}
-use Rattle.merc_tree.specs.Term.{Term, Terms, Variable, Integer, Text, Application, none, more}
+use Rattle.merc_tree.specs.Term.{Term, Terms, Application, none, more}
 use Rattle.merc_tree.specs.Nesting.{are_two}
 
 -- An item opens or ends the module, opens a section, imports units, declares a type, a predicate or a mode, or is a clause. Else it is a declaration

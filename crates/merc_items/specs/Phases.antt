@@ -1,6 +1,6 @@
 -- What is wrong with the items of a module: one relation for each phase of the check.
-use Rattle.std.specs.Prelude.{◌≡◌, ℕ, ◌+◌, ◌≤◌, ◌<◌, ◌⊎◌, Bool, true, false, ◌==◌, ◌&&◌, ◌||◌, not, nat_le, nat_lt, List, [], ◌∷◌, ◌++◌, map, length, find, Option, Some, None, is_some, is_none, if◌then◌else◌}
-use Rattle.std.specs.List.{list_any, list_all, flat_map, count_by}
+use Rattle.std.specs.Prelude.{◌≡◌, ℕ, ◌+◌, ◌≤◌, ◌<◌, Bool, true, false, ◌==◌, ◌&&◌, ◌||◌, not, nat_le, nat_lt, List, [], ◌∷◌, ◌++◌, length, Option, Some, None, is_some, is_none, if◌then◌else◌}
+use Rattle.std.specs.List.{list_any, count_by}
 use Rattle.merc_base.specs.Refusal.{rule_number}
 use Rattle.merc_base.specs.declared.place.Place.{Place}
 use Rattle.merc_base.specs.declared.refusal.Rule.{Rule}
@@ -9,11 +9,11 @@ use Rattle.merc_base.specs.declared.refusal.Construct.{Construct}
 use Rattle.merc_base.specs.declared.refusal.Detail.{Detail}
 use Rattle.merc_base.specs.declared.refusal.Detail.TheVariants.{Plain, Word, Limit}
 use Rattle.merc_base.specs.declared.refusal.LimitName.TheVariants.{Arity, Modes}
-use Rattle.merc_tree.specs.Term.{Term, Terms, Variable, Integer, Text, Application, none, more}
+use Rattle.merc_tree.specs.Term.{Term, Variable, Application}
 use Rattle.merc_tree.specs.Shape.{arguments_of}
-use Rattle.merc_items.specs.Items.{Item, Opening, Ending, Section, Import, TypeItem, PredicateItem, ModeItem, ClauseItem, OtherType, OtherFunction, OtherGrammar, OtherDeclaration, Formless, item_of}
+use Rattle.merc_items.specs.Items.{Item, Opening, TypeItem, PredicateItem, ModeItem, ClauseItem, item_of}
 use Rattle.merc_items.specs.Forms.{IsWrong, words, is_too_wide, is_in, is_blank, is_this_variable, has_part, argument_type, is_foreign}
-use Rattle.merc_items.specs.Entries.{Entry, Key, Declared, Mode, key_of, is_key, is_same_mode, place_of, imports, types_of, constructors_of, predicates_of, modes_of, has_mode, declared_by}
+use Rattle.merc_items.specs.Entries.{Entry, Key, Declared, key_of, is_key, is_same_mode, place_of, imports, types_of, constructors_of, predicates_of, modes_of, has_mode, declared_by}
 
 abbrev pub is_nil : List Term → Bool
 is_nil [] = true

@@ -34,8 +34,8 @@ pub(crate) fn argument_type<'a>(argument: &TermRef<'a>) -> TermRef<'a>
     }
 }
 
-// The mode of a predicate's argument, where it has one.
-fn argument_mode<'a>(argument: &TermRef<'a>) -> Option<TermRef<'a>>
+/// The mode of a predicate's argument, where it has one.
+pub(crate) fn argument_mode<'a>(argument: &TermRef<'a>) -> Option<TermRef<'a>>
     ensures { result ≡ argument_mode argument.now }
 {
     match operands_of(argument) {

@@ -4,7 +4,7 @@ ghost use Rattle.merc_base.specs.declared.refusal.Rule.{Rule};
 ghost use Rattle.merc_base.specs.declared.refusal.Detail.{Detail};
 ghost use Rattle.merc_base.specs.declared.place.Place.{Place};
 ghost use Rattle.merc_items.specs.Entries.{place_of};
-ghost use Rattle.merc_items.specs.Phases.{HasFormFault, opened};
+ghost use Rattle.merc_items.specs.Phases.{HasFormFault, opened, own_name};
 ghost use Rattle.merc_items.specs.ItemValue.{item_value};
 ghost use Rattle.merc_items.specs.FormChecks.{at_place, refusal_at, no_item, first_refusal};
 ghost use Rattle.merc_items.specs.FormFaults.{Rises, IsFormRefusal};
@@ -40,6 +40,16 @@ fn first_refusal(alloc: Global, terms: &Terms, names: &Names) -> Result<Option<R
         }
     }
     Ok(None)
+}
+
+/// The name of the module, which its first item gives.
+pub(crate) fn own_name(terms: &Terms) -> Name
+    ensures { result ≡ own_name terms.now }
+{
+    match terms.get(0) {
+        Some(first) => opened(&item_of(&first)),
+        None => Name::DIVISION_BY_ZERO,
+    }
 }
 
 // A module without items is refused at the front of its file.

@@ -53,7 +53,8 @@ fn own_variable(names: &Names, term: &TermRef<'_>) -> Option<Name>
     }
 }
 
-fn is_blank(names: &Names, name: Name) -> bool
+/// Whether a variable is `_`.
+pub(crate) fn is_blank(names: &Names, name: Name) -> bool
     ensures { result ≡ is_blank names.now name }
 {
     match names.text(name) {

@@ -1,9 +1,12 @@
-//! The forms of small modules.
+//! The forms of small modules, the library units and what a module becomes that imports one.
 ghost use Rattle.std.specs.Prelude.{◌≡◌, ◌∷◌, ◌++◌, [], None, IfOk, OnOk};
 ghost use Rattle.merc_tree.specs.Term.{Application, none, more};
 ghost use Rattle.merc_items.specs.FormFaults.{Rises};
 
+use crate::assembling::module_of;
 use crate::forms::check_forms;
+use crate::joining::join;
+use crate::units::{read_units, Units};
 use merc_base::{Construct, Detail, Fault, Name, Names, Place, Refusal, Rule, Span};
 use merc_tree::Terms;
 use std::alloc::Global;
@@ -75,5 +78,43 @@ fn refuses_an_import(rt: HostRuntime) -> Result<(), Fail> {
         check_forms(alloc, &terms, &names),
         Err(Fault::Refused(refusal))
     );
+    Ok(())
+}
+
+// How many items a unit has.
+fn item_count(units: &Units, unit: Name) -> usize {
+    match units.items(unit) {
+        Some(items) => items.len(),
+        None => 0,
+    }
+}
+
+#[test]
+fn reads_the_units(rt: HostRuntime) -> Result<(), Fail> {
+    let alloc = rt.alloc();
+    let mut names = Names::new(alloc);
+    let units = read_units(alloc, &mut names)?;
+    assert_eq!(rt; item_count(&units, Name::LIST), 19);
+    assert_eq!(rt; item_count(&units, Name::BOOL), 1);
+    assert_eq!(rt; item_count(&units, Name::MAYBE), 1);
+    assert_eq!(rt; item_count(&units, Name::INT), 0);
+    Ok(())
+}
+
+#[test]
+fn takes_in_an_imported_unit(rt: HostRuntime) -> Result<(), Fail> {
+    let alloc = rt.alloc();
+    let mut names = Names::new(alloc);
+    let units = read_units(alloc, &mut names)?;
+    let own = names.intern(b"m")?;
+    let terms = module_with(alloc, own, Name::IMPORT_MODULE, Name::LIST)?;
+    let entries = join(alloc, &terms, &units)?;
+    assert_eq!(rt; entries.len(), 22);
+    let found = module_of(alloc, &terms, &entries)?;
+    assert_eq!(rt; found.units.as_slice().len(), 1);
+    assert_eq!(rt; found.types.as_slice().len(), 1);
+    assert_eq!(rt; found.own, 0);
+    assert_eq!(rt; found.preds.as_slice().len(), 5);
+    assert_eq!(rt; found.clauses.as_slice().len(), 9);
     Ok(())
 }

@@ -52,7 +52,8 @@ token-grow : (names more : List (List ℕ)) (found : Token) (kind : Option Spell
 token-grow names more found None spelled unknown is = absurd (cc)
 token-grow names more found (Some spelling) spelled known is = rw (spelling_in-grow names more found.kind spelling known) is
 
-texts-grow : (names more : List (List ℕ)) (tokens : List Token) (spelled : List SpelledToken) → map (with_texts names) tokens ≡ map Some spelled → map (with_texts (names ++ more)) tokens ≡ map Some spelled
+-- texts of names are kept where names are added
+pub texts-grow : (names more : List (List ℕ)) (tokens : List Token) (spelled : List SpelledToken) → map (with_texts names) tokens ≡ map Some spelled → map (with_texts (names ++ more)) tokens ≡ map Some spelled
 texts-grow names more [] spelled is = is
 texts-grow names more (found ∷ tokens) [] is = absurd (cc)
 texts-grow names more (found ∷ tokens) (one ∷ spelled) is =

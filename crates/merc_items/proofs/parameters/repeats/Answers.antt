@@ -1,6 +1,6 @@
 use Rattle.std.proofs.Common.{ap, ◌∙◌}
 use Rattle.merc_items.specs.Parameters.{has_equal_neighbors}
-use Rattle.merc_items.proofs.Doubles.{repeats_sorted}
+use Rattle.merc_items.proofs.RepeatedNames.{repeats_sorted}
 use Rattle.merc_items.proofs.parameters.repeats.Goals as goal
 
 pub returns : goal.returns

@@ -1,0 +1,12 @@
+use Rattle.std.proofs.Common.{◌≡◌, ◌++◌, List, drop}
+use Rattle.std.specs.List.{flat_map}
+use Rattle.merc_items.specs.Entries.{Key}
+use Rattle.merc_items.specs.EntryValue.{entry_values}
+use Rattle.merc_items.specs.ModuleOf.{modes_in}
+use Rattle.merc_items.specs.DeclaredModes.{kept_modes}
+use Rattle.merc_items.specs.Parting.{kept}
+use Rattle.merc_items.proofs.declared_modes.ModeTable.of.Given as goal
+
+abbrev pub invariant-loop-entry : goal.invariant-loop-entry
+invariant-loop-entry l = (predicate : List Key)
+    → kept_modes l.table predicate ++ flat_map (kept l.part (modes_in predicate)) (entry_values (drop l.entry-index l.entries)) ≡ flat_map (kept l.part (modes_in predicate)) (entry_values l.entries)

@@ -1,0 +1,11 @@
+use Rattle.std.proofs.Common.{◌≡◌, ◌++◌, map, drop}
+use Rattle.merc_items.specs.Entries.{declared_by, types_of}
+use Rattle.merc_items.specs.Phases.{type_keys}
+use Rattle.merc_items.specs.EntryValue.{entry_values}
+use Rattle.merc_items.specs.KeyValue.{key_value}
+use Rattle.merc_items.specs.FirstPlaces.{declared_value}
+use Rattle.merc_items.proofs.doubles.declarations.types.Given as goal
+
+abbrev pub invariant-loop-entry : goal.invariant-loop-entry
+invariant-loop-entry l =
+    map (declared_value key_value) l.types.items ++ declared_by types_of (entry_values (drop l.entry-index l.entries)) ≡ type_keys (entry_values l.entries)

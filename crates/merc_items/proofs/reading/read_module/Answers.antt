@@ -1,0 +1,32 @@
+use Rattle.std.proofs.Common.{◌∙◌, ap, sym}
+use Rattle.std.proofs.lemmas.Result.{err_from_is_err_and}
+use Rattle.merc_items.specs.EntryValue.{entry_values}
+use Rattle.merc_items.specs.ModuleOf.{module_of}
+use Rattle.merc_items.specs.Units.{items_of}
+use Rattle.merc_items.proofs.ReadingLaws.{reads-rises, entries-order, items-refused, is_module}
+use Rattle.merc_items.proofs.reading.read_module.Goals as goal
+
+pub check_items-requires-clause-terms : goal.check_items-requires-clause-terms
+check_items-requires-clause-terms c = reads-rises c.read_terms.new.names c.bytes.result.now c.in_ok-terms.terms c.in_ok-terms.ensures.found
+
+pub check_items-requires-clause-entries : goal.check_items-requires-clause-entries
+check_items-requires-clause-entries c =
+    entries-order c.read_terms.new.names c.bytes.result.now c.in_ok-terms.terms (items_of c.in_ok-units.units) (entry_values c.deref.result.now) c.in_ok-terms.ensures.found
+    (ap entry_values c.deref.ensures.value ∙ c.in_ok-entries.ensures)
+
+pub returns-in_err-check_items-clause-refused : goal.returns-in_err-check_items-clause-refused
+returns-in_err-check_items-clause-refused c =
+    let grows = c.in_ok-units.ensures.grows in
+    let p = err_from_is_err_and c.from_residual-in_err-check_items.result c.from_residual-in_err-check_items.ensures.1 in
+    rw (p.1, p.2)
+    (items-refused c.read_terms.new.names grows.0 c.read_units.new.names c.args.text.now c.in_ok-terms.terms (items_of c.in_ok-units.units) grows.1
+    (rw c.bytes.ensures at c.in_ok-terms.ensures.found) c.in_ok-units.ensures.read (entry_values c.deref.result.now) c.in_err-check_items.field-0.0
+    (ap entry_values c.deref.ensures.value ∙ c.in_ok-entries.ensures) c.in_err-check_items.ensures.refused)
+
+pub returns-clause-found : goal.returns-clause-found
+returns-clause-found c =
+    let grows = c.in_ok-units.ensures.grows in
+    is_module c.read_terms.new.names grows.0 c.read_units.new.names c.args.text.now c.in_ok-terms.terms (items_of c.in_ok-units.units) grows.1
+    (rw c.bytes.ensures at c.in_ok-terms.ensures.found) c.in_ok-units.ensures.read (entry_values c.deref.result.now) c.in_ok-module_of.field-0
+    (ap entry_values c.deref.ensures.value ∙ c.in_ok-entries.ensures) c.in_ok-check_items.ensures.fine
+    (c.in_ok-module_of.ensures ∙ ap (module_of c.in_ok-terms.terms) (ap entry_values (c.deref-2.ensures.value ∙ sym c.deref.ensures.value)))

@@ -1,0 +1,229 @@
+//! The modes that items declare, by their predicates.
+ghost use Rattle.std.specs.Prelude.{◌≡◌, [], ◌∷◌, ◌++◌, List, Some, map, IfOk, OnOk, if◌then◌else◌};
+ghost use Rattle.std.specs.List.{flat_map, list_all};
+ghost use Rattle.merc_tree.specs.Shape.{arguments_of};
+ghost use Rattle.merc_items.specs.Items.{plain_name};
+ghost use Rattle.merc_items.specs.Forms.{argument_mode, category_named, is_moded};
+ghost use Rattle.merc_items.specs.Entries.{Key as key_record, has_mode, is_out, key_of};
+ghost use Rattle.merc_items.specs.Phases.{are_keys};
+ghost use Rattle.merc_items.specs.EntryValue.{entry_value, entry_values};
+ghost use Rattle.merc_items.specs.ItemValue.{item_value};
+ghost use Rattle.merc_items.specs.KeySets.{keys_at};
+ghost use Rattle.merc_items.specs.ModuleOf.{arg_of, args_of, category_or_det, declared_category, modes_in};
+ghost use Rattle.merc_items.specs.DeclaredModes.{entry_modes, kept_modes, moded_predicate};
+ghost use Rattle.merc_items.specs.Parting.{kept};
+
+use crate::arguments::argument_mode;
+use crate::entry::Entry;
+use crate::item::Item;
+use crate::key::Key;
+use crate::key_set::key_of;
+use crate::members::arguments;
+use crate::operands::plain_name;
+use crate::parting::Part;
+use merc_base::{Category, Name, NoMemory};
+use merc_tree::{Arg, Args, Arguments, ModeDecl, ModeDecls, TermRef};
+use std::alloc::Global;
+use std::collections::BTreeMap;
+
+/// Modes in the order of their declarations, by the keys of their predicates.
+#[derive(Drop)]
+pub(crate) struct ModeTable {
+    by_key: BTreeMap<Key, ModeDecls>,
+}
+
+impl ModeTable {
+    /// The modes that the entries of a part of the module declare.
+    pub(crate) fn of(
+        alloc: Global,
+        part: Part,
+        entries: &[Entry<'_>],
+    ) -> Result<ModeTable, NoMemory>
+        ensures { IfOk result (λ table. (predicate : List key_record) → kept_modes table predicate ≡ flat_map (kept part (modes_in predicate)) (entry_values entries.now)) }
+    {
+        let mut table = ModeTable {
+            by_key: BTreeMap::new(alloc),
+        };
+        for entry in entries {
+            if part.has(entry) {
+                table.add(alloc, moded_predicate(&entry.item), entry)?;
+            }
+        }
+        Ok(table)
+    }
+
+    // Puts the mode that an entry declares behind the others of its predicate, where there is one.
+    fn add(&mut self, alloc: Global, key: Option<Key>, entry: &Entry<'_>) -> Result<(), NoMemory>
+        ensures { OnOk result ((predicate : List key_record) → kept_modes self.new predicate ≡ (if are_keys predicate (keys_at key) then kept_modes self.old predicate ++ entry_modes (entry_value entry.now) else kept_modes self.old predicate)) }
+    {
+        if let Some(key) = key {
+            let mut modes = match self.by_key.remove(&key) {
+                Some(modes) => modes,
+                None => ModeDecls::new(alloc),
+            };
+            push_mode(alloc, entry, &mut modes)?;
+            self.by_key.insert(key, modes)?;
+        }
+        Ok(())
+    }
+
+    /// The modes of the predicate with this head.
+    pub(crate) fn modes(
+        &self,
+        alloc: Global,
+        head: &TermRef<'_>,
+    ) -> Result<ModeDecls, NoMemory>
+        ensures { IfOk result (λ modes. modes ≡ kept_modes self.now (key_of head.now)) }
+    {
+        let key = match key_of(head) {
+            Some(key) => key,
+            None => return Ok(ModeDecls::new(alloc)),
+        };
+        match self.by_key.get(&key) {
+            Some(modes) => copy_modes(alloc, modes),
+            None => Ok(ModeDecls::new(alloc)),
+        }
+    }
+}
+
+fn copy_modes(alloc: Global, modes: &ModeDecls) -> Result<ModeDecls, NoMemory>
+    ensures { IfOk result (λ copy. copy ≡ modes.now) }
+{
+    let mut copy = ModeDecls::new(alloc);
+    for mode in modes.as_slice() {
+        copy.push(copy_mode(alloc, mode)?)?;
+    }
+    Ok(copy)
+}
+
+fn copy_mode(alloc: Global, mode: &ModeDecl) -> Result<ModeDecl, NoMemory>
+    ensures { IfOk result (λ copy. copy ≡ mode.now) }
+{
+    let args = Vec::from_slice(alloc, mode.args.as_slice())?;
+    Ok(ModeDecl {
+        args: Args::from_vec(args),
+        category: mode.category,
+        span: mode.span,
+    })
+}
+
+// The predicate for which an item declares a mode, None where it declares none.
+fn moded_predicate(item: &Item<'_>) -> Option<Key>
+    ensures { keys_at result ≡ moded_predicate (item_value item.now) }
+{
+    match item {
+        Item::Predicate(head, category) => {
+            if has_mode(head, category) {
+                key_of(head)
+            } else {
+                None
+            }
+        }
+        Item::Mode(head, _) => key_of(head),
+        _ => None,
+    }
+}
+
+// Whether a predicate's declaration has its mode with it: each argument has one, or there are none and a category
+// stands behind.
+fn has_mode(head: &TermRef<'_>, category: &Option<TermRef<'_>>) -> bool
+    ensures { result ≡ has_mode head.now category.now }
+{
+    let arguments = head.arguments();
+    if arguments.len() == 0 {
+        category.is_some()
+    } else {
+        are_moded(arguments)
+    }
+}
+
+fn are_moded(mut arguments: Arguments<'_>) -> bool
+    ensures { result ≡ list_all is_moded arguments.entry }
+{
+    while let Some(last) = arguments.take_last() {
+        if argument_mode(&last).is_none() {
+            return false;
+        }
+    }
+    true
+}
+
+// Puts the mode that an entry declares behind the others.
+fn push_mode(alloc: Global, entry: &Entry<'_>, modes: &mut ModeDecls) -> Result<(), NoMemory>
+    ensures { OnOk result (modes.new ≡ modes.old ++ entry_modes (entry_value entry.now)) }
+{
+    let (args, category) = match &entry.item {
+        Item::Predicate(head, category) => (args_with_types(alloc, head)?, category),
+        Item::Mode(head, category) => (args_alone(alloc, head)?, category),
+        _ => return Ok(()),
+    };
+    modes.push(ModeDecl {
+        args,
+        category: declared_category(category),
+        span: entry.span,
+    })
+}
+
+// The arguments of a mode that a predicate's declaration has with it.
+fn args_with_types(alloc: Global, head: &TermRef<'_>) -> Result<Args, NoMemory>
+    ensures { IfOk result (λ args. args ≡ args_of (map argument_mode (arguments_of head.now))) }
+{
+    let mut args = Args::new(alloc);
+    for argument in &arguments(alloc, head)? {
+        if let Some(mode) = argument_mode(argument) {
+            args.push(arg_of(&mode))?;
+        }
+    }
+    Ok(args)
+}
+
+// The arguments of a mode's declaration.
+fn args_alone(alloc: Global, head: &TermRef<'_>) -> Result<Args, NoMemory>
+    ensures { IfOk result (λ args. args ≡ args_of (map Some (arguments_of head.now))) }
+{
+    let mut args = Args::new(alloc);
+    for argument in &arguments(alloc, head)? {
+        args.push(arg_of(argument))?;
+    }
+    Ok(args)
+}
+
+fn arg_of(mode: &TermRef<'_>) -> Arg
+    ensures { result ≡ arg_of (is_out (plain_name mode.now)) }
+{
+    match plain_name(mode) {
+        Some(name) if name == Name::OUT => Arg::Output,
+        _ => Arg::Input,
+    }
+}
+
+// The category of a declaration, `det` where it names none.
+fn declared_category(category: &Option<TermRef<'_>>) -> Category
+    ensures { result ≡ declared_category category.now }
+{
+    match category {
+        Some(term) => match plain_name(term) {
+            Some(name) => category_named(name),
+            None => Category::Det,
+        },
+        None => Category::Det,
+    }
+}
+
+fn category_named(name: Name) -> Category
+    ensures { result ≡ category_or_det (category_named name) }
+{
+    if name == Name::SEMIDET {
+        Category::Semidet
+    } else if name == Name::MULTI {
+        Category::Multi
+    } else if name == Name::NONDET {
+        Category::Nondet
+    } else if name == Name::ERRONEOUS {
+        Category::Erroneous
+    } else if name == Name::FAILURE {
+        Category::Failure
+    } else {
+        Category::Det
+    }
+}
