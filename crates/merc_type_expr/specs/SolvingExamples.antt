@@ -1,9 +1,7 @@
 -- How equations of types are solved, by examples: 1 is the name `list`, 2 and 3 are the type variables A and B.
-use Rattle.std.specs.Prelude.{◌≡◌, true, false, [], ◌∷◌, refl}
+use Rattle.std.specs.Prelude.{◌≡◌, true, [], ◌∷◌, refl}
 use Rattle.merc_tree.specs.Types.{TypeExpr, TypeVariable, IntType, TextType, TypeApplication, no_types, more_types}
-use Rattle.merc_type_expr.specs.Unifier.{Bindings}
-use Rattle.merc_type_expr.specs.Outcome.{BecomesUnifier}
-use Rattle.merc_type_expr.specs.Solving.{occurs, size, walked, zipped, Adds, Differ}
+use Rattle.merc_type_expr.specs.Solving.{occurs, walked, zipped, Differ}
 
 abbrev list_of : TypeExpr → TypeExpr
 list_of type = TypeApplication 1 (more_types type no_types)

@@ -1,9 +1,9 @@
 -- Substitutions of types by examples: 1 is the name `list`, 2 and 3 are the type variables A and B, 4 is the name `f`.
-use Rattle.std.specs.Prelude.{◌≡◌, ℕ, ◌==◌, Bool, true, false, List, [], ◌∷◌, Some, None, if◌then◌else◌, refl}
+use Rattle.std.specs.Prelude.{◌≡◌, ℕ, ◌==◌, true, false, [], ◌∷◌, Some, None, if◌then◌else◌, refl}
 use Rattle.std.proofs.Common.{ap, sym, ◌∙◌, arith}
 use Rattle.std.proofs.lemmas.Bool.Decides.{nat_tests}
 use Rattle.merc_tree.specs.Types.{TypeExpr, TypeVariable, IntType, TextType, TypeApplication, no_types, more_types, replaced}
-use Rattle.merc_type_expr.specs.Unifier.{Bindings, bound_to, Solves, Unifies, IsMostGeneral, IsSolvable, IsUnifier, HasNoUnifier}
+use Rattle.merc_type_expr.specs.Unifier.{Bindings, IsMostGeneral, IsUnifier, HasNoUnifier}
 use Rattle.merc_type_expr.specs.Solving.{size}
 
 abbrev list_of : TypeExpr → TypeExpr

@@ -63,6 +63,7 @@ impl Subst {
         ensures err { OnErr result (self.new ≡ self.old) }
     {
         let alloc = *self.bindings.allocator();
+        // Copies, since the proof of the search wants one lifetime for the types and the bindings.
         let a = a.to_type(alloc)?;
         let b = b.to_type(alloc)?;
         let mut more = match new_bindings(alloc, &self.bindings, &a.as_ref(), &b.as_ref())? {
@@ -87,8 +88,10 @@ impl Subst {
 
 /// The most general unifier of two types under a substitution, None exactly where there is no unifier.
 ///
-/// Types are shared and not written out, and each pair of types is compared once: with n places in the types of both and
-/// of the substitution the cost is at most of the order of n to the fifth power, in ordinary cases linear.
+/// Types are shared and not written out, and each pair of types is looked at once. With n places in the types of both and
+/// of the substitution there are at most n² pairs, and each is looked for among those before it, so the cost is at worst
+/// of the order of n to the fifth power times the greatest number of arguments. Mostly it is the size of the two types
+/// times the number of bindings, and a copy of the substitution, which `Subst::unify` saves.
 pub fn unify(
     alloc: Global,
     a: &TypeExpr,

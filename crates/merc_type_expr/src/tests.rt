@@ -75,10 +75,24 @@ fn binds_the_item_of_a_list(rt: HostRuntime) -> Result<(), Fail> {
         TypeShape::Int
     );
     assert!(rt; found.get(Name::TYPE).is_none());
-    let item = variable(&rt, alloc, Name::MODE)?;
-    let text = text(&rt, alloc)?;
-    assert!(rt; unify(alloc, &item, &text, &found)?.is_none());
     Ok(())
+}
+
+// The variable of this letter and number.
+fn numbered(names: &mut Names, letter: u8, number: u8) -> Result<Name, Fail> {
+    Ok(names.intern(&[letter, number])?)
+}
+
+// Makes a type variable one with a type, and says whether that is possible.
+fn unify_with(
+    rt: &impl Abort,
+    alloc: Global,
+    subst: &mut Subst,
+    name: Name,
+    other: &TypeExpr,
+) -> Result<bool, Fail> {
+    let variable = variable(rt, alloc, name)?;
+    Ok(subst.unify(&variable.as_ref(), &other.as_ref())?)
 }
 
 // Binds the variables of this letter, each to a pair of the one before, and answers the first and the last.
@@ -89,13 +103,12 @@ fn doubled(
     letter: u8,
     subst: &mut Subst,
 ) -> Result<(Name, Name), Fail> {
-    let first = names.intern(&[letter, 0])?;
+    let first = numbered(names, letter, 0)?;
     let mut last = first;
     for step in 1..=64u8 {
-        let next = names.intern(&[letter, step])?;
-        let outer = variable(rt, alloc, next)?;
+        let next = numbered(names, letter, step)?;
         let inner = pair(rt, alloc, last, last)?;
-        assert!(rt; subst.unify(&outer.as_ref(), &inner.as_ref())?);
+        assert!(rt; unify_with(rt, alloc, subst, next, &inner)?);
         last = next;
     }
     Ok((first, last))
@@ -106,15 +119,14 @@ fn shares_doubled_types(rt: HostRuntime) -> Result<(), Fail> {
     let alloc = rt.alloc();
     let mut names = Names::new(alloc);
     let mut subst = Subst::new(alloc);
-    let (one, whole) = doubled(&rt, alloc, &mut names, b'x', &mut subst)?;
+    let (first, whole) = doubled(&rt, alloc, &mut names, b'x', &mut subst)?;
     let (other, second) = doubled(&rt, alloc, &mut names, b'y', &mut subst)?;
-    let whole = variable(&rt, alloc, whole)?;
     let second = variable(&rt, alloc, second)?;
-    assert!(rt; subst.unify(&whole.as_ref(), &second.as_ref())?);
-    let one = variable(&rt, alloc, one)?;
-    let other = variable(&rt, alloc, other)?;
-    assert!(rt; !subst.unify(&whole.as_ref(), &other.as_ref())?);
-    assert!(rt; subst.unify(&one.as_ref(), &int(&rt, alloc)?.as_ref())?);
-    assert!(rt; !subst.unify(&other.as_ref(), &text(&rt, alloc)?.as_ref())?);
+    assert!(rt; unify_with(&rt, alloc, &mut subst, whole, &second)?);
+    assert!(rt; !unify_with(&rt, alloc, &mut subst, first, &second)?);
+    let int = int(&rt, alloc)?;
+    assert!(rt; unify_with(&rt, alloc, &mut subst, first, &int)?);
+    let text = text(&rt, alloc)?;
+    assert!(rt; !unify_with(&rt, alloc, &mut subst, other, &text)?);
     Ok(())
 }
