@@ -126,6 +126,6 @@ whole_module terms entries name units own_types types own_preds preds own_clause
     ∙ ap (λ u. with_parts wanted.name u types preds (length own_preds) clauses) units_is
     ∙ ap (λ t. with_parts wanted.name wanted.units t preds (length own_preds) clauses) (both type_defs entries own_types types own_types_are types_are)
     ∙ ap (λ p. with_parts wanted.name wanted.units wanted.types p (length own_preds) clauses)
-      (preds_are ∙ ap (λ l. l ++ flat_map (pred_decls (unit_items entries)) (unit_items entries)) own_preds_are)
+    (preds_are ∙ ap (λ l. l ++ flat_map (pred_decls (unit_items entries)) (unit_items entries)) own_preds_are)
     ∙ ap (λ (o : List PredDecl). with_parts wanted.name wanted.units wanted.types wanted.preds (length o) clauses) own_preds_are
     ∙ ap (λ c. with_parts wanted.name wanted.units wanted.types wanted.preds wanted.own c) (both clauses_in entries own_clauses clauses own_clauses_are clauses_are)

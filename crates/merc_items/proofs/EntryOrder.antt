@@ -41,7 +41,7 @@ units_before items place seen [] rest order = order
 units_before items place seen (unit ∷ units) rest order =
     by_test (is_in unit seen) (units_before items place seen units rest order)
     (append_order place.byte (map (unit_entry place unit) (items unit)) (unit_entries items place (seen ++ unit ∷ []) units) rest
-      (unit_before place unit (items unit) (unit_entries items place (seen ++ unit ∷ []) units ++ rest) (units_before items place (seen ++ unit ∷ []) units rest order)))
+    (unit_before place unit (items unit) (unit_entries items place (seen ++ unit ∷ []) units ++ rest) (units_before items place (seen ++ unit ∷ []) units rest order)))
   where
     by_test : (b : Bool) → InOrder place.byte (unit_entries items place seen units ++ rest)
         → InOrder place.byte ((map (unit_entry place unit) (items unit) ++ unit_entries items place (seen ++ unit ∷ []) units) ++ rest)

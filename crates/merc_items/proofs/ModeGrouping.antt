@@ -41,10 +41,10 @@ one_more before middle after key more old new removed inserted old_is new_is (a 
     let found : CodeKey = record { name = a.name; arity = a.arity } in
     let there : Option Group = get compare_keys before.by_key found in
     let added : key ≡ found → new ≡ listed there ++ more = λ same.
-      new_is ∙ ap (λ l. l ++ more) (old_is ∙ ap (λ (k : CodeKey). listed (get compare_keys before.by_key k)) same) in
+    new_is ∙ ap (λ l. l ++ more) (old_is ∙ ap (λ (k : CodeKey). listed (get compare_keys before.by_key k)) same) in
     let whole : listed (get compare_keys after.by_key found) ≡ (if is_key a (key_value key) then listed there ++ more else listed there) =
-      at_key key found new more there (get compare_keys middle.by_key found) (get compare_keys after.by_key found) (removed found) (inserted found) added
-      (is_key a (key_value key)) (same-test key found ∙ key-swap (key_value key) a) in
+    at_key key found new more there (get compare_keys middle.by_key found) (get compare_keys after.by_key found) (removed found) (inserted found) added
+    (is_key a (key_value key)) (same-test key found ∙ key-swap (key_value key) a) in
     ap listed (sym (lookup-same found after.by_key.entries)) ∙ whole
     ∙ ap (λ (o : Option Group). if is_key a (key_value key) then listed o ++ more else listed o) (lookup-same found before.by_key.entries)
 

@@ -37,7 +37,7 @@ counted-insert before after key modes lacks_category (a ∷ []) updated added =
     let found : CodeKey = record { name = a.name; arity = a.arity } in
     let tests : is_eq (compare_keys key found) ≡ is_key a (key_value key) = same-test key found ∙ key-swap (key_value key) a in
     let now : lookup (is_found (a ∷ [])) after.by_key.entries ≡ cond (is_eq (compare_keys key found)) (Some modes) (lookup (is_found (a ∷ [])) before.by_key.entries) =
-      sym (lookup-same found after.by_key.entries) ∙ updated found ∙ ap (λ (old : Option ModeCount). cond (is_eq (compare_keys key found)) (Some modes) old) (lookup-same found before.by_key.entries) in
+    sym (lookup-same found after.by_key.entries) ∙ updated found ∙ ap (λ (old : Option ModeCount). cond (is_eq (compare_keys key found)) (Some modes) old) (lookup-same found before.by_key.entries) in
     let same : key ≡ found → modes ≡ with_mode (counted before (a ∷ [])) lacks_category = λ equal. added ∙ ap (λ (other : CodeKey). with_mode (counted before (key_value other ∷ [])) lacks_category) equal in
     at-key key found modes (lookup (is_found (a ∷ [])) before.by_key.entries) (lookup (is_found (a ∷ [])) after.by_key.entries) lacks_category now same (is_key a (key_value key)) tests
 
@@ -56,7 +56,7 @@ count-any test (first ∷ rest) =
 pub lacks_agrees : (entries : List Entry) (counts : ModeCounts) (item : Item) → HoldsModes entries counts → lacks_mode_by counts item ≡ lacks_mode entries item
 lacks_agrees entries counts (PredicateItem head category) holds =
     let some : nat_lt 0 (counted counts (key_of head)).count ≡ list_any (λ entry. is_own entry && is_mode_of (key_of head) entry.item) entries =
-      ap (λ (n : ℕ). nat_lt 0 n) (holds.numbers (key_of head)) ∙ count-any (λ entry. is_own entry && is_mode_of (key_of head) entry.item) entries in
+    ap (λ (n : ℕ). nat_lt 0 n) (holds.numbers (key_of head)) ∙ count-any (λ entry. is_own entry && is_mode_of (key_of head) entry.item) entries in
     ap (λ (has : Bool). (if has_mode head category then is_none category else is_some category || not has) || (counted counts (key_of head)).lacks_category) some
     ∙ ap (λ (lacking : Bool). (if has_mode head category then is_none category else is_some category || not (list_any (λ entry. is_own entry && is_mode_of (key_of head) entry.item) entries)) || lacking) (holds.lacking (key_of head))
 lacks_agrees entries counts (Opening name) holds = refl

@@ -70,7 +70,7 @@ mutual
   parts_of_terms (more first others) rest types left =
       subst (λ l. AreParts l types) (sym (append_assoc (shapes_of first) (all_shapes others) rest))
       (parts_of_term first (all_shapes others ++ rest) types
-        (parts_of_terms others rest (types ++ declared_type first ∷ []) (subst (AreParts rest) (sym (append_assoc types (declared_type first ∷ []) (map declared_type (list_of others)))) left)))
+      (parts_of_terms others rest (types ++ declared_type first ∷ []) (subst (AreParts rest) (sym (append_assoc types (declared_type first ∷ []) (map declared_type (list_of others)))) left)))
 
 pub all_parts : (term : Term) (types : List TypeExpr) → AreParts (shapes_of term) types
 all_parts term types = subst (λ l. AreParts l types) (append-nil (shapes_of term)) (parts_of_term term [] types tt)

@@ -20,8 +20,8 @@ use crate::members::{arguments, members};
 use crate::parting::Part;
 use merc_base::{Name, NoMemory, Span};
 use merc_tree::{
-    Clause, Clauses, Constructor, Constructors, Module, NameList, PredDecl, PredDecls, Shape, TermRef,
-    Terms, TypeDef, TypeDefs,
+    Clause, Clauses, Constructor, Constructors, Module, NameList, PredDecl, PredDecls, Shape,
+    TermRef, Terms, TypeDef, TypeDefs,
 };
 use std::alloc::Global;
 

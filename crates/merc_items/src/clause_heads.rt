@@ -11,7 +11,7 @@ ghost use Rattle.merc_items.specs.PhaseFaults.{AtPlaces, HasNone, AnswersLeast};
 
 use crate::entry::Entry;
 use crate::item::Item;
-use crate::key_set::{key_of, KeySet};
+use crate::key_set::{KeySet, key_of};
 use merc_base::{Detail, Fault, Name, NoMemory, Place, Refusal, Rule};
 use merc_tree::{Shape, TermRef};
 use std::alloc::Global;

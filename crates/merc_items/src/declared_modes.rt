@@ -68,11 +68,7 @@ impl ModeTable {
     }
 
     /// The modes of the predicate with this head.
-    pub(crate) fn modes(
-        &self,
-        alloc: Global,
-        head: &TermRef<'_>,
-    ) -> Result<ModeDecls, NoMemory>
+    pub(crate) fn modes(&self, alloc: Global, head: &TermRef<'_>) -> Result<ModeDecls, NoMemory>
         ensures { IfOk result (λ modes. modes ≡ kept_modes self.now (key_of head.now)) }
     {
         let key = match key_of(head) {

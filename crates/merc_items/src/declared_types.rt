@@ -11,10 +11,7 @@ use merc_tree::{Shape, TermRef, TypeExprs};
 use std::alloc::Global;
 
 /// The types that terms declare, in order.
-pub(crate) fn declared_types(
-    alloc: Global,
-    terms: &[TermRef<'_>],
-) -> Result<TypeExprs, NoMemory>
+pub(crate) fn declared_types(alloc: Global, terms: &[TermRef<'_>]) -> Result<TypeExprs, NoMemory>
     ensures { IfOk result (λ types. types ≡ map declared_type terms.now) }
 {
     let mut types = TypeExprs::new(alloc);

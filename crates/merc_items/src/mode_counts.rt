@@ -15,7 +15,7 @@ use crate::entry::Entry;
 use crate::item::Item;
 use crate::key::Key;
 use crate::key_set::key_of;
-use crate::operands::{operands_of, Operands};
+use crate::operands::{Operands, operands_of};
 use merc_base::{Detail, Fault, LimitName, Name, NoMemory, Place, Refusal, Rule};
 use merc_tree::{Arguments, TermRef};
 use std::alloc::Global;
@@ -181,7 +181,11 @@ impl ModeCounts {
     {
         match item {
             Item::Predicate(head, category) => {
-                let own = if has_mode(head, category.is_some()) { 1 } else { 0 };
+                let own = if has_mode(head, category.is_some()) {
+                    1
+                } else {
+                    0
+                };
                 own + self.at(key_of(head)).count > MODE_LIMIT
             }
             _ => false,

@@ -6,7 +6,7 @@ ghost use Rattle.merc_items.specs.FormFaults.{Rises};
 use crate::assembling::module_of;
 use crate::forms::check_forms;
 use crate::joining::join;
-use crate::units::{read_units, Units};
+use crate::units::{Units, read_units};
 use merc_base::{Construct, Detail, Fault, Name, Names, Place, Refusal, Rule, Span};
 use merc_tree::Terms;
 use std::alloc::Global;

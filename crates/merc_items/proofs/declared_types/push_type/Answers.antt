@@ -15,7 +15,7 @@ loop-index-preserved c =
     let shapes = shapes_of c.args.term.now in
     let i = c.loop-index.index in
     elim c.match-part_shape.branch [
-      in-Some+in_ok-push_part w ↦ record {
+      | in-Some+in_ok-push_part w ↦ record {
         parts = parts_left shapes i w.in-Some.shape c.loop-index.types (sym w.in-Some.ensures) _ (w.types-is ∙ w.in_ok-push_part.ensures) c.loop-index.invariant.parts;
         types = types_left shapes i w.in-Some.shape c.loop-index.types (sym w.in-Some.ensures) _ _ (w.types-is ∙ w.in_ok-push_part.ensures) c.loop-index.invariant.types;
       }

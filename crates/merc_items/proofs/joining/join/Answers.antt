@@ -9,14 +9,14 @@ pub loop-index-preserved : goal.loop-index-preserved
 loop-index-preserved c =
     let items = items_of c.args.units.now in
     elim c.match-get.branch [
-      in-Some+in_ok-push_item w ↦
-        item_step items c.args.terms.now c.loop-index.index w.in-Some.term c.loop-index.seen c.match-get.seen (entry_values c.loop-index.entries.items) (entry_values c.match-get.entries.items) _
+      | in-Some+in_ok-push_item w ↦
+          item_step items c.args.terms.now c.loop-index.index w.in-Some.term c.loop-index.seen c.match-get.seen (entry_values c.loop-index.entries.items) (entry_values c.match-get.entries.items) _
           (sym w.in-Some.ensures)
           (ap (λ e. entry_values e.items) w.entries-is ∙ w.in_ok-push_item.ensures.entries)
           (w.seen-is ∙ w.in_ok-push_item.ensures.seen)
           c.loop-index.invariant
       | in_default w ↦
-        item_past items c.args.terms.now c.loop-index.index c.loop-index.seen c.match-get.seen (entry_values c.loop-index.entries.items) (entry_values c.match-get.entries.items) _
+          item_past items c.args.terms.now c.loop-index.index c.loop-index.seen c.match-get.seen (entry_values c.loop-index.entries.items) (entry_values c.match-get.entries.items) _
           (sym w.in_default.ensures)
           (ap (λ e. entry_values e.items) w.entries-is)
           w.seen-is

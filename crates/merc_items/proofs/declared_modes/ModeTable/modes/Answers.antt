@@ -12,6 +12,6 @@ returns-in-None c =
 pub returns-in-Some-get : goal.returns-in-Some-get
 returns-in-Some-get c =
     IfOk-weaker c.copy_modes.result _ _
-      (λ (modes : List ModeDecl) h.
-        h ∙ ap listed c.in-Some-get.ensures.value ∙ ap listed (lookup-same c.in-Some.key c.args.self.now.by_key.entries) ∙ ap (kept_modes c.args.self.now) c.in-Some.ensures)
-      c.copy_modes.ensures
+    (λ (modes : List ModeDecl) h.
+    h ∙ ap listed c.in-Some-get.ensures.value ∙ ap listed (lookup-same c.in-Some.key c.args.self.now.by_key.entries) ∙ ap (kept_modes c.args.self.now) c.in-Some.ensures)
+    c.copy_modes.ensures

@@ -8,8 +8,8 @@ use Rattle.merc_items.proofs.mode_counts.ModeCounts.add.Goals.{then-before, else
 pub returns-in_ok-insert : goal.returns-in_ok-insert
 returns-in_ok-insert c = λ found.
     let lacks : c.if-before.insert ≡ (c.at-before.result.lacks_category || c.args.lacks_category) = elim c.if-before.branch [
-      then-before w ↦ rw w.if-before.true (w.insert-is ∙ w.if-before.true)
-    | else-before w ↦ rw w.if-before.false w.insert-is
+      | then-before w ↦ rw w.if-before.true (w.insert-is ∙ w.if-before.true)
+      | else-before w ↦ rw w.if-before.false w.insert-is
     ] in
     let counted : ℕ → Bool → ModeCount = λ n lacking. record { count = n; lacks_category = lacking } in
     let modes : counted (c.at-before.result.count + 1) c.if-before.insert ≡ with_mode c.at-before.result c.args.lacks_category = ap (λ (lacking : Bool). counted (c.at-before.result.count + 1) lacking) lacks in
