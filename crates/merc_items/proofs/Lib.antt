@@ -28,3 +28,4 @@ pub mod TypeLaws
 pub mod FirstFaults
 pub mod UnitReading
 pub mod EntryOrder
+pub mod ModuleLaws

@@ -4,6 +4,9 @@ ghost use Rattle.merc_terms.specs.Items.{IsRefusal};
 ghost use Rattle.merc_items.specs.ReadItems.{ReadsItems};
 ghost use Rattle.merc_items.specs.ReadModule.{IsModule, RefusesModule};
 
+#[cfg(test)]
+mod tests;
+
 use crate::assembling::module_of;
 use crate::joining::join;
 use crate::phases::check_items;
