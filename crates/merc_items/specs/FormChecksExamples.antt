@@ -2,14 +2,12 @@
 use Rattle.std.specs.Prelude.{◌≡◌, ℕ, ◌≤◌, true, false, List, [], ◌∷◌, ◌++◌, Some, None, refl}
 use Rattle.std.proofs.Common.{ap, inr, lit<, arith}
 use Rattle.merc_base.specs.declared.place.Place.{Place}
-use Rattle.merc_base.specs.declared.place.Span.{Span}
 use Rattle.merc_base.specs.Refusal.{rule_number}
 use Rattle.merc_base.specs.declared.refusal.Detail.{Detail}
 use Rattle.merc_base.specs.declared.refusal.Detail.TheVariants.{Plain, Word, Limit}
 use Rattle.merc_base.specs.declared.refusal.Construct.TheVariants.{Declaration}
 use Rattle.merc_base.specs.declared.refusal.Fault.TheVariants.{Refused}
 use Rattle.merc_base.specs.declared.refusal.LimitName.TheVariants.{Arity}
-use Rattle.merc_base.specs.declared.refusal.Refusal.{Refusal}
 use Rattle.merc_base.specs.declared.refusal.Rule.{Rule}
 use Rattle.merc_base.specs.declared.refusal.Rule.TheVariants.{WrongForm, OutsideProfile, LimitPassed}
 use Rattle.merc_tree.specs.Term.{Term, Application, none, more}
@@ -17,7 +15,7 @@ use Rattle.merc_tree.specs.declared.term.Shape.TheVariants.{Application as Appli
 use Rattle.merc_items.specs.Forms.{second_opening}
 use Rattle.merc_items.specs.FormChecks.{fault_of, least_fault, first_refusal}
 use Rattle.merc_items.specs.FormFaults.{Rises, IsFormRefusal}
-use Rattle.merc_items.specs.FormsExamples.{names, blank, t, plain, m, f, p, apply, both, declared, int, moded}
+use Rattle.merc_items.specs.FormsExamples.{names, blank, t, plain, m, f, p, apply, both, declared, int}
 use Rattle.merc_items.specs.Members.{link_of, stacked}
 use Rattle.merc_items.specs.Operands.{operands_of, head_and_category}
 use Rattle.merc_items.specs.Parameters.{own_variables, has_double, has_equal_neighbors}

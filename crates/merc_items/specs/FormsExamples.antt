@@ -5,7 +5,7 @@ use Rattle.merc_base.specs.declared.refusal.Construct.TheVariants.{Declaration, 
 use Rattle.merc_tree.specs.Shape.{arguments_of}
 use Rattle.merc_tree.specs.Term.{Term, Variable, Integer, Application, none, terms_of, no_span}
 use Rattle.merc_items.specs.Forms.{IsWrong, no_opening, second_opening, early_end, other_end, formless, type_head, type_qualifier, parameters, parameters_repeat, constructor_head, constructor_qualifier, constructor_literal, predicate_head, predicate_qualifier, predicate_literal, partly_moded, predicate_mode, predicate_category, mode_head, mode_qualifier, mode_argument, mode_category, clause_head, is_application, is_head, is_foreign, is_variable, is_literal, is_moded, has_part, repeats, argument_type, argument_mode, lacks_mode, lacks_category, words, is_too_wide}
-use Rattle.merc_items.specs.Items.{Item, Opening, Ending, TypeItem, PredicateItem, ModeItem, ClauseItem, OtherGrammar, OtherDeclaration, Formless, item_of}
+use Rattle.merc_items.specs.Items.{Item, Opening, TypeItem, PredicateItem, ModeItem, ClauseItem, Formless, item_of}
 
 -- Terms. The table of names has `_` and `T`. The module is `m`, the other names are `f`, `p` and `other`.
 
