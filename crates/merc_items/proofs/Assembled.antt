@@ -1,5 +1,5 @@
 -- The parts of a module put together.
-use Rattle.std.proofs.Common.{◌≡◌, ℕ, zero, suc, ◌+◌, Bool, true, false, not, List, [], ◌∷◌, ◌++◌, length, drop, Option, Some, None, refl, ap, sym, ◌∙◌, if◌then◌else◌}
+use Rattle.std.proofs.Common.{◌≡◌, ℕ, ◌+◌, Bool, true, false, not, List, [], ◌∷◌, ◌++◌, length, drop, Some, None, refl, ap, sym, ◌∙◌, if◌then◌else◌}
 use Rattle.std.specs.List.{flat_map, slice_get}
 use Rattle.merc_base.specs.declared.place.Span.{Span}
 use Rattle.merc_tree.specs.Term.{Term}
@@ -14,16 +14,12 @@ use Rattle.merc_items.specs.declared.parting.Part.TheVariants.{File, Units}
 use Rattle.merc_items.specs.Items.{Item, Opening, Ending, Section, Import, TypeItem, PredicateItem, ModeItem, ClauseItem, OtherType, OtherFunction, OtherGrammar, OtherDeclaration, Formless, item_of}
 use Rattle.merc_items.specs.Forms.{is_in}
 use Rattle.merc_items.specs.Entries.{Entry, Key, imports, key_of, units_of, with_units}
-use Rattle.merc_items.specs.Phases.{is_own, opened, own_entries, own_name}
+use Rattle.merc_items.specs.Phases.{is_own, own_entries, own_name}
 use Rattle.merc_items.specs.ModuleOf.{clauses_in, modes_in, module_of, pred_decls, pred_decls_of, type_defs, unit_items}
 use Rattle.merc_items.specs.Assembling.{pred_decl_of, preds_by, preds_in}
 use Rattle.merc_items.specs.DeclaredModes.{kept_modes}
 use Rattle.merc_items.specs.Parting.{kept, part_of}
 use Rattle.merc_items.proofs.ListSteps.{got, gone_on}
-
-pub first_item : (terms : List Term) (term : Term) → slice_get terms 0 ≡ Some term → opened (item_of term) ≡ own_name terms
-first_item [] term found = cc
-first_item (first ∷ rest) term found = let same : first ≡ term = cc in ap (λ t. opened (item_of t)) (sym same)
 
 -- the units that items import
 

@@ -1,5 +1,5 @@
 -- The entries of items whose places rise never fall.
-use Rattle.std.proofs.Common.{◌≡◌, ℕ, ◌<◌, ◌≤◌, Bool, true, false, List, [], ◌∷◌, ◌++◌, append_assoc, map, arith, if◌then◌else◌}
+use Rattle.std.proofs.Common.{ℕ, ◌≤◌, Bool, true, false, List, [], ◌∷◌, ◌++◌, append_assoc, map, arith, if◌then◌else◌}
 use Rattle.merc_base.specs.declared.place.Place.{Place}
 use Rattle.merc_tree.specs.Term.{Term, span_of}
 use Rattle.merc_items.specs.Forms.{is_in}

@@ -1,7 +1,6 @@
 -- Modes that are kept by the keys of their predicates.
 use Rattle.std.proofs.Common.{◌≡◌, Bool, true, false, cond, ◌&&◌, Option, Some, None, List, [], ◌∷◌, ◌++◌, refl, sym, ap, ◌∙◌, if◌then◌else◌}
 use Rattle.std.specs.BTreeMap.{get}
-use Rattle.std.specs.Map.{lookup}
 use Rattle.std.specs.Ordering.{is_eq}
 use Rattle.std.proofs.lemmas.List.{append-nil}
 use Rattle.merc_base.specs.declared.place.Span.{Span}
@@ -14,7 +13,7 @@ use Rattle.merc_items.specs.Items.{Item, Opening, Ending, Section, Import, TypeI
 use Rattle.merc_items.specs.ModuleOf.{modes_in, modes_in_item}
 use Rattle.merc_items.specs.KeyValue.{key_value}
 use Rattle.merc_items.specs.Phases.{are_keys}
-use Rattle.merc_items.proofs.KeyLaws.{compare_keys, is_found, same-test, key-swap, test-equal, lookup-same, lookup-nothing, lookup-many}
+use Rattle.merc_items.proofs.KeyLaws.{compare_keys, same-test, key-swap, test-equal, lookup-same, lookup-nothing, lookup-many}
 
 abbrev Group : Type 0
 Group = List ModeDecl

@@ -1,22 +1,20 @@
 -- The modes counted by keys, against those that the entries declare.
-use Rattle.std.proofs.Common.{◌≡◌, ℕ, ◌+◌, ◌≤◌, ◌<◌, ◌==◌, Bool, true, false, cond, not, ◌||◌, ◌&&◌, Option, Some, None, List, [], ◌∷◌, refl, sym, ◌∙◌, ap, subst, arith, nat_lt, zero-add, length, take, get_or, map}
+use Rattle.std.proofs.Common.{◌≡◌, ℕ, ◌+◌, Bool, true, false, cond, not, ◌||◌, ◌&&◌, Option, Some, List, [], ◌∷◌, refl, sym, ◌∙◌, ap, arith, nat_lt, zero-add}
 use Rattle.std.specs.Bool.{if◌then◌else◌}
 use Rattle.std.specs.List.{list_any, count_by}
 use Rattle.std.specs.Map.{lookup}
 use Rattle.std.specs.Option.{unwrap_or, is_some, is_none}
 use Rattle.std.specs.Ordering.{is_eq}
-use Rattle.std.specs.BTreeMap.{BTreeMap, get}
-use Rattle.std.proofs.lemmas.List.Sums.{sum_by-cons, count_by_more_yes, count_by_more_no, count_by-le-length}
+use Rattle.std.specs.BTreeMap.{get}
+use Rattle.std.proofs.lemmas.List.Sums.{sum_by-cons}
 use Rattle.std.proofs.lemmas.Bool.Decides.{nat_tests}
 use Rattle.merc_items.specs.declared.key.Key.{Key as CodeKey}
 use Rattle.merc_items.specs.declared.mode_counts.ModeCount.{ModeCount}
 use Rattle.merc_items.specs.declared.mode_counts.ModeCounts.{ModeCounts}
-use Rattle.merc_items.specs.declared.entry.Entry.{Entry as CodeEntry}
-use Rattle.merc_items.specs.EntryValue.{entry_value, entry_values}
 use Rattle.merc_items.specs.KeyValue.{key_value}
 use Rattle.merc_items.specs.Items.{Item, Opening, Ending, Section, Import, TypeItem, PredicateItem, ModeItem, ClauseItem, OtherType, OtherFunction, OtherGrammar, OtherDeclaration, Formless}
 use Rattle.merc_items.specs.Entries.{Entry, Key, key_of, is_key, has_mode}
-use Rattle.merc_items.specs.Phases.{is_own, are_keys, is_mode_of, lacks_category_of, lacks_mode}
+use Rattle.merc_items.specs.Phases.{is_own, are_keys, is_mode_of, lacks_mode}
 use Rattle.merc_items.specs.ModeCounts.{no_modes, counted, with_mode, HoldsModes, lacks_mode_by}
 use Rattle.merc_items.proofs.KeyLaws.{compare_keys, is_found, same-test, key-swap, test-equal, lookup-same, lookup-nothing, lookup-many}
 

@@ -171,5 +171,5 @@ module _ (names : List (List ℕ)) (distinct : IsDistinct bytes_eq names) where
       let same_terms = ReadsItems-unique text is.terms terms is.reads reads in
       let same_items = AreUnits-unique is.items items is.units units in
       let faultless : HasNoFault names terms (entries items terms) = subst (λ (some : List Term). HasNoFault names some (entries items some)) same_terms
-        (subst (λ (of_unit : ℕ → List Term). HasNoFault names is.terms (entries of_unit is.terms)) same_items is.faultless) in
+      (subst (λ (of_unit : ℕ → List Term). HasNoFault names is.terms (entries of_unit is.terms)) same_items is.faultless) in
       faultless first.phase rule detail place first.fault

@@ -1,15 +1,12 @@
 -- A token has at least one byte.
-use Rattle.std.proofs.Common.{◌≡◌, ℕ, suc, ◌+◌, ◌≤◌, Bool, true, false, ◌==◌, nat_le, ◌&&◌, ◌||◌, not, List, [], ◌∷◌, length, take, drop, Option, Some, None, if◌then◌else◌, refl, sym, subst, arith}
-use Rattle.std.specs.Prelude.{codes}
+use Rattle.std.proofs.Common.{◌≡◌, ℕ, ◌+◌, ◌≤◌, Bool, true, false, ◌==◌, nat_le, ◌&&◌, not, List, [], ◌∷◌, length, drop, Option, Some, None, if◌then◌else◌, subst, arith}
 use Rattle.std.specs.Option.{option_map}
-use Rattle.std.specs.List.{prefix_len}
 use Rattle.merc_base.specs.declared.refusal.Rule.TheVariants.{OutsideProfile, LimitPassed}
 use Rattle.merc_base.specs.declared.refusal.Construct.TheVariants.{Float, IntegerSuffix}
 use Rattle.merc_base.specs.declared.refusal.LimitName.TheVariants.{Name as NameLimit}
 use Rattle.merc_base.specs.declared.refusal.Detail.TheVariants.{Word, Limit}
 use Rattle.merc_tokens.specs.declared.bytes.Start.{Start}
 use Rattle.merc_tokens.specs.declared.bytes.Start.TheVariants.{Blank, Percent, Lower, Upper, Digit, Quote, DoubleQuote, Semicolon, Open as OpenStart, Close as CloseStart, OpenList as OpenListStart, CloseList as CloseListStart, Comma as CommaStart, Bar as BarStart, Outside, Graphic, Other}
-use Rattle.merc_tokens.specs.declared.bytes.Class.{Class}
 use Rattle.merc_tokens.specs.declared.bytes.Class.TheVariants.{Word as WordClass, Graphic as GraphicClass}
 use Rattle.merc_tokens.specs.declared.integers.Form.{Form}
 use Rattle.merc_tokens.specs.declared.integers.Form.TheVariants.{Character, Based, Decimal}
@@ -19,7 +16,7 @@ use Rattle.merc_tokens.specs.declared.pieces.Spelling.TheVariants.{Name, Quoted,
 use Rattle.merc_tokens.specs.declared.pieces.Piece.{Piece}
 use Rattle.merc_tokens.specs.declared.pieces.Piece.TheVariants.{Gap, Token, Fault}
 use Rattle.merc_tokens.specs.Bytes.{is_digit_of, is_letter, is_graphic, begins_with, next_is, start_of}
-use Rattle.merc_tokens.specs.Integers.{based_integer, character_at, character_integer, digits_len, form_of, integer_at, integer_of}
+use Rattle.merc_tokens.specs.Integers.{based_integer, character_at, character_integer, form_of, integer_at, integer_of}
 use Rattle.merc_tokens.specs.Pieces.{run_of, named, comment_past, comment_piece, dot_of, graphic_piece, quoted_piece, string_piece, begins_fraction, limited, integer_piece, piece_of, first_piece}
 use Rattle.merc_tokens.specs.Quoted.{quoted}
 

@@ -2,7 +2,7 @@
 use Rattle.std.proofs.Common.{◌≡◌, ℕ, ◌-◌, ◌==◌, Bool, true, false, cond, not, ◌||◌, ◌&&◌, Option, Some, None, List, [], ◌∷◌, ◌++◌, Ordering, Equal, length, take, refl, sym, ◌∙◌, ap, arith}
 use Rattle.std.specs.List.{list_any}
 use Rattle.std.specs.Ordering.{is_eq, nat_cmp, ordering_then}
-use Rattle.std.specs.BTreeSet.{BTreeSet, contains, insert_key}
+use Rattle.std.specs.BTreeSet.{BTreeSet, insert_key}
 use Rattle.std.proofs.lemmas.List.{take_at, length-append}
 use Rattle.std.proofs.lemmas.List.Folds.{list_any-append}
 use Rattle.merc_tree.specs.Term.{Term, Terms, Variable, Integer, Text, Application, none, more, list_of}
@@ -12,10 +12,9 @@ use Rattle.merc_tree.specs.Shape.{shape_of, arguments_of}
 use Rattle.merc_tree.specs.Postfix.{shapes_of, all_shapes}
 use Rattle.merc_items.specs.declared.known_types.UnitKey.{UnitKey}
 use Rattle.merc_items.specs.declared.known_types.KnownTypes.{KnownTypes}
-use Rattle.merc_items.specs.declared.known_types.Variables.{Variables}
 use Rattle.merc_items.specs.declared.known_types.Variables.TheVariants.{Any, Only}
 use Rattle.merc_items.specs.KeyValue.{key_value}
-use Rattle.merc_items.specs.Items.{TypeItem, PredicateItem, chain}
+use Rattle.merc_items.specs.Items.{TypeItem, PredicateItem}
 use Rattle.merc_items.specs.Forms.{is_blank, is_this_variable, has_part, argument_type}
 use Rattle.merc_items.specs.Entries.{Entry, Key, is_key}
 use Rattle.merc_items.specs.Phases.{is_known_type, is_unknown, is_unbound, key, has_unknown}
@@ -97,9 +96,9 @@ type-agrees names own entries types head constructors set holds variables =
     let test : Term → Bool = λ part. is_unknown own entries part || is_unbound names (arguments_of head) part in
     any-same (λ constructor. list_any (is_wrong_shape names types (Only set)) (take (length (shapes_of constructor) - 1) (shapes_of constructor))) (λ constructor. list_any (has_part test) (arguments_of constructor))
     (λ constructor.
-      any-before-last (is_wrong_shape names types (Only set)) constructor
-      ∙ sym (any-same (has_part test) (λ argument. list_any (is_wrong_shape names types (Only set)) (shapes_of argument))
-        (has_part-shapes test (is_wrong_shape names types (Only set)) (wrong-agrees names own entries types (arguments_of head) set holds variables)) (arguments_of constructor)))
+    any-before-last (is_wrong_shape names types (Only set)) constructor
+    ∙ sym (any-same (has_part test) (λ argument. list_any (is_wrong_shape names types (Only set)) (shapes_of argument))
+    (has_part-shapes test (is_wrong_shape names types (Only set)) (wrong-agrees names own entries types (arguments_of head) set holds variables)) (arguments_of constructor)))
     constructors
 
 -- the variables among parameters, from the right

@@ -1,15 +1,14 @@
 -- The shapes of a term's parts build the type that it declares.
-use Rattle.std.proofs.Common.{◌≡◌, ℕ, suc, ◌+◌, ◌-◌, ◌≤◌, List, [], ◌∷◌, ◌++◌, length, map, take, drop, Option, Some, None, refl, ap, sym, subst, ◌∙◌, append_assoc, arith}
+use Rattle.std.proofs.Common.{◌≡◌, ℕ, ◌+◌, ◌-◌, ◌≤◌, List, [], ◌∷◌, ◌++◌, length, map, take, drop, Some, None, refl, ap, sym, subst, ◌∙◌, append_assoc, arith}
 use Rattle.std.specs.List.{slice_get}
 use Rattle.std.proofs.Math.Seq.{take-append_seam, drop-append_seam}
 use Rattle.std.proofs.lemmas.List.{append-nil, length-append, length-map}
-use Rattle.merc_base.specs.declared.place.Span.{Span}
 use Rattle.merc_tree.specs.declared.term.Shape.{Shape}
 use Rattle.merc_tree.specs.declared.term.Shape.TheVariants.{Application as ApplicationShape}
 use Rattle.merc_tree.specs.Nodes.{arity_of}
 use Rattle.merc_tree.specs.Postfix.{shapes_of, all_shapes}
 use Rattle.merc_tree.specs.Term.{Term, Terms, Variable, Integer, Text, Application, none, more, list_of}
-use Rattle.merc_tree.specs.Types.{TypeExpr, TypeExprs, TypeApplication, no_types, more_types, types_of}
+use Rattle.merc_tree.specs.Types.{TypeExpr, TypeApplication, more_types, types_of}
 use Rattle.merc_tree.specs.TypeShape.{type_named, types_applied}
 use Rattle.merc_items.specs.ModuleOf.{declared_type, declared_types, named_type}
 use Rattle.merc_items.specs.DeclaredTypes.{with_part, with_parts, AreParts}

@@ -1,5 +1,5 @@
 -- The items of units in a table of names that grows.
-use Rattle.std.proofs.Common.{◌≡◌, ◌≢◌, ℕ, ◌++◌, ◌==◌, List, [], refl, ap, sym, subst, ◌∙◌, codes, append_assoc, ne_eqb, if◌then◌else◌}
+use Rattle.std.proofs.Common.{◌≡◌, ◌≢◌, ℕ, ◌++◌, List, [], refl, sym, subst, codes, ne_eqb}
 use Rattle.merc_tokens.proofs.ReadsTo.{texts-grow}
 use Rattle.merc_tree.specs.Term.{Term}
 use Rattle.merc_items.specs.declared.units.Units.{Units}

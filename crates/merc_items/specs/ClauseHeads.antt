@@ -1,11 +1,11 @@
 -- What the keys of the file's own predicates and clauses say of an item.
-use Rattle.std.specs.Prelude.{◌≡◌, ℕ, Bool, true, false, not, ◌||◌, ◌&&◌, List, [], ◌∷◌, if◌then◌else◌}
+use Rattle.std.specs.Prelude.{◌≡◌, ℕ, Bool, false, not, ◌||◌, ◌&&◌, List}
 use Rattle.std.specs.List.{list_any}
 use Rattle.merc_items.specs.declared.clause_heads.OwnKeys.{OwnKeys}
-use Rattle.merc_items.specs.Items.{Item, Opening, Ending, Section, Import, TypeItem, PredicateItem, ModeItem, ClauseItem, OtherType, OtherFunction, OtherGrammar, OtherDeclaration, Formless}
+use Rattle.merc_items.specs.Items.{Item, PredicateItem, ModeItem, ClauseItem}
 use Rattle.merc_items.specs.Forms.{is_foreign}
 use Rattle.merc_items.specs.Entries.{Entry, Key, key_of}
-use Rattle.merc_items.specs.Phases.{is_own, are_keys, declares_predicate, is_clause_of, is_alone}
+use Rattle.merc_items.specs.Phases.{is_own, declares_predicate, is_clause_of, is_alone}
 use Rattle.merc_items.specs.KeySets.{has_key}
 
 -- whether a clause of the file has this key

@@ -6,8 +6,8 @@ use Rattle.merc_base.specs.declared.place.Place.{Place}
 use Rattle.merc_base.specs.declared.place.Span.{Span}
 use Rattle.merc_tree.specs.Term.{Term, Application, none, more}
 use Rattle.merc_items.specs.Items.{Item, Import, TypeItem, PredicateItem, ModeItem}
-use Rattle.merc_items.specs.Entries.{Entry, Declared, is_key, is_same_mode, predicates_of, constructors_of, modes_of, declared_by}
-use Rattle.merc_items.specs.Phases.{IsAgain, HasDouble, type_again, constructor_again, arithmetic, predicate_again, error_again, mode_again, bool_and_maybe, at_start, key, type_keys, is_arithmetic, own_entries}
+use Rattle.merc_items.specs.Entries.{Entry, Declared, is_key, is_same_mode, constructors_of}
+use Rattle.merc_items.specs.Phases.{IsAgain, HasDouble, type_again, constructor_again, arithmetic, predicate_again, error_again, mode_again, bool_and_maybe, at_start, key, is_arithmetic}
 
 abbrev span : Span
 span = record { first = 0; past = 1; line = 1 }

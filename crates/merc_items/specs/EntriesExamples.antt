@@ -1,8 +1,8 @@
 -- The entries of small modules.
-use Rattle.std.specs.Prelude.{◌≡◌, ℕ, ◌+◌, ◌==◌, List, [], ◌∷◌, None, Some, refl, if◌then◌else◌}
+use Rattle.std.specs.Prelude.{◌≡◌, ℕ, ◌+◌, ◌==◌, List, [], ◌∷◌, None, refl, if◌then◌else◌}
 use Rattle.merc_base.specs.declared.place.Span.{Span}
 use Rattle.merc_tree.specs.Term.{Term, Application, terms_of}
-use Rattle.merc_items.specs.Entries.{Entry, entries, place_of}
+use Rattle.merc_items.specs.Entries.{entries, place_of}
 use Rattle.merc_items.specs.Joining.{own_entry, unit_entry}
 
 abbrev span_at : ℕ → Span

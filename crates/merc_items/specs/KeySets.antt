@@ -1,5 +1,5 @@
 -- Sets of keys, and the keys of the file's own predicates and clauses.
-use Rattle.std.specs.Prelude.{ℕ, Bool, true, false, not, ◌||◌, ◌&&◌, List, [], ◌∷◌, Option, Some, None, if◌then◌else◌}
+use Rattle.std.specs.Prelude.{Bool, List, [], ◌∷◌, Option, Some, None, if◌then◌else◌}
 use Rattle.std.specs.List.{list_any}
 use Rattle.merc_base.specs.declared.place.Place.{Place}
 use Rattle.merc_items.specs.declared.key.Key.{Key as CodeKey}

@@ -6,16 +6,12 @@ use Rattle.std.specs.BTreeSet.{BTreeSet, contains}
 use Rattle.merc_tree.specs.Term.{Term}
 use Rattle.merc_tree.specs.declared.term.Shape.{Shape}
 use Rattle.merc_tree.specs.declared.term.Shape.TheVariants.{Variable as VariableShape, Integer as IntegerShape, Text as TextShape, Application as ApplicationShape}
-use Rattle.merc_tree.specs.Shape.{arguments_of}
-use Rattle.merc_tree.specs.Postfix.{shapes_of}
-use Rattle.merc_items.specs.declared.known_types.UnitKey.{UnitKey}
 use Rattle.merc_items.specs.declared.known_types.UnitKeys.{UnitKeys}
 use Rattle.merc_items.specs.declared.known_types.KnownTypes.{KnownTypes}
 use Rattle.merc_items.specs.declared.known_types.Variables.{Variables}
 use Rattle.merc_items.specs.declared.known_types.Variables.TheVariants.{Any, Only}
 use Rattle.merc_items.specs.KeyValue.{key_value}
-use Rattle.merc_items.specs.Items.{Item, Opening, Ending, Section, Import, TypeItem, PredicateItem, ModeItem, ClauseItem, OtherType, OtherFunction, OtherGrammar, OtherDeclaration, Formless}
-use Rattle.merc_items.specs.Forms.{is_blank, is_this_variable, argument_type}
+use Rattle.merc_items.specs.Forms.{is_blank, is_this_variable}
 use Rattle.merc_items.specs.Entries.{Entry, Key, is_key, types_of}
 use Rattle.merc_items.specs.Phases.{is_own, is_of_unit, key, declares_type, has_unknown}
 use Rattle.merc_items.specs.KeySets.{has_key}

@@ -1,5 +1,5 @@
 -- The mode declarations of the file's predicates, counted by their keys.
-use Rattle.std.specs.Prelude.{◌≡◌, ℕ, ◌+◌, ◌<◌, Bool, true, false, not, nat_lt, ◌||◌, ◌&&◌, List, [], ◌∷◌, Option, Some, None, Result, Ok, Err, is_some, is_none, if◌then◌else◌}
+use Rattle.std.specs.Prelude.{◌≡◌, ◌+◌, Bool, false, not, nat_lt, ◌||◌, ◌&&◌, List, [], ◌∷◌, Option, Some, None, is_some, is_none, if◌then◌else◌}
 use Rattle.std.specs.List.{list_any, list_all, count_by}
 use Rattle.std.specs.Option.{unwrap_or}
 use Rattle.std.specs.Map.{lookup}
@@ -13,7 +13,7 @@ use Rattle.merc_items.specs.Forms.{is_moded}
 use Rattle.merc_items.specs.declared.mode_counts.ModeCount.{ModeCount}
 use Rattle.merc_items.specs.declared.mode_counts.ModeCounts.{ModeCounts}
 use Rattle.merc_items.specs.KeyValue.{key_value}
-use Rattle.merc_items.specs.Items.{Item, Opening, Ending, Section, Import, TypeItem, PredicateItem, ModeItem, ClauseItem, OtherType, OtherFunction, OtherGrammar, OtherDeclaration, Formless}
+use Rattle.merc_items.specs.Items.{Item, PredicateItem}
 use Rattle.merc_items.specs.Entries.{Entry, Key, key_of, has_mode}
 use Rattle.merc_items.specs.Phases.{is_own, are_keys, is_mode_of, lacks_category_of, lacks_mode, own_mode_count, has_many_modes}
 

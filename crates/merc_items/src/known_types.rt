@@ -19,7 +19,7 @@ use crate::arguments::argument_type;
 use crate::entry::Entry;
 use crate::item::Item;
 use crate::key::Key;
-use crate::key_set::{key_of, KeySet};
+use crate::key_set::{KeySet, key_of};
 use crate::members::members;
 use crate::parameters::is_blank;
 use merc_base::{Detail, Fault, Name, Names, NoMemory, Place, Refusal, Rule};
@@ -267,12 +267,7 @@ impl KnownTypes {
     }
 
     // Whether an item names an unknown type.
-    fn has_unknown(
-        &self,
-        alloc: Global,
-        item: &Item<'_>,
-        names: &Names,
-    ) -> Result<bool, NoMemory>
+    fn has_unknown(&self, alloc: Global, item: &Item<'_>, names: &Names) -> Result<bool, NoMemory>
         ensures { IfOk result (λ answer. (own : ℕ) (entries : List entry_record) → HoldsTypes own entries self.now → answer ≡ has_unknown names.now own entries (item_value item.now)) }
     {
         match item {
@@ -287,12 +282,7 @@ impl KnownTypes {
     }
 
     // Whether an entry is a declaration of the file that names an unknown type.
-    fn is_at_fault(
-        &self,
-        alloc: Global,
-        entry: &Entry<'_>,
-        names: &Names,
-    ) -> Result<bool, NoMemory>
+    fn is_at_fault(&self, alloc: Global, entry: &Entry<'_>, names: &Names) -> Result<bool, NoMemory>
         ensures { IfOk result (λ answer. (own : ℕ) (entries : List entry_record) → HoldsTypes own entries self.now → answer ≡ has_unknown_here names.now own entries (entry_value entry.now)) }
     {
         if entry.unit.is_none() {

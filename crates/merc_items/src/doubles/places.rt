@@ -29,9 +29,5 @@ pub(crate) fn both_later(first: Option<Place>, second: Option<Place>) -> Option<
 fn later(a: Place, b: Place) -> Place
     ensures { result ≡ later a b }
 {
-    if b.byte < a.byte {
-        a
-    } else {
-        b
-    }
+    if b.byte < a.byte { a } else { b }
 }

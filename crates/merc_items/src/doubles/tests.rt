@@ -72,10 +72,7 @@ fn finds_units_that_clash(rt: HostRuntime) -> Result<(), Fail> {
     let maybe = terms.get(1).expect(&rt, "a term");
     let require = terms.get(2).expect(&rt, "a term");
     let error = terms.get(3).expect(&rt, "a term");
-    let both = [
-        entry(Item::Import(maybe), 1),
-        entry(Item::Import(bool), 2),
-    ];
+    let both = [entry(Item::Import(maybe), 1), entry(Item::Import(bool), 2)];
     assert_eq!(rt; check_doubles(alloc, &both), Err(twice_at(2)));
     let alone = [
         entry(Item::Import(require.copy()), 1),

@@ -1,6 +1,5 @@
-use Rattle.std.proofs.Common.{◌≡◌, ℕ, ◌++◌, length, List, ap, ◌∙◌}
+use Rattle.std.proofs.Common.{◌++◌, length, List, ap, ◌∙◌}
 use Rattle.std.specs.List.{flat_map}
-use Rattle.merc_tree.specs.declared.declarations.Module.{Module}
 use Rattle.merc_tree.specs.declared.declarations.PredDecl.{PredDecl}
 use Rattle.merc_items.specs.declared.parting.Part.TheVariants.{File}
 use Rattle.merc_items.specs.EntryValue.{entry_values}

@@ -1,4 +1,4 @@
-use Rattle.std.proofs.Common.{ℕ, List, ap, sym, ◌∙◌}
+use Rattle.std.proofs.Common.{ℕ, List, sym}
 use Rattle.merc_base.specs.declared.refusal.Rule.TheVariants.{Undeclared}
 use Rattle.merc_items.specs.Entries.{Entry}
 use Rattle.merc_items.specs.EntryValue.{entry_values}

@@ -1,4 +1,4 @@
-use Rattle.std.proofs.Common.{◌≡◌, ℕ, List, Option, Some, None, ap, sym, ◌∙◌, refl}
+use Rattle.std.proofs.Common.{◌≡◌, ℕ, List, Option, Some, None, ap, sym, ◌∙◌}
 use Rattle.merc_base.specs.declared.refusal.Rule.TheVariants.{UnknownType}
 use Rattle.merc_base.specs.declared.place.Place.{Place}
 use Rattle.merc_items.specs.Entries.{Entry}

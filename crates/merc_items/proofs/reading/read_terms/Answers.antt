@@ -1,4 +1,4 @@
-use Rattle.merc_items.proofs.ReadingLaws.{tokens-refused, terms-refused, reads-rises}
+use Rattle.merc_items.proofs.ReadingLaws.{tokens-refused, terms-refused}
 use Rattle.std.proofs.lemmas.Result.{IfErr-weaker, err_from_is_err_and}
 use Rattle.merc_items.proofs.reading.read_terms.Goals as goal
 

@@ -1,4 +1,4 @@
-use Rattle.std.proofs.Common.{◌≡◌, Option, ap, sym, ◌∙◌}
+use Rattle.std.proofs.Common.{◌≡◌, ap, ◌∙◌}
 use Rattle.std.specs.BTreeMap.{get}
 use Rattle.merc_items.specs.DeclaredModes.{listed}
 use Rattle.merc_items.proofs.KeyLaws.{compare_keys}

@@ -1,10 +1,8 @@
-use Rattle.std.proofs.Common.{◌≡◌, ap, sym, ◌∙◌, List, ◌-◌, length, take}
+use Rattle.std.proofs.Common.{◌≡◌, ap, ◌∙◌, List, ◌-◌, length, take}
 use Rattle.std.specs.List.{list_any}
 use Rattle.merc_tree.specs.Term.{Term}
 use Rattle.merc_tree.specs.Postfix.{shapes_of}
-use Rattle.merc_items.specs.Items.{Item, chain}
-use Rattle.merc_items.specs.ItemValue.{item_value}
-use Rattle.merc_items.specs.Phases.{has_unknown}
+use Rattle.merc_items.specs.Items.{chain}
 use Rattle.merc_items.specs.KnownTypes.{is_wrong_shape}
 use Rattle.merc_items.specs.declared.known_types.Variables.TheVariants.{Only}
 use Rattle.merc_items.proofs.TypeLaws.{predicate-agrees, type-agrees}

@@ -1,6 +1,3 @@
-use Rattle.std.proofs.Common.{◌≡◌, take, ap, sym, ◌∙◌, arith}
-use Rattle.std.specs.List.{list_any}
-use Rattle.merc_tree.specs.Postfix.{shapes_of}
 use Rattle.merc_items.specs.KnownTypes.{is_wrong_shape}
 use Rattle.merc_items.proofs.Indexes.{found_before, not_past, none_past}
 use Rattle.merc_items.proofs.known_types.KnownTypes.has_wrong_part.Goals as goal
@@ -13,6 +10,6 @@ returns-then-is_wrong c =
 pub loop-index-preserved : goal.loop-index-preserved
 loop-index-preserved c =
     elim c.match-part_shape.branch [
-      in-Some+else-is_wrong w ↦ not_past (is_wrong_shape c.args.names.now c.args.self.now c.args.variables.now) _ c.loop-index.index w.in-Some.part w.in-Some.ensures w.if-is_wrong.ensures c.loop-index.invariant
+      | in-Some+else-is_wrong w ↦ not_past (is_wrong_shape c.args.names.now c.args.self.now c.args.variables.now) _ c.loop-index.index w.in-Some.part w.in-Some.ensures w.if-is_wrong.ensures c.loop-index.invariant
       | in_default w ↦ none_past (is_wrong_shape c.args.names.now c.args.self.now c.args.variables.now) _ c.loop-index.index w.in_default.ensures c.loop-index.invariant
     ]

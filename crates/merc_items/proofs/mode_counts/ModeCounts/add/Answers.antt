@@ -1,4 +1,4 @@
-use Rattle.std.proofs.Common.{◌≡◌, ◌+◌, ◌||◌, ℕ, Bool, ap, ◌∙◌, refl}
+use Rattle.std.proofs.Common.{◌≡◌, ◌+◌, ◌||◌, ℕ, Bool, ap, ◌∙◌}
 use Rattle.merc_items.specs.declared.mode_counts.ModeCount.{ModeCount}
 use Rattle.merc_items.specs.ModeCounts.{with_mode}
 use Rattle.merc_items.proofs.ModeLaws.{counted-insert}
