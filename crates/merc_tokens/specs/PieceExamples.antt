@@ -1,4 +1,4 @@
--- What texts begin with: for each rule a text that reads.
+-- What texts begin with: for each rule a text that reads, and one that does not.
 use Rattle.std.specs.Prelude.{◌≡◌, ℕ, true, false, List, [], ◌∷◌, ◌++◌, length, codes, refl}
 use Rattle.std.proofs.Math.ListN.{replicate}
 use Rattle.merc_tokens.specs.declared.pieces.Spelling.{Spelling}
@@ -23,17 +23,33 @@ semicolon-example = refl
 pub graphic-example : IsToken (codes "=-\\") (Name (codes "=-\\"))
 graphic-example = refl
 
+-- the longest run is one name
+pub graphic-counterexample : first_piece false (codes "=-1") ≡ Token (Name (codes "=")) 1 → ⊥
+graphic-counterexample parts = cc
+
 pub quoted-example : IsToken (codes "'it''s'") (Quoted (codes "it's"))
 quoted-example = refl
 
 pub quoted_escape-example : IsToken (codes "'it\\'s'") (Quoted (codes "it's"))
 quoted_escape-example = refl
 
+-- a quote that a second one follows does not close
+pub quoted-counterexample : first_piece false (codes "'it''s'") ≡ Token (Quoted (codes "it")) 4 → ⊥
+quoted-counterexample closes = cc
+
 pub variable-example : IsToken (codes "_Xs1") (Var (codes "_Xs1"))
 variable-example = refl
 
+-- a lower-case letter begins none
+pub variable-counterexample : IsToken (codes "xs") (Var (codes "xs")) → ⊥
+variable-counterexample reads = cc
+
 pub integer-example : IsToken (codes "1_000") (Int 1000)
 integer-example = refl
+
+-- a `_` stands between digits
+pub integer-counterexample : IsToken (codes "1_") (Int 1) → ⊥
+integer-counterexample reads = cc
 
 pub binary-example : first_piece false (codes "0b12") ≡ Token (Int 1) 3
 binary-example = refl
@@ -57,11 +73,19 @@ character_escape-example = refl
 pub string-example : IsToken (codes "\"a\"\"\\t\"") (Text (97 ∷ 34 ∷ 9 ∷ []))
 string-example = refl
 
+-- a line end stands in no string
+pub string-counterexample : IsToken (codes "\"a" ++ 10 ∷ codes "\"") (Text (97 ∷ 10 ∷ [])) → ⊥
+string-counterexample reads = cc
+
 pub open_args-example : first_piece true (codes "(") ≡ Token OpenArgs 1
 open_args-example = refl
 
 pub open-example : IsToken (codes "(") Open
 open-example = refl
+
+-- directly behind a name it opens arguments
+pub open-counterexample : first_piece true (codes "(") ≡ Token Open 1 → ⊥
+open-counterexample opens = cc
 
 pub close-example : IsToken (codes ")") Close
 close-example = refl
@@ -85,6 +109,9 @@ dot-example = refl
 -- behind anything else it is a name
 pub dot_name-example : first_piece false (codes ".5") ≡ Token (Name (codes ".")) 1
 dot_name-example = refl
+
+pub dot-counterexample : first_piece false (codes ".append") ≡ Token Dot 1 → ⊥
+dot-counterexample marks = cc
 
 pub stop-example : first_piece true (codes ".% end") ≡ Token Stop 1
 stop-example = refl
