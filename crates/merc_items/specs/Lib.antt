@@ -24,7 +24,6 @@ pub mod DeclaredTypes
 pub mod DeclaredModes
 pub mod ModeCounts
 pub mod FormFaults
-pub mod ReadItems
 pub mod ReadModule
 pub mod FormsExamples
 pub mod KnownTypes

@@ -1,33 +1,37 @@
 -- The module that a text is, or what is wrong with it.
-use Rattle.std.specs.Prelude.{◌≡◌, ℕ, List, map, Some}
+use Rattle.std.specs.Prelude.{◌≡◌, ℕ, List}
 use Rattle.merc_base.specs.declared.place.Place.{Place}
 use Rattle.merc_base.specs.declared.refusal.Rule.{Rule}
 use Rattle.merc_base.specs.declared.refusal.Detail.{Detail}
 use Rattle.merc_base.specs.declared.refusal.Refusal.{Refusal}
-use Rattle.merc_base.specs.declared.refusal.Fault.TheVariants.{Refused}
-use Rattle.merc_tokens.specs.declared.token.Token.{Token}
-use Rattle.merc_tokens.specs.Tokens.{SpelledToken, HasTokens, with_texts}
-use Rattle.merc_tokens.specs.Faults.{RefusesRightly}
 use Rattle.merc_tree.specs.Term.{Term}
 use Rattle.merc_tree.specs.declared.declarations.Module.{Module}
-use Rattle.merc_terms.specs.Items.{RefusesItems, refusal_at}
+use Rattle.merc_terms.specs.Items.{refusal_at}
+use Rattle.merc_terms.specs.Texts.{ReadsItems, RefusesText}
 use Rattle.merc_items.specs.Entries.{entries}
 use Rattle.merc_items.specs.Phases.{FirstFault, HasNoFault}
 use Rattle.merc_items.specs.ModuleOf.{module_of}
-use Rattle.merc_items.specs.ReadItems.{ReadsItems}
 use Rattle.merc_items.specs.Units.{AreUnits}
 
--- a module is that of the items of its text, which have no fault among the items of the units
-pub record IsModule (names : List (List ℕ)) (text : List ℕ) (found : Module) : Type 0 where
-  pub terms : List Term
+-- The items of a file are a module, among those of the units that it imports without a fault. The table held the first names before the units were read,
+-- and holds the second behind them.
+pub record IsModuleOf (before after : List (List ℕ)) (terms : List Term) (found : Module) : Type 0 where
   pub items : ℕ → List Term
-  pub reads : ReadsItems names text terms
-  pub units : AreUnits names items
-  pub faultless : HasNoFault names terms (entries items terms)
+  pub units : AreUnits before after items
+  pub faultless : HasNoFault after terms (entries items terms)
   pub same : found ≡ module_of terms (entries items terms)
 
--- What is wrong with a text: the first fault of its bytes, that of its first item that is no term, or the first fault of its items.
-pub data RefusesModule (names : List (List ℕ)) (text : List ℕ) : Refusal → Type 0 where
-  tokens : (refusal : Refusal) → RefusesRightly text (Refused refusal) → RefusesModule names text refusal
-  terms : (spelled : List SpelledToken) (tokens : List Token) (refusal : Refusal) → HasTokens text spelled → map (with_texts names) tokens ≡ map Some spelled → RefusesItems tokens refusal → RefusesModule names text refusal
-  items : (terms : List Term) (items : ℕ → List Term) (rule : Rule) (detail : Detail) (place : Place) → ReadsItems names text terms → AreUnits names items → FirstFault names terms (entries items terms) rule detail place → RefusesModule names text (refusal_at rule detail place)
+-- what is wrong with the items of a file: their first fault among those of the units
+pub data RefusesItemsOf (before : List (List ℕ)) (terms : List Term) : Refusal → Type 0 where
+  first : (after : List (List ℕ)) (items : ℕ → List Term) (rule : Rule) (detail : Detail) (place : Place) → AreUnits before after items → FirstFault after terms (entries items terms) rule detail place → RefusesItemsOf before terms (refusal_at rule detail place)
+
+-- a text is items that are a module
+pub record IsModule (before after : List (List ℕ)) (text : List ℕ) (terms : List Term) (found : Module) : Type 0 where
+  pub read_names : List (List ℕ)
+  pub reads : ReadsItems before read_names text terms
+  pub is : IsModuleOf read_names after terms found
+
+-- what is wrong with a text that is no module: it is no items, or its items are no module
+pub data RefusesModule (before : List (List ℕ)) (text : List ℕ) : Refusal → Type 0 where
+  no_items : (refusal : Refusal) → RefusesText before text refusal → RefusesModule before text refusal
+  items : (read_names : List (List ℕ)) (terms : List Term) (refusal : Refusal) → ReadsItems before read_names text terms → RefusesItemsOf read_names terms refusal → RefusesModule before text refusal

@@ -29,4 +29,4 @@ mod reading;
 mod tests;
 mod units;
 
-pub use reading::read_module;
+pub use reading::{module_of_items, read_module};

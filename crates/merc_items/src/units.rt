@@ -1,12 +1,12 @@
 //! The items of the library units.
-ghost use Rattle.std.specs.Prelude.{◌≡◌, ℕ, List, [], ◌++◌, IfOk};
+ghost use Rattle.std.specs.Prelude.{◌≡◌, ℕ, true, List, [], ◌++◌, is_some, IfOk};
 ghost use Rattle.std.specs.Option.{option_copied, unwrap_or};
+ghost use Rattle.merc_prelude.specs.Units.{unit_text};
 ghost use Rattle.merc_items.specs.Units.{items_of, AreUnits, IsUnit};
 
 use merc_base::{Name, Names, NoMemory};
 use merc_prelude::unit;
-use merc_terms::read_items;
-use merc_tokens::tokens;
+use merc_terms::read_text;
 use merc_tree::Terms;
 use std::alloc::Global;
 
@@ -37,7 +37,7 @@ impl Units {
 
 /// The items of the library units. Their names are put into the table.
 pub(crate) fn read_units(alloc: Global, names: &mut Names) -> Result<Units, NoMemory>
-    ensures read { IfOk result (λ units. AreUnits names.new (items_of units)) }
+    ensures read { IfOk result (λ units. AreUnits names.old names.new (items_of units)) }
     ensures grows { (more : List (List ℕ)) × (names.new ≡ names.old ++ more) }
 {
     let list = read_unit(alloc, b"list", names)?;
@@ -46,28 +46,17 @@ pub(crate) fn read_units(alloc: Global, names: &mut Names) -> Result<Units, NoMe
     Ok(Units { list, bool, maybe })
 }
 
-// The most bytes of a text that is read.
-const MOST_BYTES: usize = 300_000_000;
-
-// The items of one unit. The library has a text for it that is short and well formed, so that only memory can be wanting.
-// This is not proved, since it would have the reader run over the text in the proof: a test reads the units. What cannot
-// be is answered as want of memory.
+// The items of one unit, for which the library has a text.
 fn read_unit(alloc: Global, name: &[u8], names: &mut Names) -> Result<Terms, NoMemory>
-    ensures read { IfOk result (IsUnit names.new name.now) }
+    requires { is_some (unit_text name.now) ≡ true }
+    ensures read { IfOk result (IsUnit names.old names.new name.now) }
     ensures grows { (more : List (List ℕ)) × (names.new ≡ names.old ++ more) }
 {
     let text = match unit(name) {
         Some(text) => text,
         None => return Err(NoMemory),
     };
-    if text.len() > MOST_BYTES {
-        return Err(NoMemory);
-    }
-    let tokens = match tokens(alloc, text, names) {
-        Ok(tokens) => tokens,
-        Err(_) => return Err(NoMemory),
-    };
-    match read_items(alloc, &tokens) {
+    match read_text(alloc, text, names) {
         Ok(terms) => Ok(terms),
         Err(_) => Err(NoMemory),
     }

@@ -1,6 +1,7 @@
 pub mod Operators
 pub mod Reading
 pub mod Items
+pub mod Texts
 pub mod Starting
 pub mod Reader
 pub mod OperatorRows

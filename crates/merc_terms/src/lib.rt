@@ -10,6 +10,8 @@ mod reading;
 mod starting;
 #[cfg(test)]
 mod tests;
+mod texts;
 
 pub use items::{read_goal, read_items};
 pub use operators::{Fixity, Operator, infix, prefix};
+pub use texts::{GOAL_LIMIT, read_goal_text, read_text};

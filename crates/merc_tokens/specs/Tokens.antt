@@ -1,8 +1,9 @@
 -- The tokens of a text.
-use Rattle.std.specs.Prelude.{◌≡◌, ℕ, ◌+◌, Bool, true, false, ◌==◌, List, [], ◌∷◌, take, drop, Option, Some, slice_get}
+use Rattle.std.specs.Prelude.{◌≡◌, ℕ, ◌+◌, Bool, true, false, ◌==◌, List, [], ◌∷◌, map, fold, take, drop, Option, Some, slice_get}
 use Rattle.std.specs.Option.{option_map}
-use Rattle.std.specs.List.{count_by}
+use Rattle.std.specs.List.{count_by, flat_map}
 use Rattle.std.specs.Str.{IsUtf8}
+use Rattle.merc_base.specs.Texts.{with_text}
 use Rattle.merc_base.specs.declared.place.Span.{Span}
 use Rattle.merc_tokens.specs.declared.token.Token.{Token}
 use Rattle.merc_tokens.specs.declared.token.TokenKind.{TokenKind}
@@ -74,3 +75,22 @@ spelling_in names StopKind = Some Stop
 -- a token with its text in place of the number of its name, where that name is one of these
 abbrev pub with_texts : List (List ℕ) → Token → Option SpelledToken
 with_texts names found = option_map (λ kind. record { kind = kind; span = found.span }) (spelling_in names found.kind)
+
+-- the text that a token names
+abbrev pub named_text : Spelling → List (List ℕ)
+named_text (Name name) = name ∷ []
+named_text (Quoted name) = name ∷ []
+named_text (Var name) = name ∷ []
+named_text (Text content) = content ∷ []
+named_text other = []
+
+-- a table of names with those of these tokens put behind it, each where it is new
+abbrev pub with_names : List (List ℕ) → List SpelledToken → List (List ℕ)
+with_names names spelled = fold with_text names (flat_map (λ token. named_text token.kind) spelled)
+
+-- The tokens of a text, whose names were put into a table that held the first names before and holds the second now.
+pub record ReadsTokens (before after : List (List ℕ)) (text : List ℕ) (tokens : List Token) : Type 0 where
+  pub spelled : List SpelledToken
+  pub has : HasTokens text spelled
+  pub named : map (with_texts after) tokens ≡ map Some spelled
+  pub table : after ≡ with_names before spelled

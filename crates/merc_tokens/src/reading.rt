@@ -3,7 +3,7 @@ ghost use Rattle.std.specs.Prelude.{◌≡◌, ◌+◌, ◌≤◌, ◌==◌, [],
 ghost use Rattle.std.specs.List.{count_by};
 ghost use Rattle.std.specs.Str.{IsUtf8};
 ghost use Rattle.std.specs.Str.Lossy.{utf8_valid_len};
-ghost use Rattle.merc_tokens.specs.Tokens.{SpelledToken, HasTokens, is_name, spelling_in, with_texts};
+ghost use Rattle.merc_tokens.specs.Tokens.{SpelledToken, ReadsTokens, is_name, spelling_in, with_texts};
 ghost use Rattle.merc_tokens.specs.Faults.{RefusesRightly};
 ghost use Rattle.merc_tokens.specs.Outcomes.{ReadsRightly, earlier};
 ghost use Rattle.merc_tokens.specs.declared.token.Token.{Token};
@@ -142,7 +142,8 @@ fn first_bad_byte(text: &[u8]) -> Option<usize>
     }
 }
 
-/// The tokens of a text. It takes time linear in the text, save for the look-up of names.
+/// The tokens of a text. Their names are put into the table in order, each where it is new. It takes time linear in the
+/// text, save for the look-up of names.
 ///
 /// # Errors
 ///
@@ -150,7 +151,7 @@ fn first_bad_byte(text: &[u8]) -> Option<usize>
 /// with the least rule. `NoMemory` says that memory was refused. The names of the tokens that were read by then stay.
 pub fn tokens(alloc: Global, text: &[u8], names: &mut Names) -> Result<Tokens, Fault>
     requires { length text.now ≤ 300000000 }
-    ensures found { IfOk result (λ tokens. (spelled : List SpelledToken) × (map (with_texts names.new) tokens ≡ map Some spelled) × HasTokens text.now spelled) }
+    ensures found { IfOk result (λ tokens. ReadsTokens names.old names.new text.now tokens) }
     ensures refused { IfErr result (λ fault. RefusesRightly text.now fault) }
     ensures grows { (more : List (List ℕ)) × (names.new ≡ names.old ++ more) }
 {

@@ -1,17 +1,9 @@
-pub mod ParsingLoops
 pub mod LoadingLemmas
 pub mod WritingLemmas
 pub mod LineLemmas
-pub mod FlatteningLemmas
-pub mod InPlaces
 pub mod Environments
 pub mod Resuming
 pub mod Outcomes
-pub mod ParsingComplete
-pub mod GrammarLaws
-pub mod FirstToken
-pub mod TokensSoFar
-pub mod Readings
 pub mod Dues
 pub mod OutputLaws
 pub mod Causes

@@ -1,14 +1,20 @@
 -- What one call of `answer` has done: what it wrote, and why it ends with its status.
 use Rattle.std.specs.Prelude.{◌≡◌, ◌≢◌, ◌<◌, ◌≤◌, ◌⊎◌, ◌↔◌, ℕ, List, length, Option, Some, None, IfSome}
+use Rattle.merc_base.specs.Names.{fixed_names}
 use Rattle.merc_base.specs.Outside.{Files, file_named, appended}
+use Rattle.merc_base.specs.declared.refusal.Refusal.{Refusal}
+use Rattle.merc_tree.specs.Term.{Term}
 use Rattle.merc_tree.specs.Trace.{RunDone, answers_of, end_of}
-use Rattle.merc_top.specs.declared.first_form.syntax.Conjunct.{Conjunct}
-use Rattle.merc_top.specs.declared.first_form.syntax.Module.{Module}
+use Rattle.merc_tree.specs.declared.declarations.Module.{Module}
+use Rattle.merc_terms.specs.Texts.{RefusesGoalText}
+use Rattle.merc_items.specs.ReadModule.{IsModule, RefusesModule}
+use Rattle.merc_first_form.specs.declared.syntax.Conjunct.{Conjunct}
+use Rattle.merc_first_form.specs.declared.syntax.Source.{Source}
+use Rattle.merc_first_form.specs.Reading.{source_of, goal_of}
 use Rattle.merc_top.specs.Words.{IsRequest, IsNoRequest}
 use Rattle.merc_top.specs.Loading.{file_limit}
 use Rattle.merc_top.specs.Writing.{PutsFront}
-use Rattle.merc_top.specs.FirstForm.{IsModuleText, IsGoalText}
-use Rattle.merc_top.specs.Output.{IsOutput, run_of, text_of}
+use Rattle.merc_top.specs.Output.{AreRead, IsOutput, run_of, text_of}
 
 -- the files that a shelf tells; where it tells none, any
 abbrev pub AreFiles : Option Files → Files → Type 0
@@ -36,31 +42,29 @@ pub record Names (words : List (List ℕ)) (files : Files) (text goal : List ℕ
   pub content : file_named file files ≡ Some text
   pub within : length text ≤ file_limit
 
--- the named file is no module of the form that runs
-pub record RefusesModule (words : List (List ℕ)) (files : Files) : Type 0 where
-  pub text : List ℕ
-  pub goal : List ℕ
-  pub names : Names words files text goal
-  pub refused : (source : Module) → IsModuleText text source → ⊥
+-- the named file breaks a rule; or neither it nor the goal does, and it is not of the form that runs
+pub data BreaksModule (words : List (List ℕ)) (files : Files) : Type 0 where
+  module_rule : (text goal : List ℕ) (refusal : Refusal) → Names words files text goal → RefusesModule fixed_names text refusal → BreaksModule words files
+  module_outside : (text goal : List ℕ) (names : List (List ℕ)) (items : List Term) (term : Term) → Names words files text goal → AreRead text goal names items term → source_of names items ≡ None → BreaksModule words files
 
--- the named file is such a module, and the goal no goal over it
-pub record RefusesGoal (words : List (List ℕ)) (files : Files) : Type 0 where
-  pub text : List ℕ
-  pub goal : List ℕ
-  pub names : Names words files text goal
-  pub source : Module
-  pub reading : IsModuleText text source
-  pub refused : (conjuncts : List Conjunct) → IsGoalText source goal conjuncts → ⊥
+-- the named file is a module and the goal breaks a rule; or it does not, the module is of the form that runs, and the goal is not
+pub data BreaksGoal (words : List (List ℕ)) (files : Files) : Type 0 where
+  goal_rule : (text goal : List ℕ) (names : List (List ℕ)) (items : List Term) (found : Module) (refusal : Refusal) → Names words files text goal → IsModule fixed_names names text items found → RefusesGoalText names goal refusal → BreaksGoal words files
+  goal_outside : (text goal : List ℕ) (names : List (List ℕ)) (items : List Term) (term : Term) (source : Source) → Names words files text goal → AreRead text goal names items term → source_of names items ≡ Some source → goal_of names source term ≡ None → BreaksGoal words files
 
 -- module and goal are accepted, and the goal's run has answers and ends with no further one
 pub record Solves (words : List (List ℕ)) (files : Files) : Type 0 where
   pub text : List ℕ
   pub goal : List ℕ
-  pub names : Names words files text goal
-  pub source : Module
-  pub reading : IsModuleText text source
+  pub request : Names words files text goal
+  pub names : List (List ℕ)
+  pub items : List Term
+  pub term : Term
+  pub read : AreRead text goal names items term
+  pub source : Source
+  pub source_is : source_of names items ≡ Some source
   pub conjuncts : List Conjunct
-  pub goal_reading : IsGoalText source goal conjuncts
+  pub goal_is : goal_of names source term ≡ Some conjuncts
   pub answers : 0 < length (answers_of (run_of source conjuncts))
   pub ends : end_of (run_of source conjuncts) ≡ RunDone
 
@@ -71,8 +75,8 @@ pub record Answers (words : List (List ℕ)) (told : Option Files) (reads reads'
   pub output : reads' ≡ reads → writes' ≡ writes → status ≢ 9 →
       (files : Files) × AreFiles told files × (lines : List (List ℕ)) × IsOutput words files lines status × (new ≡ appended old (text_of lines))
   pub solved : reads' ≡ reads → writes' ≡ writes → status ≢ 9 → IfSome told (λ files. (status ≡ 0) ↔ Solves words files)
-  pub module_refused : reads' ≡ reads → writes' ≡ writes → status ≢ 9 → IfSome told (λ files. (status ≡ 4) ↔ RefusesModule words files)
-  pub goal_refused : reads' ≡ reads → writes' ≡ writes → status ≢ 9 → IfSome told (λ files. (status ≡ 5) ↔ RefusesGoal words files)
+  pub module_refused : reads' ≡ reads → writes' ≡ writes → status ≢ 9 → IfSome told (λ files. (status ≡ 4) ↔ BreaksModule words files)
+  pub goal_refused : reads' ≡ reads → writes' ≡ writes → status ≢ 9 → IfSome told (λ files. (status ≡ 5) ↔ BreaksGoal words files)
   pub usage : reads' ≡ reads → writes' ≡ writes → status ≢ 9 → (status ≡ 6) ↔ IsNoRequest words
   pub too_long : reads' ≡ reads → writes' ≡ writes → status ≢ 9 → IfSome told (λ files. (status ≡ 10) ↔ NamesTooLong words files)
   -- Status 7 comes exactly where a read failed or the named file is not there, and then nothing was written.

@@ -2,6 +2,7 @@
 use Rattle.std.specs.Prelude.{◌≡◌, ◌+◌, ℕ, suc, zero, ◌<◌, ◌≤◌, ◌⊎◌, List, [], ◌∷◌, ◌++◌, length, map, Option, Some, None, codes}
 use Rattle.std.specs.List.{flat_map}
 use Rattle.std.specs.Fmt.{decimal, signed_decimal}
+use Rattle.merc_base.specs.Names.{fixed_names}
 use Rattle.merc_base.specs.Outside.{Files, file_named}
 use Rattle.merc_base.specs.Refusal.{refusal_text}
 use Rattle.merc_base.specs.declared.refusal.Refusal.{Refusal}
@@ -11,12 +12,16 @@ use Rattle.merc_base.specs.declared.refusal.Construct.TheVariants.{Stage}
 use Rattle.merc_tree.specs.Value.{Value, Int}
 use Rattle.merc_tree.specs.Trace.{Env, Run, RunEnd, RunDone, RunRaised, LimitPassed, answers_of, end_of}
 use Rattle.merc_tree.specs.Meaning.{run, value_at}
-use Rattle.merc_top.specs.declared.first_form.syntax.Conjunct.{Conjunct}
-use Rattle.merc_top.specs.declared.first_form.syntax.Module.{Module}
+use Rattle.merc_tree.specs.Term.{Term}
+use Rattle.merc_tree.specs.declared.declarations.Module.{Module}
+use Rattle.merc_terms.specs.Texts.{ReadsGoal, RefusesGoalText}
+use Rattle.merc_items.specs.ReadModule.{IsModule, RefusesModule}
+use Rattle.merc_first_form.specs.declared.syntax.Conjunct.{Conjunct}
+use Rattle.merc_first_form.specs.declared.syntax.Source.{Source}
+use Rattle.merc_first_form.specs.Reading.{source_of, goal_of}
+use Rattle.merc_first_form.specs.FlatForm.{variables_of, procedures_of, query_of}
 use Rattle.merc_top.specs.Words.{IsRequest, IsNoRequest, usage_line}
 use Rattle.merc_top.specs.Loading.{file_limit}
-use Rattle.merc_top.specs.FirstForm.{IsModuleText, IsGoalText}
-use Rattle.merc_top.specs.FlatForm.{variables_of, procedures_of, query_of}
 
 abbrev pub line_end : List ℕ
 line_end = 10 ∷ []
@@ -91,31 +96,35 @@ unfoldable pub step_limit : ℕ
 step_limit = 1000000
 
 -- the run of a goal over a module
-unfoldable pub run_of : Module → List Conjunct → Run
+unfoldable pub run_of : Source → List Conjunct → Run
 run_of source goal = run (procedures_of source) (query_of source goal) step_limit
 
 -- the lines and the status of a run, for the names of the answer variables
 abbrev pub IsRunDue : List (List ℕ) → Run → List (List ℕ) → ℕ → Type 0
 IsRunDue names run lines status = (lines ≡ run_lines names run) × (status ≡ run_status (length (answers_of run)) (end_of run))
 
--- a goal over a module: refused where its text is no goal of the first form, else the text of its run
-abbrev pub GoalOutput : Module → List ℕ → List (List ℕ) → ℕ → Type 0
-GoalOutput source text lines status =
-    (((goal : List Conjunct) → IsGoalText source text goal → ⊥) × (lines ≡ refusal_line (codes "goal") stage_refusal ∷ []) × (status ≡ 5))
-    ⊎ ((goal : List Conjunct) × IsGoalText source text goal × IsRunDue (variables_of [] goal) (run_of source goal) lines status)
+-- A file's text is a module, and a goal's text a goal, with these items and this term, and these names of both.
+pub record AreRead (file goal : List ℕ) (names : List (List ℕ)) (items : List Term) (term : Term) : Type 0 where
+  pub file_names : List (List ℕ)
+  pub found : Module
+  pub module_is : IsModule fixed_names file_names file items found
+  pub goal_is : ReadsGoal file_names names goal term
 
--- a file within the limit: refused where it is no module of the first form, else what the goal gives
-abbrev pub ModuleOutput : List ℕ → List ℕ → List ℕ → List (List ℕ) → ℕ → Type 0
-ModuleOutput name file goal lines status =
-    (((source : Module) → IsModuleText file source → ⊥) × (lines ≡ refusal_line name stage_refusal ∷ []) × (status ≡ 4))
-    ⊎ ((source : Module) × IsModuleText file source × GoalOutput source goal lines status)
+-- What is due for a file of this name and text, and a goal. What is wrong with the file comes first, then what is wrong with the goal. Where nothing is,
+-- a file outside the form that runs is refused as a whole, and then such a goal. Else it is the run's text.
+pub data IsDue (name file goal : List ℕ) : List (List ℕ) → ℕ → Type 0 where
+  module_refused : (refusal : Refusal) → RefusesModule fixed_names file refusal → IsDue name file goal (refusal_line name refusal ∷ []) 4
+  goal_refused : (names : List (List ℕ)) (items : List Term) (found : Module) (refusal : Refusal) → IsModule fixed_names names file items found → RefusesGoalText names goal refusal → IsDue name file goal (refusal_line (codes "goal") refusal ∷ []) 5
+  module_outside : (names : List (List ℕ)) (items : List Term) (term : Term) → AreRead file goal names items term → source_of names items ≡ None → IsDue name file goal (refusal_line name stage_refusal ∷ []) 4
+  goal_outside : (names : List (List ℕ)) (items : List Term) (term : Term) (source : Source) → AreRead file goal names items term → source_of names items ≡ Some source → goal_of names source term ≡ None → IsDue name file goal (refusal_line (codes "goal") stage_refusal ∷ []) 5
+  runs : (names : List (List ℕ)) (items : List Term) (term : Term) (source : Source) (conjuncts : List Conjunct) (lines : List (List ℕ)) (status : ℕ) → AreRead file goal names items term → source_of names items ≡ Some source → goal_of names source term ≡ Some conjuncts → IsRunDue (variables_of [] conjuncts) (run_of source conjuncts) lines status → IsDue name file goal lines status
 
 -- the named file: absent, too long, or read
 abbrev pub FileOutput : List ℕ → Option (List ℕ) → List ℕ → List (List ℕ) → ℕ → Type 0
 FileOutput name None goal lines status = (lines ≡ []) × (status ≡ 7)
 FileOutput name (Some file) goal lines status =
     ((file_limit < length file) × (lines ≡ too_long_line name ∷ []) × (status ≡ 10))
-    ⊎ ((length file ≤ file_limit) × ModuleOutput name file goal lines status)
+    ⊎ ((length file ≤ file_limit) × IsDue name file goal lines status)
 
 -- the lines and the status that are due for these words over these files
 abbrev pub IsOutput : List (List ℕ) → Files → List (List ℕ) → ℕ → Type 0

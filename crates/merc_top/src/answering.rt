@@ -1,23 +1,29 @@
 //! The top call.
-ghost use Rattle.std.specs.Prelude.{◌≡◌, ◌<◌, All, IfOk, false, [], ◌∷◌};
-ghost use Rattle.merc_top.specs.Output.{GoalOutput, ModuleOutput, IsRunDue, run_of, stage_refusal};
+ghost use Rattle.std.specs.Prelude.{◌≡◌, ◌<◌, ◌≤◌, All, ℕ, List, IfOk, IfErr, false, [], ◌∷◌, length};
+ghost use Rattle.merc_tree.specs.declared.declarations.Module.{Module};
+ghost use Rattle.merc_terms.specs.Items.{IsRefusal};
+ghost use Rattle.merc_items.specs.ReadModule.{IsModule, RefusesModule};
+ghost use Rattle.merc_top.specs.Loading.{file_limit};
+ghost use Rattle.merc_top.specs.Output.{AreRead, IsDue, IsRunDue, run_of, stage_refusal};
 ghost use Rattle.merc_top.specs.Outcome.{IsOutcome};
 ghost use Rattle.merc_top.specs.Due.{Finds};
 ghost use Rattle.merc_top.specs.Answer.{Answers};
-ghost use Rattle.merc_top.specs.FlatForm.{variables_of};
+ghost use Rattle.merc_first_form.specs.FlatForm.{variables_of};
 ghost use Rattle.merc_tree.specs.Trace.{Run};
 
 use crate::evaluating::{Outcome, solve};
-use crate::first_form::syntax::{Conjuncts, Module};
-use crate::first_form::{flattening, read_goal, read_module};
 use crate::lines::{refusal_line, solution_line, solutions_line, step_limit_line, too_long_line};
 use crate::loading::{LoadFault, load};
 use crate::words::read_words;
 use crate::writing::{WriteFault, put_lines};
 use merc_base::{
-    Construct, Detail, Gate, NoMemory, Place, Refusal, Rule, Sequence, Shelf, Sink, Tap, Text,
-    TextTable,
+    Construct, Detail, Fault, Gate, Names, NoMemory, Place, Refusal, Rule, Sequence, Shelf, Sink,
+    Tap, Text, TextTable,
 };
+use merc_first_form::{Conjuncts, Source, goal_of, procedures, query, source_of};
+use merc_items::module_of_items;
+use merc_terms::{read_goal_text, read_text};
+use merc_tree::{Term, Terms};
 use std::alloc::Global;
 use std::sync::Wait;
 use std::thread::Threads;
@@ -54,16 +60,6 @@ fn one_line(alloc: Global, status: u8, line: Text) -> Result<Due, NoMemory>
     Ok(Due { status, lines })
 }
 
-// What is due for a goal over a module.
-fn goal_due(alloc: Global, source: &Module, text: &Text) -> Result<Due, NoMemory>
-    ensures { IfOk result (λ due. GoalOutput source.now text.now due.lines due.status) }
-{
-    match read_goal(alloc, source, text)? {
-        Some(goal) => run_due(alloc, source, &goal),
-        None => one_line(alloc, 5, refusal_line(alloc, b"goal", &stage_refusal())?),
-    }
-}
-
 // What is due for a run with this outcome, whose answer variables have these names.
 fn outcome_due(alloc: Global, names: &TextTable, outcome: Outcome) -> Result<Due, NoMemory>
     ensures { IfOk result (λ due. (run : Run) → IsOutcome outcome run → IsRunDue names.now run due.lines due.status) }
@@ -81,26 +77,68 @@ fn outcome_due(alloc: Global, names: &TextTable, outcome: Outcome) -> Result<Due
 }
 
 // What is due for the run of a goal over a module.
-fn run_due(alloc: Global, source: &Module, goal: &Conjuncts) -> Result<Due, NoMemory>
+fn run_due(alloc: Global, source: &Source, goal: &Conjuncts) -> Result<Due, NoMemory>
     ensures { IfOk result (λ due. IsRunDue (variables_of [] goal.now) (run_of source.now goal.now) due.lines due.status) }
 {
-    let procedures = flattening::procedures(alloc, source)?;
-    let query = flattening::query(alloc, source, goal)?;
+    let procedures = procedures(alloc, source)?;
+    let query = query(alloc, source, goal)?;
     let outcome = solve(alloc, &procedures, &query.goals, STEP_LIMIT)?;
     outcome_due(alloc, &query.variables, outcome)
 }
 
-// What is due for a file of this name and text, and a goal.
-fn module_due(alloc: Global, name: &Text, text: &Text, goal: &Text) -> Result<Due, NoMemory>
-    ensures { IfOk result (λ due. ModuleOutput name.now text.now goal.now due.lines due.status) }
+// The items of a file's text that is a module.
+fn read_file(alloc: Global, text: &Text, names: &mut Names) -> Result<Terms, Fault>
+    requires { length text.now ≤ 300000000 }
+    ensures found { IfOk result (λ items. (found : Module) × IsModule names.old names.new text.now items found) }
+    ensures refused { IfErr result (λ fault. IsRefusal (RefusesModule names.old text.now) fault) }
 {
-    match read_module(alloc, text)? {
-        Some(source) => goal_due(alloc, &source, goal),
-        None => one_line(
-            alloc,
-            4,
-            refusal_line(alloc, name.bytes(), &stage_refusal())?,
-        ),
+    let items = read_text(alloc, text.bytes(), names)?;
+    module_of_items(alloc, &items, names)?;
+    Ok(items)
+}
+
+// What is due for a file of this name and text, and a goal.
+fn text_due(alloc: Global, name: &Text, text: &Text, goal: &Text) -> Result<Due, NoMemory>
+    requires { length text.now ≤ file_limit }
+    ensures { IfOk result (λ due. IsDue name.now text.now goal.now due.lines due.status) }
+{
+    let mut names = Names::new(alloc);
+    let items = match read_file(alloc, text, &mut names) {
+        Ok(items) => items,
+        Err(Fault::Refused(refusal)) => {
+            return one_line(alloc, 4, refusal_line(alloc, name.bytes(), &refusal)?);
+        }
+        Err(Fault::NoMemory) => return Err(NoMemory),
+    };
+    let term = match read_goal_text(alloc, goal.bytes(), &mut names) {
+        Ok(term) => term,
+        Err(Fault::Refused(refusal)) => {
+            return one_line(alloc, 5, refusal_line(alloc, b"goal", &refusal)?);
+        }
+        Err(Fault::NoMemory) => return Err(NoMemory),
+    };
+    read_due(alloc, name, &items, &term, &names)
+}
+
+// What is due for a file of this name that is a module of these items, and a goal that is a term.
+fn read_due(
+    alloc: Global,
+    name: &Text,
+    items: &Terms,
+    term: &Term,
+    names: &Names,
+) -> Result<Due, NoMemory>
+    ensures { IfOk result (λ due. (file goal : List ℕ) → AreRead file goal names.now items.now term.now → IsDue name.now file goal due.lines due.status) }
+{
+    let source = match source_of(alloc, items, names)? {
+        Some(source) => source,
+        None => {
+            return one_line(alloc, 4, refusal_line(alloc, name.bytes(), &stage_refusal())?);
+        }
+    };
+    match goal_of(alloc, &source, term, names)? {
+        Some(goal) => run_due(alloc, &source, &goal),
+        None => one_line(alloc, 5, refusal_line(alloc, b"goal", &stage_refusal())?),
     }
 }
 
@@ -135,7 +173,7 @@ fn find_due<S: Shelf>(alloc: Global, words: &[Text], shelf: &mut S) -> Result<Du
         None => return Ok(one_line(alloc, 6, Text::of(alloc, USAGE)?)?),
     };
     match load(alloc, shelf, request.file) {
-        Ok(text) => Ok(module_due(alloc, request.file, &text, request.goal)?),
+        Ok(text) => Ok(text_due(alloc, request.file, &text, request.goal)?),
         Err(LoadFault::TooLong) => Ok(one_line(
             alloc,
             10,

@@ -3,7 +3,6 @@
 
 mod answering;
 mod evaluating;
-mod first_form;
 mod lines;
 mod loading;
 mod words;

@@ -1,0 +1,2 @@
+pub mod FlatteningLemmas
+pub mod InPlaces

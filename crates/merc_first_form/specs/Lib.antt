@@ -1,0 +1,5 @@
+pub mod FirstForm
+pub mod FirstFormExamples
+pub mod FlatForm
+pub mod FlatFormExamples
+pub mod Reading
