@@ -8,3 +8,4 @@ pub mod FirstFaults
 pub mod TokenLaws
 pub mod TextExamples
 pub mod FirstFaultExamples
+pub mod Deciding
