@@ -4,10 +4,9 @@ ghost use Rattle.merc_base.specs.declared.refusal.Rule.{Rule};
 ghost use Rattle.merc_base.specs.declared.refusal.Detail.{Detail};
 ghost use Rattle.merc_base.specs.declared.place.Place.{Place};
 ghost use Rattle.merc_item_forms.specs.Items.{place_of};
-ghost use Rattle.merc_item_forms.specs.FormFaults.{HasFormFault, opened, own_name};
+ghost use Rattle.merc_item_forms.specs.FormFaults.{HasFormFault, opened, own_name, Rises, IsFormRefusal};
 ghost use Rattle.merc_item_forms.specs.ItemValue.{item_value};
 ghost use Rattle.merc_item_forms.specs.FormChecks.{at_place, refusal_at, no_item, first_refusal};
-ghost use Rattle.merc_item_forms.specs.FormFaults.{Rises, IsFormRefusal};
 
 use crate::declarations::{Position, item_fault};
 use crate::item::{Item, item_of};
