@@ -6,5 +6,6 @@ pub mod ReadingEnds
 pub mod ReadsTo
 pub mod FirstFaults
 pub mod TokenLaws
+pub mod RefusalLaws
 pub mod TextExamples
 pub mod FirstFaultExamples
