@@ -7,5 +7,6 @@ pub mod ReadsTo
 pub mod FirstFaults
 pub mod TokenLaws
 pub mod RefusalLaws
+pub mod NameTables
 pub mod TextExamples
 pub mod FirstFaultExamples
