@@ -17,3 +17,4 @@ pub mod ReadingExamples
 pub mod ItemLaws
 pub mod OutcomesExamples
 pub mod TextSteps
+pub mod TextLaws
