@@ -21,3 +21,6 @@ pub mod Renumbering
 pub mod RenumberedItems
 pub mod TextsRead
 pub mod TextsReadExamples
+pub mod TextSteps
+pub mod TextLaws
+pub mod TextExamples
