@@ -16,3 +16,5 @@ pub mod ReadingLaws
 pub mod ReadingExamples
 pub mod ItemLaws
 pub mod OutcomesExamples
+pub mod TextSteps
+pub mod TextLaws
