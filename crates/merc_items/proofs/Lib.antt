@@ -29,3 +29,6 @@ pub mod FirstFaults
 pub mod UnitReading
 pub mod EntryOrder
 pub mod ModuleLaws
+pub mod FaultPlaces
+pub mod FaultDetails
+pub mod OneFault
