@@ -32,3 +32,4 @@ pub mod ModuleLaws
 pub mod FaultPlaces
 pub mod FaultDetails
 pub mod OneFault
+pub mod RefusalLaws
