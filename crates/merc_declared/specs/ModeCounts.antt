@@ -62,8 +62,3 @@ earlier None None = None
 earlier None (Some many) = Some (too_many many)
 earlier (Some missing) None = Some (too_few missing)
 earlier (Some missing) (Some many) = if nat_lt many.byte missing.byte then Some (too_many many) else Some (too_few missing)
-
--- whether a declaration has its mode with it, by whether it has a category
-abbrev pub has_mode_with : List Term → Bool → Bool
-has_mode_with [] has_category = has_category
-has_mode_with (first ∷ rest) has_category = list_all is_moded (first ∷ rest)

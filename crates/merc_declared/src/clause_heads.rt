@@ -1,19 +1,15 @@
 //! Clauses and declarations of the file, which have to go together.
-ghost use Rattle.std.specs.Prelude.{◌≡◌, ◌&&◌, IfOk, IfErr, OnOk};
+ghost use Rattle.std.specs.Prelude.{◌≡◌, ◌&&◌, IfOk, IfErr};
 ghost use Rattle.merc_base.specs.declared.refusal.Rule.TheVariants.{Undeclared};
-ghost use Rattle.merc_item_forms.specs.Forms.{is_foreign};
 ghost use Rattle.merc_declared.specs.AloneItems.{IsAlone};
-ghost use Rattle.merc_entries.specs.Entries.{is_own};
-ghost use Rattle.merc_entries.specs.EntryValue.{entry_value, entry_values, NeverFalls};
+ghost use Rattle.merc_entries.specs.EntryValue.{entry_values, NeverFalls};
 ghost use Rattle.merc_item_forms.specs.ItemValue.{item_value};
-ghost use Rattle.merc_declared.specs.PhaseFaults.{first_place};
+ghost use Rattle.merc_declared.specs.PhaseFaults.{first_place, AtPlaces, HasNone, AnswersLeast};
 ghost use Rattle.merc_declared.specs.ClauseHeads.{HoldsKeys, is_alone_by, is_alone_here};
-ghost use Rattle.merc_declared.specs.PhaseFaults.{AtPlaces, HasNone, AnswersLeast};
 
 use merc_base::{Detail, Fault, Name, NoMemory, Place, Refusal, Rule};
 use merc_entries::{Entry, KeySet, key_of};
-use merc_item_forms::Item;
-use merc_tree::{Shape, TermRef};
+use merc_item_forms::{Item, is_foreign};
 use std::alloc::Global;
 
 /// Refuses the first item of the file that goes together with no other: a clause or a mode without a declaration of
@@ -74,19 +70,6 @@ impl OwnKeys {
             Item::Predicate(head, _) => !self.clauses.contains(key_of(head)),
             _ => false,
         }
-    }
-}
-
-// Whether a head has the name of another module.
-fn is_foreign(head: &TermRef<'_>, own: Name) -> bool
-    ensures { result ≡ is_foreign own head.now }
-{
-    match head.shape() {
-        Shape::Application {
-            qualifier: Some(qualifier),
-            ..
-        } => qualifier != own,
-        _ => false,
     }
 }
 

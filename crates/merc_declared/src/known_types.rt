@@ -11,10 +11,9 @@ ghost use Rattle.merc_declared.specs.UnknownTypes.{HasUnknownType, has_unknown};
 ghost use Rattle.merc_entries.specs.EntryValue.{entry_value, entry_values, NeverFalls};
 ghost use Rattle.merc_item_forms.specs.ItemValue.{item_value};
 ghost use Rattle.merc_entries.specs.KeySets.{keys_at};
-ghost use Rattle.merc_declared.specs.PhaseFaults.{first_place};
+ghost use Rattle.merc_declared.specs.PhaseFaults.{first_place, AtPlaces, HasNone, AnswersLeast};
 ghost use Rattle.merc_declared.specs.declared.known_types.Variables.TheVariants.{Any};
 ghost use Rattle.merc_declared.specs.KnownTypes.{has_unit_key, HoldsTypes, AddsTypes, is_known_by, is_unbound_by, is_wrong_shape, HoldsVariables, has_unknown_here};
-ghost use Rattle.merc_declared.specs.PhaseFaults.{AtPlaces, HasNone, AnswersLeast};
 
 use merc_base::{Detail, Fault, Name, Names, NoMemory, Place, Refusal, Rule};
 use merc_entries::{Entry, Key, KeySet, key_of};

@@ -1,23 +1,16 @@
 //! The modes of the file's predicates: each predicate has one, each mode a category, and no predicate has too many.
 ghost use Rattle.std.specs.Prelude.{◌≡◌, ◌<◌, ◌^◌, ◌&&◌, false, List, Some, IfOk, IfErr, OnOk, is_some, if◌then◌else◌};
-ghost use Rattle.std.specs.List.{list_all};
-ghost use Rattle.merc_tree.specs.Shape.{arguments_of};
-ghost use Rattle.merc_item_forms.specs.Forms.{is_moded};
-ghost use Rattle.merc_entries.specs.Entries.{Key as key_record};
+ghost use Rattle.merc_entries.specs.Entries.{Key as key_record, is_own, are_keys};
 ghost use Rattle.merc_declared.specs.ModeFaults.{HasModeFault};
-ghost use Rattle.merc_entries.specs.Entries.{is_own, are_keys};
 ghost use Rattle.merc_entries.specs.EntryValue.{entry_value, entry_values, NeverFalls};
 ghost use Rattle.merc_item_forms.specs.ItemValue.{item_value};
 ghost use Rattle.merc_entries.specs.KeySets.{keys_at};
-ghost use Rattle.merc_declared.specs.PhaseFaults.{first_place};
-ghost use Rattle.merc_declared.specs.ModeCounts.{no_modes, has_mode_with, counted, with_mode, HoldsModes, lacks_mode_by, has_many_modes_by, lacks_mode_here, has_many_modes_here, too_few, too_many, earlier};
-ghost use Rattle.merc_declared.specs.PhaseFaults.{HasNone, AnswersLeast};
+ghost use Rattle.merc_declared.specs.PhaseFaults.{first_place, HasNone, AnswersLeast};
+ghost use Rattle.merc_declared.specs.ModeCounts.{no_modes, counted, with_mode, HoldsModes, lacks_mode_by, has_many_modes_by, lacks_mode_here, has_many_modes_here, too_few, too_many, earlier};
 
 use merc_base::{Detail, Fault, LimitName, Name, NoMemory, Place, Refusal, Rule};
-use merc_entries::{Entry, Key, key_of};
+use merc_entries::{Entry, Key, has_mode, key_of};
 use merc_item_forms::Item;
-use merc_operands::{Operands, operands_of};
-use merc_tree::{Arguments, TermRef};
 use std::alloc::Global;
 use std::collections::BTreeMap;
 
@@ -156,7 +149,7 @@ impl ModeCounts {
         match item {
             Item::Predicate(head, category) => {
                 let modes = self.at(key_of(head));
-                let lacks = if has_mode(head, category.is_some()) {
+                let lacks = if has_mode(head, category) {
                     category.is_none()
                 } else {
                     category.is_some() || modes.count == 0
@@ -181,7 +174,7 @@ impl ModeCounts {
     {
         match item {
             Item::Predicate(head, category) => {
-                let own = if has_mode(head, category.is_some()) {
+                let own = if has_mode(head, category) {
                     1
                 } else {
                     0
@@ -190,41 +183,6 @@ impl ModeCounts {
             }
             _ => false,
         }
-    }
-}
-
-// Whether a predicate's declaration has its mode with it: each argument has one, or there are none and a category
-// stands behind.
-fn has_mode(head: &TermRef<'_>, has_category: bool) -> bool
-    ensures { result ≡ has_mode_with (arguments_of head.now) has_category }
-{
-    let arguments = head.arguments();
-    if arguments.len() == 0 {
-        has_category
-    } else {
-        are_moded(arguments)
-    }
-}
-
-// Whether each argument has a mode.
-fn are_moded(mut arguments: Arguments<'_>) -> bool
-    ensures { result ≡ list_all is_moded arguments.entry }
-{
-    while let Some(last) = arguments.take_last() {
-        if !is_moded(&last) {
-            return false;
-        }
-    }
-    true
-}
-
-// Whether an argument is a `T::M`.
-fn is_moded(argument: &TermRef<'_>) -> bool
-    ensures { result ≡ is_moded argument.now }
-{
-    match operands_of(argument) {
-        Operands::Two(name, _, _) => name == Name::COLON_COLON,
-        _ => false,
     }
 }
 

@@ -1,14 +1,12 @@
 //! Doubled declarations.
 ghost use Rattle.std.specs.Prelude.{◌≡◌, map, IfOk, IfErr};
 ghost use Rattle.merc_base.specs.declared.place.Place.{Place as PlaceValue};
-ghost use Rattle.merc_entries.specs.Entries.{is_key, is_same_mode};
-ghost use Rattle.merc_entries.specs.DoubleFaults.{HasDouble, is_arithmetic};
-ghost use Rattle.merc_entries.specs.Entries.{key};
+ghost use Rattle.merc_entries.specs.Entries.{is_key, is_same_mode, key};
+ghost use Rattle.merc_entries.specs.DoubleFaults.{HasDouble, is_arithmetic, IsDoubleRefusal};
 ghost use Rattle.merc_entries.specs.EntryValue.{entry_values, NeverFalls};
 ghost use Rattle.merc_entries.specs.KeyValue.{key_value};
 ghost use Rattle.merc_entries.specs.ModeValue.{mode_value};
 ghost use Rattle.merc_entries.specs.FirstPlaces.{declared_value, first_again, first_such, constructor_double, predicate_double, first_double};
-ghost use Rattle.merc_entries.specs.DoubleFaults.{IsDoubleRefusal};
 
 mod again;
 mod declarations;

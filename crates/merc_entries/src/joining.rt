@@ -2,11 +2,10 @@
 ghost use Rattle.std.specs.Prelude.{◌≡◌, [], ◌∷◌, ◌++◌, map, IfOk, OnOk};
 ghost use Rattle.std.specs.Option.{option_copied, unwrap_or};
 ghost use Rattle.merc_entries.specs.Entries.{entries, entries_from, imports, names_of, unit_entries, with_units};
-ghost use Rattle.merc_item_forms.specs.Items.{place_of};
+ghost use Rattle.merc_item_forms.specs.Items.{place_of, item_of};
 ghost use Rattle.merc_entries.specs.EntryValue.{entry_values};
 ghost use Rattle.merc_item_forms.specs.ItemValue.{item_value};
 ghost use Rattle.merc_entries.specs.Joining.{own_entry, entries_of_unit};
-ghost use Rattle.merc_item_forms.specs.Items.{item_of};
 ghost use Rattle.merc_entries.specs.Units.{items_of};
 
 use crate::distinct_names::DistinctNames;

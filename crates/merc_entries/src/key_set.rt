@@ -1,7 +1,6 @@
 //! Sets of keys.
 ghost use Rattle.std.specs.Prelude.{◌≡◌, ◌||◌, false, List, OnOk};
-ghost use Rattle.merc_entries.specs.Entries.{Key as key_record, key_of};
-ghost use Rattle.merc_entries.specs.Entries.{are_keys};
+ghost use Rattle.merc_entries.specs.Entries.{Key as key_record, key_of, are_keys};
 ghost use Rattle.merc_entries.specs.KeySets.{keys_at, has_key};
 
 use crate::key::Key;

@@ -7,6 +7,7 @@ mod entry;
 mod joining;
 mod key;
 mod key_set;
+mod moded;
 mod units;
 
 pub use distinct_names::DistinctNames;
@@ -15,4 +16,5 @@ pub use entry::Entry;
 pub use joining::{imports, join};
 pub use key::Key;
 pub use key_set::{KeySet, key_of};
+pub use moded::has_mode;
 pub use units::{Units, read_units};

@@ -1,8 +1,7 @@
 //! Arguments of declarations: types, modes and categories.
 ghost use Rattle.std.specs.Prelude.{◌≡◌, not, Some};
 ghost use Rattle.std.specs.List.{list_any, flat_map};
-ghost use Rattle.merc_item_forms.specs.Forms.{is_moded, has_part, is_literal, is_wide, argument_type, argument_mode, is_mode, lacks_mode, is_category, is_outside_category, lacks_category};
-ghost use Rattle.merc_item_forms.specs.Forms.{is_unit, word_if, mode_words, argument_words, constructor_words, category_words};
+ghost use Rattle.merc_item_forms.specs.Forms.{is_moded, has_part, is_literal, is_wide, argument_type, argument_mode, is_mode, lacks_mode, is_category, is_outside_category, lacks_category, is_unit, word_if, mode_words, argument_words, constructor_words, category_words};
 ghost use Rattle.merc_item_forms.specs.FormChecks.{first_of, unit_words, is_partly_moded, are_wrong_arguments};
 
 use crate::heads::is_application;

@@ -4,10 +4,9 @@ ghost use Rattle.merc_base.specs.declared.refusal.Rule.{Rule};
 ghost use Rattle.merc_base.specs.declared.refusal.Detail.{Detail};
 ghost use Rattle.merc_base.specs.declared.place.Place.{Place};
 ghost use Rattle.merc_item_forms.specs.Items.{place_of};
-ghost use Rattle.merc_item_forms.specs.FormFaults.{HasFormFault, opened, own_name};
+ghost use Rattle.merc_item_forms.specs.FormFaults.{HasFormFault, opened, own_name, Rises, IsFormRefusal};
 ghost use Rattle.merc_item_forms.specs.ItemValue.{item_value};
 ghost use Rattle.merc_item_forms.specs.FormChecks.{at_place, refusal_at, no_item, first_refusal};
-ghost use Rattle.merc_item_forms.specs.FormFaults.{Rises, IsFormRefusal};
 
 use crate::declarations::{Position, item_fault};
 use crate::item::{Item, item_of};
@@ -15,7 +14,12 @@ use merc_base::{Detail, Fault, Name, Names, NoMemory, Place, Refusal, Rule};
 use merc_tree::{TermRef, Terms};
 use std::alloc::Global;
 
-/// The first fault of the forms of declarations and clause heads. The terms stand in the order of their places.
+/// Checks the forms of declarations and clause heads. The terms stand in the order of their places.
+///
+/// # Errors
+///
+/// `Refused` says the first fault: at the least place, and there of the smaller rule. `NoMemory` says that memory was
+/// refused.
 pub fn check_forms(alloc: Global, terms: &Terms, names: &Names) -> Result<(), Fault>
     requires order { Rises terms.now }
     ensures fine { IfOk result (λ _. (rule : Rule) (detail : Detail) (place : Place) → HasFormFault names.now terms.now rule detail place → ⊥) }
@@ -42,7 +46,7 @@ fn first_refusal(alloc: Global, terms: &Terms, names: &Names) -> Result<Option<R
     Ok(None)
 }
 
-/// The name of the module, which its first item gives.
+/// The name of the module, which its first item gives; any name where the first item gives none.
 pub fn own_name(terms: &Terms) -> Name
     ensures { result ≡ own_name terms.now }
 {

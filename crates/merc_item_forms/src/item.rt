@@ -8,7 +8,7 @@ use merc_base::Name;
 use merc_operands::{Operands, operands_of, plain_name};
 use merc_tree::TermRef;
 
-/// What an item is.
+/// What an item of a module is.
 #[derive(Drop)]
 pub enum Item<'a> {
     /// `:- module M.`

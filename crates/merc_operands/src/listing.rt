@@ -1,8 +1,7 @@
 //! Terms that stand side by side: the arguments of a term, and the members of a chain.
 ghost use Rattle.std.specs.Prelude.{◌≡◌, IfOk};
 ghost use Rattle.merc_tree.specs.Shape.{arguments_of};
-ghost use Rattle.merc_operands.specs.Members.{chain};
-ghost use Rattle.merc_operands.specs.Members.{link_of};
+ghost use Rattle.merc_operands.specs.Members.{chain, link_of};
 
 use crate::operands::{Operands, operands_of};
 use merc_base::{Name, NoMemory};

@@ -1,7 +1,6 @@
 //! Terms by their names and the number of their arguments.
 ghost use Rattle.std.specs.Prelude.{◌≡◌};
-ghost use Rattle.merc_operands.specs.Operands.{plain_name};
-ghost use Rattle.merc_operands.specs.Operands.{operands_of, by_count};
+ghost use Rattle.merc_operands.specs.Operands.{plain_name, operands_of, by_count};
 
 use merc_base::Name;
 use merc_tree::{Arguments, Shape, TermRef};

@@ -1,12 +1,11 @@
 //! What the items of a module declare, in the order of their places.
 ghost use Rattle.std.specs.Prelude.{◌≡◌, ◌++◌, map, IfOk, OnOk};
-ghost use Rattle.std.specs.Option.{option_to_list};
-ghost use Rattle.merc_entries.specs.Entries.{key_of, types_of, constructors_of, predicates_of, modes_of, declared_by};
+ghost use Rattle.merc_entries.specs.Entries.{types_of, constructors_of, predicates_of, modes_of, declared_by, key, own_entries};
 ghost use Rattle.merc_entries.specs.DoubleFaults.{type_keys, at_start};
-ghost use Rattle.merc_entries.specs.Entries.{key, own_entries};
 ghost use Rattle.merc_item_forms.specs.ItemValue.{item_value};
-ghost use Rattle.merc_entries.specs.EntryValue.{entry_value, entry_values};
+ghost use Rattle.merc_entries.specs.EntryValue.{entry_values};
 ghost use Rattle.merc_entries.specs.KeyValue.{key_value};
+ghost use Rattle.merc_entries.specs.KeySets.{keys_at};
 ghost use Rattle.merc_entries.specs.ModeValue.{mode_value};
 ghost use Rattle.merc_entries.specs.FirstPlaces.{declared_value, declared_at};
 
@@ -14,10 +13,10 @@ use super::again::Declared;
 use super::modes::{Mode, mode_of};
 use crate::entry::Entry;
 use crate::key::Key;
+use crate::key_set::key_of;
 use merc_base::{Name, NoMemory, Place};
 use merc_item_forms::Item;
 use merc_operands::members;
-use merc_tree::{Shape, TermRef};
 use std::alloc::Global;
 
 /// The types, with `int` and `string` from the start.
@@ -116,7 +115,7 @@ fn push_constructors(
 
 // The type that an item declares.
 fn type_of(item: &Item<'_>) -> Option<Key>
-    ensures { map key_value (option_to_list result) ≡ types_of (item_value item.now) }
+    ensures { keys_at result ≡ types_of (item_value item.now) }
 {
     match item {
         Item::Type(head, _) => key_of(head),
@@ -126,20 +125,10 @@ fn type_of(item: &Item<'_>) -> Option<Key>
 
 // The predicate that an item declares.
 fn predicate_of(item: &Item<'_>) -> Option<Key>
-    ensures { map key_value (option_to_list result) ≡ predicates_of (item_value item.now) }
+    ensures { keys_at result ≡ predicates_of (item_value item.now) }
 {
     match item {
         Item::Predicate(head, _) => key_of(head),
-        _ => None,
-    }
-}
-
-/// The name and the number of arguments of a head, None for a variable or a literal.
-pub(crate) fn key_of(head: &TermRef<'_>) -> Option<Key>
-    ensures { map key_value (option_to_list result) ≡ key_of head.now }
-{
-    match head.shape() {
-        Shape::Application { name, arity, .. } => Some(Key { name, arity }),
         _ => None,
     }
 }

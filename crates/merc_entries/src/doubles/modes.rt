@@ -1,19 +1,18 @@
 //! The modes that items declare.
 ghost use Rattle.std.specs.Prelude.{◌≡◌, map, Some, IfOk};
-ghost use Rattle.std.specs.List.{list_all};
 ghost use Rattle.std.specs.Option.{option_to_list};
-ghost use Rattle.merc_tree.specs.Shape.{arguments_of};
 ghost use Rattle.merc_operands.specs.Operands.{plain_name};
-ghost use Rattle.merc_item_forms.specs.Forms.{is_moded, argument_mode};
-ghost use Rattle.merc_entries.specs.Entries.{has_mode_among, is_out, modes_at, key_of, modes_of, outputs_of};
+ghost use Rattle.merc_item_forms.specs.Forms.{argument_mode};
+ghost use Rattle.merc_entries.specs.Entries.{is_out, modes_at, key_of, modes_of, outputs_of};
 ghost use Rattle.merc_item_forms.specs.ItemValue.{item_value};
 ghost use Rattle.merc_entries.specs.ModeValue.{mode_value};
 
-use super::declarations::key_of;
 use crate::key::Key;
+use crate::key_set::key_of;
+use crate::moded::has_mode;
 use merc_base::{Name, NoMemory};
-use merc_item_forms::Item;
-use merc_operands::{Operands, arguments, operands_of, plain_name};
+use merc_item_forms::{Item, argument_mode};
+use merc_operands::{arguments, plain_name};
 use merc_tree::TermRef;
 use std::alloc::Global;
 
@@ -31,8 +30,8 @@ pub(crate) fn mode_of(alloc: Global, item: &Item<'_>) -> Result<Option<Mode>, No
 {
     match item {
         Item::Predicate(head, category) => {
-            let arguments = arguments(alloc, head)?;
-            if has_mode(&arguments, category) {
+            if has_mode(head, category) {
+                let arguments = arguments(alloc, head)?;
                 let outputs = outputs_with_types(alloc, &arguments)?;
                 Ok(mode_at(head, outputs))
             } else {
@@ -58,30 +57,6 @@ fn mode_at(head: &TermRef<'_>, outputs: Vec<bool>) -> Option<Mode>
     }
 }
 
-// Whether a predicate's declaration has its mode with it.
-fn has_mode(arguments: &[TermRef<'_>], category: &Option<TermRef<'_>>) -> bool
-    ensures { result ≡ has_mode_among arguments.now category.now }
-{
-    match arguments {
-        [] => category.is_some(),
-        [_, ..] => are_moded(arguments),
-    }
-}
-
-// Whether each argument is `T::M`.
-fn are_moded(arguments: &[TermRef<'_>]) -> bool
-    ensures { result ≡ list_all is_moded arguments.now }
-{
-    arguments.iter().all(|argument| is_moded(argument))
-}
-
-// Whether an argument is `T::M`.
-fn is_moded(argument: &TermRef<'_>) -> bool
-    ensures { result ≡ is_moded argument.now }
-{
-    argument_mode(argument).is_some()
-}
-
 // Which arguments of a predicate's declaration are outputs, of those with a mode.
 fn outputs_with_types(alloc: Global, arguments: &[TermRef<'_>]) -> Result<Vec<bool>, NoMemory>
     ensures { IfOk result (λ outputs. outputs.items ≡ outputs_of (map argument_mode arguments.now)) }
@@ -104,22 +79,6 @@ fn outputs_alone(alloc: Global, arguments: &[TermRef<'_>]) -> Result<Vec<bool>, 
         outputs.push(is_out(argument))?;
     }
     Ok(outputs)
-}
-
-// The mode of `T::M`.
-fn argument_mode<'a>(argument: &TermRef<'a>) -> Option<TermRef<'a>>
-    ensures { result ≡ argument_mode argument.now }
-{
-    match operands_of(argument) {
-        Operands::Two(name, _, mode) => {
-            if name == Name::COLON_COLON {
-                Some(mode)
-            } else {
-                None
-            }
-        }
-        _ => None,
-    }
 }
 
 fn is_out(mode: &TermRef<'_>) -> bool
