@@ -8,11 +8,13 @@ use Rattle.merc_base.specs.declared.refusal.Detail.{Detail}
 use Rattle.merc_base.specs.declared.refusal.Detail.TheVariants.{Plain, Word, Limit}
 use Rattle.merc_base.specs.declared.refusal.LimitName.TheVariants.{Arity, Modes}
 use Rattle.merc_tree.specs.Term.{Term}
-use Rattle.merc_items.specs.Items.{item_of}
-use Rattle.merc_items.specs.Forms.{words}
-use Rattle.merc_items.specs.FormFaults.{Rises}
-use Rattle.merc_items.specs.Entries.{Entry}
-use Rattle.merc_items.specs.Phases.{HasFormFault, no_item, wrong, outside, wide, HasModeFault, missing, many, HasFault, form, double, unknown_type, mode, alone}
+use Rattle.merc_item_forms.specs.Items.{item_of}
+use Rattle.merc_item_forms.specs.Forms.{words}
+use Rattle.merc_item_forms.specs.FormFaults.{Rises}
+use Rattle.merc_entries.specs.Entries.{Entry}
+use Rattle.merc_item_forms.specs.FormFaults.{HasFormFault, no_item, wrong, outside, wide}
+use Rattle.merc_declared.specs.ModeFaults.{HasModeFault, missing, many}
+use Rattle.merc_items.specs.Phases.{HasFault, form, double, unknown_type, mode, alone}
 use Rattle.merc_items.proofs.FaultPlaces.{IsPlace, among-whole, term-of_places}
 
 abbrev is_plain : Rule → Bool

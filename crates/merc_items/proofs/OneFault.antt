@@ -6,8 +6,8 @@ use Rattle.merc_base.specs.declared.refusal.Rule.{Rule}
 use Rattle.merc_base.specs.declared.refusal.Rule.TheVariants.{BadToken, NoTerm, WrongForm, UnknownType, DeclaredTwice, Undeclared, UnknownName, TypeMismatch, MissingMode, NeverReady, BindsOuter, UnboundOutput, WrongCategory, ParallelCategory, OutsideProfile, LimitPassed}
 use Rattle.merc_base.specs.declared.refusal.Detail.{Detail}
 use Rattle.merc_tree.specs.Term.{Term}
-use Rattle.merc_items.specs.FormFaults.{Rises}
-use Rattle.merc_items.specs.Entries.{entries}
+use Rattle.merc_item_forms.specs.FormFaults.{Rises}
+use Rattle.merc_entries.specs.Entries.{entries}
 use Rattle.merc_items.specs.Phases.{HasFault, ComesFirst, earlier_phase, lesser_place, lesser_rule, FirstFault}
 use Rattle.merc_items.proofs.FaultPlaces.{fault-place, same_place}
 use Rattle.merc_items.proofs.FaultDetails.{same_detail}

@@ -9,11 +9,11 @@ use Rattle.merc_base.specs.declared.refusal.Refusal.{Refusal}
 use Rattle.merc_tree.specs.Term.{Term}
 use Rattle.merc_terms.specs.Items.{refusal_at}
 use Rattle.merc_terms.specs.Texts.{ReadsItems, RefusesText}
-use Rattle.merc_items.specs.Entries.{entries}
-use Rattle.merc_items.specs.FormFaults.{Rises}
+use Rattle.merc_entries.specs.Entries.{entries}
+use Rattle.merc_item_forms.specs.FormFaults.{Rises}
 use Rattle.merc_items.specs.Phases.{FirstFault}
 use Rattle.merc_items.specs.ReadModule.{RefusesItemsOf, first, RefusesModule, no_items, items as items_refused}
-use Rattle.merc_items.specs.Units.{AreUnits}
+use Rattle.merc_entries.specs.Units.{AreUnits}
 use Rattle.merc_items.proofs.OneFault.{FirstFault-unique}
 
 -- what texts and units tell where the table of names before them is distinct
