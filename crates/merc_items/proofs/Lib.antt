@@ -6,3 +6,7 @@ pub mod ReadingLaws
 pub mod Rising
 pub mod TokenLengths
 pub mod TypeParts
+pub mod FaultPlaces
+pub mod FaultDetails
+pub mod OneFault
+pub mod RefusalLaws
