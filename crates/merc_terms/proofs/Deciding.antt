@@ -1,5 +1,5 @@
 -- Whether tokens are items is computed.
-use Rattle.std.proofs.Common.{◌≡◌, ℕ, zero, suc, ◌≤◌, Bool, true, false, not, ◌||◌, ◌&&◌, nat_lt, ltb-false, List, [], ◌∷◌, ◌++◌, length, Option, Some, None, refl, sym, ap, subst, ◌∙◌, arith}
+use Rattle.std.proofs.Common.{◌≡◌, ℕ, zero, suc, ◌≤◌, Bool, true, false, not, ◌&&◌, nat_lt, ltb-false, List, [], ◌∷◌, Option, Some, None, refl, sym, ap, subst, ◌∙◌}
 use Rattle.std.proofs.lemmas.Bool.{and_parts}
 use Rattle.std.specs.List.{list_all}
 use Rattle.merc_base.specs.declared.place.Span.{Span}
@@ -10,7 +10,7 @@ use Rattle.merc_tree.specs.Term.{Term}
 use Rattle.merc_tree.specs.Nesting.{nesting}
 use Rattle.merc_terms.specs.declared.built.Built.{Built}
 use Rattle.merc_terms.specs.Reading.{token, Spells}
-use Rattle.merc_terms.specs.Items.{SpellsItem, IsAllowed, HasItems, none, item}
+use Rattle.merc_terms.specs.Items.{IsAllowed, HasItems, none, item}
 use Rattle.merc_terms.specs.Reader.{Read, clipped, is_great, pushed, whole_term}
 use Rattle.merc_terms.proofs.WholeTerms.{whole_sound, great_fits}
 use Rattle.merc_terms.proofs.Renaming.{built_none}

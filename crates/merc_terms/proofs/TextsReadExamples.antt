@@ -15,7 +15,7 @@ pub is_read-counterexample : is_read 12 1 (codes ":- type t ---> a" ++ 10 ∷ []
 unfolding fixed_names operators reading
 is_read-counterexample = refl
 
--- `:-` is no operand
-pub is_read-counterexample-operator : is_read 12 1 (codes "a :- :- .") ≡ false
+-- no operator stands between the terms
+pub is_read-counterexample-operator : is_read 12 1 (codes "a b.") ≡ false
 unfolding fixed_names operators reading
 is_read-counterexample-operator = refl
