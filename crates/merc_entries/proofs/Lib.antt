@@ -7,3 +7,4 @@ pub mod Joined
 pub mod KeyLaws
 pub mod SameKeys
 pub mod UnitReading
+pub mod LibraryReads

@@ -9,3 +9,4 @@ pub mod DoubleFaults
 pub mod FirstPlaces
 pub mod EntriesExamples
 pub mod DoubleExamples
+pub mod UnitsExamples

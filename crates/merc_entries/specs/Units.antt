@@ -1,9 +1,15 @@
 -- The items of the library units.
-use Rattle.std.specs.Prelude.{◌≡◌, ◌≢◌, ℕ, ◌==◌, List, [], Some, codes, if◌then◌else◌}
+use Rattle.std.specs.Prelude.{◌≡◌, ◌≢◌, ℕ, ◌==◌, List, [], Some, codes, slice_get, if◌then◌else◌}
+use Rattle.std.specs.Option.{unwrap_or}
+use Rattle.merc_base.specs.Names.{fixed_names}
 use Rattle.merc_prelude.specs.Units.{unit_text}
 use Rattle.merc_tree.specs.Term.{Term}
 use Rattle.merc_terms.specs.Texts.{ReadsItems}
 use Rattle.merc_entries.specs.declared.units.Units.{Units}
+
+-- the text of a constant, nothing for another name
+abbrev pub constant_text : ℕ → List ℕ
+constant_text name = unwrap_or (slice_get fixed_names name) []
 
 -- the items of a unit; a name of no unit and a unit without a text have none
 abbrev pub items_of : Units → ℕ → List Term

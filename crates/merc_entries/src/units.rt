@@ -1,11 +1,14 @@
 //! The items of the library units.
-ghost use Rattle.std.specs.Prelude.{◌≡◌, ℕ, true, List, [], ◌++◌, is_some, IfOk};
+ghost use Rattle.std.specs.Prelude.{◌≡◌, ◌≤◌, ℕ, true, List, [], ◌++◌, length, is_some, Some, IfOk};
+ghost use Rattle.std.specs.List.{IsDistinct};
 ghost use Rattle.std.specs.Option.{option_copied, unwrap_or};
+ghost use Rattle.std.specs.Str.{bytes_eq};
+ghost use Rattle.merc_base.specs.Names.{HoldsFixed};
 ghost use Rattle.merc_prelude.specs.Units.{unit_text};
-ghost use Rattle.merc_entries.specs.Units.{items_of, AreUnits, IsUnit};
+ghost use Rattle.merc_entries.specs.Units.{constant_text, items_of, AreUnits, IsUnit};
 
-use merc_base::{Name, Names, NoMemory};
-use merc_prelude::unit;
+use merc_base::{Fault, Name, Names, NoMemory};
+use merc_prelude::unit as text_of;
 use merc_terms::read_text;
 use merc_tree::Terms;
 use std::alloc::Global;
@@ -40,24 +43,34 @@ pub fn read_units(alloc: Global, names: &mut Names) -> Result<Units, NoMemory>
     ensures read { IfOk result (λ units. AreUnits names.old names.new (items_of units)) }
     ensures grows { (more : List (List ℕ)) × (names.new ≡ names.old ++ more) }
 {
-    let list = read_unit(alloc, b"list", names)?;
-    let bool = read_unit(alloc, b"bool", names)?;
-    let maybe = read_unit(alloc, b"maybe", names)?;
+    let list = read_unit(alloc, Name::LIST, names)?;
+    let bool = read_unit(alloc, Name::BOOL, names)?;
+    let maybe = read_unit(alloc, Name::MAYBE, names)?;
     Ok(Units { list, bool, maybe })
 }
 
-// The items of one unit, for which the library has a text.
-fn read_unit(alloc: Global, name: &[u8], names: &mut Names) -> Result<Terms, NoMemory>
-    requires { is_some (unit_text name.now) ≡ true }
-    ensures read { IfOk result (IsUnit names.old names.new name.now) }
+// The items of one unit, for which the library has a text. Such a text is read: none is refused.
+fn read_unit(alloc: Global, unit: Name, names: &mut Names) -> Result<Terms, NoMemory>
+    requires { is_some (unit_text (constant_text unit)) ≡ true }
+    ensures read { IfOk result (IsUnit names.old names.new (constant_text unit)) }
     ensures grows { (more : List (List ℕ)) × (names.new ≡ names.old ++ more) }
 {
-    let text = match unit(name) {
-        Some(text) => text,
-        None => return Err(NoMemory),
-    };
+    let text = library_text(names, unit);
     match read_text(alloc, text, names) {
         Ok(terms) => Ok(terms),
-        Err(_) => Err(NoMemory),
+        Err(Fault::NoMemory) => Err(NoMemory),
+        Err(Fault::Refused(_)) => unreachable!(),
     }
+}
+
+// The text of a unit of the library.
+fn library_text(names: &Names, unit: Name) -> &'static [u8]
+    requires { is_some (unit_text (constant_text unit)) ≡ true }
+    ensures value { unit_text (constant_text unit) ≡ Some result.now }
+    ensures short { length result.now ≤ 1000 }
+    ensures fixed { HoldsFixed names.now }
+    ensures distinct { IsDistinct bytes_eq names.now }
+{
+    let name = names.text(unit).unwrap();
+    text_of(name).unwrap()
 }

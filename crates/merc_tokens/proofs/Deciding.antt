@@ -1,5 +1,5 @@
 -- The tokens of a text are computed.
-use Rattle.std.proofs.Common.{◌≡◌, ℕ, zero, suc, ◌+◌, Bool, true, false, ◌==◌, List, [], ◌∷◌, take, drop, Option, Some, None, cond, refl, sym, ap, subst, ◌∙◌, arith}
+use Rattle.std.proofs.Common.{◌≡◌, ℕ, zero, suc, ◌+◌, Bool, false, ◌==◌, List, [], ◌∷◌, take, drop, Option, Some, None, cond, refl, sym, ap, subst, ◌∙◌, arith}
 use Rattle.std.proofs.lemmas.List.{drop-drop}
 use Rattle.std.proofs.lemmas.List.Sums.{sum_by-append}
 use Rattle.std.proofs.lemmas.Option.{same_Some}
@@ -10,7 +10,7 @@ use Rattle.merc_tokens.specs.declared.pieces.Spelling.{Spelling}
 use Rattle.merc_tokens.specs.declared.pieces.Piece.{Piece}
 use Rattle.merc_tokens.specs.declared.pieces.Piece.TheVariants.{Gap, Token, Fault}
 use Rattle.merc_tokens.specs.Pieces.{first_piece}
-use Rattle.merc_tokens.specs.Tokens.{SpelledToken, HasTokensFrom, is_name, line_at, token_at}
+use Rattle.merc_tokens.specs.Tokens.{SpelledToken, HasTokensFrom, is_name, line_at}
 use Rattle.merc_tokens.specs.Tokens.HasTokensFrom.{ends, gap, token}
 
 -- the tokens of what is left of a text, from a place and a line on, directly behind a name or not
