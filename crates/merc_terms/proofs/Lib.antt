@@ -18,3 +18,4 @@ pub mod ItemLaws
 pub mod OutcomesExamples
 pub mod TextSteps
 pub mod TextLaws
+pub mod TextExamples
