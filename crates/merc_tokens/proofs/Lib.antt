@@ -10,3 +10,4 @@ pub mod RefusalLaws
 pub mod NameTables
 pub mod TextExamples
 pub mod FirstFaultExamples
+pub mod Deciding
