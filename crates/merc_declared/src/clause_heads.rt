@@ -12,8 +12,13 @@ use merc_entries::{Entry, KeySet, key_of};
 use merc_item_forms::{Item, is_foreign};
 use std::alloc::Global;
 
-/// Refuses the first item of the file that goes together with no other: a clause or a mode without a declaration of
-/// its predicate, a clause whose head has another module's name, and a predicate without a clause.
+/// Checks that the clauses and the declarations of the file go together. The entries stand in the order of their places.
+///
+/// # Errors
+///
+/// `Refused` says the first item that goes together with no other: a clause or a mode without a declaration of its
+/// predicate, a clause whose head has another module's name, or a predicate without a clause. `NoMemory` says that
+/// memory was refused.
 pub fn check_clauses(alloc: Global, entries: &[Entry<'_>], own: Name) -> Result<(), Fault>
     requires order { NeverFalls (entry_values entries.now) }
     ensures fine { IfOk result (λ _. HasNone (AtPlaces Undeclared (IsAlone own (entry_values entries.now)))) }

@@ -23,8 +23,12 @@ use merc_tree::{Shape, TermRef};
 use std::alloc::Global;
 use std::collections::BTreeSet;
 
-/// Refuses the first declaration of the file that names an unknown type, or a type declaration with a variable that
-/// is no parameter of its head.
+/// Checks that the declarations of the file name known types, and that each variable in a type's declaration is a
+/// parameter of its head. The entries stand in the order of their places.
+///
+/// # Errors
+///
+/// `Refused` says the first declaration that does not. `NoMemory` says that memory was refused.
 pub fn check_types(
     alloc: Global,
     entries: &[Entry<'_>],

@@ -17,8 +17,13 @@ use std::collections::BTreeMap;
 // The most modes of a predicate.
 const MODE_LIMIT: usize = 16;
 
-/// Refuses the first predicate of the file that lacks a mode or one of its modes a category, or that has more than
-/// 16 modes. Where both stand at one place, the lack is what is told.
+/// Checks that each predicate of the file has a mode, each of its modes a category, and none more than 16 modes. The
+/// entries stand in the order of their places.
+///
+/// # Errors
+///
+/// `Refused` says the first predicate that does not keep to this; where it lacks something and has too many, the lack is
+/// what is told. `NoMemory` says that memory was refused.
 pub fn check_modes(alloc: Global, entries: &[Entry<'_>]) -> Result<(), Fault>
     requires order { NeverFalls (entry_values entries.now) }
     ensures fine { IfOk result (λ _. HasNone (HasModeFault (entry_values entries.now))) }

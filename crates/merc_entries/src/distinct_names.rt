@@ -40,6 +40,10 @@ impl DistinctNames {
     }
 
     /// Puts a name behind the others if it is new, and says whether it is.
+    ///
+    /// # Errors
+    ///
+    /// `NoMemory` where memory was refused.
     pub fn insert(&mut self, name: Name) -> Result<bool, NoMemory>
         ensures new { IfOk result (λ new. new ≡ not (is_in name self.old)) }
         ensures names { OnOk result (self.new ≡ (if is_in name self.old then self.old else self.old ++ name ∷ [])) }

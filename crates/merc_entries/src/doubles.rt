@@ -26,7 +26,11 @@ use modes::Mode;
 use places::{both_later, earlier};
 use std::alloc::Global;
 
-/// The first doubled declaration: at the later of the two items. The entries stand in the order of their places.
+/// Checks that nothing is declared twice. The entries stand in the order of their places.
+///
+/// # Errors
+///
+/// `Refused` says the first doubled declaration, at the later of the two items. `NoMemory` says that memory was refused.
 pub fn check_doubles(alloc: Global, entries: &[Entry<'_>]) -> Result<(), Fault>
     requires order { NeverFalls (entry_values entries.now) }
     ensures fine { IfOk result (λ _. (place : PlaceValue) → HasDouble (entry_values entries.now) place → ⊥) }

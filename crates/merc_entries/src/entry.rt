@@ -6,6 +6,7 @@ use merc_item_forms::Item;
 /// An item in its place.
 #[derive(Drop)]
 pub struct Entry<'a> {
+    /// What the item is.
     pub item: Item<'a>,
     /// The item's span in its own text.
     pub span: Span,

@@ -18,6 +18,10 @@ use merc_tree::{TermRef, Terms};
 use std::alloc::Global;
 
 /// The items of a file in order, with the items of each unit behind the first import of it.
+///
+/// # Errors
+///
+/// `NoMemory` where memory was refused.
 pub fn join<'a>(
     alloc: Global,
     terms: &'a Terms,
@@ -94,6 +98,10 @@ fn push_unit<'a>(
 }
 
 /// The units that an item imports, in order. What is no name is left out.
+///
+/// # Errors
+///
+/// `NoMemory` where memory was refused.
 pub fn imports(alloc: Global, item: &Item<'_>) -> Result<Vec<Name>, NoMemory>
     ensures { IfOk result (λ units. units.items ≡ imports (item_value item.now)) }
 {

@@ -36,6 +36,10 @@ impl KeySet {
     }
 
     /// Adds a key, or nothing where there is none.
+    ///
+    /// # Errors
+    ///
+    /// `NoMemory` where memory was refused.
     pub fn insert(&mut self, key: Option<Key>) -> Result<(), NoMemory>
         ensures { OnOk result ((found : List key_record) → has_key self.new found ≡ (has_key self.old found || are_keys found (keys_at key))) }
     {

@@ -8,6 +8,8 @@ mod joining;
 mod key;
 mod key_set;
 mod moded;
+#[cfg(test)]
+mod tests;
 mod units;
 
 pub use distinct_names::DistinctNames;

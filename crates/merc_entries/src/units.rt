@@ -39,6 +39,10 @@ impl Units {
 }
 
 /// The items of the library units. Their names are put into the table.
+///
+/// # Errors
+///
+/// `NoMemory` where memory was refused.
 pub fn read_units(alloc: Global, names: &mut Names) -> Result<Units, NoMemory>
     ensures read { IfOk result (λ units. AreUnits names.old names.new (items_of units)) }
     ensures grows { (more : List (List ℕ)) × (names.new ≡ names.old ++ more) }

@@ -8,6 +8,8 @@ mod heads;
 mod item;
 mod parameters;
 mod parts;
+#[cfg(test)]
+mod tests;
 
 pub use arguments::{argument_mode, argument_type, is_moded};
 pub use forms::{check_forms, own_name};

@@ -10,9 +10,8 @@ use Rattle.merc_base.specs.declared.refusal.LimitName.TheVariants.{Arity, Modes}
 use Rattle.merc_tree.specs.Term.{Term}
 use Rattle.merc_item_forms.specs.Items.{item_of}
 use Rattle.merc_item_forms.specs.Forms.{words}
-use Rattle.merc_item_forms.specs.FormFaults.{Rises}
+use Rattle.merc_item_forms.specs.FormFaults.{Rises, HasFormFault, no_item, wrong, outside, wide}
 use Rattle.merc_entries.specs.Entries.{Entry}
-use Rattle.merc_item_forms.specs.FormFaults.{HasFormFault, no_item, wrong, outside, wide}
 use Rattle.merc_declared.specs.ModeFaults.{HasModeFault, missing, many}
 use Rattle.merc_items.specs.Phases.{HasFault, form, double, unknown_type, mode, alone}
 use Rattle.merc_items.proofs.FaultPlaces.{IsPlace, among-whole, term-of_places}

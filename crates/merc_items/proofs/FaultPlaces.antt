@@ -5,14 +5,11 @@ use Rattle.merc_base.specs.declared.place.Place.{Place}
 use Rattle.merc_base.specs.declared.refusal.Rule.{Rule}
 use Rattle.merc_base.specs.declared.refusal.Detail.{Detail}
 use Rattle.merc_tree.specs.Term.{Term, span_of}
-use Rattle.merc_item_forms.specs.Items.{Item, item_of}
+use Rattle.merc_item_forms.specs.Items.{Item, item_of, place_of}
 use Rattle.merc_item_forms.specs.Forms.{is_in}
-use Rattle.merc_item_forms.specs.FormFaults.{Rises}
-use Rattle.merc_entries.specs.Entries.{Entry, Key, Declared, entries, entries_from, imports, unit_entries, with_units, types_of, constructors_of, predicates_of, modes_of, is_key, declared_by}
-use Rattle.merc_item_forms.specs.Items.{place_of}
+use Rattle.merc_item_forms.specs.FormFaults.{Rises, HasFormFault, no_item, wrong, outside, wide}
+use Rattle.merc_entries.specs.Entries.{Entry, Key, Declared, entries, entries_from, imports, unit_entries, with_units, types_of, constructors_of, predicates_of, modes_of, is_key, declared_by, key, is_own, own_entries}
 use Rattle.merc_entries.specs.DoubleFaults.{IsAgain, type_keys, at_start, import_place, later, HasDouble}
-use Rattle.merc_entries.specs.Entries.{key, is_own, own_entries}
-use Rattle.merc_item_forms.specs.FormFaults.{HasFormFault, no_item, wrong, outside, wide}
 use Rattle.merc_declared.specs.ModeFaults.{HasModeFault, missing, many}
 use Rattle.merc_items.specs.Phases.{HasFault, form, double, unknown_type, mode, alone}
 use Rattle.merc_entries.specs.DoubleFaults.HasDouble.{type_again, constructor_again, arithmetic, predicate_again, error_again, mode_again, bool_and_maybe}
