@@ -8,3 +8,4 @@ pub mod KeyLaws
 pub mod SameKeys
 pub mod UnitReading
 pub mod LibraryReads
+pub mod ConstantTexts

@@ -1,5 +1,5 @@
 -- The library's texts are read, whatever the table of names holds behind the constants.
-use Rattle.std.proofs.Common.{◌≡◌, ℕ, Bool, true, false, List, [], ◌∷◌, Option, Some, None, find, cond, refl, subst, codes}
+use Rattle.std.proofs.Common.{◌≡◌, ℕ, true, false, List, [], ◌∷◌, Option, Some, find, cond, refl, subst, codes}
 use Rattle.std.specs.List.{IsDistinct}
 use Rattle.std.specs.Option.{IfSome, option_map}
 use Rattle.std.specs.Str.{bytes_eq}
@@ -71,7 +71,7 @@ are_units before fixed =
       after = maybe.after;
       items = items_of (record { list = list.terms; bool = bool.terms; maybe = maybe.terms });
       are = all_units before list.after bool.after maybe.after list.terms bool.terms maybe.terms
-      (record { text = _; text_is = list_text; reads = list.reads })
-      (record { text = _; text_is = bool_text; reads = bool.reads })
-      (record { text = _; text_is = maybe_text; reads = maybe.reads });
+          (record { text = _; text_is = list_text; reads = list.reads })
+          (record { text = _; text_is = bool_text; reads = bool.reads })
+          (record { text = _; text_is = maybe_text; reads = maybe.reads });
     }

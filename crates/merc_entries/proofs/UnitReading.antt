@@ -1,22 +1,23 @@
 -- The items of the units, read one text behind the other.
 use Rattle.std.proofs.Common.{◌≡◌, ◌≢◌, ℕ, true, List, [], is_some, refl, codes, ne_eqb}
+use Rattle.merc_base.specs.Names.{fixed_names}
 use Rattle.merc_prelude.specs.Units.{units, unit_text}
 use Rattle.merc_tree.specs.Term.{Term}
 use Rattle.merc_entries.specs.declared.units.Units.{Units}
-use Rattle.merc_entries.specs.Units.{items_of, AreUnits, IsUnit}
+use Rattle.merc_entries.specs.Units.{constant_text, items_of, AreUnits, IsUnit}
 
 -- the three units have a text
 
-pub list_there : is_some (unit_text (codes "list")) ≡ true
-unfolding units
+pub list_there : is_some (unit_text (constant_text 59)) ≡ true
+unfolding units fixed_names
 list_there = refl
 
-pub bool_there : is_some (unit_text (codes "bool")) ≡ true
-unfolding units
+pub bool_there : is_some (unit_text (constant_text 60)) ≡ true
+unfolding units fixed_names
 bool_there = refl
 
-pub maybe_there : is_some (unit_text (codes "maybe")) ≡ true
-unfolding units
+pub maybe_there : is_some (unit_text (constant_text 61)) ≡ true
+unfolding units fixed_names
 maybe_there = refl
 
 -- other names than those of the three units with a text

@@ -1,5 +1,5 @@
 -- The names of the library's units.
-use Rattle.std.specs.Prelude.{◌≡◌, [], refl, codes}
+use Rattle.std.specs.Prelude.{◌≡◌, refl, codes}
 use Rattle.merc_base.specs.Names.{fixed_names}
 use Rattle.merc_entries.specs.Units.{constant_text}
 

@@ -1,7 +1,9 @@
+use Rattle.merc_base.specs.Names.{fixed_names}
 use Rattle.merc_entries.proofs.UnitReading.{all_units, list_there, bool_there, maybe_there}
 use Rattle.merc_entries.proofs.units.read_units.Goals as goal
 
 pub returns-clause-read : goal.returns-clause-read
+unfolding fixed_names
 returns-clause-read c =
     all_units c.args.names.now c.read_unit.new.names c.read_unit-2.new.names c.read_unit-3.new.names
     c.in_ok-list.list c.in_ok-bool.bool c.in_ok-maybe.maybe
