@@ -179,11 +179,7 @@ impl ModeCounts {
     {
         match item {
             Item::Predicate(head, category) => {
-                let own = if has_mode(head, category) {
-                    1
-                } else {
-                    0
-                };
+                let own = if has_mode(head, category) { 1 } else { 0 };
                 own + self.at(key_of(head)).count > MODE_LIMIT
             }
             _ => false,

@@ -7,8 +7,14 @@ ghost use Rattle.merc_item_forms.specs.Forms.{is_application, is_variable, is_fo
 ghost use Rattle.merc_item_forms.specs.ItemValue.{item_value};
 ghost use Rattle.merc_item_forms.specs.FormChecks.{are_wrong_parameters, are_wrong_constructors, is_wrong_type, is_wrong_predicate, is_wrong_mode, first_of, wide_fault, least_fault, fault_of};
 
-use crate::arguments::{are_wrong_arguments, category_word, first_argument_word, first_constructor_word, first_mode_word, first_unit_word, has_wide_type, lacks_category};
-use crate::heads::{is_application, is_foreign, is_function_head, is_head, is_outside_type, is_variable, is_wide, is_wrong_head};
+use crate::arguments::{
+    are_wrong_arguments, category_word, first_argument_word, first_constructor_word,
+    first_mode_word, first_unit_word, has_wide_type, lacks_category,
+};
+use crate::heads::{
+    is_application, is_foreign, is_function_head, is_head, is_outside_type, is_variable, is_wide,
+    is_wrong_head,
+};
 use crate::item::Item;
 use crate::parameters::repeats;
 use crate::parts::{PartTest, has_part};

@@ -30,6 +30,17 @@ module _ (before after after' : List (List ℕ)) (distinct : IsDistinct bytes_eq
   unit-distinct : (name : List ℕ) (items : List Term) → IsUnit before after name items → IsDistinct bytes_eq after
   unit-distinct name items unit = ReadsItems-distinct before unit.text distinct after items unit.reads
 
+-- units with the same items of the three that have a text are the same
+same_items : (before after before' after' : List (List ℕ)) (items items' : ℕ → List Term) → AreUnits before after items → AreUnits before' after' items'
+    → items 59 ≡ items' 59 → items 60 ≡ items' 60 → items 61 ≡ items' 61 → items ≡ items'
+same_items before after before' after' items items' units units' list bool maybe =
+    let P : ℕ → Type 0 = λ n. items n ≡ items' n in
+    fun_ext (λ name.
+    by_number 59 P name (name == 59) refl list (λ no_list.
+    by_number 60 P name (name == 60) refl bool (λ no_bool.
+    by_number 61 P name (name == 61) refl maybe (λ no_maybe.
+    units.others name no_list no_bool no_maybe ∙ sym (units'.others name no_list no_bool no_maybe)))))
+
 -- and so have all units together
 pub AreUnits-unique : (before after after' : List (List ℕ)) (items items' : ℕ → List Term) → IsDistinct bytes_eq before
     → AreUnits before after items → AreUnits before after' items' → (after ≡ after') × (items ≡ items')
@@ -41,12 +52,7 @@ AreUnits-unique before after after' items items' distinct units units' =
     let bool_distinct = unit-distinct units.after_list units.after_bool units.after_bool list_distinct (codes "bool") (items 60) units.bool in
     let maybe' = subst (λ (names : List (List ℕ)). IsUnit names after' (codes "maybe") (items' 61)) (sym bool.0) units'.maybe in
     let maybe = same_unit units.after_bool after after' bool_distinct (codes "maybe") (items 61) (items' 61) units.maybe maybe' in
-    let P : ℕ → Type 0 = λ n. items n ≡ items' n in
-    (maybe.0, fun_ext (λ name.
-        by_number 59 P name (name == 59) refl list.1 (λ no_list.
-        by_number 60 P name (name == 60) refl bool.1 (λ no_bool.
-        by_number 61 P name (name == 61) refl maybe.1 (λ no_maybe.
-        units.others name no_list no_bool no_maybe ∙ sym (units'.others name no_list no_bool no_maybe))))))
+    (maybe.0, same_items before after before after' items items' units units' list.1 bool.1 maybe.1)
 
 -- the items of a file are one module at most,
 pub IsModuleOf-unique : (before after after' : List (List ℕ)) (terms : List Term) (found found' : Module) → IsDistinct bytes_eq before

@@ -17,7 +17,10 @@ use merc_base::{Name, NoMemory, Span};
 use merc_entries::{DistinctNames, Entry, imports};
 use merc_item_forms::{Item, item_of, own_name};
 use merc_operands::{arguments, members};
-use merc_tree::{Clause, Clauses, Constructor, Constructors, Module, NameList, PredDecl, PredDecls, Shape, TermRef, Terms, TypeDef, TypeDefs};
+use merc_tree::{
+    Clause, Clauses, Constructor, Constructors, Module, NameList, PredDecl, PredDecls, Shape,
+    TermRef, Terms, TypeDef, TypeDefs,
+};
 use std::alloc::Global;
 
 /// The module that the items of a file and of the units that it imports are. Where its name is missing, or that of a
