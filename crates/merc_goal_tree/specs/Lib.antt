@@ -1,0 +1,6 @@
+pub mod Nodes
+pub mod Roots
+pub mod Parts
+pub mod Views
+pub mod Entries
+pub mod EntryCode

@@ -1,0 +1,1 @@
+//! Goals with ample memory.
