@@ -4,3 +4,4 @@ pub mod Parts
 pub mod Views
 pub mod Entries
 pub mod EntryCode
+pub mod NodesExamples
