@@ -8,13 +8,10 @@ use Rattle.merc_goal_tree.specs.declared.entries.Root.TheVariants.{Simple as Sim
 use Rattle.merc_goal_tree.specs.Nodes.{Node, Nodes, Simple, Conjunction, Parallel, Disjunction, Conditional, Negation, Quantified, no_nodes, more_nodes, nodes_of, list_of, span_of}
 use Rattle.merc_goal_tree.specs.Roots.{root_of, goals_of, arity_of, joining, joined}
 use Rattle.merc_goal_tree.specs.Entries.{built, node_of, closed, entries_of, joined_entries, all_entries, starts_from, IsNode, AreNodes}
+use Rattle.merc_goal_tree.specs.RootLaws.{list_of-nodes_of}
 use Rattle.merc_goal_tree.specs.EntryCode.{built-append, built-entries_of, node_of-entries_of}
 
 -- goals and their entries
-
-pub list_of-nodes_of : (goals : List Node) → list_of (nodes_of goals) ≡ goals
-list_of-nodes_of [] = refl
-list_of-nodes_of (first ∷ rest) = ap (λ l. first ∷ l) (list_of-nodes_of rest)
 
 joined_entries-nodes_of : (goals : List Node) → joined_entries (nodes_of goals) ≡ all_entries goals
 joined_entries-nodes_of [] = refl

@@ -1,5 +1,6 @@
 pub mod Nodes
 pub mod Roots
+pub mod RootLaws
 pub mod Parts
 pub mod Views
 pub mod Entries

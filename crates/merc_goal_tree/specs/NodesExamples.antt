@@ -1,13 +1,13 @@
 -- Worked examples of goals: what they are at their roots, their parts, and goals that become one.
-use Rattle.std.specs.Prelude.{◌≡◌, ℕ, List, [], ◌∷◌, length, map, refl}
+use Rattle.std.specs.Prelude.{◌≡◌, ℕ, List, [], ◌∷◌, map, refl}
 use Rattle.std.proofs.Common.{ap}
 use Rattle.merc_base.specs.declared.place.Span.{Span}
 use Rattle.merc_goal_tree.specs.declared.goal.SimpleGoal.TheVariants.{Call}
 use Rattle.merc_goal_tree.specs.declared.entries.Entry.{Entry}
 use Rattle.merc_goal_tree.specs.declared.entries.Root.{Root}
 use Rattle.merc_goal_tree.specs.declared.entries.Root.TheVariants.{Simple as SimpleRoot, Conjunction as ConjunctionRoot, Disjunction as DisjunctionRoot, Conditional as ConditionalRoot, Negation as NegationRoot, Quantified as QuantifiedRoot}
-use Rattle.merc_goal_tree.specs.declared.node_ref.NodeView.TheVariants.{Conjunction as ConjunctionView, Parallel as ParallelView, Negation as NegationView}
-use Rattle.merc_goal_tree.specs.Nodes.{Node, Simple, Conjunction, Parallel, Disjunction, Conditional, Negation, Quantified, no_nodes, more_nodes}
+use Rattle.merc_goal_tree.specs.declared.node_ref.NodeView.TheVariants.{Conjunction as ConjunctionView, Parallel as ParallelView}
+use Rattle.merc_goal_tree.specs.Nodes.{Node, Simple, Conjunction, Disjunction, Conditional, Negation, Quantified, no_nodes, more_nodes}
 use Rattle.merc_goal_tree.specs.Roots.{root_of, goals_of, arity_of, joining, joined}
 use Rattle.merc_goal_tree.specs.Parts.{parts_of}
 use Rattle.merc_goal_tree.specs.Views.{viewed}

@@ -1,8 +1,8 @@
 -- The entries of the goals that a goal joins are all but its root.
-use Rattle.std.proofs.Common.{length, ap, sym, refl, ◌≡◌, ◌∙◌}
+use Rattle.std.proofs.Common.{length, ap, sym, ◌≡◌, ◌∙◌}
 use Rattle.merc_goal_tree.specs.Roots.{arity_of, goals_of}
 use Rattle.merc_goal_tree.specs.Entries.{node_of, all_entries}
-use Rattle.merc_goal_tree.specs.EntryCode.{arity_is}
+use Rattle.merc_goal_tree.specs.RootLaws.{arity_is}
 use Rattle.merc_goal_tree.proofs.EntryLaws.{built_from, AreNodes_from}
 use Rattle.merc_goal_tree.proofs.Cuts.{goals_part, root_entry_is}
 use Rattle.merc_goal_tree.proofs.node_ref.NodeRef.goals.Goals as goal

@@ -4,7 +4,7 @@ use Rattle.merc_goal_tree.specs.declared.entries.Root.{Root}
 use Rattle.merc_goal_tree.specs.declared.entries.Root.TheVariants.{Conjunction as ConjunctionRoot, Parallel as ParallelRoot, Disjunction as DisjunctionRoot}
 use Rattle.merc_goal_tree.specs.Nodes.{Node, span_of}
 use Rattle.merc_goal_tree.specs.Roots.{root_of, goals_of, joining}
-use Rattle.merc_goal_tree.specs.EntryCode.{joining_is}
+use Rattle.merc_goal_tree.specs.RootLaws.{joining_is}
 use Rattle.merc_goal_tree.proofs.node_ref.NodeRef.view.Goals as goal
 
 made_of : (node : Node) (root : Root) (goals : List Node) → root ≡ root_of node → goals ≡ goals_of node → joining root (span_of node) goals ≡ node

@@ -4,7 +4,7 @@ use Rattle.std.proofs.lemmas.Option.{slice_get_past}
 use Rattle.std.specs.List.{slice_get, slice_range}
 use Rattle.merc_goal_tree.specs.Entries.{built}
 use Rattle.merc_goal_tree.proofs.EntryLaws.{length-starts_from, IsNode_from, node_from}
-use Rattle.merc_goal_tree.proofs.Cuts.{Between, between}
+use Rattle.merc_goal_tree.proofs.Cuts.{between}
 use Rattle.merc_goal_tree.proofs.nodes.Nodes.get.Goals as goal
 
 pub returns-then-index-len : goal.returns-then-index-len
