@@ -31,7 +31,7 @@ quad = record {
 }
 
 abbrev pub source : Source
-source = record { name = codes "example"; imports_int = true; predicates = twice ∷ quad ∷ [] }
+source = record { name = codes "example"; predicates = twice ∷ quad ∷ [] }
 
 -- the variables of the head come first, and one that comes again keeps its number
 pub variables_of-example : variables_of quad.head quad.body ≡ codes "N" ∷ codes "M" ∷ codes "K" ∷ []

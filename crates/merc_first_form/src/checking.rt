@@ -7,8 +7,9 @@ ghost use Rattle.std.specs.Str.{bytes_eq};
 ghost use Rattle.merc_base.specs.Texts.{is_among};
 ghost use Rattle.merc_first_form.specs.FirstForm.{is_plain_name, are_distinct, in_places, is_input, is_output, has_value, operands_of, modes_of, bind_outputs, bind_call, bind_conjunct, bind_body, is_call, is_body, is_predicate, are_predicates, is_module, is_goal};
 
-use crate::syntax::{Conjunct, Conjuncts, Expression, Mode, Source, Operand, Predicate};
+use crate::syntax::{Conjunct, Conjuncts, Expression, Mode, Operand, Predicate, Source};
 use merc_base::{NoMemory, Text, TextTable};
+use merc_value::is_plain;
 use std::alloc::Global;
 
 // The most predicates of a module.
@@ -17,30 +18,8 @@ const PREDICATE_LIMIT: usize = 64;
 // The most arguments of a predicate.
 const ARGUMENT_LIMIT: usize = 64;
 
-// The lower-case words that are operators or words of the language.
-const RESERVED_WORDS: [&[u8]; 21] = [
-    b"module",
-    b"end_module",
-    b"import_module",
-    b"mode",
-    b"type",
-    b"else",
-    b"if",
-    b"then",
-    b"some",
-    b"all",
-    b"not",
-    b"pred",
-    b"func",
-    b"is",
-    b"div",
-    b"mod",
-    b"rem",
-    b"true",
-    b"fail",
-    b"false",
-    b"error",
-];
+// The lower-case words of the language that are no operators.
+const RESERVED_WORDS: [&[u8]; 4] = [b"true", b"fail", b"false", b"error"];
 
 /// Whether a module is in the first form:
 ///
@@ -122,12 +101,11 @@ fn is_heading(earlier: &[Predicate], predicate: &Predicate) -> bool
         && are_distinct(head)
 }
 
-// Whether a name is none of the language's own words.
-#[tactic(auto, unfolding(crate::specs::FirstForm::reserved_words))]
+// Whether a name is a lower-case word that is none of the language's own.
 fn is_plain_name(name: &[u8]) -> bool
     ensures { result ≡ is_plain_name name.now }
 {
-    !is_word_among(name, &RESERVED_WORDS)
+    is_plain(name) && !is_word_among(name, &RESERVED_WORDS)
 }
 
 fn is_word_among(name: &[u8], words: &[&[u8]]) -> bool

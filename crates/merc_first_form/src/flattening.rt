@@ -20,7 +20,7 @@ pub fn procedures(alloc: Global, source: &Source) -> Result<Procedures, NoMemory
         let body = predicate.body.as_slice();
         let variables = clause_variables(alloc, predicate.head.as_slice(), body)?;
         let scope = Scope {
-            source: module,
+            source,
             variables: &variables,
         };
         bodies.push(flatten_body(alloc, &scope, body)?)?;
@@ -35,7 +35,7 @@ pub fn query(alloc: Global, source: &Source, goal: &Conjuncts) -> Result<Query, 
 {
     let variables = clause_variables(alloc, &[], goal.as_slice())?;
     let scope = Scope {
-        source: module,
+        source,
         variables: &variables,
     };
     let goals = flatten_body(alloc, &scope, goal.as_slice())?;
