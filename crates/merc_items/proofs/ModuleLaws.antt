@@ -17,12 +17,12 @@ use Rattle.merc_tree.specs.Term.{Term}
 use Rattle.merc_tree.specs.declared.declarations.Module.{Module}
 use Rattle.merc_terms.specs.Items.{HasItems}
 use Rattle.merc_terms.proofs.ReadingLaws.{HasItems-unique, RefusesItems-excludes}
-use Rattle.merc_items.specs.Entries.{entries}
+use Rattle.merc_entries.specs.Entries.{entries}
 use Rattle.merc_items.specs.Phases.{HasNoFault}
 use Rattle.merc_items.specs.ReadItems.{ReadsItems}
 use Rattle.merc_items.specs.ReadModule.{IsModule, RefusesModule}
 use Rattle.merc_items.specs.ReadModule.RefusesModule.{tokens as wrong_tokens, terms as wrong_terms, items as wrong_items}
-use Rattle.merc_items.specs.Units.{AreUnits, IsUnit}
+use Rattle.merc_entries.specs.Units.{AreUnits, IsUnit}
 
 -- which kind of token is spelled so
 abbrev IsSpelled : List (List ℕ) → Spelling → TokenKind → Type 0

@@ -9,17 +9,17 @@ use Rattle.merc_tokens.proofs.ReadsTo.{texts-grow}
 use Rattle.merc_tree.specs.Term.{Term}
 use Rattle.merc_terms.specs.Items.{RefusesItems, IsRefusal}
 use Rattle.merc_tree.specs.declared.declarations.Module.{Module}
-use Rattle.merc_items.specs.Entries.{Entry, entries}
-use Rattle.merc_items.specs.EntryValue.{NeverFalls}
-use Rattle.merc_items.specs.FormFaults.{Rises}
+use Rattle.merc_entries.specs.Entries.{Entry, entries}
+use Rattle.merc_entries.specs.EntryValue.{NeverFalls}
+use Rattle.merc_item_forms.specs.FormFaults.{Rises}
 use Rattle.merc_items.specs.ModuleFaults.{IsFirstFault}
 use Rattle.merc_items.specs.ModuleOf.{module_of}
 use Rattle.merc_items.specs.Phases.{HasNoFault}
-use Rattle.merc_items.specs.Units.{AreUnits}
+use Rattle.merc_entries.specs.Units.{AreUnits}
 use Rattle.merc_items.specs.ReadItems.{ReadsItems}
 use Rattle.merc_items.specs.ReadModule.{IsModule, RefusesModule}
 use Rattle.merc_items.specs.ReadModule.RefusesModule.{tokens as wrong_tokens, terms as wrong_terms, items as wrong_items}
-use Rattle.merc_items.proofs.EntryOrder.{entries_never_fall}
+use Rattle.merc_entries.proofs.EntryOrder.{entries_never_fall}
 use Rattle.merc_items.proofs.Rising.{items-rises}
 
 -- what is read with some names is read so with more

@@ -1,13 +1,12 @@
 //! The forms of small modules, the library units and what a module becomes that imports one.
 ghost use Rattle.std.specs.Prelude.{◌≡◌, ◌∷◌, ◌++◌, [], None, IfOk, OnOk};
 ghost use Rattle.merc_tree.specs.Term.{Application, none, more};
-ghost use Rattle.merc_items.specs.FormFaults.{Rises};
+ghost use Rattle.merc_item_forms.specs.FormFaults.{Rises};
 
 use crate::assembling::module_of;
-use crate::forms::check_forms;
-use crate::joining::join;
-use crate::units::{Units, read_units};
 use merc_base::{Construct, Detail, Fault, Name, Names, Place, Refusal, Rule, Span};
+use merc_entries::{Units, join, read_units};
+use merc_item_forms::check_forms;
 use merc_tree::Terms;
 use std::alloc::Global;
 use std::test::Fail;

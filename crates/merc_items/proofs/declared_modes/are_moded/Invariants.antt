@@ -1,6 +1,6 @@
 use Rattle.std.proofs.Common.{◌≡◌, length}
 use Rattle.std.specs.List.{list_all}
-use Rattle.merc_items.specs.Forms.{is_moded}
+use Rattle.merc_item_forms.specs.Forms.{is_moded}
 use Rattle.merc_items.proofs.declared_modes.are_moded.Given as goal
 
 abbrev pub invariant-loop-last : goal.invariant-loop-last

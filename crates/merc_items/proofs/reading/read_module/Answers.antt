@@ -1,8 +1,8 @@
 use Rattle.std.proofs.Common.{◌∙◌, ap, sym}
 use Rattle.std.proofs.lemmas.Result.{err_from_is_err_and}
-use Rattle.merc_items.specs.EntryValue.{entry_values}
+use Rattle.merc_entries.specs.EntryValue.{entry_values}
 use Rattle.merc_items.specs.ModuleOf.{module_of}
-use Rattle.merc_items.specs.Units.{items_of}
+use Rattle.merc_entries.specs.Units.{items_of}
 use Rattle.merc_items.proofs.ReadingLaws.{reads-rises, entries-order, items-refused, is_module}
 use Rattle.merc_items.proofs.reading.read_module.Goals as goal
 
