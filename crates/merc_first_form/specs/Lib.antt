@@ -1,3 +1,4 @@
+pub mod Chaining
 pub mod FirstForm
 pub mod FirstFormExamples
 pub mod FlatForm
