@@ -1,5 +1,5 @@
 -- What the definitions of FlatForm say of small clauses and goals.
-use Rattle.std.specs.Prelude.{◌≡◌, refl, true, List, [], ◌∷◌, codes, pos}
+use Rattle.std.specs.Prelude.{◌≡◌, refl, List, [], ◌∷◌, codes, pos}
 use Rattle.merc_tree.specs.declared.goal.Goal.TheVariants.{Assign, Build, Arithmetic, Call as CallGoal}
 use Rattle.merc_tree.specs.declared.goal.Symbol.TheVariants.{Int}
 use Rattle.merc_tree.specs.declared.goal.Operator.TheVariants.{Add}

@@ -4,3 +4,5 @@ pub mod FirstFormExamples
 pub mod FlatForm
 pub mod FlatFormExamples
 pub mod Reading
+pub mod ReadingParts
+pub mod ReadingExamples

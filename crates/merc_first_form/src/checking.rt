@@ -21,21 +21,9 @@ const ARGUMENT_LIMIT: usize = 64;
 // The lower-case words of the language that are no operators.
 const RESERVED_WORDS: [&[u8]; 4] = [b"true", b"fail", b"false", b"error"];
 
-/// Whether a module is in the first form:
-///
-/// - The names of the module and of its predicates are plain: none is a word of the language, such as `type` or `true`.
-/// - It has at most 64 predicates, no two of one name.
-/// - A predicate has 1 to 64 arguments, and its head has a variable for each, no two of one name.
-/// - Its body has at least one conjunct, and at most one call, which is of an earlier predicate and has an argument
-///   for each of that predicate's modes.
-/// - The head's inputs are bound before the body, and its conjuncts bind further variables from left to right. Each
-///   operand of an expression and each input of a call is an integer or a variable that is bound before the conjunct.
-///   The variable `V` of a `V = E` and each output of a call is a variable that is not bound yet, and no two outputs of
-///   a call are one variable.
-/// - Behind the body each variable of the head is bound.
-///
-/// Where memory is refused there is no answer.
-pub fn is_module(alloc: Global, source: &Source) -> Result<bool, NoMemory>
+/// Whether a module keeps the rules that [`source_of`](crate::source_of) tells. Where memory is refused there is no
+/// answer.
+pub(crate) fn is_module(alloc: Global, source: &Source) -> Result<bool, NoMemory>
     ensures { IfOk result (λ answer. answer ≡ is_module source.now) }
 {
     let predicates = source.predicates.as_slice();
@@ -45,10 +33,9 @@ pub fn is_module(alloc: Global, source: &Source) -> Result<bool, NoMemory>
     are_predicates(alloc, predicates)
 }
 
-/// Whether a goal over a module of the first form is in the first form: at least one conjunct, and at most one call,
-/// which is of one of the module's predicates. The rules of [`is_module`] on what is bound hold, where no variable is
-/// bound before the goal. Where memory is refused there is no answer.
-pub fn is_goal(alloc: Global, source: &Source, goal: &Conjuncts) -> Result<bool, NoMemory>
+/// Whether a goal over a module of the first form keeps the rules that [`goal_of`](crate::goal_of) tells. Where memory is
+/// refused there is no answer.
+pub(crate) fn is_goal(alloc: Global, source: &Source, goal: &Conjuncts) -> Result<bool, NoMemory>
     ensures { IfOk result (λ answer. answer ≡ is_goal source.now goal.now) }
 {
     let predicates = source.predicates.as_slice();

@@ -6,7 +6,7 @@ ghost use Rattle.merc_first_form.specs.FlatForm.{operand_names, conjunct_names, 
 ghost use Rattle.merc_first_form.specs.declared.syntax.Conjunct.TheVariants.{Equation, Call};
 ghost use Rattle.merc_first_form.specs.declared.syntax.Expression.TheVariants.{Single, Sum};
 
-use crate::syntax::{Conjunct, Conjuncts, Expression, Source, Operand, Query};
+use crate::syntax::{Conjunct, Conjuncts, Expression, Operand, Query, Source};
 use merc_base::{NoMemory, Sequence, Text, TextTable};
 use merc_tree::{Goal, Goals, Operator, Predicate, Procedures, Symbol, Var, Vars};
 use std::alloc::Global;

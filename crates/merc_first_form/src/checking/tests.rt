@@ -1,7 +1,5 @@
 use super::{is_goal, is_module};
-use crate::syntax::{
-    Conjunct, Conjuncts, Expression, Mode, Operand, Predicate, Source,
-};
+use crate::syntax::{Conjunct, Conjuncts, Expression, Mode, Operand, Predicate, Source};
 use merc_base::{NoMemory, Sequence, Text};
 use std::alloc::Global;
 use std::test::Fail;
