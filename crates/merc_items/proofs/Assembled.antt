@@ -11,15 +11,15 @@ use Rattle.merc_tree.specs.declared.declarations.Module.{Module}
 use Rattle.merc_items.specs.declared.declared_modes.ModeTable.{ModeTable}
 use Rattle.merc_items.specs.declared.parting.Part.{Part}
 use Rattle.merc_items.specs.declared.parting.Part.TheVariants.{File, Units}
-use Rattle.merc_items.specs.Items.{Item, Opening, Ending, Section, Import, TypeItem, PredicateItem, ModeItem, ClauseItem, OtherType, OtherFunction, OtherGrammar, OtherDeclaration, Formless, item_of}
-use Rattle.merc_items.specs.Forms.{is_in}
-use Rattle.merc_items.specs.Entries.{Entry, Key, imports, key_of, units_of, with_units}
-use Rattle.merc_items.specs.Phases.{is_own, own_entries, own_name}
+use Rattle.merc_item_forms.specs.Items.{Item, Opening, Ending, Section, Import, TypeItem, PredicateItem, ModeItem, ClauseItem, OtherType, OtherFunction, OtherGrammar, OtherDeclaration, Formless, item_of}
+use Rattle.merc_item_forms.specs.Forms.{is_in}
+use Rattle.merc_entries.specs.Entries.{Entry, Key, imports, key_of, units_of, with_units, is_own, own_entries}
+use Rattle.merc_item_forms.specs.FormFaults.{own_name}
 use Rattle.merc_items.specs.ModuleOf.{clauses_in, modes_in, module_of, pred_decls, pred_decls_of, type_defs, unit_items}
 use Rattle.merc_items.specs.Assembling.{pred_decl_of, preds_by, preds_in}
 use Rattle.merc_items.specs.DeclaredModes.{kept_modes}
 use Rattle.merc_items.specs.Parting.{kept, part_of}
-use Rattle.merc_items.proofs.ListSteps.{got, gone_on}
+use Rattle.merc_entries.proofs.ListSteps.{got, gone_on}
 
 -- the units that items import
 

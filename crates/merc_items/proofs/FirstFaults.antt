@@ -12,13 +12,16 @@ use Rattle.merc_base.specs.declared.refusal.Fault.{Fault}
 use Rattle.merc_base.specs.declared.refusal.Fault.TheVariants.{Refused, NoMemory}
 use Rattle.merc_tree.specs.Term.{Term}
 use Rattle.merc_terms.specs.Items.{IsRefusal}
-use Rattle.merc_items.specs.DoubleFaults.{IsFirstDouble, IsDoubleRefusal}
-use Rattle.merc_items.specs.Entries.{Entry}
-use Rattle.merc_items.specs.FormFaults.{IsFirstFormFault, IsFormRefusal}
+use Rattle.merc_entries.specs.DoubleFaults.{IsFirstDouble, IsDoubleRefusal, HasDouble}
+use Rattle.merc_entries.specs.Entries.{Entry}
+use Rattle.merc_item_forms.specs.FormFaults.{IsFirstFormFault, IsFormRefusal, HasFormFault, own_name}
 use Rattle.merc_items.specs.ModuleFaults.{IsFirstFault}
-use Rattle.merc_items.specs.PhaseFaults.{AtPlaces, HasNone, IsLeast, AnswersLeast}
-use Rattle.merc_items.specs.PhaseFaults.AtPlaces.{at}
-use Rattle.merc_items.specs.Phases.{HasFormFault, HasDouble, HasUnknownType, HasModeFault, IsAlone, HasFault, ComesFirst, HasNoFault, own_name}
+use Rattle.merc_declared.specs.PhaseFaults.{AtPlaces, HasNone, IsLeast, AnswersLeast}
+use Rattle.merc_declared.specs.PhaseFaults.AtPlaces.{at}
+use Rattle.merc_declared.specs.UnknownTypes.{HasUnknownType}
+use Rattle.merc_declared.specs.ModeFaults.{HasModeFault}
+use Rattle.merc_declared.specs.AloneItems.{IsAlone}
+use Rattle.merc_items.specs.Phases.{HasFault, ComesFirst, HasNoFault}
 use Rattle.merc_items.specs.Phases.HasFault.{form, double, unknown_type, mode, alone}
 use Rattle.merc_items.specs.Phases.ComesFirst.{earlier_phase, lesser_place, lesser_rule}
 

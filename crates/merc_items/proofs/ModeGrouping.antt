@@ -6,14 +6,13 @@ use Rattle.std.proofs.lemmas.List.{append-nil}
 use Rattle.merc_base.specs.declared.place.Span.{Span}
 use Rattle.merc_tree.specs.declared.declarations.ModeDecl.{ModeDecl}
 use Rattle.merc_items.specs.declared.declared_modes.ModeTable.{ModeTable}
-use Rattle.merc_items.specs.declared.key.Key.{Key as CodeKey}
+use Rattle.merc_entries.specs.declared.key.Key.{Key as CodeKey}
 use Rattle.merc_items.specs.DeclaredModes.{entry_modes, item_modes, kept_modes, listed, moded_predicate}
-use Rattle.merc_items.specs.Entries.{Entry, Key, is_key, key_of, has_mode}
-use Rattle.merc_items.specs.Items.{Item, Opening, Ending, Section, Import, TypeItem, PredicateItem, ModeItem, ClauseItem, OtherType, OtherFunction, OtherGrammar, OtherDeclaration, Formless}
+use Rattle.merc_entries.specs.Entries.{Entry, Key, is_key, key_of, has_mode, are_keys}
+use Rattle.merc_item_forms.specs.Items.{Item, Opening, Ending, Section, Import, TypeItem, PredicateItem, ModeItem, ClauseItem, OtherType, OtherFunction, OtherGrammar, OtherDeclaration, Formless}
 use Rattle.merc_items.specs.ModuleOf.{modes_in, modes_in_item}
-use Rattle.merc_items.specs.KeyValue.{key_value}
-use Rattle.merc_items.specs.Phases.{are_keys}
-use Rattle.merc_items.proofs.KeyLaws.{compare_keys, same-test, key-swap, test-equal, lookup-same, lookup-nothing, lookup-many}
+use Rattle.merc_entries.specs.KeyValue.{key_value}
+use Rattle.merc_entries.proofs.KeyLaws.{compare_keys, same-test, key-swap, test-equal, lookup-same, lookup-nothing, lookup-many}
 
 abbrev Group : Type 0
 Group = List ModeDecl

@@ -12,7 +12,7 @@ use Rattle.merc_terms.specs.Reading.Spells.{variable, integer, negative, text, c
 use Rattle.merc_terms.specs.Reading.SpellsArguments.{last_argument, argument}
 use Rattle.merc_terms.specs.Reading.SpellsItems.{last_item, items_tail, item as next_item}
 use Rattle.merc_terms.specs.Items.{HasItems, none, item}
-use Rattle.merc_items.specs.FormFaults.{Rises}
+use Rattle.merc_item_forms.specs.FormFaults.{Rises}
 use Rattle.merc_items.proofs.TokenLengths.{token-long}
 
 -- tokens begin at this byte or behind it, one behind the other

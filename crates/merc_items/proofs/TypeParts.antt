@@ -12,7 +12,7 @@ use Rattle.merc_tree.specs.Types.{TypeExpr, TypeApplication, more_types, types_o
 use Rattle.merc_tree.specs.TypeShape.{type_named, types_applied}
 use Rattle.merc_items.specs.ModuleOf.{declared_type, declared_types, named_type}
 use Rattle.merc_items.specs.DeclaredTypes.{with_part, with_parts, AreParts}
-use Rattle.merc_items.proofs.ListSteps.{got, gone_on}
+use Rattle.merc_entries.proofs.ListSteps.{got, gone_on}
 
 declared_list : (arguments : Terms) → types_of (map declared_type (list_of arguments)) ≡ declared_types arguments
 declared_list none = refl

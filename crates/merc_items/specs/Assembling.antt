@@ -6,9 +6,9 @@ use Rattle.merc_tree.specs.Shape.{arguments_of}
 use Rattle.merc_tree.specs.declared.declarations.PredDecl.{PredDecl}
 use Rattle.merc_tree.specs.declared.declarations.Clause.{Clause}
 use Rattle.merc_items.specs.declared.declared_modes.ModeTable.{ModeTable}
-use Rattle.merc_items.specs.Items.{Item, PredicateItem}
-use Rattle.merc_items.specs.Forms.{argument_type}
-use Rattle.merc_items.specs.Entries.{Entry, key_of}
+use Rattle.merc_item_forms.specs.Items.{Item, PredicateItem}
+use Rattle.merc_item_forms.specs.Forms.{argument_type}
+use Rattle.merc_entries.specs.Entries.{Entry, key_of}
 use Rattle.merc_items.specs.ModuleOf.{declared_type, head_name}
 use Rattle.merc_items.specs.DeclaredModes.{kept_modes}
 

@@ -5,11 +5,10 @@ use Rattle.merc_base.specs.declared.place.Span.{Span}
 use Rattle.merc_tree.specs.Shape.{arguments_of}
 use Rattle.merc_tree.specs.declared.declarations.ModeDecl.{ModeDecl}
 use Rattle.merc_items.specs.declared.declared_modes.ModeTable.{ModeTable}
-use Rattle.merc_items.specs.KeyValue.{key_value}
-use Rattle.merc_items.specs.Items.{Item, Opening, Ending, Section, Import, TypeItem, PredicateItem, ModeItem, ClauseItem, OtherType, OtherFunction, OtherGrammar, OtherDeclaration, Formless}
-use Rattle.merc_items.specs.Forms.{argument_mode}
-use Rattle.merc_items.specs.Entries.{Entry, Key, key_of, has_mode}
-use Rattle.merc_items.specs.Phases.{are_keys}
+use Rattle.merc_entries.specs.KeyValue.{key_value}
+use Rattle.merc_item_forms.specs.Items.{Item, Opening, Ending, Section, Import, TypeItem, PredicateItem, ModeItem, ClauseItem, OtherType, OtherFunction, OtherGrammar, OtherDeclaration, Formless}
+use Rattle.merc_item_forms.specs.Forms.{argument_mode}
+use Rattle.merc_entries.specs.Entries.{Entry, Key, key_of, has_mode, are_keys}
 use Rattle.merc_items.specs.ModuleOf.{mode_decl}
 
 -- the predicate for which an item declares a mode

@@ -2,7 +2,7 @@
 use Rattle.std.specs.Prelude.{ℕ, List}
 use Rattle.merc_base.specs.declared.refusal.Refusal.{Refusal}
 use Rattle.merc_tree.specs.Term.{Term}
-use Rattle.merc_items.specs.Entries.{Entry}
+use Rattle.merc_entries.specs.Entries.{Entry}
 use Rattle.merc_items.specs.Phases.{FirstFault}
 
 -- a refusal with the first of all faults

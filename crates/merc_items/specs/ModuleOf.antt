@@ -15,10 +15,11 @@ use Rattle.merc_tree.specs.declared.declarations.ModeDecl.{ModeDecl}
 use Rattle.merc_tree.specs.declared.declarations.PredDecl.{PredDecl}
 use Rattle.merc_tree.specs.declared.declarations.Clause.{Clause}
 use Rattle.merc_tree.specs.declared.declarations.Module.{Module}
-use Rattle.merc_items.specs.Items.{Item, TypeItem, PredicateItem, ModeItem, ClauseItem, plain_name}
-use Rattle.merc_items.specs.Forms.{argument_type, argument_mode, category_named}
-use Rattle.merc_items.specs.Entries.{Entry, Key, key_of, has_mode, is_out, units_of}
-use Rattle.merc_items.specs.Phases.{own_name, own_entries, is_own, are_keys}
+use Rattle.merc_item_forms.specs.Items.{Item, TypeItem, PredicateItem, ModeItem, ClauseItem}
+use Rattle.merc_operands.specs.Operands.{plain_name}
+use Rattle.merc_item_forms.specs.Forms.{argument_type, argument_mode, category_named}
+use Rattle.merc_entries.specs.Entries.{Entry, Key, key_of, has_mode, is_out, units_of, own_entries, is_own, are_keys}
+use Rattle.merc_item_forms.specs.FormFaults.{own_name}
 
 -- the name of a head, 0 where it has none
 abbrev pub head_name : Term → ℕ

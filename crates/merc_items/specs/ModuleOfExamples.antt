@@ -7,7 +7,7 @@ use Rattle.merc_tree.specs.Types.{TypeVariable, IntType}
 use Rattle.merc_tree.specs.declared.declarations.Arg.TheVariants.{Input, Output}
 use Rattle.merc_tree.specs.declared.declarations.PredDecl.{PredDecl}
 use Rattle.merc_tree.specs.declared.declarations.Module.{Module}
-use Rattle.merc_items.specs.Entries.{entries}
+use Rattle.merc_entries.specs.Entries.{entries}
 use Rattle.merc_items.specs.ModuleOf.{module_of}
 
 abbrev span : Span

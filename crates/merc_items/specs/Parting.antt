@@ -2,8 +2,7 @@
 use Rattle.std.specs.Prelude.{Bool, not, List, [], if◌then◌else◌}
 use Rattle.merc_items.specs.declared.parting.Part.{Part}
 use Rattle.merc_items.specs.declared.parting.Part.TheVariants.{File, Units}
-use Rattle.merc_items.specs.Entries.{Entry}
-use Rattle.merc_items.specs.Phases.{is_own, own_entries}
+use Rattle.merc_entries.specs.Entries.{Entry, is_own, own_entries}
 use Rattle.merc_items.specs.ModuleOf.{unit_items}
 
 abbrev pub has : Part → Entry → Bool

@@ -8,10 +8,10 @@ use Rattle.merc_tree.specs.Term.{Term}
 use Rattle.merc_tree.specs.declared.declarations.Module.{Module}
 use Rattle.merc_terms.specs.Items.{refusal_at}
 use Rattle.merc_terms.specs.Texts.{ReadsItems, RefusesText}
-use Rattle.merc_items.specs.Entries.{entries}
+use Rattle.merc_entries.specs.Entries.{entries}
 use Rattle.merc_items.specs.Phases.{FirstFault, HasNoFault}
 use Rattle.merc_items.specs.ModuleOf.{module_of}
-use Rattle.merc_items.specs.Units.{AreUnits}
+use Rattle.merc_entries.specs.Units.{AreUnits}
 
 -- The items of a file are a module, among those of the units that it imports without a fault. The table held the first names before the units were read,
 -- and holds the second behind them.

@@ -1,28 +1,23 @@
 //! The module that items are.
 ghost use Rattle.std.specs.Prelude.{◌≡◌, [], ◌∷◌, ◌++◌, map, IfOk, OnOk};
 ghost use Rattle.std.specs.List.{flat_map};
-ghost use Rattle.merc_items.specs.Entries.{with_units, units_of};
-ghost use Rattle.merc_items.specs.EntryValue.{entry_values};
-ghost use Rattle.merc_items.specs.ItemValue.{item_value};
-ghost use Rattle.merc_items.specs.Items.{chain, TypeItem};
+ghost use Rattle.merc_entries.specs.Entries.{with_units, units_of};
+ghost use Rattle.merc_entries.specs.EntryValue.{entry_values};
+ghost use Rattle.merc_item_forms.specs.ItemValue.{item_value};
+ghost use Rattle.merc_operands.specs.Members.{chain};
+ghost use Rattle.merc_item_forms.specs.Items.{TypeItem};
 ghost use Rattle.merc_items.specs.ModuleOf.{constructor_of, clauses_in, head_name, module_of, pred_decls, type_defs, type_defs_of, variable_names};
 ghost use Rattle.merc_items.specs.Assembling.{clause_of, pred_decl_of, preds_by};
 ghost use Rattle.merc_items.specs.Parting.{kept, part_of};
 
 use crate::declared_modes::ModeTable;
 use crate::declared_types::{argument_types, declared_types};
-use crate::distinct_names::DistinctNames;
-use crate::entry::Entry;
-use crate::forms::own_name;
-use crate::item::{Item, item_of};
-use crate::joining::imports;
-use crate::members::{arguments, members};
 use crate::parting::Part;
 use merc_base::{Name, NoMemory, Span};
-use merc_tree::{
-    Clause, Clauses, Constructor, Constructors, Module, NameList, PredDecl, PredDecls, Shape,
-    TermRef, Terms, TypeDef, TypeDefs,
-};
+use merc_entries::{DistinctNames, Entry, imports};
+use merc_item_forms::{Item, item_of, own_name};
+use merc_operands::{arguments, members};
+use merc_tree::{Clause, Clauses, Constructor, Constructors, Module, NameList, PredDecl, PredDecls, Shape, TermRef, Terms, TypeDef, TypeDefs};
 use std::alloc::Global;
 
 /// The module that the items of a file and of the units that it imports are. Where its name is missing, or that of a

@@ -1,28 +1,23 @@
 //! The modes that items declare, by their predicates.
-ghost use Rattle.std.specs.Prelude.{◌≡◌, [], ◌∷◌, ◌++◌, List, Some, map, IfOk, OnOk, if◌then◌else◌};
-ghost use Rattle.std.specs.List.{flat_map, list_all};
+ghost use Rattle.std.specs.Prelude.{◌≡◌, ◌++◌, List, Some, map, IfOk, OnOk, if◌then◌else◌};
+ghost use Rattle.std.specs.List.{flat_map};
 ghost use Rattle.merc_tree.specs.Shape.{arguments_of};
-ghost use Rattle.merc_items.specs.Items.{plain_name};
-ghost use Rattle.merc_items.specs.Forms.{argument_mode, category_named, is_moded};
-ghost use Rattle.merc_items.specs.Entries.{Key as key_record, has_mode, is_out, key_of};
-ghost use Rattle.merc_items.specs.Phases.{are_keys};
-ghost use Rattle.merc_items.specs.EntryValue.{entry_value, entry_values};
-ghost use Rattle.merc_items.specs.ItemValue.{item_value};
-ghost use Rattle.merc_items.specs.KeySets.{keys_at};
+ghost use Rattle.merc_operands.specs.Operands.{plain_name};
+ghost use Rattle.merc_item_forms.specs.Forms.{argument_mode, category_named};
+ghost use Rattle.merc_entries.specs.Entries.{Key as key_record, has_mode, is_out, key_of, are_keys};
+ghost use Rattle.merc_entries.specs.EntryValue.{entry_value, entry_values};
+ghost use Rattle.merc_item_forms.specs.ItemValue.{item_value};
+ghost use Rattle.merc_entries.specs.KeySets.{keys_at};
 ghost use Rattle.merc_items.specs.ModuleOf.{arg_of, args_of, category_or_det, declared_category, modes_in};
 ghost use Rattle.merc_items.specs.DeclaredModes.{entry_modes, kept_modes, moded_predicate};
 ghost use Rattle.merc_items.specs.Parting.{kept};
 
-use crate::arguments::argument_mode;
-use crate::entry::Entry;
-use crate::item::Item;
-use crate::key::Key;
-use crate::key_set::key_of;
-use crate::members::arguments;
-use crate::operands::plain_name;
 use crate::parting::Part;
 use merc_base::{Category, Name, NoMemory};
-use merc_tree::{Arg, Args, Arguments, ModeDecl, ModeDecls, TermRef};
+use merc_entries::{Entry, Key, has_mode, key_of};
+use merc_item_forms::{Item, argument_mode};
+use merc_operands::{arguments, plain_name};
+use merc_tree::{Arg, Args, ModeDecl, ModeDecls, TermRef};
 use std::alloc::Global;
 use std::collections::BTreeMap;
 
@@ -118,30 +113,6 @@ fn moded_predicate(item: &Item<'_>) -> Option<Key>
         Item::Mode(head, _) => key_of(head),
         _ => None,
     }
-}
-
-// Whether a predicate's declaration has its mode with it: each argument has one, or there are none and a category
-// stands behind.
-fn has_mode(head: &TermRef<'_>, category: &Option<TermRef<'_>>) -> bool
-    ensures { result ≡ has_mode head.now category.now }
-{
-    let arguments = head.arguments();
-    if arguments.len() == 0 {
-        category.is_some()
-    } else {
-        are_moded(arguments)
-    }
-}
-
-fn are_moded(mut arguments: Arguments<'_>) -> bool
-    ensures { result ≡ list_all is_moded arguments.entry }
-{
-    while let Some(last) = arguments.take_last() {
-        if argument_mode(&last).is_none() {
-            return false;
-        }
-    }
-    true
 }
 
 // Puts the mode that an entry declares behind the others.

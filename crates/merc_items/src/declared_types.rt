@@ -1,12 +1,12 @@
 //! Types as declarations have them.
 ghost use Rattle.std.specs.Prelude.{◌≡◌, ◌≤◌, [], ◌∷◌, ◌++◌, length, map, IfOk, OnOk};
 ghost use Rattle.merc_tree.specs.Nodes.{arity_of};
-ghost use Rattle.merc_items.specs.Forms.{argument_type};
+ghost use Rattle.merc_item_forms.specs.Forms.{argument_type};
 ghost use Rattle.merc_items.specs.ModuleOf.{declared_type};
 ghost use Rattle.merc_items.specs.DeclaredTypes.{with_part};
 
-use crate::arguments::argument_type;
 use merc_base::NoMemory;
+use merc_item_forms::argument_type;
 use merc_tree::{Shape, TermRef, TypeExprs};
 use std::alloc::Global;
 

@@ -1,9 +1,9 @@
 //! The two parts of a module: what stands in the file, and what comes from the units that it imports.
 ghost use Rattle.std.specs.Prelude.{◌≡◌};
-ghost use Rattle.merc_items.specs.EntryValue.{entry_value};
+ghost use Rattle.merc_entries.specs.EntryValue.{entry_value};
 ghost use Rattle.merc_items.specs.Parting.{has};
 
-use crate::entry::Entry;
+use merc_entries::Entry;
 
 /// A part of a module.
 #[derive(Clone, Copy)]

@@ -1,18 +1,15 @@
 //! The checks of the items of a module, one phase after the other.
 ghost use Rattle.std.specs.Prelude.{IfOk, IfErr};
 ghost use Rattle.merc_terms.specs.Items.{IsRefusal};
-ghost use Rattle.merc_items.specs.EntryValue.{entry_values, NeverFalls};
-ghost use Rattle.merc_items.specs.FormFaults.{Rises};
+ghost use Rattle.merc_entries.specs.EntryValue.{entry_values, NeverFalls};
+ghost use Rattle.merc_item_forms.specs.FormFaults.{Rises};
 ghost use Rattle.merc_items.specs.ModuleFaults.{IsFirstFault};
 ghost use Rattle.merc_items.specs.Phases.{HasNoFault};
 
-use crate::clause_heads::check_clauses;
-use crate::doubles::check_doubles;
-use crate::entry::Entry;
-use crate::forms::{check_forms, own_name};
-use crate::known_types::check_types;
-use crate::mode_counts::check_modes;
 use merc_base::{Fault, Names};
+use merc_declared::{check_clauses, check_modes, check_types};
+use merc_entries::{Entry, check_doubles};
+use merc_item_forms::{check_forms, own_name};
 use merc_tree::Terms;
 use std::alloc::Global;
 

@@ -2,17 +2,16 @@
 ghost use Rattle.std.specs.Prelude.{◌≡◌, ◌≤◌, ◌++◌, ℕ, List, length, IfOk, IfErr};
 ghost use Rattle.merc_tree.specs.Term.{Term};
 ghost use Rattle.merc_terms.specs.Items.{IsRefusal};
-ghost use Rattle.merc_items.specs.FormFaults.{Rises};
+ghost use Rattle.merc_item_forms.specs.FormFaults.{Rises};
 ghost use Rattle.merc_items.specs.ReadModule.{IsModule, IsModuleOf, RefusesItemsOf, RefusesModule};
 
 #[cfg(test)]
 mod tests;
 
 use crate::assembling::module_of;
-use crate::joining::join;
 use crate::phases::check_items;
-use crate::units::read_units;
 use merc_base::{Fault, Names, Text};
+use merc_entries::{join, read_units};
 use merc_terms::read_text;
 use merc_tree::{Module, Terms};
 use std::alloc::Global;

@@ -1,103 +1,22 @@
-//! The forms of small modules, the library units and what a module becomes that imports one.
-ghost use Rattle.std.specs.Prelude.{◌≡◌, ◌∷◌, ◌++◌, [], None, IfOk, OnOk};
-ghost use Rattle.merc_tree.specs.Term.{Application, none, more};
-ghost use Rattle.merc_items.specs.FormFaults.{Rises};
+//! What a module becomes that imports a library unit.
 
 use crate::assembling::module_of;
-use crate::forms::check_forms;
-use crate::joining::join;
-use crate::units::{Units, read_units};
-use merc_base::{Construct, Detail, Fault, Name, Names, Place, Refusal, Rule, Span};
+use merc_base::{Name, Names, Span};
+use merc_entries::{join, read_units};
 use merc_tree::Terms;
-use std::alloc::Global;
 use std::test::Fail;
 
-// Twenty bytes from this one on.
-fn at(first: u32) -> Span
-    ensures { result.first ≡ first }
-{
-    Span {
-        first,
-        past: first.saturating_add(20),
-        line: 1,
-    }
-}
-
-// `word(name)`
-fn push_one(terms: &mut Terms, word: Name, name: Name, span: Span) -> Result<(), Fail>
-    ensures { OnOk result (terms.new ≡ terms.old ++ Application word None (more (Application name None none span) none) span ∷ []) }
-{
-    terms.apply(name, None, 0, span)?;
-    terms.apply(word, None, 1, span)?;
-    Ok(())
-}
+const SPAN: Span = Span {
+    first: 0,
+    past: 1,
+    line: 1,
+};
 
 // `:- word(name)`
-fn push_declaration(terms: &mut Terms, word: Name, name: Name, span: Span) -> Result<(), Fail>
-    ensures { OnOk result (terms.new ≡ terms.old ++ Application 10 None (more (Application word None (more (Application name None none span) none) span) none) span ∷ []) }
-{
-    push_one(terms, word, name, span)?;
-    terms.apply(Name::COLON_MINUS, None, 1, span)?;
-    Ok(())
-}
-
-// `:- module own. :- word(name). :- end_module own.`
-fn module_with(alloc: Global, own: Name, word: Name, name: Name) -> Result<Terms, Fail>
-    ensures { IfOk result (λ terms. Rises terms) }
-{
-    let mut terms = Terms::new(alloc);
-    push_declaration(&mut terms, Name::MODULE, own, at(0))?;
-    push_declaration(&mut terms, word, name, at(20))?;
-    push_declaration(&mut terms, Name::END_MODULE, own, at(40))?;
-    Ok(terms)
-}
-
-#[test]
-fn accepts_a_module(rt: HostRuntime) -> Result<(), Fail> {
-    let alloc = rt.alloc();
-    let mut names = Names::new(alloc);
-    let own = names.intern(b"m")?;
-    let predicate = names.intern(b"p")?;
-    let terms = module_with(alloc, own, Name::PRED, predicate)?;
-    assert!(rt; check_forms(alloc, &terms, &names).is_ok());
-    Ok(())
-}
-
-#[test]
-fn refuses_an_import(rt: HostRuntime) -> Result<(), Fail> {
-    let alloc = rt.alloc();
-    let mut names = Names::new(alloc);
-    let own = names.intern(b"m")?;
-    let terms = module_with(alloc, own, Name::IMPORT_MODULE, own)?;
-    let refusal = Refusal {
-        rule: Rule::OutsideProfile,
-        place: Place { byte: 20, line: 1 },
-        detail: Detail::Word(Construct::Import),
-    };
-    assert_eq!(rt;
-        check_forms(alloc, &terms, &names),
-        Err(Fault::Refused(refusal))
-    );
-    Ok(())
-}
-
-// How many items a unit has.
-fn item_count(units: &Units, unit: Name) -> usize {
-    match units.items(unit) {
-        Some(items) => items.len(),
-        None => 0,
-    }
-}
-
-#[test]
-fn reads_the_units(rt: HostRuntime) -> Result<(), Fail> {
-    let alloc = rt.alloc();
-    let mut names = Names::new(alloc);
-    let units = read_units(alloc, &mut names)?;
-    assert_eq!(rt; item_count(&units, Name::LIST), 19);
-    assert_eq!(rt; item_count(&units, Name::BOOL), 1);
-    assert_eq!(rt; item_count(&units, Name::MAYBE), 1);
-    assert_eq!(rt; item_count(&units, Name::INT), 0);
+fn push_declaration(terms: &mut Terms, word: Name, name: Name) -> Result<(), Fail> {
+    terms.apply(name, None, 0, SPAN)?;
+    terms.apply(word, None, 1, SPAN)?;
+    terms.apply(Name::COLON_MINUS, None, 1, SPAN)?;
     Ok(())
 }
 
@@ -107,7 +26,10 @@ fn takes_in_an_imported_unit(rt: HostRuntime) -> Result<(), Fail> {
     let mut names = Names::new(alloc);
     let units = read_units(alloc, &mut names)?;
     let own = names.intern(b"m")?;
-    let terms = module_with(alloc, own, Name::IMPORT_MODULE, Name::LIST)?;
+    let mut terms = Terms::new(alloc);
+    push_declaration(&mut terms, Name::MODULE, own)?;
+    push_declaration(&mut terms, Name::IMPORT_MODULE, Name::LIST)?;
+    push_declaration(&mut terms, Name::END_MODULE, own)?;
     let entries = join(alloc, &terms, &units)?;
     assert_eq!(rt; entries.len(), 22);
     let found = module_of(alloc, &terms, &entries)?;

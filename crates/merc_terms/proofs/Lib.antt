@@ -16,3 +16,11 @@ pub mod ReadingLaws
 pub mod ReadingExamples
 pub mod ItemLaws
 pub mod OutcomesExamples
+pub mod Deciding
+pub mod Renumbering
+pub mod RenumberedItems
+pub mod TextsRead
+pub mod TextsReadExamples
+pub mod TextSteps
+pub mod TextLaws
+pub mod TextExamples

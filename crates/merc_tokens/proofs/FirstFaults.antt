@@ -75,9 +75,9 @@ module _ (text : List ℕ) (at : ℕ) (other_bytes : IsUtf8 text → ⊥) (longe
     λ tokens has. other_bytes has.utf8,
   )
 
-  pub right-other : (names : List (List ℕ)) (reading : Reading) → ReadsRightly text names reading → IsRight text (earlier text at reading)
-  right-other names (All tokens) reads = end-right (λ other rule detail has. absurd (reads.faultless other rule detail has))
-  right-other names (Faulty refusal) reads =
+  pub right-other : (before after : List (List ℕ)) (reading : Reading) → ReadsRightly text before after reading → IsRight text (earlier text at reading)
+  right-other before after (All tokens) reads = end-right (λ other rule detail has. absurd (reads.faultless other rule detail has))
+  right-other before after (Faulty refusal) reads =
       cond_both (nat_lt refusal.place.byte at) refusal (bad_byte text at) (IsRight text)
       (λ less. (record { fault = inl reads.fault; line = reads.line; least = before_end refusal reads (ltb-true _ _ less) }, λ tokens has. other_bytes has.utf8))
       (λ most. end-right (λ other rule detail has. comes_le refusal.place.byte other refusal.rule rule (ltb-false _ _ most) (reads.least other rule detail has)))

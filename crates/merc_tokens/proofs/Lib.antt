@@ -6,5 +6,8 @@ pub mod ReadingEnds
 pub mod ReadsTo
 pub mod FirstFaults
 pub mod TokenLaws
+pub mod RefusalLaws
+pub mod NameTables
 pub mod TextExamples
 pub mod FirstFaultExamples
+pub mod Deciding

@@ -7,7 +7,7 @@ use Rattle.merc_base.specs.declared.refusal.Detail.{Detail}
 use Rattle.merc_tokens.specs.declared.token.Token.{Token}
 use Rattle.merc_tokens.specs.declared.pieces.Piece.TheVariants.{Fault}
 use Rattle.merc_tokens.specs.Pieces.{first_piece}
-use Rattle.merc_tokens.specs.Tokens.{SpelledToken, HasTokensFrom, with_texts, line_at}
+use Rattle.merc_tokens.specs.Tokens.{SpelledToken, HasTokensFrom, with_texts, with_names, line_at}
 use Rattle.merc_tokens.specs.Tokens.HasTokensFrom.{ends, gap, token}
 use Rattle.merc_tokens.specs.Faults.{IsFaulty, HasFaultFrom, ComesFirst}
 use Rattle.merc_tokens.specs.Faults.HasFaultFrom.{here, behind_gap, behind_token}
@@ -50,10 +50,11 @@ reads-fault text read at line after rule detail so_far inside is on_line = recor
       no_tokens text at after rule detail parts.0 inside is parts.2;
 }
 
-pub reads-all : (text : List ℕ) (names : List (List ℕ)) (tokens : List Token) (read : List SpelledToken) (at : ℕ) (after : Bool) → ReadSoFar text read at after → map (with_texts names) tokens ≡ map Some read → drop at text ≡ [] → ReadsAll text names tokens
-reads-all text names tokens read at after so_far texts ended = record {
+pub reads-all : (text : List ℕ) (old names : List (List ℕ)) (tokens : List Token) (read : List SpelledToken) (at : ℕ) (after : Bool) → ReadSoFar text read at after → map (with_texts names) tokens ≡ map Some read → names ≡ with_names old read → drop at text ≡ [] → ReadsAll text old names tokens
+reads-all text old names tokens read at after so_far texts table ended = record {
   spelled = read;
   texts = texts;
+  table = table;
   all = subst (HasTokensFrom text 0 false) (append-nil read) (so_far.tokens [] (ends at after ended));
   faultless = λ place rule detail has. faultless-end text at after ended place rule detail (so_far.no_others place rule detail has);
 }

@@ -1,10 +1,11 @@
 -- The state of a reading: what was read, up to which place, on which line, and with which names.
-use Rattle.std.proofs.Common.{◌≡◌, ℕ, ◌+◌, ◌≤◌, Bool, false, ◌==◌, cond, List, [], ◌∷◌, ◌++◌, length, take, drop, map, Option, Some, None, refl, sym, ◌∙◌, ap, subst, arith, append_assoc}
-use Rattle.std.proofs.lemmas.List.{append-nil, map-append, take-append-drop, length-take-le}
-use Rattle.std.proofs.lemmas.List.Sums.{sum_by-append}
+use Rattle.std.proofs.Common.{◌≡◌, ℕ, ◌+◌, ◌≤◌, Bool, false, ◌==◌, cond, List, [], ◌∷◌, ◌++◌, length, take, drop, map, fold, Option, Some, None, refl, sym, ◌∙◌, ap, subst, arith, append_assoc}
+use Rattle.std.proofs.lemmas.List.{append-nil, flat_map_more, map-append, take-append-drop, length-take-le}
+use Rattle.std.proofs.lemmas.List.Sums.{fold-append, sum_by-append}
 use Rattle.std.proofs.Math.Seq.{take-append-add}
 use Rattle.std.specs.Option.{option_map}
-use Rattle.std.specs.List.{count_by, slice_get}
+use Rattle.std.specs.List.{count_by, flat_map, slice_get}
+use Rattle.merc_base.specs.Texts.{with_text}
 use Rattle.merc_base.proofs.NameLaws.{slice_get-front}
 use Rattle.merc_tokens.specs.declared.token.Token.{Token}
 use Rattle.merc_tokens.specs.declared.token.TokenKind.{TokenKind}
@@ -12,7 +13,7 @@ use Rattle.merc_tokens.specs.declared.token.TokenKind.TheVariants.{Name as NameK
 use Rattle.merc_tokens.specs.declared.pieces.Spelling.{Spelling}
 use Rattle.merc_tokens.specs.declared.pieces.Piece.TheVariants.{Gap, Token as TokenPiece}
 use Rattle.merc_tokens.specs.Pieces.{first_piece}
-use Rattle.merc_tokens.specs.Tokens.{SpelledToken, is_name, line_at, spelling_in, token_at, with_texts}
+use Rattle.merc_tokens.specs.Tokens.{SpelledToken, is_name, line_at, named_text, spelling_in, token_at, with_names, with_texts}
 use Rattle.merc_tokens.proofs.SoFar.{ReadSoFar, so_far-none, so_far-gap, so_far-token}
 
 -- the line of a place further on
@@ -61,9 +62,17 @@ texts-grow names more (found ∷ tokens) (one ∷ spelled) is =
     let others : map (with_texts names) tokens ≡ map Some spelled = cc in
     (λ i. token-grow names more found _ one refl first i ∷ texts-grow names more tokens spelled others i)
 
+-- a table with the names of one token more
+with_names-more : (names : List (List ℕ)) (spelled : List SpelledToken) (one : SpelledToken) → with_names names (spelled ++ one ∷ []) ≡ fold with_text (with_names names spelled) (named_text one.kind)
+with_names-more names spelled one =
+    let named : SpelledToken → List (List ℕ) = λ found. named_text found.kind in
+    ap (fold with_text names) (sym (flat_map_more named [] spelled one))
+    ∙ fold-append with_text names (flat_map named spelled) (named_text one.kind)
+
 pub record ReadsTo (text : List ℕ) (old names : List (List ℕ)) (read : List Token) (at line : ℕ) (after : Bool) : Type 0 where
   pub spelled : List SpelledToken
   pub texts : map (with_texts names) read ≡ map Some spelled
+  pub table : names ≡ with_names old spelled
   pub so_far : ReadSoFar text spelled at after
   pub more : List (List ℕ)
   pub grown : names ≡ old ++ more
@@ -75,6 +84,7 @@ pub reads-none : (text : List ℕ) (names : List (List ℕ)) (read : List Token)
 reads-none text names read none = record {
   spelled = [];
   texts = ap (map (with_texts names)) none;
+  table = refl;
   so_far = so_far-none text;
   more = [];
   grown = sym (append-nil names);
@@ -91,6 +101,7 @@ module _ (text : List ℕ) (old names : List (List ℕ)) (read : List Token) (at
   reads-gap is = record {
     spelled = reads.spelled;
     texts = reads.texts;
+    table = reads.table;
     so_far = so_far-gap text reads.spelled at len after reads.so_far is;
     more = reads.more;
     grown = reads.grown;
@@ -99,8 +110,8 @@ module _ (text : List ℕ) (old names : List (List ℕ)) (read : List Token) (at
     within = inside;
   }
 
-  pub reads-token : (spelling : Spelling) (names' more : List (List ℕ)) (token : Token) (read' : List Token) → first_piece after (drop at text) ≡ TokenPiece spelling len → names' ≡ names ++ more → read' ≡ read ++ token ∷ [] → with_texts names' token ≡ Some (record { kind = spelling; span = record { first = at; past = at + len; line = line } }) → ReadsTo text old names' read' (at + len) (line + extra) (is_name spelling)
-  reads-token spelling names' more token read' is grown pushed spelled =
+  pub reads-token : (spelling : Spelling) (names' more : List (List ℕ)) (token : Token) (read' : List Token) → first_piece after (drop at text) ≡ TokenPiece spelling len → names' ≡ names ++ more → names' ≡ fold with_text names (named_text spelling) → read' ≡ read ++ token ∷ [] → with_texts names' token ≡ Some (record { kind = spelling; span = record { first = at; past = at + len; line = line } }) → ReadsTo text old names' read' (at + len) (line + extra) (is_name spelling)
+  reads-token spelling names' more token read' is grown added pushed spelled =
       let placed : with_texts names' token ≡ Some (token_at text at len spelling) =
       spelled ∙ ap (λ (n : ℕ). Some (record { kind = spelling; span = record { first = at; past = at + len; line = n } })) reads.on_line
       in
@@ -112,6 +123,9 @@ module _ (text : List ℕ) (old names : List (List ℕ)) (read : List Token) (at
         texts =
             ap (map (with_texts names')) pushed ∙ map-append (with_texts names') read (token ∷ [])
             ∙ (λ i. kept i ++ placed i ∷ []) ∙ sym (map-append Some reads.spelled (token_at text at len spelling ∷ []));
+        table =
+            added ∙ ap (λ (table : List (List ℕ)). fold with_text table (named_text spelling)) reads.table
+            ∙ sym (with_names-more old reads.spelled (token_at text at len spelling));
         so_far = so_far-token text reads.spelled at len after spelling reads.so_far is;
         more = reads.more ++ more;
         grown = grown ∙ ap (λ (all : List (List ℕ)). all ++ more) reads.grown ∙ append_assoc old reads.more more;

@@ -1,5 +1,5 @@
 -- Whole texts: their tokens, and their faults.
-use Rattle.std.proofs.Common.{◌≡◌, ℕ, inl, true, false, [], ◌∷◌, ◌++◌, refl, Some, None}
+use Rattle.std.proofs.Common.{◌≡◌, ℕ, inl, true, false, List, [], ◌∷◌, ◌++◌, refl, ap, ◌∙◌, Some, None}
 use Rattle.std.specs.Prelude.{codes}
 use Rattle.std.specs.Char.{encode_utf8}
 use Rattle.std.specs.Str.{is_utf8, chars}
@@ -14,12 +14,12 @@ use Rattle.merc_tokens.specs.declared.pieces.Spelling.{Spelling}
 use Rattle.merc_tokens.specs.declared.pieces.Spelling.TheVariants.{Name, Int, Var, Dot, Stop}
 use Rattle.merc_tokens.specs.declared.pieces.Piece.TheVariants.{Token}
 use Rattle.merc_tokens.specs.Pieces.{first_piece}
-use Rattle.merc_tokens.specs.Tokens.{SpelledToken, HasTokens, spelling_in}
+use Rattle.merc_tokens.specs.Tokens.{SpelledToken, HasTokens, ReadsTokens, named_text, spelling_in, with_names}
 use Rattle.merc_tokens.specs.Tokens.HasTokensFrom.{ends, gap, token}
 use Rattle.merc_tokens.specs.Faults.{HasFault, HasNoTokens, EndsUtf8}
 use Rattle.merc_tokens.specs.Faults.HasFaultFrom.{here, behind_gap, behind_token}
 use Rattle.merc_tokens.specs.Faults.IsFaulty.{character}
-use Rattle.merc_tokens.proofs.TokenLaws.{HasFault-no_tokens}
+use Rattle.merc_tokens.proofs.TokenLaws.{HasFault-no_tokens, HasTokens-unique}
 
 -- a token of these bytes
 abbrev at : Spelling → ℕ → ℕ → ℕ → SpelledToken
@@ -84,3 +84,40 @@ spelling_in-example = refl
 -- a name that is not known spells nothing
 pub spelling_in-example-unknown : spelling_in (codes "a" ∷ []) (NameKind 1) ≡ None
 spelling_in-example-unknown = refl
+
+pub named_text-example : named_text (Var (codes "X")) ≡ codes "X" ∷ []
+named_text-example = refl
+
+-- a full stop names nothing, though its text is no name's
+pub named_text-counterexample : named_text Stop ≡ codes "." ∷ [] → ⊥
+named_text-counterexample wrong = cc
+
+-- `b. a b`, where the table holds `a`
+abbrev b_a_b : List SpelledToken
+b_a_b =
+    at (Name (codes "b")) 0 1 1 ∷ at Stop 1 2 1 ∷ at (Name (codes "a")) 3 4 1 ∷ at (Name (codes "b")) 5 6 1 ∷ []
+
+pub with_names-example : with_names (codes "a" ∷ []) b_a_b ≡ codes "a" ∷ codes "b" ∷ []
+with_names-example = refl
+
+-- names go in as they come, not by the alphabet
+pub with_names-counterexample : with_names [] b_a_b ≡ codes "a" ∷ codes "b" ∷ [] → ⊥
+with_names-counterexample wrong = cc
+
+pub one_name-example : ReadsTokens [] (codes "a" ∷ []) (codes "a") (record { kind = NameKind 0; span = record { first = 0; past = 1; line = 1 } } ∷ [])
+unfolding encode_utf8
+one_name-example = record {
+  spelled = at (Name (codes "a")) 0 1 1 ∷ [];
+  has = record {
+    utf8 = (codes "a", (refl, refl));
+    all = token 0 1 false (Name (codes "a")) _ refl (ends 1 true refl);
+  };
+  named = refl;
+  table = refl;
+}
+
+-- no name that the text does not spell
+pub other_name-counterexample : ReadsTokens [] (codes "a" ∷ []) (codes " ") [] → ⊥
+other_name-counterexample reads =
+    let none : reads.spelled ≡ [] = HasTokens-unique (codes " ") reads.spelled [] reads.has blanks-example in
+    let table : codes "a" ∷ [] ≡ [] = reads.table ∙ ap (with_names []) none in cc

@@ -8,13 +8,14 @@ use Rattle.merc_base.specs.declared.refusal.Refusal.{Refusal}
 use Rattle.merc_tokens.specs.declared.token.Token.{Token}
 use Rattle.merc_tokens.specs.declared.reading.Reading.{Reading}
 use Rattle.merc_tokens.specs.declared.reading.Reading.TheVariants.{All, Faulty}
-use Rattle.merc_tokens.specs.Tokens.{SpelledToken, HasTokensFrom, with_texts, line_at}
+use Rattle.merc_tokens.specs.Tokens.{SpelledToken, HasTokensFrom, with_texts, with_names, line_at}
 use Rattle.merc_tokens.specs.Faults.{HasFaultFrom, ComesFirst}
 
--- the tokens of a text, whose pieces are all right
-pub record ReadsAll (text : List ℕ) (names : List (List ℕ)) (tokens : List Token) : Type 0 where
+-- the tokens of a text, whose pieces are all right, and whose names were put into a table that held the first names before
+pub record ReadsAll (text : List ℕ) (before after : List (List ℕ)) (tokens : List Token) : Type 0 where
   pub spelled : List SpelledToken
-  pub texts : map (with_texts names) tokens ≡ map Some spelled
+  pub texts : map (with_texts after) tokens ≡ map Some spelled
+  pub table : after ≡ with_names before spelled
   pub all : HasTokensFrom text 0 false spelled
   pub faultless : (place : ℕ) (rule : Rule) (detail : Detail) → HasFaultFrom text place rule detail 0 false → ⊥
 
@@ -25,9 +26,9 @@ pub record ReadsFault (text : List ℕ) (refusal : Refusal) : Type 0 where
   pub least : (place : ℕ) (rule : Rule) (detail : Detail) → HasFaultFrom text place rule detail 0 false → ComesFirst refusal.place.byte refusal.rule place rule
   pub tokenless : (tokens : List SpelledToken) → HasTokensFrom text 0 false tokens → ⊥
 
-abbrev pub ReadsRightly : List ℕ → List (List ℕ) → Reading → Type 0
-ReadsRightly text names (All tokens) = ReadsAll text names tokens
-ReadsRightly text names (Faulty refusal) = ReadsFault text refusal
+abbrev pub ReadsRightly : List ℕ → List (List ℕ) → List (List ℕ) → Reading → Type 0
+ReadsRightly text before after (All tokens) = ReadsAll text before after tokens
+ReadsRightly text before after (Faulty refusal) = ReadsFault text refusal
 
 -- a byte that is not UTF-8
 abbrev pub bad_byte : List ℕ → ℕ → Refusal

@@ -1,9 +1,10 @@
 //! The tokens of a whole text.
-ghost use Rattle.std.specs.Prelude.{◌≡◌, ◌+◌, ◌≤◌, ◌==◌, [], ◌∷◌, ◌++◌, ℕ, List, Some, map, length, take, slice_get, IfOk, OnOk, IfErr, MatchOption};
+ghost use Rattle.std.specs.Prelude.{◌≡◌, ◌+◌, ◌≤◌, ◌==◌, [], ◌∷◌, ◌++◌, ℕ, List, Some, map, fold, length, take, slice_get, IfOk, OnOk, IfErr, MatchOption};
 ghost use Rattle.std.specs.List.{count_by};
 ghost use Rattle.std.specs.Str.{IsUtf8};
 ghost use Rattle.std.specs.Str.Lossy.{utf8_valid_len};
-ghost use Rattle.merc_tokens.specs.Tokens.{SpelledToken, ReadsTokens, is_name, spelling_in, with_texts};
+ghost use Rattle.merc_base.specs.Texts.{with_text};
+ghost use Rattle.merc_tokens.specs.Tokens.{ReadsTokens, is_name, named_text, spelling_in, with_texts};
 ghost use Rattle.merc_tokens.specs.Faults.{RefusesRightly};
 ghost use Rattle.merc_tokens.specs.Outcomes.{ReadsRightly, earlier};
 ghost use Rattle.merc_tokens.specs.declared.token.Token.{Token};
@@ -31,6 +32,7 @@ fn is_name(spelling: &Spelling) -> bool
 // The name of this text.
 fn intern(names: &mut Names, text: Text) -> Result<Name, NoMemory>
     ensures known { IfOk result (λ name. slice_get names.new name ≡ Some text) }
+    ensures added { OnOk result (names.new ≡ with_text names.old text) }
     ensures grows { (more : List (List ℕ)) × (names.new ≡ names.old ++ more) }
 {
     names.intern(text.bytes())
@@ -39,6 +41,7 @@ fn intern(names: &mut Names, text: Text) -> Result<Name, NoMemory>
 // The kind of token that this spells.
 fn kind_of(names: &mut Names, spelling: Spelling) -> Result<TokenKind, NoMemory>
     ensures value { IfOk result (λ kind. spelling_in names.new kind ≡ Some spelling) }
+    ensures added { OnOk result (names.new ≡ fold with_text names.old (named_text spelling)) }
     ensures grows { (more : List (List ℕ)) × (names.new ≡ names.old ++ more) }
 {
     Ok(match spelling {
@@ -67,6 +70,7 @@ fn push_token(
     span: Span,
 ) -> Result<(), NoMemory>
     ensures token { OnOk result ((token : Token) × (tokens.new ≡ tokens.old ++ token ∷ []) × (with_texts names.new token ≡ Some (record { kind = spelling; span = span }))) }
+    ensures added { OnOk result (names.new ≡ fold with_text names.old (named_text spelling)) }
     ensures grows { (more : List (List ℕ)) × (names.new ≡ names.old ++ more) }
 {
     let kind = kind_of(names, spelling)?;
@@ -84,7 +88,7 @@ enum Reading {
 // The tokens of a text, or its first fault, where nothing is said of UTF-8.
 fn read_all(alloc: Global, text: &[u8], names: &mut Names) -> Result<Reading, NoMemory>
     requires { length text.now ≤ 300000000 }
-    ensures reading { IfOk result (ReadsRightly text.now names.new) }
+    ensures reading { IfOk result (ReadsRightly text.now names.old names.new) }
     ensures grows { (more : List (List ℕ)) × (names.new ≡ names.old ++ more) }
 {
     let mut tokens = Sequence::new(alloc);

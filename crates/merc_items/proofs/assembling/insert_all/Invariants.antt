@@ -1,5 +1,5 @@
 use Rattle.std.proofs.Common.{◌≡◌, drop}
-use Rattle.merc_items.specs.Entries.{with_units}
+use Rattle.merc_entries.specs.Entries.{with_units}
 use Rattle.merc_items.proofs.assembling.insert_all.Given as goal
 
 abbrev pub invariant-loop-name : goal.invariant-loop-name

@@ -2,10 +2,10 @@ use Rattle.std.proofs.Common.{◌++◌, length, List, ap, ◌∙◌}
 use Rattle.std.specs.List.{flat_map}
 use Rattle.merc_tree.specs.declared.declarations.PredDecl.{PredDecl}
 use Rattle.merc_items.specs.declared.parting.Part.TheVariants.{File}
-use Rattle.merc_items.specs.EntryValue.{entry_values}
+use Rattle.merc_entries.specs.EntryValue.{entry_values}
 use Rattle.merc_items.specs.ModuleOf.{clauses_in, pred_decls, type_defs}
 use Rattle.merc_items.specs.Parting.{kept}
-use Rattle.merc_items.specs.Phases.{own_entries}
+use Rattle.merc_entries.specs.Entries.{own_entries}
 use Rattle.merc_items.proofs.Assembled.{whole_module, with_parts}
 use Rattle.merc_items.proofs.assembling.module_of.Goals as goal
 

@@ -1,6 +1,6 @@
 use Rattle.std.proofs.Common.{◌++◌, ap, ◌∙◌}
 use Rattle.std.proofs.lemmas.Result.{on_ok_weaker}
-use Rattle.merc_items.specs.EntryValue.{entry_values}
+use Rattle.merc_entries.specs.EntryValue.{entry_values}
 use Rattle.merc_items.proofs.Assembled.{part_preds}
 use Rattle.merc_items.proofs.assembling.push_predicates.Goals as goal
 

@@ -1,6 +1,6 @@
 use Rattle.std.proofs.Common.{◌≡◌, ◌++◌, drop}
 use Rattle.std.specs.List.{flat_map}
-use Rattle.merc_items.specs.EntryValue.{entry_values}
+use Rattle.merc_entries.specs.EntryValue.{entry_values}
 use Rattle.merc_items.specs.Assembling.{preds_by}
 use Rattle.merc_items.specs.Parting.{kept}
 use Rattle.merc_items.proofs.assembling.push_with_modes.Given as goal

@@ -1,5 +1,5 @@
 use Rattle.std.proofs.Common.{◌≡◌, ◌++◌, map, drop}
-use Rattle.merc_items.specs.Forms.{argument_mode}
+use Rattle.merc_item_forms.specs.Forms.{argument_mode}
 use Rattle.merc_items.specs.ModuleOf.{args_of}
 use Rattle.merc_items.proofs.declared_modes.args_with_types.Given as goal
 

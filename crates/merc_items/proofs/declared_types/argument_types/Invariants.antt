@@ -1,5 +1,5 @@
 use Rattle.std.proofs.Common.{◌≡◌, ◌++◌, map, drop}
-use Rattle.merc_items.specs.Forms.{argument_type}
+use Rattle.merc_item_forms.specs.Forms.{argument_type}
 use Rattle.merc_items.specs.ModuleOf.{declared_type}
 use Rattle.merc_items.proofs.declared_types.argument_types.Given as goal
 

@@ -1,5 +1,5 @@
 use Rattle.std.proofs.lemmas.Result.{IfErr-weaker, IfOk-weaker, err_from_is_err_and}
-use Rattle.merc_items.specs.EntryValue.{entry_values}
+use Rattle.merc_entries.specs.EntryValue.{entry_values}
 use Rattle.merc_items.proofs.FirstFaults.{forms-refused, doubles-refused, types-refused, modes-refused, clauses-refused, no_fault}
 use Rattle.merc_items.proofs.phases.check_items.Goals as goal
 

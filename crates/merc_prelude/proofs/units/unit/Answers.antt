@@ -1,6 +1,9 @@
 use Rattle.std.proofs.Common.{◌∙◌}
-use Rattle.merc_prelude.proofs.UnitLaws.{found_unit}
+use Rattle.merc_prelude.proofs.UnitLaws.{found_unit, short_behind}
 use Rattle.merc_prelude.proofs.units.unit.Goals as goal
 
-pub returns : goal.returns
-returns c = record { value = c.text_in.ensures ∙ found_unit c.args.name.now c.unit_table.result.now c.unit_table.ensures }
+pub returns-clause-value : goal.returns-clause-value
+returns-clause-value c = c.text_in.ensures ∙ found_unit c.args.name.now c.unit_table.result.now c.unit_table.ensures
+
+pub returns-clause-short : goal.returns-clause-short
+returns-clause-short c = short_behind c.args.name.now c.text_in.result (returns-clause-value c)

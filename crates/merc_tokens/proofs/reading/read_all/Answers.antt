@@ -29,7 +29,7 @@ loop-at-preserved c =
           rw (w.names-is, w.tokens-is, w.after_name-is, w.len-is, w.is_name-after_name.ensures)
           (reads-token c.args.text.now c.args.names.now c.loop-at.names c.loop-at.tokens at c.loop-at.line w.in-Token.len c.line_ends_in-line.result c.loop-at.after_name c.loop-at.invariant
           (omega (arith, fits.1)) (rw w.len-is at counted) (omega (arith, c.line_ends_in-line.ensures.bound))
-          w.in-Token.spelling w.push_token.new.names grows.0 pushed.0 w.push_token.new.tokens piece grows.1 pushed.1 pushed.2)
+          w.in-Token.spelling w.push_token.new.names grows.0 pushed.0 w.push_token.new.tokens piece grows.1 w.in_ok-push_token-in-Token.ensures.added pushed.1 pushed.2)
     ]
 
 pub returns-in-Fault-clause-reading : goal.returns-in-Fault-clause-reading
@@ -39,5 +39,5 @@ returns-in-Fault-clause-reading c =
 
 pub returns-clause-reading : goal.returns-clause-reading
 returns-clause-reading c =
-    reads-all c.args.text.now c.loop-at.names c.loop-at.tokens c.loop-at.invariant.spelled c.loop-at.at c.loop-at.after_name c.loop-at.invariant.so_far c.loop-at.invariant.texts
+    reads-all c.args.text.now c.args.names.now c.loop-at.names c.loop-at.tokens c.loop-at.invariant.spelled c.loop-at.at c.loop-at.after_name c.loop-at.invariant.so_far c.loop-at.invariant.texts c.loop-at.invariant.table
     (drop_all c.loop-at.at c.args.text.now (omega arith))

@@ -1,7 +1,7 @@
 use Rattle.std.proofs.Common.{◌≡◌, ap, ◌∙◌}
 use Rattle.std.specs.BTreeMap.{get}
 use Rattle.merc_items.specs.DeclaredModes.{listed}
-use Rattle.merc_items.proofs.KeyLaws.{compare_keys}
+use Rattle.merc_entries.proofs.KeyLaws.{compare_keys}
 use Rattle.merc_items.proofs.ModeGrouping.{one_more}
 use Rattle.merc_items.proofs.declared_modes.ModeTable.add.Goals as goal
 use Rattle.merc_items.proofs.declared_modes.ModeTable.add.Goals.{in-Some-remove, in-None}

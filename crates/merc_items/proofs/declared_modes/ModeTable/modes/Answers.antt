@@ -2,7 +2,7 @@ use Rattle.std.proofs.Common.{List, ap, sym, ◌∙◌}
 use Rattle.std.proofs.lemmas.Result.{IfOk-weaker}
 use Rattle.merc_tree.specs.declared.declarations.ModeDecl.{ModeDecl}
 use Rattle.merc_items.specs.DeclaredModes.{kept_modes, listed}
-use Rattle.merc_items.proofs.KeyLaws.{lookup-same, lookup-nothing}
+use Rattle.merc_entries.proofs.KeyLaws.{lookup-same, lookup-nothing}
 use Rattle.merc_items.proofs.declared_modes.ModeTable.modes.Goals as goal
 
 pub returns-in-None : goal.returns-in-None

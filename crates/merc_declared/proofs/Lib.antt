@@ -1,0 +1,5 @@
+pub mod EntryLaws
+pub mod FaultLaws
+pub mod ModeFaultLaws
+pub mod ModeLaws
+pub mod TypeLaws

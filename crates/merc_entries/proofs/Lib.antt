@@ -1,0 +1,9 @@
+pub mod ListSteps
+pub mod DeclarationSteps
+pub mod EntryOrder
+pub mod FirstAgain
+pub mod FirstDoubles
+pub mod Joined
+pub mod KeyLaws
+pub mod SameKeys
+pub mod UnitReading

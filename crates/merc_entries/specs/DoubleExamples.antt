@@ -1,0 +1,180 @@
+-- Doubled declarations: one of each kind, and two modules without any.
+use Rattle.std.specs.Prelude.{◌≡◌, ℕ, ◌*◌, Bool, false, true, ◌||◌, List, [], ◌∷◌, ◌++◌, Some, None, refl}
+use Rattle.std.specs.List.{list_any}
+use Rattle.std.proofs.Common.{ap, ◌∙◌}
+use Rattle.merc_base.specs.declared.place.Place.{Place}
+use Rattle.merc_base.specs.declared.place.Span.{Span}
+use Rattle.merc_tree.specs.Term.{Term, Application, none, more}
+use Rattle.merc_item_forms.specs.Items.{Item, Import, TypeItem, PredicateItem, ModeItem}
+use Rattle.merc_entries.specs.Entries.{Entry, Declared, is_key, is_same_mode, constructors_of, key}
+use Rattle.merc_entries.specs.DoubleFaults.{IsAgain, HasDouble, type_again, constructor_again, arithmetic, predicate_again, error_again, mode_again, bool_and_maybe, at_start, is_arithmetic}
+
+abbrev span : Span
+span = record { first = 0; past = 1; line = 1 }
+
+-- a place on a line of its own
+abbrev line : ℕ → Place
+line number = record { byte = 10 * number; line = number }
+
+abbrev entry : Item → ℕ → Entry
+entry item number = record { item = item; span = span; place = line number; unit = None }
+
+-- a name alone, and with one and two arguments
+abbrev plain : ℕ → Term
+plain name = Application name None none span
+
+abbrev with_one : ℕ → Term → Term
+with_one name argument = Application name None (more argument none) span
+
+abbrev with_two : ℕ → Term → Term → Term
+with_two name first second = Application name None (more first (more second none)) span
+
+abbrev color : List Term → Item
+color constructors = TypeItem (plain 100) constructors
+
+-- `:- type color ---> red.` and `:- type color ---> blue.`
+pub type-example : HasDouble (entry (color (plain 101 ∷ [])) 1 ∷ entry (color (plain 102 ∷ [])) 2 ∷ []) (line 2)
+type-example = type_again (line 2) (record {
+  front = at_start (key 57 0) ∷ at_start (key 58 0) ∷ record { key = key 100 0; place = line 1 } ∷ [];
+  again = record { key = key 100 0; place = line 2 };
+  back = [];
+  whole = refl;
+  before = refl;
+  there = refl;
+})
+
+-- `:- type int ---> red.`
+pub int-example : HasDouble (entry (TypeItem (plain 57) (plain 101 ∷ [])) 1 ∷ []) (line 1)
+int-example = type_again (line 1) (record {
+  front = at_start (key 57 0) ∷ at_start (key 58 0) ∷ [];
+  again = record { key = key 57 0; place = line 1 };
+  back = [];
+  whole = refl;
+  before = refl;
+  there = refl;
+})
+
+-- `:- type color ---> red ; red.`
+pub constructor-example : HasDouble (entry (color (plain 101 ∷ plain 101 ∷ [])) 1 ∷ []) (line 1)
+constructor-example = constructor_again (line 1) (record {
+  front = record { key = key 101 0; place = line 1 } ∷ [];
+  again = record { key = key 101 0; place = line 1 };
+  back = [];
+  whole = refl;
+  before = refl;
+  there = refl;
+})
+
+-- `:- type color ---> red.` and `:- type shade ---> dark ; red.`
+pub shared_constructor-example : HasDouble (entry (color (plain 101 ∷ [])) 1 ∷ entry (TypeItem (plain 103) (plain 104 ∷ plain 101 ∷ [])) 2 ∷ []) (line 2)
+shared_constructor-example = constructor_again (line 2) (record {
+  front = record { key = key 101 0; place = line 1 } ∷ record { key = key 104 0; place = line 2 } ∷ [];
+  again = record { key = key 101 0; place = line 2 };
+  back = [];
+  whole = refl;
+  before = refl;
+  there = refl;
+})
+
+-- `:- type color ---> -(int).`
+pub arithmetic-example : HasDouble (entry (color (with_one 43 (plain 57) ∷ [])) 1 ∷ []) (line 1)
+arithmetic-example = arithmetic [] [] (entry (color (with_one 43 (plain 57) ∷ [])) 1) refl refl
+
+-- `:- pred p(int).`, and the same once more
+pub predicate-example : HasDouble (entry (PredicateItem (with_one 110 (plain 57)) None) 1 ∷ entry (PredicateItem (with_one 110 (plain 57)) None) 3 ∷ []) (line 3)
+predicate-example = predicate_again (line 3) (record {
+  front = record { key = key 110 1; place = line 1 } ∷ [];
+  again = record { key = key 110 1; place = line 3 };
+  back = [];
+  whole = refl;
+  before = refl;
+  there = refl;
+})
+
+-- `:- pred error(string).`, and `:- import_module require.` behind it
+pub error-example : HasDouble (entry (PredicateItem (with_one 54 (plain 58)) None) 1 ∷ entry (Import (plain 62 ∷ [])) 2 ∷ []) (line 2)
+error-example =
+    error_again [] (entry (Import (plain 62 ∷ [])) 2 ∷ []) (entry (PredicateItem (with_one 54 (plain 58)) None) 1) (line 2) refl refl refl
+
+-- `:- mode p(in) is det.`, and `:- mode p(in) is semidet.` behind it
+pub mode-example : HasDouble (entry (ModeItem (with_one 110 (plain 55)) (Some (plain 63))) 1 ∷ entry (ModeItem (with_one 110 (plain 55)) (Some (plain 64))) 2 ∷ []) (line 2)
+mode-example = mode_again (line 2) (record {
+  front = record { key = record { predicate = key 110 1; outputs = false ∷ [] }; place = line 1 } ∷ [];
+  again = record { key = record { predicate = key 110 1; outputs = false ∷ [] }; place = line 2 };
+  back = [];
+  whole = refl;
+  before = refl;
+  there = refl;
+})
+
+-- `:- import_module maybe.`, and `:- import_module list, bool.` behind it
+pub units-example : HasDouble (entry (Import (plain 61 ∷ [])) 1 ∷ entry (Import (plain 59 ∷ plain 60 ∷ [])) 2 ∷ []) (line 2)
+units-example = bool_and_maybe (line 2) (line 1) refl refl
+
+-- how a list of two splits
+
+no_split : {A : Type 0} (front : List A) (again : A) (back : List A) → [] ≡ front ++ again ∷ back → ⊥
+no_split [] again back whole = cc
+no_split (first ∷ front) again back whole = cc
+
+or_false : (test : Bool) → (test || false) ≡ true → test ≡ true
+or_false true is = refl
+or_false false is = is
+
+none_again : {K : Type 0} (same : K → K → Bool) (place : Place) → IsAgain same [] place → ⊥
+none_again same place found = no_split found.front found.again found.back found.whole
+
+two_split : {K : Type 0} (same : K → K → Bool) (a b : Declared K) (front : List (Declared K)) (again : Declared K) (back : List (Declared K))
+    → same b.key a.key ≡ false → a ∷ b ∷ [] ≡ front ++ again ∷ back → list_any (λ other. same again.key other.key) front ≡ true → ⊥
+two_split same a b [] again back apart whole before = cc
+two_split same a b (first ∷ []) again back apart whole before = let e = or_false (same again.key first.key) before in cc
+two_split {K} same a b (first ∷ second ∷ front) again back apart whole before =
+    let e : [] ≡ front ++ again ∷ back = cc in no_split front again back e
+
+two_apart : {K : Type 0} (same : K → K → Bool) (a b : Declared K) (place : Place) → same b.key a.key ≡ false → IsAgain same (a ∷ b ∷ []) place → ⊥
+two_apart same a b place apart found = two_split same a b found.front found.again found.back apart found.whole found.before
+
+-- `:- pred p(int).` and `:- pred p(int, int).`
+abbrev two_arities : List Entry
+two_arities = entry (PredicateItem (with_one 110 (plain 57)) None) 1 ∷ entry (PredicateItem (with_two 110 (plain 57) (plain 57)) None) 2 ∷ []
+
+no_constructor : (found known : Entry) → found ≡ known → constructors_of known.item ≡ [] → list_any is_arithmetic (constructors_of found.item) ≡ true → ⊥
+no_constructor found known same without passes =
+    let e : constructors_of found.item ≡ [] = ap (λ e. constructors_of e.item) same ∙ without in let t : false ≡ true = rw e at passes in cc
+
+two_arities-arithmetic : (front : List Entry) (found : Entry) (back : List Entry) → two_arities ≡ front ++ found ∷ back → list_any is_arithmetic (constructors_of found.item) ≡ true → ⊥
+two_arities-arithmetic [] found back whole passes =
+    let same : found ≡ entry (PredicateItem (with_one 110 (plain 57)) None) 1 = cc in no_constructor found (entry (PredicateItem (with_one 110 (plain 57)) None) 1) same refl passes
+two_arities-arithmetic (first ∷ []) found back whole passes =
+    let same : found ≡ entry (PredicateItem (with_two 110 (plain 57) (plain 57)) None) 2 = cc in
+    no_constructor found (entry (PredicateItem (with_two 110 (plain 57) (plain 57)) None) 2) same refl passes
+two_arities-arithmetic (first ∷ second ∷ front) found back whole passes = let e : [] ≡ front ++ found ∷ back = cc in no_split front found back e
+
+pub arity-counterexample : (place : Place) → HasDouble two_arities place → ⊥
+arity-counterexample _ (type_again place found) = two_apart is_key (at_start (key 57 0)) (at_start (key 58 0)) place refl found
+arity-counterexample _ (constructor_again place found) = none_again is_key place found
+arity-counterexample _ (arithmetic front back found whole passes) = two_arities-arithmetic front found back whole passes
+arity-counterexample _ (predicate_again place found) = two_apart is_key (record { key = key 110 1; place = line 1 }) (record { key = key 110 2; place = line 2 }) place refl found
+arity-counterexample _ (error_again front back found place whole passes imported) = cc
+arity-counterexample _ (mode_again place found) = none_again is_same_mode place found
+arity-counterexample _ (bool_and_maybe bool maybe a b) = cc
+
+-- `:- import_module bool.` twice
+abbrev imported_twice : List Entry
+imported_twice = entry (Import (plain 60 ∷ [])) 1 ∷ entry (Import (plain 60 ∷ [])) 2 ∷ []
+
+imported_twice-arithmetic : (front : List Entry) (found : Entry) (back : List Entry) → imported_twice ≡ front ++ found ∷ back → list_any is_arithmetic (constructors_of found.item) ≡ true → ⊥
+imported_twice-arithmetic [] found back whole passes =
+    let same : found ≡ entry (Import (plain 60 ∷ [])) 1 = cc in no_constructor found (entry (Import (plain 60 ∷ [])) 1) same refl passes
+imported_twice-arithmetic (first ∷ []) found back whole passes =
+    let same : found ≡ entry (Import (plain 60 ∷ [])) 2 = cc in no_constructor found (entry (Import (plain 60 ∷ [])) 2) same refl passes
+imported_twice-arithmetic (first ∷ second ∷ front) found back whole passes = let e : [] ≡ front ++ found ∷ back = cc in no_split front found back e
+
+pub import-counterexample : (place : Place) → HasDouble imported_twice place → ⊥
+import-counterexample _ (type_again place found) = two_apart is_key (at_start (key 57 0)) (at_start (key 58 0)) place refl found
+import-counterexample _ (constructor_again place found) = none_again is_key place found
+import-counterexample _ (arithmetic front back found whole passes) = imported_twice-arithmetic front found back whole passes
+import-counterexample _ (predicate_again place found) = none_again is_key place found
+import-counterexample _ (error_again front back found place whole passes imported) = cc
+import-counterexample _ (mode_again place found) = none_again is_same_mode place found
+import-counterexample _ (bool_and_maybe bool maybe a b) = cc

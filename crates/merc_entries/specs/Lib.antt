@@ -1,0 +1,11 @@
+pub mod Entries
+pub mod EntryValue
+pub mod KeyValue
+pub mod ModeValue
+pub mod KeySets
+pub mod Units
+pub mod Joining
+pub mod DoubleFaults
+pub mod FirstPlaces
+pub mod EntriesExamples
+pub mod DoubleExamples

@@ -1,0 +1,134 @@
+//! What the items of a module declare, in the order of their places.
+ghost use Rattle.std.specs.Prelude.{◌≡◌, ◌++◌, map, IfOk, OnOk};
+ghost use Rattle.merc_entries.specs.Entries.{types_of, constructors_of, predicates_of, modes_of, declared_by, key, own_entries};
+ghost use Rattle.merc_entries.specs.DoubleFaults.{type_keys, at_start};
+ghost use Rattle.merc_item_forms.specs.ItemValue.{item_value};
+ghost use Rattle.merc_entries.specs.EntryValue.{entry_values};
+ghost use Rattle.merc_entries.specs.KeyValue.{key_value};
+ghost use Rattle.merc_entries.specs.KeySets.{keys_at};
+ghost use Rattle.merc_entries.specs.ModeValue.{mode_value};
+ghost use Rattle.merc_entries.specs.FirstPlaces.{declared_value, declared_at};
+
+use super::again::Declared;
+use super::modes::{Mode, mode_of};
+use crate::entry::Entry;
+use crate::key::Key;
+use crate::key_set::key_of;
+use merc_base::{Name, NoMemory, Place};
+use merc_item_forms::Item;
+use merc_operands::members;
+use std::alloc::Global;
+
+/// The types, with `int` and `string` from the start.
+pub(crate) fn types(alloc: Global, entries: &[Entry<'_>]) -> Result<Vec<Declared<Key>>, NoMemory>
+    ensures { IfOk result (λ types. map (declared_value key_value) types.items ≡ type_keys (entry_values entries.now)) }
+{
+    let mut types = Vec::new(alloc);
+    types.push(at_start(Name::INT))?;
+    types.push(at_start(Name::STRING))?;
+    for entry in entries {
+        if let Some(key) = type_of(&entry.item) {
+            let place = entry.place;
+            types.push(Declared { key, place })?;
+        }
+    }
+    Ok(types)
+}
+
+/// The constructors.
+pub(crate) fn constructors(
+    alloc: Global,
+    entries: &[Entry<'_>],
+) -> Result<Vec<Declared<Key>>, NoMemory>
+    ensures { IfOk result (λ constructors. map (declared_value key_value) constructors.items ≡ declared_by constructors_of (entry_values entries.now)) }
+{
+    let mut constructors = Vec::new(alloc);
+    for entry in entries {
+        push_constructors(alloc, entry, &mut constructors)?;
+    }
+    Ok(constructors)
+}
+
+/// The predicates.
+pub(crate) fn predicates(
+    alloc: Global,
+    entries: &[Entry<'_>],
+) -> Result<Vec<Declared<Key>>, NoMemory>
+    ensures { IfOk result (λ predicates. map (declared_value key_value) predicates.items ≡ declared_by predicates_of (entry_values entries.now)) }
+{
+    let mut predicates = Vec::new(alloc);
+    for entry in entries {
+        if let Some(key) = predicate_of(&entry.item) {
+            let place = entry.place;
+            predicates.push(Declared { key, place })?;
+        }
+    }
+    Ok(predicates)
+}
+
+/// The modes of the file's own predicates.
+pub(crate) fn modes(alloc: Global, entries: &[Entry<'_>]) -> Result<Vec<Declared<Mode>>, NoMemory>
+    ensures { IfOk result (λ modes. map (declared_value mode_value) modes.items ≡ declared_by modes_of (own_entries (entry_values entries.now))) }
+{
+    let mut modes = Vec::new(alloc);
+    for entry in entries {
+        if entry.unit.is_none() {
+            if let Some(key) = mode_of(alloc, &entry.item)? {
+                let place = entry.place;
+                modes.push(Declared { key, place })?;
+            }
+        }
+    }
+    Ok(modes)
+}
+
+// A type without arguments that is declared before any item.
+fn at_start(name: Name) -> Declared<Key>
+    ensures { declared_value key_value result ≡ at_start (key name 0) }
+{
+    Declared {
+        key: Key { name, arity: 0 },
+        place: Place { byte: 0, line: 1 },
+    }
+}
+
+// Puts the constructors of an item's type behind the others.
+fn push_constructors(
+    alloc: Global,
+    entry: &Entry<'_>,
+    constructors: &mut Vec<Declared<Key>>,
+) -> Result<(), NoMemory>
+    ensures { OnOk result (map (declared_value key_value) constructors.new.items ≡ map (declared_value key_value) constructors.old.items ++ declared_at entry.now.place (constructors_of (item_value entry.now.item))) }
+{
+    let root = match &entry.item {
+        Item::Type(_, root) => root,
+        _ => return Ok(()),
+    };
+    let place = entry.place;
+    for constructor in &members(alloc, root, Name::SEMICOLON)? {
+        if let Some(key) = key_of(constructor) {
+            constructors.push(Declared { key, place })?;
+        }
+    }
+    Ok(())
+}
+
+// The type that an item declares.
+fn type_of(item: &Item<'_>) -> Option<Key>
+    ensures { keys_at result ≡ types_of (item_value item.now) }
+{
+    match item {
+        Item::Type(head, _) => key_of(head),
+        _ => None,
+    }
+}
+
+// The predicate that an item declares.
+fn predicate_of(item: &Item<'_>) -> Option<Key>
+    ensures { keys_at result ≡ predicates_of (item_value item.now) }
+{
+    match item {
+        Item::Predicate(head, _) => key_of(head),
+        _ => None,
+    }
+}

@@ -1,0 +1,119 @@
+-- Worked examples of how the forms are checked, which the prover computes, and false statements that it refutes.
+use Rattle.std.specs.Prelude.{◌≡◌, ℕ, ◌≤◌, true, false, List, [], ◌∷◌, ◌++◌, Some, None, refl}
+use Rattle.std.proofs.Common.{ap, inr, lit<, arith}
+use Rattle.merc_base.specs.declared.place.Place.{Place}
+use Rattle.merc_base.specs.Refusal.{rule_number}
+use Rattle.merc_base.specs.declared.refusal.Detail.{Detail}
+use Rattle.merc_base.specs.declared.refusal.Detail.TheVariants.{Plain, Word, Limit}
+use Rattle.merc_base.specs.declared.refusal.Construct.TheVariants.{Declaration}
+use Rattle.merc_base.specs.declared.refusal.Fault.TheVariants.{Refused}
+use Rattle.merc_base.specs.declared.refusal.LimitName.TheVariants.{Arity}
+use Rattle.merc_base.specs.declared.refusal.Rule.{Rule}
+use Rattle.merc_base.specs.declared.refusal.Rule.TheVariants.{WrongForm, OutsideProfile, LimitPassed}
+use Rattle.merc_tree.specs.Term.{Term, Application, none, more}
+use Rattle.merc_tree.specs.declared.term.Shape.TheVariants.{Application as ApplicationShape}
+use Rattle.merc_item_forms.specs.Forms.{second_opening}
+use Rattle.merc_item_forms.specs.FormChecks.{fault_of, least_fault, first_refusal}
+use Rattle.merc_item_forms.specs.FormFaults.{Rises, IsFormRefusal, HasFormFault, no_item, wrong, outside, wide}
+use Rattle.merc_item_forms.specs.FormsExamples.{names, blank, t, plain, m, f, p, apply, both, declared, int}
+use Rattle.merc_operands.specs.Members.{link_of, stacked}
+use Rattle.merc_operands.specs.Operands.{operands_of, head_and_category}
+use Rattle.merc_item_forms.specs.Parameters.{own_variables, has_double, has_equal_neighbors}
+use Rattle.merc_item_forms.specs.Parts.{is_outside_shape, is_moded_shape, is_wide_shape}
+use Rattle.merc_operands.specs.declared.operands.Operands.TheVariants.{Two, Qualified}
+
+-- parts
+
+pub is_outside_shape-char : is_outside_shape (ApplicationShape 71 None 0) ≡ true
+is_outside_shape-char = refl
+
+-- `char` with an argument is a type of the file's own
+pub is_outside_shape-argument : is_outside_shape (ApplicationShape 71 None 1) ≡ false
+is_outside_shape-argument = refl
+
+pub is_moded_shape-example : is_moded_shape (ApplicationShape 18 None 2) ≡ true
+is_moded_shape-example = refl
+
+pub is_wide_shape-example : is_wide_shape (ApplicationShape f None 65) ≡ true
+is_wide_shape-example = refl
+
+pub is_wide_shape-64 : is_wide_shape (ApplicationShape f None 64) ≡ false
+is_wide_shape-64 = refl
+
+-- parameters
+
+pub own_variables-example : own_variables names (t ∷ blank ∷ int ∷ t ∷ []) ≡ 1 ∷ 1 ∷ []
+own_variables-example = refl
+
+pub has_double-example : has_double (7 ∷ 8 ∷ 7 ∷ []) ≡ true
+has_double-example = refl
+
+pub has_equal_neighbors-example : has_equal_neighbors (7 ∷ 7 ∷ 8 ∷ []) ≡ true
+has_equal_neighbors-example = refl
+
+pub has_equal_neighbors-apart : has_equal_neighbors (7 ∷ 8 ∷ 7 ∷ []) ≡ false
+has_equal_neighbors-apart = refl
+
+-- the fault of one item
+
+pub fault_of-wrong : fault_of names m false false (declared 12 (plain m)) ≡ Some (WrongForm, Plain)
+fault_of-wrong = refl
+
+pub fault_of-outside : fault_of names m false false (declared 7 (plain f)) ≡ Some (OutsideProfile, Word Declaration)
+fault_of-outside = refl
+
+-- a wrong form comes before what the profile leaves out
+pub fault_of-both : fault_of names m true false (declared 7 (plain f)) ≡ Some (WrongForm, Plain)
+fault_of-both = refl
+
+pub fault_of-none : fault_of names m false false (declared 33 (plain p)) ≡ None
+fault_of-none = refl
+
+pub least_fault-wide : least_fault false None true ≡ Some (LimitPassed, Limit Arity)
+least_fault-wide = refl
+
+-- the faults of a module
+
+-- `:- module m.` from this byte on
+abbrev opening : ℕ → Term
+opening first = Application 10 None (more (apply 12 (plain m ∷ [])) none) (record { first = first; past = first; line = 1 })
+
+pub Rises-example : Rises (opening 0 ∷ opening 20 ∷ [])
+Rises-example = (lit< tt, tt)
+
+pub Rises-not : Rises (opening 20 ∷ opening 20 ∷ []) → ⊥
+Rises-not up = omega (arith, up.0)
+
+abbrev at_twenty : Place
+at_twenty = record { byte = 20; line = 1 }
+
+pub first_refusal-example : first_refusal names (opening 0 ∷ opening 20 ∷ []) ≡ Some (record { rule = WrongForm; place = at_twenty; detail = Plain })
+first_refusal-example = refl
+
+pub first_refusal-none : first_refusal names (opening 0 ∷ []) ≡ None
+first_refusal-none = refl
+
+pub HasFormFault-example : HasFormFault names (opening 0 ∷ opening 20 ∷ []) WrongForm Plain at_twenty
+HasFormFault-example = wrong (opening 0 ∷ []) [] (opening 20) refl (second_opening true m)
+
+-- a module without items is refused at its front, and nowhere else
+
+nothing : (front back : List Term) (term : Term) → [] ≡ front ++ term ∷ back → ⊥
+nothing [] back term whole = cc
+nothing (first ∷ front) back term whole = cc
+
+no_item_only : {rule : Rule} {detail : Detail} {place : Place} → HasFormFault names [] rule detail place → (place ≡ record { byte = 0; line = 1 }) × (rule ≡ WrongForm)
+no_item_only (no_item empty) = (refl, refl)
+no_item_only (wrong front back term whole is) = absurd (nothing front back term whole)
+no_item_only (outside front back term word rest whole is) = absurd (nothing front back term whole)
+no_item_only (wide front back term whole is) = absurd (nothing front back term whole)
+
+three_of : (rule : Rule) → rule ≡ WrongForm → 3 ≤ rule_number rule
+three_of rule same = omega (arith, ap rule_number same)
+
+pub IsFormRefusal-example : IsFormRefusal names [] (Refused (record { rule = WrongForm; place = record { byte = 0; line = 1 }; detail = Plain }))
+IsFormRefusal-example =
+    record { fault = no_item refl; first = λ rule detail place fault. let found = no_item_only fault in inr (found.0, three_of rule found.1) }
+
+pub IsFormRefusal-not : IsFormRefusal names [] (Refused (record { rule = WrongForm; place = at_twenty; detail = Plain })) → ⊥
+IsFormRefusal-not refused = omega (arith, ap (λ place. place.byte) (no_item_only refused.fault).0)

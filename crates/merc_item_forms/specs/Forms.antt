@@ -1,0 +1,225 @@
+-- The forms of declarations and clause heads: what is wrong with an item by itself. The name of the module is that of the first item.
+use Rattle.std.specs.Prelude.{◌≡◌, ℕ, Bool, true, false, ◌==◌, ◌&&◌, ◌||◌, not, nat_le, nat_lt, List, [], ◌∷◌, ◌++◌, length, Option, Some, None, is_some, if◌then◌else◌, codes}
+use Rattle.std.specs.List.{list_any, list_all, flat_map}
+use Rattle.std.specs.Str.{bytes_eq}
+use Rattle.merc_value.specs.Text.{text_at}
+use Rattle.merc_base.specs.declared.category.Category.{Category}
+use Rattle.merc_base.specs.declared.category.Category.TheVariants.{Det, Semidet, Multi, Nondet, Erroneous, Failure}
+use Rattle.merc_base.specs.declared.refusal.Construct.{Construct}
+use Rattle.merc_base.specs.declared.refusal.Construct.TheVariants.{Declaration, Import as ImportWord, ModeName, Category as CategoryWord, «Type» as TypeWord, Function, GrammarRule}
+use Rattle.merc_tree.specs.Term.{Term, Terms, Variable, Integer, Text, Application, none, more}
+use Rattle.merc_tree.specs.Shape.{arguments_of}
+use Rattle.merc_item_forms.specs.Items.{Item, Opening, Ending, Import, TypeItem, PredicateItem, ModeItem, ClauseItem, OtherType, OtherFunction, OtherGrammar, OtherDeclaration, Formless}
+use Rattle.merc_operands.specs.Operands.{plain_name}
+
+abbrev pub is_in : ℕ → List ℕ → Bool
+is_in name names = list_any (λ other. name == other) names
+
+-- Heads
+
+-- `true` `fail` `false` `not` `\=` `<` `>` `=<` `>=` `,` `;` `&` `->` `if` `then` `else` `\+` `some` `all` `=>` `<=>`
+abbrev pub is_reserved : ℕ → Bool
+is_reserved name =
+    is_in name (51 ∷ 52 ∷ 53 ∷ 31 ∷ 37 ∷ 38 ∷ 39 ∷ 40 ∷ 41 ∷ 26 ∷ 23 ∷ 25 ∷ 24 ∷ 21 ∷ 22 ∷ 20 ∷ 32 ∷ 27 ∷ 28 ∷ 29 ∷ 30 ∷ [])
+
+abbrev pub is_application : Term → Bool
+is_application (Application name qualifier arguments span) = true
+is_application other = false
+
+-- a head is no variable and no literal, and names no connective, comparison, quantifier or `true`, `fail`, `false`
+abbrev pub is_head : Term → Bool
+is_head (Application name qualifier arguments span) = not (is_reserved name)
+is_head other = false
+
+-- a head with `=` and two arguments is a function's
+abbrev pub is_function_head : Term → Bool
+is_function_head (Application name qualifier (more first (more second none)) span) = name == 36
+is_function_head other = false
+
+-- a qualifier other than the module's name
+abbrev pub is_foreign : ℕ → Term → Bool
+is_foreign own (Application name (Some qualifier) arguments span) = not (qualifier == own)
+is_foreign own other = false
+
+abbrev pub is_wide : Term → Bool
+is_wide term = nat_lt 64 (length (arguments_of term))
+
+-- Types
+
+-- whether some part of a term, itself among them, is so
+abbrev mutual
+  pub has_part : (Term → Bool) → Term → Bool
+  has_part test (Variable name span) = test (Variable name span)
+  has_part test (Integer value span) = test (Integer value span)
+  has_part test (Text name span) = test (Text name span)
+  has_part test (Application name qualifier arguments span) = test (Application name qualifier arguments span) || have_part test arguments
+
+  pub have_part : (Term → Bool) → Terms → Bool
+  have_part test none = false
+  have_part test (more first rest) = has_part test first || have_part test rest
+
+abbrev pub is_literal : Term → Bool
+is_literal (Integer value span) = true
+is_literal (Text name span) = true
+is_literal other = false
+
+-- `char`, `float`, `uint`, `int8` to `int64` and `uint8` to `uint64` without arguments and qualifier, and `pred` and `func` types
+abbrev pub is_outside_type : Term → Bool
+is_outside_type (Application name None none span) = (nat_le 71 name && nat_le name 81) || (name == 33) || (name == 34)
+is_outside_type (Application name None arguments span) = (name == 33) || (name == 34)
+is_outside_type other = false
+
+-- `T::M`
+abbrev pub is_moded : Term → Bool
+is_moded (Application name None (more first (more second none)) span) = name == 18
+is_moded other = false
+
+-- the type of a predicate's argument, and its mode
+abbrev pub argument_type : Term → Term
+argument_type (Application name None (more first (more second none)) span) =
+    if name == 18 then first else Application name None (more first (more second none)) span
+argument_type other = other
+
+abbrev pub argument_mode : Term → Option Term
+argument_mode (Application name None (more first (more second none)) span) = if name == 18 then Some second else None
+argument_mode other = None
+
+-- Modes and categories
+
+abbrev pub is_mode_name : Option ℕ → Bool
+is_mode_name None = false
+is_mode_name (Some name) = (name == 55) || (name == 56)
+
+abbrev pub is_mode : Term → Bool
+is_mode term = is_mode_name (plain_name term)
+
+-- whether a mode stands there that is a variable or a literal
+abbrev pub lacks_mode : Option Term → Bool
+lacks_mode None = false
+lacks_mode (Some term) = not (is_application term)
+
+-- a category's name; `cc_multi` and `cc_nondet` are left out
+abbrev pub category_named : ℕ → Option Category
+category_named name =
+    if name == 63 then Some Det
+    else if name == 64 then Some Semidet
+    else if name == 65 then Some Multi
+    else if name == 66 then Some Nondet
+    else if name == 67 then Some Erroneous
+    else if name == 68 then Some Failure
+    else None
+
+abbrev pub is_outside_category : Option ℕ → Bool
+is_outside_category None = false
+is_outside_category (Some name) = (name == 69) || (name == 70)
+
+abbrev pub is_category : Option ℕ → Bool
+is_category None = false
+is_category (Some name) = is_some (category_named name) || (name == 69) || (name == 70)
+
+-- whether a category stands there that is no category's name
+abbrev pub lacks_category : Option Term → Bool
+lacks_category None = false
+lacks_category (Some term) = not (is_category (plain_name term))
+
+-- Type parameters are distinct variables. Each `_` is a variable of its own.
+
+abbrev pub is_blank : List (List ℕ) → ℕ → Bool
+is_blank names name = bytes_eq (text_at names name) (codes "_")
+
+abbrev pub is_variable : Term → Bool
+is_variable (Variable name span) = true
+is_variable other = false
+
+abbrev pub is_this_variable : ℕ → Term → Bool
+is_this_variable name (Variable other span) = name == other
+is_this_variable name other = false
+
+-- whether a variable of one of these terms stands among the later ones again
+abbrev pub repeats : List (List ℕ) → List Term → Bool
+repeats names [] = false
+repeats names (Variable name span ∷ rest) = (not (is_blank names name) && list_any (is_this_variable name) rest) || repeats names rest
+repeats names (other ∷ rest) = repeats names rest
+
+abbrev pub is_opening : Item → Bool
+is_opening (Opening name) = true
+is_opening other = false
+
+-- What is not of the form of an item, in a module of this name.
+pub data IsWrong (names : List (List ℕ)) (own : ℕ) : (first last : Bool) → Item → Type 0 where
+  no_opening : (last : Bool) (item : Item) → is_opening item ≡ false → IsWrong names own true last item
+  second_opening : (last : Bool) (name : ℕ) → IsWrong names own false last (Opening name)
+  early_end : (first : Bool) (name : ℕ) → IsWrong names own first false (Ending name)
+  other_end : (first last : Bool) (name : ℕ) → name == own ≡ false → IsWrong names own first last (Ending name)
+  formless : (first last : Bool) → IsWrong names own first last Formless
+  type_head : (first last : Bool) (head : Term) (constructors : List Term) → is_application head ≡ false → IsWrong names own first last (TypeItem head constructors)
+  type_qualifier : (first last : Bool) (head : Term) (constructors : List Term) → is_foreign own head ≡ true → IsWrong names own first last (TypeItem head constructors)
+  parameters : (first last : Bool) (head : Term) (constructors : List Term) → list_all is_variable (arguments_of head) ≡ false → IsWrong names own first last (TypeItem head constructors)
+  parameters_repeat : (first last : Bool) (head : Term) (constructors : List Term) → repeats names (arguments_of head) ≡ true → IsWrong names own first last (TypeItem head constructors)
+  constructor_head : (first last : Bool) (head : Term) (constructors : List Term) → list_all is_application constructors ≡ false → IsWrong names own first last (TypeItem head constructors)
+  constructor_qualifier : (first last : Bool) (head : Term) (constructors : List Term) → list_any (is_foreign own) constructors ≡ true → IsWrong names own first last (TypeItem head constructors)
+  constructor_literal : (first last : Bool) (head : Term) (constructors : List Term) → list_any (has_part is_literal) constructors ≡ true → IsWrong names own first last (TypeItem head constructors)
+  predicate_head : (first last : Bool) (head : Term) (category : Option Term) → is_head head ≡ false → IsWrong names own first last (PredicateItem head category)
+  predicate_qualifier : (first last : Bool) (head : Term) (category : Option Term) → is_foreign own head ≡ true → IsWrong names own first last (PredicateItem head category)
+  predicate_literal : (first last : Bool) (head : Term) (category : Option Term) → list_any (λ argument. has_part is_literal (argument_type argument)) (arguments_of head) ≡ true → IsWrong names own first last (PredicateItem head category)
+  partly_moded : (first last : Bool) (head : Term) (category : Option Term) → list_any is_moded (arguments_of head) && list_any (λ argument. not (is_moded argument)) (arguments_of head) ≡ true → IsWrong names own first last (PredicateItem head category)
+  predicate_mode : (first last : Bool) (head : Term) (category : Option Term) → list_any (λ argument. lacks_mode (argument_mode argument)) (arguments_of head) ≡ true → IsWrong names own first last (PredicateItem head category)
+  predicate_category : (first last : Bool) (head : Term) (category : Option Term) → lacks_category category ≡ true → IsWrong names own first last (PredicateItem head category)
+  mode_head : (first last : Bool) (head : Term) (category : Option Term) → is_head head ≡ false → IsWrong names own first last (ModeItem head category)
+  mode_qualifier : (first last : Bool) (head : Term) (category : Option Term) → is_foreign own head ≡ true → IsWrong names own first last (ModeItem head category)
+  mode_argument : (first last : Bool) (head : Term) (category : Option Term) → list_all is_application (arguments_of head) ≡ false → IsWrong names own first last (ModeItem head category)
+  mode_category : (first last : Bool) (head : Term) (category : Option Term) → lacks_category category ≡ true → IsWrong names own first last (ModeItem head category)
+  clause_head : (first last : Bool) (head : Term) (body : Option Term) → is_head head ≡ false → IsWrong names own first last (ClauseItem head body)
+
+-- What the profile leaves out, as the words for it in the order of their tokens.
+
+abbrev pub word_if : Bool → Construct → List Construct
+word_if true word = word ∷ []
+word_if false word = []
+
+abbrev pub type_words : Term → List Construct
+type_words term = word_if (has_part is_outside_type term) TypeWord
+
+abbrev pub mode_words : Option Term → List Construct
+mode_words None = []
+mode_words (Some term) = word_if (not (is_mode term)) ModeName
+
+abbrev pub argument_words : Term → List Construct
+argument_words argument = type_words (argument_type argument) ++ mode_words (argument_mode argument)
+
+abbrev pub category_words : Option Term → List Construct
+category_words None = []
+category_words (Some term) = word_if (is_outside_category (plain_name term)) CategoryWord
+
+-- the six units: `int` `string` `list` `bool` `maybe` `require`
+abbrev pub is_unit : Option ℕ → Bool
+is_unit None = false
+is_unit (Some name) = nat_le 57 name && nat_le name 62
+
+-- a constructor with `::` or a type that is left out, in an argument
+abbrev pub constructor_words : Term → List Construct
+constructor_words constructor = word_if (has_part is_moded constructor || list_any (has_part is_outside_type) (arguments_of constructor)) TypeWord
+
+abbrev pub words : Item → List Construct
+words (Import units) = flat_map (λ unit. word_if (not (is_unit (plain_name unit))) ImportWord) units
+words (TypeItem head constructors) = word_if (is_outside_type head) TypeWord ++ flat_map constructor_words constructors
+words (PredicateItem head category) =
+    if is_function_head head then Function ∷ []
+    else flat_map argument_words (arguments_of head) ++ category_words category
+words (ModeItem head category) =
+    if is_function_head head then Function ∷ []
+    else flat_map (λ argument. mode_words (Some argument)) (arguments_of head) ++ category_words category
+words (ClauseItem head body) = word_if (is_function_head head) Function
+words OtherType = TypeWord ∷ []
+words OtherFunction = Function ∷ []
+words OtherGrammar = GrammarRule ∷ []
+words OtherDeclaration = Declaration ∷ []
+words other = []
+
+-- More than 64 arguments of a predicate, a constructor or a type.
+abbrev pub is_too_wide : Item → Bool
+is_too_wide (TypeItem head constructors) = is_wide head || list_any (has_part is_wide) constructors
+is_too_wide (PredicateItem head category) = is_wide head || list_any (λ argument. has_part is_wide (argument_type argument)) (arguments_of head)
+is_too_wide (ModeItem head category) = is_wide head
+is_too_wide (ClauseItem head body) = is_wide head
+is_too_wide other = false

@@ -1,0 +1,9 @@
+pub mod Items
+pub mod ItemValue
+pub mod Forms
+pub mod Parts
+pub mod FormFaults
+pub mod FormChecks
+pub mod Parameters
+pub mod FormsExamples
+pub mod FormChecksExamples

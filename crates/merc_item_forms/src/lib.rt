@@ -1,0 +1,18 @@
+//! What an item of a module is, and the form of each: what is wrong with a declaration or a clause by itself.
+#![tactic(auto)]
+
+mod arguments;
+mod declarations;
+mod forms;
+mod heads;
+mod item;
+mod parameters;
+mod parts;
+#[cfg(test)]
+mod tests;
+
+pub use arguments::{argument_mode, argument_type, is_moded};
+pub use forms::{check_forms, own_name};
+pub use heads::is_foreign;
+pub use item::{Item, item_of};
+pub use parameters::is_blank;

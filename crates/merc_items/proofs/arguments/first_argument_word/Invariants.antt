@@ -1,8 +1,0 @@
-use Rattle.std.proofs.Common.{◌≡◌, drop}
-use Rattle.std.specs.List.{flat_map}
-use Rattle.merc_items.specs.FormChecks.{first_of}
-use Rattle.merc_items.specs.Forms.{argument_words}
-use Rattle.merc_items.proofs.arguments.first_argument_word.Given as goal
-
-abbrev pub invariant-loop-argument : goal.invariant-loop-argument
-invariant-loop-argument l = first_of (flat_map argument_words (drop l.argument-index l.arguments)) ≡ first_of (flat_map argument_words l.arguments)

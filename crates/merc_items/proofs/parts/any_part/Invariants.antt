@@ -1,8 +1,0 @@
-use Rattle.std.proofs.Common.{◌≡◌, false, take}
-use Rattle.std.specs.List.{list_any}
-use Rattle.merc_tree.specs.Postfix.{shapes_of}
-use Rattle.merc_items.specs.Parts.{shape_test}
-use Rattle.merc_items.proofs.parts.any_part.Given as goal
-
-abbrev pub invariant-loop-index : goal.invariant-loop-index
-invariant-loop-index l = list_any (shape_test l.test) (take l.index (shapes_of l.term)) ≡ false
