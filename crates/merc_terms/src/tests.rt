@@ -1,6 +1,6 @@
 //! Items and goals, with ample memory.
 
-use crate::{read_goal, read_items};
+use crate::{GOAL_LIMIT, read_goal, read_goal_text, read_items, read_text};
 use merc_base::{Detail, Fault, LimitName, Name, Names, Refusal, Rule, Text};
 use merc_tokens::{Tokens, tokens};
 use merc_tree::{Shape, Term, Terms};
@@ -172,5 +172,50 @@ fn reads_long_and_deep_texts(rt: HostRuntime) -> Result<(), Fail> {
     repeat(&mut list, b"1,", 99999)?;
     list.push(b"1]")?;
     assert_eq!(rt; goal(alloc, list.bytes())?.as_ref().nesting(alloc)?, 2);
+    Ok(())
+}
+
+// So many blanks and a variable.
+fn variable_behind(alloc: Global, blanks: usize) -> Result<Text, Fail> {
+    let mut text = Text::new(alloc);
+    for _ in 0..blanks {
+        text.push(b" ")?;
+    }
+    text.push(b"X")?;
+    Ok(text)
+}
+
+#[test]
+fn keeps_the_limit_on_a_goals_text(rt: HostRuntime) -> Result<(), Fail> {
+    let alloc = rt.alloc();
+    let mut names = Names::new(alloc);
+    let longest = variable_behind(alloc, GOAL_LIMIT - 1)?;
+    let term = read_goal_text(alloc, longest.bytes(), &mut names).expect(&rt, "a goal");
+    assert_eq!(rt; term.as_ref().span().past, 65_536);
+    let longer = variable_behind(alloc, GOAL_LIMIT)?;
+    let Err(Fault::Refused(refusal)) = read_goal_text(alloc, longer.bytes(), &mut names) else {
+        return Err(Fail::new("not refused"));
+    };
+    assert_eq!(rt; refusal.rule, Rule::LimitPassed);
+    assert_eq!(rt; refusal.detail, Detail::Limit(LimitName::GoalText));
+    assert_eq!(rt; refusal.place.byte, 0);
+    assert_eq!(rt; refusal.place.line, 1);
+    Ok(())
+}
+
+#[test]
+fn reads_the_items_of_a_text_and_their_names(rt: HostRuntime) -> Result<(), Fail> {
+    let alloc = rt.alloc();
+    let mut names = Names::new(alloc);
+    let terms = read_text(alloc, b"p(X).\nX = q.", &mut names).expect(&rt, "two items");
+    assert_eq!(rt; terms.len(), 2);
+    let first = terms.get(0).expect(&rt, "the first item");
+    let Shape::Application { name, arity, .. } = first.shape() else {
+        return Err(Fail::new("no application"));
+    };
+    assert_eq!(rt; names.text(name), Some(b"p".as_slice()));
+    assert_eq!(rt; arity, 1);
+    let none = read_text(alloc, b"", &mut names).expect(&rt, "no items");
+    assert_eq!(rt; none.len(), 0);
     Ok(())
 }

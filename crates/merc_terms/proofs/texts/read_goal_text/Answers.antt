@@ -1,4 +1,3 @@
-use Rattle.std.proofs.Common.{◌≤◌, length}
 use Rattle.std.proofs.lemmas.Result.{IfErr-weaker, IfOk-weaker, err_from_is_err_and}
 use Rattle.merc_terms.specs.Texts.{goal_limit}
 use Rattle.merc_terms.specs.Texts.RefusesGoalText.{long}
