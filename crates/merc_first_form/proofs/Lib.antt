@@ -1,2 +1,5 @@
 pub mod FlatteningLemmas
+pub mod ImportLaws
 pub mod InPlaces
+pub mod PredicateSteps
+pub mod ReadingSteps

@@ -1,6 +1,7 @@
 -- Worked examples of what is in the first form, and for each rule of the form one that breaks it and no other.
-use Rattle.std.specs.Prelude.{◌≡◌, ℕ, zero, suc, true, false, List, [], ◌∷◌, Some, None, codes, map, replicate, refl, pos}
-use Rattle.merc_first_form.specs.FirstForm.{is_plain_name, reserved_words, are_distinct, in_places, is_input, has_value, modes_of, bind_outputs, bind_conjunct, is_predicate, is_module, is_goal}
+use Rattle.std.specs.Prelude.{◌≡◌, ℕ, zero, suc, ◌+◌, ◌/◌, ◌%◌, true, false, List, [], ◌∷◌, Some, None, codes, map, replicate, refl, pos}
+use Rattle.merc_value.specs.Text.{word_operators}
+use Rattle.merc_first_form.specs.FirstForm.{is_plain_name, are_distinct, in_places, is_input, has_value, modes_of, bind_outputs, bind_conjunct, is_predicate, is_module, is_goal}
 use Rattle.merc_first_form.specs.declared.syntax.Operand.{Operand}
 use Rattle.merc_first_form.specs.declared.syntax.Operand.TheVariants.{Variable, Number}
 use Rattle.merc_first_form.specs.declared.syntax.Expression.TheVariants.{Single, Sum}
@@ -74,12 +75,12 @@ twins = record {
 }
 
 abbrev module_of : List Predicate → Source
-module_of predicates = record { name = codes "arithmetic"; imports_int = true; predicates = predicates }
+module_of predicates = record { name = codes "arithmetic"; predicates = predicates }
 
--- so many distinct names
+-- so many distinct names, of two lower-case letters each
 abbrev names_to : ℕ → List (List ℕ)
 names_to zero = []
-names_to (suc n) = (n ∷ []) ∷ names_to n
+names_to (suc n) = ((97 + n / 26) ∷ (97 + n % 26) ∷ []) ∷ names_to n
 
 -- a predicate of this name with so many inputs
 abbrev of_arity : List ℕ → ℕ → Predicate
@@ -97,12 +98,19 @@ module_of_size n = module_of (map (λ name. of_arity name 1) (names_to n))
 -- ---- the parts
 
 is_plain_name-example : is_plain_name (codes "add") ≡ true
-unfolding reserved_words
+unfolding word_operators
 is_plain_name-example = refl
 
 is_plain_name-of_a_word : is_plain_name (codes "true") ≡ false
-unfolding reserved_words
+unfolding word_operators
 is_plain_name-of_a_word = refl
+
+is_plain_name-of_an_operator : is_plain_name (codes "type") ≡ false
+unfolding word_operators
+is_plain_name-of_an_operator = refl
+
+is_plain_name-in_upper_case : is_plain_name (codes "Add") ≡ false
+is_plain_name-in_upper_case = refl
 
 are_distinct-example : are_distinct (codes "A" ∷ codes "B" ∷ []) ≡ true
 are_distinct-example = refl
@@ -143,113 +151,113 @@ bind_conjunct-unbound = refl
 -- ---- modules
 
 is_module-example : is_module (module_of (add ∷ double ∷ twins ∷ [])) ≡ true
-unfolding reserved_words
+unfolding word_operators
 is_module-example = refl
 
 is_module-no_predicates : is_module (module_of []) ≡ true
-unfolding reserved_words
+unfolding word_operators
 is_module-no_predicates = refl
 
 is_module-named_by_a_word : is_module (record (module_of (add ∷ [])) { name = codes "type" }) ≡ false
-unfolding reserved_words
+unfolding word_operators
 is_module-named_by_a_word = refl
 
 is_module-doubled_name : is_module (module_of (add ∷ add ∷ [])) ≡ false
-unfolding reserved_words
+unfolding word_operators
 is_module-doubled_name = refl
 
 is_module-call_of_a_later_predicate : is_module (module_of (double ∷ add ∷ [])) ≡ false
-unfolding reserved_words
+unfolding word_operators
 is_module-call_of_a_later_predicate = refl
 
 is_module-64_predicates : is_module (module_of_size 64) ≡ true
-unfolding reserved_words
+unfolding word_operators
 is_module-64_predicates = refl
 
 is_module-65_predicates : is_module (module_of_size 65) ≡ false
-unfolding reserved_words
+unfolding word_operators
 is_module-65_predicates = refl
 
 -- ---- predicates
 
 is_predicate-example : is_predicate [] add ≡ true
-unfolding reserved_words
+unfolding word_operators
 is_predicate-example = refl
 
 is_predicate-named_by_a_word : is_predicate [] (record add { name = codes "true" }) ≡ false
-unfolding reserved_words
+unfolding word_operators
 is_predicate-named_by_a_word = refl
 
 is_predicate-no_arguments : is_predicate [] (of_arity (codes "none") 0) ≡ false
-unfolding reserved_words
+unfolding word_operators
 is_predicate-no_arguments = refl
 
 is_predicate-64_arguments : is_predicate [] (of_arity (codes "many") 64) ≡ true
-unfolding reserved_words
+unfolding word_operators
 is_predicate-64_arguments = refl
 
 is_predicate-65_arguments : is_predicate [] (of_arity (codes "many") 65) ≡ false
-unfolding reserved_words
+unfolding word_operators
 is_predicate-65_arguments = refl
 
 is_predicate-more_modes_than_variables : is_predicate [] (record (of_arity (codes "few") 1) { modes = Input ∷ Input ∷ [] }) ≡ false
-unfolding reserved_words
+unfolding word_operators
 is_predicate-more_modes_than_variables = refl
 
 is_predicate-doubled_variable : is_predicate [] (record add { head = codes "A" ∷ codes "A" ∷ codes "C" ∷ []; body = Equation (codes "C") (Single a) ∷ [] }) ≡ false
-unfolding reserved_words
+unfolding word_operators
 is_predicate-doubled_variable = refl
 
 is_predicate-empty_body : is_predicate [] (record (of_arity (codes "idle") 1) { body = [] }) ≡ false
-unfolding reserved_words
+unfolding word_operators
 is_predicate-empty_body = refl
 
 is_predicate-two_calls : is_predicate (add ∷ []) (double_by (call_of_add a a c ∷ call_of_add a c b ∷ [])) ≡ false
-unfolding reserved_words
+unfolding word_operators
 is_predicate-two_calls = refl
 
 is_predicate-call_of_itself : is_predicate (add ∷ []) (double_by (call_of_double a b ∷ [])) ≡ false
-unfolding reserved_words
+unfolding word_operators
 is_predicate-call_of_itself = refl
 
 is_predicate-too_few_arguments : is_predicate (add ∷ []) (double_by (copy ∷ Call (codes "add") (a ∷ b ∷ []) ∷ [])) ≡ false
-unfolding reserved_words
+unfolding word_operators
 is_predicate-too_few_arguments = refl
 
 is_predicate-too_many_arguments : is_predicate (add ∷ []) (double_by (Call (codes "add") (a ∷ a ∷ b ∷ a ∷ []) ∷ [])) ≡ false
-unfolding reserved_words
+unfolding word_operators
 is_predicate-too_many_arguments = refl
 
 is_predicate-integer_as_input : is_predicate (add ∷ []) (double_by (call_of_add a seven b ∷ [])) ≡ true
-unfolding reserved_words
+unfolding word_operators
 is_predicate-integer_as_input = refl
 
 is_predicate-unbound_input : is_predicate (add ∷ []) (double_by (call_of_add a c b ∷ [])) ≡ false
-unfolding reserved_words
+unfolding word_operators
 is_predicate-unbound_input = refl
 
 is_predicate-integer_as_output : is_predicate (add ∷ []) (double_by (copy ∷ call_of_add a a seven ∷ [])) ≡ false
-unfolding reserved_words
+unfolding word_operators
 is_predicate-integer_as_output = refl
 
 is_predicate-bound_output : is_predicate (add ∷ []) (double_by (copy ∷ call_of_add a a b ∷ [])) ≡ false
-unfolding reserved_words
+unfolding word_operators
 is_predicate-bound_output = refl
 
 is_predicate-bound_variable : is_predicate [] (add_by (sum ∷ sum ∷ [])) ≡ false
-unfolding reserved_words
+unfolding word_operators
 is_predicate-bound_variable = refl
 
 is_predicate-unbound_operand : is_predicate [] (add_by (Equation (codes "C") (Sum a d) ∷ [])) ≡ false
-unfolding reserved_words
+unfolding word_operators
 is_predicate-unbound_operand = refl
 
 is_predicate-variable_in_its_own_equation : is_predicate [] (add_by (Equation (codes "C") (Sum a c) ∷ [])) ≡ false
-unfolding reserved_words
+unfolding word_operators
 is_predicate-variable_in_its_own_equation = refl
 
 is_predicate-unbound_output_at_the_end : is_predicate [] (add_by (Equation (codes "D") (Sum a b) ∷ [])) ≡ false
-unfolding reserved_words
+unfolding word_operators
 is_predicate-unbound_output_at_the_end = refl
 
 -- ---- goals

@@ -1,5 +1,5 @@
 -- What the definitions of FlatForm say of small clauses and goals.
-use Rattle.std.specs.Prelude.{◌≡◌, refl, true, List, [], ◌∷◌, codes, pos}
+use Rattle.std.specs.Prelude.{◌≡◌, refl, List, [], ◌∷◌, codes, pos}
 use Rattle.merc_tree.specs.declared.goal.Goal.TheVariants.{Assign, Build, Arithmetic, Call as CallGoal}
 use Rattle.merc_tree.specs.declared.goal.Symbol.TheVariants.{Int}
 use Rattle.merc_tree.specs.declared.goal.Operator.TheVariants.{Add}
@@ -31,7 +31,7 @@ quad = record {
 }
 
 abbrev pub source : Source
-source = record { name = codes "example"; imports_int = true; predicates = twice ∷ quad ∷ [] }
+source = record { name = codes "example"; predicates = twice ∷ quad ∷ [] }
 
 -- the variables of the head come first, and one that comes again keeps its number
 pub variables_of-example : variables_of quad.head quad.body ≡ codes "N" ∷ codes "M" ∷ codes "K" ∷ []

@@ -1,5 +1,5 @@
 -- A module and a goal of the first form, told by the terms that they are. A name goes by its text.
-use Rattle.std.specs.Prelude.{ℕ, Bool, false, ◌==◌, ◌&&◌, ◌>>=◌, int_le, pos, List, [], ◌∷◌, Option, Some, None, slice_get, if◌then◌else◌}
+use Rattle.std.specs.Prelude.{ℕ, Bool, false, ◌==◌, ◌&&◌, int_le, pos, List, [], ◌∷◌, Option, Some, None, slice_get, if◌then◌else◌}
 use Rattle.std.specs.List.{list_all}
 use Rattle.std.specs.Option.{option_map}
 use Rattle.std.specs.Char.{is_ascii_uppercase}
@@ -9,6 +9,7 @@ use Rattle.merc_tree.specs.Term.{Term, Variable, Integer, Application, none, mor
 use Rattle.merc_operands.specs.Operands.{plain_name}
 use Rattle.merc_operands.specs.Members.{chain}
 use Rattle.merc_item_forms.specs.Items.{Item, Opening, Import, PredicateItem, ClauseItem, item_of}
+use Rattle.merc_first_form.specs.Chaining.{◌>>=◌}
 use Rattle.merc_first_form.specs.FirstForm.{is_module, is_goal}
 use Rattle.merc_first_form.specs.declared.syntax.Operand.{Operand}
 use Rattle.merc_first_form.specs.declared.syntax.Operand.TheVariants.{Variable as VariableOperand, Number}

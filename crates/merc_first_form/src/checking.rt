@@ -7,8 +7,9 @@ ghost use Rattle.std.specs.Str.{bytes_eq};
 ghost use Rattle.merc_base.specs.Texts.{is_among};
 ghost use Rattle.merc_first_form.specs.FirstForm.{is_plain_name, are_distinct, in_places, is_input, is_output, has_value, operands_of, modes_of, bind_outputs, bind_call, bind_conjunct, bind_body, is_call, is_body, is_predicate, are_predicates, is_module, is_goal};
 
-use crate::syntax::{Conjunct, Conjuncts, Expression, Mode, Source, Operand, Predicate};
+use crate::syntax::{Conjunct, Conjuncts, Expression, Mode, Operand, Predicate, Source};
 use merc_base::{NoMemory, Text, TextTable};
+use merc_value::is_plain;
 use std::alloc::Global;
 
 // The most predicates of a module.
@@ -17,46 +18,12 @@ const PREDICATE_LIMIT: usize = 64;
 // The most arguments of a predicate.
 const ARGUMENT_LIMIT: usize = 64;
 
-// The lower-case words that are operators or words of the language.
-const RESERVED_WORDS: [&[u8]; 21] = [
-    b"module",
-    b"end_module",
-    b"import_module",
-    b"mode",
-    b"type",
-    b"else",
-    b"if",
-    b"then",
-    b"some",
-    b"all",
-    b"not",
-    b"pred",
-    b"func",
-    b"is",
-    b"div",
-    b"mod",
-    b"rem",
-    b"true",
-    b"fail",
-    b"false",
-    b"error",
-];
+// The lower-case words of the language that are no operators.
+const RESERVED_WORDS: [&[u8]; 4] = [b"true", b"fail", b"false", b"error"];
 
-/// Whether a module is in the first form:
-///
-/// - The names of the module and of its predicates are plain: none is a word of the language, such as `type` or `true`.
-/// - It has at most 64 predicates, no two of one name.
-/// - A predicate has 1 to 64 arguments, and its head has a variable for each, no two of one name.
-/// - Its body has at least one conjunct, and at most one call, which is of an earlier predicate and has an argument
-///   for each of that predicate's modes.
-/// - The head's inputs are bound before the body, and its conjuncts bind further variables from left to right. Each
-///   operand of an expression and each input of a call is an integer or a variable that is bound before the conjunct.
-///   The variable `V` of a `V = E` and each output of a call is a variable that is not bound yet, and no two outputs of
-///   a call are one variable.
-/// - Behind the body each variable of the head is bound.
-///
-/// Where memory is refused there is no answer.
-pub fn is_module(alloc: Global, source: &Source) -> Result<bool, NoMemory>
+/// Whether a module keeps the rules that [`source_of`](crate::source_of) tells. Where memory is refused there is no
+/// answer.
+pub(crate) fn is_module(alloc: Global, source: &Source) -> Result<bool, NoMemory>
     ensures { IfOk result (λ answer. answer ≡ is_module source.now) }
 {
     let predicates = source.predicates.as_slice();
@@ -66,10 +33,9 @@ pub fn is_module(alloc: Global, source: &Source) -> Result<bool, NoMemory>
     are_predicates(alloc, predicates)
 }
 
-/// Whether a goal over a module of the first form is in the first form: at least one conjunct, and at most one call,
-/// which is of one of the module's predicates. The rules of [`is_module`] on what is bound hold, where no variable is
-/// bound before the goal. Where memory is refused there is no answer.
-pub fn is_goal(alloc: Global, source: &Source, goal: &Conjuncts) -> Result<bool, NoMemory>
+/// Whether a goal over a module of the first form keeps the rules that [`goal_of`](crate::goal_of) tells. Where memory is
+/// refused there is no answer.
+pub(crate) fn is_goal(alloc: Global, source: &Source, goal: &Conjuncts) -> Result<bool, NoMemory>
     ensures { IfOk result (λ answer. answer ≡ is_goal source.now goal.now) }
 {
     let predicates = source.predicates.as_slice();
@@ -122,12 +88,11 @@ fn is_heading(earlier: &[Predicate], predicate: &Predicate) -> bool
         && are_distinct(head)
 }
 
-// Whether a name is none of the language's own words.
-#[tactic(auto, unfolding(crate::specs::FirstForm::reserved_words))]
+// Whether a name is a lower-case word that is none of the language's own.
 fn is_plain_name(name: &[u8]) -> bool
     ensures { result ≡ is_plain_name name.now }
 {
-    !is_word_among(name, &RESERVED_WORDS)
+    is_plain(name) && !is_word_among(name, &RESERVED_WORDS)
 }
 
 fn is_word_among(name: &[u8], words: &[&[u8]]) -> bool

@@ -6,7 +6,7 @@ ghost use Rattle.merc_first_form.specs.FlatForm.{operand_names, conjunct_names, 
 ghost use Rattle.merc_first_form.specs.declared.syntax.Conjunct.TheVariants.{Equation, Call};
 ghost use Rattle.merc_first_form.specs.declared.syntax.Expression.TheVariants.{Single, Sum};
 
-use crate::syntax::{Conjunct, Conjuncts, Expression, Source, Operand, Query};
+use crate::syntax::{Conjunct, Conjuncts, Expression, Operand, Query, Source};
 use merc_base::{NoMemory, Sequence, Text, TextTable};
 use merc_tree::{Goal, Goals, Operator, Predicate, Procedures, Symbol, Var, Vars};
 use std::alloc::Global;
@@ -20,7 +20,7 @@ pub fn procedures(alloc: Global, source: &Source) -> Result<Procedures, NoMemory
         let body = predicate.body.as_slice();
         let variables = clause_variables(alloc, predicate.head.as_slice(), body)?;
         let scope = Scope {
-            source: module,
+            source,
             variables: &variables,
         };
         bodies.push(flatten_body(alloc, &scope, body)?)?;
@@ -35,7 +35,7 @@ pub fn query(alloc: Global, source: &Source, goal: &Conjuncts) -> Result<Query, 
 {
     let variables = clause_variables(alloc, &[], goal.as_slice())?;
     let scope = Scope {
-        source: module,
+        source,
         variables: &variables,
     };
     let goals = flatten_body(alloc, &scope, goal.as_slice())?;

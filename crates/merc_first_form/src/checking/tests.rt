@@ -1,7 +1,5 @@
 use super::{is_goal, is_module};
-use crate::first_form::syntax::{
-    Conjunct, Conjuncts, Expression, Mode, Source, Operand, Predicate,
-};
+use crate::syntax::{Conjunct, Conjuncts, Expression, Mode, Operand, Predicate, Source};
 use merc_base::{NoMemory, Sequence, Text};
 use std::alloc::Global;
 use std::test::Fail;
@@ -38,7 +36,6 @@ fn module_of_add(alloc: Global) -> Result<Source, NoMemory> {
     predicates.push(add(alloc)?)?;
     Ok(Source {
         name: Text::of(alloc, b"arithmetic")?,
-        imports_int: true,
         predicates,
     })
 }
@@ -57,8 +54,8 @@ fn equations(alloc: Global, count: u32) -> Result<Conjuncts, Fail> {
 #[test]
 fn a_module_and_a_goal_are_answered(rt: HostRuntime) -> Result<(), Fail> {
     let alloc = rt.alloc();
-    let mut module = module_of_add(alloc)?;
-    assert_eq!(rt; is_module(alloc, &module), Ok(true));
+    let mut source = module_of_add(alloc)?;
+    assert_eq!(rt; is_module(alloc, &source), Ok(true));
 
     let mut operands = Sequence::new(alloc);
     operands.push(Operand::Number(2))?;
@@ -66,10 +63,10 @@ fn a_module_and_a_goal_are_answered(rt: HostRuntime) -> Result<(), Fail> {
     operands.push(variable(alloc, b"X")?)?;
     let mut goal = Sequence::new(alloc);
     goal.push(Conjunct::Call(Text::of(alloc, b"add")?, operands))?;
-    assert_eq!(rt; is_goal(alloc, &module, &goal), Ok(true));
+    assert_eq!(rt; is_goal(alloc, &source, &goal), Ok(true));
 
     source.predicates.push(add(alloc)?)?;
-    assert_eq!(rt; is_module(alloc, &module), Ok(false));
+    assert_eq!(rt; is_module(alloc, &source), Ok(false));
     Ok(())
 }
 
@@ -77,13 +74,13 @@ fn a_module_and_a_goal_are_answered(rt: HostRuntime) -> Result<(), Fail> {
 #[test]
 fn a_long_goal_is_answered(rt: HostRuntime) -> Result<(), Fail> {
     let alloc = rt.alloc();
-    let module = module_of_add(alloc)?;
+    let source = module_of_add(alloc)?;
     let mut goal = equations(alloc, 100_000)?;
-    assert_eq!(rt; is_goal(alloc, &module, &goal), Ok(true));
+    assert_eq!(rt; is_goal(alloc, &source, &goal), Ok(true));
     goal.push(Conjunct::Equation(
         Text::of(alloc, b"V0")?,
         Expression::Single(Operand::Number(7)),
     ))?;
-    assert_eq!(rt; is_goal(alloc, &module, &goal), Ok(false));
+    assert_eq!(rt; is_goal(alloc, &source, &goal), Ok(false));
     Ok(())
 }

@@ -1,7 +1,5 @@
 use super::{procedures, query};
-use crate::first_form::syntax::{
-    Conjunct, Conjuncts, Expression, Mode, Source, Operand, Predicate,
-};
+use crate::syntax::{Conjunct, Conjuncts, Expression, Mode, Operand, Predicate, Source};
 use merc_base::{NoMemory, Sequence, Text};
 use std::alloc::Global;
 use std::test::Fail;
@@ -37,7 +35,6 @@ fn module_of_twice(alloc: Global) -> Result<Source, NoMemory> {
     predicates.push(twice(alloc)?)?;
     Ok(Source {
         name: Text::of(alloc, b"doubling")?,
-        imports_int: true,
         predicates,
     })
 }
@@ -57,15 +54,15 @@ fn sums(alloc: Global, count: u32) -> Result<Conjuncts, Fail> {
 #[test]
 fn a_module_and_a_goal_are_flattened(rt: HostRuntime) -> Result<(), Fail> {
     let alloc = rt.alloc();
-    let module = module_of_twice(alloc)?;
-    assert_eq!(rt; procedures(alloc, &module)?.as_slice().len(), 1);
+    let source = module_of_twice(alloc)?;
+    assert_eq!(rt; procedures(alloc, &source)?.as_slice().len(), 1);
 
     let mut operands = Sequence::new(alloc);
     operands.push(Operand::Number(2))?;
     operands.push(variable(alloc, b"X")?)?;
     let mut goal = Sequence::new(alloc);
     goal.push(Conjunct::Call(Text::of(alloc, b"twice")?, operands))?;
-    let flat = query(alloc, &module, &goal)?;
+    let flat = query(alloc, &source, &goal)?;
     assert_eq!(rt; flat.goals.as_slice().len(), 2);
     assert_eq!(rt; flat.variables.text(0), Some(b"X".as_slice()));
     Ok(())
@@ -75,8 +72,8 @@ fn a_module_and_a_goal_are_flattened(rt: HostRuntime) -> Result<(), Fail> {
 #[test]
 fn a_long_goal_is_flattened(rt: HostRuntime) -> Result<(), Fail> {
     let alloc = rt.alloc();
-    let module = module_of_twice(alloc)?;
-    let flat = query(alloc, &module, &sums(alloc, 100_000)?)?;
+    let source = module_of_twice(alloc)?;
+    let flat = query(alloc, &source, &sums(alloc, 100_000)?)?;
     assert_eq!(rt; flat.goals.as_slice().len(), 300_000);
     assert_eq!(rt; flat.variables.len(), 100_000);
     Ok(())

@@ -5,4 +5,4 @@ use Rattle.merc_first_form.proofs.flattening.procedures.Given as goal
 
 abbrev pub invariant-loop-predicate : goal.invariant-loop-predicate
 invariant-loop-predicate l =
-    l.bodies ≡ map (λ predicate. clause_goals (predicate_names l.module) predicate.head predicate.body) (take l.predicate-index l.source.predicates)
+    l.bodies ≡ map (λ predicate. clause_goals (predicate_names l.source) predicate.head predicate.body) (take l.predicate-index l.source.predicates)

@@ -1,0 +1,14 @@
+use Rattle.std.proofs.Common.{sym, ◌∙◌}
+use Rattle.merc_first_form.specs.Reading.{operand_of}
+use Rattle.merc_first_form.proofs.ReadingSteps.{last_step, last_end}
+use Rattle.merc_first_form.proofs.reading.bodies.call_operands.Goals as goal
+
+pub loop-argument-preserved : goal.loop-argument-preserved
+loop-argument-preserved c =
+    last_step (operand_of c.args.names.now) c.loop-argument.arguments _ c.in-Some.argument c.in-Some-2.operand _ _ _
+    c.in-Some.ensures (sym c.in_ok-operand.ensures ∙ c.in-Some-2.is) c.in_ok-push-in-Some-2.ensures.items c.loop-argument.invariant
+
+pub returns-in-None : goal.returns-in-None
+returns-in-None c =
+    last_end (operand_of c.args.names.now) c.loop-argument.arguments _ c.in-Some.argument _ _
+    c.in-Some.ensures (sym c.in_ok-operand.ensures ∙ c.in-None.is) c.loop-argument.invariant
