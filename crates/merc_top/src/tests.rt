@@ -1,5 +1,17 @@
 ghost use Rattle.std.specs.Prelude.{◌<◌, ◌≤◌};
 
+mod accepted;
+mod bad_forms;
+mod bad_goals;
+mod bad_terms;
+mod bad_tokens;
+mod checks;
+mod declared;
+mod doubles;
+mod first_fault;
+mod limits;
+mod profile;
+
 use super::*;
 use merc_base::{NoMemory, Shelf, Sink, Tap, Text};
 use merc_io::{FailingShelf, FailingSink, MemShelf, MemSink, OpenGate};
