@@ -3,6 +3,7 @@ use super::output;
 use merc_base::{NoMemory, Text};
 use std::alloc::Global;
 use std::process::Abort;
+use std::str::from_utf8;
 use std::sync::Wait;
 use std::thread::Threads;
 
@@ -21,8 +22,10 @@ pub(super) fn assert_printed<R: Threads + Wait + AllocGlobal + Abort>(
     printed: &[u8],
 ) -> Result<(), NoMemory> {
     let (status, sink) = output(rt, &[b"solve", b"m.m", goal], b"m.m", text)?;
-    assert_eq!(rt; sink.bytes(), printed);
-    assert_eq!(rt; status, wanted);
+    let goal = from_utf8(goal).unwrap_or("?");
+    let text = from_utf8(text).unwrap_or("?");
+    assert_eq!(rt; sink.bytes(), printed, "for {goal:?} over {text:?}");
+    assert_eq!(rt; status, wanted, "for {goal:?} over {text:?}");
     Ok(())
 }
 

@@ -203,9 +203,11 @@ fn many_modes(alloc: Global, declaration: &[u8], count: u32) -> Result<Text, NoM
     text.push(declaration)?;
     for number in 0..count {
         text.push(b":- mode p(in")?;
-        for digit in 0..4 {
-            let word: &[u8] = if (number >> digit) % 2 == 0 { b", in" } else { b", out" };
+        let mut rest = number;
+        for _ in 0..4 {
+            let word: &[u8] = if rest % 2 == 0 { b", in" } else { b", out" };
             text.push(word)?;
+            rest /= 2;
         }
         text.push(b") is multi.\n")?;
     }
