@@ -9,8 +9,10 @@ mod checks;
 mod declared;
 mod doubles;
 mod first_fault;
+mod first_phase;
 mod limits;
 mod profile;
+mod rules;
 
 use super::*;
 use merc_base::{NoMemory, Shelf, Sink, Tap, Text};

@@ -1,188 +1,54 @@
-//! Of several faults the one of the first phase is told, then the one of the least place, then that of the smaller rule.
+//! Inside a phase the fault of the least place is told, and at a place that of the smaller rule. The module's comes before the
+//! goal's.
 use super::checks::{EMPTY, MODULE_STAGE, assert_printed, assert_refused, repeated};
+use super::rules::{
+    ARITY, BAD_TOKEN, CATEGORY, CHARACTER, DECLARATION, FLOAT, FUNCTION, INTEGER, INTEGER_SUFFIX,
+    MODE_NAME, NAME, NESTING, NO_FORM, NO_PAIR, NO_TERM, TWICE, TYPE,
+};
 use std::test::Fail;
 
-const BAD_TOKEN: &[u8] = b"rule 1: bad token";
-
-const NO_TERM: &[u8] = b"rule 2: no term can be read here";
-
-const NO_FORM: &[u8] = b"rule 3: not a declaration, clause or goal of this form";
-
-const UNKNOWN_TYPE: &[u8] = b"rule 4: unknown type";
-
-const TWICE: &[u8] = b"rule 5: declared twice";
-
-const NO_PAIR: &[u8] = b"rule 6: a clause and its declaration do not go together";
-
-const NO_MODE: &[u8] = b"rule 9: mode or category is missing";
-
-const CHARACTER: &[u8] = b"rule 15: outside the profile: character";
-
-const FLOAT: &[u8] = b"rule 15: outside the profile: float";
-
-const INTEGER_SUFFIX: &[u8] = b"rule 15: outside the profile: integer suffix";
-
-const DECLARATION: &[u8] = b"rule 15: outside the profile: declaration";
-
-const MODE_NAME: &[u8] = b"rule 15: outside the profile: mode name";
-
-const CATEGORY: &[u8] = b"rule 15: outside the profile: category";
-
-const TYPE: &[u8] = b"rule 15: outside the profile: type";
-
-const FUNCTION: &[u8] = b"rule 15: outside the profile: function";
-
-const INTEGER: &[u8] = b"rule 16: limit: integer";
-
-const NAME: &[u8] = b"rule 16: limit: name";
-
-const ARITY: &[u8] = b"rule 16: limit: arity";
-
-const NESTING: &[u8] = b"rule 16: limit: nesting";
-
-// Each row is the rule that is told, the module, and the line. In the first of two rows the fault that is told stands
-// behind the other, in the second before it.
-#[test]
-fn a_token_comes_before_a_term(rt: HostRuntime) -> Result<(), Fail> {
-    let rows: [(&[u8], &[u8], &[u8]); 6] = [
-        (CHARACTER, b":- module m.\np(.\n!\n", b"3"),
-        (CHARACTER, b":- module m.\n!\np(.\n", b"2"),
-        (BAD_TOKEN, b":- module m.\np(9223372036854775808).\n\"\n", b"3"),
-        (BAD_TOKEN, b":- module m.\n\"\np(9223372036854775808).\n", b"2"),
-        (INTEGER, b":- module m.\np(9223372036854775808).\nq(9223372036854775809).\n", b"3"),
-        (INTEGER, b":- module m.\np(.\nq(9223372036854775809).\n", b"3"),
-    ];
-    for (rule, text, line) in rows {
-        assert_refused(&rt, rule, text, line)?;
-    }
-    Ok(())
-}
-
-#[test]
-fn a_token_comes_before_an_item(rt: HostRuntime) -> Result<(), Fail> {
-    let rows: [(&[u8], &[u8], &[u8]); 6] = [
-        (FLOAT, b":- module m.\n:- foo(x).\np(1.5).\n", b"3"),
-        (FLOAT, b":- module m.\np(1.5).\n:- foo(x).\n", b"2"),
-        (BAD_TOKEN, b"p(1).\n/*\n", b"2"),
-        (BAD_TOKEN, b"p('a\\q').\n:- module m.\n", b"1"),
-        (INTEGER_SUFFIX, b":- module m.\np(1).\np(1a).\n", b"3"),
-        (INTEGER_SUFFIX, b":- module m.\np(1a).\np(1).\n", b"2"),
-    ];
-    for (rule, text, line) in rows {
-        assert_refused(&rt, rule, text, line)?;
-    }
-    Ok(())
-}
-
-#[test]
-fn a_term_comes_before_a_form(rt: HostRuntime) -> Result<(), Fail> {
-    let rows: [(&[u8], &[u8], &[u8]); 6] = [
-        (NO_TERM, b":- module m.\nX.\np(.\n", b"3"),
-        (NO_TERM, b":- module m.\np(.\nX.\n", b"2"),
-        (INTEGER, b":- module m.\n:- foo(x).\np(9223372036854775808).\n", b"3"),
-        (INTEGER, b":- module m.\np(9223372036854775808).\n:- foo(x).\n", b"2"),
-        (NO_TERM, b"p(1).\n\nq", b"3"),
-        (NO_TERM, b":- module m.\n:- pred p(int).\n:- pred p(int).\n+ 3.\n", b"4"),
-    ];
-    for (rule, text, line) in rows {
-        assert_refused(&rt, rule, text, line)?;
-    }
-    Ok(())
-}
-
-#[test]
-fn a_form_comes_before_what_is_declared_twice(rt: HostRuntime) -> Result<(), Fail> {
-    let rows: [(&[u8], &[u8], &[u8]); 6] = [
-        (NO_FORM, b":- module m.\n:- type t ---> a ; a.\ntrue.\n", b"3"),
-        (NO_FORM, b":- module m.\ntrue.\n:- type t ---> a ; a.\n", b"2"),
-        (CATEGORY, b":- module m.\n:- import_module bool, maybe.\n:- pred p is cc_multi.\n", b"3"),
-        (CATEGORY, b":- module m.\n:- pred p is cc_multi.\n:- import_module bool, maybe.\n", b"2"),
-        (FUNCTION, b":- module m.\n:- pred p.\n:- pred p.\nf(X) = X.\n", b"4"),
-        (FUNCTION, b":- module m.\nf(X) = X.\n:- pred p.\n:- pred p.\n", b"2"),
-    ];
-    for (rule, text, line) in rows {
-        assert_refused(&rt, rule, text, line)?;
-    }
-    Ok(())
-}
-
-#[test]
-fn a_form_comes_before_what_is_not_declared(rt: HostRuntime) -> Result<(), Fail> {
-    let rows: [(&[u8], &[u8], &[u8]); 6] = [
-        (TYPE, b":- module m.\n:- pred p(foo::in) is det.\n:- pred q(char::in) is det.\n", b"3"),
-        (TYPE, b":- module m.\n:- pred q(char::in) is det.\n:- pred p(foo::in) is det.\n", b"2"),
-        (MODE_NAME, b":- module m.\n:- pred p(int).\n:- mode p(di) is det.\n", b"3"),
-        (MODE_NAME, b":- module m.\n:- mode p(di) is det.\n:- pred p(int).\n", b"2"),
-        (NO_FORM, b":- module m.\np(1).\n:- X.\n", b"3"),
-        (NO_FORM, b":- module m.\n:- X.\np(1).\n", b"2"),
-    ];
-    for (rule, text, line) in rows {
-        assert_refused(&rt, rule, text, line)?;
-    }
-    Ok(())
-}
-
-#[test]
-fn what_is_declared_twice_comes_before_what_is_not_declared(rt: HostRuntime) -> Result<(), Fail> {
-    let rows: [(&[u8], &[u8], &[u8]); 6] = [
-        (TWICE, b":- module m.\n:- pred p(foo).\n:- pred p(int).\n", b"3"),
-        (TWICE, b":- module m.\n:- type t ---> a ; a.\n:- type u ---> c(foo).\n", b"2"),
-        (TWICE, b":- module m.\n:- pred p(int).\n:- type t ---> a ; a.\n", b"3"),
-        (TWICE, b":- module m.\n:- type t ---> a ; a.\n:- pred p(int).\n", b"2"),
-        (TWICE, b":- module m.\np(1).\n:- mode p(in) is det.\n:- mode p(in) is det.\n", b"4"),
-        (TWICE, b":- module m.\n:- type int ---> a.\np(1).\n", b"2"),
-    ];
-    for (rule, text, line) in rows {
-        assert_refused(&rt, rule, text, line)?;
-    }
-    Ok(())
-}
-
-#[test]
-fn a_type_comes_before_a_mode_and_a_clause(rt: HostRuntime) -> Result<(), Fail> {
-    let rows: [(&[u8], &[u8], &[u8]); 4] = [
-        (UNKNOWN_TYPE, b":- module m.\n:- pred p(int).\n:- type t ---> c(A).\n", b"3"),
-        (UNKNOWN_TYPE, b":- module m.\n:- type t ---> c(A).\n:- pred p(int).\n", b"2"),
-        (UNKNOWN_TYPE, b":- module m.\np(1).\n:- pred q(foo::in) is det.\n", b"3"),
-        (UNKNOWN_TYPE, b":- module m.\n:- pred q(foo::in) is det.\np(1).\n", b"2"),
-    ];
-    for (rule, text, line) in rows {
-        assert_refused(&rt, rule, text, line)?;
-    }
-    Ok(())
-}
-
-#[test]
-fn a_mode_comes_before_a_clause(rt: HostRuntime) -> Result<(), Fail> {
-    let rows: [(&[u8], &[u8], &[u8]); 4] = [
-        (NO_MODE, b":- module m.\np(1).\n:- pred q(int).\n", b"3"),
-        (NO_MODE, b":- module m.\n:- pred q(int).\np(1).\n", b"2"),
-        (NO_MODE, b":- module m.\n:- mode p(in) is det.\n:- pred q(int::in).\n", b"3"),
-        (NO_MODE, b":- module m.\n:- pred q is det.\n:- pred p(int) is det.\n", b"3"),
-    ];
-    for (rule, text, line) in rows {
-        assert_refused(&rt, rule, text, line)?;
-    }
-    Ok(())
-}
-
+// Each row is the rule that is told, the module, and the line.
 #[test]
 fn in_a_phase_the_least_place_is_told(rt: HostRuntime) -> Result<(), Fail> {
-    let rows: [(&[u8], &[u8], &[u8]); 12] = [
+    const ROWS: [(&[u8], &[u8], &[u8]); 12] = [
         (CHARACTER, b":- module m.\n! \"\n", b"2"),
         (BAD_TOKEN, b":- module m.\n\" !\n", b"2"),
-        (INTEGER, b":- module m.\np(9223372036854775809).\n\"\n", b"2"),
-        (BAD_TOKEN, b":- module m.\n\"\np(9223372036854775809).\n", b"2"),
-        (INTEGER, b":- module m.\np(9223372036854775808).\np(.\n", b"2"),
-        (NO_TERM, b":- module m.\np(.\np(9223372036854775808).\n", b"2"),
+        (
+            INTEGER,
+            b":- module m.\np(9223372036854775809).\n\"\n",
+            b"2",
+        ),
+        (
+            BAD_TOKEN,
+            b":- module m.\n\"\np(9223372036854775809).\n",
+            b"2",
+        ),
+        (
+            INTEGER,
+            b":- module m.\np(9223372036854775808).\np(.\n",
+            b"2",
+        ),
+        (
+            NO_TERM,
+            b":- module m.\np(.\np(9223372036854775808).\n",
+            b"2",
+        ),
         (DECLARATION, b":- module m.\n:- foo(x).\ntrue.\n", b"2"),
         (NO_FORM, b":- module m.\ntrue.\n:- foo(x).\n", b"2"),
-        (DECLARATION, b":- module m.\n:- foo(x).\n:- module m.\n:- end_module n.\n", b"2"),
-        (TWICE, b":- module m.\n:- type t ---> a.\n:- pred p.\n:- pred p.\n:- type t ---> b.\n", b"4"),
+        (
+            DECLARATION,
+            b":- module m.\n:- foo(x).\n:- module m.\n:- end_module n.\n",
+            b"2",
+        ),
+        (
+            TWICE,
+            b":- module m.\n:- type t ---> a.\n:- pred p.\n:- pred p.\n:- type t ---> b.\n",
+            b"4",
+        ),
         (NO_PAIR, b":- module m.\n:- pred p is det.\nq.\n", b"2"),
         (NO_PAIR, b":- module m.\nq.\n:- pred p is det.\n", b"2"),
     ];
-    for (rule, text, line) in rows {
+    for (rule, text, line) in ROWS {
         assert_refused(&rt, rule, text, line)?;
     }
     Ok(())
@@ -190,21 +56,49 @@ fn in_a_phase_the_least_place_is_told(rt: HostRuntime) -> Result<(), Fail> {
 
 #[test]
 fn at_a_place_the_smaller_rule_is_told(rt: HostRuntime) -> Result<(), Fail> {
-    let rows: [(&[u8], &[u8], &[u8]); 11] = [
-        (INTEGER_SUFFIX, b":- module m.\np(9223372036854775809a).\n", b"2"),
+    const ROWS: [(&[u8], &[u8], &[u8]); 11] = [
+        (
+            INTEGER_SUFFIX,
+            b":- module m.\np(9223372036854775809a).\n",
+            b"2",
+        ),
         (FLOAT, b":- module m.\np(9223372036854775809.5).\n", b"2"),
         // An item that is no term has rule 2 alone.
         (NO_TERM, b":- module m.\np(9223372036854775808.\n", b"2"),
         (NO_FORM, b":- foo(x).\n", b"1"),
         (NO_FORM, b"f(X) = X.\n", b"1"),
-        (NO_FORM, b":- module m.\n:- pred p(int::in, char) is det.\n", b"2"),
-        (NO_FORM, b":- module m.\n:- pred p(char::in) is fast.\n", b"2"),
-        (NO_FORM, b":- module m.\n:- pred p(int::di) is fast.\n", b"2"),
-        (NO_FORM, b":- module m.\n:- type t(A, A) ---> c(char).\n", b"2"),
-        (NO_FORM, b":- module m.\n:- pred n.p(char::in) is det.\n", b"2"),
-        (NO_FORM, b":- module m.\n:- pred true(int::di) is cc_multi.\n", b"2"),
+        (
+            NO_FORM,
+            b":- module m.\n:- pred p(int::in, char) is det.\n",
+            b"2",
+        ),
+        (
+            NO_FORM,
+            b":- module m.\n:- pred p(char::in) is fast.\n",
+            b"2",
+        ),
+        (
+            NO_FORM,
+            b":- module m.\n:- pred p(int::di) is fast.\n",
+            b"2",
+        ),
+        (
+            NO_FORM,
+            b":- module m.\n:- type t(A, A) ---> c(char).\n",
+            b"2",
+        ),
+        (
+            NO_FORM,
+            b":- module m.\n:- pred n.p(char::in) is det.\n",
+            b"2",
+        ),
+        (
+            NO_FORM,
+            b":- module m.\n:- pred true(int::di) is cc_multi.\n",
+            b"2",
+        ),
     ];
-    for (rule, text, line) in rows {
+    for (rule, text, line) in ROWS {
         assert_refused(&rt, rule, text, line)?;
     }
     Ok(())
@@ -217,7 +111,13 @@ fn a_limit_before_another_fault_is_told(rt: HostRuntime) -> Result<(), Fail> {
     assert_refused(&rt, NAME, text.bytes(), b"2")?;
     let text = repeated(alloc, b":- module m.\np(1", b" + 1", 300, b").\np(.\n")?;
     assert_refused(&rt, NESTING, text.bytes(), b"2")?;
-    let text = repeated(alloc, b":- module m.\n:- pred p(int", b", int", 64, b").\nX.\n")?;
+    let text = repeated(
+        alloc,
+        b":- module m.\n:- pred p(int",
+        b", int",
+        64,
+        b").\nX.\n",
+    )?;
     assert_refused(&rt, ARITY, text.bytes(), b"2")?;
     Ok(())
 }
@@ -227,30 +127,72 @@ fn a_limit_comes_last_at_its_place(rt: HostRuntime) -> Result<(), Fail> {
     let alloc = rt.alloc();
     let text = repeated(alloc, b":- module m.\np('\\q", b"a", 256, b"').\n")?;
     assert_refused(&rt, BAD_TOKEN, text.bytes(), b"2")?;
-    let text = repeated(alloc, b":- module m.\np(9223372036854775808", b" + 1", 300, b").\n")?;
+    let text = repeated(
+        alloc,
+        b":- module m.\np(9223372036854775808",
+        b" + 1",
+        300,
+        b").\n",
+    )?;
     assert_refused(&rt, INTEGER, text.bytes(), b"2")?;
     let text = repeated(alloc, b":- module m.\np(1", b" + 1", 300, b").\nX.\n")?;
     assert_refused(&rt, NESTING, text.bytes(), b"2")?;
-    let text = repeated(alloc, b":- module m.\n:- pred p(int::in", b", char::in", 64, b") is det.\n")?;
+    let text = repeated(
+        alloc,
+        b":- module m.\n:- pred p(int::in",
+        b", char::in",
+        64,
+        b") is det.\n",
+    )?;
     assert_refused(&rt, TYPE, text.bytes(), b"2")?;
-    let text = repeated(alloc, b":- module m.\n:- pred p(int", b", int", 64, b") is fast.\n")?;
+    let text = repeated(
+        alloc,
+        b":- module m.\n:- pred p(int",
+        b", int",
+        64,
+        b") is fast.\n",
+    )?;
     assert_refused(&rt, NO_FORM, text.bytes(), b"2")?;
     Ok(())
 }
 
 #[test]
 fn of_two_words_the_first_in_the_item_is_told(rt: HostRuntime) -> Result<(), Fail> {
-    let rows: [(&[u8], &[u8], &[u8]); 8] = [
-        (MODE_NAME, b":- module m.\n:- pred p(int::di, char::in) is det.\n", b"2"),
+    const ROWS: [(&[u8], &[u8], &[u8]); 8] = [
+        (
+            MODE_NAME,
+            b":- module m.\n:- pred p(int::di, char::in) is det.\n",
+            b"2",
+        ),
         (TYPE, b":- module m.\n:- pred p(char::di) is det.\n", b"2"),
-        (TYPE, b":- module m.\n:- pred p(char::in, int::di) is det.\n", b"2"),
-        (MODE_NAME, b":- module m.\n:- pred p(int::di) is cc_multi.\n", b"2"),
-        (TYPE, b":- module m.\n:- pred p(list(char)::in) is cc_nondet.\n", b"2"),
-        (MODE_NAME, b":- module m.\n:- mode p(in, di) is cc_multi.\n", b"2"),
-        (CATEGORY, b":- module m.\n:- pred p(int::in) is cc_multi.\n:- pred p(char).\n", b"2"),
+        (
+            TYPE,
+            b":- module m.\n:- pred p(char::in, int::di) is det.\n",
+            b"2",
+        ),
+        (
+            MODE_NAME,
+            b":- module m.\n:- pred p(int::di) is cc_multi.\n",
+            b"2",
+        ),
+        (
+            TYPE,
+            b":- module m.\n:- pred p(list(char)::in) is cc_nondet.\n",
+            b"2",
+        ),
+        (
+            MODE_NAME,
+            b":- module m.\n:- mode p(in, di) is cc_multi.\n",
+            b"2",
+        ),
+        (
+            CATEGORY,
+            b":- module m.\n:- pred p(int::in) is cc_multi.\n:- pred p(char).\n",
+            b"2",
+        ),
         (FUNCTION, b":- module m.\n:- pred f(char) = int.\n", b"2"),
     ];
-    for (rule, text, line) in rows {
+    for (rule, text, line) in ROWS {
         assert_refused(&rt, rule, text, line)?;
     }
     Ok(())
@@ -270,13 +212,13 @@ fn the_module_comes_before_the_goal(rt: HostRuntime) -> Result<(), Fail> {
 #[test]
 fn rules_come_before_what_is_not_built(rt: HostRuntime) -> Result<(), Fail> {
     let outside = b":- module m.\n:- interface.\n";
-    let rows: [(&[u8], &[u8]); 4] = [
+    const ROWS: [(&[u8], &[u8]); 4] = [
         (b"", b"goal:1: rule 2: no term can be read here\n"),
         (b"p(", b"goal:1: rule 2: no term can be read here\n"),
         (b"\n\"", b"goal:2: rule 1: bad token\n"),
         (b"X = 1.5", b"goal:1: rule 15: outside the profile: float\n"),
     ];
-    for (goal, line) in rows {
+    for (goal, line) in ROWS {
         assert_printed(&rt, outside, goal, 5, line)?;
     }
     let goals: [&[u8]; 3] = [b"X = 1", b"true", b"3"];

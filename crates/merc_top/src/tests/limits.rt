@@ -1,27 +1,14 @@
 //! The limits of a module: rule 16.
 use super::checks::{MODULE_STAGE, assert_printed, assert_refused, repeated};
+use super::rules::{ARITY, INTEGER, MODES, NAME, NESTING, NO_MODE, NO_PAIR};
 use merc_base::{NoMemory, Text};
 use std::alloc::Global;
 use std::test::Fail;
 
-const NAME: &[u8] = b"rule 16: limit: name";
-
-const INTEGER: &[u8] = b"rule 16: limit: integer";
-
-const NESTING: &[u8] = b"rule 16: limit: nesting";
-
-const ARITY: &[u8] = b"rule 16: limit: arity";
-
-const MODES: &[u8] = b"rule 16: limit: modes";
-
-const NO_PAIR: &[u8] = b"rule 6: a clause and its declaration do not go together";
-
-const NO_MODE: &[u8] = b"rule 9: mode or category is missing";
-
 #[test]
 fn a_name_has_255_bytes(rt: HostRuntime) -> Result<(), Fail> {
     // The text before the name, a part of it, how many parts are the shortest name that is too long, and the rest.
-    let rows: [(&[u8], &[u8], u32, &[u8]); 7] = [
+    const ROWS: [(&[u8], &[u8], u32, &[u8]); 7] = [
         (b":- module m.\np(", b"a", 256, b").\n"),
         (b":- module m.\np(", b"A", 256, b").\n"),
         (b":- module m.\np(_", b"_", 255, b").\n"),
@@ -31,7 +18,7 @@ fn a_name_has_255_bytes(rt: HostRuntime) -> Result<(), Fail> {
         (b":- module m.\np('aa", b"\xc3\xa9", 127, b"').\n"),
     ];
     let alloc = rt.alloc();
-    for (before, part, count, after) in rows {
+    for (before, part, count, after) in ROWS {
         let text = repeated(alloc, before, part, count, after)?;
         assert_refused(&rt, NAME, text.bytes(), b"2")?;
         let text = repeated(alloc, before, part, count.saturating_sub(1), after)?;
@@ -57,7 +44,7 @@ fn a_name_too_long_is_told_at_its_line(rt: HostRuntime) -> Result<(), Fail> {
 // Of a literal that is too great whatever stands before it, the place is its own; else it is the item's.
 #[test]
 fn an_integer_has_a_greatest_value(rt: HostRuntime) -> Result<(), Fail> {
-    let rows: [(&[u8], &[u8]); 9] = [
+    const ROWS: [(&[u8], &[u8]); 9] = [
         (b":- module m.\np(\n9223372036854775809).\n", b"3"),
         (b":- module m.\np(\n- 9223372036854775809).\n", b"3"),
         (b":- module m.\np(\n0xffffffffffffffffff).\n", b"3"),
@@ -68,7 +55,7 @@ fn an_integer_has_a_greatest_value(rt: HostRuntime) -> Result<(), Fail> {
         (b":- module m.\np(3\n- 9223372036854775808).\n", b"2"),
         (b":- module m.\np(\n- -(9223372036854775808)).\n", b"2"),
     ];
-    for (text, line) in rows {
+    for (text, line) in ROWS {
         assert_refused(&rt, INTEGER, text, line)?;
     }
     Ok(())
@@ -76,13 +63,13 @@ fn an_integer_has_a_greatest_value(rt: HostRuntime) -> Result<(), Fail> {
 
 #[test]
 fn the_greatest_integers_are_read(rt: HostRuntime) -> Result<(), Fail> {
-    let rows: [&[u8]; 4] = [
+    const ROWS: [&[u8]; 4] = [
         b":- module m.\np(9223372036854775807).\n",
         b":- module m.\np(-9223372036854775808).\n",
         b":- module m.\np(-\n0x8000000000000000).\n",
         b":- module m.\np(00000000000000000000000000000001).\n",
     ];
-    for text in rows {
+    for text in ROWS {
         assert_refused(&rt, NO_PAIR, text, b"2")?;
     }
     Ok(())
@@ -105,14 +92,14 @@ fn nested(
 #[test]
 fn a_term_nests_256_deep(rt: HostRuntime) -> Result<(), Fail> {
     // The text before, what opens and closes, and how often makes the least item that nests too deep.
-    let rows: [(&[u8], &[u8], &[u8], u32); 4] = [
+    const ROWS: [(&[u8], &[u8], &[u8], u32); 4] = [
         (b":- module m.\n", b"f(", b")", 256),
         (b":- module m.\np :-\n", b"not (", b")", 255),
         (b":- module m.\np :- ", b"(", b", b)", 255),
         (b":- module m.\np :- ", b"q(X, [", b"])", 128),
     ];
     let alloc = rt.alloc();
-    for (before, open, close, count) in rows {
+    for (before, open, close, count) in ROWS {
         let text = nested(alloc, before, open, close, count)?;
         assert_refused(&rt, NESTING, text.bytes(), b"2")?;
         let text = nested(alloc, before, open, close, count.saturating_sub(1))?;
@@ -123,13 +110,13 @@ fn a_term_nests_256_deep(rt: HostRuntime) -> Result<(), Fail> {
 
 #[test]
 fn operators_nest_at_each_operand(rt: HostRuntime) -> Result<(), Fail> {
-    let rows: [(&[u8], &[u8], u32, &[u8]); 3] = [
+    const ROWS: [(&[u8], &[u8], u32, &[u8]); 3] = [
         (b":- module m.\np(1", b" + 1", 255, b").\n"),
         (b":- module m.\np :- ", b"a -> ", 255, b"a.\n"),
         (b":- module m.\np :- ", b"\\+ ", 255, b"a.\n"),
     ];
     let alloc = rt.alloc();
-    for (before, part, count, after) in rows {
+    for (before, part, count, after) in ROWS {
         let text = repeated(alloc, before, part, count, after)?;
         assert_refused(&rt, NESTING, text.bytes(), b"2")?;
         let text = repeated(alloc, before, part, count.saturating_sub(1), after)?;
@@ -140,7 +127,7 @@ fn operators_nest_at_each_operand(rt: HostRuntime) -> Result<(), Fail> {
 
 #[test]
 fn chains_to_the_right_nest_once(rt: HostRuntime) -> Result<(), Fail> {
-    let rows: [(&[u8], &[u8], &[u8]); 5] = [
+    const ROWS: [(&[u8], &[u8], &[u8]); 5] = [
         (b":- module m.\np :- ", b"a, ", b"a.\n"),
         (b":- module m.\np :- ", b"a ; ", b"a.\n"),
         (b":- module m.\np :- ", b"a & ", b"a.\n"),
@@ -148,7 +135,7 @@ fn chains_to_the_right_nest_once(rt: HostRuntime) -> Result<(), Fail> {
         (b":- module m.\np([1", b", 1", b"]).\n"),
     ];
     let alloc = rt.alloc();
-    for (before, part, after) in rows {
+    for (before, part, after) in ROWS {
         let text = repeated(alloc, before, part, 1000, after)?;
         assert_refused(&rt, NO_PAIR, text.bytes(), b"2")?;
     }
@@ -165,18 +152,26 @@ fn parentheses_nest_nothing(rt: HostRuntime) -> Result<(), Fail> {
 #[test]
 fn there_are_64_arguments(rt: HostRuntime) -> Result<(), Fail> {
     // The text before the arguments, a further one, and the rest.
-    let rows: [(&[u8], &[u8], &[u8]); 8] = [
-        (b":- module m.\n:- pred p(int::in", b", int::in", b") is det.\n"),
+    const ROWS: [(&[u8], &[u8], &[u8]); 8] = [
+        (
+            b":- module m.\n:- pred p(int::in",
+            b", int::in",
+            b") is det.\n",
+        ),
         (b":- module m.\n:- pred p(int", b", int", b").\n"),
         (b":- module m.\n:- mode p(in", b", in", b") is det.\n"),
         (b":- module m.\np(1", b", 1", b") :- q.\n"),
         (b":- module m.\n:- type t ---> c(int", b", int", b").\n"),
         (b":- module m.\n:- type t(_", b", _", b") ---> c.\n"),
-        (b":- module m.\n:- pred p(t(int", b", int", b")::in) is det.\n"),
+        (
+            b":- module m.\n:- pred p(t(int",
+            b", int",
+            b")::in) is det.\n",
+        ),
         (b":- module m.\n:- type t ---> c(u(int", b", int", b")).\n"),
     ];
     let alloc = rt.alloc();
-    for (before, part, after) in rows {
+    for (before, part, after) in ROWS {
         let text = repeated(alloc, before, part, 64, after)?;
         assert_refused(&rt, ARITY, text.bytes(), b"2")?;
     }
@@ -186,13 +181,31 @@ fn there_are_64_arguments(rt: HostRuntime) -> Result<(), Fail> {
 #[test]
 fn as_many_arguments_as_there_may_be_are_taken(rt: HostRuntime) -> Result<(), Fail> {
     let alloc = rt.alloc();
-    let text = repeated(alloc, b":- module m.\n:- pred p(int::in", b", int::in", 63, b") is det.\n")?;
+    let text = repeated(
+        alloc,
+        b":- module m.\n:- pred p(int::in",
+        b", int::in",
+        63,
+        b") is det.\n",
+    )?;
     assert_refused(&rt, NO_PAIR, text.bytes(), b"2")?;
     let text = repeated(alloc, b":- module m.\np(1", b", 1", 63, b").\n")?;
     assert_refused(&rt, NO_PAIR, text.bytes(), b"2")?;
-    let text = repeated(alloc, b":- module m.\n:- type t ---> c(int", b", int", 63, b").\n")?;
+    let text = repeated(
+        alloc,
+        b":- module m.\n:- type t ---> c(int",
+        b", int",
+        63,
+        b").\n",
+    )?;
     assert_printed(&rt, text.bytes(), b"X = 1", 4, MODULE_STAGE)?;
-    let text = repeated(alloc, b":- module m.\n:- type t(_", b", _", 63, b") ---> c.\n")?;
+    let text = repeated(
+        alloc,
+        b":- module m.\n:- type t(_",
+        b", _",
+        63,
+        b") ---> c.\n",
+    )?;
     assert_printed(&rt, text.bytes(), b"X = 1", 4, MODULE_STAGE)?;
     Ok(())
 }
