@@ -1,5 +1,19 @@
 ghost use Rattle.std.specs.Prelude.{◌<◌, ◌≤◌};
 
+mod accepted;
+mod bad_forms;
+mod bad_goals;
+mod bad_terms;
+mod bad_tokens;
+mod checks;
+mod declared;
+mod doubles;
+mod first_fault;
+mod first_phase;
+mod limits;
+mod profile;
+mod rules;
+
 use super::*;
 use merc_base::{NoMemory, Shelf, Sink, Tap, Text};
 use merc_io::{FailingShelf, FailingSink, MemShelf, MemSink, OpenGate};
