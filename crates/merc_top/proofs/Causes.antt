@@ -2,48 +2,55 @@
 use Rattle.std.proofs.Common.{◌≡◌, ◌<◌, ◌∙◌, ◌↔◌, ℕ, zero, suc, List, [], ◌∷◌, ap, sym, refl, subst, inl, inr, length, arith, lit<, codes}
 use Rattle.std.specs.Prelude.{Option, Some, None}
 use Rattle.merc_base.specs.Outside.{Files, file_named}
+use Rattle.merc_tree.specs.Term.{Term}
 use Rattle.merc_tree.specs.Trace.{RunEnd, RunDone, RunRaised, LimitPassed, answers_of, end_of}
+use Rattle.merc_first_form.specs.declared.syntax.Conjunct.{Conjunct}
+use Rattle.merc_first_form.specs.declared.syntax.Source.{Source}
+use Rattle.merc_first_form.specs.FlatForm.{variables_of}
+use Rattle.merc_first_form.specs.Reading.{source_of, goal_of}
 use Rattle.merc_top.specs.Words.{IsRequest, IsNoRequest, usage_line}
-use Rattle.merc_top.specs.FirstForm.{IsModuleText, IsGoalText}
-use Rattle.merc_top.specs.FlatForm.{variables_of}
-use Rattle.merc_top.specs.Output.{IsOutput, FileOutput, ModuleOutput, GoalOutput, run_of, run_lines, run_status, refusal_line, stage_refusal, too_long_line}
-use Rattle.merc_top.specs.Answer.{Names, NamesAbsent, NamesTooLong, RefusesModule, RefusesGoal, Solves}
+use Rattle.merc_top.specs.Output.{AreRead, IsDue, IsOutput, FileOutput, run_of, run_lines, run_status, refusal_line, stage_refusal, too_long_line}
+use Rattle.merc_top.specs.Output.IsDue.{module_refused as due_module_refused, goal_refused as due_goal_refused, module_outside as due_module_outside, goal_outside as due_goal_outside, runs as due_runs}
+use Rattle.merc_top.specs.Answer.{Names, NamesAbsent, NamesTooLong, BreaksModule, BreaksGoal, Solves}
+use Rattle.merc_top.specs.Answer.BreaksModule.{module_rule, module_outside}
+use Rattle.merc_top.specs.Answer.BreaksGoal.{goal_rule, goal_outside}
 use Rattle.merc_top.proofs.OutputLaws.{IsOutput-unique}
-use Rattle.merc_top.specs.declared.first_form.syntax.Conjunct.{Conjunct}
-use Rattle.merc_top.specs.declared.first_form.syntax.Module.{Module}
 
 -- module and goal are accepted, and the status is that of the run
 record Runs (words : List (List ℕ)) (files : Files) (status : ℕ) : Type 0 where
   text : List ℕ
   goal : List ℕ
-  names : Names words files text goal
-  source : Module
-  reading : IsModuleText text source
+  request : Names words files text goal
+  names : List (List ℕ)
+  items : List Term
+  term : Term
+  read : AreRead text goal names items term
+  source : Source
+  source_is : source_of names items ≡ Some source
   conjuncts : List Conjunct
-  goal_reading : IsGoalText source goal conjuncts
+  goal_is : goal_of names source term ≡ Some conjuncts
   is : status ≡ run_status (length (answers_of (run_of source conjuncts))) (end_of (run_of source conjuncts))
 
 data Cause (words : List (List ℕ)) (files : Files) (status : ℕ) : Type 0 where
   usage_cause : (why : IsNoRequest words) (is : status ≡ 6) → Cause words files status
   absent_cause : (is : status ≡ 7) → Cause words files status
   too_long_cause : (why : NamesTooLong words files) (is : status ≡ 10) → Cause words files status
-  module_cause : (why : RefusesModule words files) (is : status ≡ 4) → Cause words files status
-  goal_cause : (why : RefusesGoal words files) (is : status ≡ 5) → Cause words files status
+  module_cause : (why : BreaksModule words files) (is : status ≡ 4) → Cause words files status
+  goal_cause : (why : BreaksGoal words files) (is : status ≡ 5) → Cause words files status
   run_cause : (why : Runs words files status) → Cause words files status
 
-goal_output-cause : (words : List (List ℕ)) (files : Files) (text goal : List ℕ) (source : Module) (lines : List (List ℕ)) (status : ℕ)
-    → Names words files text goal → IsModuleText text source → GoalOutput source goal lines status → Cause words files status
-goal_output-cause words files text goal source lines status names reading (inl refused) =
-    goal_cause (record { text = text; goal = goal; names = names; source = source; reading = reading; refused = refused.0 }) refused.2
-goal_output-cause words files text goal source lines status names reading (inr run) =
-    run_cause (record { text = text; goal = goal; names = names; source = source; reading = reading; conjuncts = run.0; goal_reading = run.1; is = run.2.1 })
-
-module_output-cause : (words : List (List ℕ)) (files : Files) (name text goal : List ℕ) (lines : List (List ℕ)) (status : ℕ)
-    → Names words files text goal → ModuleOutput name text goal lines status → Cause words files status
-module_output-cause words files name text goal lines status names (inl refused) =
-    module_cause (record { text = text; goal = goal; names = names; refused = refused.0 }) refused.2
-module_output-cause words files name text goal lines status names (inr due) =
-    goal_output-cause words files text goal due.0 lines status names due.1 due.2
+due-cause : (words : List (List ℕ)) (files : Files) (name text goal : List ℕ) (lines : List (List ℕ)) (status : ℕ)
+    → Names words files text goal → IsDue name text goal lines status → Cause words files status
+due-cause words files name text goal _ _ request (due_module_refused refusal refuses) =
+    module_cause (module_rule text goal refusal request refuses) refl
+due-cause words files name text goal _ _ request (due_goal_refused names items found refusal is refuses) =
+    goal_cause (goal_rule text goal names items found refusal request is refuses) refl
+due-cause words files name text goal _ _ request (due_module_outside names items term read outside) =
+    module_cause (module_outside text goal names items term request read outside) refl
+due-cause words files name text goal _ _ request (due_goal_outside names items term source read within outside) =
+    goal_cause (goal_outside text goal names items term source request read within outside) refl
+due-cause words files name text goal _ _ request (due_runs names items term source conjuncts lines status read within is due) =
+    run_cause (record { text = text; goal = goal; request = request; names = names; items = items; term = term; read = read; source = source; source_is = within; conjuncts = conjuncts; goal_is = is; is = due.1 })
 
 file_output-cause : (words : List (List ℕ)) (files : Files) (file goal : List ℕ) (content : Option (List ℕ)) (lines : List (List ℕ)) (status : ℕ)
     → IsRequest words file goal → file_named file files ≡ content → FileOutput file content goal lines status → Cause words files status
@@ -51,7 +58,7 @@ file_output-cause words files file goal None lines status request same absent = 
 file_output-cause words files file goal (Some text) lines status request same (inl long) =
     too_long_cause (record { file = file; goal = goal; text = text; request = request; content = same; past = long.0 }) long.2
 file_output-cause words files file goal (Some text) lines status request same (inr due) =
-    module_output-cause words files file text goal lines status (record { file = file; request = request; content = same; within = due.0 }) due.1
+    due-cause words files file text goal lines status (record { file = file; request = request; content = same; within = due.0 }) due.1
 
 cause_of : (words : List (List ℕ)) (files : Files) (lines : List (List ℕ)) (status : ℕ) → IsOutput words files lines status → Cause words files status
 cause_of words files lines status (inl usage) = usage_cause usage.0 usage.2
@@ -87,11 +94,15 @@ runs_solved words files status runs is =
     record {
       text = runs.text;
       goal = runs.goal;
+      request = runs.request;
       names = runs.names;
+      items = runs.items;
+      term = runs.term;
+      read = runs.read;
       source = runs.source;
-      reading = runs.reading;
+      source_is = runs.source_is;
       conjuncts = runs.conjuncts;
-      goal_reading = runs.goal_reading;
+      goal_is = runs.goal_is;
       answers = why.0;
       ends = why.1;
     }
@@ -104,7 +115,7 @@ solved_by words files status (module_cause why is) zero_is = absurd (omega (arit
 solved_by words files status (goal_cause why is) zero_is = absurd (omega (arith, is, zero_is))
 solved_by words files status (run_cause why) zero_is = runs_solved words files status why zero_is
 
-module_refused_by : (words : List (List ℕ)) (files : Files) (status : ℕ) → Cause words files status → status ≡ 4 → RefusesModule words files
+module_refused_by : (words : List (List ℕ)) (files : Files) (status : ℕ) → Cause words files status → status ≡ 4 → BreaksModule words files
 module_refused_by words files status (usage_cause why is) four = absurd (omega (arith, is, four))
 module_refused_by words files status (absent_cause is) four = absurd (omega (arith, is, four))
 module_refused_by words files status (too_long_cause why is) four = absurd (omega (arith, is, four))
@@ -112,7 +123,7 @@ module_refused_by words files status (module_cause why is) four = why
 module_refused_by words files status (goal_cause why is) four = absurd (omega (arith, is, four))
 module_refused_by words files status (run_cause why) four = absurd (omega (arith, four, runs_low words files status why))
 
-goal_refused_by : (words : List (List ℕ)) (files : Files) (status : ℕ) → Cause words files status → status ≡ 5 → RefusesGoal words files
+goal_refused_by : (words : List (List ℕ)) (files : Files) (status : ℕ) → Cause words files status → status ≡ 5 → BreaksGoal words files
 goal_refused_by words files status (usage_cause why is) five = absurd (omega (arith, is, five))
 goal_refused_by words files status (absent_cause is) five = absurd (omega (arith, is, five))
 goal_refused_by words files status (too_long_cause why is) five = absurd (omega (arith, is, five))
@@ -137,14 +148,14 @@ too_long_by words files status (goal_cause why is) ten = absurd (omega (arith, i
 too_long_by words files status (run_cause why) ten = absurd (omega (arith, ten, runs_low words files status why))
 
 -- what is due for a file that the words name, with this text
-named_output : (words : List (List ℕ)) (files : Files) (text goal : List ℕ) (lines : List (List ℕ)) (status : ℕ) (names : Names words files text goal)
-    → ModuleOutput names.file text goal lines status → IsOutput words files lines status
-named_output words files text goal lines status names due =
+named_output : (words : List (List ℕ)) (files : Files) (text goal : List ℕ) (lines : List (List ℕ)) (status : ℕ) (request : Names words files text goal)
+    → IsDue request.file text goal lines status → IsOutput words files lines status
+named_output words files text goal lines status request due =
     inr (
-      names.file,
+      request.file,
       goal,
-      names.request,
-      subst (λ content. FileOutput names.file content goal lines status) (sym names.content) (inr (names.within, due)),
+      request.request,
+      subst (λ content. FileOutput request.file content goal lines status) (sym request.content) (inr (request.within, due)),
     )
 
 solves_output : (words : List (List ℕ)) (files : Files) → Solves words files → (lines : List (List ℕ)) × IsOutput words files lines 0
@@ -152,26 +163,22 @@ solves_output words files solves =
     let run = run_of solves.source solves.conjuncts in
     let lines = run_lines (variables_of [] solves.conjuncts) run in (
       lines,
-      named_output words files solves.text solves.goal lines 0 solves.names
-          (inr (
-            solves.source,
-            solves.reading,
-            inr (solves.conjuncts, solves.goal_reading, (refl, sym (run_status-solved _ _ solves.answers solves.ends))),
-          )),
+      named_output words files solves.text solves.goal lines 0 solves.request
+          (due_runs solves.names solves.items solves.term solves.source solves.conjuncts lines 0 solves.read solves.source_is solves.goal_is
+          (refl, sym (run_status-solved _ _ solves.answers solves.ends))),
     )
 
-refuses_module_output : (words : List (List ℕ)) (files : Files) → RefusesModule words files → (lines : List (List ℕ)) × IsOutput words files lines 4
-refuses_module_output words files refuses =
-    let lines = refusal_line refuses.names.file stage_refusal ∷ [] in
-    (lines, named_output words files refuses.text refuses.goal lines 4 refuses.names (inl (refuses.refused, refl, refl)))
+breaks_module_output : (words : List (List ℕ)) (files : Files) → BreaksModule words files → (lines : List (List ℕ)) × IsOutput words files lines 4
+breaks_module_output words files (module_rule text goal refusal request refuses) =
+    (refusal_line request.file refusal ∷ [], named_output words files text goal _ 4 request (due_module_refused refusal refuses))
+breaks_module_output words files (module_outside text goal names items term request read outside) =
+    (refusal_line request.file stage_refusal ∷ [], named_output words files text goal _ 4 request (due_module_outside names items term read outside))
 
-refuses_goal_output : (words : List (List ℕ)) (files : Files) → RefusesGoal words files → (lines : List (List ℕ)) × IsOutput words files lines 5
-refuses_goal_output words files refuses =
-    let lines = refusal_line (codes "goal") stage_refusal ∷ [] in (
-      lines,
-      named_output words files refuses.text refuses.goal lines 5 refuses.names
-          (inr (refuses.source, refuses.reading, inl (refuses.refused, refl, refl))),
-    )
+breaks_goal_output : (words : List (List ℕ)) (files : Files) → BreaksGoal words files → (lines : List (List ℕ)) × IsOutput words files lines 5
+breaks_goal_output words files (goal_rule text goal names items found refusal request is refuses) =
+    (refusal_line (codes "goal") refusal ∷ [], named_output words files text goal _ 5 request (due_goal_refused names items found refusal is refuses))
+breaks_goal_output words files (goal_outside text goal names items term source request read within outside) =
+    (refusal_line (codes "goal") stage_refusal ∷ [], named_output words files text goal _ 5 request (due_goal_outside names items term source read within outside))
 
 too_long_output : (words : List (List ℕ)) (files : Files) → NamesTooLong words files → (lines : List (List ℕ)) × IsOutput words files lines 10
 too_long_output words files names =
@@ -199,16 +206,16 @@ solved-exactly words files lines status output = (
   λ why. status_is words files lines status 0 output (solves_output words files why),
 )
 
-pub module_refused-exactly : (words : List (List ℕ)) (files : Files) (lines : List (List ℕ)) (status : ℕ) → IsOutput words files lines status → (status ≡ 4) ↔ RefusesModule words files
+pub module_refused-exactly : (words : List (List ℕ)) (files : Files) (lines : List (List ℕ)) (status : ℕ) → IsOutput words files lines status → (status ≡ 4) ↔ BreaksModule words files
 module_refused-exactly words files lines status output = (
   module_refused_by words files status (cause_of words files lines status output),
-  λ why. status_is words files lines status 4 output (refuses_module_output words files why),
+  λ why. status_is words files lines status 4 output (breaks_module_output words files why),
 )
 
-pub goal_refused-exactly : (words : List (List ℕ)) (files : Files) (lines : List (List ℕ)) (status : ℕ) → IsOutput words files lines status → (status ≡ 5) ↔ RefusesGoal words files
+pub goal_refused-exactly : (words : List (List ℕ)) (files : Files) (lines : List (List ℕ)) (status : ℕ) → IsOutput words files lines status → (status ≡ 5) ↔ BreaksGoal words files
 goal_refused-exactly words files lines status output = (
   goal_refused_by words files status (cause_of words files lines status output),
-  λ why. status_is words files lines status 5 output (refuses_goal_output words files why),
+  λ why. status_is words files lines status 5 output (breaks_goal_output words files why),
 )
 
 pub usage-exactly : (words : List (List ℕ)) (files : Files) (lines : List (List ℕ)) (status : ℕ) → IsOutput words files lines status → (status ≡ 6) ↔ IsNoRequest words

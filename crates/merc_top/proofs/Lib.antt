@@ -12,3 +12,5 @@ pub mod WordsExamples
 pub mod LoadingExamples
 pub mod WritingExamples
 pub mod OutputExamples
+pub mod DueExamples
+pub mod CallExamples

@@ -1,12 +1,26 @@
 -- For given words and files one text and one status are due.
-use Rattle.std.proofs.Common.{◌≡◌, ◌∙◌, ℕ, List, [], ◌∷◌, sym, subst, inl, inr, arith, codes}
+use Rattle.std.proofs.Common.{◌≡◌, ◌∙◌, ℕ, List, [], ◌∷◌, refl, sym, subst, inl, inr, arith, codes}
 use Rattle.std.specs.Prelude.{Option, Some, None}
+use Rattle.std.specs.List.{IsDistinct}
+use Rattle.std.specs.Str.{bytes_eq}
+use Rattle.merc_base.specs.Names.{fixed_names}
 use Rattle.merc_base.specs.Outside.{Files, file_named}
+use Rattle.merc_base.specs.declared.refusal.Refusal.{Refusal}
+use Rattle.merc_base.proofs.NameLaws.{fixed_names-distinct}
+use Rattle.merc_tree.specs.Term.{Term}
+use Rattle.merc_tree.specs.declared.declarations.Module.{Module}
+use Rattle.merc_terms.specs.Texts.{ReadsGoal, RefusesGoalText}
+use Rattle.merc_terms.proofs.TextLaws.{ReadsItems-distinct, ReadsGoal-unique, RefusesGoalText-unique, RefusesGoalText-excludes}
+use Rattle.merc_items.specs.ReadModule.{IsModule, RefusesModule}
+use Rattle.merc_items.proofs.ModuleLaws.{IsModule-unique, RefusesModule-excludes}
+use Rattle.merc_items.proofs.RefusalLaws.{RefusesModule-unique}
+use Rattle.merc_first_form.specs.declared.syntax.Conjunct.{Conjunct}
+use Rattle.merc_first_form.specs.declared.syntax.Source.{Source}
+use Rattle.merc_first_form.specs.Reading.{source_of, goal_of}
+use Rattle.merc_first_form.specs.FlatForm.{variables_of}
 use Rattle.merc_top.specs.Words.{IsRequest}
-use Rattle.merc_top.specs.FlatForm.{variables_of}
-use Rattle.merc_top.specs.Output.{IsOutput, FileOutput, ModuleOutput, GoalOutput, IsRunDue, run_of}
-use Rattle.merc_top.proofs.Readings.{IsModuleText-unique, IsGoalText-unique}
-use Rattle.merc_top.specs.declared.first_form.syntax.Module.{Module}
+use Rattle.merc_top.specs.Output.{AreRead, IsDue, IsOutput, FileOutput, IsRunDue, run_of, refusal_line, stage_refusal}
+use Rattle.merc_top.specs.Output.IsDue.{module_refused, goal_refused, module_outside, goal_outside, runs}
 
 -- the same lines and the same status
 abbrev pub Agree : List (List ℕ) → ℕ → List (List ℕ) → ℕ → Type 0
@@ -15,25 +29,123 @@ Agree lines status lines' status' = (lines ≡ lines') × (status ≡ status')
 both : {A : Type 0} {x y z : A} → x ≡ z → y ≡ z → x ≡ y
 both p q = p ∙ sym q
 
-goal_output-unique : (source : Module) (text : List ℕ) (lines lines' : List (List ℕ)) (status status' : ℕ)
-    → GoalOutput source text lines status → GoalOutput source text lines' status' → Agree lines status lines' status'
-goal_output-unique source text lines lines' status status' (inl refused) (inl also) = (both refused.1 also.1, both refused.2 also.2)
-goal_output-unique source text lines lines' status status' (inl refused) (inr run) = absurd (refused.0 run.0 run.1)
-goal_output-unique source text lines lines' status status' (inr run) (inl refused) = absurd (refused.0 run.0 run.1)
-goal_output-unique source text lines lines' status status' (inr run) (inr also) =
-    let same = IsGoalText-unique source text also.0 run.0 also.1 run.1 in
-    let due : IsRunDue (variables_of [] run.0) (run_of source run.0) lines' status' =
-    subst (λ goal. IsRunDue (variables_of [] goal) (run_of source goal) lines' status') same also.2 in
-    (both run.2.0 due.0, both run.2.1 due.1)
+-- what is due for a module of the first form, and what the goal is in that form
+abbrev GoalDue : Source → Option (List Conjunct) → List (List ℕ) → ℕ → Type 0
+GoalDue source None lines status = (lines ≡ refusal_line (codes "goal") stage_refusal ∷ []) × (status ≡ 5)
+GoalDue source (Some conjuncts) lines status = IsRunDue (variables_of [] conjuncts) (run_of source conjuncts) lines status
 
-module_output-unique : (name file goal : List ℕ) (lines lines' : List (List ℕ)) (status status' : ℕ)
-    → ModuleOutput name file goal lines status → ModuleOutput name file goal lines' status' → Agree lines status lines' status'
-module_output-unique name file goal lines lines' status status' (inl refused) (inl also) = (both refused.1 also.1, both refused.2 also.2)
-module_output-unique name file goal lines lines' status status' (inl refused) (inr run) = absurd (refused.0 run.0 run.1)
-module_output-unique name file goal lines lines' status status' (inr run) (inl refused) = absurd (refused.0 run.0 run.1)
-module_output-unique name file goal lines lines' status status' (inr run) (inr also) =
-    let same = IsModuleText-unique file also.0 run.0 also.1 run.1 in
-    goal_output-unique run.0 goal lines lines' status status' run.2 (subst (λ source. GoalOutput source goal lines' status') same also.2)
+-- what is due for what the module is in the first form, and the goal over it
+abbrev SourceDue : List ℕ → Option Source → (Source → Option (List Conjunct)) → List (List ℕ) → ℕ → Type 0
+SourceDue name None goal lines status = (lines ≡ refusal_line name stage_refusal ∷ []) × (status ≡ 4)
+SourceDue name (Some source) goal lines status = GoalDue source (goal source) lines status
+
+-- what is due once file and goal are read
+abbrev ReadDue : List ℕ → List (List ℕ) → List Term → Term → List (List ℕ) → ℕ → Type 0
+ReadDue name names items term lines status = SourceDue name (source_of names items) (λ source. goal_of names source term) lines status
+
+goal_due-unique : (source : Source) (found : Option (List Conjunct)) (lines lines' : List (List ℕ)) (status status' : ℕ)
+    → GoalDue source found lines status → GoalDue source found lines' status' → Agree lines status lines' status'
+goal_due-unique source None lines lines' status status' due also = (both due.0 also.0, both due.1 also.1)
+goal_due-unique source (Some conjuncts) lines lines' status status' due also = (both due.0 also.0, both due.1 also.1)
+
+source_due-unique : (name : List ℕ) (found : Option Source) (goal : Source → Option (List Conjunct)) (lines lines' : List (List ℕ)) (status status' : ℕ)
+    → SourceDue name found goal lines status → SourceDue name found goal lines' status' → Agree lines status lines' status'
+source_due-unique name None goal lines lines' status status' due also = (both due.0 also.0, both due.1 also.1)
+source_due-unique name (Some source) goal lines lines' status status' due also = goal_due-unique source (goal source) lines lines' status status' due also
+
+-- a text is due because the file breaks a rule, or the goal does, or both are read
+data Cases (name file goal : List ℕ) (lines : List (List ℕ)) (status : ℕ) : Type 0 where
+  broken_module : (refusal : Refusal) → RefusesModule fixed_names file refusal → lines ≡ refusal_line name refusal ∷ [] → status ≡ 4 → Cases name file goal lines status
+  broken_goal : (names : List (List ℕ)) (items : List Term) (found : Module) (refusal : Refusal) → IsModule fixed_names names file items found → RefusesGoalText names goal refusal → lines ≡ refusal_line (codes "goal") refusal ∷ [] → status ≡ 5 → Cases name file goal lines status
+  both_read : (names : List (List ℕ)) (items : List Term) (term : Term) → AreRead file goal names items term → ReadDue name names items term lines status → Cases name file goal lines status
+
+cases_of : (name file goal : List ℕ) (lines : List (List ℕ)) (status : ℕ) → IsDue name file goal lines status → Cases name file goal lines status
+cases_of name file goal _ _ (module_refused refusal refuses) = broken_module refusal refuses refl refl
+cases_of name file goal _ _ (goal_refused names items found refusal is refuses) = broken_goal names items found refusal is refuses refl refl
+cases_of name file goal lines status (module_outside names items term read outside) =
+    both_read names items term read
+    (subst (λ (found : Option Source). SourceDue name found (λ source. goal_of names source term) lines status) (sym outside) (refl, refl))
+cases_of name file goal lines status (goal_outside names items term source read within outside) =
+    both_read names items term read
+    (subst (λ (found : Option Source). SourceDue name found (λ source. goal_of names source term) lines status) (sym within)
+    (subst (λ (found : Option (List Conjunct)). GoalDue source found lines status) (sym outside) (refl, refl)))
+cases_of name file goal _ _ (runs names items term source conjuncts lines status read within is due) =
+    both_read names items term read
+    (subst (λ (found : Option Source). SourceDue name found (λ source. goal_of names source term) lines status) (sym within)
+    (subst (λ (found : Option (List Conjunct)). GoalDue source found lines status) (sym is) due))
+
+-- behind a module, and the units that it may import, no two names are one
+module-distinct : (names : List (List ℕ)) (file : List ℕ) (items : List Term) (found : Module) → IsModule fixed_names names file items found → IsDistinct bytes_eq names
+module-distinct names file items found is =
+    let units = is.is.units in
+    let read = ReadsItems-distinct fixed_names file fixed_names-distinct is.read_names items is.reads in
+    let list = ReadsItems-distinct is.read_names units.list.text read units.after_list _ units.list.reads in
+    let bool = ReadsItems-distinct units.after_list units.bool.text list units.after_bool _ units.bool.reads in
+    ReadsItems-distinct units.after_bool units.maybe.text bool names _ units.maybe.reads
+
+-- file and goal are read in one way
+AreRead-unique : (file goal : List ℕ) (names names' : List (List ℕ)) (items items' : List Term) (term term' : Term)
+    → AreRead file goal names items term → AreRead file goal names' items' term' → (names ≡ names') × (items ≡ items') × (term ≡ term')
+AreRead-unique file goal names names' items items' term term' read also =
+    let modules = IsModule-unique fixed_names read.file_names also.file_names file items items' read.found also.found fixed_names-distinct read.module_is also.module_is in
+    let distinct = module-distinct read.file_names file items read.found read.module_is in
+    let also_is : ReadsGoal read.file_names names' goal term' = subst (λ (before : List (List ℕ)). ReadsGoal before names' goal term') (sym modules.0) also.goal_is in
+    let goals = ReadsGoal-unique read.file_names goal distinct names names' term term' read.goal_is also_is in
+    (goals.0, modules.1, goals.1)
+
+-- a file that is a module breaks no rule
+module_not_broken : (file : List ℕ) (refusal : Refusal) (names : List (List ℕ)) (items : List Term) (found : Module) → RefusesModule fixed_names file refusal → IsModule fixed_names names file items found → ⊥
+module_not_broken file refusal names items found refuses is = RefusesModule-excludes fixed_names names file refusal items found fixed_names-distinct refuses is
+
+-- nor does a goal that is read behind it
+goal_not_broken : (file goal : List ℕ) (names names' : List (List ℕ)) (items items' : List Term) (found : Module) (refusal : Refusal) (term : Term)
+    → IsModule fixed_names names file items found → RefusesGoalText names goal refusal → AreRead file goal names' items' term → ⊥
+goal_not_broken file goal names names' items items' found refusal term is refuses read =
+    let same = (IsModule-unique fixed_names names read.file_names file items items' found read.found fixed_names-distinct is read.module_is).0 in
+    let distinct = module-distinct names file items found is in
+    let reads : ReadsGoal names names' goal term = subst (λ (before : List (List ℕ)). ReadsGoal before names' goal term) (sym same) read.goal_is in
+    RefusesGoalText-excludes names goal distinct refusal names' term refuses reads
+
+one_goal_refusal : (file goal : List ℕ) (names names' : List (List ℕ)) (items items' : List Term) (found found' : Module) (one other : Refusal)
+    → IsModule fixed_names names file items found → IsModule fixed_names names' file items' found' → RefusesGoalText names goal one → RefusesGoalText names' goal other → one ≡ other
+one_goal_refusal file goal names names' items items' found found' one other is is' refuses refuses' =
+    let same = (IsModule-unique fixed_names names names' file items items' found found' fixed_names-distinct is is').0 in
+    RefusesGoalText-unique names goal (module-distinct names file items found is) one other refuses
+    (subst (λ (before : List (List ℕ)). RefusesGoalText before goal other) (sym same) refuses')
+
+same_line : (name : List ℕ) (one other : Refusal) (lines lines' : List (List ℕ)) → one ≡ other → lines ≡ refusal_line name one ∷ [] → lines' ≡ refusal_line name other ∷ [] → lines ≡ lines'
+same_line name one other lines lines' same is is' = is ∙ subst (λ (refusal : Refusal). refusal_line name one ∷ [] ≡ refusal_line name refusal ∷ []) same refl ∙ sym is'
+
+cases-unique : (name file goal : List ℕ) (lines lines' : List (List ℕ)) (status status' : ℕ)
+    → Cases name file goal lines status → Cases name file goal lines' status' → Agree lines status lines' status'
+cases-unique name file goal lines lines' status status' (broken_module one refuses is four) (broken_module other refuses' is' four') =
+    (same_line name one other lines lines' (RefusesModule-unique fixed_names file one other fixed_names-distinct refuses refuses') is is', both four four')
+cases-unique name file goal lines lines' status status' (broken_module one refuses is four) (broken_goal names items found other module_is refuses' is' five) =
+    absurd (module_not_broken file one names items found refuses module_is)
+cases-unique name file goal lines lines' status status' (broken_module one refuses is four) (both_read names items term read due) =
+    absurd (module_not_broken file one read.file_names items read.found refuses read.module_is)
+cases-unique name file goal lines lines' status status' (broken_goal names items found one module_is refuses is five) (broken_module other refuses' is' four) =
+    absurd (module_not_broken file other names items found refuses' module_is)
+cases-unique name file goal lines lines' status status' (broken_goal names items found one module_is refuses is five) (broken_goal names' items' found' other module_is' refuses' is' five') =
+    (same_line (codes "goal") one other lines lines' (one_goal_refusal file goal names names' items items' found found' one other module_is module_is' refuses refuses') is is', both five five')
+cases-unique name file goal lines lines' status status' (broken_goal names items found one module_is refuses is five) (both_read names' items' term read due) =
+    absurd (goal_not_broken file goal names names' items items' found one term module_is refuses read)
+cases-unique name file goal lines lines' status status' (both_read names items term read due) (broken_module other refuses is four) =
+    absurd (module_not_broken file other read.file_names items read.found refuses read.module_is)
+cases-unique name file goal lines lines' status status' (both_read names items term read due) (broken_goal names' items' found other module_is refuses is five) =
+    absurd (goal_not_broken file goal names' names items' items found other term module_is refuses read)
+cases-unique name file goal lines lines' status status' (both_read names items term read due) (both_read names' items' term' read' due') =
+    let same = AreRead-unique file goal names names' items items' term term' read read' in
+    let also : ReadDue name names items term lines' status' =
+    subst (λ (ns : List (List ℕ)). ReadDue name ns items term lines' status') (sym same.0)
+    (subst (λ (ts : List Term). ReadDue name names' ts term lines' status') (sym same.1)
+    (subst (λ (t : Term). ReadDue name names' items' t lines' status') (sym same.2) due')) in
+    source_due-unique name (source_of names items) (λ source. goal_of names source term) lines lines' status status' due also
+
+pub IsDue-unique : (name file goal : List ℕ) (lines lines' : List (List ℕ)) (status status' : ℕ)
+    → IsDue name file goal lines status → IsDue name file goal lines' status' → Agree lines status lines' status'
+IsDue-unique name file goal lines lines' status status' due also =
+    cases-unique name file goal lines lines' status status' (cases_of name file goal lines status due) (cases_of name file goal lines' status' also)
 
 file_output-unique : (name : List ℕ) (content : Option (List ℕ)) (goal : List ℕ) (lines lines' : List (List ℕ)) (status status' : ℕ)
     → FileOutput name content goal lines status → FileOutput name content goal lines' status' → Agree lines status lines' status'
@@ -42,7 +154,7 @@ file_output-unique name (Some file) goal lines lines' status status' (inl long) 
 file_output-unique name (Some file) goal lines lines' status status' (inl long) (inr due) = absurd (omega (arith, long.0, due.0))
 file_output-unique name (Some file) goal lines lines' status status' (inr due) (inl long) = absurd (omega (arith, long.0, due.0))
 file_output-unique name (Some file) goal lines lines' status status' (inr due) (inr also) =
-    module_output-unique name file goal lines lines' status status' due.1 also.1
+    IsDue-unique name file goal lines lines' status status' due.1 also.1
 
 request-unique : (words : List (List ℕ)) (file goal file' goal' : List ℕ) → IsRequest words file goal → IsRequest words file' goal' → (file ≡ file') × (goal ≡ goal')
 request-unique words file goal file' goal' request also =

@@ -133,7 +133,8 @@ fn read_due(
     let source = match source_of(alloc, items, names)? {
         Some(source) => source,
         None => {
-            return one_line(alloc, 4, refusal_line(alloc, name.bytes(), &stage_refusal())?);
+            let line = refusal_line(alloc, name.bytes(), &stage_refusal())?;
+            return one_line(alloc, 4, line);
         }
     };
     match goal_of(alloc, &source, term, names)? {

@@ -1,5 +1,19 @@
 ghost use Rattle.std.specs.Prelude.{◌<◌, ◌≤◌};
 
+mod accepted;
+mod bad_forms;
+mod bad_goals;
+mod bad_terms;
+mod bad_tokens;
+mod checks;
+mod declared;
+mod doubles;
+mod first_fault;
+mod first_phase;
+mod limits;
+mod profile;
+mod rules;
+
 use super::*;
 use merc_base::{NoMemory, Shelf, Sink, Tap, Text};
 use merc_io::{FailingShelf, FailingSink, MemShelf, MemSink, OpenGate};
@@ -17,6 +31,9 @@ const TWO: &[u8] =
 const ROWS: &[u8] = b":- module rows.\n:- import_module int, list, require.\n";
 
 const STAGE: &[u8] = b"goal:1: rule 15: outside the profile: stage\n";
+
+// A file without an item.
+const NO_ITEM: &[u8] = b"big.m:1: rule 3: not a declaration, clause or goal of this form\n";
 
 const USAGE: &[u8] =
     b"usage: merc solve FILE GOAL [--workers N] [--steps N] [--max N] | check FILE | code FILE | grow N [--workers N]\n";
@@ -150,10 +167,16 @@ fn the_limit_of_a_file_is_kept(rt: HostRuntime) -> Result<(), Fail> {
     blanks.truncate(1_048_576);
     let (status, sink) = output(&rt, &words, b"big.m", &blanks)?;
     assert_eq!(rt; status, 4);
-    assert_eq!(rt;
-        sink.bytes(),
-        b"big.m:1: rule 15: outside the profile: stage\n".as_slice()
-    );
+    assert_eq!(rt; sink.bytes(), NO_ITEM);
+    Ok(())
+}
+
+#[test]
+fn an_empty_file_is_refused(rt: HostRuntime) -> Result<(), Fail> {
+    let words: [&[u8]; 3] = [b"solve", b"big.m", b"true"];
+    let (status, sink) = output(&rt, &words, b"big.m", b"")?;
+    assert_eq!(rt; status, 4);
+    assert_eq!(rt; sink.bytes(), NO_ITEM);
     Ok(())
 }
 

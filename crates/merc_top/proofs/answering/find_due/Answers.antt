@@ -1,7 +1,7 @@
 use Rattle.std.proofs.Common.{◌∙◌, ap, refl, subst, [], ◌∷◌}
 use Rattle.std.specs.Prelude.{Err}
 use Rattle.merc_top.specs.Loading.{Loads}
-use Rattle.merc_top.proofs.Dues.{usage-due, module-due, too_long-due}
+use Rattle.merc_top.proofs.Dues.{usage-due, file-due, too_long-due}
 use Rattle.merc_top.specs.Words.{usage_line}
 use Rattle.merc_top.specs.Output.{too_long_line}
 use Rattle.merc_top.proofs.answering.find_due.Goals as goal
@@ -14,11 +14,11 @@ returns-in-None-clause-finds g c =
     c.in-None.ensures (line.0 ∙ ap (λ text. text ∷ []) c.in_ok-of-in-None.ensures) line.1 in
     (refl, due.0, due.1)
 
-pub returns-in_ok-module_due-in-Ok-clause-finds : goal.returns-in_ok-module_due-in-Ok-clause-finds
-returns-in_ok-module_due-in-Ok-clause-finds g c =
+pub returns-in_ok-text_due-in-Ok-clause-finds : goal.returns-in_ok-text_due-in-Ok-clause-finds
+returns-in_ok-text_due-in-Ok-clause-finds g c =
     let loaded = c.in-Ok.ensures.loads in
-    let due = module-due c.args.words.now (g.S.Shelf.files c.args.shelf.now) _ _ c.in-Ok.text c.in_ok-module_due-in-Ok.field-0.lines c.in_ok-module_due-in-Ok.field-0.status
-    c.in-Some.ensures loaded.1 loaded.2 c.in_ok-module_due-in-Ok.ensures in
+    let due = file-due c.args.words.now (g.S.Shelf.files c.args.shelf.now) _ _ c.in-Ok.text c.in_ok-text_due-in-Ok.field-0.lines c.in_ok-text_due-in-Ok.field-0.status
+    c.in-Some.ensures loaded.1 loaded.2 c.in_ok-text_due-in-Ok.ensures in
     (loaded.0, due.0, due.1)
 
 pub returns-in_ok-one_line-in-Err-TooLong-clause-finds : goal.returns-in_ok-one_line-in-Err-TooLong-clause-finds

@@ -4,14 +4,14 @@ use Rattle.std.proofs.lemmas.Result.{IfOk-weaker}
 use Rattle.merc_tree.specs.Meaning.{run}
 use Rattle.merc_tree.specs.declared.goal.Goal.{Goal}
 use Rattle.merc_top.specs.declared.evaluating.Outcome.{Outcome}
-use Rattle.merc_top.specs.declared.first_form.syntax.Conjunct.{Conjunct}
-use Rattle.merc_top.specs.declared.first_form.syntax.Module.{Module}
-use Rattle.merc_top.specs.FlatForm.{procedures_of, query_of}
+use Rattle.merc_first_form.specs.declared.syntax.Conjunct.{Conjunct}
+use Rattle.merc_first_form.specs.declared.syntax.Source.{Source}
+use Rattle.merc_first_form.specs.FlatForm.{procedures_of, query_of}
 use Rattle.merc_top.specs.Outcome.{IsOutcome}
 use Rattle.merc_top.specs.Output.{IsRunDue, run_of, step_limit}
 use Rattle.merc_top.proofs.answering.run_due.Goals as goal
 
-run_outcome : (source : Module) (conjuncts : List Conjunct) (bodies : List (List Goal)) (query : List Goal) (outcome : Outcome)
+run_outcome : (source : Source) (conjuncts : List Conjunct) (bodies : List (List Goal)) (query : List Goal) (outcome : Outcome)
     → bodies ≡ procedures_of source → query ≡ query_of source conjuncts
     → IsOutcome outcome (run bodies query step_limit) → IsOutcome outcome (run_of source conjuncts)
 unfolding run_of

@@ -1,0 +1,264 @@
+-- Worked examples of whole calls: what holds of them, and what does not.
+use Rattle.std.specs.Prelude.{◌≡◌, ◌<◌, ◌≤◌, ◌++◌, ℕ, replicate, List, [], ◌∷◌, length, Some, None, codes, refl}
+use Rattle.std.proofs.Common.{◌∙◌, arith, slice_index, ap, sym, subst, inl, inr}
+use Rattle.std.proofs.Math.Utf8.{encode}
+use Rattle.std.proofs.lemmas.List.{length-replicate, append-nil}
+use Rattle.merc_base.specs.Outside.{Files, file_named}
+use Rattle.merc_tree.specs.Term.{Term}
+use Rattle.merc_tree.specs.Meaning.{run}
+use Rattle.merc_tree.specs.Trace.{RunDone, answers_of, end_of}
+use Rattle.merc_first_form.specs.Reading.{source_of, goal_of}
+use Rattle.merc_top.specs.Words.{IsPlainWord, IsRequest, IsNoRequest, usage_line}
+use Rattle.merc_top.specs.Loading.{file_limit}
+use Rattle.merc_top.specs.Writing.{PutsFront}
+use Rattle.merc_top.specs.Output.{AreRead, IsOutput, run_of, step_limit, text_of}
+use Rattle.merc_top.specs.Answer.{AreFiles, NamesAbsent, NamesTooLong, Names, BreaksModule, BreaksGoal, Solves, Answers}
+use Rattle.merc_top.specs.Answer.BreaksModule.{module_rule}
+use Rattle.merc_top.specs.Answer.BreaksGoal.{goal_outside}
+use Rattle.merc_top.proofs.OutputLaws.{IsOutput-unique}
+use Rattle.merc_top.proofs.Causes.{solved-exactly, module_refused-exactly, goal_refused-exactly, usage-exactly, too_long-exactly, absent-exactly}
+use Rattle.merc_top.proofs.OutputExamples.{one, goal}
+use Rattle.merc_top.proofs.DueExamples.{bad_token, lone_byte-refused, one_text, first_output, IsDue-module_refused, IsDue-runs, IsDue-goal_outside}
+use Rattle.merc_top.proofs.WordsExamples.{differ, IsPlainWord-example, IsRequest-example}
+
+abbrev words_for : List ℕ → List ℕ → List (List ℕ)
+words_for file goal = codes "solve" ∷ file ∷ goal ∷ []
+
+-- a module that runs, and a text of one byte that begins no token
+abbrev files : Files
+files = (codes "one.m", one_text) ∷ (codes "bad.m", 255 ∷ []) ∷ []
+
+abbrev first_words : List (List ℕ)
+first_words = words_for (codes "one.m") (codes "add(2, 3, X)")
+
+abbrev closed_words : List (List ℕ)
+closed_words = words_for (codes "one.m") (codes "add(2, 3, 5)")
+
+abbrev bad_words : List (List ℕ)
+bad_words = words_for (codes "bad.m") (codes "add(2, 3, X)")
+
+other_words : IsPlainWord (codes "bad.m") × IsPlainWord (codes "two.m") × IsPlainWord (codes "add(2, 3, 5)") × IsPlainWord (codes "add(2, 3, X)")
+unfolding encode
+other_words = (
+  record { utf8 = (codes "bad.m", (refl, refl)); plain = refl },
+  record { utf8 = (codes "two.m", (refl, refl)); plain = refl },
+  record { utf8 = (codes "add(2, 3, 5)", (refl, refl)); plain = refl },
+  record { utf8 = (codes "add(2, 3, X)", (refl, refl)); plain = refl },
+)
+
+bad_request : IsRequest bad_words (codes "bad.m") (codes "add(2, 3, X)")
+bad_request = record { spelled = refl; file_word = other_words.0; goal_word = other_words.3 }
+
+two_request : IsRequest (words_for (codes "two.m") (codes "add(2, 3, X)")) (codes "two.m") (codes "add(2, 3, X)")
+two_request = record { spelled = refl; file_word = other_words.1; goal_word = other_words.3 }
+
+closed_request : IsRequest closed_words (codes "one.m") (codes "add(2, 3, 5)")
+closed_request = record { spelled = refl; file_word = IsPlainWord-example; goal_word = other_words.2 }
+
+one_within : length one_text ≤ file_limit
+unfolding file_limit
+one_within = omega arith
+
+bad_within : 1 ≤ file_limit
+unfolding file_limit
+bad_within = omega arith
+
+-- ---- what is due
+
+abbrev bad_output : List (List ℕ)
+bad_output = codes "bad.m:1: rule 1: bad token\n" ∷ []
+
+pub IsOutput-refused : IsOutput bad_words files bad_output 4
+IsOutput-refused = inr (codes "bad.m", codes "add(2, 3, X)", bad_request, inr (bad_within, IsDue-module_refused (codes "add(2, 3, X)")))
+
+pub IsOutput-refused_no_run : (lines : List (List ℕ)) → IsOutput bad_words files lines 0 → ⊥
+IsOutput-refused_no_run lines due = differ 0 4 (omega arith) (IsOutput-unique bad_words files lines bad_output 0 4 due IsOutput-refused).1
+
+pub IsOutput-absent : IsOutput (words_for (codes "two.m") (codes "add(2, 3, X)")) files [] 7
+IsOutput-absent = inr (codes "two.m", codes "add(2, 3, X)", two_request, (refl, refl))
+
+pub IsOutput-too_long : (n : ℕ) → file_limit < n → IsOutput first_words ((codes "one.m", replicate n 10) ∷ []) (codes "one.m: longer than 1048576 bytes\n" ∷ []) 10
+IsOutput-too_long n long =
+    inr (codes "one.m", codes "add(2, 3, X)", IsRequest-example, inl (subst (λ m. file_limit < m) (sym (length-replicate n 10)) long, refl, refl))
+
+no_words : IsNoRequest []
+no_words file goal request = let spelled : ◌≡◌ {A = List (List ℕ)} [] (codes "solve" ∷ file ∷ goal ∷ []) = request.spelled in cc
+
+pub IsOutput-usage : IsOutput [] files (usage_line ∷ []) 6
+IsOutput-usage = inl (no_words, refl, refl)
+
+-- ---- files and names
+
+pub AreFiles-example : AreFiles (Some files) files
+AreFiles-example = refl
+
+pub AreFiles-untold : AreFiles None files
+AreFiles-untold = tt
+
+pub AreFiles-counterexample : AreFiles (Some files) [] → ⊥
+AreFiles-counterexample same = cc
+
+-- a file that these words name is the one named here
+first_file : (file goal : List ℕ) → IsRequest first_words file goal → file ≡ codes "one.m"
+first_file file goal request = let spelled : first_words ≡ codes "solve" ∷ file ∷ goal ∷ [] = request.spelled in cc
+
+some_injective : (text other : List ℕ) → Some text ≡ Some other → text ≡ other
+some_injective text other same = cc
+
+-- so the content that it has is the text above
+first_content : (file goal text : List ℕ) → IsRequest first_words file goal → file_named file files ≡ Some text → text ≡ one_text
+first_content file goal text request content =
+    let found : file_named (codes "one.m") files ≡ Some text = subst (λ name. file_named name files ≡ Some text) (first_file file goal request) content in
+    sym (some_injective one_text text found)
+
+pub NamesAbsent-example : NamesAbsent (words_for (codes "two.m") (codes "add(2, 3, X)")) (Some files)
+NamesAbsent-example = (codes "two.m", codes "add(2, 3, X)", two_request, refl)
+
+pub NamesAbsent-counterexample : NamesAbsent first_words (Some files) → ⊥
+NamesAbsent-counterexample (file, goal, request, absent) =
+    let found : Some one_text ≡ None = subst (λ name. file_named name files ≡ None) (first_file file goal request) absent in cc
+
+pub NamesTooLong-example : (n : ℕ) → file_limit < n → NamesTooLong first_words ((codes "one.m", replicate n 10) ∷ [])
+NamesTooLong-example n long = record {
+  file = codes "one.m";
+  goal = codes "add(2, 3, X)";
+  text = replicate n 10;
+  request = IsRequest-example;
+  content = refl;
+  past = subst (λ m. file_limit < m) (sym (length-replicate n 10)) long;
+}
+
+pub NamesTooLong-counterexample : NamesTooLong first_words files → ⊥
+NamesTooLong-counterexample names =
+    let same = first_content names.file names.goal names.text names.request names.content in
+    let past : file_limit < length one_text = subst (λ text. file_limit < length text) same names.past in
+    omega (arith, one_within)
+
+pub Names-example : Names first_words files one_text (codes "add(2, 3, X)")
+Names-example = record { file = codes "one.m"; request = IsRequest-example; content = refl; within = one_within }
+
+Names-closed : Names closed_words files one_text (codes "add(2, 3, 5)")
+Names-closed = record { file = codes "one.m"; request = closed_request; content = refl; within = one_within }
+
+Names-bad : Names bad_words files (255 ∷ []) (codes "add(2, 3, X)")
+Names-bad = record { file = codes "bad.m"; request = bad_request; content = refl; within = bad_within }
+
+-- the other file's text
+pub Names-counterexample : Names first_words files (255 ∷ []) (codes "add(2, 3, X)") → ⊥
+Names-counterexample names =
+    let same : 255 ∷ [] ≡ one_text = first_content names.file (codes "add(2, 3, X)") (255 ∷ []) names.request names.content in
+    differ 58 255 (omega arith) (sym (ap (λ (text : List ℕ). slice_index text 0) same))
+
+-- ---- why a status is due
+
+pub BreaksModule-example : BreaksModule bad_words files
+BreaksModule-example = module_rule (255 ∷ []) (codes "add(2, 3, X)") bad_token Names-bad lone_byte-refused
+
+pub BreaksGoal-counterexample : BreaksGoal bad_words files → ⊥
+BreaksGoal-counterexample breaks = differ 4 5 (omega arith) ((goal_refused-exactly bad_words files bad_output 4 IsOutput-refused).1 breaks)
+
+pub Solves-counterexample : Solves bad_words files → ⊥
+Solves-counterexample solves = differ 0 4 (omega arith) (sym ((solved-exactly bad_words files bad_output 4 IsOutput-refused).1 solves))
+
+first_answers : 0 < length (answers_of (run_of one goal))
+unfolding run_of run step_limit
+first_answers = omega arith
+
+first_end : end_of (run_of one goal) ≡ RunDone
+unfolding run_of run step_limit
+first_end = refl
+
+-- where file and goal are read, and the file is the module that runs
+module _ (names : List (List ℕ)) (items : List Term) (term : Term) (source : source_of names items ≡ Some one) where
+  pub Solves-example : AreRead one_text (codes "add(2, 3, X)") names items term → goal_of names one term ≡ Some goal → Solves first_words files
+  Solves-example read is = record {
+    text = one_text;
+    goal = codes "add(2, 3, X)";
+    request = Names-example;
+    names = names;
+    items = items;
+    term = term;
+    read = read;
+    source = one;
+    source_is = source;
+    conjuncts = goal;
+    goal_is = is;
+    answers = first_answers;
+    ends = first_end;
+  }
+
+  pub IsOutput-runs : AreRead one_text (codes "add(2, 3, X)") names items term → goal_of names one term ≡ Some goal → IsOutput first_words files first_output 0
+  IsOutput-runs read is = inr (codes "one.m", codes "add(2, 3, X)", IsRequest-example, inr (one_within, IsDue-runs (codes "add(2, 3, X)") names items term read source is))
+
+  pub BreaksModule-counterexample : AreRead one_text (codes "add(2, 3, X)") names items term → goal_of names one term ≡ Some goal → BreaksModule first_words files → ⊥
+  BreaksModule-counterexample read is breaks =
+      differ 0 4 (omega arith) ((module_refused-exactly first_words files first_output 0 (IsOutput-runs read is)).1 breaks)
+
+  pub BreaksGoal-example : AreRead one_text (codes "add(2, 3, 5)") names items term → goal_of names one term ≡ None → BreaksGoal closed_words files
+  BreaksGoal-example read outside = goal_outside one_text (codes "add(2, 3, 5)") names items term one Names-closed read source outside
+
+-- ---- what one call has done
+
+-- the lines that are due for the bad text
+bad_due : (lines : List (List ℕ)) (due : ℕ) → IsOutput bad_words files lines due → text_of lines ≡ text_of bad_output
+bad_due lines due output = ap text_of (IsOutput-unique bad_words files lines bad_output due 4 output IsOutput-refused).0
+
+not_seven : ◌≡◌ {A = ℕ} 4 7 → ⊥
+not_seven same = omega arith
+
+pub Answers-example : Answers bad_words (Some files) 3 3 (Some (codes ">")) (Some (codes ">bad.m:1: rule 1: bad token\n")) 2 2 4
+Answers-example = record {
+  output = λ _ _ _. (files, refl, bad_output, IsOutput-refused, refl);
+  solved = λ _ _ _. solved-exactly bad_words files bad_output 4 IsOutput-refused;
+  module_refused = λ _ _ _. module_refused-exactly bad_words files bad_output 4 IsOutput-refused;
+  goal_refused = λ _ _ _. goal_refused-exactly bad_words files bad_output 4 IsOutput-refused;
+  usage = λ _ _ _. usage-exactly bad_words files bad_output 4 IsOutput-refused;
+  too_long = λ _ _ _. too_long-exactly bad_words files bad_output 4 IsOutput-refused;
+  unread = λ same. absurd (not_seven same);
+  read_failed = λ failed. absurd (omega arith);
+  absent = λ absent _. absent-exactly bad_words files bad_output 4 IsOutput-refused absent;
+  nothing_written = λ same. absurd (not_seven same);
+  write_failed = (λ same. absurd (omega arith), λ failed. absurd (omega arith));
+  cut_short = λ same. absurd (omega arith);
+  front = λ lines due output. record {
+    front = text_of bad_output;
+    rest = [];
+    whole = append-nil (text_of bad_output) ∙ sym (bad_due lines due output);
+    written = refl;
+  };
+}
+
+-- a write failed behind the file's name
+pub Answers-cut_short : Answers bad_words (Some files) 3 3 (Some []) (Some (codes "bad.m")) 2 3 8
+Answers-cut_short = record {
+  output = λ _ same _. absurd (omega arith);
+  solved = λ _ same _. absurd (omega arith);
+  module_refused = λ _ same _. absurd (omega arith);
+  goal_refused = λ _ same _. absurd (omega arith);
+  usage = λ _ same _. absurd (omega arith);
+  too_long = λ _ same _. absurd (omega arith);
+  unread = λ same. absurd (omega arith);
+  read_failed = λ failed. absurd (omega arith);
+  absent = λ absent _. absurd (not_seven (absent-exactly bad_words files bad_output 4 IsOutput-refused absent));
+  nothing_written = λ same. absurd (omega arith);
+  write_failed = (λ _. omega arith, λ _. refl);
+  cut_short = λ _. (files, refl, bad_output, 4, IsOutput-refused, record { front = codes "bad.m"; rest = codes ":1: rule 1: bad token\n"; whole = refl; written = refl });
+  front = λ lines due output. record { front = codes "bad.m"; rest = codes ":1: rule 1: bad token\n"; whole = sym (bad_due lines due output); written = refl };
+}
+
+-- another line was written
+pub Answers-counterexample : (status : ℕ) → Answers bad_words (Some files) 3 3 (Some []) (Some (codes "bad.m:2: rule 1: bad token\n")) 2 2 status → ⊥
+Answers-counterexample status answers =
+    let puts : PutsFront (text_of bad_output) (Some []) (Some (codes "bad.m:2: rule 1: bad token\n")) = answers.front bad_output 4 IsOutput-refused in
+    let written = some_injective (codes "bad.m:2: rule 1: bad token\n") puts.front puts.written in
+    let whole : codes "bad.m:2: rule 1: bad token\n" ++ puts.rest ≡ text_of bad_output =
+    subst (λ front. front ++ puts.rest ≡ text_of bad_output) (sym written) puts.whole in
+    differ 49 50 (omega arith) (sym (ap (λ (text : List ℕ). slice_index text 6) whole))
+
+-- the last line was left, and no write failed
+pub Answers-uncounted : Answers bad_words (Some files) 3 3 (Some []) (Some (codes "bad.m")) 2 2 8 → ⊥
+Answers-uncounted answers = let failed : 2 < 2 = answers.write_failed.0 refl in omega arith
+
+-- a bad text is the file's fault and not the goal's
+pub Answers-of_the_goal : Answers bad_words (Some files) 3 3 (Some []) (Some (codes "bad.m:1: rule 1: bad token\n")) 2 2 5 → ⊥
+Answers-of_the_goal answers = BreaksGoal-counterexample ((answers.goal_refused refl refl (λ same. absurd (omega arith))).0 refl)

@@ -1,0 +1,180 @@
+-- Worked examples of what is due for a file and a goal: what holds, and what does not.
+use Rattle.std.specs.Prelude.{◌≡◌, ◌≤◌, ◌<◌, ◌++◌, ℕ, suc, zero, false, pos, List, [], ◌∷◌, length, Some, None, codes, refl}
+use Rattle.std.proofs.Common.{arith, lit≤, slice_index, ap, sym, inl, inr}
+use Rattle.std.specs.Char.{encode_utf8}
+use Rattle.std.specs.Fmt.{digits}
+use Rattle.std.specs.Str.{IsUtf8, is_utf8, chars}
+use Rattle.std.proofs.lemmas.Bool.{false≢true}
+use Rattle.std.proofs.lemmas.Str.{is_utf8-from_IsUtf8}
+use Rattle.merc_base.specs.Names.{fixed_names}
+use Rattle.merc_base.specs.Refusal.{rule_number}
+use Rattle.merc_base.specs.declared.place.Span.{Span}
+use Rattle.merc_base.specs.declared.refusal.Refusal.{Refusal}
+use Rattle.merc_base.specs.declared.refusal.Fault.TheVariants.{Refused}
+use Rattle.merc_base.specs.declared.refusal.Rule.{Rule}
+use Rattle.merc_base.specs.declared.refusal.Rule.TheVariants.{BadToken, NoTerm, WrongForm, UnknownType, DeclaredTwice, Undeclared, UnknownName, TypeMismatch, MissingMode, NeverReady, BindsOuter, UnboundOutput, WrongCategory, ParallelCategory, OutsideProfile, LimitPassed}
+use Rattle.merc_base.specs.declared.refusal.Detail.{Detail}
+use Rattle.merc_base.specs.declared.refusal.Detail.TheVariants.{Plain}
+use Rattle.merc_tokens.specs.Faults.{HasFault, ComesFirst, RefusesRightly}
+use Rattle.merc_tokens.specs.Faults.HasFaultFrom.{here}
+use Rattle.merc_tokens.specs.Faults.IsFaulty.{no_token}
+use Rattle.merc_tree.specs.Term.{Term, Variable, Integer, Application, none, more}
+use Rattle.merc_tree.specs.declared.declarations.Module.{Module}
+use Rattle.merc_terms.specs.Items.{refusal_at}
+use Rattle.merc_terms.specs.Texts.{RefusesText, RefusesGoalText, goal_limit}
+use Rattle.merc_terms.specs.Texts.RefusesText.{tokens as bad_tokens}
+use Rattle.merc_terms.specs.Texts.RefusesGoalText.{tokens as bad_goal_tokens}
+use Rattle.merc_items.specs.ReadModule.{IsModule, RefusesModule}
+use Rattle.merc_items.specs.ReadModule.RefusesModule.{no_items}
+use Rattle.merc_first_form.specs.Reading.{source_of, goal_of}
+use Rattle.merc_top.specs.Output.{AreRead, IsDue, text_of, refusal_line}
+use Rattle.merc_top.specs.Output.IsDue.{module_refused, goal_refused, module_outside, goal_outside, runs}
+use Rattle.merc_top.proofs.OutputLaws.{IsDue-unique}
+use Rattle.merc_top.proofs.OutputExamples.{one, goal, IsRunDue-example}
+use Rattle.merc_top.proofs.WordsExamples.{differ}
+
+-- ---- a text that breaks a rule
+
+at_least_one : (rule : Rule) → 1 ≤ rule_number rule
+at_least_one BadToken = lit≤ tt
+at_least_one NoTerm = lit≤ tt
+at_least_one WrongForm = lit≤ tt
+at_least_one UnknownType = lit≤ tt
+at_least_one DeclaredTwice = lit≤ tt
+at_least_one Undeclared = lit≤ tt
+at_least_one UnknownName = lit≤ tt
+at_least_one TypeMismatch = lit≤ tt
+at_least_one MissingMode = lit≤ tt
+at_least_one NeverReady = lit≤ tt
+at_least_one BindsOuter = lit≤ tt
+at_least_one UnboundOutput = lit≤ tt
+at_least_one WrongCategory = lit≤ tt
+at_least_one ParallelCategory = lit≤ tt
+at_least_one OutsideProfile = lit≤ tt
+at_least_one LimitPassed = lit≤ tt
+
+first_of_all : (other : ℕ) (rule : Rule) → ComesFirst 0 BadToken other rule
+first_of_all zero rule = inr (refl, at_least_one rule)
+first_of_all (suc other) rule = inl (omega arith)
+
+no_text : IsUtf8 (255 ∷ []) → ⊥
+unfolding is_utf8 chars
+no_text utf8 = false≢true (is_utf8-from_IsUtf8 (255 ∷ []) utf8)
+
+abbrev pub bad_token : Refusal
+bad_token = refusal_at BadToken Plain (record { byte = 0; line = 1 })
+
+-- a text of one byte that begins no token, and no text of the language at all
+lone_byte : RefusesRightly (255 ∷ []) (Refused bad_token)
+lone_byte = (
+  record { fault = inl (here 0 false refl (no_token 255 [] refl)); line = refl; least = λ other rule detail fault. first_of_all other rule },
+  λ tokens has. no_text has.utf8,
+)
+
+pub lone_byte-refused : RefusesModule fixed_names (255 ∷ []) bad_token
+lone_byte-refused = no_items bad_token (bad_tokens bad_token lone_byte)
+
+lone_byte-refused_goal : (names : List (List ℕ)) → RefusesGoalText names (255 ∷ []) bad_token
+unfolding goal_limit
+lone_byte-refused_goal names = bad_goal_tokens bad_token (lit≤ tt) lone_byte
+
+pub IsDue-module_refused : (goal : List ℕ) → IsDue (codes "bad.m") (255 ∷ []) goal (codes "bad.m:1: rule 1: bad token\n" ∷ []) 4
+unfolding digits
+IsDue-module_refused goal = module_refused bad_token lone_byte-refused
+
+-- behind a module that is read
+pub IsDue-goal_refused : (names : List (List ℕ)) (items : List Term) (file : List ℕ) (found : Module) → IsModule fixed_names names file items found
+    → IsDue (codes "one.m") file (255 ∷ []) (codes "goal:1: rule 1: bad token\n" ∷ []) 5
+unfolding digits
+IsDue-goal_refused names items file found is = goal_refused names items found bad_token is (lone_byte-refused_goal names)
+
+-- where both break a rule it is the file's
+pub IsDue-file_first : (lines : List (List ℕ)) → IsDue (codes "bad.m") (255 ∷ []) (255 ∷ []) lines 5 → ⊥
+IsDue-file_first lines due =
+    let same = IsDue-unique _ _ _ _ _ _ _ due (IsDue-module_refused (255 ∷ [])) in
+    differ 4 5 (omega arith) (sym same.1)
+
+-- a file that breaks a rule has no run
+pub IsDue-refused_no_run : (name file goal : List ℕ) (refusal : Refusal) (lines : List (List ℕ)) → RefusesModule fixed_names file refusal → IsDue name file goal lines 0 → ⊥
+IsDue-refused_no_run name file goal refusal lines refuses due =
+    let same = IsDue-unique name file goal lines (refusal_line name refusal ∷ []) 0 4 due (module_refused refusal refuses) in
+    differ 0 4 (omega arith) same.1
+
+-- ---- a module that runs
+
+abbrev pub one_text : List ℕ
+one_text =
+    text_of (codes ":- module one.\n"
+    ∷ codes ":- import_module int.\n"
+    ∷ codes ":- pred add(int::in, int::in, int::out) is det.\n"
+    ∷ codes "add(X, Y, Z) :- Z = X + Y.\n"
+    ∷ [])
+
+abbrev pub first_output : List (List ℕ)
+first_output = codes "X = 5\n" ∷ codes "solutions 1\n" ∷ []
+
+-- What follows is said of a file that is this module and of a goal that is read behind it.
+module _ (text : List ℕ) (names : List (List ℕ)) (items : List Term) (term : Term) (read : AreRead one_text text names items term) (source : source_of names items ≡ Some one) where
+  -- `add(2, 3, X)`
+  pub IsDue-runs : goal_of names one term ≡ Some goal → IsDue (codes "one.m") one_text text first_output 0
+  IsDue-runs is = runs names items term one goal first_output 0 read source is IsRunDue-example
+
+  pub IsDue-other_answer : goal_of names one term ≡ Some goal → (status : ℕ) → IsDue (codes "one.m") one_text text (codes "X = 6\n" ∷ codes "solutions 1\n" ∷ []) status → ⊥
+  IsDue-other_answer is status due =
+      let same = IsDue-unique _ _ _ _ _ _ _ due (IsDue-runs is) in
+      differ 53 54 (omega arith) (sym (ap (λ (texts : List (List ℕ)). slice_index (text_of texts) 4) same.0))
+
+  -- a goal that is not of the first form
+  pub IsDue-goal_outside : goal_of names one term ≡ None → IsDue (codes "one.m") one_text text (codes "goal:1: rule 15: outside the profile: stage\n" ∷ []) 5
+  unfolding digits
+  IsDue-goal_outside outside = goal_outside names items term one read source outside
+
+  -- is not the file's fault
+  pub IsDue-goal_outside_alone : goal_of names one term ≡ None → (lines : List (List ℕ)) → IsDue (codes "one.m") one_text text lines 4 → ⊥
+  IsDue-goal_outside_alone outside lines due =
+      let same = IsDue-unique _ _ _ _ _ _ _ due (IsDue-goal_outside outside) in
+      differ 4 5 (omega arith) same.1
+
+-- ---- a module that does not run
+
+abbrev pub rows_text : List ℕ
+rows_text = text_of (codes ":- module rows.\n" ∷ codes ":- import_module int, list, require.\n" ∷ [])
+
+abbrev word : Span → ℕ → Term
+word span name = Application name None none span
+
+abbrev before : Span → ℕ → Term → Term
+before span name argument = Application name None (more argument none) span
+
+abbrev between : Span → ℕ → Term → Term → Term
+between span name left right = Application name None (more left (more right none)) span
+
+-- its name behind the constants, and others behind that
+abbrev rows_names : List (List ℕ) → List (List ℕ)
+rows_names others = fixed_names ++ codes "rows" ∷ others
+
+-- its items, wherever each term stands
+abbrev rows_items : (ℕ → Span) → List Term
+rows_items span =
+    before (span 0) 10 (before (span 1) 12 (word (span 2) 82))
+    ∷ before (span 3) 10 (before (span 4) 14
+    (between (span 5) 26 (word (span 6) 57) (between (span 7) 26 (word (span 8) 59) (word (span 9) 62))))
+    ∷ []
+
+rows_source : (others : List (List ℕ)) (span : ℕ → Span) → source_of (rows_names others) (rows_items span) ≡ None
+unfolding fixed_names
+rows_source others span = refl
+
+pub IsDue-module_outside : (others : List (List ℕ)) (span : ℕ → Span) (text : List ℕ) (term : Term)
+    → AreRead rows_text text (rows_names others) (rows_items span) term
+    → IsDue (codes "rows.m") rows_text text (codes "rows.m:1: rule 15: outside the profile: stage\n" ∷ []) 4
+unfolding digits
+IsDue-module_outside others span text term read = module_outside _ _ _ read (rows_source others span)
+
+-- it has no run either, whatever the goal is
+pub IsDue-module_outside_no_run : (others : List (List ℕ)) (span : ℕ → Span) (text : List ℕ) (term : Term)
+    → AreRead rows_text text (rows_names others) (rows_items span) term
+    → (lines : List (List ℕ)) → IsDue (codes "rows.m") rows_text text lines 0 → ⊥
+IsDue-module_outside_no_run others span text term read lines due =
+    let same = IsDue-unique _ _ _ _ _ _ _ due (IsDue-module_outside others span text term read) in
+    differ 0 4 (omega arith) same.1
