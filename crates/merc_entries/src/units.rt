@@ -43,10 +43,6 @@ impl Units {
 /// # Errors
 ///
 /// `NoMemory` says that memory was refused. No unit's text is.
-///
-/// # Errors
-///
-/// `NoMemory` where memory was refused.
 pub fn read_units(alloc: Global, names: &mut Names) -> Result<Units, NoMemory>
     ensures read { IfOk result (λ units. AreUnits names.old names.new (items_of units)) }
     ensures grows { (more : List (List ℕ)) × (names.new ≡ names.old ++ more) }
