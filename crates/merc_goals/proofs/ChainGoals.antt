@@ -1,11 +1,11 @@
 -- The members of a chain are the sub-goals of one list.
 use Rattle.std.proofs.Common.{◌≡◌, ℕ, ◌+◌, ◌==◌, ◌||◌, Bool, true, false, List, [], ◌∷◌, ◌++◌, map, Option, Some, None, if◌then◌else◌, refl, ap, sym, ◌∙◌}
 use Rattle.merc_base.specs.declared.place.Span.{Span}
-use Rattle.merc_tree.specs.Term.{Term, Terms, Variable, Integer, Text, Application, none, more}
-use Rattle.merc_goals.specs.Written.{Written, WrittenGoals, no_goals, more_goals, Truth, Failure, Equal, Compared, Called, Conjunction, Parallel, Disjunction, Conditional, Negated, Quantified, WrongForm, OutsideProfile, parts, joined, conjuncts, parallel_conjuncts, disjuncts, listed_variables, quantified, conditional, nullary, written}
+use Rattle.merc_tree.specs.Term.{Term, Variable, Integer, Text, Application, none, more}
+use Rattle.merc_goals.specs.Written.{Written, WrittenGoals, no_goals, more_goals, Truth, Failure, Equal, Compared, Called, Conjunction, Parallel, Disjunction, Conditional, Negated, Quantified, WrongForm, OutsideProfile, parts, joined, conjuncts, parallel_conjuncts, disjuncts, listed_variables, quantified, conditional, written}
 use Rattle.merc_goals.specs.Entries.{goals_of}
 use Rattle.merc_goals.specs.Roles.{role_of}
-use Rattle.merc_goals.specs.Links.{left_of, right_of, sides, condition_sides, is_arrow, joins, is_joined, chain}
+use Rattle.merc_goals.specs.Links.{left_of, right_of, sides, condition_sides, joins, chain}
 use Rattle.merc_goals.proofs.RoleLaws.{by_role, goal_at, goals_at, is_some, arrow_parts-sides, is_arrow-parts, written-by_role}
 use Rattle.merc_goals.specs.declared.links.Numbered.{Numbered}
 use Rattle.merc_goals.specs.declared.roles.ChainKind.{ChainKind}

@@ -1,11 +1,11 @@
 -- A chain is taken apart link by link, with a stack.
-use Rattle.std.proofs.Common.{◌≡◌, ℕ, ◌+◌, ◌*◌, ◌≤◌, ◌<◌, ◌==◌, Bool, true, false, List, [], ◌∷◌, ◌++◌, Option, Some, None, if◌then◌else◌, refl, ap, sym, subst, ◌∙◌, arith}
+use Rattle.std.proofs.Common.{◌≡◌, ℕ, ◌+◌, ◌≤◌, ◌<◌, ◌==◌, Bool, true, false, List, [], ◌∷◌, ◌++◌, Option, Some, None, if◌then◌else◌, refl, ap, sym, subst, ◌∙◌, arith}
 use Rattle.std.proofs.lemmas.List.{append_assoc, append-nil}
 use Rattle.merc_base.specs.declared.place.Span.{Span}
-use Rattle.merc_tree.specs.Term.{Term, Terms, Variable, Integer, Text, Application, none, more}
-use Rattle.merc_goals.specs.Written.{parts, parts_of}
+use Rattle.merc_tree.specs.Term.{Term, Variable, Integer, Text, Application, none, more}
+use Rattle.merc_goals.specs.Written.{parts}
 use Rattle.merc_goals.specs.Roles.{role_of}
-use Rattle.merc_goals.specs.Links.{left_of, right_of, sides_of, sides, condition_sides, is_joined, link_of, chain}
+use Rattle.merc_goals.specs.Links.{left_of, sides_of, sides, condition_sides, is_joined, link_of, chain}
 use Rattle.merc_goals.specs.declared.links.Numbered.{Numbered}
 use Rattle.merc_goals.specs.declared.links.Both.{Both}
 use Rattle.merc_goals.specs.declared.roles.ChainKind.{ChainKind}

@@ -1,11 +1,11 @@
 -- What is found in the entries of a goal is what the goal has.
-use Rattle.std.proofs.Common.{◌≡◌, ℕ, ◌+◌, ◌≤◌, ◌<◌, nat_le, max, Bool, true, false, List, [], ◌∷◌, ◌++◌, length, drop, Option, Some, None, if◌then◌else◌, refl, ap, sym, ◌∙◌, arith}
+use Rattle.std.proofs.Common.{◌≡◌, ℕ, nat_le, max, Bool, true, false, List, [], ◌∷◌, ◌++◌, length, Option, Some, None, if◌then◌else◌, refl, ap, sym, ◌∙◌, arith}
 use Rattle.std.proofs.lemmas.Bool.Decides.{nat_tests}
 use Rattle.merc_base.specs.declared.place.Span.{Span}
 use Rattle.merc_goals.specs.Written.{Written, WrittenGoals, no_goals, more_goals, Truth, Failure, Equal, Compared, Called, Conjunction, Parallel, Disjunction, Conditional, Negated, Quantified, WrongForm, OutsideProfile}
 use Rattle.merc_goals.specs.Entries.{entries_of, all_entries, goal_list}
 use Rattle.merc_goals.specs.Faults.{wrong_forms, all_wrong_forms, outside_forms, all_outside_forms, earlier, first_span, first_of_both, first_fault, widest_parallel, widest_of_all}
-use Rattle.merc_goals.specs.Found.{wrong_span, outside_span, listed, wrong_spans, outside_spans, width, widest_of}
+use Rattle.merc_goals.specs.Found.{wrong_span, outside_span, listed, wrong_spans, outside_spans, widest_of}
 use Rattle.merc_goals.specs.declared.goal.Entry.{Entry}
 
 -- spans of entries
@@ -119,7 +119,6 @@ first_fault-entries goal = both_parts (λ a b. first_of_both (first_span a) (fir
 pub earlier-none : (found : Option Span) → earlier found None ≡ found
 earlier-none None = refl
 earlier-none (Some span) = refl
-
 
 three : (a b c : Span) (t u v : Bool) → nat_le a.first b.first ≡ t → nat_le b.first c.first ≡ u → nat_le a.first c.first ≡ v
     → earlier (Some (if t then a else b)) (Some c) ≡ earlier (Some a) (Some (if u then b else c))

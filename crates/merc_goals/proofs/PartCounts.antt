@@ -1,5 +1,5 @@
 -- A term has two numbers for each of its parts.
-use Rattle.std.proofs.Common.{◌≡◌, ℕ, ◌+◌, length, arith}
+use Rattle.std.proofs.Common.{◌≡◌, ◌+◌, length, arith}
 use Rattle.std.proofs.lemmas.List.{length-append}
 use Rattle.merc_tree.specs.Term.{Term, Terms, Variable, Integer, Text, Application, none, more}
 use Rattle.merc_tree.specs.Postfix.{shapes_of, all_shapes}

@@ -1,10 +1,10 @@
 -- The plan of a term is smaller than the task to read it.
-use Rattle.std.proofs.Common.{◌≡◌, ℕ, ◌+◌, ◌*◌, ◌≤◌, ◌<◌, ◌==◌, ◌||◌, Bool, true, false, not, List, [], ◌∷◌, ◌++◌, map, Option, Some, None, if◌then◌else◌, refl, ap, sym, ◌∙◌, arith}
+use Rattle.std.proofs.Common.{◌≡◌, ℕ, ◌+◌, ◌*◌, ◌≤◌, ◌<◌, ◌==◌, ◌||◌, Bool, true, false, not, List, [], ◌∷◌, ◌++◌, map, Option, Some, None, if◌then◌else◌, refl, ap, ◌∙◌, arith}
 use Rattle.merc_base.specs.declared.place.Span.{Span}
-use Rattle.merc_tree.specs.Term.{Term, Terms, Variable, Integer, Text, Application, none, more, span_of}
-use Rattle.merc_goals.specs.Written.{parts, parts_of, listed_variables, arrow_parts}
+use Rattle.merc_tree.specs.Term.{Term, Variable, Integer, Text, Application, none, more}
+use Rattle.merc_goals.specs.Written.{parts, listed_variables}
 use Rattle.merc_goals.specs.Roles.{role_of}
-use Rattle.merc_goals.specs.Links.{left_of, right_of, sides_of, sides, condition_sides, is_arrow, joins, is_joined, chain}
+use Rattle.merc_goals.specs.Links.{left_of, right_of, sides_of, sides, condition_sides, is_arrow, joins, chain}
 use Rattle.merc_goals.specs.Plans.{plan, plain_plan, call_plan, two_plan, arrow_plan, if_plan, some_by, all_by}
 use Rattle.merc_goals.proofs.RoleLaws.{goals_at, is_some, arrow_parts-sides, is_arrow-parts}
 use Rattle.merc_goals.proofs.ChainLaws.{parts_all, parts_some, AreLess, sides_less, condition_less, joined_less}

@@ -1,9 +1,9 @@
 -- The plan of a term writes the entries of the goal that it is.
-use Rattle.std.proofs.Common.{◌≡◌, ℕ, suc, ◌+◌, ◌==◌, ◌||◌, Bool, true, false, List, [], ◌∷◌, ◌++◌, length, map, Option, Some, None, if◌then◌else◌, refl, ap, sym, subst, ◌∙◌}
+use Rattle.std.proofs.Common.{◌≡◌, ℕ, suc, ◌+◌, ◌==◌, ◌||◌, true, false, List, [], ◌∷◌, ◌++◌, length, Option, Some, None, if◌then◌else◌, refl, ap, sym, subst, ◌∙◌}
 use Rattle.merc_base.specs.declared.place.Span.{Span}
-use Rattle.merc_tree.specs.Term.{Term, Terms, Variable, Integer, Text, Application, none, more, span_of}
-use Rattle.merc_goals.specs.Written.{Written, WrittenGoals, Truth, Failure, Called, Negated, WrongForm, parts, alternatives, conditional, quantified, listed_variables, written}
-use Rattle.merc_goals.specs.Entries.{goals_of, goal_list, entry_before, entries_of, all_entries}
+use Rattle.merc_tree.specs.Term.{Term, Variable, Integer, Text, Application, none, more, span_of}
+use Rattle.merc_goals.specs.Written.{Written, WrittenGoals, Truth, Failure, Called, Negated, WrongForm, alternatives, conditional, quantified, listed_variables, written}
+use Rattle.merc_goals.specs.Entries.{goal_list, entry_before, entries_of, all_entries}
 use Rattle.merc_goals.specs.Roles.{role_of}
 use Rattle.merc_goals.specs.Links.{left_of, right_of, sides_of, sides, condition_sides, chain}
 use Rattle.merc_goals.specs.Plans.{plan, plain_plan, call_plan, two_plan, members_plan, chain_form, conditional_plan, arrow_plan, if_plan, some_by, all_by}
@@ -12,9 +12,7 @@ use Rattle.merc_goals.proofs.ChainGoals.{members_of, goals_for, chain_goals}
 use Rattle.merc_goals.proofs.Writing.{Writes, writes_read, writes_before, writes_put, writes_leaf, writes_if, writes_members}
 use Rattle.merc_goals.specs.declared.links.Numbered.{Numbered}
 use Rattle.merc_goals.specs.declared.links.Both.{Both}
-use Rattle.merc_goals.specs.declared.planning.Task.{Task}
 use Rattle.merc_goals.specs.declared.planning.Task.TheVariants.{Read, Put}
-use Rattle.merc_goals.specs.declared.goal.Entry.{Entry}
 use Rattle.merc_goals.specs.declared.goal.Form.TheVariants.{Truth as TruthForm, Failure as FailureForm, Equal as EqualForm, Compared as ComparedForm, Called as CalledForm, Conditional as ConditionalForm, Negated as NegatedForm, Quantified as QuantifiedForm, WrongForm as NoForm, OutsideProfile as OutsideForm}
 use Rattle.merc_goals.specs.declared.roles.ChainKind.{ChainKind}
 use Rattle.merc_goals.specs.declared.roles.ChainKind.TheVariants.{Conjuncts, ParallelConjuncts, Disjuncts}

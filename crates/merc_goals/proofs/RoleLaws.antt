@@ -1,10 +1,9 @@
 -- The goal that a name with two arguments is, by the name's role.
-use Rattle.std.proofs.Common.{◌≡◌, ℕ, ◌+◌, ◌==◌, ◌&&◌, ◌||◌, nat_le, Bool, true, false, List, [], ◌∷◌, Option, Some, None, if◌then◌else◌, refl, ap, sym, ◌∙◌}
-use Rattle.std.specs.Option.{option_map}
+use Rattle.std.proofs.Common.{◌≡◌, ℕ, ◌+◌, ◌==◌, ◌&&◌, ◌||◌, nat_le, Bool, true, false, Option, Some, None, if◌then◌else◌, refl, ap, sym, ◌∙◌}
 use Rattle.merc_base.specs.declared.place.Span.{Span}
-use Rattle.merc_tree.specs.Term.{Term, Terms, Variable, Integer, Text, Application, none, more}
+use Rattle.merc_tree.specs.Term.{Term, Variable, Integer, Text, Application, none, more}
 use Rattle.merc_goals.specs.Written.{Written, Equal, Compared, Called, Conjunction, Parallel, Negated, WrongForm, OutsideProfile, joined, conjuncts, parallel_conjuncts, alternatives, conditional, quantified, listed_variables, binary, written, arrow_parts, if_then_parts, then_parts}
-use Rattle.merc_goals.specs.Roles.{role_of, literal_role_of}
+use Rattle.merc_goals.specs.Roles.{role_of}
 use Rattle.merc_goals.specs.Links.{left_of, right_of, sides, condition_sides, is_arrow}
 use Rattle.merc_goals.specs.declared.links.Numbered.{Numbered}
 use Rattle.merc_goals.specs.declared.links.Both.{Both}

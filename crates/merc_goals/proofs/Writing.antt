@@ -2,7 +2,7 @@
 use Rattle.std.proofs.Common.{◌≡◌, ℕ, ◌+◌, ◌-◌, Bool, true, false, List, [], ◌∷◌, ◌++◌, length, map, reverse, if◌then◌else◌, refl, ap, sym, ◌∙◌, arith}
 use Rattle.std.proofs.lemmas.List.{append_assoc, append-nil, reverse-append, reverse-reverse, length-append, length-reverse}
 use Rattle.merc_base.specs.declared.place.Span.{Span}
-use Rattle.merc_goals.specs.Written.{Written, WrittenGoals}
+use Rattle.merc_goals.specs.Written.{Written}
 use Rattle.merc_goals.specs.Entries.{entry_before, entries_of, all_entries}
 use Rattle.merc_goals.proofs.RoleLaws.{goal_at}
 use Rattle.merc_goals.proofs.ChainGoals.{goals_for}
@@ -38,9 +38,9 @@ pub writes_before : (start : ℕ) (numbered : Numbered) (tasks : List Task) (wri
 writes_before start numbered tasks written writes =
     record {
       from = λ entries is.
-        ap (λ l. l ++ reverse (entries_of (goal_at numbered))) (writes.from entries is)
-        ∙ append_assoc entries (reverse written) (reverse (entries_of (goal_at numbered)))
-        ∙ ap (λ l. entries ++ l) (sym (reverse-append (entries_of (goal_at numbered)) written));
+          ap (λ l. l ++ reverse (entries_of (goal_at numbered))) (writes.from entries is)
+          ∙ append_assoc entries (reverse written) (reverse (entries_of (goal_at numbered)))
+          ∙ ap (λ l. entries ++ l) (sym (reverse-append (entries_of (goal_at numbered)) written));
     }
 
 put_size : (entries inner : List Entry) (start : ℕ) → length entries ≡ start → length (entries ++ reverse inner) - start + 1 ≡ length inner + 1
@@ -51,10 +51,10 @@ pub writes_put : (start : ℕ) (form : Form) (at : ℕ) (span : Span) (tasks : L
 writes_put start form at span tasks inner writes =
     record {
       from = λ entries is.
-        ap (act (Put form at span start)) (writes.from entries is)
-        ∙ ap (λ n. (entries ++ reverse inner) ++ record { form = form; at = at; span = span; size = n } ∷ []) (put_size entries inner start is)
-        ∙ append_assoc entries (reverse inner) (record { form = form; at = at; span = span; size = length inner + 1 } ∷ [])
-        ∙ ap (λ l. entries ++ l) (sym (reverse-append (record { form = form; at = at; span = span; size = length inner + 1 } ∷ []) inner));
+          ap (act (Put form at span start)) (writes.from entries is)
+          ∙ ap (λ n. (entries ++ reverse inner) ++ record { form = form; at = at; span = span; size = n } ∷ []) (put_size entries inner start is)
+          ∙ append_assoc entries (reverse inner) (record { form = form; at = at; span = span; size = length inner + 1 } ∷ [])
+          ∙ ap (λ l. entries ++ l) (sym (reverse-append (record { form = form; at = at; span = span; size = length inner + 1 } ∷ []) inner));
     }
 
 pub writes_none : (start : ℕ) → Writes start [] []

@@ -1,7 +1,7 @@
 -- How a goal lies in a list of entries: each goal before its sub-goals, and these from the left.
 use Rattle.std.specs.Prelude.{◌≡◌, ℕ, ◌+◌, List, [], ◌∷◌, ◌++◌, length, take, drop}
 use Rattle.merc_base.specs.declared.place.Span.{Span}
-use Rattle.merc_tree.specs.Term.{Term, Terms, Variable, Integer, Text, Application, no_span}
+use Rattle.merc_tree.specs.Term.{Term, Variable, Integer, Text, Application, no_span}
 use Rattle.merc_goals.specs.Written.{Written, WrittenGoals, no_goals, more_goals, Truth, Failure, Equal, Compared, Called, Conjunction, Parallel, Disjunction, Conditional, Negated, Quantified, WrongForm, OutsideProfile}
 use Rattle.merc_goals.specs.declared.goal.Entry.{Entry}
 use Rattle.merc_goals.specs.declared.goal.Form.{Form}

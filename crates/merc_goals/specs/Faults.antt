@@ -6,10 +6,8 @@ use Rattle.merc_base.specs.declared.refusal.Refusal.{Refusal}
 use Rattle.merc_base.specs.declared.refusal.Rule.TheVariants.{WrongForm as WrongFormRule, OutsideProfile as OutsideProfileRule}
 use Rattle.merc_base.specs.declared.refusal.Detail.TheVariants.{Plain, Word}
 use Rattle.merc_base.specs.declared.refusal.Construct.TheVariants.{Goal}
-use Rattle.merc_goals.specs.Written.{Written, WrittenGoals, no_goals, more_goals, Truth, Failure, Equal, Compared, Called, Conjunction, Parallel, Disjunction, Conditional, Negated, Quantified, WrongForm, OutsideProfile}
+use Rattle.merc_goals.specs.Written.{Written, WrittenGoals, no_goals, more_goals, Conjunction, Parallel, Disjunction, Conditional, Negated, Quantified, WrongForm, OutsideProfile}
 use Rattle.merc_goals.specs.Entries.{goal_list}
-use Rattle.merc_goals.specs.declared.goal.Entry.{Entry}
-use Rattle.merc_goals.specs.declared.goal.Form.TheVariants.{Parallel as ParallelForm, WrongForm as NoForm, OutsideProfile as OutsideForm}
 
 abbrev mutual
   -- where the parts of a goal stand that are of no form, in order

@@ -1,9 +1,9 @@
 -- Terms with their numbers, and how chains and lists are taken apart.
-use Rattle.std.specs.Prelude.{ℕ, ◌+◌, Bool, true, false, ◌==◌, ◌&&◌, not, List, [], ◌∷◌, ◌++◌, Option, Some, None, if◌then◌else◌}
-use Rattle.merc_tree.specs.Term.{Term, Terms, Variable, Integer, Text, Application, none, more}
+use Rattle.std.specs.Prelude.{ℕ, ◌+◌, Bool, true, false, ◌==◌, not, List, [], ◌∷◌, ◌++◌, Option, Some, None, if◌then◌else◌}
+use Rattle.merc_tree.specs.Term.{Term, Variable, Application, none, more}
 use Rattle.merc_operands.specs.Operands.{operands_of}
 use Rattle.merc_operands.specs.declared.operands.Operands.{Operands}
-use Rattle.merc_operands.specs.declared.operands.Operands.TheVariants.{Zero, One, Two, Many, Qualified, NotApplied}
+use Rattle.merc_operands.specs.declared.operands.Operands.TheVariants.{One, Two}
 use Rattle.merc_goals.specs.Written.{parts}
 use Rattle.merc_goals.specs.Roles.{role_of}
 use Rattle.merc_goals.specs.declared.roles.Role.{Role}

@@ -1,9 +1,5 @@
 -- What a name with two arguments is in a goal, and the goal that it then is.
-use Rattle.std.specs.Prelude.{ℕ, Bool, true, false, ◌==◌, ◌&&◌, ◌||◌, nat_le, List, Option, if◌then◌else◌}
-use Rattle.merc_base.specs.declared.place.Span.{Span}
-use Rattle.merc_tree.specs.Term.{Term, more, none}
-use Rattle.std.specs.Prelude.{None}
-use Rattle.merc_goals.specs.Written.{Written, Equal, Compared, Called, Conjunction, Parallel, Negated, WrongForm, OutsideProfile, joined, conjuncts, parallel_conjuncts, alternatives, conditional, quantified, listed_variables}
+use Rattle.std.specs.Prelude.{ℕ, ◌==◌, ◌&&◌, ◌||◌, nat_le, if◌then◌else◌}
 use Rattle.merc_goals.specs.declared.roles.Role.{Role}
 use Rattle.merc_goals.specs.declared.roles.Role.TheVariants.{Conjunction as ConjunctionRole, Parallel as ParallelRole, Disjunction as DisjunctionRole, Else, Misplaced, Existential, Universal, Equation, Inequation, Comparison, Unsupported, Call}
 

@@ -2,7 +2,7 @@
 use Rattle.std.specs.Prelude.{ℕ, ◌+◌, Bool, true, false, ◌==◌, ◌&&◌, ◌||◌, nat_le, List, [], ◌∷◌, Option, Some, None, if◌then◌else◌}
 use Rattle.std.specs.Option.{option_map}
 use Rattle.merc_base.specs.declared.place.Span.{Span}
-use Rattle.merc_tree.specs.Term.{Term, Terms, Variable, Integer, Text, Application, none, more, span_of}
+use Rattle.merc_tree.specs.Term.{Term, Terms, Variable, Application, none, more, span_of}
 
 -- The parts of a clause or a goal are numbered in the order of its text: a term stands before its arguments, and these from the left. Each part has two
 -- numbers. The first is its own; the second is that of the 0 in `0 - E`, which a prefix `-` means.

@@ -1,10 +1,10 @@
 -- Worked examples of terms as goals, which the prover computes, and false statements that it refutes.
-use Rattle.std.specs.Prelude.{◌≡◌, ℕ, List, [], ◌∷◌, length, Option, Some, None, pos, refl}
+use Rattle.std.specs.Prelude.{◌≡◌, ℕ, [], ◌∷◌, length, Some, None, pos, refl}
 use Rattle.merc_base.specs.declared.place.Span.{Span}
-use Rattle.merc_tree.specs.Term.{Term, Terms, Variable, Integer, Text, Application, none, more, no_span}
+use Rattle.merc_tree.specs.Term.{Term, Variable, Integer, Text, Application, none, more}
 use Rattle.merc_goals.specs.Written.{Written, WrittenGoals, no_goals, more_goals, Truth, Failure, Equal, Compared, Called, Conjunction, Parallel, Disjunction, Conditional, Negated, Quantified, WrongForm, OutsideProfile, parts, listed_variables, written}
 use Rattle.merc_goals.specs.Entries.{entries_of, written_of}
-use Rattle.merc_goals.specs.Faults.{wrong_forms, outside_forms, earlier, first_span, wrong_form, outside_profile, first_fault, widest_parallel}
+use Rattle.merc_goals.specs.Faults.{wrong_forms, outside_forms, first_span, wrong_form, outside_profile, first_fault, widest_parallel}
 use Rattle.merc_goals.specs.declared.goal.Form.TheVariants.{Conjunction as ConjunctionForm, Called as CalledForm}
 
 -- Terms stand at one span. `a`, `b` and `c` have the numbers 91, 92 and 93.

@@ -6,7 +6,9 @@ ghost use Rattle.merc_goals.specs.Roles.{role_of};
 ghost use Rattle.merc_goals.specs.Plans.{plan, plan_by, name_plan, unapplied_plan, one_plan, two_plan, chain_form, chain_plan, alternatives_plan, else_plan, conditional_plan, some_plan, all_plan, call_plan, plain_plan};
 
 use crate::goal::Form;
-use crate::links::{Numbered, Both, chain, condition_sides, left_of, listed_variables, right_of, sides};
+use crate::links::{
+    Both, Numbered, chain, condition_sides, left_of, listed_variables, right_of, sides,
+};
 use crate::roles::{ChainKind, Role, role_of};
 use merc_base::{Name, NoMemory, Span};
 use merc_operands::{Operands, operands_of};
@@ -179,9 +181,7 @@ fn plan_alternatives<'a>(
     ensures { OnOk result (tasks.new.items ≡ tasks.old.items ++ alternatives_plan start whole.now both.entry) }
 {
     match sides(Name::ARROW, &both.left)? {
-        Some(parts) => {
-            plan_conditional(tasks, parts, both.right, whole.term.span(), start)
-        }
+        Some(parts) => { plan_conditional(tasks, parts, both.right, whole.term.span(), start) }
         None => plan_chain(alloc, tasks, ChainKind::Disjuncts, whole, start),
     }
 }

@@ -2,7 +2,7 @@
 
 use crate::*;
 use merc_base::{Name, Rule, Span};
-use merc_tree::{Term, Terms};
+use merc_tree::Terms;
 use std::alloc::Global;
 use std::test::Fail;
 
@@ -74,14 +74,20 @@ fn last_number(goal: &WrittenGoal<'_>) -> usize {
     }
 }
 
-fn only(rt: &HostRuntime, terms: Terms) -> Result<Term, Fail> {
-    Ok(terms.into_only().expect(rt, "one term"))
+// How many entries the goal at this index has.
+fn size_at(goal: &WrittenGoal<'_>, index: usize) -> usize {
+    match goal.entries().get(index) {
+        Some(entry) => entry.size,
+        None => 0,
+    }
 }
 
 #[test]
 fn reads_a_chain_as_one_list(rt: HostRuntime) -> Result<(), Fail> {
     let alloc = rt.alloc();
-    let left = only(&rt, chain(alloc, 2, Name::COMMA, true)?)?;
+    let left = chain(alloc, 2, Name::COMMA, true)?
+        .into_only()
+        .expect(&rt, "one term");
     let left = left.as_ref();
     let goal = written_goal(alloc, &left, 10)?;
     assert_eq!(rt; listed(&goal), 3);
@@ -94,7 +100,9 @@ fn reads_a_chain_as_one_list(rt: HostRuntime) -> Result<(), Fail> {
 #[test]
 fn reads_a_long_chain(rt: HostRuntime) -> Result<(), Fail> {
     let alloc = rt.alloc();
-    let right = only(&rt, chain(alloc, 20000, Name::AMPERSAND, false)?)?;
+    let right = chain(alloc, 20000, Name::AMPERSAND, false)?
+        .into_only()
+        .expect(&rt, "one term");
     let right = right.as_ref();
     let goal = written_goal(alloc, &right, 0)?;
     assert_eq!(rt; goal.widest_parallel(), 20001);
@@ -112,7 +120,7 @@ fn finds_an_arrow_alone(rt: HostRuntime) -> Result<(), Fail> {
     name(&mut terms)?;
     join(&mut terms, Name::ARROW)?;
     join(&mut terms, Name::SEMICOLON)?;
-    let term = only(&rt, terms)?;
+    let term = terms.into_only().expect(&rt, "one term");
     let term = term.as_ref();
     let goal = written_goal(alloc, &term, 0)?;
     assert_eq!(rt; listed(&goal), 2);
@@ -131,12 +139,12 @@ fn reads_a_conditional(rt: HostRuntime) -> Result<(), Fail> {
     terms.push_variable(Name::BOOL, at(7))?;
     enclose(&mut terms, Name::NOT)?;
     join(&mut terms, Name::SEMICOLON)?;
-    let term = only(&rt, terms)?;
+    let term = terms.into_only().expect(&rt, "one term");
     let term = term.as_ref();
     let goal = written_goal(alloc, &term, 0)?;
     assert_eq!(rt; goal.entries().len(), 5);
-    let sizes = goal.entries().iter().map(|entry| entry.size);
-    assert_eq!(rt; sizes.sum::<usize>(), 10);
+    assert_eq!(rt; size_at(&goal, 0), 5);
+    assert_eq!(rt; size_at(&goal, 3), 2);
     let fault = goal.first_fault().expect(&rt, "a fault");
     assert_eq!(rt; fault.rule, Rule::OutsideProfile);
     assert_eq!(rt; fault.place.byte, 7);
@@ -153,7 +161,7 @@ fn reads_a_quantified_goal(rt: HostRuntime) -> Result<(), Fail> {
     join(&mut terms, Name::CONS)?;
     name(&mut terms)?;
     join(&mut terms, Name::ALL)?;
-    let term = only(&rt, terms)?;
+    let term = terms.into_only().expect(&rt, "one term");
     let term = term.as_ref();
     let goal = written_goal(alloc, &term, 0)?;
     assert_eq!(rt; goal.entries().len(), 4);
