@@ -1,0 +1,9 @@
+pub mod PartCounts
+pub mod FoundLaws
+pub mod RoleLaws
+pub mod ChainLaws
+pub mod ChainGoals
+pub mod Writing
+pub mod PlanWriting
+pub mod PlanSizes
+pub mod Lists

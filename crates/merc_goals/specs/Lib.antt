@@ -1,0 +1,9 @@
+pub mod Written
+pub mod Entries
+pub mod EntryCode
+pub mod Faults
+pub mod Found
+pub mod Roles
+pub mod Links
+pub mod Plans
+pub mod WrittenExamples
