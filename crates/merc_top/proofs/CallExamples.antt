@@ -18,7 +18,7 @@ use Rattle.merc_top.specs.Answer.BreaksGoal.{goal_outside}
 use Rattle.merc_top.proofs.OutputLaws.{IsOutput-unique}
 use Rattle.merc_top.proofs.Causes.{solved-exactly, module_refused-exactly, goal_refused-exactly, usage-exactly, too_long-exactly, absent-exactly}
 use Rattle.merc_top.proofs.OutputExamples.{one, goal}
-use Rattle.merc_top.proofs.DueExamples.{bad_token, lone_byte-refused, one_text, first_output, IsDue-module_refused, IsDue-runs, IsDue-goal_outside}
+use Rattle.merc_top.proofs.DueExamples.{bad_token, lone_byte-refused, one_text, first_output, IsDue-module_refused, IsDue-runs}
 use Rattle.merc_top.proofs.WordsExamples.{differ, IsPlainWord-example, IsRequest-example}
 
 abbrev words_for : List ℕ → List ℕ → List (List ℕ)

@@ -1,7 +1,6 @@
 -- Worked examples of what is due for a file and a goal: what holds, and what does not.
-use Rattle.std.specs.Prelude.{◌≡◌, ◌≤◌, ◌<◌, ◌++◌, ℕ, suc, zero, false, pos, List, [], ◌∷◌, length, Some, None, codes, refl}
+use Rattle.std.specs.Prelude.{◌≡◌, ◌≤◌, ◌++◌, ℕ, suc, zero, false, List, [], ◌∷◌, Some, None, codes, refl}
 use Rattle.std.proofs.Common.{arith, lit≤, slice_index, ap, sym, inl, inr}
-use Rattle.std.specs.Char.{encode_utf8}
 use Rattle.std.specs.Fmt.{digits}
 use Rattle.std.specs.Str.{IsUtf8, is_utf8, chars}
 use Rattle.std.proofs.lemmas.Bool.{false≢true}
@@ -13,19 +12,20 @@ use Rattle.merc_base.specs.declared.refusal.Refusal.{Refusal}
 use Rattle.merc_base.specs.declared.refusal.Fault.TheVariants.{Refused}
 use Rattle.merc_base.specs.declared.refusal.Rule.{Rule}
 use Rattle.merc_base.specs.declared.refusal.Rule.TheVariants.{BadToken, NoTerm, WrongForm, UnknownType, DeclaredTwice, Undeclared, UnknownName, TypeMismatch, MissingMode, NeverReady, BindsOuter, UnboundOutput, WrongCategory, ParallelCategory, OutsideProfile, LimitPassed}
-use Rattle.merc_base.specs.declared.refusal.Detail.{Detail}
 use Rattle.merc_base.specs.declared.refusal.Detail.TheVariants.{Plain}
-use Rattle.merc_tokens.specs.Faults.{HasFault, ComesFirst, RefusesRightly}
+use Rattle.merc_base.proofs.NameLaws.{fixed_names-distinct}
+use Rattle.merc_tokens.specs.Faults.{ComesFirst, RefusesRightly}
 use Rattle.merc_tokens.specs.Faults.HasFaultFrom.{here}
 use Rattle.merc_tokens.specs.Faults.IsFaulty.{no_token}
-use Rattle.merc_tree.specs.Term.{Term, Variable, Integer, Application, none, more}
+use Rattle.merc_tree.specs.Term.{Term, Application, none, more}
 use Rattle.merc_tree.specs.declared.declarations.Module.{Module}
 use Rattle.merc_terms.specs.Items.{refusal_at}
-use Rattle.merc_terms.specs.Texts.{RefusesText, RefusesGoalText, goal_limit}
+use Rattle.merc_terms.specs.Texts.{RefusesGoalText, goal_limit}
 use Rattle.merc_terms.specs.Texts.RefusesText.{tokens as bad_tokens}
 use Rattle.merc_terms.specs.Texts.RefusesGoalText.{tokens as bad_goal_tokens}
 use Rattle.merc_items.specs.ReadModule.{IsModule, RefusesModule}
 use Rattle.merc_items.specs.ReadModule.RefusesModule.{no_items}
+use Rattle.merc_items.proofs.ModuleLaws.{RefusesModule-excludes}
 use Rattle.merc_first_form.specs.Reading.{source_of, goal_of}
 use Rattle.merc_top.specs.Output.{AreRead, IsDue, text_of, refusal_line}
 use Rattle.merc_top.specs.Output.IsDue.{module_refused, goal_refused, module_outside, goal_outside, runs}
@@ -73,6 +73,11 @@ lone_byte = (
 
 pub lone_byte-refused : RefusesModule fixed_names (255 ∷ []) bad_token
 lone_byte-refused = no_items bad_token (bad_tokens bad_token lone_byte)
+
+-- so no module
+pub AreRead-counterexample : (goal : List ℕ) (names : List (List ℕ)) (items : List Term) (term : Term) → AreRead (255 ∷ []) goal names items term → ⊥
+AreRead-counterexample goal names items term read =
+    RefusesModule-excludes fixed_names read.file_names (255 ∷ []) bad_token items read.found fixed_names-distinct lone_byte-refused read.module_is
 
 lone_byte-refused_goal : (names : List (List ℕ)) → RefusesGoalText names (255 ∷ []) bad_token
 unfolding goal_limit
