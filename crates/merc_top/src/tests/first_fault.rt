@@ -1,8 +1,6 @@
 //! Inside a phase the fault of the least place is told, and at a place that of the smaller rule. The module's comes before the
 //! goal's.
-use super::checks::{
-    EMPTY, MODULE_STAGE, assert_all_refused, assert_printed, assert_refused, repeated,
-};
+use super::checks::{EMPTY, MODULE_STAGE, assert_printed, assert_refused, repeated};
 use super::rules::{
     ARITY, BAD_TOKEN, CATEGORY, CHARACTER, DECLARATION, FLOAT, FUNCTION, INTEGER, INTEGER_SUFFIX,
     MODE_NAME, NAME, NESTING, NO_FORM, NO_PAIR, NO_TERM, TWICE, TYPE,
@@ -197,22 +195,6 @@ fn of_two_words_the_first_in_the_item_is_told(rt: HostRuntime) -> Result<(), Fai
     for (rule, text, line) in ROWS {
         assert_refused(&rt, rule, text, line)?;
     }
-    Ok(())
-}
-
-// A line ends with a line feed alone, wherever it stands.
-#[test]
-fn the_line_of_a_place_is_told(rt: HostRuntime) -> Result<(), Fail> {
-    const ROWS: [(&[u8], &[u8]); 5] = [
-        (b":- module m.\r:- foo(x).\n", b"1"),
-        (b":- module m.\r\n:- foo(x).\r\n", b"2"),
-        (b":- module m. % a\n% b\n:- foo(x).\n", b"3"),
-        (b":- module m.\n/* a\n\n*/ :- foo(x).\n", b"4"),
-        (b":- module m.\np(0'\n). :- foo(x).\n", b"3"),
-    ];
-    assert_all_refused(&rt, DECLARATION, &ROWS)?;
-    let text = repeated(rt.alloc(), b":- module m.", b"\n", 100_000, b":- foo(x).\n")?;
-    assert_refused(&rt, DECLARATION, text.bytes(), b"100001")?;
     Ok(())
 }
 
