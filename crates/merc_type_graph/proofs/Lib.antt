@@ -1,0 +1,6 @@
+pub mod Adding
+pub mod Attaching
+pub mod Entries
+pub mod Equating
+pub mod Joins
+pub mod Meeting

@@ -1,0 +1,5 @@
+pub mod Cells
+pub mod Changes
+pub mod Joining
+pub mod Solutions
+pub mod Visiting
