@@ -1,10 +1,10 @@
 -- Places added.
-use Rattle.std.proofs.Common.{◌≡◌, ◌≢◌, ℕ, zero, suc, ◌+◌, ◌<◌, ◌≤◌, ◌⊎◌, inl, inr, List, [], ◌∷◌, ◌++◌, map, length, take, drop, get_or, refl, sym, ap, subst, ◌∙◌, arith, Some, None, length-append}
+use Rattle.std.proofs.Common.{◌≡◌, ◌≢◌, ℕ, zero, suc, ◌+◌, ◌<◌, ◌≤◌, ◌⊎◌, inl, inr, List, [], ◌∷◌, ◌++◌, map, length, take, drop, get_or, refl, sym, ap, subst, ◌∙◌, arith, Some, None, length-append, zero-add}
 use Rattle.std.specs.Prelude.{slice_get, ◌↔◌}
 use Rattle.std.proofs.lemmas.Bool.{cases_lt}
-use Rattle.std.proofs.lemmas.List.{take-append-le, drop_at, take_all, append-nil}
+use Rattle.std.proofs.lemmas.List.{drop_at, drop_all, take_all, append-nil}
 use Rattle.merc_tree.specs.Types.{TypeExpr}
-use Rattle.merc_type_graph.specs.Solutions.{Entry, Applied, Agrees, Solves}
+use Rattle.merc_type_graph.specs.Solutions.{Entry, Applied, Agrees, Solves, SolvesFrom}
 use Rattle.merc_type_graph.specs.Changes.{Adds, AllWithin}
 use Rattle.merc_type_graph.specs.Cells.{entry_of, entries_of, needs_of, known_at, rank_at, root_mark, roots, blank, IsStored, IsForest, IsSound}
 use Rattle.merc_type_graph.specs.declared.cell.Known.{Known}
@@ -15,8 +15,12 @@ use Rattle.merc_type_graph.proofs.Entries.{solves_from-append, append-solves_fro
 -- an entry at the end
 pub adds_last : (old new : List Entry) (entry : Entry) → new ≡ old ++ entry ∷ [] → Adds old new entry
 adds_last old new entry e types =
-    ((λ solves. solves_from-append 0 old entry types (subst (λ (l : List Entry). Solves l types) e solves)),
-      (λ both. subst (λ (l : List Entry). Solves l types) (sym e) (append-solves_from 0 old entry types both.0 both.1)))
+    let at : 0 + length old ≡ length old = zero-add (length old) in
+    ((λ solves.
+        let both = solves_from-append 0 old entry types (subst (λ (l : List Entry). SolvesFrom 0 types l) e solves) in
+        (both.0, subst (λ (p : ℕ). Agrees types p entry) at both.1)),
+      (λ both. subst (λ (l : List Entry). SolvesFrom 0 types l) (sym e)
+        (append-solves_from 0 old entry types both.0 (subst (λ (p : ℕ). Agrees types p entry) (sym at) both.1))))
 
 pub count_last : (old new : List Entry) (entry : Entry) → new ≡ old ++ entry ∷ [] → length new ≡ length old + 1
 count_last old new entry e = ap length e ∙ length-append old (entry ∷ [])
@@ -184,3 +188,33 @@ pub added_part : (arguments added after : List ℕ) → after ≡ arguments ++ a
 added_part arguments added after e =
     ap (λ (l : List ℕ). take (length added) (drop (length arguments) l)) e
     ∙ ap (take (length added)) (drop_at arguments added (length arguments) refl) ∙ take_all (length added) added (omega arith)
+
+pub adds_by : (arguments shown : List ℕ) (cells cells' : List Cell) (old : List Entry) (entry : Entry) → entries_of arguments cells ≡ old → shown ≡ arguments
+    → entries_of shown cells' ≡ entries_of shown cells ++ entry ∷ [] → Adds old (entries_of arguments cells') entry
+adds_by arguments shown cells cells' old entry view same added =
+    let there : entries_of arguments cells' ≡ entries_of arguments cells ++ entry ∷ [] =
+    subst (λ (l : List ℕ). entries_of l cells' ≡ entries_of l cells ++ entry ∷ []) same added in
+    adds_last old (entries_of arguments cells') entry (there ∙ ap (λ (l : List Entry). l ++ entry ∷ []) view)
+
+pub adds_applied : (old new view : List Entry) (entry : Entry) → view ≡ old → new ≡ view ++ entry ∷ [] → Adds old new entry
+adds_applied old new view entry same added = adds_last old new entry (added ∙ ap (λ (l : List Entry). l ++ entry ∷ []) same)
+
+pub applied_last : (arguments added after shown : List ℕ) (cells cells' : List Cell) (name first : ℕ) → IsSound arguments cells → after ≡ arguments ++ added → shown ≡ after
+    → first ≡ length arguments
+    → entries_of shown cells' ≡ entries_of shown cells ++ Applied name (take (length added) (drop first shown)) ∷ []
+    → entries_of after cells' ≡ entries_of arguments cells ++ Applied name added ∷ []
+applied_last arguments added after shown cells cells' name first sound e same first_is last =
+    let there : entries_of after cells' ≡ entries_of after cells ++ Applied name (take (length added) (drop first after)) ∷ [] =
+    subst (λ (l : List ℕ). entries_of l cells' ≡ entries_of l cells ++ Applied name (take (length added) (drop first l)) ∷ []) same last in
+    let part : take (length added) (drop first after) ≡ added = ap (λ (n : ℕ). take (length added) (drop n after)) first_is ∙ added_part arguments added after e in
+    there ∙ ap (λ (l : List ℕ). entries_of after cells ++ Applied name l ∷ []) part
+    ∙ ap (λ (l : List Entry). l ++ Applied name added ∷ []) (entries_same arguments added after cells sound e)
+
+-- cells that were lent and came back
+pub sound_back : (arguments : List ℕ) (back old : List Cell) (count : ℕ) → length back ≡ length old → count ≡ length old → IsSound arguments back
+    → IsSound arguments (take count (back ++ drop (length back) old))
+sound_back arguments back old count same count_is sound =
+    let nothing : drop (length back) old ≡ [] = drop_all (length back) old (omega arith) in
+    let whole : take count (back ++ drop (length back) old) ≡ back =
+    ap (λ (l : List Cell). take count (back ++ l)) nothing ∙ ap (take count) (append-nil back) ∙ take_all count back (omega arith) in
+    subst (IsSound arguments) (sym whole) sound

@@ -4,3 +4,5 @@ pub mod Entries
 pub mod Equating
 pub mod Joins
 pub mod Meeting
+pub mod Visits
+pub mod Weights

@@ -74,7 +74,7 @@ news (first ∷ rest) = new_mark first + news rest
 -- what is left to look at in the frames
 abbrev pub left_over : List ℕ → List Cell → List (ℕ × ℕ) → ℕ
 left_over arguments cells [] = 0
-left_over arguments cells (frame ∷ frames) = (length (needs_at arguments cells frame.0) + 1 - frame.1) + left_over arguments cells frames
+left_over arguments cells (frame ∷ frames) = suc (length (needs_at arguments cells frame.0) - frame.1) + left_over arguments cells frames
 
 abbrev pub visit_left : List ℕ → List Cell → List Mark → List (ℕ × ℕ) → ℕ
 visit_left arguments cells marks frames = news marks * (length arguments + 3) + left_over arguments cells frames

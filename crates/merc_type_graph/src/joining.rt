@@ -19,7 +19,8 @@ pub(crate) fn equate(
     requires sound { IsSound arguments.now cells.old }
     requires one { one < length cells.old }
     requires other { other < length cells.old }
-    ensures { IfOk result (λ done. Equates done arguments.now cells.old cells.new one other) }
+    ensures sound { IsSound arguments.now cells.new }
+    ensures made { IfOk result (λ done. Equates done arguments.now cells.old cells.new one other) }
 {
     let mut pairs = Vec::new(alloc);
     pairs.push((one, other))?;
@@ -43,7 +44,8 @@ fn meet(
     requires one { one < length cells.old }
     requires other { other < length cells.old }
     requires pairs { AllBelow (length cells.old) pairs.old.items }
-    ensures { IfOk result (λ met. MeetsOrDiffers met arguments.now cells.old cells.new pairs.old.items pairs.new.items one other) }
+    ensures sound { IsSound arguments.now cells.new }
+    ensures made { IfOk result (λ met. MeetsOrDiffers met arguments.now cells.old cells.new pairs.old.items pairs.new.items one other) }
 {
     let one = root_of(cells, one.index());
     let other = root_of(cells, other.index());

@@ -27,11 +27,31 @@ pub(crate) fn decide(alloc: Global, arguments: &[Place], cells: &[Cell]) -> Resu
 {
     let mut marks = vec![in alloc; Mark::New; cells.len()]?;
     for start in 0..cells.len() {
-        if marks[start] == Mark::New && !visit(alloc, arguments, cells, start, &mut marks)? {
+        if !visit_once(alloc, arguments, cells, start, &mut marks)? {
             return Ok(false);
         }
     }
     Ok(true)
+}
+
+// Visits a place and all that it needs, unless that is done. False where a place needs itself.
+fn visit_once(
+    alloc: Global,
+    arguments: &[Place],
+    cells: &[Cell],
+    start: usize,
+    marks: &mut [Mark],
+) -> Result<bool, NoMemory>
+    requires sound { IsSound arguments.now cells.now }
+    requires settled { IsSettled arguments.now cells.now marks.old }
+    requires idle { IsIdle marks.old }
+    requires there { start < length cells.now }
+    ensures { IfOk result (λ fine. Visits fine arguments.now cells.now marks.old marks.new start) }
+{
+    match marks[start] {
+        Mark::New => visit(alloc, arguments, cells, start, marks),
+        Mark::Open | Mark::Done => Ok(true),
+    }
 }
 
 // Visits a new place and all that it needs. False where a place needs itself.
@@ -52,8 +72,8 @@ fn visit(
     let mut stack = Vec::new(alloc);
     stack.push((start, 0))?;
     marks[start] = Mark::Open;
-    while let Some((place, next)) = stack.pop() {
-        if !advance(arguments, cells, place, next, marks, &mut stack)? {
+    while let Some(frame) = stack.pop() {
+        if !advance(arguments, cells, frame, marks, &mut stack)? {
             return Ok(false);
         }
     }
@@ -64,15 +84,15 @@ fn visit(
 fn advance(
     arguments: &[Place],
     cells: &[Cell],
-    place: usize,
-    next: usize,
+    frame: (usize, usize),
     marks: &mut [Mark],
     stack: &mut Vec<(usize, usize)>,
 ) -> Result<bool, NoMemory>
     requires sound { IsSound arguments.now cells.now }
-    requires visiting { IsVisiting arguments.now cells.now marks.old ((place, next) ∷ reverse stack.old.items) }
-    ensures { IfOk result (λ fine. Advances fine arguments.now cells.now marks.old marks.new ((place, next) ∷ reverse stack.old.items) (reverse stack.new.items)) }
+    requires visiting { IsVisiting arguments.now cells.now marks.old (frame ∷ reverse stack.old.items) }
+    ensures { IfOk result (λ fine. Advances fine arguments.now cells.now marks.old marks.new (frame ∷ reverse stack.old.items) (reverse stack.new.items)) }
 {
+    let (place, next) = frame;
     let need = match need_at(cells[place].known, arguments, next) {
         Some(need) => need,
         None => {
