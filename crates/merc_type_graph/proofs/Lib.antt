@@ -1,5 +1,6 @@
 pub mod Adding
 pub mod Attaching
+pub mod Deciding
 pub mod Entries
 pub mod Equating
 pub mod Joins

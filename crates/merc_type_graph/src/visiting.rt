@@ -2,6 +2,7 @@
 ghost use Rattle.std.specs.Prelude.{◌≡◌, ◌<◌, ◌∷◌, [], length, reverse, IfOk};
 ghost use Rattle.merc_type_graph.specs.Cells.{entries_of, IsSound};
 ghost use Rattle.merc_type_graph.specs.Changes.{Decides};
+ghost use Rattle.merc_type_graph.specs.Fresh.{AreNew};
 ghost use Rattle.merc_type_graph.specs.Visiting.{mark_at, Advances, IsIdle, IsSettled, IsVisiting, Visits};
 ghost use Rattle.merc_type_graph.specs.declared.visiting.Mark.TheVariants.{New};
 
@@ -26,8 +27,23 @@ pub(crate) fn decide(alloc: Global, arguments: &[Place], cells: &[Cell]) -> Resu
     ensures { IfOk result (λ solvable. Decides solvable (entries_of arguments.now cells.now)) }
 {
     let mut marks = vec![in alloc; Mark::New; cells.len()]?;
+    visit_all(alloc, arguments, cells, &mut marks)
+}
+
+// Visits all places. False where a place needs itself.
+fn visit_all(
+    alloc: Global,
+    arguments: &[Place],
+    cells: &[Cell],
+    marks: &mut [Mark],
+) -> Result<bool, NoMemory>
+    requires sound { IsSound arguments.now cells.now }
+    requires count { length marks.old ≡ length cells.now }
+    requires fresh { AreNew marks.old }
+    ensures { IfOk result (λ solvable. Decides solvable (entries_of arguments.now cells.now)) }
+{
     for start in 0..cells.len() {
-        if !visit_once(alloc, arguments, cells, start, &mut marks)? {
+        if !visit_once(alloc, arguments, cells, start, marks)? {
             return Ok(false);
         }
     }
