@@ -1,12 +1,11 @@
 -- Places added.
-use Rattle.std.proofs.Common.{◌≡◌, ◌≢◌, ℕ, zero, suc, ◌+◌, ◌<◌, ◌≤◌, ◌⊎◌, inl, inr, List, [], ◌∷◌, ◌++◌, map, length, take, drop, get_or, refl, sym, ap, subst, ◌∙◌, arith, Some, None, length-append, zero-add}
-use Rattle.std.specs.Prelude.{slice_get, ◌↔◌}
+use Rattle.std.proofs.Common.{◌≡◌, ℕ, zero, suc, ◌+◌, ◌<◌, ◌≤◌, ◌⊎◌, inl, inr, List, [], ◌∷◌, ◌++◌, length, take, drop, get_or, refl, sym, ap, subst, ◌∙◌, arith, Some, length-append, zero-add}
+use Rattle.std.specs.Prelude.{slice_get}
 use Rattle.std.proofs.lemmas.Bool.{cases_lt}
 use Rattle.std.proofs.lemmas.List.{drop_at, drop_all, take_all, append-nil}
-use Rattle.merc_tree.specs.Types.{TypeExpr}
-use Rattle.merc_type_graph.specs.Solutions.{Entry, Applied, Agrees, Solves, SolvesFrom}
+use Rattle.merc_type_graph.specs.Solutions.{Entry, Applied, Agrees, SolvesFrom}
 use Rattle.merc_type_graph.specs.Changes.{Adds, AllWithin}
-use Rattle.merc_type_graph.specs.Cells.{entry_of, entries_of, needs_of, known_at, rank_at, root_mark, roots, blank, IsStored, IsForest, IsSound}
+use Rattle.merc_type_graph.specs.Cells.{entry_of, entries_of, needs_of, known_at, rank_at, root_mark, roots, blank, IsStored, IsSound}
 use Rattle.merc_type_graph.specs.declared.cell.Known.{Known}
 use Rattle.merc_type_graph.specs.declared.cell.Known.TheVariants.{Nothing, Variable, Int, Text, Named, SameAs}
 use Rattle.merc_type_graph.specs.declared.cell.Cell.{Cell}
@@ -15,12 +14,13 @@ use Rattle.merc_type_graph.proofs.Entries.{solves_from-append, append-solves_fro
 -- an entry at the end
 pub adds_last : (old new : List Entry) (entry : Entry) → new ≡ old ++ entry ∷ [] → Adds old new entry
 adds_last old new entry e types =
-    let at : 0 + length old ≡ length old = zero-add (length old) in
-    ((λ solves.
-        let both = solves_from-append 0 old entry types (subst (λ (l : List Entry). SolvesFrom 0 types l) e solves) in
-        (both.0, subst (λ (p : ℕ). Agrees types p entry) at both.1)),
+    let at : 0 + length old ≡ length old = zero-add (length old) in (
+      (λ solves.
+          let both = solves_from-append 0 old entry types (subst (λ (l : List Entry). SolvesFrom 0 types l) e solves) in
+          (both.0, subst (λ (p : ℕ). Agrees types p entry) at both.1)),
       (λ both. subst (λ (l : List Entry). SolvesFrom 0 types l) (sym e)
-        (append-solves_from 0 old entry types both.0 (subst (λ (p : ℕ). Agrees types p entry) (sym at) both.1))))
+          (append-solves_from 0 old entry types both.0 (subst (λ (p : ℕ). Agrees types p entry) (sym at) both.1))),
+    )
 
 pub count_last : (old new : List Entry) (entry : Entry) → new ≡ old ++ entry ∷ [] → length new ≡ length old + 1
 count_last old new entry e = ap length e ∙ length-append old (entry ∷ [])
@@ -84,56 +84,56 @@ sound-append arguments cells after known sound stored root within is =
     let longer : length (cells ++ cell ∷ []) ≡ length cells + 1 = length-append cells (cell ∷ []) in
     let more : roots (cells ++ cell ∷ []) ≡ roots cells + root_mark known = roots-append cells cell in
     subst (IsSound arguments) (sym is) (record {
-        forest = record {
-          rising = λ i j link.
-              elim (last_or_before cells cell i) [
-                | inl e ↦
-                    let old : known_at cells i ≡ SameAs j = sym (ap (λ (c : Cell). c.known) e) ∙ link in
-                    let less = sound.forest.rising i j old in
-                    let near = sound.forest.near i j old in
-                    let r : rank_at (cells ++ cell ∷ []) i ≡ rank_at cells i = ap (λ (c : Cell). c.rank) e in
-                    let s : rank_at (cells ++ cell ∷ []) j ≡ rank_at cells j = rank_there cells cell j near in
-                    omega arith
-                | inr w ↦ absurd (no_link known j root (sym (ap (λ (c : Cell). c.known) w.1) ∙ link))
-              ];
-          near = λ i j link.
-              elim (last_or_before cells cell i) [
-                | inl e ↦
-                    let old : known_at cells i ≡ SameAs j = sym (ap (λ (c : Cell). c.known) e) ∙ link in
-                    let near = sound.forest.near i j old in omega arith
-                | inr w ↦ absurd (no_link known j root (sym (ap (λ (c : Cell). c.known) w.1) ∙ link))
-              ];
-          room = λ i here.
-              elim (cases_lt i (length cells)) [
-                | inl less ↦
-                    let r : rank_at (cells ++ cell ∷ []) i ≡ rank_at cells i = rank_there cells cell i less in
-                    let room = sound.forest.room i less in omega arith
-                | inr past ↦
-                    elim (last_or_before cells cell i) [
-                      | inl e ↦
-                          let r : rank_at (cells ++ cell ∷ []) i ≡ rank_at cells i = ap (λ (c : Cell). c.rank) e in
-                          let z : rank_at cells i ≡ 0 = rank_past cells i past in
-                          let few = roots_few cells in omega arith
-                      | inr w ↦
-                          let r : rank_at (cells ++ cell ∷ []) i ≡ 0 = ap (λ (c : Cell). c.rank) w.1 in
-                          let few = roots_few cells in omega arith
-                    ]
-              ];
-        };
-        stored = λ i.
-            elim (last_or_before cells cell i) [
-              | inl e ↦ subst (λ (c : Cell). IsStored (length arguments) c.known) (sym e) (sound.stored i)
-              | inr w ↦ subst (λ (c : Cell). IsStored (length arguments) c.known) (sym w.1) stored
-            ];
-        within = λ i number place need.
+      forest = record {
+        rising = λ i j link.
             elim (last_or_before cells cell i) [
               | inl e ↦
-                  let less = sound.within i number place (sym (ap (λ (c : Cell). slice_get (needs_of (entry_of arguments c.known)) number) e) ∙ need) in omega arith
-              | inr w ↦
-                  let less = all_within (length cells) (needs_of (entry_of arguments known)) within number place
-                  (sym (ap (λ (c : Cell). slice_get (needs_of (entry_of arguments c.known)) number) w.1) ∙ need) in omega arith
+                  let old : known_at cells i ≡ SameAs j = sym (ap (λ (c : Cell). c.known) e) ∙ link in
+                  let less = sound.forest.rising i j old in
+                  let near = sound.forest.near i j old in
+                  let r : rank_at (cells ++ cell ∷ []) i ≡ rank_at cells i = ap (λ (c : Cell). c.rank) e in
+                  let s : rank_at (cells ++ cell ∷ []) j ≡ rank_at cells j = rank_there cells cell j near in
+                  omega arith
+              | inr w ↦ absurd (no_link known j root (sym (ap (λ (c : Cell). c.known) w.1) ∙ link))
             ];
-      })
+        near = λ i j link.
+            elim (last_or_before cells cell i) [
+              | inl e ↦
+                  let old : known_at cells i ≡ SameAs j = sym (ap (λ (c : Cell). c.known) e) ∙ link in
+                  let near = sound.forest.near i j old in omega arith
+              | inr w ↦ absurd (no_link known j root (sym (ap (λ (c : Cell). c.known) w.1) ∙ link))
+            ];
+        room = λ i here.
+            elim (cases_lt i (length cells)) [
+              | inl less ↦
+                  let r : rank_at (cells ++ cell ∷ []) i ≡ rank_at cells i = rank_there cells cell i less in
+                  let room = sound.forest.room i less in omega arith
+              | inr past ↦
+                  elim (last_or_before cells cell i) [
+                    | inl e ↦
+                        let r : rank_at (cells ++ cell ∷ []) i ≡ rank_at cells i = ap (λ (c : Cell). c.rank) e in
+                        let z : rank_at cells i ≡ 0 = rank_past cells i past in
+                        let few = roots_few cells in omega arith
+                    | inr w ↦
+                        let r : rank_at (cells ++ cell ∷ []) i ≡ 0 = ap (λ (c : Cell). c.rank) w.1 in
+                        let few = roots_few cells in omega arith
+                  ]
+            ];
+      };
+      stored = λ i.
+          elim (last_or_before cells cell i) [
+            | inl e ↦ subst (λ (c : Cell). IsStored (length arguments) c.known) (sym e) (sound.stored i)
+            | inr w ↦ subst (λ (c : Cell). IsStored (length arguments) c.known) (sym w.1) stored
+          ];
+      within = λ i number place need.
+          elim (last_or_before cells cell i) [
+            | inl e ↦
+                let less = sound.within i number place (sym (ap (λ (c : Cell). slice_get (needs_of (entry_of arguments c.known)) number) e) ∙ need) in omega arith
+            | inr w ↦
+                let less = all_within (length cells) (needs_of (entry_of arguments known)) within number place
+                (sym (ap (λ (c : Cell). slice_get (needs_of (entry_of arguments c.known)) number) w.1) ∙ need) in omega arith
+          ];
+    })
 
 -- more arguments at the end change no entry
 part-append : (arguments added : List ℕ) (first count : ℕ) → first + count ≤ length arguments
@@ -176,12 +176,12 @@ pub sound_more : (arguments added after : List ℕ) (cells : List Cell) → IsSo
 sound_more arguments added after cells sound e =
     let longer : length (arguments ++ added) ≡ length arguments + length added = length-append arguments added in
     subst (λ (l : List ℕ). IsSound l cells) (sym e) (record {
-        forest = sound.forest;
-        stored = λ i. stored_more (length arguments) (length (arguments ++ added)) (known_at cells i) (omega arith) (sound.stored i);
-        within = λ i number place need.
-            sound.within i number place
-            (sym (ap (λ (entry : Entry). slice_get (needs_of entry) number) (entry-append arguments added (known_at cells i) (sound.stored i))) ∙ need);
-      })
+      forest = sound.forest;
+      stored = λ i. stored_more (length arguments) (length (arguments ++ added)) (known_at cells i) (omega arith) (sound.stored i);
+      within = λ i number place need.
+          sound.within i number place
+          (sym (ap (λ (entry : Entry). slice_get (needs_of entry) number) (entry-append arguments added (known_at cells i) (sound.stored i))) ∙ need);
+    })
 
 -- the arguments that were added last
 pub added_part : (arguments added after : List ℕ) → after ≡ arguments ++ added → take (length added) (drop (length arguments) after) ≡ added

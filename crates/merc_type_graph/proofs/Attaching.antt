@@ -1,13 +1,13 @@
 -- One root attached to another.
-use Rattle.std.proofs.Common.{◌≡◌, ◌≢◌, ℕ, zero, suc, ◌+◌, ◌*◌, ◌<◌, ◌≤◌, max, ◌⊎◌, inl, inr, List, [], ◌∷◌, ◌++◌, length, get_or, set, refl, sym, ap, subst, ◌∙◌, arith, Some, None, length-set, length-append, length-take, length-drop, get_or-set_same, get_or-set_other}
-use Rattle.std.specs.Prelude.{slice_get, ◌↔◌}
+use Rattle.std.proofs.Common.{◌≡◌, ◌≢◌, ℕ, zero, suc, ◌+◌, ◌<◌, ◌≤◌, max, ◌⊎◌, inl, inr, List, [], ◌∷◌, length, get_or, set, refl, sym, ap, subst, ◌∙◌, arith, Some, length-set, get_or-set_same, get_or-set_other}
+use Rattle.std.specs.Prelude.{slice_get}
 use Rattle.std.proofs.lemmas.Bool.{cases_lt}
 use Rattle.merc_tree.specs.Types.{TypeExpr}
-use Rattle.merc_type_graph.specs.Solutions.{Entry, Unknown, Agrees, Solves, Link}
-use Rattle.merc_type_graph.specs.Cells.{entry_of, entries_of, needs_of, known_at, rank_at, blank, root_mark, roots, IsStored, IsForest, IsSound, LeadsTo}
-use Rattle.merc_type_graph.specs.Joining.{joined, arguments_of, zipped, AllSame, AllBelow, attached, work, Meets}
+use Rattle.merc_type_graph.specs.Solutions.{Agrees, Solves}
+use Rattle.merc_type_graph.specs.Cells.{entry_of, entries_of, needs_of, known_at, rank_at, blank, root_mark, roots, IsStored, IsForest, IsSound}
+use Rattle.merc_type_graph.specs.Joining.{AllSame, attached}
 use Rattle.merc_type_graph.specs.declared.cell.Known.{Known}
-use Rattle.merc_type_graph.specs.declared.cell.Known.TheVariants.{Nothing, Variable, Int, Text, Named, SameAs}
+use Rattle.merc_type_graph.specs.declared.cell.Known.TheVariants.{SameAs}
 use Rattle.merc_type_graph.specs.declared.cell.Cell.{Cell}
 use Rattle.merc_type_graph.proofs.Entries.{solves_at, solves_all}
 use Rattle.merc_type_graph.proofs.Joins.{Fits, fits, agrees_by, fits_at}
@@ -45,12 +45,12 @@ attached_at cells child parent known child_here parent_here apart i =
     elim (same_or_not i child) [
       | inl e ↦ at_child e (ap (λ (k : ℕ). get_or (attached cells child parent known) k blank) e ∙ get_or-set_same first child (child_cell cells child parent) blank child_first)
       | inr ne ↦ elim (same_or_not i parent) [
-          | inl e ↦ at_parent e
-              (get_or-set_other first child i (child_cell cells child parent) blank ne
-              ∙ ap (λ (k : ℕ). get_or first k blank) e ∙ get_or-set_same cells parent (parent_cell cells child parent known) blank parent_here)
-          | inr ne' ↦ elsewhere ne ne'
-              (get_or-set_other first child i (child_cell cells child parent) blank ne ∙ get_or-set_other cells parent i (parent_cell cells child parent known) blank ne')
-        ]
+        | inl e ↦ at_parent e
+            (get_or-set_other first child i (child_cell cells child parent) blank ne
+            ∙ ap (λ (k : ℕ). get_or first k blank) e ∙ get_or-set_same cells parent (parent_cell cells child parent known) blank parent_here)
+        | inr ne' ↦ elsewhere ne ne'
+            (get_or-set_other first child i (child_cell cells child parent) blank ne ∙ get_or-set_other cells parent i (parent_cell cells child parent known) blank ne')
+      ]
     ]
 
 known_by : (cells : List Cell) (i : ℕ) (cell : Cell) → get_or cells i blank ≡ cell → known_at cells i ≡ cell.known
@@ -186,14 +186,14 @@ sound-attached arguments cells child parent known may =
           elim (attached_at cells child parent known may.child_here may.parent_here may.apart i) [
             | at_child e is ↦
                 let to : parent ≡ place = one_need parent number place
-                  (sym (ap (λ (k : Known). slice_get (needs_of (entry_of arguments k)) number) (known_by after i (child_cell cells child parent) is)) ∙ need) in
+                (sym (ap (λ (k : Known). slice_get (needs_of (entry_of arguments k)) number) (known_by after i (child_cell cells child parent) is)) ∙ need) in
                 let here = may.parent_here in omega arith
             | at_parent e is ↦
                 let less = may.known_within number place
-                  (sym (ap (λ (k : Known). slice_get (needs_of (entry_of arguments k)) number) (known_by after i (parent_cell cells child parent known) is)) ∙ need) in omega arith
+                (sym (ap (λ (k : Known). slice_get (needs_of (entry_of arguments k)) number) (known_by after i (parent_cell cells child parent known) is)) ∙ need) in omega arith
             | elsewhere ne ne' is ↦
                 let less = may.sound.within i number place
-                  (sym (ap (λ (c : Cell). slice_get (needs_of (entry_of arguments c.known)) number) is) ∙ need) in omega arith
+                (sym (ap (λ (c : Cell). slice_get (needs_of (entry_of arguments c.known)) number) is) ∙ need) in omega arith
           ];
     }
 
@@ -221,15 +221,17 @@ attached_before arguments cells child parent known added may types splits solves
           (subst (λ (k : Known). Agrees types parent (entry_of arguments k)) (known_by after parent (parent_cell cells child parent known) is) (solves_at arguments after types solves parent))
       | elsewhere ne ne' is ↦ absurd (ne' refl)
     ] in
-    let parts = splits.apart (types parent) both same in
-    (solves_all arguments cells types (λ i.
-        elim (attached_at cells child parent known may.child_here may.parent_here may.apart i) [
-          | at_child e is ↦ subst (λ (k : ℕ). Agrees types k (entry_of arguments (known_at cells k))) (sym e)
-              (agrees_by types child (entry_of arguments (known_at cells child)) (fits_at types (entry_of arguments (known_at cells child)) (types parent) (types child) (sym link) parts.0))
-          | at_parent e is ↦ subst (λ (k : ℕ). Agrees types k (entry_of arguments (known_at cells k))) (sym e)
-              (agrees_by types parent (entry_of arguments (known_at cells parent)) parts.1)
-          | elsewhere ne ne' is ↦ subst (λ (c : Cell). Agrees types i (entry_of arguments c.known)) is (solves_at arguments after types solves i)
-        ]), link)
+    let parts = splits.apart (types parent) both same in (
+      solves_all arguments cells types (λ i.
+          elim (attached_at cells child parent known may.child_here may.parent_here may.apart i) [
+            | at_child e is ↦ subst (λ (k : ℕ). Agrees types k (entry_of arguments (known_at cells k))) (sym e)
+                (agrees_by types child (entry_of arguments (known_at cells child)) (fits_at types (entry_of arguments (known_at cells child)) (types parent) (types child) (sym link) parts.0))
+            | at_parent e is ↦ subst (λ (k : ℕ). Agrees types k (entry_of arguments (known_at cells k))) (sym e)
+                (agrees_by types parent (entry_of arguments (known_at cells parent)) parts.1)
+            | elsewhere ne ne' is ↦ subst (λ (c : Cell). Agrees types i (entry_of arguments c.known)) is (solves_at arguments after types solves i)
+          ]),
+      link,
+    )
 
 pub attached_after : (arguments : List ℕ) (cells : List Cell) (child parent : ℕ) (known : Known) (added : List (ℕ × ℕ)) → MayAttach arguments cells child parent known
     → (types : ℕ → TypeExpr) → Splits types arguments (known_at cells child) (known_at cells parent) known added
@@ -241,12 +243,14 @@ attached_after arguments cells child parent known added may types splits solves 
     fits_at types (entry_of arguments (known_at cells child)) (types child) (types parent) link (fits types child (entry_of arguments (known_at cells child)) (solves_at arguments cells types solves child)) in
     let parent_fit : Fits types (types parent) (entry_of arguments (known_at cells parent)) =
     fits types parent (entry_of arguments (known_at cells parent)) (solves_at arguments cells types solves parent) in
-    let both = splits.together (types parent) child_fit parent_fit in
-    (solves_all arguments after types (λ i.
-        elim (attached_at cells child parent known may.child_here may.parent_here may.apart i) [
-          | at_child e is ↦ subst (λ (k : Known). Agrees types i (entry_of arguments k)) (sym (known_by after i (child_cell cells child parent) is))
-              (ap types e ∙ link)
-          | at_parent e is ↦ subst (λ (k : Known). Agrees types i (entry_of arguments k)) (sym (known_by after i (parent_cell cells child parent known) is))
-              (subst (λ (k : ℕ). Agrees types k (entry_of arguments known)) (sym e) (agrees_by types parent (entry_of arguments known) both.0))
-          | elsewhere ne ne' is ↦ subst (λ (c : Cell). Agrees types i (entry_of arguments c.known)) (sym is) (solves_at arguments cells types solves i)
-        ]), both.1)
+    let both = splits.together (types parent) child_fit parent_fit in (
+      solves_all arguments after types (λ i.
+          elim (attached_at cells child parent known may.child_here may.parent_here may.apart i) [
+            | at_child e is ↦ subst (λ (k : Known). Agrees types i (entry_of arguments k)) (sym (known_by after i (child_cell cells child parent) is))
+                (ap types e ∙ link)
+            | at_parent e is ↦ subst (λ (k : Known). Agrees types i (entry_of arguments k)) (sym (known_by after i (parent_cell cells child parent known) is))
+                (subst (λ (k : ℕ). Agrees types k (entry_of arguments known)) (sym e) (agrees_by types parent (entry_of arguments known) both.0))
+            | elsewhere ne ne' is ↦ subst (λ (c : Cell). Agrees types i (entry_of arguments c.known)) (sym is) (solves_at arguments cells types solves i)
+          ]),
+      both.1,
+    )

@@ -1,13 +1,13 @@
 -- All places visited.
-use Rattle.std.proofs.Common.{◌≡◌, ◌≢◌, ℕ, zero, suc, ◌+◌, ◌<◌, ◌≤◌, ◌⊎◌, inl, inr, Bool, true, false, List, [], ◌∷◌, length, get_or, replicate, refl, sym, ap, subst, ◌∙◌, arith}
+use Rattle.std.proofs.Common.{◌≡◌, ℕ, zero, suc, ◌+◌, ◌<◌, ◌≤◌, inl, inr, Bool, true, false, List, [], ◌∷◌, length, replicate, refl, sym, ap, subst, ◌∙◌, arith}
 use Rattle.std.proofs.lemmas.Bool.{cases_lt}
 use Rattle.merc_tree.specs.Types.{TypeExpr, IntType}
-use Rattle.merc_type_graph.specs.Solutions.{Entry, Agrees, Solves}
-use Rattle.merc_type_graph.specs.Cells.{entry_of, entries_of, known_at, blank}
+use Rattle.merc_type_graph.specs.Solutions.{Agrees, Solves}
+use Rattle.merc_type_graph.specs.Cells.{entry_of, entries_of, known_at}
 use Rattle.merc_type_graph.specs.Fresh.{AreNew}
 use Rattle.merc_type_graph.specs.Visiting.{mark_at, IsIdle, IsSettled, Visits}
 use Rattle.merc_type_graph.specs.declared.visiting.Mark.{Mark}
-use Rattle.merc_type_graph.specs.declared.visiting.Mark.TheVariants.{New, Open, Done}
+use Rattle.merc_type_graph.specs.declared.visiting.Mark.TheVariants.{New, Done}
 use Rattle.merc_type_graph.specs.declared.cell.Known.TheVariants.{Nothing}
 use Rattle.merc_type_graph.specs.declared.cell.Known.{Known}
 use Rattle.merc_type_graph.specs.declared.cell.Cell.{Cell}
@@ -50,12 +50,14 @@ known_past (first ∷ rest) (suc i) past = known_past rest i (omega arith)
 
 pub all_done : (arguments : List ℕ) (cells : List Cell) (marks : List Mark) (start : ℕ) → AreDone arguments cells marks start → length cells ≤ start
     → (types : ℕ → TypeExpr) × Solves (entries_of arguments cells) types
-all_done arguments cells marks start done past =
-    (done.settled.types, solves_all arguments cells done.settled.types (λ i.
-        elim (cases_lt i (length cells)) [
-          | inl here ↦ done.settled.agree i (done.done i (omega arith))
-          | inr there ↦ subst (λ (k : Known). Agrees done.settled.types i (entry_of arguments k)) (sym (known_past cells i there)) tt
-        ]))
+all_done arguments cells marks start done past = (
+  done.settled.types,
+  solves_all arguments cells done.settled.types (λ i.
+      elim (cases_lt i (length cells)) [
+        | inl here ↦ done.settled.agree i (done.done i (omega arith))
+        | inr there ↦ subst (λ (k : Known). Agrees done.settled.types i (entry_of arguments k)) (sym (known_past cells i there)) tt
+      ]),
+)
 
 mark_new : (count i : ℕ) → mark_at (replicate count New) i ≡ New
 mark_new zero i = refl

@@ -1,8 +1,8 @@
 -- Entries by place.
-use Rattle.std.proofs.Common.{◌≡◌, ℕ, zero, suc, ◌+◌, ◌<◌, ◌≤◌, List, [], ◌∷◌, ◌++◌, map, length, get_or, refl, sym, ap, subst, ◌∙◌, arith, add-one, add-zero}
+use Rattle.std.proofs.Common.{◌≡◌, ℕ, zero, suc, ◌+◌, ◌<◌, List, [], ◌∷◌, ◌++◌, length, get_or, refl, sym, ap, subst, ◌∙◌, arith, add-zero}
 use Rattle.std.proofs.Math.ListN.{get_or-map}
-use Rattle.merc_tree.specs.Types.{TypeExpr, IntType, TextType, TypeVariable, TypeApplication, types_of}
-use Rattle.merc_type_graph.specs.Solutions.{Entry, Unknown, Own, IntEntry, TextEntry, Applied, Link, Agrees, Solves, SolvesFrom}
+use Rattle.merc_tree.specs.Types.{TypeExpr}
+use Rattle.merc_type_graph.specs.Solutions.{Entry, Unknown, Agrees, Solves, SolvesFrom}
 use Rattle.merc_type_graph.specs.Cells.{entry_of, entries_of, known_at, blank}
 use Rattle.merc_type_graph.specs.declared.cell.Cell.{Cell}
 use Rattle.merc_type_graph.specs.declared.cell.Known.{Known}
@@ -18,10 +18,12 @@ solves_from_at place (first ∷ rest) types solves (suc i) =
 solves_from_all : (place : ℕ) (entries : List Entry) (types : ℕ → TypeExpr)
     → ((i : ℕ) → Agrees types (place + i) (get_or entries i Unknown)) → SolvesFrom place types entries
 solves_from_all place [] types agree = tt
-solves_from_all place (first ∷ rest) types agree =
-    (subst (λ (p : ℕ). Agrees types p first) (add-zero place) (agree zero), solves_from_all (place + 1) rest types (λ i.
-        let e : place + suc i ≡ place + 1 + i = omega arith in
-        subst (λ (p : ℕ). Agrees types p (get_or rest i Unknown)) e (agree (suc i))))
+solves_from_all place (first ∷ rest) types agree = (
+  subst (λ (p : ℕ). Agrees types p first) (add-zero place) (agree zero),
+  solves_from_all (place + 1) rest types (λ i.
+      let e : place + suc i ≡ place + 1 + i = omega arith in
+      subst (λ (p : ℕ). Agrees types p (get_or rest i Unknown)) e (agree (suc i))),
+)
 
 entry_at : (arguments : List ℕ) (cells : List Cell) (i : ℕ) → get_or (entries_of arguments cells) i Unknown ≡ entry_of arguments (known_at cells i)
 entry_at arguments cells i = get_or-map (λ (c : Cell). entry_of arguments c.known) cells i blank
@@ -39,9 +41,9 @@ pub solves_all : (arguments : List ℕ) (cells : List Cell) (types : ℕ → Typ
     → ((i : ℕ) → Agrees types i (entry_of arguments (known_at cells i))) → Solves (entries_of arguments cells) types
 solves_all arguments cells types agree =
     solves_from_all 0 (entries_of arguments cells) types (λ i.
-        let zero_i : i ≡ 0 + i = omega arith in
-        subst (λ (p : ℕ). Agrees types p (get_or (entries_of arguments cells) i Unknown)) zero_i
-        (subst (Agrees types i) (sym (entry_at arguments cells i)) (agree i)))
+    let zero_i : i ≡ 0 + i = omega arith in
+    subst (λ (p : ℕ). Agrees types p (get_or (entries_of arguments cells) i Unknown)) zero_i
+    (subst (Agrees types i) (sym (entry_at arguments cells i)) (agree i)))
 
 -- one more entry at the end
 pub solves_from-append : (place : ℕ) (entries : List Entry) (entry : Entry) (types : ℕ → TypeExpr)

@@ -1,10 +1,10 @@
 -- Pairs made equal one after another.
-use Rattle.std.proofs.Common.{◌≡◌, ℕ, suc, ◌+◌, ◌<◌, List, [], ◌∷◌, ◌++◌, length, Bool, true, false, sym, ap, subst, ◌∙◌, arith, length-append}
+use Rattle.std.proofs.Common.{◌≡◌, ℕ, ◌<◌, List, [], ◌∷◌, ◌++◌, length, Bool, true, false, sym, ap, subst, ◌∙◌, arith, length-append}
 use Rattle.std.specs.Prelude.{◌↔◌}
 use Rattle.merc_tree.specs.Types.{TypeExpr}
 use Rattle.merc_type_graph.specs.Solutions.{Solves}
 use Rattle.merc_type_graph.specs.Cells.{entries_of, IsSound}
-use Rattle.merc_type_graph.specs.Joining.{AllSame, AllBelow, work, Meets, MeetsOrDiffers}
+use Rattle.merc_type_graph.specs.Joining.{AllSame, AllBelow, work, MeetsOrDiffers}
 use Rattle.merc_type_graph.specs.declared.cell.Cell.{Cell}
 use Rattle.merc_type_graph.proofs.Meeting.{all_same-append, append-all_same, all_below-append}
 
@@ -33,18 +33,20 @@ pub equating_on : (arguments : List ℕ) (start cells new : List Cell) (pairs re
     → IsEquating arguments start cells pairs one other → pairs ≡ rest ++ pair ∷ [] → met ≡ true → MeetsOrDiffers met arguments cells new rest pairs' pair.0 pair.1
     → IsEquating arguments start new pairs' one other × (work arguments new pairs' < work arguments cells pairs)
 equating_on arguments start cells new pairs rest pairs' pair one other false equating popped e meets = absurd (cc)
-equating_on arguments start cells new pairs rest pairs' pair one other true equating popped e meets =
-    (record {
-        sound = meets.sound;
-        count = meets.count ∙ equating.count;
-        below = meets.below;
-        equal = λ types. (
-            (λ h.
-                let before = (meets.equal types).0 h in
-                (equating.equal types).0 (before.0, subst (AllSame types) (sym popped) (append-all_same types rest (pair ∷ []) before.1 (before.2, tt)))),
-            (λ h.
-                let now = (equating.equal types).1 h in
-                let all = all_same-append types rest (pair ∷ []) (subst (AllSame types) popped now.1) in
-                (meets.equal types).1 (now.0, all.0, all.1.0)));
-      },
-      (let less = meets.less in let longer = ap length popped in omega (arith, length-append rest (pair ∷ []))))
+equating_on arguments start cells new pairs rest pairs' pair one other true equating popped e meets = (
+  record {
+    sound = meets.sound;
+    count = meets.count ∙ equating.count;
+    below = meets.below;
+    equal = λ types. (
+      (λ h.
+          let before = (meets.equal types).0 h in
+          (equating.equal types).0 (before.0, subst (AllSame types) (sym popped) (append-all_same types rest (pair ∷ []) before.1 (before.2, tt)))),
+      (λ h.
+          let now = (equating.equal types).1 h in
+          let all = all_same-append types rest (pair ∷ []) (subst (AllSame types) popped now.1) in
+          (meets.equal types).1 (now.0, all.0, all.1.0)),
+    );
+  },
+  (let less = meets.less in let longer = ap length popped in omega (arith, length-append rest (pair ∷ []))),
+)

@@ -1,11 +1,11 @@
 -- What is known of a type of which two entries are known.
-use Rattle.std.proofs.Common.{◌≡◌, ℕ, zero, suc, ◌+◌, ◌<◌, ◌≤◌, Bool, true, false, List, [], ◌∷◌, ◌++◌, map, length, take, drop, refl, sym, ap, subst, ◌∙◌, arith, length-take, length-drop, min, None, Some, Option, inl, inr, ◌⊎◌}
-use Rattle.std.specs.Prelude.{◌==◌, ◌&&◌, ◌↔◌, if◌then◌else◌}
+use Rattle.std.proofs.Common.{◌≡◌, ℕ, suc, ◌+◌, ◌≤◌, Bool, true, false, List, [], ◌∷◌, map, length, take, drop, refl, sym, ap, subst, ◌∙◌, arith, length-take, length-drop, None, Some, inl, inr, ◌⊎◌}
+use Rattle.std.specs.Prelude.{◌==◌, ◌&&◌, if◌then◌else◌}
 use Rattle.std.proofs.lemmas.Bool.Decides.{nat_tests}
-use Rattle.merc_tree.specs.Types.{TypeExpr, TypeExprs, IntType, TextType, TypeVariable, TypeApplication, types_of, no_types, more_types}
+use Rattle.merc_tree.specs.Types.{TypeExpr, TypeExprs, IntType, TextType, TypeVariable, TypeApplication, types_of, more_types}
 use Rattle.merc_type_graph.specs.Solutions.{Entry, Unknown, Own, IntEntry, TextEntry, Applied, Link, Agrees}
 use Rattle.merc_type_graph.specs.Cells.{entry_of, root_mark, IsStored}
-use Rattle.merc_type_graph.specs.Joining.{joined, arguments_of, zipped, AllSame, AllBelow}
+use Rattle.merc_type_graph.specs.Joining.{joined, arguments_of, zipped, AllSame}
 use Rattle.merc_type_graph.specs.declared.cell.Known.{Known}
 use Rattle.merc_type_graph.specs.declared.cell.Known.TheVariants.{Nothing, Variable, Int, Text, Named, SameAs}
 
@@ -111,8 +111,10 @@ by_other types arguments other both e = record {
 by_one : (types : ℕ → TypeExpr) (arguments : List ℕ) (one both : Known) → one ≡ both → FitsBoth types arguments one Nothing both
 by_one types arguments one both e = record {
   apart = λ type fit same. (subst (λ (k : Known). Fits types type (entry_of arguments k)) (sym e) fit, tt);
-  together = λ type fit fit'. (subst (λ (k : Known). Fits types type (entry_of arguments k)) e fit,
-      subst (AllSame types) (sym (zipped_nil (arguments_of arguments one))) tt);
+  together = λ type fit fit'. (
+    subst (λ (k : Known). Fits types type (entry_of arguments k)) e fit,
+    subst (AllSame types) (sym (zipped_nil (arguments_of arguments one))) tt,
+  );
 }
 
 by_variable : (types : ℕ → TypeExpr) (arguments : List ℕ) (m n : ℕ) (both : Known) → (m == n) ≡ true → Variable m ≡ both
@@ -220,13 +222,13 @@ fits_none types arguments (Named f s c) Nothing root root' within within' e type
 fits_none types arguments (Named f s c) (Variable n) root root' within within' e type fit fit' = absurd (cc)
 fits_none types arguments (Named f s c) Int root root' within within' e type fit fit' = absurd (cc)
 fits_none types arguments (Named f s c) Text root root' within within' e type fit fit' = absurd (cc)
-fits_none types arguments (Named f s c) (Named g t d) root root' within within' e type fit fit' = 
+fits_none types arguments (Named f s c) (Named g t d) root root' within within' e type fit fit' =
     elim (and_false (f == g) (c == d) (not_chosen ((f == g) && (c == d)) (Named f s c) e)) [
       | inl names ↦ differ_by f g names (applications_same_name type f g (types_of (map types (take c (drop s arguments)))) (types_of (map types (take d (drop t arguments)))) fit fit')
       | inr counts ↦ differ_by c d counts
           (sym (length_part arguments s c within)
           ∙ types_length types (take c (drop s arguments)) (take d (drop t arguments))
-            (applications_same_arguments type f g (types_of (map types (take c (drop s arguments)))) (types_of (map types (take d (drop t arguments)))) fit fit')
+          (applications_same_arguments type f g (types_of (map types (take c (drop s arguments)))) (types_of (map types (take d (drop t arguments)))) fit fit')
           ∙ length_part arguments t d within')
     ]
 fits_none types arguments (Named f s c) (SameAs q) root root' within within' e type fit fit' = absurd (omega arith)

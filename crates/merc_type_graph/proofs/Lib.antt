@@ -5,5 +5,6 @@ pub mod Entries
 pub mod Equating
 pub mod Joins
 pub mod Meeting
+pub mod SolutionsExamples
 pub mod Visits
 pub mod Weights

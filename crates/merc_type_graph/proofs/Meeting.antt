@@ -1,16 +1,16 @@
 -- Two places made one.
-use Rattle.std.proofs.Common.{◌≡◌, ◌≢◌, ℕ, zero, suc, ◌+◌, ◌*◌, ◌<◌, ◌≤◌, ◌⊎◌, inl, inr, Bool, true, false, List, [], ◌∷◌, ◌++◌, length, take, drop, refl, sym, ap, subst, ◌∙◌, arith, Some, None, length-append, length-take, length-drop, append_assoc}
-use Rattle.std.specs.Prelude.{slice_get, ◌↔◌, ◌==◌, ◌&&◌}
+use Rattle.std.proofs.Common.{◌≡◌, ◌≢◌, ℕ, zero, suc, ◌+◌, ◌*◌, ◌<◌, ◌≤◌, ◌⊎◌, inl, inr, List, [], ◌∷◌, ◌++◌, length, drop, refl, sym, ap, subst, ◌∙◌, arith, Some, None, length-append, length-take, length-drop, append_assoc}
+use Rattle.std.specs.Prelude.{slice_get, ◌==◌, ◌&&◌}
 use Rattle.std.proofs.lemmas.List.{append-nil}
 use Rattle.merc_tree.specs.Types.{TypeExpr}
-use Rattle.merc_type_graph.specs.Solutions.{Entry, Solves}
-use Rattle.merc_type_graph.specs.Cells.{entry_of, entries_of, needs_of, known_at, rank_at, root_mark, roots, IsStored, IsSound, LeadsTo}
-use Rattle.merc_type_graph.specs.Joining.{joined, arguments_of, zipped, AllSame, AllBelow, attached, work, Meets}
+use Rattle.merc_type_graph.specs.Solutions.{Solves}
+use Rattle.merc_type_graph.specs.Cells.{entry_of, entries_of, needs_of, known_at, root_mark, roots, IsStored, IsSound, LeadsTo}
+use Rattle.merc_type_graph.specs.Joining.{joined, arguments_of, zipped, AllSame, AllBelow, attached, Meets}
 use Rattle.merc_type_graph.specs.declared.cell.Known.{Known}
 use Rattle.merc_type_graph.specs.declared.cell.Known.TheVariants.{Nothing, Variable, Int, Text, Named, SameAs}
 use Rattle.merc_type_graph.specs.declared.cell.Cell.{Cell}
 use Rattle.merc_type_graph.proofs.Entries.{solves_at}
-use Rattle.merc_type_graph.proofs.Joins.{Fits, fits, fits_at, fits_both, fits_none, chosen, zipped_nil}
+use Rattle.merc_type_graph.proofs.Joins.{fits, fits_at, fits_both, fits_none, chosen, zipped_nil}
 use Rattle.merc_type_graph.proofs.Attaching.{MayAttach, Splits, sound-attached, length-attached, roots-attached, attached_before, attached_after}
 
 -- pairs put on the list one by one
@@ -129,7 +129,7 @@ meet_none arguments cells one other root root' known known' m none types solves 
     fits_none types arguments (known_at cells root) (known_at cells root') m.leads.is_root m.leads'.is_root (m.sound.stored root) (m.sound.stored root') none_at (types root)
     (fits types root (entry_of arguments (known_at cells root)) (solves_at arguments cells types solves root))
     (fits_at types (entry_of arguments (known_at cells root')) (types root') (types root) roots_same
-      (fits types root' (entry_of arguments (known_at cells root')) (solves_at arguments cells types solves root')))
+    (fits types root' (entry_of arguments (known_at cells root')) (solves_at arguments cells types solves root')))
 
 may_by : (arguments : List ℕ) (cells : List Cell) (at : ℕ) (both : Known) → IsSound arguments cells
     → (child parent : ℕ) → child < length cells → parent < length cells → child ≢ parent → root_mark (known_at cells child) ≡ 1 → root_mark (known_at cells parent) ≡ 1
@@ -173,13 +173,14 @@ meets_by arguments cells one other child parent both pairs added may splits belo
       count = count;
       below = subst (λ (n : ℕ). AllBelow n (pairs ++ added)) (sym count) (append-all_below (length cells) pairs added below below');
       equal = λ types. (
-          (λ h.
-              let same = all_same-append types pairs added h.1 in
-              let before = attached_before arguments cells child parent both added may types (splits types) h.0 same.1 in
-              (before.0, same.0, to types before.0 before.1)),
-          (λ h.
-              let after = attached_after arguments cells child parent both added may types (splits types) h.0 (from types h.0 h.2) in
-              (after.0, append-all_same types pairs added h.1 after.1)));
+        (λ h.
+            let same = all_same-append types pairs added h.1 in
+            let before = attached_before arguments cells child parent both added may types (splits types) h.0 same.1 in
+            (before.0, same.0, to types before.0 before.1)),
+        (λ h.
+            let after = attached_after arguments cells child parent both added may types (splits types) h.0 (from types h.0 h.2) in
+            (after.0, append-all_same types pairs added h.1 after.1)),
+      );
       less = omega (arith, length-append pairs added);
     }
 
@@ -205,14 +206,14 @@ some_at arguments cells one other root root' known known' both m some =
 pub meets_first : (arguments : List ℕ) (cells : List Cell) (one other root root' : ℕ) (known known' both : Known) (pairs : List (ℕ × ℕ))
     → IsMeeting arguments cells one other root root' known known' → root ≢ root' → joined known known' ≡ Some both → AllBelow (length cells) pairs
     → Meets arguments cells (attached cells root root' both) pairs
-      (pairs ++ zipped (arguments_of arguments (known_at cells root)) (arguments_of arguments (known_at cells root'))) one other
+    (pairs ++ zipped (arguments_of arguments (known_at cells root)) (arguments_of arguments (known_at cells root'))) one other
 meets_first arguments cells one other root root' known known' both pairs m apart some below =
     meets_by arguments cells one other root root' both pairs (zipped (arguments_of arguments (known_at cells root)) (arguments_of arguments (known_at cells root')))
     (may_attach arguments cells one other root root' known known' both m root root' m.leads.here m.leads'.here apart m.leads.is_root m.leads'.is_root some)
     (λ types.
-        let f = fits_both types arguments (known_at cells root) (known_at cells root') both (m.sound.stored root) (m.sound.stored root')
-        (some_at arguments cells one other root root' known known' both m some) in
-        record { apart = f.apart; together = f.together })
+    let f = fits_both types arguments (known_at cells root) (known_at cells root') both (m.sound.stored root) (m.sound.stored root')
+    (some_at arguments cells one other root root' known known' both m some) in
+    record { apart = f.apart; together = f.together })
     below (added_below arguments cells root root' m.sound) (added_few arguments (known_at cells root) (known_at cells root'))
     (λ types solves e. sym (m.leads.same arguments types solves) ∙ e ∙ m.leads'.same arguments types solves)
     (λ types solves e. m.leads.same arguments types solves ∙ e ∙ sym (m.leads'.same arguments types solves))
@@ -220,17 +221,17 @@ meets_first arguments cells one other root root' known known' both pairs m apart
 pub meets_second : (arguments : List ℕ) (cells : List Cell) (one other root root' : ℕ) (known known' both : Known) (pairs : List (ℕ × ℕ))
     → IsMeeting arguments cells one other root root' known known' → root ≢ root' → joined known known' ≡ Some both → AllBelow (length cells) pairs
     → Meets arguments cells (attached cells root' root both) pairs
-      (pairs ++ zipped (arguments_of arguments (known_at cells root)) (arguments_of arguments (known_at cells root'))) one other
+    (pairs ++ zipped (arguments_of arguments (known_at cells root)) (arguments_of arguments (known_at cells root'))) one other
 meets_second arguments cells one other root root' known known' both pairs m apart some below =
     meets_by arguments cells one other root' root both pairs (zipped (arguments_of arguments (known_at cells root)) (arguments_of arguments (known_at cells root')))
     (may_attach arguments cells one other root root' known known' both m root' root m.leads'.here m.leads.here (λ e. apart (sym e)) m.leads'.is_root m.leads.is_root some)
     (λ types.
-        let f = fits_both types arguments (known_at cells root) (known_at cells root') both (m.sound.stored root) (m.sound.stored root')
-        (some_at arguments cells one other root root' known known' both m some) in
-        record {
-          apart = λ type fit same. let both_fit = f.apart type fit same in (both_fit.1, both_fit.0);
-          together = λ type fit fit'. f.together type fit' fit;
-        })
+    let f = fits_both types arguments (known_at cells root) (known_at cells root') both (m.sound.stored root) (m.sound.stored root')
+    (some_at arguments cells one other root root' known known' both m some) in
+    record {
+      apart = λ type fit same. let both_fit = f.apart type fit same in (both_fit.1, both_fit.0);
+      together = λ type fit fit'. f.together type fit' fit;
+    })
     below (added_below arguments cells root root' m.sound) (added_few arguments (known_at cells root) (known_at cells root'))
     (λ types solves e. sym (m.leads.same arguments types solves) ∙ sym e ∙ m.leads'.same arguments types solves)
     (λ types solves e. m.leads'.same arguments types solves ∙ sym e ∙ sym (m.leads.same arguments types solves))

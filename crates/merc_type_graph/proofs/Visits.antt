@@ -1,14 +1,14 @@
 -- Steps of a visit.
-use Rattle.std.proofs.Common.{◌≡◌, ◌≢◌, ℕ, zero, suc, ◌+◌, ◌-◌, ◌*◌, ◌<◌, ◌≤◌, ◌⊎◌, inl, inr, Bool, true, false, List, [], ◌∷◌, ◌++◌, map, length, get_or, set, reverse, refl, sym, ap, subst, ◌∙◌, arith, Some, None, length-set, length-append, length-take, length-drop, get_or-set_same, get_or-set_other, take, drop}
+use Rattle.std.proofs.Common.{◌≡◌, ◌≢◌, ℕ, zero, suc, ◌+◌, ◌*◌, ◌<◌, ◌≤◌, ◌⊎◌, inl, inr, Bool, true, false, List, [], ◌∷◌, map, length, set, refl, sym, ap, subst, ◌∙◌, arith, Some, None, length-set, length-take, length-drop, get_or-set_same, get_or-set_other, take, drop}
 use Rattle.std.specs.Prelude.{slice_get, ◌==◌, if◌then◌else◌}
 use Rattle.std.proofs.lemmas.Bool.{cases_lt}
 use Rattle.std.proofs.lemmas.Bool.Decides.{nat_tests}
 use Rattle.std.proofs.lemmas.Option.{slice_get_within}
 use Rattle.std.proofs.Math.Nat.{mul-le-mul_right}
-use Rattle.merc_tree.specs.Types.{TypeExpr, TypeExprs, IntType, TextType, TypeVariable, TypeApplication, types_of, no_types, more_types}
+use Rattle.merc_tree.specs.Types.{TypeExpr, IntType, TextType, TypeVariable, TypeApplication, types_of}
 use Rattle.merc_type_graph.specs.Solutions.{Entry, Unknown, Own, IntEntry, TextEntry, Applied, Link, Agrees, Solves}
-use Rattle.merc_type_graph.specs.Cells.{entry_of, entries_of, needs_of, known_at, rank_at, IsStored, IsForest, IsSound}
-use Rattle.merc_type_graph.specs.Visiting.{needs_at, mark_at, weight, IsOn, Falls, Passed, IsSettled, IsVisiting, new_mark, news, left_over, visit_left, Advance}
+use Rattle.merc_type_graph.specs.Cells.{entry_of, entries_of, needs_of, known_at, IsSound}
+use Rattle.merc_type_graph.specs.Visiting.{needs_at, mark_at, weight, Passed, IsSettled, IsVisiting, new_mark, news, Advance}
 use Rattle.merc_type_graph.specs.declared.visiting.Mark.{Mark}
 use Rattle.merc_type_graph.specs.declared.visiting.Mark.TheVariants.{New, Open, Done}
 use Rattle.merc_type_graph.specs.declared.cell.Known.{Known}
@@ -140,33 +140,33 @@ settled_done arguments cells marks place settled here done =
     ] in
     let closed' : (i number found : ℕ) → mark_at (set marks place Done) i ≡ Done → slice_get (needs_at arguments cells i) number ≡ Some found → mark_at (set marks place Done) found ≡ Done =
     λ (i number found : ℕ) (e : mark_at (set marks place Done) i ≡ Done) (need : slice_get (needs_at arguments cells i) number ≡ Some found).
-        elim (same_or_not i place) [
-          | inl same ↦ kept found (done number found (subst (λ (k : ℕ). slice_get (needs_at arguments cells k) number ≡ Some found) same need))
-          | inr ne ↦ kept found (settled.closed i number found (sym (mark_there marks place Done i ne) ∙ e) need)
-        ] in
+    elim (same_or_not i place) [
+      | inl same ↦ kept found (done number found (subst (λ (k : ℕ). slice_get (needs_at arguments cells k) number ≡ Some found) same need))
+      | inr ne ↦ kept found (settled.closed i number found (sym (mark_there marks place Done i ne) ∙ e) need)
+    ] in
     elim (done_or_not (mark_at marks place)) [
       | inl already ↦ record {
-          count = counted;
-          types = settled.types;
-          agree = λ i e. elim (same_or_not i place) [
-            | inl same ↦ settled.agree i (ap (mark_at marks) same ∙ already)
-            | inr ne ↦ settled.agree i (sym (mark_there marks place Done i ne) ∙ e)
-          ];
-          closed = closed';
-        }
+        count = counted;
+        types = settled.types;
+        agree = λ i e. elim (same_or_not i place) [
+          | inl same ↦ settled.agree i (ap (mark_at marks) same ∙ already)
+          | inr ne ↦ settled.agree i (sym (mark_there marks place Done i ne) ∙ e)
+        ];
+        closed = closed';
+      }
       | inr fresh ↦
           let entry : Entry = entry_of arguments (known_at cells place) in
           let types' : ℕ → TypeExpr = updated settled.types place (type_for settled.types entry) in
           let alike : (found : ℕ) → mark_at marks found ≡ Done → types' found ≡ settled.types found =
           λ (found : ℕ) (e : mark_at marks found ≡ Done).
-              updated_there settled.types place (type_for settled.types entry) found (λ same. fresh (sym (ap (mark_at marks) same) ∙ e)) in
+          updated_there settled.types place (type_for settled.types entry) found (λ same. fresh (sym (ap (mark_at marks) same) ∙ e)) in
           record {
             count = counted;
             types = types';
             agree = λ i e. elim (same_or_not i place) [
               | inl same ↦ subst (λ (k : ℕ). Agrees types' k (entry_of arguments (known_at cells k))) (sym same)
                   (agrees_new settled.types types' place entry (updated_here settled.types place (type_for settled.types entry))
-                    (λ number found need. alike found (done number found need)))
+                  (λ number found need. alike found (done number found need)))
               | inr ne ↦
                   let old : mark_at marks i ≡ Done = sym (mark_there marks place Done i ne) ∙ e in
                   agrees_alike settled.types types' i (entry_of arguments (known_at cells i)) (alike i old)
@@ -185,8 +185,8 @@ advance_done arguments cells marks place next frames visiting none =
     let past = none_past (needs_at arguments cells place) next none in
     let done : (number found : ℕ) → slice_get (needs_at arguments cells place) number ≡ Some found → mark_at marks found ≡ Done =
     λ (number found : ℕ) (need : slice_get (needs_at arguments cells place) number ≡ Some found).
-        let within = slice_get_within (needs_at arguments cells place) number found need in
-        visiting.passed.1 number found (omega arith) need in
+    let within = slice_get_within (needs_at arguments cells place) number found need in
+    visiting.passed.1 number found (omega arith) need in
     let kept : (i : ℕ) → mark_at marks i ≡ Done → mark_at (set marks place Done) i ≡ Done =
     λ (i : ℕ) (e : mark_at marks i ≡ Done). elim (same_or_not i place) [
       | inl same ↦ mark_here marks place Done i inside same
@@ -201,9 +201,9 @@ advance_done arguments cells marks place next frames visiting none =
         open_on = λ i e. elim (same_or_not i place) [
           | inl same ↦ let d : mark_at (set marks place Done) i ≡ Done = mark_here marks place Done i inside same in absurd (cc)
           | inr ne ↦ elim (visiting.open_on i (sym (mark_there marks place Done i ne) ∙ e)) [
-              | inl top ↦ absurd (ne (sym top))
-              | inr below ↦ below
-            ]
+            | inl top ↦ absurd (ne (sym top))
+            | inr below ↦ below
+          ]
         ];
         passed = passed_more arguments cells marks (set marks place Done) frames kept visiting.passed.2;
         falls = λ types solves. (visiting.falls types solves).1;
@@ -235,14 +235,16 @@ advance_past arguments cells marks place next need frames visiting some done =
       visiting = record {
         settled = visiting.settled;
         open_on = λ i e. visiting.open_on i e;
-        passed = (visiting.passed.0,
-            (λ number found less found_is. elim (cases_lt number next) [
-                | inl before ↦ visiting.passed.1 number found before found_is
-                | inr here ↦
-                    let same : need ≡ found = same_found (needs_at arguments cells place) next number need found (omega arith) some found_is in
-                    sym (ap (mark_at marks) same) ∙ done
-              ]),
-            visiting.passed.2);
+        passed = (
+          visiting.passed.0,
+          (λ number found less found_is. elim (cases_lt number next) [
+            | inl before ↦ visiting.passed.1 number found before found_is
+            | inr here ↦
+                let same : need ≡ found = same_found (needs_at arguments cells place) next number need found (omega arith) some found_is in
+                sym (ap (mark_at marks) same) ∙ done
+          ]),
+          visiting.passed.2,
+        );
         falls = λ types solves. visiting.falls types solves;
       };
       kept = λ i e. e;
@@ -291,15 +293,20 @@ advance_new arguments cells marks place next need frames sound visiting some fre
           | inl same ↦ inl (sym same)
           | inr ne ↦ inr (visiting.open_on i (sym (mark_there marks need Open i ne) ∙ e))
         ];
-        passed = (here, (λ number found less found_is. absurd (omega arith)),
-            passed_more arguments cells marks (set marks need Open) ((place, next) ∷ frames) (done_kept marks need inside fresh) visiting.passed);
+        passed = (
+          here,
+          (λ number found less found_is. absurd (omega arith)),
+          passed_more arguments cells marks (set marks need Open) ((place, next) ∷ frames) (done_kept marks need inside fresh) visiting.passed,
+        );
         falls = λ types solves.
             let less = lighter arguments cells types place need next sound solves some in
-            let old = visiting.falls types solves in
-            ((λ i on. elim on [
+            let old = visiting.falls types solves in (
+              (λ i on. elim on [
                 | inl top ↦ let same : weight cells types place ≡ weight cells types i = ap (weight cells types) top in omega arith
                 | inr below ↦ let more = old.0 i below in omega arith
-              ]), old);
+              ]),
+              old,
+            );
       };
       kept = done_kept marks need inside fresh;
       begun = λ i not_new e. elim (same_or_not i need) [

@@ -1,9 +1,9 @@
 -- What falls along the needs of places.
-use Rattle.std.proofs.Common.{◌≡◌, ℕ, zero, suc, ◌+◌, ◌-◌, ◌*◌, ◌<◌, ◌≤◌, ◌⊎◌, inl, inr, List, [], ◌∷◌, map, length, get_or, refl, sym, ap, subst, ◌∙◌, arith, Some, None}
+use Rattle.std.proofs.Common.{◌≡◌, ℕ, zero, suc, ◌+◌, ◌-◌, ◌*◌, ◌<◌, ◌≤◌, List, [], ◌∷◌, map, length, refl, ap, subst, ◌∙◌, arith, Some}
 use Rattle.std.specs.Prelude.{slice_get}
 use Rattle.std.proofs.Math.Nat.{mul-le-mul_right}
-use Rattle.merc_tree.specs.Types.{TypeExpr, TypeExprs, IntType, TextType, TypeVariable, TypeApplication, types_of, no_types, more_types}
-use Rattle.merc_type_graph.specs.Solutions.{Entry, Unknown, Own, IntEntry, TextEntry, Applied, Link, Agrees, Solves}
+use Rattle.merc_tree.specs.Types.{TypeExpr, types_of}
+use Rattle.merc_type_graph.specs.Solutions.{Agrees, Solves}
 use Rattle.merc_type_graph.specs.Cells.{entry_of, entries_of, needs_of, known_at, rank_at, IsForest, IsSound}
 use Rattle.merc_type_graph.specs.Visiting.{size, sizes, needs_at, weight}
 use Rattle.merc_type_graph.specs.declared.cell.Known.{Known}

@@ -1,5 +1,5 @@
 -- What a graph keeps for each place, as entries.
-use Rattle.std.specs.Prelude.{◌≡◌, ℕ, zero, suc, ◌+◌, ◌<◌, ◌≤◌, List, [], ◌∷◌, map, length, take, drop, slice_index_or, slice_get, Option, Some, None}
+use Rattle.std.specs.Prelude.{◌≡◌, ℕ, ◌+◌, ◌<◌, ◌≤◌, List, [], ◌∷◌, map, length, take, drop, slice_index_or, slice_get, Some}
 use Rattle.merc_tree.specs.Types.{TypeExpr}
 use Rattle.merc_type_graph.specs.Solutions.{Entry, Unknown, Own, IntEntry, TextEntry, Applied, Link, Solves}
 use Rattle.merc_type_graph.specs.declared.cell.Known.{Known}

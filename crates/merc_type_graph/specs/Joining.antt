@@ -1,8 +1,8 @@
 -- Two places made one.
-use Rattle.std.specs.Prelude.{◌≡◌, ℕ, zero, suc, ◌+◌, ◌*◌, ◌<◌, ◌≤◌, max, Bool, true, false, ◌&&◌, ◌==◌, ◌↔◌, List, [], ◌∷◌, ◌++◌, length, take, drop, slice_index_or, slice_set, Option, Some, None, if◌then◌else◌}
+use Rattle.std.specs.Prelude.{◌≡◌, ℕ, suc, ◌+◌, ◌*◌, ◌<◌, max, Bool, true, false, ◌&&◌, ◌==◌, ◌↔◌, List, [], ◌∷◌, length, take, drop, slice_set, Option, Some, None, if◌then◌else◌}
 use Rattle.merc_tree.specs.Types.{TypeExpr}
 use Rattle.merc_type_graph.specs.Solutions.{Solves}
-use Rattle.merc_type_graph.specs.Cells.{entries_of, known_at, rank_at, roots, IsSound}
+use Rattle.merc_type_graph.specs.Cells.{entries_of, rank_at, roots, IsSound}
 use Rattle.merc_type_graph.specs.declared.cell.Known.{Known}
 use Rattle.merc_type_graph.specs.declared.cell.Known.TheVariants.{Nothing, Variable, Int, Text, Named, SameAs}
 use Rattle.merc_type_graph.specs.declared.cell.Cell.{Cell}

@@ -1,7 +1,7 @@
 -- Places visited after the places that they need.
-use Rattle.std.specs.Prelude.{◌≡◌, ◌≢◌, ℕ, zero, suc, ◌+◌, ◌-◌, ◌*◌, ◌<◌, ◌≤◌, Bool, true, false, ◌⊎◌, List, [], ◌∷◌, length, slice_index_or, slice_get, Option, Some, None}
+use Rattle.std.specs.Prelude.{◌≡◌, ◌≢◌, ℕ, suc, ◌+◌, ◌-◌, ◌*◌, ◌<◌, Bool, true, false, ◌⊎◌, List, [], ◌∷◌, length, slice_index_or, slice_get, Some}
 use Rattle.merc_tree.specs.Types.{TypeExpr, TypeExprs, TypeVariable, IntType, TextType, TypeApplication, no_types, more_types}
-use Rattle.merc_type_graph.specs.Solutions.{Entry, Agrees, Solves}
+use Rattle.merc_type_graph.specs.Solutions.{Agrees, Solves}
 use Rattle.merc_type_graph.specs.Cells.{entry_of, entries_of, needs_of, known_at, rank_at}
 use Rattle.merc_type_graph.specs.declared.visiting.Mark.{Mark}
 use Rattle.merc_type_graph.specs.declared.visiting.Mark.TheVariants.{New, Open, Done}

@@ -1,6 +1,6 @@
-use Rattle.std.proofs.Common.{◌≡◌, ◌∙◌, ◌<◌, sym, subst, ℕ, length, arith}
+use Rattle.std.proofs.Common.{◌≡◌, ◌∙◌, ◌<◌, sym, subst, length, arith}
 use Rattle.merc_type_graph.specs.Solutions.{Agrees}
-use Rattle.merc_type_graph.specs.Cells.{entry_of, known_at, rank_at, roots}
+use Rattle.merc_type_graph.specs.Cells.{entry_of, known_at}
 use Rattle.merc_type_graph.specs.declared.cell.Known.{Known}
 use Rattle.merc_type_graph.specs.declared.cell.Known.TheVariants.{SameAs}
 use Rattle.merc_type_graph.proofs.Entries.{solves_at, known_any}

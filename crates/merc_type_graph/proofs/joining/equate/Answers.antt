@@ -1,5 +1,5 @@
 use Rattle.std.proofs.Common.{length}
-use Rattle.merc_type_graph.proofs.Equating.{IsEquating, last_below, equating_differs, equating_on}
+use Rattle.merc_type_graph.proofs.Equating.{last_below, equating_differs, equating_on}
 use Rattle.merc_type_graph.proofs.joining.equate.Goals as goal
 
 pub meet-requires-clause-one : goal.meet-requires-clause-one

@@ -10,5 +10,5 @@ returns-clause-solutions c =
     let view : entries_of c.self.inside.arguments.items c.self.inside.cells.items ≡ c.args.self.now = cc in
     on_ok_weaker c.add_application.result
     (λ h. adds_applied c.args.self.now (entries_of c.add_application.new.arguments.items c.add_application.new.cells.items)
-        (entries_of c.self.inside.arguments.items c.self.inside.cells.items) (Applied c.args.name c.args.arguments.now) view h)
+    (entries_of c.self.inside.arguments.items c.self.inside.cells.items) (Applied c.args.name c.args.arguments.now) view h)
     c.add_application.ensures.added
