@@ -36,13 +36,7 @@ pub(crate) fn need_at(known: Known, arguments: &[Place], number: usize) -> Optio
     ensures { result ≡ slice_get (needs_of (entry_of arguments.now known)) number }
 {
     match known {
-        Known::SameAs(place) => {
-            if number == 0 {
-                Some(place)
-            } else {
-                None
-            }
-        }
+        Known::SameAs(place) => { if number == 0 { Some(place) } else { None } }
         Known::Named { first, count, .. } => {
             if number < count {
                 Some(arguments[first + number].index())

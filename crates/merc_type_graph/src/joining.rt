@@ -77,13 +77,7 @@ fn joined(one: Known, other: Known) -> Option<Known>
         Known::Nothing => Some(other),
         Known::Variable(name) => match other {
             Known::Nothing => Some(one),
-            Known::Variable(other_name) => {
-                if name == other_name {
-                    Some(one)
-                } else {
-                    None
-                }
-            }
+            Known::Variable(other_name) => { if name == other_name { Some(one) } else { None } }
             _ => None,
         },
         Known::Int => match other {

@@ -5,6 +5,8 @@ mod cell;
 pub mod graph;
 mod joining;
 pub mod place;
+#[cfg(test)]
+mod tests;
 mod visiting;
 
 pub use graph::TypeGraph;
