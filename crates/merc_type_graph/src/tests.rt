@@ -68,3 +68,18 @@ fn the_number_of_arguments_counts(rt: HostRuntime) -> Result<(), Fail> {
     assert!(rt; !graph.make_equal(one, none)?);
     Ok(())
 }
+
+// Written out, the last type of these has 2^1000 parts.
+#[test]
+fn a_long_chain_is_solved_at_once(rt: HostRuntime) -> Result<(), Fail> {
+    let mut graph = TypeGraph::new(rt.alloc());
+    let mut last = graph.add_unknown()?;
+    let mut other = graph.add_unknown()?;
+    for _ in 0..1000u32 {
+        last = graph.add_applied(Name::CONS, &[last, last])?;
+        other = graph.add_applied(Name::CONS, &[other, other])?;
+    }
+    assert!(rt; graph.make_equal(last, other)?);
+    assert!(rt; graph.is_solvable(rt.alloc())?);
+    Ok(())
+}
