@@ -1,0 +1,237 @@
+-- Two places made one.
+use Rattle.std.proofs.Common.{◌≡◌, ◌≢◌, ℕ, zero, suc, ◌+◌, ◌*◌, ◌<◌, ◌≤◌, ◌⊎◌, inl, inr, List, [], ◌∷◌, ◌++◌, length, drop, refl, sym, ap, subst, ◌∙◌, arith, Some, None, length-append, length-take, length-drop, append_assoc}
+use Rattle.std.specs.Prelude.{slice_get, ◌==◌, ◌&&◌}
+use Rattle.std.proofs.lemmas.List.{append-nil}
+use Rattle.merc_tree.specs.Types.{TypeExpr}
+use Rattle.merc_type_graph.specs.Solutions.{Solves}
+use Rattle.merc_type_graph.specs.Cells.{entry_of, entries_of, needs_of, known_at, root_mark, roots, IsStored, IsSound, LeadsTo}
+use Rattle.merc_type_graph.specs.Joining.{joined, arguments_of, zipped, AllSame, AllBelow, attached, Meets}
+use Rattle.merc_type_graph.specs.declared.cell.Known.{Known}
+use Rattle.merc_type_graph.specs.declared.cell.Known.TheVariants.{Nothing, Variable, Int, Text, Named, SameAs}
+use Rattle.merc_type_graph.specs.declared.cell.Cell.{Cell}
+use Rattle.merc_type_graph.proofs.Entries.{solves_at}
+use Rattle.merc_type_graph.proofs.Joins.{fits, fits_at, fits_both, fits_none, chosen, zipped_nil}
+use Rattle.merc_type_graph.proofs.Attaching.{MayAttach, Splits, sound-attached, length-attached, roots-attached, attached_before, attached_after}
+
+-- pairs put on the list one by one
+pub pairs_step : (pairs pairs' goal : List (ℕ × ℕ)) (ones ones' others others' : List ℕ) (one other : ℕ) → ones ≡ one ∷ ones' → others ≡ other ∷ others'
+    → pairs' ≡ pairs ++ (one, other) ∷ [] → pairs ++ zipped ones others ≡ goal → pairs' ++ zipped ones' others' ≡ goal
+pairs_step pairs pairs' goal ones ones' others others' one other e e' pushed whole =
+    ap (λ (l : List (ℕ × ℕ)). l ++ zipped ones' others') pushed ∙ append_assoc pairs ((one, other) ∷ []) (zipped ones' others')
+    ∙ sym (ap (λ (l : List ℕ). pairs ++ zipped l others) e ∙ ap (λ (l : List ℕ). pairs ++ zipped (one ∷ ones') l) e') ∙ whole
+
+empty : (xs : List ℕ) → length xs ≡ 0 → xs ≡ []
+empty [] e = refl
+empty (x ∷ xs) e = absurd (omega arith)
+
+pub pairs_end_first : (pairs goal : List (ℕ × ℕ)) (ones others : List ℕ) → length ones ≡ 0 → pairs ++ zipped ones others ≡ goal → pairs ≡ goal
+pairs_end_first pairs goal ones others past whole =
+    sym (append-nil pairs) ∙ sym (ap (λ (l : List ℕ). pairs ++ zipped l others) (empty ones past)) ∙ whole
+
+pub pairs_end_second : (pairs goal : List (ℕ × ℕ)) (ones others : List ℕ) → length others ≡ 0 → pairs ++ zipped ones others ≡ goal → pairs ≡ goal
+pairs_end_second pairs goal ones others past whole =
+    sym (append-nil pairs) ∙ sym (ap (λ (l : List (ℕ × ℕ)). pairs ++ l) (ap (zipped ones) (empty others past) ∙ zipped_nil ones)) ∙ whole
+
+-- facts of all pairs
+pub all_same-append : (types : ℕ → TypeExpr) (ps qs : List (ℕ × ℕ)) → AllSame types (ps ++ qs) → AllSame types ps × AllSame types qs
+all_same-append types [] qs same = (tt, same)
+all_same-append types (p ∷ ps) qs same = let rest = all_same-append types ps qs same.1 in ((same.0, rest.0), rest.1)
+
+pub append-all_same : (types : ℕ → TypeExpr) (ps qs : List (ℕ × ℕ)) → AllSame types ps → AllSame types qs → AllSame types (ps ++ qs)
+append-all_same types [] qs same same' = same'
+append-all_same types (p ∷ ps) qs same same' = (same.0, append-all_same types ps qs same.1 same')
+
+pub all_below-append : (bound : ℕ) (ps qs : List (ℕ × ℕ)) → AllBelow bound (ps ++ qs) → AllBelow bound ps × AllBelow bound qs
+all_below-append bound [] qs below = (tt, below)
+all_below-append bound (p ∷ ps) qs below = let rest = all_below-append bound ps qs below.2 in ((below.0, below.1, rest.0), rest.1)
+
+pub append-all_below : (bound : ℕ) (ps qs : List (ℕ × ℕ)) → AllBelow bound ps → AllBelow bound qs → AllBelow bound (ps ++ qs)
+append-all_below bound [] qs below below' = below'
+append-all_below bound (p ∷ ps) qs below below' = (below.0, below.1, append-all_below bound ps qs below.2 below')
+
+zipped_below : (bound : ℕ) (ones others : List ℕ) → ((number place : ℕ) → slice_get ones number ≡ Some place → place < bound)
+    → ((number place : ℕ) → slice_get others number ≡ Some place → place < bound) → AllBelow bound (zipped ones others)
+zipped_below bound [] others below below' = tt
+zipped_below bound (one ∷ ones) [] below below' = tt
+zipped_below bound (one ∷ ones) (other ∷ others) below below' =
+    (below zero one refl, below' zero other refl, zipped_below bound ones others (λ n p e. below (suc n) p e) (λ n p e. below' (suc n) p e))
+
+argument_need : (arguments : List ℕ) (known : Known) (number place : ℕ) → slice_get (arguments_of arguments known) number ≡ Some place
+    → slice_get (needs_of (entry_of arguments known)) number ≡ Some place
+argument_need arguments Nothing number place e = e
+argument_need arguments (Variable n) number place e = e
+argument_need arguments Int number place e = e
+argument_need arguments Text number place e = e
+argument_need arguments (Named n first count) number place e = e
+argument_need arguments (SameAs to) number place e = absurd (cc)
+
+count_arguments : (arguments : List ℕ) (known : Known) → length (arguments_of arguments known) ≤ length arguments
+count_arguments arguments Nothing = omega arith
+count_arguments arguments (Variable n) = omega arith
+count_arguments arguments Int = omega arith
+count_arguments arguments Text = omega arith
+count_arguments arguments (Named n first count) = omega (arith, length-take count (drop first arguments), length-drop first arguments)
+count_arguments arguments (SameAs to) = omega arith
+
+count_zipped : (ones others : List ℕ) → length (zipped ones others) ≤ length ones
+count_zipped [] others = omega arith
+count_zipped (one ∷ ones) [] = omega arith
+count_zipped (one ∷ ones) (other ∷ others) = let rest = count_zipped ones others in omega arith
+
+pub one_root : (cells : List Cell) (i : ℕ) → i < length cells → root_mark (known_at cells i) ≡ 1 → 1 ≤ roots cells
+one_root [] i here root = absurd (omega arith)
+one_root (first ∷ rest) zero here root = omega arith
+one_root (first ∷ rest) (suc i) here root = let less = one_root rest i (omega arith) root in omega arith
+
+-- what is known of both is what is known of one of them
+joined_is : (one other both : Known) → joined one other ≡ Some both → (one ≡ both) ⊎ (other ≡ both)
+joined_is Nothing other both e = inr (cc)
+joined_is (Variable m) Nothing both e = inl (cc)
+joined_is (Variable m) (Variable n) both e = inl (chosen (m == n) (Variable m) both e).1
+joined_is (Variable m) Int both e = absurd (cc)
+joined_is (Variable m) Text both e = absurd (cc)
+joined_is (Variable m) (Named g t d) both e = absurd (cc)
+joined_is (Variable m) (SameAs q) both e = absurd (cc)
+joined_is Int Nothing both e = inl (cc)
+joined_is Int (Variable n) both e = absurd (cc)
+joined_is Int Int both e = inl (cc)
+joined_is Int Text both e = absurd (cc)
+joined_is Int (Named g t d) both e = absurd (cc)
+joined_is Int (SameAs q) both e = absurd (cc)
+joined_is Text Nothing both e = inl (cc)
+joined_is Text (Variable n) both e = absurd (cc)
+joined_is Text Int both e = absurd (cc)
+joined_is Text Text both e = inl (cc)
+joined_is Text (Named g t d) both e = absurd (cc)
+joined_is Text (SameAs q) both e = absurd (cc)
+joined_is (Named f s c) Nothing both e = inl (cc)
+joined_is (Named f s c) (Variable n) both e = absurd (cc)
+joined_is (Named f s c) Int both e = absurd (cc)
+joined_is (Named f s c) Text both e = absurd (cc)
+joined_is (Named f s c) (Named g t d) both e = inl (chosen ((f == g) && (c == d)) (Named f s c) both e).1
+joined_is (Named f s c) (SameAs q) both e = absurd (cc)
+joined_is (SameAs p) other both e = absurd (cc)
+
+-- two places, the roots that they lead to, and what is known there
+pub record IsMeeting (arguments : List ℕ) (cells : List Cell) (one other root root' : ℕ) (known known' : Known) : Type 0 where
+  pub sound : IsSound arguments cells
+  pub leads : LeadsTo cells one root
+  pub leads' : LeadsTo cells other root'
+  pub known_is : known ≡ known_at cells root
+  pub known_is' : known' ≡ known_at cells root'
+
+pub meet_none : (arguments : List ℕ) (cells : List Cell) (one other root root' : ℕ) (known known' : Known) → IsMeeting arguments cells one other root root' known known'
+    → joined known known' ≡ None → (types : ℕ → TypeExpr) → Solves (entries_of arguments cells) types → types one ≡ types other → ⊥
+meet_none arguments cells one other root root' known known' m none types solves same =
+    let none_at : joined (known_at cells root) (known_at cells root') ≡ None =
+    ap (λ (k : Known). joined k (known_at cells root')) (sym m.known_is) ∙ ap (joined known) (sym m.known_is') ∙ none in
+    let roots_same : types root' ≡ types root = m.leads'.same arguments types solves ∙ sym same ∙ sym (m.leads.same arguments types solves) in
+    fits_none types arguments (known_at cells root) (known_at cells root') m.leads.is_root m.leads'.is_root (m.sound.stored root) (m.sound.stored root') none_at (types root)
+    (fits types root (entry_of arguments (known_at cells root)) (solves_at arguments cells types solves root))
+    (fits_at types (entry_of arguments (known_at cells root')) (types root') (types root) roots_same
+    (fits types root' (entry_of arguments (known_at cells root')) (solves_at arguments cells types solves root')))
+
+may_by : (arguments : List ℕ) (cells : List Cell) (at : ℕ) (both : Known) → IsSound arguments cells
+    → (child parent : ℕ) → child < length cells → parent < length cells → child ≢ parent → root_mark (known_at cells child) ≡ 1 → root_mark (known_at cells parent) ≡ 1
+    → known_at cells at ≡ both → root_mark (known_at cells at) ≡ 1 → MayAttach arguments cells child parent both
+may_by arguments cells at both sound child parent child_here parent_here apart child_root parent_root e at_root = record {
+  sound = sound;
+  child_here = child_here;
+  parent_here = parent_here;
+  apart = apart;
+  child_root = child_root;
+  parent_root = parent_root;
+  known_root = sym (ap root_mark e) ∙ at_root;
+  known_stored = subst (IsStored (length arguments)) e (sound.stored at);
+  known_within = λ number place need. sound.within at number place (ap (λ (k : Known). slice_get (needs_of (entry_of arguments k)) number) e ∙ need);
+}
+
+-- what is known of both is as good as what was known of one of them
+may_attach : (arguments : List ℕ) (cells : List Cell) (one other root root' : ℕ) (known known' both : Known) → IsMeeting arguments cells one other root root' known known'
+    → (child parent : ℕ) → child < length cells → parent < length cells → child ≢ parent → root_mark (known_at cells child) ≡ 1 → root_mark (known_at cells parent) ≡ 1
+    → joined known known' ≡ Some both → MayAttach arguments cells child parent both
+may_attach arguments cells one other root root' known known' both m child parent child_here parent_here apart child_root parent_root some =
+    elim (joined_is known known' both some) [
+      | inl e ↦ may_by arguments cells root both m.sound child parent child_here parent_here apart child_root parent_root (sym m.known_is ∙ e) m.leads.is_root
+      | inr e ↦ may_by arguments cells root' both m.sound child parent child_here parent_here apart child_root parent_root (sym m.known_is' ∙ e) m.leads'.is_root
+    ]
+
+meets_by : (arguments : List ℕ) (cells : List Cell) (one other child parent : ℕ) (both : Known) (pairs added : List (ℕ × ℕ)) → MayAttach arguments cells child parent both
+    → ((types : ℕ → TypeExpr) → Splits types arguments (known_at cells child) (known_at cells parent) both added)
+    → AllBelow (length cells) pairs → AllBelow (length cells) added → length added ≤ length arguments
+    → ((types : ℕ → TypeExpr) → Solves (entries_of arguments cells) types → types child ≡ types parent → types one ≡ types other)
+    → ((types : ℕ → TypeExpr) → Solves (entries_of arguments cells) types → types one ≡ types other → types child ≡ types parent)
+    → Meets arguments cells (attached cells child parent both) pairs (pairs ++ added) one other
+meets_by arguments cells one other child parent both pairs added may splits below below' few to from =
+    let count : length (attached cells child parent both) ≡ length cells = length-attached cells child parent both in
+    let fewer : roots (attached cells child parent both) + 1 ≡ roots cells =
+    roots-attached cells child parent both may.child_here may.parent_here may.apart may.child_root may.parent_root may.known_root in
+    let multiplied : (roots (attached cells child parent both) + 1) * (length arguments + 1) ≡ roots cells * (length arguments + 1) =
+    ap (λ (n : ℕ). n * (length arguments + 1)) fewer in
+    record {
+      sound = sound-attached arguments cells child parent both may;
+      count = count;
+      below = subst (λ (n : ℕ). AllBelow n (pairs ++ added)) (sym count) (append-all_below (length cells) pairs added below below');
+      equal = λ types. (
+        (λ h.
+            let same = all_same-append types pairs added h.1 in
+            let before = attached_before arguments cells child parent both added may types (splits types) h.0 same.1 in
+            (before.0, same.0, to types before.0 before.1)),
+        (λ h.
+            let after = attached_after arguments cells child parent both added may types (splits types) h.0 (from types h.0 h.2) in
+            (after.0, append-all_same types pairs added h.1 after.1)),
+      );
+      less = omega (arith, length-append pairs added);
+    }
+
+-- the pairs of arguments
+added_below : (arguments : List ℕ) (cells : List Cell) (root root' : ℕ) → IsSound arguments cells
+    → AllBelow (length cells) (zipped (arguments_of arguments (known_at cells root)) (arguments_of arguments (known_at cells root')))
+added_below arguments cells root root' sound =
+    zipped_below (length cells) (arguments_of arguments (known_at cells root)) (arguments_of arguments (known_at cells root'))
+    (λ n p e. sound.within root n p (argument_need arguments (known_at cells root) n p e))
+    (λ n p e. sound.within root' n p (argument_need arguments (known_at cells root') n p e))
+
+added_few : (arguments : List ℕ) (one other : Known) → length (zipped (arguments_of arguments one) (arguments_of arguments other)) ≤ length arguments
+added_few arguments one other =
+    let less = count_zipped (arguments_of arguments one) (arguments_of arguments other) in
+    let least = count_arguments arguments one in omega arith
+
+some_at : (arguments : List ℕ) (cells : List Cell) (one other root root' : ℕ) (known known' both : Known) → IsMeeting arguments cells one other root root' known known'
+    → joined known known' ≡ Some both → joined (known_at cells root) (known_at cells root') ≡ Some both
+some_at arguments cells one other root root' known known' both m some =
+    ap (λ (k : Known). joined k (known_at cells root')) (sym m.known_is) ∙ ap (joined known) (sym m.known_is') ∙ some
+
+-- either root is attached to the other
+pub meets_first : (arguments : List ℕ) (cells : List Cell) (one other root root' : ℕ) (known known' both : Known) (pairs : List (ℕ × ℕ))
+    → IsMeeting arguments cells one other root root' known known' → root ≢ root' → joined known known' ≡ Some both → AllBelow (length cells) pairs
+    → Meets arguments cells (attached cells root root' both) pairs
+    (pairs ++ zipped (arguments_of arguments (known_at cells root)) (arguments_of arguments (known_at cells root'))) one other
+meets_first arguments cells one other root root' known known' both pairs m apart some below =
+    meets_by arguments cells one other root root' both pairs (zipped (arguments_of arguments (known_at cells root)) (arguments_of arguments (known_at cells root')))
+    (may_attach arguments cells one other root root' known known' both m root root' m.leads.here m.leads'.here apart m.leads.is_root m.leads'.is_root some)
+    (λ types.
+    let f = fits_both types arguments (known_at cells root) (known_at cells root') both (m.sound.stored root) (m.sound.stored root')
+    (some_at arguments cells one other root root' known known' both m some) in
+    record { apart = f.apart; together = f.together })
+    below (added_below arguments cells root root' m.sound) (added_few arguments (known_at cells root) (known_at cells root'))
+    (λ types solves e. sym (m.leads.same arguments types solves) ∙ e ∙ m.leads'.same arguments types solves)
+    (λ types solves e. m.leads.same arguments types solves ∙ e ∙ sym (m.leads'.same arguments types solves))
+
+pub meets_second : (arguments : List ℕ) (cells : List Cell) (one other root root' : ℕ) (known known' both : Known) (pairs : List (ℕ × ℕ))
+    → IsMeeting arguments cells one other root root' known known' → root ≢ root' → joined known known' ≡ Some both → AllBelow (length cells) pairs
+    → Meets arguments cells (attached cells root' root both) pairs
+    (pairs ++ zipped (arguments_of arguments (known_at cells root)) (arguments_of arguments (known_at cells root'))) one other
+meets_second arguments cells one other root root' known known' both pairs m apart some below =
+    meets_by arguments cells one other root' root both pairs (zipped (arguments_of arguments (known_at cells root)) (arguments_of arguments (known_at cells root')))
+    (may_attach arguments cells one other root root' known known' both m root' root m.leads'.here m.leads.here (λ e. apart (sym e)) m.leads'.is_root m.leads.is_root some)
+    (λ types.
+    let f = fits_both types arguments (known_at cells root) (known_at cells root') both (m.sound.stored root) (m.sound.stored root')
+    (some_at arguments cells one other root root' known known' both m some) in
+    record {
+      apart = λ type fit same. let both_fit = f.apart type fit same in (both_fit.1, both_fit.0);
+      together = λ type fit fit'. f.together type fit' fit;
+    })
+    below (added_below arguments cells root root' m.sound) (added_few arguments (known_at cells root) (known_at cells root'))
+    (λ types solves e. sym (m.leads.same arguments types solves) ∙ sym e ∙ m.leads'.same arguments types solves)
+    (λ types solves e. m.leads'.same arguments types solves ∙ sym e ∙ sym (m.leads.same arguments types solves))

@@ -1,0 +1,80 @@
+-- Two places made one.
+use Rattle.std.specs.Prelude.{◌≡◌, ℕ, suc, ◌+◌, ◌*◌, ◌<◌, max, Bool, true, false, ◌&&◌, ◌==◌, ◌↔◌, List, [], ◌∷◌, length, take, drop, slice_set, Option, Some, None, if◌then◌else◌}
+use Rattle.merc_tree.specs.Types.{TypeExpr}
+use Rattle.merc_type_graph.specs.Solutions.{Solves}
+use Rattle.merc_type_graph.specs.Cells.{entries_of, rank_at, roots, IsSound}
+use Rattle.merc_type_graph.specs.declared.cell.Known.{Known}
+use Rattle.merc_type_graph.specs.declared.cell.Known.TheVariants.{Nothing, Variable, Int, Text, Named, SameAs}
+use Rattle.merc_type_graph.specs.declared.cell.Cell.{Cell}
+
+-- What is known of a type of which both are known, but for the arguments of the second; None where no type is both.
+abbrev pub joined : Known → Known → Option Known
+joined Nothing other = Some other
+joined (Variable name) Nothing = Some (Variable name)
+joined (Variable name) (Variable name') = if name == name' then Some (Variable name) else None
+joined (Variable name) other = None
+joined Int Nothing = Some Int
+joined Int Int = Some Int
+joined Int other = None
+joined Text Nothing = Some Text
+joined Text Text = Some Text
+joined Text other = None
+joined (Named name first count) Nothing = Some (Named name first count)
+joined (Named name first count) (Named name' first' count') = if (name == name') && (count == count') then Some (Named name first count) else None
+joined (Named name first count) other = None
+joined (SameAs place) other = None
+
+-- the arguments of a type
+abbrev pub arguments_of : List ℕ → Known → List ℕ
+arguments_of arguments Nothing = []
+arguments_of arguments (Variable name) = []
+arguments_of arguments Int = []
+arguments_of arguments Text = []
+arguments_of arguments (Named name first count) = take count (drop first arguments)
+arguments_of arguments (SameAs place) = []
+
+-- the elements of two lists in pairs, as far as both go
+abbrev pub zipped : List ℕ → List ℕ → List (ℕ × ℕ)
+zipped [] others = []
+zipped (first ∷ rest) [] = []
+zipped (first ∷ rest) (other ∷ others) = (first, other) ∷ zipped rest others
+
+-- the types at the two places of each pair are equal
+abbrev pub AllSame : (ℕ → TypeExpr) → List (ℕ × ℕ) → Type 0
+AllSame types [] = Unit {0}
+AllSame types (pair ∷ pairs) = (types pair.0 ≡ types pair.1) × AllSame types pairs
+
+-- each pair names places below a bound
+abbrev pub AllBelow : ℕ → List (ℕ × ℕ) → Type 0
+AllBelow bound [] = Unit {0}
+AllBelow bound (pair ∷ pairs) = (pair.0 < bound) × (pair.1 < bound) × AllBelow bound pairs
+
+-- a place that leads to another, of which this is known
+abbrev pub attached : List Cell → ℕ → ℕ → Known → List Cell
+attached cells child parent known =
+    slice_set (slice_set cells parent (record { known = known; rank = max (rank_at cells parent) (rank_at cells child + 1) })) child
+    (record { known = SameAs parent; rank = rank_at cells child })
+
+-- what is to be done before the pairs are compared: each link that is made leaves fewer roots
+abbrev pub work : List ℕ → List Cell → List (ℕ × ℕ) → ℕ
+work arguments cells pairs = roots cells * (length arguments + 1) + length pairs
+
+-- Two places are made equal, but for the pairs that are added.
+pub record Meets (arguments : List ℕ) (old new : List Cell) (pairs pairs' : List (ℕ × ℕ)) (one other : ℕ) : Type 0 where
+  pub sound : IsSound arguments new
+  pub count : length new ≡ length old
+  pub below : AllBelow (length new) pairs'
+  pub equal : (types : ℕ → TypeExpr) → (Solves (entries_of arguments new) types × AllSame types pairs')
+      ↔ (Solves (entries_of arguments old) types × AllSame types pairs × (types one ≡ types other))
+  pub less : work arguments new pairs' < suc (work arguments old pairs)
+
+-- or no solution has equal types there
+abbrev pub MeetsOrDiffers : Bool → List ℕ → List Cell → List Cell → List (ℕ × ℕ) → List (ℕ × ℕ) → ℕ → ℕ → Type 0
+MeetsOrDiffers true arguments old new pairs pairs' one other = Meets arguments old new pairs pairs' one other
+MeetsOrDiffers false arguments old new pairs pairs' one other =
+    (types : ℕ → TypeExpr) → Solves (entries_of arguments old) types → types one ≡ types other → ⊥
+
+abbrev pub Equates : Bool → List ℕ → List Cell → List Cell → ℕ → ℕ → Type 0
+Equates true arguments old new one other =
+    (length new ≡ length old) × IsSound arguments new × ((types : ℕ → TypeExpr) → Solves (entries_of arguments new) types ↔ (Solves (entries_of arguments old) types × (types one ≡ types other)))
+Equates false arguments old new one other = (types : ℕ → TypeExpr) → Solves (entries_of arguments old) types → types one ≡ types other → ⊥

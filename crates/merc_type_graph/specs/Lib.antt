@@ -1,0 +1,6 @@
+pub mod Cells
+pub mod Changes
+pub mod Fresh
+pub mod Joining
+pub mod Solutions
+pub mod Visiting
