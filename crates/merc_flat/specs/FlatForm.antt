@@ -1,0 +1,204 @@
+-- The flat form of a goal: each argument and operand is a variable. A variable has the number of the part where it first stands in its scope, and a part
+-- that is no variable is named by the variable of its own number.
+use Rattle.std.specs.Prelude.{ℕ, ◌+◌, Bool, ◌==◌, ◌&&◌, ◌||◌, false, is_none, nat_le, List, [], ◌∷◌, ◌++◌, map, length, Option, Some, None, if◌then◌else◌, pos}
+use Rattle.std.specs.List.{list_any, count_by}
+use Rattle.merc_base.specs.declared.place.Span.{Span}
+use Rattle.merc_tree.specs.Term.{Term, Terms, Variable, Integer, Text, Application, none, more, list_of}
+use Rattle.merc_goals.specs.Written.{Written, WrittenGoals, Truth, Failure, Equal, Compared, Called, Conjunction as WrittenConjunction, Parallel as WrittenParallel, Disjunction as WrittenDisjunction, Conditional as WrittenConditional, Negated, Quantified as WrittenQuantified, no_goals, more_goals, parts, written, written_span}
+use Rattle.merc_goal_tree.specs.Nodes.{Node, Nodes, Simple, Conjunction, Parallel, Disjunction, Conditional, Negation, Quantified, no_nodes, more_nodes, nodes_of}
+use Rattle.merc_goal_tree.specs.declared.goal.SimpleGoal.{SimpleGoal}
+use Rattle.merc_goal_tree.specs.declared.goal.SimpleGoal.TheVariants.{True, Fail, Same, Shape, Arithmetic, Compare, Raise, Call}
+use Rattle.merc_goal_tree.specs.declared.goal.Symbol.TheVariants.{Constructor, Integer as IntegerSymbol, Text as TextSymbol}
+use Rattle.merc_goal_tree.specs.declared.goal.Operation.{Operation}
+use Rattle.merc_goal_tree.specs.declared.goal.Operation.TheVariants.{Add, Subtract, Multiply, Quotient, Div, Mod, Rem}
+use Rattle.merc_goal_tree.specs.declared.goal.Comparison.{Comparison}
+use Rattle.merc_goal_tree.specs.declared.goal.Comparison.TheVariants.{Less, Greater, AtMost, AtLeast}
+use Rattle.merc_flat.specs.Scopes.{Occurrence, occurrences, free}
+
+-- what a call is of: a predicate of the module, or `error`
+pub data Callee : Type 0 where
+  Predicate : (number : ℕ) → Callee
+  Error : Callee
+
+-- `- E`
+abbrev pub is_negation : ℕ → Option ℕ → Terms → Bool
+is_negation name qualifier (more only none) = (name == 43) && is_none qualifier
+is_negation name qualifier other = false
+
+-- `+` `-` `*` `//` `div` `mod` `rem`
+abbrev pub operation_of : ℕ → Option Operation
+operation_of name =
+    if name == 42 then Some Add
+    else if name == 43 then Some Subtract
+    else if name == 44 then Some Multiply
+    else if name == 45 then Some Quotient
+    else if name == 46 then Some Div
+    else if name == 47 then Some Mod
+    else if name == 48 then Some Rem
+    else None
+
+-- `<` `>` `=<` `>=`
+abbrev pub comparison_of : ℕ → Option Comparison
+comparison_of name =
+    if name == 38 then Some Less
+    else if name == 39 then Some Greater
+    else if name == 40 then Some AtMost
+    else if name == 41 then Some AtLeast
+    else None
+
+-- the comparison of two variables, none for a name that is no comparison's
+abbrev pub compare : Option Comparison → ℕ → ℕ → List SimpleGoal
+compare None left right = []
+compare (Some comparison) left right = Compare comparison left right ∷ []
+
+-- What names stand for: the first of these occurrences tells the variable's number.
+abbrev pub variable_of : List Occurrence → ℕ → ℕ
+variable_of [] name = 0
+variable_of (first ∷ rest) name = if first.name == name then first.at else variable_of rest name
+
+abbrev pub has_name : ℕ → List Occurrence → Bool
+has_name name found = list_any (λ one. one.name == name) found
+
+abbrev pub all_of : List (List Occurrence) → List Occurrence
+all_of [] = []
+all_of (first ∷ rest) = first ++ all_of rest
+
+abbrev pub among : (Occurrence → Bool) → List Occurrence → List Occurrence
+among test [] = []
+among test (first ∷ rest) = if test first then first ∷ among test rest else among test rest
+
+-- the variables that occur in at least two of some goals, of which these are the variables
+abbrev pub shared : List (List Occurrence) → List Occurrence
+shared goals = among (λ one. nat_le 2 (count_by (has_name one.name) goals)) (all_of goals)
+
+-- each name where it first stands
+abbrev pub firsts : List ℕ → List Occurrence → List Occurrence
+firsts seen [] = []
+firsts seen (first ∷ rest) = if list_any (λ name. first.name == name) seen then firsts seen rest else first ∷ firsts (first.name ∷ seen) rest
+
+-- goals one after the other as one goal
+abbrev pub one_goal : Span → List Node → Node
+one_goal span [] = Simple True span
+one_goal span (only ∷ []) = only
+one_goal span (first ∷ second ∷ rest) = Conjunction (nodes_of (first ∷ second ∷ rest)) span
+
+abbrev pub head_arguments : Term → Terms
+head_arguments (Application name qualifier arguments span) = arguments
+head_arguments other = none
+
+-- Given are which names are `_`, and what a name with a qualifier and so many arguments calls.
+module _ (is_blank : ℕ → Bool) (callee : ℕ → Option ℕ → ℕ → Option Callee) where
+  -- the variable that stands for a term: its own, or the one that names it
+  abbrev pub variable_at : List Occurrence → ℕ → Term → ℕ
+  variable_at scope at (Variable name span) = if is_blank name then at else variable_of scope name
+  variable_at scope at other = at
+
+  abbrev pub variables_at : List Occurrence → ℕ → Terms → List ℕ
+  variables_at scope at none = []
+  variables_at scope at (more first rest) = variable_at scope at first ∷ variables_at scope (at + parts first) rest
+
+  -- an operation's result over the variables of its operands, of which one alone is taken from 0; or a constructor
+  abbrev pub applied : Option Operation → ℕ → ℕ → List ℕ → List SimpleGoal → List SimpleGoal
+  applied (Some operation) variable name (left ∷ right ∷ []) inner = inner ++ Arithmetic operation variable left right ∷ []
+  applied operation variable name arguments inner = Shape variable (Constructor name (length arguments)) arguments ∷ inner
+
+  abbrev mutual
+    -- the goals by which a variable has the value of a term of this number
+    pub naming : List Occurrence → ℕ → ℕ → Term → List SimpleGoal
+    naming scope variable at (Integer value span) = Shape variable (IntegerSymbol value) [] ∷ []
+    naming scope variable at (Text text span) = Shape variable (TextSymbol text) [] ∷ []
+    naming scope variable at (Application name qualifier arguments span) =
+        if is_negation name qualifier arguments
+        then Shape (at + 1) (IntegerSymbol (pos 0)) [] ∷ applied (Some Subtract) variable name ((at + 1) ∷ variables_at scope (at + 2) arguments) (naming_all scope (at + 2) arguments)
+        else applied (if is_none qualifier then operation_of name else None) variable name (variables_at scope (at + 2) arguments) (naming_all scope (at + 2) arguments)
+    naming scope variable at other = Same variable (variable_at scope at other) ∷ []
+
+    -- those by which the variables that stand for terms have their values
+    pub naming_all : List Occurrence → ℕ → Terms → List SimpleGoal
+    naming_all scope at none = []
+    naming_all scope at (more (Variable name span) rest) = naming_all scope (at + 2) rest
+    naming_all scope at (more first rest) = naming scope at at first ++ naming_all scope (at + parts first) rest
+
+  -- `L = R`, where a variable stands for the other side, or a fresh one for both
+  abbrev pub equal : List Occurrence → ℕ → Term → Term → List SimpleGoal
+  equal scope at (Variable name span) right = naming scope (variable_at scope (at + 2) (Variable name span)) (at + 4) right
+  equal scope at left (Variable name span) = naming scope (variable_at scope (at + 2 + parts left) (Variable name span)) (at + 2) left
+  equal scope at left right = naming scope at (at + 2) left ++ naming scope at (at + 2 + parts left) right
+
+  abbrev pub compared : List Occurrence → ℕ → ℕ → Term → Term → List SimpleGoal
+  compared scope at name left right =
+      naming_all scope (at + 2) (more left (more right none))
+      ++ compare (comparison_of name) (variable_at scope (at + 2) left) (variable_at scope (at + 2 + parts left) right)
+
+  abbrev pub call_of : Option Callee → List ℕ → List SimpleGoal
+  call_of (Some (Predicate number)) arguments = Call number arguments ∷ []
+  call_of (Some Error) (text ∷ []) = Raise text ∷ []
+  call_of other arguments = []
+
+  abbrev pub called : List Occurrence → ℕ → ℕ → Option ℕ → Terms → List SimpleGoal
+  called scope at name qualifier arguments =
+      naming_all scope (at + 2) arguments ++ call_of (callee name qualifier (length (list_of arguments))) (variables_at scope (at + 2) arguments)
+
+  abbrev pub simple : Span → List SimpleGoal → List Node
+  simple span goals = map (λ goal. Simple goal span) goals
+
+  abbrev pub each_free : WrittenGoals → List (List Occurrence)
+  each_free no_goals = []
+  each_free (more_goals first rest) = free is_blank first ∷ each_free rest
+
+  abbrev mutual
+    -- The goals that a goal becomes, one after the other, where some names stand for variables already. Any other name stands for a variable of the
+    -- smallest goal that holds all its occurrences; where that is a disjunction, or an if-then-else and it occurs in its else part and before it, for
+    -- a variable of each.
+    pub flat : List Occurrence → Written → List Node
+    flat scope (Truth span) = Simple True span ∷ []
+    flat scope (Failure span) = Simple Fail span ∷ []
+    flat scope (Equal at left right span) = simple span (equal (scope ++ free is_blank (Equal at left right span)) at left right)
+    flat scope (Compared at name left right span) = simple span (compared (scope ++ free is_blank (Compared at name left right span)) at name left right)
+    flat scope (Called at name qualifier arguments span) = simple span (called (scope ++ free is_blank (Called at name qualifier arguments span)) at name qualifier arguments)
+    flat scope (WrittenConjunction goals span) = flat_all (scope ++ shared (each_free goals)) goals
+    flat scope (WrittenParallel goals span) = Parallel (flat_each (scope ++ shared (each_free goals)) goals) span ∷ []
+    flat scope (WrittenDisjunction goals span) = Disjunction (flat_each scope goals) span ∷ []
+    flat scope (WrittenConditional condition then_part else_part span) =
+        let region = scope ++ shared (free is_blank condition ∷ free is_blank then_part ∷ []) in
+        Conditional (one_goal (written_span condition) (flat region condition)) (one_goal (written_span then_part) (flat region then_part)) (one_goal (written_span else_part) (flat scope else_part)) span ∷ []
+    flat scope (Negated goal span) = Negation (one_goal (written_span goal) (flat scope goal)) span ∷ []
+    flat scope (WrittenQuantified variables goal span) =
+        let own = firsts [] (among (λ one. list_any (λ name. one.name == name) variables) (free is_blank goal)) in
+        Quantified (map (λ one. one.at) own) (one_goal (written_span goal) (flat (own ++ scope) goal)) span ∷ []
+    flat scope other = []
+
+    -- of goals in a conjunction all of them, of others one for each
+    pub flat_all : List Occurrence → WrittenGoals → List Node
+    flat_all scope no_goals = []
+    flat_all scope (more_goals first rest) = flat scope first ++ flat_all scope rest
+
+    pub flat_each : List Occurrence → WrittenGoals → Nodes
+    flat_each scope no_goals = no_nodes
+    flat_each scope (more_goals first rest) = more_nodes (one_goal (written_span first) (flat scope first)) (flat_each scope rest)
+
+  -- Heads: an argument that is a variable which was not met before in the head is the predicate's own variable, whose number is that of the argument.
+
+  abbrev pub head_scope : ℕ → ℕ → Terms → List Occurrence
+  head_scope number at none = []
+  head_scope number at (more (Variable name span) rest) = (if is_blank name then [] else record { name = name; at = number } ∷ []) ++ head_scope (number + 1) (at + 2) rest
+  head_scope number at (more first rest) = occurrences is_blank at first ++ head_scope (number + 1) (at + parts first) rest
+
+  abbrev pub head_goal : List Occurrence → ℕ → ℕ → Term → List SimpleGoal
+  head_goal scope number at (Variable name span) =
+      if is_blank name || (variable_of scope name == number) then [] else Same number (variable_of scope name) ∷ []
+  head_goal scope number at other = naming scope number at other
+
+  abbrev pub head_goals : List Occurrence → ℕ → ℕ → Terms → List SimpleGoal
+  head_goals scope number at none = []
+  head_goals scope number at (more first rest) = head_goal scope number at first ++ head_goals scope (number + 1) (at + parts first) rest
+
+  abbrev pub body_goals : List Occurrence → ℕ → Option Term → List Node
+  body_goals scope at None = []
+  body_goals scope at (Some body) = flat scope (written at body)
+
+  -- the goal of a clause, whose parts have the numbers from this one on
+  abbrev pub clause_goal : ℕ → Term → Option Term → Span → Node
+  clause_goal at head body span =
+      let scope = head_scope 0 (at + 2) (head_arguments head) in
+      one_goal span (simple span (head_goals scope 0 (at + 2) (head_arguments head)) ++ body_goals scope (at + parts head) body)

@@ -1,0 +1,4 @@
+pub mod Scopes
+pub mod FlatForm
+pub mod Answers
+pub mod FlatExamples
