@@ -1,5 +1,5 @@
 //! How a term is read as a goal.
-ghost use Rattle.std.specs.Prelude.{◌≡◌, ◌≤◌, ◌^◌, reverse, IfOk};
+ghost use Rattle.std.specs.Prelude.{◌≡◌, reverse, IfOk};
 ghost use Rattle.merc_goals.specs.Written.{written};
 ghost use Rattle.merc_goals.specs.Entries.{entries_of};
 
@@ -14,13 +14,13 @@ use std::alloc::Global;
 ///
 /// # Errors
 ///
-/// `NoMemory` where memory was refused.
+/// `NoMemory` says that memory was refused, or that the numbers of the parts go past the greatest `usize`, which those of
+/// no text in memory do.
 pub fn written_goal<'a>(
     alloc: Global,
     term: &TermRef<'a>,
     at: usize,
 ) -> Result<WrittenGoal<'a>, NoMemory>
-    requires { at ≤ 2 ^ 62 }
     ensures { IfOk result (λ goal. goal ≡ written at term.now) }
 {
     let root = Numbered {
