@@ -1,5 +1,5 @@
 -- The parts of a module put together.
-use Rattle.std.proofs.Common.{◌≡◌, ℕ, ◌+◌, Bool, true, false, not, List, [], ◌∷◌, ◌++◌, length, drop, Some, None, refl, ap, sym, ◌∙◌, if◌then◌else◌}
+use Rattle.std.proofs.Common.{◌≡◌, ℕ, ◌+◌, Bool, true, false, not, List, [], ◌∷◌, ◌++◌, length, drop, Option, Some, None, refl, ap, sym, ◌∙◌, if◌then◌else◌}
 use Rattle.std.specs.List.{flat_map, slice_get}
 use Rattle.merc_base.specs.declared.place.Span.{Span}
 use Rattle.merc_tree.specs.Term.{Term}
@@ -72,26 +72,26 @@ module _ {A : Type 0} (declared : Entry → List A) where
 -- predicates with the modes of a table
 
 module _ (table : ModeTable) (others : List Entry) (modes : (predicate : List Key) → kept_modes table predicate ≡ flat_map (modes_in predicate) others) where
-  same_in : (span : Span) (item : Item) → preds_in table span item ≡ pred_decls_of others span item
-  same_in span (PredicateItem head category) =
-      let with_modes : List ModeDecl → PredDecl = λ m. record { name = (pred_decl_of table span head).name; args = (pred_decl_of table span head).args; modes = m; span = span } in
+  same_in : (unit : Option ℕ) (span : Span) (item : Item) → preds_in table unit span item ≡ pred_decls_of others unit span item
+  same_in unit span (PredicateItem head category) =
+      let with_modes : List ModeDecl → PredDecl = λ m. record { name = (pred_decl_of table unit span head).name; args = (pred_decl_of table unit span head).args; modes = m; span = span; unit = unit } in
       ap (λ (m : List ModeDecl). with_modes m ∷ []) (modes (key_of head))
-  same_in span (ModeItem head category) = refl
-  same_in span (Opening name) = refl
-  same_in span (Ending name) = refl
-  same_in span Section = refl
-  same_in span (Import units) = refl
-  same_in span (TypeItem head constructors) = refl
-  same_in span (ClauseItem head body) = refl
-  same_in span OtherType = refl
-  same_in span OtherFunction = refl
-  same_in span OtherGrammar = refl
-  same_in span OtherDeclaration = refl
-  same_in span Formless = refl
+  same_in unit span (ModeItem head category) = refl
+  same_in unit span (Opening name) = refl
+  same_in unit span (Ending name) = refl
+  same_in unit span Section = refl
+  same_in unit span (Import units) = refl
+  same_in unit span (TypeItem head constructors) = refl
+  same_in unit span (ClauseItem head body) = refl
+  same_in unit span OtherType = refl
+  same_in unit span OtherFunction = refl
+  same_in unit span OtherGrammar = refl
+  same_in unit span OtherDeclaration = refl
+  same_in unit span Formless = refl
 
   same_preds : (entries : List Entry) → flat_map (preds_by table) entries ≡ flat_map (pred_decls others) entries
   same_preds [] = refl
-  same_preds (entry ∷ rest) = ap (λ l. l ++ flat_map (preds_by table) rest) (same_in entry.span entry.item) ∙ ap (λ l. pred_decls others entry ++ l) (same_preds rest)
+  same_preds (entry ∷ rest) = ap (λ l. l ++ flat_map (preds_by table) rest) (same_in entry.unit entry.span entry.item) ∙ ap (λ l. pred_decls others entry ++ l) (same_preds rest)
 
 pub part_preds : (part : Part) (table : ModeTable) (entries : List Entry) → ((predicate : List Key) → kept_modes table predicate ≡ flat_map (kept part (modes_in predicate)) entries)
     → flat_map (kept part (preds_by table)) entries ≡ flat_map (pred_decls (part_of part entries)) (part_of part entries)

@@ -51,13 +51,14 @@ variable_names (other ∷ rest) = variable_names rest
 abbrev pub constructor_of : Term → Constructor
 constructor_of term = record { name = head_name term; args = map declared_type (arguments_of term) }
 
-abbrev pub type_defs_of : Item → List TypeDef
-type_defs_of (TypeItem head constructors) =
-    record { name = head_name head; params = variable_names (arguments_of head); constructors = map constructor_of constructors } ∷ []
-type_defs_of other = []
+-- a type, of a library unit or of the file itself
+abbrev pub type_defs_of : Option ℕ → Item → List TypeDef
+type_defs_of unit (TypeItem head constructors) =
+    record { name = head_name head; params = variable_names (arguments_of head); constructors = map constructor_of constructors; unit = unit } ∷ []
+type_defs_of unit other = []
 
 abbrev pub type_defs : Entry → List TypeDef
-type_defs entry = type_defs_of entry.item
+type_defs entry = type_defs_of entry.unit entry.item
 
 -- Modes
 
@@ -98,18 +99,19 @@ abbrev pub modes_in : List Key → Entry → List ModeDecl
 modes_in predicate entry = modes_in_item predicate entry.span entry.item
 
 -- A predicate with all its modes among these entries, in order.
-abbrev pub pred_decls_of : List Entry → Span → Item → List PredDecl
-pred_decls_of entries span (PredicateItem head category) =
+abbrev pub pred_decls_of : List Entry → Option ℕ → Span → Item → List PredDecl
+pred_decls_of entries unit span (PredicateItem head category) =
     record {
       name = head_name head;
       args = map (λ argument. declared_type (argument_type argument)) (arguments_of head);
       modes = flat_map (modes_in (key_of head)) entries;
       span = span;
+      unit = unit;
     } ∷ []
-pred_decls_of entries span other = []
+pred_decls_of entries unit span other = []
 
 abbrev pub pred_decls : List Entry → Entry → List PredDecl
-pred_decls entries entry = pred_decls_of entries entry.span entry.item
+pred_decls entries entry = pred_decls_of entries entry.unit entry.span entry.item
 
 abbrev pub clauses_of : Span → Item → List Clause
 clauses_of span (ClauseItem head body) = record { head = head; body = body; span = span } ∷ []

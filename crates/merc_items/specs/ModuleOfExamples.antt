@@ -46,7 +46,7 @@ abbrev whole : Module
 whole = module_of items (entries (λ unit. []) items)
 
 abbrev declared_p : PredDecl
-declared_p = record { name = 104; args = IntType ∷ []; modes = record { args = Input ∷ []; category = Det; span = span } ∷ []; span = span }
+declared_p = record { name = 104; args = IntType ∷ []; modes = record { args = Input ∷ []; category = Det; span = span } ∷ []; span = span; unit = None }
 
 -- the modes of a predicate in split form stand in the order of their declarations
 abbrev declared_q : PredDecl
@@ -55,12 +55,13 @@ declared_q = record {
   args = IntType ∷ [];
   modes = record { args = Input ∷ []; category = Det; span = span } ∷ record { args = Output ∷ []; category = Multi; span = span } ∷ [];
   span = span;
+  unit = None;
 }
 
 made : whole ≡ record {
   name = 100;
   units = [];
-  types = record { name = 101; params = 106 ∷ []; constructors = record { name = 103; args = TypeVariable 106 ∷ [] } ∷ [] } ∷ [];
+  types = record { name = 101; params = 106 ∷ []; constructors = record { name = 103; args = TypeVariable 106 ∷ [] } ∷ []; unit = None } ∷ [];
   preds = declared_p ∷ declared_q ∷ [];
   own = 2;
   clauses = record { head = apply 104 (variable ∷ []); body = Some (apply 105 (variable ∷ [])); span = span } ∷ record { head = apply 105 (variable ∷ []); body = None; span = span } ∷ [];

@@ -90,7 +90,7 @@ fn push_types(
     for entry in entries {
         if part.has(entry) {
             if let Item::Type(head, root) = &entry.item {
-                types.push(type_def(alloc, head, root)?)?;
+                types.push(type_def(alloc, entry.unit, head, root)?)?;
             }
         }
     }
@@ -98,13 +98,19 @@ fn push_types(
 }
 
 // The type with this head and this chain of constructors.
-fn type_def(alloc: Global, head: &TermRef<'_>, root: &TermRef<'_>) -> Result<TypeDef, NoMemory>
-    ensures { IfOk result (λ type_def. type_def ∷ [] ≡ type_defs_of (TypeItem head.now (chain 23 root.now))) }
+fn type_def(
+    alloc: Global,
+    unit: Option<Name>,
+    head: &TermRef<'_>,
+    root: &TermRef<'_>,
+) -> Result<TypeDef, NoMemory>
+    ensures { IfOk result (λ type_def. type_def ∷ [] ≡ type_defs_of unit (TypeItem head.now (chain 23 root.now))) }
 {
     Ok(TypeDef {
         name: head_name(head),
         params: variable_names(alloc, &arguments(alloc, head)?)?,
         constructors: constructors(alloc, &members(alloc, root, Name::SEMICOLON)?)?,
+        unit,
     })
 }
 
@@ -174,7 +180,7 @@ fn push_with_modes(
     for entry in entries {
         if part.has(entry) {
             if let Item::Predicate(head, _) = &entry.item {
-                preds.push(predicate(alloc, table, head, entry.span)?)?;
+                preds.push(predicate(alloc, table, entry.unit, head, entry.span)?)?;
             }
         }
     }
@@ -184,16 +190,18 @@ fn push_with_modes(
 fn predicate(
     alloc: Global,
     table: &ModeTable,
+    unit: Option<Name>,
     head: &TermRef<'_>,
     span: Span,
 ) -> Result<PredDecl, NoMemory>
-    ensures { IfOk result (λ predicate. predicate ≡ pred_decl_of table.now span head.now) }
+    ensures { IfOk result (λ predicate. predicate ≡ pred_decl_of table.now unit span head.now) }
 {
     Ok(PredDecl {
         name: head_name(head),
         args: argument_types(alloc, &arguments(alloc, head)?)?,
         modes: table.modes(alloc, head)?,
         span,
+        unit,
     })
 }
 

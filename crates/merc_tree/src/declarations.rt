@@ -21,6 +21,8 @@ pub struct TypeDef {
     pub name: Name,
     pub params: NameList,
     pub constructors: Constructors,
+    /// The library unit that declares it, none for the file's own.
+    pub unit: Option<Name>,
 }
 
 /// Types in the order of their declarations.
@@ -56,6 +58,8 @@ pub struct PredDecl {
     pub modes: ModeDecls,
     /// Its `:- pred` declaration.
     pub span: Span,
+    /// The library unit that declares it, none for the file's own.
+    pub unit: Option<Name>,
 }
 
 /// Predicates in the order of their declarations.
