@@ -1,0 +1,4 @@
+pub mod Groups
+pub mod Indexing
+pub mod Known
+pub mod KnownExamples

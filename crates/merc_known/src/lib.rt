@@ -1,0 +1,12 @@
+//! What names mean in a module: its predicates and constructors by name and number of arguments.
+#![tactic(auto)]
+
+mod callee;
+mod groups;
+mod indexing;
+mod known;
+#[cfg(test)]
+mod tests;
+
+pub use callee::Callee;
+pub use known::Known;
