@@ -1,0 +1,9 @@
+pub mod Begins
+pub mod PlaceLaws
+pub mod Walks
+pub mod Filtering
+pub mod Sharing
+pub mod Owning
+pub mod Standings
+pub mod Reading
+pub mod Completeness
