@@ -1,0 +1,9 @@
+pub mod MapLaws
+pub mod TermLaws
+pub mod TrailLaws
+pub mod TakingLaws
+pub mod Counts
+pub mod ReadLaws
+pub mod Marks
+pub mod Shown
+pub mod Picking

@@ -1,0 +1,19 @@
+use Rattle.std.proofs.Common.{◌≡◌, ◌+◌, ◌++◌, reverse, ◌∙◌, ap}
+use Rattle.std.proofs.lemmas.List.{reverse-reverse}
+use Rattle.std.proofs.lemmas.Result.{IfOk-weaker}
+use Rattle.merc_scopes.specs.Scopes.{is_blank}
+use Rattle.merc_tree.specs.Shape.{arguments_of}
+use Rattle.merc_answer_variables.specs.Reading.{listed}
+use Rattle.merc_answer_variables.proofs.TermLaws.{listed-terms}
+use Rattle.merc_answer_variables.proofs.terms.argument_variables.Goals as goal
+
+pub returns : goal.returns
+returns c =
+    let terms : c.push_arguments.new.terms.items ≡ reverse (arguments_of c.args.term.now) =
+    c.in_ok-push_arguments.ensures ∙ ap (λ l. l ++ reverse c.arguments.result) c.new-terms.ensures.items ∙ ap reverse c.arguments.ensures in
+    IfOk-weaker c.term_variables.result _ _ (λ found is.
+    is
+    ∙ ap (λ l. listed (is_blank c.args.names.now) c.in_ok-behind.field-0 l) (ap reverse terms ∙ reverse-reverse (arguments_of c.args.term.now))
+    ∙ ap (λ n. listed (is_blank c.args.names.now) n (arguments_of c.args.term.now)) c.in_ok-behind.ensures
+    ∙ listed-terms (is_blank c.args.names.now) (c.args.at + 2) (arguments_of c.args.term.now))
+    c.term_variables.ensures

@@ -1,0 +1,4 @@
+pub mod AnswerVariables
+pub mod AnswerExamples
+pub mod Statuses
+pub mod Reading

@@ -1,0 +1,11 @@
+//! The variables of a goal whose values are its answers.
+#![tactic(auto)]
+
+mod answers;
+mod reader;
+mod terms;
+#[cfg(test)]
+mod tests;
+mod variables;
+
+pub use answers::answer_variables;

@@ -1,0 +1,101 @@
+//! The variables of terms, in the order of the text.
+ghost use Rattle.std.specs.Prelude.{◌≡◌, ◌+◌, ◌++◌, reverse, IfOk, OnOk};
+ghost use Rattle.merc_tree.specs.Term.{terms_of};
+ghost use Rattle.merc_tree.specs.Shape.{arguments_of};
+ghost use Rattle.merc_goals.specs.Written.{parts};
+ghost use Rattle.merc_scopes.specs.Scopes.{is_blank, occurrences, occurrences_of};
+ghost use Rattle.merc_answer_variables.specs.Reading.{own_occurrence, listed};
+
+use merc_base::{Names, NoMemory};
+use merc_scopes::{Occurrence, is_blank};
+use merc_tree::{Arguments, Shape, TermRef};
+use std::alloc::Global;
+
+/// The variables of both sides of a goal whose number is this.
+pub(crate) fn side_variables(
+    alloc: Global,
+    names: &Names,
+    at: usize,
+    left: &TermRef<'_>,
+    right: &TermRef<'_>,
+) -> Result<Vec<Occurrence>, NoMemory>
+    ensures { IfOk result (λ found. found.items ≡ occurrences (is_blank names.now) (at + 2) left.now ++ occurrences (is_blank names.now) (at + 2 + parts left.now) right.now) }
+{
+    let mut terms = Vec::new(alloc);
+    terms.push(right.copy())?;
+    terms.push(left.copy())?;
+    term_variables(alloc, names, behind(at)?, terms)
+}
+
+/// The variables of the arguments of a term whose number is this.
+pub(crate) fn argument_variables(
+    alloc: Global,
+    names: &Names,
+    at: usize,
+    term: &TermRef<'_>,
+) -> Result<Vec<Occurrence>, NoMemory>
+    ensures { IfOk result (λ found. found.items ≡ occurrences_of (is_blank names.now) (at + 2) (terms_of (arguments_of term.now))) }
+{
+    let mut terms = Vec::new(alloc);
+    push_arguments(&mut terms, term.arguments())?;
+    term_variables(alloc, names, behind(at)?, terms)
+}
+
+// The variables of terms, from the last to the first of them. The last has this number.
+fn term_variables(
+    alloc: Global,
+    names: &Names,
+    at: usize,
+    mut terms: Vec<TermRef<'_>>,
+) -> Result<Vec<Occurrence>, NoMemory>
+    ensures { IfOk result (λ found. found.items ≡ listed (is_blank names.now) at (reverse terms.entry.items)) }
+{
+    let mut found = Vec::new(alloc);
+    let mut at = at;
+    while let Some(term) = terms.pop() {
+        push_variable(names, &term, at, &mut found)?;
+        push_arguments(&mut terms, term.arguments())?;
+        at = behind(at)?;
+    }
+    Ok(found)
+}
+
+// Puts a term that is a variable behind the others.
+fn push_variable(
+    names: &Names,
+    term: &TermRef<'_>,
+    at: usize,
+    found: &mut Vec<Occurrence>,
+) -> Result<(), NoMemory>
+    ensures { OnOk result (found.new.items ≡ found.old.items ++ own_occurrence (is_blank names.now) at term.now) }
+{
+    if let Shape::Variable(name) = term.shape() {
+        if !is_blank(names, name) {
+            found.push(Occurrence { name, at })?;
+        }
+    }
+    Ok(())
+}
+
+// Puts arguments behind the others, the last of them first.
+fn push_arguments<'a>(
+    terms: &mut Vec<TermRef<'a>>,
+    mut arguments: Arguments<'a>,
+) -> Result<(), NoMemory>
+    ensures { OnOk result (terms.new.items ≡ terms.old.items ++ reverse arguments.entry) }
+{
+    while let Some(last) = arguments.take_last() {
+        terms.push(last)?;
+    }
+    Ok(())
+}
+
+// The number behind those of a term's root.
+fn behind(at: usize) -> Result<usize, NoMemory>
+    ensures { IfOk result (λ number. number ≡ at + 2) }
+{
+    match at.checked_add(2) {
+        Some(number) => Ok(number),
+        None => Err(NoMemory),
+    }
+}
