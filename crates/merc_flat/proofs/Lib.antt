@@ -1,0 +1,4 @@
+pub mod CountLaws
+pub mod FormLaws
+pub mod UnknownLaws
+pub mod EntryLaws

@@ -1,4 +1,7 @@
-pub mod Scopes
-pub mod FlatForm
-pub mod Answers
-pub mod FlatExamples
+pub mod GoalFaults
+pub mod GoalFaultsExamples
+pub mod Flat
+pub mod SizeFaults
+pub mod Counted
+pub mod UnknownNames
+pub mod ClauseFaults

@@ -1,8 +1,12 @@
-//! The flat form of goals. Its definition stands in specs/; of the pass itself only the names of operations are here yet.
+//! The clauses of a module and a goal in flat form, or what is wrong with their goals and with the names in them.
 #![tactic(auto)]
 
-mod operations;
+mod clauses;
+mod counting;
+mod faults;
+mod flattening;
 #[cfg(test)]
 mod tests;
+mod unknown;
 
-pub use operations::{comparison_of, operation_of};
+pub use flattening::{Query, flatten, flatten_query};

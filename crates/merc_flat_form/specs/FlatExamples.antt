@@ -8,16 +8,16 @@ use Rattle.merc_goal_tree.specs.declared.goal.SimpleGoal.TheVariants.{Same, Shap
 use Rattle.merc_goal_tree.specs.declared.goal.Symbol.TheVariants.{Constructor, Integer as IntegerSymbol}
 use Rattle.merc_goal_tree.specs.declared.goal.Operation.TheVariants.{Add, Subtract}
 use Rattle.merc_goal_tree.specs.declared.goal.Comparison.TheVariants.{Less}
-use Rattle.merc_flat.specs.Scopes.{Occurrence}
-use Rattle.merc_flat.specs.FlatForm.{Callee, Predicate, flat, clause_goal}
-use Rattle.merc_flat.specs.Answers.{answer_variables}
+use Rattle.merc_known.specs.declared.callee.Callee.{Callee}
+use Rattle.merc_known.specs.declared.callee.Callee.TheVariants.{Predicate}
+use Rattle.merc_flat_form.specs.FlatForm.{flat, clause_goal}
 
 -- `_` is the name 99; each call is of the predicate that has the number of its name
-abbrev is_blank : ℕ → Bool
-is_blank name = name == 99
+abbrev blank_name : ℕ → Bool
+blank_name name = name == 99
 
-abbrev callee : ℕ → Option ℕ → ℕ → Option Callee
-callee name qualifier arity = Some (Predicate name)
+abbrev callee : ℕ → Option ℕ → ℕ → Callee
+callee name qualifier arity = Predicate name
 
 -- the variables X, Y and Z, `_`, and an integer
 abbrev x : Term
@@ -46,7 +46,7 @@ simple [] = []
 simple (first ∷ rest) = Simple first no_span ∷ simple rest
 
 abbrev flat_form : Term → List Node
-flat_form term = flat is_blank callee [] (written 0 term)
+flat_form term = flat blank_name callee [] (written 0 term)
 
 -- `p(f(X), Y)`
 pub argument : flat_form (binary 200 (unary 201 x) y) ≡ simple (Shape 2 (Constructor 201 1) (4 ∷ []) ∷ Call 200 (2 ∷ 6 ∷ []) ∷ [])
@@ -103,20 +103,6 @@ pub quantified : flat_form (binary 26 (unary 200 x) (binary 27 (binary 2 x (Appl
 quantified = refl
 
 -- The clause `p(X, X, f(Y)) :- q(Y).`: the first X is the predicate's own variable.
-pub clause : clause_goal is_blank callee 3 (Application 200 None (more x (more x (more (unary 201 y) none))) no_span) (Some (unary 202 y)) no_span
+pub clause : clause_goal blank_name callee 3 (Application 200 None (more x (more x (more (unary 201 y) none))) no_span) (Some (unary 202 y)) no_span
     ≡ Conjunction (nodes_of (simple (Same 1 0 ∷ Shape 2 (Constructor 201 1) (11 ∷ []) ∷ Call 202 (11 ∷ []) ∷ []))) no_span
 clause = refl
-
--- Of `not p(X), q(Y)` the answer variable is Y.
-abbrev names : List (List ℕ)
-names = []
-
-abbrev of_name : ℕ → ℕ → Occurrence
-of_name name at = record { name = name; at = at }
-
-pub answers : answer_variables names (written 0 (binary 26 (unary 31 (unary 200 x)) (unary 201 y))) ≡ of_name 101 10 ∷ []
-answers = refl
-
--- `X \= Y` has none, since it is a negation
-pub no_answers : answer_variables names (written 0 (binary 37 x y)) ≡ []
-no_answers = refl

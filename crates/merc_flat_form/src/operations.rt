@@ -1,6 +1,6 @@
 //! Arithmetic and comparisons, told by their names.
 ghost use Rattle.std.specs.Prelude.{◌≡◌};
-ghost use Rattle.merc_flat.specs.FlatForm.{comparison_of, operation_of};
+ghost use Rattle.merc_flat_form.specs.FlatForm.{comparison_of, operation_of};
 
 use merc_base::Name;
 use merc_goal_tree::{Comparison, Operation};

@@ -1,7 +1,6 @@
 -- The flat form of a goal: each argument and operand is a variable. A variable has the number of the part where it first stands in its scope, and a part
 -- that is no variable is named by the variable of its own number.
-use Rattle.std.specs.Prelude.{ℕ, ◌+◌, Bool, ◌==◌, ◌&&◌, ◌||◌, false, is_none, nat_le, List, [], ◌∷◌, ◌++◌, map, length, Option, Some, None, if◌then◌else◌, pos}
-use Rattle.std.specs.List.{list_any, count_by}
+use Rattle.std.specs.Prelude.{ℕ, ◌+◌, Bool, ◌==◌, ◌&&◌, ◌||◌, false, is_none, List, [], ◌∷◌, ◌++◌, map, length, Option, Some, None, unwrap_or, if◌then◌else◌, pos}
 use Rattle.merc_base.specs.declared.place.Span.{Span}
 use Rattle.merc_tree.specs.Term.{Term, Terms, Variable, Integer, Text, Application, none, more, list_of}
 use Rattle.merc_goals.specs.Written.{Written, WrittenGoals, Truth, Failure, Equal, Compared, Called, Conjunction as WrittenConjunction, Parallel as WrittenParallel, Disjunction as WrittenDisjunction, Conditional as WrittenConditional, Negated, Quantified as WrittenQuantified, no_goals, more_goals, parts, written, written_span}
@@ -13,12 +12,10 @@ use Rattle.merc_goal_tree.specs.declared.goal.Operation.{Operation}
 use Rattle.merc_goal_tree.specs.declared.goal.Operation.TheVariants.{Add, Subtract, Multiply, Quotient, Div, Mod, Rem}
 use Rattle.merc_goal_tree.specs.declared.goal.Comparison.{Comparison}
 use Rattle.merc_goal_tree.specs.declared.goal.Comparison.TheVariants.{Less, Greater, AtMost, AtLeast}
-use Rattle.merc_flat.specs.Scopes.{Occurrence, occurrences, free}
-
--- what a call is of: a predicate of the module, or `error`
-pub data Callee : Type 0 where
-  Predicate : (number : ℕ) → Callee
-  Error : Callee
+use Rattle.merc_known.specs.declared.callee.Callee.{Callee}
+use Rattle.merc_known.specs.declared.callee.Callee.TheVariants.{Predicate, Error}
+use Rattle.merc_scopes.specs.declared.occurrence.Occurrence.{Occurrence}
+use Rattle.merc_scopes.specs.Scopes.{at_of, introduced, occurrence, occurrences}
 
 -- `- E`
 abbrev pub is_negation : ℕ → Option ℕ → Terms → Bool
@@ -51,30 +48,9 @@ abbrev pub compare : Option Comparison → ℕ → ℕ → List SimpleGoal
 compare None left right = []
 compare (Some comparison) left right = Compare comparison left right ∷ []
 
--- What names stand for: the first of these occurrences tells the variable's number.
+-- the number of the variable that a name stands for
 abbrev pub variable_of : List Occurrence → ℕ → ℕ
-variable_of [] name = 0
-variable_of (first ∷ rest) name = if first.name == name then first.at else variable_of rest name
-
-abbrev pub has_name : ℕ → List Occurrence → Bool
-has_name name found = list_any (λ one. one.name == name) found
-
-abbrev pub all_of : List (List Occurrence) → List Occurrence
-all_of [] = []
-all_of (first ∷ rest) = first ++ all_of rest
-
-abbrev pub among : (Occurrence → Bool) → List Occurrence → List Occurrence
-among test [] = []
-among test (first ∷ rest) = if test first then first ∷ among test rest else among test rest
-
--- the variables that occur in at least two of some goals, of which these are the variables
-abbrev pub shared : List (List Occurrence) → List Occurrence
-shared goals = among (λ one. nat_le 2 (count_by (has_name one.name) goals)) (all_of goals)
-
--- each name where it first stands
-abbrev pub firsts : List ℕ → List Occurrence → List Occurrence
-firsts seen [] = []
-firsts seen (first ∷ rest) = if list_any (λ name. first.name == name) seen then firsts seen rest else first ∷ firsts (first.name ∷ seen) rest
+variable_of scope name = unwrap_or (at_of name scope) 0
 
 -- goals one after the other as one goal
 abbrev pub one_goal : Span → List Node → Node
@@ -82,15 +58,22 @@ one_goal span [] = Simple True span
 one_goal span (only ∷ []) = only
 one_goal span (first ∷ second ∷ rest) = Conjunction (nodes_of (first ∷ second ∷ rest)) span
 
-abbrev pub head_arguments : Term → Terms
-head_arguments (Application name qualifier arguments span) = arguments
-head_arguments other = none
+-- the arguments of a term, as they stand in it
+abbrev pub argument_terms : Term → Terms
+argument_terms (Application name qualifier arguments span) = arguments
+argument_terms other = none
 
--- Given are which names are `_`, and what a name with a qualifier and so many arguments calls.
-module _ (is_blank : ℕ → Bool) (callee : ℕ → Option ℕ → ℕ → Option Callee) where
+-- a call of a predicate, or an exception; `error` has one argument alone
+abbrev pub call_of : Callee → List ℕ → List SimpleGoal
+call_of (Predicate number) arguments = Call number arguments ∷ []
+call_of Error (text ∷ []) = Raise text ∷ []
+call_of Error other = []
+
+-- Given is which names are `_`.
+module _ (blank : ℕ → Bool) where
   -- the variable that stands for a term: its own, or the one that names it
   abbrev pub variable_at : List Occurrence → ℕ → Term → ℕ
-  variable_at scope at (Variable name span) = if is_blank name then at else variable_of scope name
+  variable_at scope at (Variable name span) = if blank name then at else variable_of scope name
   variable_at scope at other = at
 
   abbrev pub variables_at : List Occurrence → ℕ → Terms → List ℕ
@@ -130,22 +113,31 @@ module _ (is_blank : ℕ → Bool) (callee : ℕ → Option ℕ → ℕ → Opti
       naming_all scope (at + 2) (more left (more right none))
       ++ compare (comparison_of name) (variable_at scope (at + 2) left) (variable_at scope (at + 2 + parts left) right)
 
-  abbrev pub call_of : Option Callee → List ℕ → List SimpleGoal
-  call_of (Some (Predicate number)) arguments = Call number arguments ∷ []
-  call_of (Some Error) (text ∷ []) = Raise text ∷ []
-  call_of other arguments = []
+  -- a call of what its name means
+  abbrev pub called : List Occurrence → ℕ → Callee → Terms → List SimpleGoal
+  called scope at callee arguments = naming_all scope (at + 2) arguments ++ call_of callee (variables_at scope (at + 2) arguments)
 
-  abbrev pub called : List Occurrence → ℕ → ℕ → Option ℕ → Terms → List SimpleGoal
-  called scope at name qualifier arguments =
-      naming_all scope (at + 2) arguments ++ call_of (callee name qualifier (length (list_of arguments))) (variables_at scope (at + 2) arguments)
+  -- Heads: an argument that is a variable which was not met before in the head is the predicate's own variable, whose number is that of the argument.
 
-  abbrev pub simple : Span → List SimpleGoal → List Node
-  simple span goals = map (λ goal. Simple goal span) goals
+  abbrev pub head_scope : ℕ → ℕ → Terms → List Occurrence
+  head_scope number at none = []
+  head_scope number at (more (Variable name span) rest) = (if blank name then [] else occurrence name number ∷ []) ++ head_scope (number + 1) (at + 2) rest
+  head_scope number at (more first rest) = occurrences blank at first ++ head_scope (number + 1) (at + parts first) rest
 
-  abbrev pub each_free : WrittenGoals → List (List Occurrence)
-  each_free no_goals = []
-  each_free (more_goals first rest) = free is_blank first ∷ each_free rest
+  abbrev pub head_goal : List Occurrence → ℕ → ℕ → Term → List SimpleGoal
+  head_goal scope number at (Variable name span) =
+      if blank name || (variable_of scope name == number) then [] else Same number (variable_of scope name) ∷ []
+  head_goal scope number at other = naming scope number at other
 
+  abbrev pub head_goals : List Occurrence → ℕ → ℕ → Terms → List SimpleGoal
+  head_goals scope number at none = []
+  head_goals scope number at (more first rest) = head_goal scope number at first ++ head_goals scope (number + 1) (at + parts first) rest
+
+abbrev pub simple : Span → List SimpleGoal → List Node
+simple span goals = map (λ goal. Simple goal span) goals
+
+-- Given are which names are `_`, and what a name with a qualifier and so many arguments calls.
+module _ (blank : ℕ → Bool) (callee : ℕ → Option ℕ → ℕ → Callee) where
   abbrev mutual
     -- The goals that a goal becomes, one after the other, where some names stand for variables already. Any other name stands for a variable of the
     -- smallest goal that holds all its occurrences; where that is a disjunction, or an if-then-else and it occurs in its else part and before it, for
@@ -153,19 +145,19 @@ module _ (is_blank : ℕ → Bool) (callee : ℕ → Option ℕ → ℕ → Opti
     pub flat : List Occurrence → Written → List Node
     flat scope (Truth span) = Simple True span ∷ []
     flat scope (Failure span) = Simple Fail span ∷ []
-    flat scope (Equal at left right span) = simple span (equal (scope ++ free is_blank (Equal at left right span)) at left right)
-    flat scope (Compared at name left right span) = simple span (compared (scope ++ free is_blank (Compared at name left right span)) at name left right)
-    flat scope (Called at name qualifier arguments span) = simple span (called (scope ++ free is_blank (Called at name qualifier arguments span)) at name qualifier arguments)
-    flat scope (WrittenConjunction goals span) = flat_all (scope ++ shared (each_free goals)) goals
-    flat scope (WrittenParallel goals span) = Parallel (flat_each (scope ++ shared (each_free goals)) goals) span ∷ []
+    flat scope (Equal at left right span) = simple span (equal blank (scope ++ introduced blank (Equal at left right span)) at left right)
+    flat scope (Compared at name left right span) = simple span (compared blank (scope ++ introduced blank (Compared at name left right span)) at name left right)
+    flat scope (Called at name qualifier arguments span) = simple span (called blank (scope ++ introduced blank (Called at name qualifier arguments span)) at (callee name qualifier (length (list_of arguments))) arguments)
+    flat scope (WrittenConjunction goals span) = flat_all (scope ++ introduced blank (WrittenConjunction goals span)) goals
+    flat scope (WrittenParallel goals span) = Parallel (flat_each (scope ++ introduced blank (WrittenParallel goals span)) goals) span ∷ []
     flat scope (WrittenDisjunction goals span) = Disjunction (flat_each scope goals) span ∷ []
     flat scope (WrittenConditional condition then_part else_part span) =
-        let region = scope ++ shared (free is_blank condition ∷ free is_blank then_part ∷ []) in
+        let region = scope ++ introduced blank (WrittenConditional condition then_part else_part span) in
         Conditional (one_goal (written_span condition) (flat region condition)) (one_goal (written_span then_part) (flat region then_part)) (one_goal (written_span else_part) (flat scope else_part)) span ∷ []
     flat scope (Negated goal span) = Negation (one_goal (written_span goal) (flat scope goal)) span ∷ []
     flat scope (WrittenQuantified variables goal span) =
-        let own = firsts [] (among (λ one. list_any (λ name. one.name == name) variables) (free is_blank goal)) in
-        Quantified (map (λ one. one.at) own) (one_goal (written_span goal) (flat (own ++ scope) goal)) span ∷ []
+        let known = introduced blank (WrittenQuantified variables goal span) in
+        Quantified (map (λ one. one.at) known) (one_goal (written_span goal) (flat (known ++ scope) goal)) span ∷ []
     flat scope other = []
 
     -- of goals in a conjunction all of them, of others one for each
@@ -177,22 +169,6 @@ module _ (is_blank : ℕ → Bool) (callee : ℕ → Option ℕ → ℕ → Opti
     flat_each scope no_goals = no_nodes
     flat_each scope (more_goals first rest) = more_nodes (one_goal (written_span first) (flat scope first)) (flat_each scope rest)
 
-  -- Heads: an argument that is a variable which was not met before in the head is the predicate's own variable, whose number is that of the argument.
-
-  abbrev pub head_scope : ℕ → ℕ → Terms → List Occurrence
-  head_scope number at none = []
-  head_scope number at (more (Variable name span) rest) = (if is_blank name then [] else record { name = name; at = number } ∷ []) ++ head_scope (number + 1) (at + 2) rest
-  head_scope number at (more first rest) = occurrences is_blank at first ++ head_scope (number + 1) (at + parts first) rest
-
-  abbrev pub head_goal : List Occurrence → ℕ → ℕ → Term → List SimpleGoal
-  head_goal scope number at (Variable name span) =
-      if is_blank name || (variable_of scope name == number) then [] else Same number (variable_of scope name) ∷ []
-  head_goal scope number at other = naming scope number at other
-
-  abbrev pub head_goals : List Occurrence → ℕ → ℕ → Terms → List SimpleGoal
-  head_goals scope number at none = []
-  head_goals scope number at (more first rest) = head_goal scope number at first ++ head_goals scope (number + 1) (at + parts first) rest
-
   abbrev pub body_goals : List Occurrence → ℕ → Option Term → List Node
   body_goals scope at None = []
   body_goals scope at (Some body) = flat scope (written at body)
@@ -200,5 +176,5 @@ module _ (is_blank : ℕ → Bool) (callee : ℕ → Option ℕ → ℕ → Opti
   -- the goal of a clause, whose parts have the numbers from this one on
   abbrev pub clause_goal : ℕ → Term → Option Term → Span → Node
   clause_goal at head body span =
-      let scope = head_scope 0 (at + 2) (head_arguments head) in
-      one_goal span (simple span (head_goals scope 0 (at + 2) (head_arguments head)) ++ body_goals scope (at + parts head) body)
+      let scope = head_scope blank 0 (at + 2) (argument_terms head) in
+      one_goal span (simple span (head_goals blank scope 0 (at + 2) (argument_terms head)) ++ body_goals scope (at + parts head) body)

@@ -1,0 +1,10 @@
+pub mod LevelLaws
+pub mod ScopeLaws
+pub mod TaskLaws
+pub mod GoalLaws
+pub mod HeadLaws
+pub mod FlatLaws
+pub mod FrameLaws
+pub mod TakingUp
+pub mod Walking
+pub mod WholeGoals

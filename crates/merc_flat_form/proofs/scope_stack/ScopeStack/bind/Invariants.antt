@@ -1,0 +1,10 @@
+use Rattle.std.proofs.Common.{◌≡◌, ℕ, drop}
+use Rattle.merc_scopes.specs.Scopes.{at_of}
+use Rattle.merc_flat_form.specs.Levels.{shown, or_else}
+use Rattle.merc_flat_form.proofs.scope_stack.ScopeStack.bind.Given as goal
+
+abbrev pub invariant-loop-one : goal.invariant-loop-one
+invariant-loop-one l = record {
+  below : drop 1 l.self ≡ drop 1 l.fn.self;
+  meanings : (name : ℕ) → or_else (shown name l.self) (at_of name (drop l.one-index l.found)) ≡ or_else (shown name l.fn.self) (at_of name l.found);
+}

@@ -1,0 +1,192 @@
+//! How goals are brought into flat form.
+ghost use Rattle.std.specs.Prelude.{◌≡◌, ◌+◌, ◌++◌, ◌∷◌, [], IfOk, OnOk};
+ghost use Rattle.merc_goals.specs.Entries.{entries_of};
+ghost use Rattle.merc_goals.specs.Written.{parts, written_span};
+ghost use Rattle.merc_known.specs.Known.{callee_in};
+ghost use Rattle.merc_scopes.specs.Scopes.{is_blank};
+ghost use Rattle.merc_scopes.specs.Bindings.{AreBindings};
+ghost use Rattle.merc_flat_form.specs.Levels.{scope_of};
+ghost use Rattle.merc_flat_form.specs.FlatForm.{body_goals, clause_goal, flat, one_goal};
+ghost use Rattle.merc_flat_form.specs.Frames.{IsReady};
+ghost use Rattle.merc_flat_form.specs.Steps.{IsTakenUp};
+
+use crate::closing::{close_done, make_one};
+use crate::frames::{Closing, Frames};
+use crate::heads::{head_goals, head_scope};
+use crate::opening::{conjunction_frame, frame_of, open, open_conditional, open_quantified};
+use crate::scope_stack::ScopeStack;
+use crate::simple::{put_all, put_simple};
+use merc_base::{Names, NoMemory, Sequence, Span};
+use merc_goal_tree::Nodes;
+use merc_goals::{Entry, Form, WrittenGoal, written_goal};
+use merc_known::Known;
+use merc_scopes::{Occurrence, bindings};
+use merc_tree::{Clause, TermRef};
+use std::alloc::Global;
+
+/// Puts the flat form of a goal behind other goals, as one goal. In it these names of variables stand for the numbers
+/// beside them, and others for variables of their own: each has the number of the part where it first stands in its scope.
+///
+/// # Errors
+///
+/// `NoMemory` says that memory was refused, or that the numbers of the parts go past the greatest `usize`, which those of
+/// no text in memory do; here and in the call below. The goals are of no use then.
+pub fn goal_form(
+    alloc: Global,
+    goal: &WrittenGoal<'_>,
+    scope: &[Occurrence],
+    known: &Known<'_>,
+    names: &Names,
+    nodes: &mut Nodes,
+) -> Result<(), NoMemory>
+    ensures { OnOk result (nodes.new ≡ nodes.old ++ one_goal (written_span goal.now) (flat (is_blank names.now) (callee_in known.now) scope.now goal.now) ∷ []) }
+{
+    let found = bindings(alloc, goal, names)?;
+    let mut stack = ScopeStack::new(alloc);
+    stack.enter()?;
+    stack.bind_over(scope)?;
+    let start = nodes.len();
+    flatten(alloc, goal, &found, &mut stack, known, names, nodes)?;
+    make_one(nodes, start, span_of(goal))
+}
+
+/// Puts the flat form of a clause behind other goals, as one goal: the unifications of its head, then those of its body.
+/// The arguments of the predicate have the numbers from 0; the parts of the clause are numbered from `at` on.
+pub fn clause_form(
+    alloc: Global,
+    clause: &Clause,
+    at: usize,
+    known: &Known<'_>,
+    names: &Names,
+    nodes: &mut Nodes,
+) -> Result<(), NoMemory>
+    ensures { OnOk result (nodes.new ≡ nodes.old ++ clause_goal (is_blank names.now) (callee_in known.now) at clause.now.head clause.now.body clause.now.span ∷ []) }
+{
+    let head = clause.head.as_ref();
+    let start = nodes.len();
+    let scope = head_scope(alloc, names, at, &head)?;
+    let mut stack = ScopeStack::new(alloc);
+    stack.enter()?;
+    stack.bind_over(&scope)?;
+    let goals = head_goals(alloc, &stack, names, at, &head)?;
+    put_all(nodes, goals, clause.span)?;
+    put_body(alloc, clause, at, &mut stack, known, names, nodes)?;
+    make_one(nodes, start, clause.span)
+}
+
+// Puts the goals that the body of a clause becomes behind others.
+fn put_body(
+    alloc: Global,
+    clause: &Clause,
+    at: usize,
+    stack: &mut ScopeStack,
+    known: &Known<'_>,
+    names: &Names,
+    nodes: &mut Nodes,
+) -> Result<(), NoMemory>
+    ensures { OnOk result (nodes.new ≡ nodes.old ++ body_goals (is_blank names.now) (callee_in known.now) (scope_of stack.old) (at + parts clause.now.head) clause.now.body) }
+{
+    let body = match &clause.body {
+        Some(body) => body.as_ref(),
+        None => return Ok(()),
+    };
+    let head = clause.head.as_ref();
+    let at = number_behind(at, &head)?;
+    let goal = written_goal(alloc, &body, at)?;
+    let found = bindings(alloc, &goal, names)?;
+    flatten(alloc, &goal, &found, stack, known, names, nodes)
+}
+
+// Puts the goals that a goal becomes behind others.
+fn flatten(
+    alloc: Global,
+    goal: &WrittenGoal<'_>,
+    bindings: &[Sequence<Occurrence>],
+    stack: &mut ScopeStack,
+    known: &Known<'_>,
+    names: &Names,
+    nodes: &mut Nodes,
+) -> Result<(), NoMemory>
+    requires { AreBindings (is_blank names.now) (entries_of goal.now) bindings.now }
+    ensures { OnOk result (nodes.new ≡ nodes.old ++ flat (is_blank names.now) (callee_in known.now) (scope_of stack.old) goal.now) }
+{
+    let mut frames = Frames::new(alloc);
+    let entries = goal.entries();
+    for (index, entry) in entries.iter().enumerate() {
+        let found = bindings[index].as_slice();
+        take_up(alloc, entry, found, &mut frames, stack, known, names, nodes)?;
+        close_done(&mut frames, stack, nodes)?;
+    }
+    Ok(())
+}
+
+// Takes up the entry of a goal: puts the goals that it becomes behind others, or the frame in which its sub-goals do.
+fn take_up(
+    alloc: Global,
+    entry: &Entry<'_>,
+    found: &[Occurrence],
+    frames: &mut Frames,
+    stack: &mut ScopeStack,
+    known: &Known<'_>,
+    names: &Names,
+    nodes: &mut Nodes,
+) -> Result<(), NoMemory>
+    requires { IsReady frames.old }
+    ensures { OnOk result (IsTakenUp (is_blank names.now) (callee_in known.now) entry.now.form entry.now.at entry.now.span found.now frames.old stack.old nodes.old frames.new stack.new nodes.new) }
+{
+    let keeps = frames.keeps();
+    let span = entry.span;
+    let start = nodes.len();
+    frames.count_down();
+    match entry.form {
+        Form::Conjunction(count) => {
+            let frame = conjunction_frame(keeps, span, count, start);
+            open(frame, found, frames, stack)
+        }
+        Form::Parallel(count) => {
+            let frame = frame_of(Closing::JoinParallel, span, count, start);
+            open(frame, found, frames, stack)
+        }
+        Form::Disjunction(count) => {
+            let frame = frame_of(Closing::Disjoin, span, count, start);
+            open(frame, found, frames, stack)
+        }
+        Form::Negated => {
+            let frame = frame_of(Closing::Negate, span, 1, start);
+            open(frame, found, frames, stack)
+        }
+        Form::Conditional => open_conditional(span, start, found, frames, stack),
+        Form::Quantified(_) => open_quantified(alloc, span, start, found, frames, stack),
+        _ => put_simple(alloc, entry, found, keeps, stack, known, names, nodes),
+    }
+}
+
+// Where a goal stands in its text.
+fn span_of(goal: &WrittenGoal<'_>) -> Span
+    ensures { result ≡ written_span goal.now }
+{
+    match goal.entries().first() {
+        Some(entry) => entry.span,
+        None => unreachable!(),
+    }
+}
+
+// The number of the part behind those of a term.
+#[tactic(auto, using(merc_goals::proofs::PartCounts::parts_shapes))]
+fn number_behind(at: usize, term: &TermRef<'_>) -> Result<usize, NoMemory>
+    ensures { IfOk result (λ number. number ≡ at + parts term.now) }
+{
+    let count = term.part_count();
+    let half = number_past(at, count)?;
+    number_past(half, count)
+}
+
+// A number so much further on. No memory holds a text whose parts have greater numbers.
+fn number_past(at: usize, more: usize) -> Result<usize, NoMemory>
+    ensures { IfOk result (λ number. number ≡ at + more) }
+{
+    match at.checked_add(more) {
+        Some(number) => Ok(number),
+        None => Err(NoMemory),
+    }
+}
