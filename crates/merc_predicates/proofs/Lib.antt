@@ -1,0 +1,2 @@
+pub mod ClauseGoals
+pub mod GroupLaws
