@@ -1,0 +1,245 @@
+-- What goals ask of the types of their variables.
+use Rattle.std.proofs.Common.{◌≡◌, ℕ, zero, suc, ◌+◌, ◌<◌, ◌≤◌, Bool, true, false, Option, Some, None, List, [], ◌∷◌, ◌++◌, length, map, take, get_or, refl, sym, ap, subst, ◌∙◌, arith, add-zero, add-one}
+use Rattle.std.specs.Prelude.{slice_get}
+use Rattle.std.proofs.lemmas.List.{map-append, take_all}
+use Rattle.std.proofs.Math.Seq.{take-suc}
+use Rattle.merc_tree.specs.Types.{TypeExpr, TypeExprs, TypeVariable, IntType, TextType, TypeApplication, no_types, more_types, types_of, replaced, replaced_all}
+use Rattle.merc_tree.specs.declared.declarations.Module.{Module}
+use Rattle.merc_tree.specs.declared.declarations.Constructor.{Constructor}
+use Rattle.merc_tree.specs.declared.declarations.TypeDef.{TypeDef}
+use Rattle.merc_tree.specs.declared.declarations.PredDecl.{PredDecl}
+use Rattle.merc_known.specs.Known.{constructor_in}
+use Rattle.merc_type_check.specs.declared.checker.Checker.{Checker}
+use Rattle.merc_type_check.specs.Progress.{Types, IsSound, Step, Refuses, Takes, Nothing, Stands, AllStand, Places, HaveHead, AreHead, IsCleared, GoalTakes}
+use Rattle.merc_type_check.specs.Typing.{HaveTypes, HasConstructor, IsConstructed, IsCalled, AreArguments}
+use Rattle.merc_type_check.proofs.Steps.{steps, step_as, takes_as, grow_takes, grow_grow, stands_on, all_stand_on, cleared_takes}
+use Rattle.merc_type_check.proofs.Built.{stand_push, stand_as}
+
+pub taken : (done : Bool) (old new : Checker) (Asked : Types → Types → Type 0) → done ≡ true → Takes done old new Asked → Step old new Asked
+taken done old new Asked e takes = subst (λ (b : Bool). Takes b old new Asked) e takes
+
+pub refused : (done : Bool) (old new : Checker) (Asked : Types → Types → Type 0) → done ≡ false → Takes done old new Asked → Refuses old Asked
+refused done old new Asked e takes = subst (λ (b : Bool). Takes b old new Asked) e takes
+
+pub refuses_more : (old : Checker) (One Other : Types → Types → Type 0) → ((types instance : Types) → Other types instance → One types instance)
+    → Refuses old One → Refuses old Other
+refuses_more old One Other from refuses = λ places types instance fits asked. refuses places types instance fits (from types instance asked)
+
+-- two places one after the other, made equal
+pub two_equal : (done : Bool) (first second third last : Checker) (one other : ℕ) (One Other : Types → Types → TypeExpr) → Places first second one One
+    → Places second third other Other
+    → ((A B : Types → Types → TypeExpr) → Stands third one A → Stands third other B → Takes done third last (λ types instance. A types instance ≡ B types instance))
+    → Takes done first last (λ types instance. One types instance ≡ Other types instance)
+two_equal done first second third last one other One Other a b equal =
+    grow_takes done first third last (λ types instance. One types instance ≡ Other types instance) (grow_grow first second third a.grows b.grows)
+    (equal One Other (stands_on second third Nothing one One b.grows a.stands) b.stands)
+
+-- one more parameter of a type
+pub one_parameter : (old new : Checker) (params listed now : List ℕ) (place name k : ℕ) → Places old new place (λ types instance. instance name)
+    → now ≡ listed ++ place ∷ [] → k < length params → name ≡ get_or params k name → AllStand old listed (λ types instance. map instance (take k params))
+    → AllStand new now (λ types instance. map instance (take (k + 1) params))
+one_parameter old new params listed now place name k placed now_is less name_is stand =
+    let Meant : Types → Types → List TypeExpr = λ types instance. map instance (take k params) in
+    let whole : AllStand new (listed ++ place ∷ []) (λ types instance. map instance (take k params) ++ instance name ∷ []) =
+    stand_push new listed place Meant (λ types instance. instance name) (all_stand_on old new Nothing listed Meant placed.grows stand) placed.stands in
+    let front : take (k + 1) params ≡ take k params ++ name ∷ [] =
+    ap (λ (n : ℕ). take n params) (add-one k) ∙ take-suc params k name less ∙ ap (λ (n : ℕ). take k params ++ n ∷ []) (sym name_is) in
+    subst (λ (l : List ℕ). AllStand new l (λ types instance. map instance (take (k + 1) params))) (sym now_is)
+    (stand_as new (listed ++ place ∷ []) (λ types instance. map instance (take k params) ++ instance name ∷ []) (λ types instance. map instance (take (k + 1) params))
+    (λ types instance. sym (ap (map instance) front ∙ map-append instance (take k params) (name ∷ []))) whole)
+
+-- The types of variables in a list.
+module _ (known : Module) (types instance : Types) where
+  pub have_length : (variables : List ℕ) (declared : List TypeExpr) → HaveTypes known types instance variables declared → length variables ≡ length declared
+  have_length [] [] have = refl
+  have_length [] (d ∷ ds) have = absurd have
+  have_length (v ∷ vs) [] have = absurd have
+  have_length (v ∷ vs) (d ∷ ds) have = ap suc (have_length vs ds have.1)
+
+  pub have_push : (k : ℕ) (variables : List ℕ) (declared : List TypeExpr) (v : ℕ) (d : TypeExpr) → slice_get variables k ≡ Some v → slice_get declared k ≡ Some d
+      → HaveTypes known types instance (take k variables) (take k declared) → types v ≡ replaced instance d
+      → HaveTypes known types instance (take (suc k) variables) (take (suc k) declared)
+  have_push k [] ds v d v_is d_is have same = absurd (cc)
+  have_push k (w ∷ ws) [] v d v_is d_is have same = absurd (cc)
+  have_push zero (w ∷ ws) (e ∷ es) v d v_is d_is have same =
+      let a : w ≡ v = cc in let b : e ≡ d = cc in (ap types a ∙ same ∙ ap (replaced instance) (sym b), tt)
+  have_push (suc k) (w ∷ ws) (e ∷ es) v d v_is d_is have same = (have.0, have_push k ws es v d v_is d_is have.1 same)
+
+  pub have_pop : (k : ℕ) (variables : List ℕ) (declared : List TypeExpr) (v : ℕ) (d : TypeExpr) → slice_get variables k ≡ Some v → slice_get declared k ≡ Some d
+      → HaveTypes known types instance (take (suc k) variables) (take (suc k) declared)
+      → HaveTypes known types instance (take k variables) (take k declared) × (types v ≡ replaced instance d)
+  have_pop k [] ds v d v_is d_is have = absurd (cc)
+  have_pop k (w ∷ ws) [] v d v_is d_is have = absurd (cc)
+  have_pop zero (w ∷ ws) (e ∷ es) v d v_is d_is have =
+      let a : w ≡ v = cc in let b : e ≡ d = cc in (tt, ap types (sym a) ∙ have.0 ∙ ap (replaced instance) b)
+  have_pop (suc k) (w ∷ ws) (e ∷ es) v d v_is d_is have = let rest = have_pop k ws es v d v_is d_is have.1 in ((have.0, rest.0), rest.1)
+
+  pub have_front : (k : ℕ) (variables : List ℕ) (declared : List TypeExpr) → HaveTypes known types instance variables declared
+      → HaveTypes known types instance (take k variables) (take k declared)
+  have_front zero vs ds have = tt
+  have_front (suc k) [] [] have = tt
+  have_front (suc k) [] (d ∷ ds) have = absurd have
+  have_front (suc k) (v ∷ vs) [] have = absurd have
+  have_front (suc k) (v ∷ vs) (d ∷ ds) have = (have.0, have_front k vs ds have.1)
+
+-- The types of the first variables.
+module _ (types instance : Types) where
+  pub head_push : (k number : ℕ) (declared : List TypeExpr) (d : TypeExpr) → slice_get declared k ≡ Some d → HaveHead number (take k declared) types instance
+      → types (number + k) ≡ replaced instance d → HaveHead number (take (suc k) declared) types instance
+  head_push k number [] d d_is have same = absurd (cc)
+  head_push zero number (e ∷ es) d d_is have same =
+      let b : e ≡ d = cc in (ap types (sym (add-zero number)) ∙ same ∙ ap (replaced instance) (sym b), tt)
+  head_push (suc k) number (e ∷ es) d d_is have same =
+      let at : number + suc k ≡ number + 1 + k = omega arith in
+      (have.0, head_push k (number + 1) es d d_is have.1 (ap types (sym at) ∙ same))
+
+  pub head_pop : (k number : ℕ) (declared : List TypeExpr) (d : TypeExpr) → slice_get declared k ≡ Some d → HaveHead number (take (suc k) declared) types instance
+      → HaveHead number (take k declared) types instance × (types (number + k) ≡ replaced instance d)
+  head_pop k number [] d d_is have = absurd (cc)
+  head_pop zero number (e ∷ es) d d_is have =
+      let b : e ≡ d = cc in (tt, ap types (add-zero number) ∙ have.0 ∙ ap (replaced instance) b)
+  head_pop (suc k) number (e ∷ es) d d_is have =
+      let at : number + suc k ≡ number + 1 + k = omega arith in
+      let rest = head_pop k (number + 1) es d d_is have.1 in
+      ((have.0, rest.0), ap types at ∙ rest.1)
+
+  pub head_front : (k number : ℕ) (declared : List TypeExpr) → HaveHead number declared types instance → HaveHead number (take k declared) types instance
+  head_front zero number ds have = tt
+  head_front (suc k) number [] have = tt
+  head_front (suc k) number (d ∷ ds) have = (have.0, head_front k (number + 1) ds have.1)
+
+-- a type with each variable replaced by itself
+mutual
+  pub replaced_self : (instance : Types) → ((name : ℕ) → instance name ≡ TypeVariable name) → (type : TypeExpr) → replaced instance type ≡ type
+  replaced_self instance own (TypeVariable name) = own name
+  replaced_self instance own IntType = refl
+  replaced_self instance own TextType = refl
+  replaced_self instance own (TypeApplication name arguments) = ap (TypeApplication name) (replaced_all_self instance own arguments)
+
+  pub replaced_all_self : (instance : Types) → ((name : ℕ) → instance name ≡ TypeVariable name) → (arguments : TypeExprs) → replaced_all instance arguments ≡ arguments
+  replaced_all_self instance own no_types = refl
+  replaced_all_self instance own (more_types first rest) =
+      let a : replaced instance first ≡ first = replaced_self instance own first in
+      let b : replaced_all instance rest ≡ rest = replaced_all_self instance own rest in cc
+
+pub head_to_arguments : (known : Module) (types instance : Types) → ((name : ℕ) → instance name ≡ TypeVariable name) → (number : ℕ) (declared : List TypeExpr)
+    → HaveHead number declared types instance → AreArguments known types number declared
+head_to_arguments known types instance own number [] have = tt
+head_to_arguments known types instance own number (d ∷ ds) have =
+    (have.0 ∙ replaced_self instance own d, head_to_arguments known types instance own (number + 1) ds have.1)
+
+pub arguments_to_head : (known : Module) (types instance : Types) → ((name : ℕ) → instance name ≡ TypeVariable name) → (number : ℕ) (declared : List TypeExpr)
+    → AreArguments known types number declared → HaveHead number declared types instance
+arguments_to_head known types instance own number [] have = tt
+arguments_to_head known types instance own number (d ∷ ds) have =
+    (have.0 ∙ sym (replaced_self instance own d), arguments_to_head known types instance own (number + 1) ds have.1)
+
+-- one more variable of a list
+pub have_step : (known : Module) (first second third : Checker) (variables : List ℕ) (declared : List TypeExpr) (k v : ℕ) (d : TypeExpr) → slice_get variables k ≡ Some v
+    → slice_get declared k ≡ Some d → Step first second (λ types instance. HaveTypes known types instance (take k variables) (take k declared))
+    → Step second third (λ types instance. types v ≡ replaced instance d)
+    → Step first third (λ types instance. HaveTypes known types instance (take (k + 1) variables) (take (k + 1) declared))
+have_step known first second third variables declared k v d v_is d_is one other =
+    subst (λ (n : ℕ). Step first third (λ types instance. HaveTypes known types instance (take n variables) (take n declared))) (sym (add-one k))
+    (step_as first third (λ types instance. HaveTypes known types instance (take k variables) (take k declared) × (types v ≡ replaced instance d))
+    (λ types instance. HaveTypes known types instance (take (suc k) variables) (take (suc k) declared))
+    (λ types instance both. have_push known types instance k variables declared v d v_is d_is both.0 both.1)
+    (λ types instance have. have_pop known types instance k variables declared v d v_is d_is have)
+    (steps first second third (λ types instance. HaveTypes known types instance (take k variables) (take k declared)) (λ types instance. types v ≡ replaced instance d) one other))
+
+pub have_refused : (known : Module) (first second : Checker) (variables : List ℕ) (declared : List TypeExpr) (k v : ℕ) (d : TypeExpr) → slice_get variables k ≡ Some v
+    → slice_get declared k ≡ Some d → Step first second (λ types instance. HaveTypes known types instance (take k variables) (take k declared))
+    → Refuses second (λ types instance. types v ≡ replaced instance d) → Refuses first (λ types instance. HaveTypes known types instance variables declared)
+have_refused known first second variables declared k v d v_is d_is step refuses = λ places types instance fits have.
+    let both = have_pop known types instance k variables declared v d v_is d_is (have_front known types instance (suc k) variables declared have) in
+    let middle = step.forth places types instance fits both.0 in
+    refuses middle.0 types instance middle.1 both.1
+
+pub have_all : (known : Module) (first second : Checker) (variables : List ℕ) (declared : List TypeExpr) (k : ℕ) → length variables ≤ k → length declared ≤ k
+    → Step first second (λ types instance. HaveTypes known types instance (take k variables) (take k declared))
+    → Step first second (λ types instance. HaveTypes known types instance variables declared)
+have_all known first second variables declared k one other step =
+    let a : take k variables ≡ variables = take_all k variables one in
+    let b : take k declared ≡ declared = take_all k declared other in
+    subst (λ (vs : List ℕ). Step first second (λ types instance. HaveTypes known types instance vs declared)) a
+    (subst (λ (ds : List TypeExpr). Step first second (λ types instance. HaveTypes known types instance (take k variables) ds)) b step)
+
+pub have_none : (known : Module) (old : Checker) (variables : List ℕ) (declared : List TypeExpr) → (length variables ≡ length declared → ⊥)
+    → Refuses old (λ types instance. HaveTypes known types instance variables declared)
+have_none known old variables declared apart = λ places types instance fits have. apart (have_length known types instance variables declared have)
+
+-- one more of the first variables
+pub head_step : (first second third : Checker) (declared : List TypeExpr) (k v : ℕ) (d : TypeExpr) → v ≡ k → slice_get declared k ≡ Some d
+    → Step first second (λ types instance. AreHead (take k declared) types instance) → Step second third (λ types instance. types v ≡ replaced instance d)
+    → Step first third (λ types instance. AreHead (take (k + 1) declared) types instance)
+head_step first second third declared k v d v_is d_is one other =
+    let at : 0 + k ≡ v = omega arith in
+    subst (λ (n : ℕ). Step first third (λ types instance. AreHead (take n declared) types instance)) (sym (add-one k))
+    (step_as first third (λ types instance. AreHead (take k declared) types instance × (types v ≡ replaced instance d))
+    (λ types instance. AreHead (take (suc k) declared) types instance)
+    (λ types instance both. head_push types instance k 0 declared d d_is both.0 (ap types at ∙ both.1))
+    (λ types instance have. let rest = head_pop types instance k 0 declared d d_is have in (rest.0, ap types (sym at) ∙ rest.1))
+    (steps first second third (λ types instance. AreHead (take k declared) types instance) (λ types instance. types v ≡ replaced instance d) one other))
+
+pub head_refused : (first second : Checker) (declared : List TypeExpr) (k v : ℕ) (d : TypeExpr) → v ≡ k → slice_get declared k ≡ Some d
+    → Step first second (λ types instance. AreHead (take k declared) types instance) → Refuses second (λ types instance. types v ≡ replaced instance d)
+    → Refuses first (λ types instance. AreHead declared types instance)
+head_refused first second declared k v d v_is d_is step refuses = λ places types instance fits have.
+    let at : 0 + k ≡ v = omega arith in
+    let both = head_pop types instance k 0 declared d d_is (head_front types instance (suc k) 0 declared have) in
+    let middle = step.forth places types instance fits both.0 in
+    refuses middle.0 types instance middle.1 (ap types (sym at) ∙ both.1)
+
+pub head_all : (first second : Checker) (declared : List TypeExpr) (k : ℕ) → length declared ≤ k
+    → Step first second (λ types instance. AreHead (take k declared) types instance) → Step first second (λ types instance. AreHead declared types instance)
+head_all first second declared k less step =
+    subst (λ (ds : List TypeExpr). Step first second (λ types instance. AreHead ds types instance)) (take_all k declared less) step
+
+pub some_there : {A : Type 0} (listed : List A) (k : ℕ) → None ≡ slice_get listed k → k < length listed → ⊥
+some_there [] k e less = omega arith
+some_there (x ∷ xs) zero e less = cc
+some_there (x ∷ xs) (suc k) e less = some_there xs k e (omega arith)
+
+-- a constructor and a call, with what type variables stand for in them
+pub constructed : (done : Bool) (old middle new : Checker) (known : Module) (variable name arity : ℕ) (arguments : List ℕ) (declared : TypeDef) (constructor : Constructor)
+    → Some (declared, constructor) ≡ constructor_in known.types name arity → IsCleared old middle
+    → Takes done middle new (λ types instance. HasConstructor known types instance variable declared constructor arguments)
+    → GoalTakes done old new (λ types. IsConstructed known types variable (constructor_in known.types name arity) arguments)
+constructed done old middle new known variable name arity arguments declared constructor found cleared takes =
+    cleared_takes done old middle new (λ types instance. HasConstructor known types instance variable declared constructor arguments)
+    (λ types. IsConstructed known types variable (constructor_in known.types name arity) arguments) cleared
+    (λ types instance has. subst (λ (o : Option (TypeDef × Constructor)). IsConstructed known types variable o arguments) found (instance, has))
+    (λ types has. subst (λ (o : Option (TypeDef × Constructor)). IsConstructed known types variable o arguments) (sym found) has) takes
+
+pub called : (done : Bool) (old middle new : Checker) (known : Module) (predicate : ℕ) (arguments : List ℕ) (declared : PredDecl)
+    → Some declared ≡ slice_get known.preds predicate → IsCleared old middle
+    → Takes done middle new (λ types instance. HaveTypes known types instance arguments declared.args)
+    → GoalTakes done old new (λ types. IsCalled known types (slice_get known.preds predicate) arguments)
+called done old middle new known predicate arguments declared found cleared takes =
+    cleared_takes done old middle new (λ types instance. HaveTypes known types instance arguments declared.args)
+    (λ types. IsCalled known types (slice_get known.preds predicate) arguments) cleared
+    (λ types instance has. subst (λ (o : Option PredDecl). IsCalled known types o arguments) found (instance, has))
+    (λ types has. subst (λ (o : Option PredDecl). IsCalled known types o arguments) (sym found) has) takes
+
+-- a type over its parameters
+pub whole_placed : (first second third : Checker) (place name : ℕ) (params listed view : List ℕ) → view ≡ listed → Step first second Nothing
+    → AllStand second listed (λ types instance. map instance params)
+    → ((Meant : Types → Types → List TypeExpr) → AllStand second view Meant → Places second third place (λ types instance. TypeApplication name (types_of (Meant types instance))))
+    → Places first third place (λ types instance. TypeApplication name (types_of (map instance params)))
+whole_placed first second third place name params listed view view_is grows stand applied =
+    let placed = applied (λ types instance. map instance params)
+    (subst (λ (l : List ℕ). AllStand second l (λ types instance. map instance params)) (sym view_is) stand) in
+    record { grows = grow_grow first second third grows placed.grows; stands = placed.stands }
+
+-- a variable has a type over its parameters
+abbrev pub HasWhole : ℕ → TypeDef → Types → Types → Type 0
+HasWhole variable declared types instance = types variable ≡ TypeApplication declared.name (types_of (map instance declared.params))
+
+pub whole_taken : (done : Bool) (first second third last : Checker) (one other variable : ℕ) (declared : TypeDef)
+    → Places first second one (λ types instance. types variable)
+    → Places second third other (λ types instance. TypeApplication declared.name (types_of (map instance declared.params)))
+    → ((A B : Types → Types → TypeExpr) → Stands third one A → Stands third other B → Takes done third last (λ types instance. A types instance ≡ B types instance))
+    → Takes done first last (HasWhole variable declared)
+whole_taken done first second third last one other variable declared a b equal =
+    two_equal done first second third last one other (λ types instance. types variable)
+    (λ types instance. TypeApplication declared.name (types_of (map instance declared.params))) a b equal

@@ -1,0 +1,5 @@
+pub mod Steps
+pub mod Places
+pub mod Built
+pub mod Asked
+pub mod Told

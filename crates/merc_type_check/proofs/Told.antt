@@ -1,0 +1,122 @@
+-- What the check tells in the end.
+use Rattle.std.proofs.Common.{◌≡◌, ℕ, zero, suc, ◌+◌, ◌≤◌, Bool, true, false, Some, List, [], ◌∷◌, length, take, refl, sym, subst, add-one}
+use Rattle.std.specs.Prelude.{slice_get}
+use Rattle.std.specs.List.{AllByRecursion}
+use Rattle.std.specs.BTreeMap.{BTreeMap}
+use Rattle.std.proofs.lemmas.List.{take_all}
+use Rattle.merc_base.specs.declared.place.Span.{Span}
+use Rattle.merc_tree.specs.Types.{TypeExpr, TypeVariable}
+use Rattle.merc_tree.specs.declared.declarations.Module.{Module}
+use Rattle.merc_goal_tree.specs.declared.entries.Root.{Root}
+use Rattle.merc_goal_tree.specs.Nodes.{Node}
+use Rattle.merc_goal_tree.specs.Parts.{parts_of}
+use Rattle.merc_type_graph.specs.Solutions.{Entry, Solves}
+use Rattle.merc_type_graph.specs.Changes.{Decides}
+use Rattle.merc_type_check.specs.declared.checker.Checker.{Checker}
+use Rattle.merc_type_check.specs.Progress.{Types, AgreesWith, IsAllowed, Fits, Holds, IsCleared, Step, Refuses, GoalStep, GoalRefuses, AreHead, Knows}
+use Rattle.merc_type_check.specs.Typing.{AreArguments, IsTypedPart, HasTyping}
+use Rattle.merc_type_check.specs.Checked.{Tells}
+use Rattle.merc_type_check.proofs.Steps.{types_read, types_read_agree, goal_takes, cleared_sound}
+use Rattle.merc_type_check.proofs.Asked.{head_to_arguments, arguments_to_head}
+
+-- the predicate's arguments have their types, and so many parts are typed
+pub record IsTypedUpTo (known : Module) (arguments : List TypeExpr) (goal : Node) (count : ℕ) (types : Types) : Type 0 where
+  pub head : AreArguments known types 0 arguments
+  pub parts : AllByRecursion (IsTypedPart known types) (take count (parts_of goal))
+
+forced : (own : Bool) (instance : Types) → own ≡ true → IsAllowed own instance → (name : ℕ) → instance name ≡ TypeVariable name
+forced true instance e allowed = allowed
+forced false instance e allowed = absurd (cc)
+
+-- the arguments
+pub head_known : (start head cleared : Checker) (known : Module) (arguments : List TypeExpr) (goal : Node) → start.own ≡ true
+    → ((places types : Types) → Fits start places types TypeVariable) → Step start head (λ types instance. AreHead arguments types instance) → IsCleared head cleared
+    → Knows cleared (IsTypedUpTo known arguments goal 0)
+head_known start head cleared known arguments goal own free step is_cleared =
+    let whole : GoalStep start head (λ types. AreArguments known types 0 arguments) =
+    goal_takes true start head (λ types instance. AreHead arguments types instance) (λ types. AreArguments known types 0 arguments)
+    (λ places types instance fits have. head_to_arguments known types instance (forced start.own instance own fits.allowed) 0 arguments have)
+    (λ places types holds have. (TypeVariable, (free places types, arguments_to_head known types TypeVariable (λ name. refl) 0 arguments have))) step in
+    record {
+      sound = cleared_sound head cleared whole.sound is_cleared;
+      back = λ places types holds.
+          let before : Holds head places types = record {
+            solved = subst (λ (g : List Entry). Solves g places) is_cleared.graph holds.solved;
+            variables = subst (λ (m : BTreeMap ℕ ℕ). AgreesWith m places types) is_cleared.variables holds.variables;
+          } in
+          record { head = (whole.back places types before).1; parts = tt };
+      forth = λ types typed.
+          let empty = free types types in
+          let after = whole.forth types types (record { solved = empty.solved; variables = empty.variables }) typed.head in (
+            after.0,
+            record {
+              solved = subst (λ (g : List Entry). Solves g after.0) (sym is_cleared.graph) after.1.solved;
+              variables = subst (λ (m : BTreeMap ℕ ℕ). AgreesWith m after.0 types) (sym is_cleared.variables) after.1.variables;
+            },
+          );
+    }
+
+pub head_untyped : (start : Checker) (known : Module) (arguments : List TypeExpr) (goal : Node) → ((places types : Types) → Fits start places types TypeVariable)
+    → Refuses start (λ types instance. AreHead arguments types instance) → HasTyping known arguments goal → ⊥
+head_untyped start known arguments goal free refuses typing =
+    refuses typing.0 typing.0 TypeVariable (free typing.0 typing.0) (arguments_to_head known typing.0 TypeVariable (λ name. refl) 0 arguments typing.1.head)
+
+-- one part more
+part_push : {A : Type 0} (P : A → Type 0) (k : ℕ) (listed : List A) (x : A) → Some x ≡ slice_get listed k → AllByRecursion P (take k listed) → P x
+    → AllByRecursion P (take (suc k) listed)
+part_push P k [] x e all one = absurd (cc)
+part_push P zero (y ∷ ys) x e all one = (subst P (same_some e) one, tt)
+  where
+    same_some : {B : Type 0} {a b : B} → Some a ≡ Some b → a ≡ b
+    same_some e = cc
+part_push P (suc k) (y ∷ ys) x e all one = (all.0, part_push P k ys x e all.1 one)
+
+part_pop : {A : Type 0} (P : A → Type 0) (k : ℕ) (listed : List A) (x : A) → Some x ≡ slice_get listed k → AllByRecursion P (take (suc k) listed)
+    → AllByRecursion P (take k listed) × P x
+part_pop P k [] x e all = absurd (cc)
+part_pop P zero (y ∷ ys) x e all = (tt, subst P (sym (same_some e)) all.0)
+  where
+    same_some : {B : Type 0} {a b : B} → Some a ≡ Some b → a ≡ b
+    same_some e = cc
+part_pop P (suc k) (y ∷ ys) x e all = let rest = part_pop P k ys x e all.1 in ((all.0, rest.0), rest.1)
+
+part_front : {A : Type 0} (P : A → Type 0) (k : ℕ) (listed : List A) → AllByRecursion P listed → AllByRecursion P (take k listed)
+part_front P zero listed all = tt
+part_front P (suc k) [] all = tt
+part_front P (suc k) (y ∷ ys) all = (all.0, part_front P k ys all.1)
+
+pub part_known : (old new : Checker) (known : Module) (arguments : List TypeExpr) (goal : Node) (k : ℕ) (part : Root × Span) → Some part ≡ slice_get (parts_of goal) k
+    → Knows old (IsTypedUpTo known arguments goal k) → GoalStep old new (λ types. IsTypedPart known types part)
+    → Knows new (IsTypedUpTo known arguments goal (k + 1))
+part_known old new known arguments goal k part part_is knows step =
+    subst (λ (n : ℕ). Knows new (IsTypedUpTo known arguments goal n)) (sym (add-one k)) (record {
+      sound = step.sound;
+      back = λ places types holds.
+          let before = step.back places types holds in
+          let typed = knows.back places types before.0 in
+          record { head = typed.head; parts = part_push (IsTypedPart known types) k (parts_of goal) part part_is typed.parts before.1 };
+      forth = λ types typed.
+          let both = part_pop (IsTypedPart known types) k (parts_of goal) part part_is typed.parts in
+          let before = knows.forth types (record { head = typed.head; parts = both.0 }) in
+          step.forth before.0 types before.1 both.1;
+    })
+
+pub part_untyped : (old : Checker) (known : Module) (arguments : List TypeExpr) (goal : Node) (k : ℕ) (part : Root × Span) → Some part ≡ slice_get (parts_of goal) k
+    → Knows old (IsTypedUpTo known arguments goal k) → GoalRefuses old (λ types. IsTypedPart known types part) → HasTyping known arguments goal → ⊥
+part_untyped old known arguments goal k part part_is knows refuses typing =
+    let types : Types = typing.0 in
+    let both = part_pop (IsTypedPart known types) k (parts_of goal) part part_is (part_front (IsTypedPart known types) (suc k) (parts_of goal) typing.1.parts) in
+    let before = knows.forth types (record { head = typing.1.head; parts = both.0 }) in
+    refuses before.0 types before.1 both.1
+
+-- all parts
+pub told : (solvable : Bool) (checker : Checker) (known : Module) (arguments : List TypeExpr) (goal : Node) (k : ℕ) → length (parts_of goal) ≤ k
+    → Knows checker (IsTypedUpTo known arguments goal k) → Decides solvable checker.graph → Tells solvable known arguments goal
+told true checker known arguments goal k all knows decides =
+    let types : Types = types_read checker.variables decides.0 in
+    let typed = knows.back decides.0 types (record { solved = decides.1; variables = types_read_agree checker.variables decides.0 }) in
+    (types, record { head = typed.head; parts = subst (AllByRecursion (IsTypedPart known types)) (take_all k (parts_of goal) all) typed.parts })
+told false checker known arguments goal k all knows decides = λ typing.
+    let types : Types = typing.0 in
+    let before = knows.forth types (record { head = typing.1.head; parts = part_front (IsTypedPart known types) k (parts_of goal) typing.1.parts }) in
+    decides before.0 before.1.solved

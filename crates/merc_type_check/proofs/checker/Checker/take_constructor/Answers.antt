@@ -1,0 +1,28 @@
+use Rattle.std.proofs.lemmas.Result.{IfOk-weaker}
+use Rattle.merc_type_check.specs.Typing.{HaveTypes}
+use Rattle.merc_type_check.proofs.Steps.{step_takes}
+use Rattle.merc_type_check.proofs.Asked.{HasWhole, whole_taken, taken, refused, refuses_more}
+use Rattle.merc_type_check.proofs.checker.Checker.take_constructor.Goals as goal
+
+pub returns-then-not-done : goal.returns-then-not-done
+returns-then-not-done c = λ known.
+    refuses_more c.args.self.now (HasWhole c.args.variable c.args.declared.now) _ (λ types instance both. both.0)
+    (refused c.in_ok-done.done c.args.self.now c.make_equal.new.self (HasWhole c.args.variable c.args.declared.now) c.if-not-done.true
+    (whole_taken c.in_ok-done.done c.args.self.now c.variable.new.self c.whole.new.self c.make_equal.new.self c.in_ok-place.place c.in_ok-whole.whole c.args.variable
+    c.args.declared.now c.in_ok-place.ensures c.in_ok-whole.ensures c.in_ok-done.ensures))
+
+pub have_types-requires : goal.have_types-requires
+have_types-requires c =
+    let step = taken c.in_ok-done.done c.args.self.now c.make_equal.new.self (HasWhole c.args.variable c.args.declared.now) c.if-not-done.false
+    (whole_taken c.in_ok-done.done c.args.self.now c.variable.new.self c.whole.new.self c.make_equal.new.self c.in_ok-place.place c.in_ok-whole.whole c.args.variable
+    c.args.declared.now c.in_ok-place.ensures c.in_ok-whole.ensures c.in_ok-done.ensures) in
+    step.sound
+
+pub returns : goal.returns
+returns c =
+    let step = taken c.in_ok-done.done c.args.self.now c.make_equal.new.self (HasWhole c.args.variable c.args.declared.now) c.if-not-done.false
+    (whole_taken c.in_ok-done.done c.args.self.now c.variable.new.self c.whole.new.self c.make_equal.new.self c.in_ok-place.place c.in_ok-whole.whole c.args.variable
+    c.args.declared.now c.in_ok-place.ensures c.in_ok-whole.ensures c.in_ok-done.ensures) in
+    IfOk-weaker c.have_types.result _ _
+    (λ done takes. λ known. step_takes done c.args.self.now c.make_equal.new.self c.have_types.new.self (HasWhole c.args.variable c.args.declared.now)
+    (λ types instance. HaveTypes known types instance c.args.arguments.now c.args.constructor.now.args) step (takes known)) c.have_types.ensures

@@ -1,0 +1,11 @@
+use Rattle.std.proofs.Common.{sym, ◌∙◌}
+use Rattle.merc_type_check.proofs.Places.{type_variable_known, type_variable_placed}
+use Rattle.merc_type_check.proofs.checker.Checker.type_variable.Goals as goal
+
+pub returns-in-Some : goal.returns-in-Some
+returns-in-Some c = type_variable_known c.args.self.now c.args.name c.in-Some.place c.requires (sym c.get.ensures.value ∙ sym c.in-Some.ensures)
+
+pub returns-in_ok-insert-in-None : goal.returns-in_ok-insert-in-None
+returns-in_ok-insert-in-None c =
+    type_variable_placed c.args.self.now c.add_meant.new.graph c.insert.new.self c.args.name c.in_ok-place-in-None.place c.requires c.in_ok-place-in-None.ensures.place
+    c.in_ok-place-in-None.ensures.count c.in_ok-place-in-None.ensures.solutions (sym c.get.ensures.value ∙ sym c.in-None.ensures) c.in_ok-insert-in-None.ensures.updates.0

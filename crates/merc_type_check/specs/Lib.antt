@@ -1,0 +1,5 @@
+pub mod Typing
+pub mod Checked
+pub mod TypingExamples
+pub mod Progress
+pub mod Building

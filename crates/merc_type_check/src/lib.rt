@@ -1,0 +1,11 @@
+//! The check of types: whether the variables of a goal have types that agree with what is declared.
+#![tactic(auto)]
+
+mod building;
+mod checker;
+mod checking;
+mod goals;
+#[cfg(test)]
+mod tests;
+
+pub use checking::is_typed;
