@@ -1,0 +1,56 @@
+-- Clauses and goals are refused in one way at most, and not where they are accepted.
+use Rattle.std.proofs.Common.{◌≡◌, ℕ, List, [], ◌∷◌, ◌++◌, Some, refl, sym, subst, ap, ◌∙◌}
+use Rattle.std.specs.List.{AllByRecursion}
+use Rattle.merc_base.specs.declared.refusal.Refusal.{Refusal}
+use Rattle.merc_tree.specs.Term.{Term}
+use Rattle.merc_tree.specs.declared.declarations.Clause.{Clause}
+use Rattle.merc_tree.specs.declared.declarations.Module.{Module}
+use Rattle.merc_check.specs.Accepted.{AcceptsClauses, AcceptsGoal, IsTypedClause, RefusesClauses, RefusesGoal, type_mismatch}
+use Rattle.merc_check.specs.Accepted.RefusesClauses.{fault as clauses_faulty, untyped as clause_untyped}
+use Rattle.merc_check.specs.Accepted.RefusesGoal.{fault as goal_faulty, untyped as goal_untyped}
+
+-- of two items that are each the first without a property, both are one
+module _ {A : Type 0} (P : A → Type 0) where
+  all-behind : (before : List A) (item : A) (behind : List A) → AllByRecursion P (before ++ item ∷ behind) → P item
+  all-behind [] item behind all = all.0
+  all-behind (first ∷ before) item behind all = all-behind before item behind all.1
+
+  first_without : (before before' : List A) (item item' : A) (behind behind' : List A) → before ++ item ∷ behind ≡ before' ++ item' ∷ behind'
+      → AllByRecursion P before → AllByRecursion P before' → (P item → ⊥) → (P item' → ⊥) → item ≡ item'
+  first_without [] [] item item' behind behind' same all all' none none' = cc
+  first_without [] (first ∷ before') item item' behind behind' same all all' none none' =
+      let is : first ≡ item = cc in
+      absurd (none (subst P is all'.0))
+  first_without (first ∷ before) [] item item' behind behind' same all all' none none' =
+      let is : first ≡ item' = cc in
+      absurd (none' (subst P is all.0))
+  first_without (first ∷ before) (first' ∷ before') item item' behind behind' same all all' none none' =
+      first_without before before' item item' behind behind' (cc) all.1 all'.1 none none'
+
+module _ (names : List (List ℕ)) (known : Module) where
+  pub RefusesClauses-excludes : (refusal : Refusal) → RefusesClauses names known refusal → AcceptsClauses names known → ⊥
+  RefusesClauses-excludes refusal (clauses_faulty _ is) accepts = let none = accepts.flat in cc
+  RefusesClauses-excludes _ (clause_untyped before clause behind none same typed wrong) accepts =
+      wrong (all-behind (IsTypedClause names known) before clause behind (subst (AllByRecursion (IsTypedClause names known)) same accepts.typed))
+
+  pub RefusesClauses-unique : (one other : Refusal) → RefusesClauses names known one → RefusesClauses names known other → one ≡ other
+  RefusesClauses-unique one other (clauses_faulty _ is) (clauses_faulty _ is') =
+      let same : Some one ≡ Some other = sym is ∙ is' in
+      cc
+  RefusesClauses-unique one _ (clauses_faulty _ is) (clause_untyped before clause behind none same typed wrong) = cc
+  RefusesClauses-unique _ other (clause_untyped before clause behind none same typed wrong) (clauses_faulty _ is) = cc
+  RefusesClauses-unique _ _ (clause_untyped before clause behind none same typed wrong) (clause_untyped before' clause' behind' none' same' typed' wrong') =
+      ap (λ (one : Clause). type_mismatch one.span)
+      (first_without (IsTypedClause names known) before before' clause clause' behind behind' (sym same ∙ same') typed typed' wrong wrong')
+
+  pub RefusesGoal-excludes : (goal : Term) (refusal : Refusal) → RefusesGoal names known goal refusal → AcceptsGoal names known goal → ⊥
+  RefusesGoal-excludes goal refusal (goal_faulty _ is) accepts = let none = accepts.flat in cc
+  RefusesGoal-excludes goal _ (goal_untyped none wrong) accepts = wrong accepts.typed
+
+  pub RefusesGoal-unique : (goal : Term) (one other : Refusal) → RefusesGoal names known goal one → RefusesGoal names known goal other → one ≡ other
+  RefusesGoal-unique goal one other (goal_faulty _ is) (goal_faulty _ is') =
+      let same : Some one ≡ Some other = sym is ∙ is' in
+      cc
+  RefusesGoal-unique goal one _ (goal_faulty _ is) (goal_untyped none wrong) = cc
+  RefusesGoal-unique goal _ other (goal_untyped none wrong) (goal_faulty _ is) = cc
+  RefusesGoal-unique goal _ _ (goal_untyped none wrong) (goal_untyped none' wrong') = refl

@@ -1,0 +1,5 @@
+pub mod AcceptedLaws
+pub mod CheckedLaws
+pub mod FirstUntyped
+pub mod Refusals
+pub mod TextLaws

@@ -1,0 +1,33 @@
+-- A text is refused where it is no items, its items are no module, or the clauses of the module are refused.
+use Rattle.std.proofs.lemmas.Result.{err_from_is_err_and}
+use Rattle.merc_items.proofs.ReadingLaws.{reads-rises}
+use Rattle.merc_check.proofs.TextLaws.{no_items-refused, no_module-refused, module-refused, module-accepted}
+use Rattle.merc_check.proofs.texts.check.Goals as goal
+
+pub returns-in_err-items-clause-refused : goal.returns-in_err-items-clause-refused
+returns-in_err-items-clause-refused c =
+    let p = err_from_is_err_and c.from_residual.result c.from_residual.ensures.1 in
+    rw (p.1, p.2) (no_items-refused c.args.names.now c.args.text.now c.bytes.result.now c.bytes.ensures c.in_err-items.field-0.0 c.in_err-items.ensures.refused)
+
+pub module_of_items-requires : goal.module_of_items-requires
+module_of_items-requires c = reads-rises c.args.names.now c.read_text.new.names c.bytes.result.now c.in_ok-items.items c.in_ok-items.ensures.found
+
+pub returns-in_err-module-clause-refused : goal.returns-in_err-module-clause-refused
+returns-in_err-module-clause-refused c =
+    let p = err_from_is_err_and c.from_residual-in_err-module.result c.from_residual-in_err-module.ensures.1 in
+    rw (p.1, p.2)
+    (no_module-refused c.args.names.now c.args.text.now c.bytes.result.now c.bytes.ensures c.read_text.new.names c.in_ok-items.items c.in_ok-items.ensures.found
+    c.in_err-module.field-0.0 c.in_err-module.ensures.refused)
+
+pub returns-in_err-check_clauses-clause-refused : goal.returns-in_err-check_clauses-clause-refused
+returns-in_err-check_clauses-clause-refused c =
+    let p = err_from_is_err_and c.from_residual-in_err-check_clauses.result c.from_residual-in_err-check_clauses.ensures.1 in
+    rw (p.1, p.2)
+    (module-refused c.args.names.now c.args.text.now c.bytes.result.now c.bytes.ensures c.read_text.new.names c.in_ok-items.items c.in_ok-items.ensures.found
+    c.module_of_items.new.names c.in_ok-module.module c.in_ok-known.known c.in_ok-module.ensures.found c.in_ok-known.ensures
+    c.in_err-check_clauses.field-0.0 c.in_err-check_clauses.ensures.refused)
+
+pub returns-clause-accepted : goal.returns-clause-accepted
+returns-clause-accepted c =
+    module-accepted c.args.names.now c.args.text.now c.bytes.result.now c.bytes.ensures c.read_text.new.names c.in_ok-items.items c.in_ok-items.ensures.found
+    c.module_of_items.new.names c.in_ok-module.module c.in_ok-known.known c.in_ok-module.ensures.found c.in_ok-known.ensures c.in_ok-check_clauses.ensures.accepted

@@ -1,0 +1,65 @@
+-- Which modules and goals are accepted, as far as the goals of clauses, their names and their types go; and what is wrong with the others.
+use Rattle.std.specs.Prelude.{◌≡◌, ℕ, List, [], ◌∷◌, ◌++◌, length, Option, Some, None, slice_get}
+use Rattle.std.specs.List.{AllByRecursion}
+use Rattle.merc_base.specs.declared.place.Span.{Span}
+use Rattle.merc_base.specs.declared.refusal.Refusal.{Refusal}
+use Rattle.merc_base.specs.declared.refusal.Rule.TheVariants.{TypeMismatch}
+use Rattle.merc_base.specs.declared.refusal.Detail.TheVariants.{Plain}
+use Rattle.merc_tree.specs.Term.{Term, Variable, Integer, Text, Application, list_of, span_of}
+use Rattle.merc_tree.specs.Types.{TypeExpr}
+use Rattle.merc_tree.specs.declared.declarations.PredDecl.{PredDecl}
+use Rattle.merc_tree.specs.declared.declarations.Clause.{Clause}
+use Rattle.merc_tree.specs.declared.declarations.Module.{Module}
+use Rattle.merc_goals.specs.Written.{written}
+use Rattle.merc_goals.specs.Faults.{place_of}
+use Rattle.merc_known.specs.declared.callee.Callee.{Callee}
+use Rattle.merc_known.specs.declared.callee.Callee.TheVariants.{Predicate, Error}
+use Rattle.merc_known.specs.Known.{callee_in}
+use Rattle.merc_type_check.specs.Typing.{HasTyping}
+use Rattle.merc_flat.specs.Flat.{clause_node, clauses_fault, query_fault, query_node}
+
+abbrev pub type_mismatch : Span → Refusal
+type_mismatch span = record { rule = TypeMismatch; place = place_of span; detail = Plain }
+
+abbrev pub arguments_of : Option PredDecl → List TypeExpr
+arguments_of None = []
+arguments_of (Some declared) = declared.args
+
+abbrev pub called_arguments : Module → Callee → List TypeExpr
+called_arguments known (Predicate number) = arguments_of (slice_get known.preds number)
+called_arguments known Error = []
+
+-- the declared types of the arguments of the predicate whose head this is
+abbrev pub declared_arguments : Module → Term → List TypeExpr
+declared_arguments known (Application name qualifier arguments span) = called_arguments known (callee_in known name None (length (list_of arguments)))
+declared_arguments known (Variable name span) = []
+declared_arguments known (Integer value span) = []
+declared_arguments known (Text text span) = []
+
+-- Given are the texts of names and a module.
+module _ (names : List (List ℕ)) (known : Module) where
+  abbrev pub IsTypedClause : Clause → Type 0
+  IsTypedClause clause = HasTyping known (declared_arguments known clause.head) (clause_node names known clause)
+
+  -- the goals of all clauses have a form, are within the limits and name what is there, and each clause is typed
+  pub record AcceptsClauses : Type 0 where
+    pub flat : clauses_fault names known ≡ None
+    pub typed : AllByRecursion IsTypedClause known.clauses
+
+  -- what is wrong with the clauses: a fault of their goals, or else the first clause that is not typed
+  pub data RefusesClauses : Refusal → Type 0 where
+    fault : (refusal : Refusal) → clauses_fault names known ≡ Some refusal → RefusesClauses refusal
+    untyped : (before : List Clause) (clause : Clause) (behind : List Clause) → clauses_fault names known ≡ None → known.clauses ≡ before ++ clause ∷ behind
+        → AllByRecursion IsTypedClause before → (IsTypedClause clause → ⊥) → RefusesClauses (type_mismatch clause.span)
+
+  abbrev pub IsTypedQuery : Term → Type 0
+  IsTypedQuery goal = HasTyping known [] (query_node names known (written 0 goal))
+
+  -- the same of a goal that is asked
+  pub record AcceptsGoal (goal : Term) : Type 0 where
+    pub flat : query_fault names known (written 0 goal) ≡ None
+    pub typed : IsTypedQuery goal
+
+  pub data RefusesGoal (goal : Term) : Refusal → Type 0 where
+    fault : (refusal : Refusal) → query_fault names known (written 0 goal) ≡ Some refusal → RefusesGoal goal refusal
+    untyped : query_fault names known (written 0 goal) ≡ None → (IsTypedQuery goal → ⊥) → RefusesGoal goal (type_mismatch (span_of goal))

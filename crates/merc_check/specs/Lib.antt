@@ -1,0 +1,3 @@
+pub mod Accepted
+pub mod Checked
+pub mod Untyped

@@ -1,0 +1,119 @@
+//! The check of clauses and of goals.
+ghost use Rattle.std.specs.Prelude.{◌≡◌, length, map, IfErr, IfOk};
+ghost use Rattle.std.specs.Option.{option_copied};
+ghost use Rattle.merc_tree.specs.declared.declarations.Clause.{Clause};
+ghost use Rattle.merc_terms.specs.Items.{IsRefusal};
+ghost use Rattle.merc_goal_tree.specs.Nodes.{Node};
+ghost use Rattle.merc_type_check.specs.Checked.{Tells};
+ghost use Rattle.merc_check.specs.Accepted.{AcceptsClauses, AcceptsGoal, RefusesClauses, RefusesGoal, arguments_of, declared_arguments, type_mismatch};
+ghost use Rattle.merc_check.specs.Untyped.{FindsUntyped};
+
+use merc_base::{Detail, Fault, Names, NoMemory, Place, Refusal, Rule, Span};
+use merc_flat::{flatten, flatten_query};
+use merc_goal_tree::{NodeRef, Nodes};
+use merc_known::{Callee, Known};
+use merc_tree::{Clause, PredDecl, Shape, TermRef, TypeExprs};
+use merc_type_check::is_typed;
+use std::alloc::Global;
+
+/// Checks the clauses of a module.
+///
+/// # Errors
+///
+/// `Refused` says what is wrong with the first clause that has a fault, of the first kind that any clause has: the form
+/// of its goals (rules 3 and 15), their variables and conjuncts (rule 16); an unknown predicate or constructor (rule 7);
+/// types that do not agree (rule 8). `NoMemory` says that memory was refused.
+pub(crate) fn check_clauses(alloc: Global, known: &Known<'_>, names: &Names) -> Result<(), Fault>
+    ensures accepted { IfOk result (λ done. AcceptsClauses names.now known.now) }
+    ensures refused { IfErr result (λ fault. IsRefusal (RefusesClauses names.now known.now) fault) }
+{
+    let forms = flatten(alloc, known, names)?;
+    match first_untyped(alloc, known, &forms)? {
+        Some(span) => Err(Fault::Refused(type_mismatch(span))),
+        None => Ok(()),
+    }
+}
+
+/// Checks a goal that is asked over a module.
+///
+/// # Errors
+///
+/// As for the clauses of a module.
+pub(crate) fn check_goal(
+    alloc: Global,
+    known: &Known<'_>,
+    goal: &TermRef<'_>,
+    names: &Names,
+) -> Result<(), Fault>
+    ensures accepted { IfOk result (λ done. AcceptsGoal names.now known.now goal.now) }
+    ensures refused { IfErr result (λ fault. IsRefusal (RefusesGoal names.now known.now goal.now) fault) }
+{
+    let query = flatten_query(alloc, known, goal, names)?;
+    let form = match query.form.get(0) {
+        Some(form) => form,
+        None => unreachable!(),
+    };
+    if is_typed(alloc, known, &TypeExprs::new(alloc), &form)? {
+        Ok(())
+    } else {
+        Err(Fault::Refused(type_mismatch(goal.span())))
+    }
+}
+
+fn type_mismatch(span: Span) -> Refusal
+    ensures { result ≡ type_mismatch span }
+{
+    Refusal {
+        rule: Rule::TypeMismatch,
+        place: Place {
+            byte: span.first,
+            line: span.line,
+        },
+        detail: Detail::Plain,
+    }
+}
+
+// The span of the first clause that is not typed, None where all are. The forms are those of the clauses, in order.
+fn first_untyped(alloc: Global, known: &Known<'_>, forms: &Nodes) -> Result<Option<Span>, NoMemory>
+    requires { length forms.now ≡ length known.now.clauses }
+    ensures { IfOk result (λ found. (form : Clause → Node) → forms.now ≡ map form known.now.clauses → FindsUntyped known.now form found) }
+{
+    for (index, clause) in known.module().clauses.as_slice().iter().enumerate() {
+        let form = match forms.get(index) {
+            Some(form) => form,
+            None => unreachable!(),
+        };
+        if !is_typed_clause(alloc, known, clause, &form)? {
+            return Ok(Some(clause.span));
+        }
+    }
+    Ok(None)
+}
+
+// Whether a clause of this form is typed. Where its head is that of no predicate, its arguments have any types.
+fn is_typed_clause(
+    alloc: Global,
+    known: &Known<'_>,
+    clause: &Clause,
+    form: &NodeRef<'_>,
+) -> Result<bool, NoMemory>
+    ensures { IfOk result (λ typed. Tells typed known.now (declared_arguments known.now clause.now.head) form.now) }
+{
+    match predicate_of(known, &clause.head.as_ref()) {
+        Some(declared) => is_typed(alloc, known, &declared.args, form),
+        None => is_typed(alloc, known, &TypeExprs::new(alloc), form),
+    }
+}
+
+// The predicate whose head this is, None where there is none.
+fn predicate_of<'a>(known: &Known<'a>, head: &TermRef<'_>) -> Option<&'a PredDecl>
+    ensures { arguments_of (option_copied result) ≡ declared_arguments known.now head.now }
+{
+    match head.shape() {
+        Shape::Application { name, arity, .. } => match known.callee(name, None, arity) {
+            Callee::Predicate(predicate) => known.predicate(predicate.number()),
+            Callee::Error => None,
+        },
+        Shape::Variable(_) | Shape::Integer(_) | Shape::Text(_) => None,
+    }
+}

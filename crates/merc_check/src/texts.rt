@@ -1,0 +1,62 @@
+//! The check of texts.
+ghost use Rattle.std.specs.Prelude.{◌≤◌, length, IfErr, IfOk};
+ghost use Rattle.merc_terms.specs.Items.{IsRefusal};
+ghost use Rattle.merc_check.specs.Checked.{IsAccepted, IsGoal, Refuses, RefusesQuery};
+
+use crate::checking::{check_clauses, check_goal};
+use merc_base::{Fault, Names, Text};
+use merc_items::module_of_items;
+use merc_known::Known;
+use merc_terms::{read_goal_text, read_text};
+use merc_tree::{Module, Term, Terms};
+use std::alloc::Global;
+
+/// A module that is accepted, with the items of its text.
+#[derive(Drop)]
+pub struct Checked {
+    pub items: Terms,
+    pub module: Module,
+}
+
+/// Checks a module. Names that the text and the library spell are added to the table, also where the text is refused.
+///
+/// # Errors
+///
+/// `Refused` says the first rule that the text breaks: a fault of its tokens, terms and items comes first (see
+/// `merc_items`), then the form of its goals (rules 3 and 15) and their limits (rule 16), then unknown predicates and
+/// constructors (rule 7), then types that do not agree (rule 8). `NoMemory` says that memory was refused.
+pub fn check(alloc: Global, text: &Text, names: &mut Names) -> Result<Checked, Fault>
+    requires { length text.now ≤ 300000000 }
+    ensures accepted { IfOk result (λ checked. IsAccepted names.old names.new text.now checked.items checked.module) }
+    ensures refused { IfErr result (λ fault. IsRefusal (Refuses names.old text.now) fault) }
+{
+    let items = read_text(alloc, text.bytes(), names)?;
+    let module = module_of_items(alloc, &items, names)?;
+    {
+        let known = Known::of(alloc, &module)?;
+        check_clauses(alloc, &known, names)?;
+    }
+    Ok(Checked { items, module })
+}
+
+/// Checks a goal that is asked over a module, whose names are in the table. Names that the goal spells are added, also
+/// where it is refused.
+///
+/// # Errors
+///
+/// `Refused` says the first rule that the goal breaks: its text is too long, or has a fault in its tokens or its term;
+/// then as for the clauses of a module. `NoMemory` says that memory was refused.
+pub fn check_query(
+    alloc: Global,
+    module: &Module,
+    text: &Text,
+    names: &mut Names,
+) -> Result<Term, Fault>
+    ensures accepted { IfOk result (λ goal. IsGoal names.old names.new «module».now text.now goal) }
+    ensures refused { IfErr result (λ fault. IsRefusal (RefusesQuery names.old «module».now text.now) fault) }
+{
+    let goal = read_goal_text(alloc, text.bytes(), names)?;
+    let known = Known::of(alloc, module)?;
+    check_goal(alloc, &known, &goal.as_ref(), names)?;
+    Ok(goal)
+}
