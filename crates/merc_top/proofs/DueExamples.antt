@@ -23,9 +23,11 @@ use Rattle.merc_terms.specs.Items.{refusal_at}
 use Rattle.merc_terms.specs.Texts.{RefusesGoalText, goal_limit}
 use Rattle.merc_terms.specs.Texts.RefusesText.{tokens as bad_tokens}
 use Rattle.merc_terms.specs.Texts.RefusesGoalText.{tokens as bad_goal_tokens}
-use Rattle.merc_items.specs.ReadModule.{IsModule, RefusesModule}
 use Rattle.merc_items.specs.ReadModule.RefusesModule.{no_items}
-use Rattle.merc_items.proofs.ModuleLaws.{RefusesModule-excludes}
+use Rattle.merc_check.specs.Checked.{IsAccepted, Refuses}
+use Rattle.merc_check.specs.Checked.Refuses.{no_module}
+use Rattle.merc_check.specs.Checked.RefusesQuery.{no_term}
+use Rattle.merc_check.proofs.CheckedLaws.{Refuses-excludes}
 use Rattle.merc_first_form.specs.Reading.{source_of, goal_of}
 use Rattle.merc_top.specs.Output.{AreRead, IsDue, text_of, refusal_line}
 use Rattle.merc_top.specs.Output.IsDue.{module_refused, goal_refused, module_outside, goal_outside, runs}
@@ -71,13 +73,13 @@ lone_byte = (
   λ tokens has. no_text has.utf8,
 )
 
-pub lone_byte-refused : RefusesModule fixed_names (255 ∷ []) bad_token
-lone_byte-refused = no_items bad_token (bad_tokens bad_token lone_byte)
+pub lone_byte-refused : Refuses fixed_names (255 ∷ []) bad_token
+lone_byte-refused = no_module bad_token (no_items bad_token (bad_tokens bad_token lone_byte))
 
 -- so no module
 pub AreRead-counterexample : (goal : List ℕ) (names : List (List ℕ)) (items : List Term) (term : Term) → AreRead (255 ∷ []) goal names items term → ⊥
 AreRead-counterexample goal names items term read =
-    RefusesModule-excludes fixed_names read.file_names (255 ∷ []) bad_token items read.found fixed_names-distinct lone_byte-refused read.module_is
+    Refuses-excludes fixed_names (255 ∷ []) fixed_names-distinct read.file_names bad_token items read.found lone_byte-refused read.module_is
 
 lone_byte-refused_goal : (names : List (List ℕ)) → RefusesGoalText names (255 ∷ []) bad_token
 unfolding goal_limit
@@ -88,10 +90,10 @@ unfolding digits
 IsDue-module_refused goal = module_refused bad_token lone_byte-refused
 
 -- behind a module that is read
-pub IsDue-goal_refused : (names : List (List ℕ)) (items : List Term) (file : List ℕ) (found : Module) → IsModule fixed_names names file items found
+pub IsDue-goal_refused : (names : List (List ℕ)) (items : List Term) (file : List ℕ) (found : Module) → IsAccepted fixed_names names file items found
     → IsDue (codes "one.m") file (255 ∷ []) (codes "goal:1: rule 1: bad token\n" ∷ []) 5
 unfolding digits
-IsDue-goal_refused names items file found is = goal_refused names items found bad_token is (lone_byte-refused_goal names)
+IsDue-goal_refused names items file found is = goal_refused names items found bad_token is (no_term bad_token (lone_byte-refused_goal names))
 
 -- where both break a rule it is the file's
 pub IsDue-file_first : (lines : List (List ℕ)) → IsDue (codes "bad.m") (255 ∷ []) (255 ∷ []) lines 5 → ⊥
@@ -100,7 +102,7 @@ IsDue-file_first lines due =
     differ 4 5 (omega arith) (sym same.1)
 
 -- a file that breaks a rule has no run
-pub IsDue-refused_no_run : (name file goal : List ℕ) (refusal : Refusal) (lines : List (List ℕ)) → RefusesModule fixed_names file refusal → IsDue name file goal lines 0 → ⊥
+pub IsDue-refused_no_run : (name file goal : List ℕ) (refusal : Refusal) (lines : List (List ℕ)) → Refuses fixed_names file refusal → IsDue name file goal lines 0 → ⊥
 IsDue-refused_no_run name file goal refusal lines refuses due =
     let same = IsDue-unique name file goal lines (refusal_line name refusal ∷ []) 0 4 due (module_refused refusal refuses) in
     differ 0 4 (omega arith) same.1

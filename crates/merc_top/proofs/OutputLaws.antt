@@ -9,11 +9,8 @@ use Rattle.merc_base.specs.declared.refusal.Refusal.{Refusal}
 use Rattle.merc_base.proofs.NameLaws.{fixed_names-distinct}
 use Rattle.merc_tree.specs.Term.{Term}
 use Rattle.merc_tree.specs.declared.declarations.Module.{Module}
-use Rattle.merc_terms.specs.Texts.{ReadsGoal, RefusesGoalText}
-use Rattle.merc_terms.proofs.TextLaws.{ReadsItems-distinct, ReadsGoal-unique, RefusesGoalText-unique, RefusesGoalText-excludes}
-use Rattle.merc_items.specs.ReadModule.{IsModule, RefusesModule}
-use Rattle.merc_items.proofs.ModuleLaws.{IsModule-unique, RefusesModule-excludes}
-use Rattle.merc_items.proofs.RefusalLaws.{RefusesModule-unique}
+use Rattle.merc_check.specs.Checked.{IsAccepted, IsGoal, Refuses, RefusesQuery}
+use Rattle.merc_check.proofs.CheckedLaws.{IsAccepted-unique, IsGoal-unique, IsModule-distinct, Refuses-excludes, Refuses-unique, RefusesQuery-excludes, RefusesQuery-unique}
 use Rattle.merc_first_form.specs.declared.syntax.Conjunct.{Conjunct}
 use Rattle.merc_first_form.specs.declared.syntax.Source.{Source}
 use Rattle.merc_first_form.specs.Reading.{source_of, goal_of}
@@ -55,8 +52,8 @@ source_due-unique name (Some source) goal lines lines' status status' due also =
 
 -- a text is due because the file breaks a rule, or the goal does, or both are read
 data Cases (name file goal : List ℕ) (lines : List (List ℕ)) (status : ℕ) : Type 0 where
-  broken_module : (refusal : Refusal) → RefusesModule fixed_names file refusal → lines ≡ refusal_line name refusal ∷ [] → status ≡ 4 → Cases name file goal lines status
-  broken_goal : (names : List (List ℕ)) (items : List Term) (found : Module) (refusal : Refusal) → IsModule fixed_names names file items found → RefusesGoalText names goal refusal → lines ≡ refusal_line (codes "goal") refusal ∷ [] → status ≡ 5 → Cases name file goal lines status
+  broken_module : (refusal : Refusal) → Refuses fixed_names file refusal → lines ≡ refusal_line name refusal ∷ [] → status ≡ 4 → Cases name file goal lines status
+  broken_goal : (names : List (List ℕ)) (items : List Term) (found : Module) (refusal : Refusal) → IsAccepted fixed_names names file items found → RefusesQuery names found goal refusal → lines ≡ refusal_line (codes "goal") refusal ∷ [] → status ≡ 5 → Cases name file goal lines status
   both_read : (names : List (List ℕ)) (items : List Term) (term : Term) → AreRead file goal names items term → ReadDue name names items term lines status → Cases name file goal lines status
 
 cases_of : (name file goal : List ℕ) (lines : List (List ℕ)) (status : ℕ) → IsDue name file goal lines status → Cases name file goal lines status
@@ -74,44 +71,44 @@ cases_of name file goal _ _ (runs names items term source conjuncts lines status
     (subst (λ (found : Option Source). SourceDue name found (λ source. goal_of names source term) lines status) (sym within)
     (subst (λ (found : Option (List Conjunct)). GoalDue source found lines status) (sym is) due))
 
--- behind a module, and the units that it may import, no two names are one
-module-distinct : (names : List (List ℕ)) (file : List ℕ) (items : List Term) (found : Module) → IsModule fixed_names names file items found → IsDistinct bytes_eq names
-module-distinct names file items found is =
-    let units = is.is.units in
-    let read = ReadsItems-distinct fixed_names file fixed_names-distinct is.read_names items is.reads in
-    let list = ReadsItems-distinct is.read_names units.list.text read units.after_list _ units.list.reads in
-    let bool = ReadsItems-distinct units.after_list units.bool.text list units.after_bool _ units.bool.reads in
-    ReadsItems-distinct units.after_bool units.maybe.text bool names _ units.maybe.reads
+-- behind an accepted module no two names are one
+module-distinct : (names : List (List ℕ)) (file : List ℕ) (items : List Term) (found : Module) → IsAccepted fixed_names names file items found → IsDistinct bytes_eq names
+module-distinct names file items found is = IsModule-distinct fixed_names file fixed_names-distinct names items found is.module_is
+
+-- a goal over a module is one over the same module with the same names
+goal_moved : {A : Type 0} (P : List (List ℕ) → Module → A → Type 0) (names names' : List (List ℕ)) (found found' : Module) (what : A) → names ≡ names' → found ≡ found' → P names' found' what → P names found what
+goal_moved P names names' found found' what same_names same_found holds =
+    subst (λ (some : List (List ℕ)). P some found what) (sym same_names) (subst (λ (some : Module). P names' some what) (sym same_found) holds)
 
 -- file and goal are read in one way
 AreRead-unique : (file goal : List ℕ) (names names' : List (List ℕ)) (items items' : List Term) (term term' : Term)
     → AreRead file goal names items term → AreRead file goal names' items' term' → (names ≡ names') × (items ≡ items') × (term ≡ term')
 AreRead-unique file goal names names' items items' term term' read also =
-    let modules = IsModule-unique fixed_names read.file_names also.file_names file items items' read.found also.found fixed_names-distinct read.module_is also.module_is in
+    let modules = IsAccepted-unique fixed_names file fixed_names-distinct read.file_names also.file_names items items' read.found also.found read.module_is also.module_is in
     let distinct = module-distinct read.file_names file items read.found read.module_is in
-    let also_is : ReadsGoal read.file_names names' goal term' = subst (λ (before : List (List ℕ)). ReadsGoal before names' goal term') (sym modules.0) also.goal_is in
-    let goals = ReadsGoal-unique read.file_names goal distinct names names' term term' read.goal_is also_is in
+    let also_is = goal_moved (λ some found what. IsGoal some names' found goal what) read.file_names also.file_names read.found also.found term' modules.0 modules.2 also.goal_is in
+    let goals = IsGoal-unique read.file_names goal distinct read.found names names' term term' read.goal_is also_is in
     (goals.0, modules.1, goals.1)
 
--- a file that is a module breaks no rule
-module_not_broken : (file : List ℕ) (refusal : Refusal) (names : List (List ℕ)) (items : List Term) (found : Module) → RefusesModule fixed_names file refusal → IsModule fixed_names names file items found → ⊥
-module_not_broken file refusal names items found refuses is = RefusesModule-excludes fixed_names names file refusal items found fixed_names-distinct refuses is
+-- a file that is accepted breaks no rule
+module_not_broken : (file : List ℕ) (refusal : Refusal) (names : List (List ℕ)) (items : List Term) (found : Module) → Refuses fixed_names file refusal → IsAccepted fixed_names names file items found → ⊥
+module_not_broken file refusal names items found refuses is = Refuses-excludes fixed_names file fixed_names-distinct names refusal items found refuses is
 
--- nor does a goal that is read behind it
+-- nor does a goal that is accepted behind it
 goal_not_broken : (file goal : List ℕ) (names names' : List (List ℕ)) (items items' : List Term) (found : Module) (refusal : Refusal) (term : Term)
-    → IsModule fixed_names names file items found → RefusesGoalText names goal refusal → AreRead file goal names' items' term → ⊥
+    → IsAccepted fixed_names names file items found → RefusesQuery names found goal refusal → AreRead file goal names' items' term → ⊥
 goal_not_broken file goal names names' items items' found refusal term is refuses read =
-    let same = (IsModule-unique fixed_names names read.file_names file items items' found read.found fixed_names-distinct is read.module_is).0 in
+    let same = IsAccepted-unique fixed_names file fixed_names-distinct names read.file_names items items' found read.found is read.module_is in
     let distinct = module-distinct names file items found is in
-    let reads : ReadsGoal names names' goal term = subst (λ (before : List (List ℕ)). ReadsGoal before names' goal term) (sym same) read.goal_is in
-    RefusesGoalText-excludes names goal distinct refusal names' term refuses reads
+    let reads = goal_moved (λ some over what. IsGoal some names' over goal what) names read.file_names found read.found term same.0 same.2 read.goal_is in
+    RefusesQuery-excludes names goal distinct found names' refusal term refuses reads
 
 one_goal_refusal : (file goal : List ℕ) (names names' : List (List ℕ)) (items items' : List Term) (found found' : Module) (one other : Refusal)
-    → IsModule fixed_names names file items found → IsModule fixed_names names' file items' found' → RefusesGoalText names goal one → RefusesGoalText names' goal other → one ≡ other
+    → IsAccepted fixed_names names file items found → IsAccepted fixed_names names' file items' found' → RefusesQuery names found goal one → RefusesQuery names' found' goal other → one ≡ other
 one_goal_refusal file goal names names' items items' found found' one other is is' refuses refuses' =
-    let same = (IsModule-unique fixed_names names names' file items items' found found' fixed_names-distinct is is').0 in
-    RefusesGoalText-unique names goal (module-distinct names file items found is) one other refuses
-    (subst (λ (before : List (List ℕ)). RefusesGoalText before goal other) (sym same) refuses')
+    let same = IsAccepted-unique fixed_names file fixed_names-distinct names names' items items' found found' is is' in
+    RefusesQuery-unique names goal (module-distinct names file items found is) found one other refuses
+    (goal_moved (λ some over what. RefusesQuery some over goal what) names names' found found' other same.0 same.2 refuses')
 
 same_line : (name : List ℕ) (one other : Refusal) (lines lines' : List (List ℕ)) → one ≡ other → lines ≡ refusal_line name one ∷ [] → lines' ≡ refusal_line name other ∷ [] → lines ≡ lines'
 same_line name one other lines lines' same is is' = is ∙ subst (λ (refusal : Refusal). refusal_line name one ∷ [] ≡ refusal_line name refusal ∷ []) same refl ∙ sym is'
@@ -119,7 +116,7 @@ same_line name one other lines lines' same is is' = is ∙ subst (λ (refusal : 
 cases-unique : (name file goal : List ℕ) (lines lines' : List (List ℕ)) (status status' : ℕ)
     → Cases name file goal lines status → Cases name file goal lines' status' → Agree lines status lines' status'
 cases-unique name file goal lines lines' status status' (broken_module one refuses is four) (broken_module other refuses' is' four') =
-    (same_line name one other lines lines' (RefusesModule-unique fixed_names file one other fixed_names-distinct refuses refuses') is is', both four four')
+    (same_line name one other lines lines' (Refuses-unique fixed_names file fixed_names-distinct one other refuses refuses') is is', both four four')
 cases-unique name file goal lines lines' status status' (broken_module one refuses is four) (broken_goal names items found other module_is refuses' is' five) =
     absurd (module_not_broken file one names items found refuses module_is)
 cases-unique name file goal lines lines' status status' (broken_module one refuses is four) (both_read names items term read due) =

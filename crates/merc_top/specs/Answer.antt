@@ -6,8 +6,7 @@ use Rattle.merc_base.specs.declared.refusal.Refusal.{Refusal}
 use Rattle.merc_tree.specs.Term.{Term}
 use Rattle.merc_tree.specs.Trace.{RunDone, answers_of, end_of}
 use Rattle.merc_tree.specs.declared.declarations.Module.{Module}
-use Rattle.merc_terms.specs.Texts.{RefusesGoalText}
-use Rattle.merc_items.specs.ReadModule.{IsModule, RefusesModule}
+use Rattle.merc_check.specs.Checked.{IsAccepted, Refuses, RefusesQuery}
 use Rattle.merc_first_form.specs.declared.syntax.Conjunct.{Conjunct}
 use Rattle.merc_first_form.specs.declared.syntax.Source.{Source}
 use Rattle.merc_first_form.specs.Reading.{source_of, goal_of}
@@ -44,12 +43,12 @@ pub record Names (words : List (List ℕ)) (files : Files) (text goal : List ℕ
 
 -- the named file breaks a rule; or neither it nor the goal does, and it is not of the form that runs
 pub data BreaksModule (words : List (List ℕ)) (files : Files) : Type 0 where
-  module_rule : (text goal : List ℕ) (refusal : Refusal) → Names words files text goal → RefusesModule fixed_names text refusal → BreaksModule words files
+  module_rule : (text goal : List ℕ) (refusal : Refusal) → Names words files text goal → Refuses fixed_names text refusal → BreaksModule words files
   module_outside : (text goal : List ℕ) (names : List (List ℕ)) (items : List Term) (term : Term) → Names words files text goal → AreRead text goal names items term → source_of names items ≡ None → BreaksModule words files
 
--- the named file is a module and the goal breaks a rule; or it does not, the module is of the form that runs, and the goal is not
+-- the named file is an accepted module and the goal breaks a rule; or it does not, the module is of the form that runs, and the goal is not
 pub data BreaksGoal (words : List (List ℕ)) (files : Files) : Type 0 where
-  goal_rule : (text goal : List ℕ) (names : List (List ℕ)) (items : List Term) (found : Module) (refusal : Refusal) → Names words files text goal → IsModule fixed_names names text items found → RefusesGoalText names goal refusal → BreaksGoal words files
+  goal_rule : (text goal : List ℕ) (names : List (List ℕ)) (items : List Term) (found : Module) (refusal : Refusal) → Names words files text goal → IsAccepted fixed_names names text items found → RefusesQuery names found goal refusal → BreaksGoal words files
   goal_outside : (text goal : List ℕ) (names : List (List ℕ)) (items : List Term) (term : Term) (source : Source) → Names words files text goal → AreRead text goal names items term → source_of names items ≡ Some source → goal_of names source term ≡ None → BreaksGoal words files
 
 -- module and goal are accepted, and the goal's run has answers and ends with no further one

@@ -14,8 +14,7 @@ use Rattle.merc_tree.specs.Trace.{Env, Run, RunEnd, RunDone, RunRaised, LimitPas
 use Rattle.merc_tree.specs.Meaning.{run, value_at}
 use Rattle.merc_tree.specs.Term.{Term}
 use Rattle.merc_tree.specs.declared.declarations.Module.{Module}
-use Rattle.merc_terms.specs.Texts.{ReadsGoal, RefusesGoalText}
-use Rattle.merc_items.specs.ReadModule.{IsModule, RefusesModule}
+use Rattle.merc_check.specs.Checked.{IsAccepted, IsGoal, Refuses, RefusesQuery}
 use Rattle.merc_first_form.specs.declared.syntax.Conjunct.{Conjunct}
 use Rattle.merc_first_form.specs.declared.syntax.Source.{Source}
 use Rattle.merc_first_form.specs.Reading.{source_of, goal_of}
@@ -103,18 +102,18 @@ run_of source goal = run (procedures_of source) (query_of source goal) step_limi
 abbrev pub IsRunDue : List (List ℕ) → Run → List (List ℕ) → ℕ → Type 0
 IsRunDue names run lines status = (lines ≡ run_lines names run) × (status ≡ run_status (length (answers_of run)) (end_of run))
 
--- A file's text is a module, and a goal's text a goal, with these items and this term, and these names of both.
+-- A file's text is an accepted module, and a goal's text an accepted goal over it, with these items and this term, and these names of both.
 pub record AreRead (file goal : List ℕ) (names : List (List ℕ)) (items : List Term) (term : Term) : Type 0 where
   pub file_names : List (List ℕ)
   pub found : Module
-  pub module_is : IsModule fixed_names file_names file items found
-  pub goal_is : ReadsGoal file_names names goal term
+  pub module_is : IsAccepted fixed_names file_names file items found
+  pub goal_is : IsGoal file_names names found goal term
 
 -- What is due for a file of this name and text, and a goal. What is wrong with the file comes first, then what is wrong with the goal. Where nothing is,
 -- a file outside the form that runs is refused as a whole, and then such a goal. Else it is the run's text.
 pub data IsDue (name file goal : List ℕ) : List (List ℕ) → ℕ → Type 0 where
-  module_refused : (refusal : Refusal) → RefusesModule fixed_names file refusal → IsDue name file goal (refusal_line name refusal ∷ []) 4
-  goal_refused : (names : List (List ℕ)) (items : List Term) (found : Module) (refusal : Refusal) → IsModule fixed_names names file items found → RefusesGoalText names goal refusal → IsDue name file goal (refusal_line (codes "goal") refusal ∷ []) 5
+  module_refused : (refusal : Refusal) → Refuses fixed_names file refusal → IsDue name file goal (refusal_line name refusal ∷ []) 4
+  goal_refused : (names : List (List ℕ)) (items : List Term) (found : Module) (refusal : Refusal) → IsAccepted fixed_names names file items found → RefusesQuery names found goal refusal → IsDue name file goal (refusal_line (codes "goal") refusal ∷ []) 5
   module_outside : (names : List (List ℕ)) (items : List Term) (term : Term) → AreRead file goal names items term → source_of names items ≡ None → IsDue name file goal (refusal_line name stage_refusal ∷ []) 4
   goal_outside : (names : List (List ℕ)) (items : List Term) (term : Term) (source : Source) → AreRead file goal names items term → source_of names items ≡ Some source → goal_of names source term ≡ None → IsDue name file goal (refusal_line (codes "goal") stage_refusal ∷ []) 5
   runs : (names : List (List ℕ)) (items : List Term) (term : Term) (source : Source) (conjuncts : List Conjunct) (lines : List (List ℕ)) (status : ℕ) → AreRead file goal names items term → source_of names items ≡ Some source → goal_of names source term ≡ Some conjuncts → IsRunDue (variables_of [] conjuncts) (run_of source conjuncts) lines status → IsDue name file goal lines status

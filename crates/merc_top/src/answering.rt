@@ -1,8 +1,5 @@
 //! The top call.
 ghost use Rattle.std.specs.Prelude.{◌≡◌, ◌<◌, ◌≤◌, All, ℕ, List, IfOk, IfErr, false, [], ◌∷◌, length};
-ghost use Rattle.merc_tree.specs.declared.declarations.Module.{Module};
-ghost use Rattle.merc_terms.specs.Items.{IsRefusal};
-ghost use Rattle.merc_items.specs.ReadModule.{IsModule, RefusesModule};
 ghost use Rattle.merc_top.specs.Loading.{file_limit};
 ghost use Rattle.merc_top.specs.Output.{AreRead, IsDue, IsRunDue, run_of, stage_refusal};
 ghost use Rattle.merc_top.specs.Outcome.{IsOutcome};
@@ -20,9 +17,8 @@ use merc_base::{
     Construct, Detail, Fault, Gate, Names, NoMemory, Place, Refusal, Rule, Sequence, Shelf, Sink,
     Tap, Text, TextTable,
 };
+use merc_check::{check, check_query};
 use merc_first_form::{Conjuncts, Source, goal_of, procedures, query, source_of};
-use merc_items::module_of_items;
-use merc_terms::{read_goal_text, read_text};
 use merc_tree::{Term, Terms};
 use std::alloc::Global;
 use std::sync::Wait;
@@ -86,41 +82,30 @@ fn run_due(alloc: Global, source: &Source, goal: &Conjuncts) -> Result<Due, NoMe
     outcome_due(alloc, &query.variables, outcome)
 }
 
-// The items of a file's text that is a module.
-fn read_file(alloc: Global, text: &Text, names: &mut Names) -> Result<Terms, Fault>
-    requires { length text.now ≤ 300000000 }
-    ensures found { IfOk result (λ items. (found : Module) × IsModule names.old names.new text.now items found) }
-    ensures refused { IfErr result (λ fault. IsRefusal (RefusesModule names.old text.now) fault) }
-{
-    let items = read_text(alloc, text.bytes(), names)?;
-    module_of_items(alloc, &items, names)?;
-    Ok(items)
-}
-
 // What is due for a file of this name and text, and a goal.
 fn text_due(alloc: Global, name: &Text, text: &Text, goal: &Text) -> Result<Due, NoMemory>
     requires { length text.now ≤ file_limit }
     ensures { IfOk result (λ due. IsDue name.now text.now goal.now due.lines due.status) }
 {
     let mut names = Names::new(alloc);
-    let items = match read_file(alloc, text, &mut names) {
-        Ok(items) => items,
+    let checked = match check(alloc, text, &mut names) {
+        Ok(checked) => checked,
         Err(Fault::Refused(refusal)) => {
             return one_line(alloc, 4, refusal_line(alloc, name.bytes(), &refusal)?);
         }
         Err(Fault::NoMemory) => return Err(NoMemory),
     };
-    let term = match read_goal_text(alloc, goal.bytes(), &mut names) {
+    let term = match check_query(alloc, &checked.module, goal, &mut names) {
         Ok(term) => term,
         Err(Fault::Refused(refusal)) => {
             return one_line(alloc, 5, refusal_line(alloc, b"goal", &refusal)?);
         }
         Err(Fault::NoMemory) => return Err(NoMemory),
     };
-    read_due(alloc, name, &items, &term, &names)
+    read_due(alloc, name, &checked.items, &term, &names)
 }
 
-// What is due for a file of this name that is a module of these items, and a goal that is a term.
+// What is due for a file of this name that is an accepted module of these items, and an accepted goal.
 fn read_due(
     alloc: Global,
     name: &Text,

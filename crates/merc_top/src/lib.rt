@@ -9,6 +9,3 @@ mod words;
 mod writing;
 
 pub use answering::answer;
-
-#[cfg(test)]
-mod tests;

@@ -13,6 +13,9 @@ pub(super) const EMPTY: &[u8] = b":- module m.\n";
 /// What is printed for a module that is not refused and not in the form that runs.
 pub(super) const MODULE_STAGE: &[u8] = b"m.m:1: rule 15: outside the profile: stage\n";
 
+/// What is printed for a goal that is not refused and not in the form that runs, over a module of that form.
+pub(super) const GOAL_STAGE: &[u8] = b"goal:1: rule 15: outside the profile: stage\n";
+
 /// The status and the text for this module, in the file m.m, and this goal.
 pub(super) fn assert_printed<R: Threads + Wait + AllocGlobal + Abort>(
     rt: &R,
@@ -61,6 +64,70 @@ pub(super) fn assert_all_refused<R: Threads + Wait + AllocGlobal + Abort>(
     Ok(())
 }
 
+/// With each of these endings, to which a full stop is added, a module is refused at the line beside it by this rule.
+pub(super) fn assert_endings_refused<R: Threads + Wait + AllocGlobal + Abort>(
+    rt: &R,
+    rule: &[u8],
+    before: &[u8],
+    rows: &[(&[u8], &[u8])],
+) -> Result<(), NoMemory> {
+    for (ending, line) in rows {
+        let text = repeated(rt.alloc(), before, ending, 1, b".\n")?;
+        assert_refused(rt, rule, text.bytes(), line)?;
+    }
+    Ok(())
+}
+
+/// With each of these endings, to which a full stop is added, a module breaks no rule. It is not of the form that runs.
+pub(super) fn assert_endings_accepted<R: Threads + Wait + AllocGlobal + Abort>(
+    rt: &R,
+    before: &[u8],
+    endings: &[&[u8]],
+) -> Result<(), NoMemory> {
+    for ending in endings {
+        let text = repeated(rt.alloc(), before, ending, 1, b".\n")?;
+        assert_printed(rt, text.bytes(), b"X = 1", 4, MODULE_STAGE)?;
+    }
+    Ok(())
+}
+
+/// Over this module this goal is refused at this line by this rule.
+pub(super) fn assert_goal_refused_over<R: Threads + Wait + AllocGlobal + Abort>(
+    rt: &R,
+    rule: &[u8],
+    text: &[u8],
+    goal: &[u8],
+    line: &[u8],
+) -> Result<(), NoMemory> {
+    let printed = refusal(rt.alloc(), b"goal", line, rule)?;
+    assert_printed(rt, text, goal, 5, printed.bytes())
+}
+
+/// Each of these goals is so refused over this module at the line beside it.
+pub(super) fn assert_all_goals_refused_over<R: Threads + Wait + AllocGlobal + Abort>(
+    rt: &R,
+    rule: &[u8],
+    text: &[u8],
+    rows: &[(&[u8], &[u8])],
+) -> Result<(), NoMemory> {
+    for (goal, line) in rows {
+        assert_goal_refused_over(rt, rule, text, goal, line)?;
+    }
+    Ok(())
+}
+
+/// Each of these goals breaks no rule over this module, which is not of the form that runs.
+pub(super) fn assert_goals_accepted<R: Threads + Wait + AllocGlobal + Abort>(
+    rt: &R,
+    text: &[u8],
+    goals: &[&[u8]],
+) -> Result<(), NoMemory> {
+    for goal in goals {
+        assert_printed(rt, text, goal, 4, MODULE_STAGE)?;
+    }
+    Ok(())
+}
+
 /// Over the least module this goal is refused at this line by this rule.
 pub(super) fn assert_goal_refused<R: Threads + Wait + AllocGlobal + Abort>(
     rt: &R,
@@ -68,8 +135,7 @@ pub(super) fn assert_goal_refused<R: Threads + Wait + AllocGlobal + Abort>(
     goal: &[u8],
     line: &[u8],
 ) -> Result<(), NoMemory> {
-    let printed = refusal(rt.alloc(), b"goal", line, rule)?;
-    assert_printed(rt, EMPTY, goal, 5, printed.bytes())
+    assert_goal_refused_over(rt, rule, EMPTY, goal, line)
 }
 
 /// Each of these goals is so refused at the line beside it.

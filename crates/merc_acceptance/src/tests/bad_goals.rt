@@ -2,7 +2,10 @@
 use super::checks::{
     EMPTY, assert_all_goals_refused, assert_goal_refused, assert_printed, repeated,
 };
-use super::rules::{BAD_TOKEN, GOAL_TEXT, INTEGER, NAME, NESTING, NO_TERM, STAGE};
+use super::rules::{
+    BAD_TOKEN, GOAL, GOAL_TEXT, INTEGER, MISTYPED, NAME, NESTING, NO_FORM, NO_TERM, STAGE,
+    UNKNOWN_NAME,
+};
 use super::{TWO, output};
 use std::test::Fail;
 
@@ -108,7 +111,7 @@ fn a_name_of_a_goal_has_255_bytes(rt: HostRuntime) -> Result<(), Fail> {
     let goal = repeated(alloc, b"", b"A", 256, b" = 1")?;
     assert_goal_refused(&rt, NAME, goal.bytes(), b"1")?;
     let goal = repeated(alloc, b"", b"a", 255, b"")?;
-    assert_goal_refused(&rt, STAGE, goal.bytes(), b"1")?;
+    assert_goal_refused(&rt, UNKNOWN_NAME, goal.bytes(), b"1")?;
     let goal = repeated(alloc, b"", b"A", 255, b" = 1")?;
     let line = repeated(alloc, b"", b"A", 255, b" = 1\nsolutions 1\n")?;
     assert_printed(&rt, EMPTY, goal.bytes(), 0, line.bytes())?;
@@ -127,24 +130,41 @@ fn a_goal_nests_256_deep(rt: HostRuntime) -> Result<(), Fail> {
     Ok(())
 }
 
-// The forms of goals are not tested yet, and neither are names, types and modes.
+// Modes are not tested yet.
 #[test]
 fn a_goal_outside_the_first_form_is_not_built(rt: HostRuntime) -> Result<(), Fail> {
-    const ROWS: [(&[u8], &[u8]); 12] = [
+    const ROWS: [(&[u8], &[u8]); 9] = [
         (b"true", b"1"),
         (b"\n\ntrue", b"1"),
-        (b"X", b"1"),
-        (b"3", b"1"),
-        (b"p => q", b"1"),
-        (b"p :- q", b"1"),
-        (b"quux(1)", b"1"),
         (b"X = Y", b"1"),
         (b"X = \"a\"", b"1"),
         (b"X = -1", b"1"),
         (b"X = 1000000000000000000", b"1"),
         (b"X = 9223372036854775807, Y = -9223372036854775808", b"1"),
+        (b"Y = X + 1, X = 2", b"1"),
+        (b"not X = 1 ; Y = 2 & Y > 3", b"1"),
     ];
     assert_all_goals_refused(&rt, STAGE, &ROWS)?;
+    Ok(())
+}
+
+// Each row is the rule that is told, and the goal.
+#[test]
+fn a_goal_has_a_form_names_and_types(rt: HostRuntime) -> Result<(), Fail> {
+    const ROWS: [(&[u8], &[u8]); 9] = [
+        (GOAL, b"X"),
+        (NO_FORM, b"3"),
+        (GOAL, b"p => q"),
+        (UNKNOWN_NAME, b"p :- q"),
+        (UNKNOWN_NAME, b"quux(1)"),
+        (UNKNOWN_NAME, b"p"),
+        (UNKNOWN_NAME, b"X = a"),
+        (UNKNOWN_NAME, b"X = [1]"),
+        (MISTYPED, b"X = 1, X = \"a\""),
+    ];
+    for (rule, goal) in ROWS {
+        assert_goal_refused(&rt, rule, goal, b"1")?;
+    }
     Ok(())
 }
 

@@ -1,6 +1,7 @@
 ghost use Rattle.std.specs.Prelude.{◌<◌, ◌≤◌};
 
 mod accepted;
+mod bad_bodies;
 mod bad_forms;
 mod bad_goals;
 mod bad_terms;
@@ -11,12 +12,14 @@ mod doubles;
 mod first_fault;
 mod first_phase;
 mod limits;
+mod mistyped;
 mod profile;
 mod rules;
+mod unknown_names;
 
-use super::*;
 use merc_base::{NoMemory, Shelf, Sink, Tap, Text};
 use merc_io::{FailingShelf, FailingSink, MemShelf, MemSink, OpenGate};
+use merc_top::answer;
 use std::alloc::Global;
 use std::sync::Wait;
 use std::test::Fail;

@@ -12,6 +12,10 @@ pub(super) const TWICE: &[u8] = b"rule 5: declared twice";
 
 pub(super) const NO_PAIR: &[u8] = b"rule 6: a clause and its declaration do not go together";
 
+pub(super) const UNKNOWN_NAME: &[u8] = b"rule 7: unknown predicate or constructor";
+
+pub(super) const MISTYPED: &[u8] = b"rule 8: types do not agree";
+
 pub(super) const NO_MODE: &[u8] = b"rule 9: mode or category is missing";
 
 pub(super) const CHARACTER: &[u8] = b"rule 15: outside the profile: character";
@@ -34,6 +38,8 @@ pub(super) const FUNCTION: &[u8] = b"rule 15: outside the profile: function";
 
 pub(super) const GRAMMAR_RULE: &[u8] = b"rule 15: outside the profile: grammar rule";
 
+pub(super) const GOAL: &[u8] = b"rule 15: outside the profile: goal";
+
 pub(super) const STAGE: &[u8] = b"rule 15: outside the profile: stage";
 
 pub(super) const GOAL_TEXT: &[u8] = b"rule 16: limit: goal text";
@@ -45,5 +51,9 @@ pub(super) const INTEGER: &[u8] = b"rule 16: limit: integer";
 pub(super) const NESTING: &[u8] = b"rule 16: limit: nesting";
 
 pub(super) const ARITY: &[u8] = b"rule 16: limit: arity";
+
+pub(super) const VARIABLES: &[u8] = b"rule 16: limit: variables";
+
+pub(super) const CONJUNCTS: &[u8] = b"rule 16: limit: conjuncts";
 
 pub(super) const MODES: &[u8] = b"rule 16: limit: modes";
