@@ -1,5 +1,8 @@
 pub mod CategoryExamples
 pub mod FixedNames
+pub mod GroupLaws
+pub mod GroupsExamples
+pub mod NameConstants
 pub mod NameExamples
 pub mod NameLaws
 pub mod OutsideExamples

@@ -1,4 +1,5 @@
 pub mod Category
+pub mod Groups
 pub mod Names
 pub mod Outside
 pub mod Refusal

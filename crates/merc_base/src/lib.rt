@@ -4,19 +4,19 @@
 
 pub mod buffer;
 pub mod category;
+pub mod groups;
 pub mod memory;
 pub mod names;
 pub mod outside;
 pub mod place;
 pub mod refusal;
 pub mod sequence;
-#[cfg(test)]
-mod tests;
 pub mod text;
 pub mod text_table;
 
 pub use buffer::Buffer;
 pub use category::{Category, Most};
+pub use groups::{Groups, Key};
 pub use memory::NoMemory;
 pub use names::{Name, Names};
 pub use outside::{Fetched, Gate, Shelf, Sink, Tap, TapAnswer, TapEvent, Wrote};

@@ -83,27 +83,3 @@ impl TextTable {
         Some(text)
     }
 }
-
-#[cfg(test)]
-mod tests {
-    use super::*;
-    use std::test::Fail;
-
-    #[test]
-    fn texts_are_numbered_as_they_come(rt: HostRuntime) -> Result<(), Fail> {
-        let mut table = TextTable::new(rt.alloc());
-        for (text, number) in [
-            (b"X".as_slice(), 0),
-            (b"Total".as_slice(), 1),
-            (b"X".as_slice(), 0),
-            (b"".as_slice(), 2),
-        ] {
-            assert_eq!(rt; table.add(text), Ok(number));
-        }
-        assert_eq!(rt; table.len(), 3);
-        assert_eq!(rt; table.place(b"Total"), Some(1));
-        assert!(rt; !table.contains(b"Tot"));
-        assert_eq!(rt; table.text(2), Some(b"".as_slice()));
-        Ok(())
-    }
-}

@@ -6,8 +6,8 @@ use Rattle.merc_tree.specs.declared.declarations.Constructor.{Constructor}
 use Rattle.merc_tree.specs.declared.declarations.TypeDef.{TypeDef}
 use Rattle.merc_tree.specs.declared.declarations.PredDecl.{PredDecl}
 use Rattle.merc_tree.specs.declared.declarations.Module.{Module}
-use Rattle.merc_known.specs.declared.groups.Groups.{Groups}
-use Rattle.merc_known.specs.Groups.{kept}
+use Rattle.merc_base.specs.declared.groups.Groups.{Groups}
+use Rattle.merc_base.specs.Groups.{kept}
 use Rattle.merc_known.specs.Known.{allows, has_name}
 
 abbrev pub is_named : ℕ → ℕ → PredDecl → Bool

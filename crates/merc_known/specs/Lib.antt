@@ -1,4 +1,3 @@
-pub mod Groups
 pub mod Indexing
 pub mod Known
 pub mod KnownExamples

@@ -1,10 +1,9 @@
 //! The predicates and constructors of a module by their names.
 ghost use Rattle.std.specs.Prelude.{◌≡◌, ◌++◌, ℕ, map, IfOk, OnOk};
-ghost use Rattle.merc_known.specs.Groups.{kept};
+ghost use Rattle.merc_base.specs.Groups.{kept};
 ghost use Rattle.merc_known.specs.Indexing.{constructor_seen, constructors_among, constructors_of, predicate_seen, predicates_from};
 
-use crate::groups::{Groups, Key};
-use merc_base::NoMemory;
+use merc_base::{Groups, Key, NoMemory};
 use merc_tree::{Constructor, PredDecl, TypeDef};
 use std::alloc::Global;
 

@@ -6,9 +6,8 @@ ghost use Rattle.merc_known.specs.Indexing.{any_allowed, constructor_seen, first
 ghost use Rattle.merc_known.specs.Known.{allows, callee_in, constructor_in, is_callee, is_constructor, is_error};
 
 use crate::Callee;
-use crate::groups::{Groups, Key};
 use crate::indexing::{constructors_of, predicates_of};
-use merc_base::{Name, NoMemory};
+use merc_base::{Groups, Key, Name, NoMemory};
 use merc_goal_tree::Predicate;
 use merc_tree::{Constructor, Module, PredDecl, TypeDef};
 use std::alloc::Global;

@@ -2,7 +2,6 @@
 #![tactic(auto)]
 
 mod callee;
-mod groups;
 mod indexing;
 mod known;
 #[cfg(test)]

@@ -1,5 +1,5 @@
 use Rattle.std.proofs.Common.{◌≡◌, ◌++◌, ℕ, map, drop}
-use Rattle.merc_known.specs.Groups.{kept}
+use Rattle.merc_base.specs.Groups.{kept}
 use Rattle.merc_known.specs.Indexing.{constructor_seen, constructors_among}
 use Rattle.merc_known.proofs.indexing.add_constructors.Given as goal
 

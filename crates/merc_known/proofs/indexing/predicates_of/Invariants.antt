@@ -1,5 +1,5 @@
 use Rattle.std.proofs.Common.{◌≡◌, ◌++◌, ℕ, map, drop}
-use Rattle.merc_known.specs.Groups.{kept}
+use Rattle.merc_base.specs.Groups.{kept}
 use Rattle.merc_known.specs.Indexing.{predicate_seen, predicates_from}
 use Rattle.merc_known.proofs.indexing.predicates_of.Given as goal
 

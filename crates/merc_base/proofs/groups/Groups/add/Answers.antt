@@ -1,9 +1,9 @@
 use Rattle.std.proofs.Common.{◌≡◌, [], ◌∷◌, ap, ◌∙◌}
 use Rattle.std.specs.BTreeMap.{get}
-use Rattle.merc_known.specs.Groups.{listed}
-use Rattle.merc_known.proofs.GroupLaws.{compare_keys, one_more}
-use Rattle.merc_known.proofs.groups.Groups.add.Goals as goal
-use Rattle.merc_known.proofs.groups.Groups.add.Goals.{in-Some, in-None}
+use Rattle.merc_base.specs.Groups.{listed}
+use Rattle.merc_base.proofs.GroupLaws.{compare_keys, one_more}
+use Rattle.merc_base.proofs.groups.Groups.add.Goals as goal
+use Rattle.merc_base.proofs.groups.Groups.add.Goals.{in-Some, in-None}
 
 pub returns : goal.returns
 returns g c =

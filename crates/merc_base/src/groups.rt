@@ -1,29 +1,29 @@
 //! Items in groups, by names with numbers of arguments.
 ghost use Rattle.std.specs.Prelude.{◌≡◌, ◌&&◌, ◌==◌, ℕ, [], ◌∷◌, ◌++◌, if◌then◌else◌, OnOk};
-ghost use Rattle.merc_known.specs.Groups.{kept, is_key};
+ghost use Rattle.merc_base.specs.Groups.{kept, is_key};
 
-use merc_base::{Name, NoMemory, Sequence};
+use crate::{Name, NoMemory, Sequence};
 use std::alloc::Global;
 use std::collections::BTreeMap;
 
 /// A name with a number of arguments.
 #[derive(Clone, Copy, Debug, PartialEq, Eq, PartialOrd, Ord)]
-pub(crate) struct Key {
+pub struct Key {
     /// The name.
-    pub(crate) name: Name,
+    pub name: Name,
     /// The number of arguments.
-    pub(crate) arity: usize,
+    pub arity: usize,
 }
 
 /// Items by keys. The items of a key stand in the order in which they were added.
 #[derive(Drop)]
-pub(crate) struct Groups<T> {
+pub struct Groups<T> {
     by_key: BTreeMap<Key, Sequence<T>>,
 }
 
 impl<T: Drop> Groups<T> {
     /// No items.
-    pub(crate) fn new(alloc: Global) -> Groups<T>
+    pub fn new(alloc: Global) -> Groups<T>
         ensures { (name arity : ℕ) → kept result name arity ≡ [] }
     {
         Groups {
@@ -36,7 +36,7 @@ impl<T: Drop> Groups<T> {
     /// # Errors
     ///
     /// `NoMemory` where memory was refused.
-    pub(crate) fn add(&mut self, alloc: Global, key: Key, item: T) -> Result<(), NoMemory>
+    pub fn add(&mut self, alloc: Global, key: Key, item: T) -> Result<(), NoMemory>
         ensures { OnOk result ((name arity : ℕ) → kept self.new name arity ≡ (if is_key name arity key then kept self.old name arity ++ item ∷ [] else kept self.old name arity)) }
     {
         let mut items = match self.by_key.remove(&key) {
@@ -49,7 +49,7 @@ impl<T: Drop> Groups<T> {
     }
 
     /// The items of a key.
-    pub(crate) fn at(&self, key: Key) -> &[T]
+    pub fn at(&self, key: Key) -> &[T]
         ensures { result.now ≡ kept self.now key.name key.arity }
     {
         match self.by_key.get(&key) {

@@ -1,8 +1,8 @@
 -- Items in groups, by names with numbers of arguments.
 use Rattle.std.specs.Prelude.{ℕ, Bool, ◌==◌, ◌&&◌, List, [], Option, Some, None}
 use Rattle.std.specs.Map.{lookup}
-use Rattle.merc_known.specs.declared.groups.Key.{Key}
-use Rattle.merc_known.specs.declared.groups.Groups.{Groups}
+use Rattle.merc_base.specs.declared.groups.Key.{Key}
+use Rattle.merc_base.specs.declared.groups.Groups.{Groups}
 
 abbrev pub is_key : ℕ → ℕ → Key → Bool
 is_key name arity key = (key.name == name) && (key.arity == arity)

@@ -4,9 +4,9 @@ use Rattle.std.specs.BTreeMap.{get}
 use Rattle.std.specs.Map.{lookup}
 use Rattle.std.specs.Ordering.{is_eq, nat_cmp, ordering_then}
 use Rattle.std.proofs.lemmas.Bool.Decides.{nat_tests}
-use Rattle.merc_known.specs.declared.groups.Key.{Key}
-use Rattle.merc_known.specs.declared.groups.Groups.{Groups}
-use Rattle.merc_known.specs.Groups.{is_key, kept, listed}
+use Rattle.merc_base.specs.declared.groups.Key.{Key}
+use Rattle.merc_base.specs.declared.groups.Groups.{Groups}
+use Rattle.merc_base.specs.Groups.{is_key, kept, listed}
 
 abbrev pub compare_keys : Key → Key → Ordering
 compare_keys a b = ordering_then (nat_cmp a.name b.name) (nat_cmp a.arity b.arity)
