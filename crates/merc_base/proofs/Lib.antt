@@ -7,4 +7,5 @@ pub mod NameExamples
 pub mod NameLaws
 pub mod OutsideExamples
 pub mod RefusalExamples
+pub mod RefusalTable
 pub mod TextTables
