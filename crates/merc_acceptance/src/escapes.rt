@@ -1,0 +1,166 @@
+//! Texts of a table: what is written with a backslash, and a case's own text and line in their places.
+ghost use Rattle.std.specs.Prelude.{◌<◌, length, IfSome};
+
+use crate::fault::TableFault;
+use merc_base::Text;
+use std::alloc::Global;
+
+/// What a case puts into the texts around it.
+#[derive(Drop)]
+pub struct Filling<'a> {
+    alloc: Global,
+    /// Stands for `\_`.
+    pub text: &'a [u8],
+    /// Stands for `\#`.
+    pub line: &'a [u8],
+    /// Whether `\_` stood somewhere.
+    pub has_text: bool,
+    /// Whether `\#` stood somewhere.
+    pub has_line: bool,
+}
+
+impl<'a> Filling<'a> {
+    /// This text and line, which stood nowhere yet.
+    pub fn new(alloc: Global, text: &'a [u8], line: &'a [u8]) -> Filling<'a> {
+        Filling {
+            alloc,
+            text,
+            line,
+            has_text: false,
+            has_line: false,
+        }
+    }
+}
+
+/// The text that is written so.
+pub fn expand(written: &str, filling: &mut Filling<'_>) -> Result<Text, TableFault> {
+    let mut text = Text::new(filling.alloc);
+    let mut rest = written.as_bytes();
+    // Each time takes one byte at least.
+    for _ in 0..written.len() {
+        let [first, after @ ..] = rest else {
+            break;
+        };
+        rest = match (*first, after) {
+            (b'\\', [b'*', repeat @ ..]) => push_repeat(repeat, filling, &mut text)?,
+            (first, after) => push_one(first, after, 0, filling, &mut text)?,
+        };
+    }
+    Ok(text)
+}
+
+// Adds a byte, or what an escape stands for, in this part of a repeat, and gives what follows.
+fn push_one<'a>(
+    first: u8,
+    after: &'a [u8],
+    part: usize,
+    filling: &mut Filling<'_>,
+    text: &mut Text,
+) -> Result<&'a [u8], TableFault> {
+    if first != b'\\' {
+        text.push(&[first])?;
+        return Ok(after);
+    }
+    match after {
+        [b'x', high, low, rest @ ..] => {
+            text.push(&[byte_of(*high, *low)?])?;
+            Ok(rest)
+        }
+        [letter, rest @ ..] => {
+            push_named(*letter, part, filling, text)?;
+            Ok(rest)
+        }
+        [] => Err(TableFault::WrongEscape),
+    }
+}
+
+// Adds what stands for this letter behind a backslash.
+fn push_named(
+    letter: u8,
+    part: usize,
+    filling: &mut Filling<'_>,
+    text: &mut Text,
+) -> Result<(), TableFault> {
+    match letter {
+        b'n' => text.push(b"\n")?,
+        b'r' => text.push(b"\r")?,
+        b't' => text.push(b"\t")?,
+        b'\\' => text.push(b"\\")?,
+        b'i' => push_number(filling.alloc, part, text)?,
+        b'j' => push_number(filling.alloc, part.saturating_add(1), text)?,
+        b'_' => {
+            filling.has_text = true;
+            text.push(filling.text)?;
+        }
+        b'#' => {
+            filling.has_line = true;
+            text.push(filling.line)?;
+        }
+        _ => return Err(TableFault::WrongEscape),
+    }
+    Ok(())
+}
+
+fn push_number(alloc: Global, number: usize, text: &mut Text) -> Result<(), TableFault> {
+    let digits = number.to_string(alloc)?;
+    text.push(digits.as_bytes())?;
+    Ok(())
+}
+
+// The byte with these two hexadecimal digits.
+fn byte_of(high: u8, low: u8) -> Result<u8, TableFault> {
+    match (char::from(high).to_digit(16), char::from(low).to_digit(16)) {
+        (Some(high), Some(low)) => Ok((high * 16 + low) as u8),
+        _ => Err(TableFault::WrongEscape),
+    }
+}
+
+// Adds a part so often as `COUNT{PART}` says, and gives what follows the `}`.
+fn push_repeat<'a>(
+    repeat: &'a [u8],
+    filling: &mut Filling<'_>,
+    text: &mut Text,
+) -> Result<&'a [u8], TableFault> {
+    let Some((count, behind)) = cut(repeat, b'{') else {
+        return Err(TableFault::WrongEscape);
+    };
+    let Some((part, rest)) = cut(behind, b'}') else {
+        return Err(TableFault::WrongEscape);
+    };
+    for number in 0..number_of(count)? {
+        push_part(part, number, filling, text)?;
+    }
+    Ok(rest)
+}
+
+// Adds one part of a repeat.
+fn push_part(
+    part: &[u8],
+    number: usize,
+    filling: &mut Filling<'_>,
+    text: &mut Text,
+) -> Result<(), TableFault> {
+    let mut rest = part;
+    for _ in 0..part.len() {
+        let [first, after @ ..] = rest else {
+            break;
+        };
+        rest = push_one(*first, after, number, filling, text)?;
+    }
+    Ok(())
+}
+
+// What stands before the first such byte, and what behind.
+fn cut(bytes: &[u8], mark: u8) -> Option<(&[u8], &[u8])>
+    ensures { IfSome result (λ parts. length parts.1.now < length bytes.now) }
+{
+    let at = bytes.iter().position(|byte| *byte == mark)?;
+    Some((&bytes[..at], &bytes[at + 1..]))
+}
+
+fn number_of(digits: &[u8]) -> Result<usize, TableFault> {
+    let Ok(digits) = str::from_utf8(digits) else {
+        return Err(TableFault::WrongNumber);
+    };
+    digits.parse().map_err(|_| TableFault::WrongNumber)
+}
