@@ -73,6 +73,10 @@ entered-not whole = cc
 pub brought_back-example : brought_back (1 ∷ 0 ∷ []) (Some eight ∷ None ∷ Some five ∷ []) env ≡ Some four ∷ Some eight ∷ Some five ∷ []
 brought_back-example = refl
 
+-- an argument without a value does not keep the next from its own
+pub brought_back-next : brought_back (1 ∷ 0 ∷ []) (None ∷ Some eight ∷ []) env ≡ Some eight ∷ None ∷ Some five ∷ []
+brought_back-next = refl
+
 pub brought_back-none : brought_back (1 ∷ 0 ∷ []) [] env ≡ env
 brought_back-none = refl
 
