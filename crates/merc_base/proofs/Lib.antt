@@ -9,3 +9,4 @@ pub mod OutsideExamples
 pub mod RefusalExamples
 pub mod RefusalTable
 pub mod TextTables
+mod CharacterExamples

@@ -5,3 +5,4 @@ pub mod Outside
 pub mod Refusal
 pub mod Texts
 pub mod TextsExamples
+pub mod Characters

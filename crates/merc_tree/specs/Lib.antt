@@ -13,5 +13,6 @@ pub mod Postfix
 pub mod Parts
 pub mod Examples
 pub mod TermExamples
+pub mod TypeExamples
 pub mod NodesExamples
 pub mod PostfixExamples

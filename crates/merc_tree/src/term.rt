@@ -1,5 +1,5 @@
 //! Terms, as they are read from a text.
-ghost use Rattle.std.specs.Prelude.{◌≡◌, ◌≢◌, ◌≤◌, ◌<◌, ◌-◌, ◌↔◌, [], ◌∷◌, ◌++◌, length, take, slice_get, IfOk, OnOk, OnErr, MatchOption, IsTrue};
+ghost use Rattle.std.specs.Prelude.{◌≡◌, ◌≢◌, ◌≤◌, ◌<◌, ◌-◌, ◌^◌, ◌↔◌, [], ◌∷◌, ◌++◌, length, take, slice_get, IfOk, OnOk, OnErr, MatchOption, IsTrue};
 ghost use Rattle.std.specs.List.{slice_index_or, slice_range};
 ghost use Rattle.merc_tree.specs.Nodes.{with_root, arity_of, shapes};
 ghost use Rattle.merc_tree.specs.Term.{Variable, Integer, Text, applied, enclosed, bare, span_of};
@@ -304,7 +304,8 @@ impl<'a> TermRef<'a> {
 
     /// The number of the term's parts, itself among them.
     pub fn part_count(&self) -> usize
-        ensures { result ≡ length (shapes_of self.now) }
+        ensures count { result ≡ length (shapes_of self.now) }
+        ensures small { result < 2 ^ 57 }
     {
         self.nodes.len()
     }
