@@ -4,3 +4,4 @@ pub mod SameTerms
 pub mod PartLaws
 pub mod TypeLaws
 pub mod PartShapes
+pub mod PlacedParts
