@@ -57,9 +57,6 @@ answers_of term = answer_variables [] (written 0 term)
 in_order : answers_of (binary comma_name (binary p_name y x) (binary q_name x z)) ≡ occurrence y_name 4 ∷ occurrence x_name 6 ∷ occurrence z_name 12 ∷ []
 in_order = refl
 
-in_another_order : answers_of (binary comma_name (binary p_name y x) (binary q_name x z)) ≡ occurrence x_name 6 ∷ occurrence y_name 4 ∷ occurrence z_name 12 ∷ [] → ⊥
-in_another_order wrong = cc
-
 -- `X = Y` and `X < Y`
 equation : answers_of (binary equal_name x y) ≡ occurrence x_name 2 ∷ occurrence y_name 4 ∷ []
 equation = refl
@@ -105,6 +102,9 @@ conditional_both = refl
 -- `if p(X) then q(Y) else r(X)`: X occurs in the else part too
 in_both : answers_of (if_then_else (unary p_name x) (unary q_name y) (unary r_name x)) ≡ occurrence x_name 8 ∷ occurrence y_name 12 ∷ []
 in_both = refl
+
+in_both_hidden : answers_of (if_then_else (unary p_name x) (unary q_name x) (unary r_name x)) ≡ [] → ⊥
+in_both_hidden wrong = cc
 
 -- `if p(Y) then q(X) else r(X)`: X does not occur in the condition
 in_parts : answers_of (if_then_else (unary p_name y) (unary q_name x) (unary r_name x)) ≡ occurrence x_name 12 ∷ []
