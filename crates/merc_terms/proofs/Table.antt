@@ -4,6 +4,7 @@ use Rattle.std.specs.Bool.{if◌then◌else◌}
 use Rattle.std.specs.List.{find, list_all}
 use Rattle.std.proofs.lemmas.Bool.{and_parts}
 use Rattle.std.proofs.lemmas.Option.{same_Some}
+use Rattle.merc_base.specs.Names.{comma_name, minus_name, minus_name, minus_name}
 use Rattle.merc_terms.specs.declared.operators.Operator.{Operator}
 use Rattle.merc_terms.specs.Operators.{operators, infix_named, prefix_named, is_infix, begins_y, ends_y, takes_two, first_most, last_most}
 
@@ -72,17 +73,17 @@ prefix_name name operator found =
     eqb-true operator.name name (and_parts (operator.name == name) (not (is_infix operator.fixity)) (find_holds (λ row. (row.name == name) && not (is_infix row.fixity)) operators operator found)).0
 
 -- the comma's row
-pub comma_row : (operator : Operator) → infix_named 26 ≡ Some operator → operator.priority ≡ 1000
+pub comma_row : (operator : Operator) → infix_named comma_name ≡ Some operator → operator.priority ≡ 1000
 unfolding operators
 comma_row operator found = ap (λ (o : Operator). o.priority) (sym (same_Some _ operator found))
 
 -- the sign's name is a prefix operator's
-pub minus_prefix : (name : ℕ) → prefix_named name ≡ None → (name == 43) ≡ false
+pub minus_prefix : (name : ℕ) → prefix_named name ≡ None → (name == minus_name) ≡ false
 unfolding operators
-minus_prefix name none = go (name == 43) refl
+minus_prefix name none = go (name == minus_name) refl
   where
-    go : (b : Bool) → (name == 43) ≡ b → b ≡ false
-    go true is = let named : prefix_named 43 ≡ None = subst (λ (n : ℕ). prefix_named n ≡ None) (eqb-true name 43 is) none in cc
+    go : (b : Bool) → (name == minus_name) ≡ b → b ≡ false
+    go true is = let named : prefix_named minus_name ≡ None = subst (λ (n : ℕ). prefix_named n ≡ None) (eqb-true name minus_name is) none in cc
     go false is = refl
 
 -- the greatest priorities of operands
