@@ -5,3 +5,4 @@ pub mod PartLaws
 pub mod TypeLaws
 pub mod PartShapes
 mod WordExamples
+pub mod PlacedParts

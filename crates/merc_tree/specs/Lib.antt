@@ -10,6 +10,8 @@ pub mod TermCode
 pub mod TypeTerms
 pub mod TypeShape
 pub mod Postfix
+pub mod PlacedParts
+pub mod PlacedPartsExamples
 pub mod Parts
 pub mod Examples
 pub mod TermExamples
