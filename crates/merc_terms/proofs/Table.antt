@@ -8,7 +8,7 @@ use Rattle.merc_base.specs.Names.{comma_name, minus_name, minus_name, minus_name
 use Rattle.merc_terms.specs.declared.operators.Operator.{Operator}
 use Rattle.merc_terms.specs.Operators.{operators, infix_named, prefix_named, is_infix, begins_y, ends_y, takes_two, first_most, last_most}
 
-find_holds : (test : Operator → Bool) (rows : List Operator) (row : Operator) → find test rows ≡ Some row → test row ≡ true
+pub find_holds : (test : Operator → Bool) (rows : List Operator) (row : Operator) → find test rows ≡ Some row → test row ≡ true
 find_holds test [] row found = cc
 find_holds test (first ∷ rows) row found = go (test first) refl found (λ same. find_holds test rows row same)
   where
@@ -17,7 +17,7 @@ find_holds test (first ∷ rows) row found = go (test first) refl found (λ same
     go false is same later = later same
 
 -- what holds of each row holds of the one that is found
-find_all : (property test : Operator → Bool) (rows : List Operator) (row : Operator) → list_all property rows ≡ true → find test rows ≡ Some row → property row ≡ true
+pub find_all : (property test : Operator → Bool) (rows : List Operator) (row : Operator) → list_all property rows ≡ true → find test rows ≡ Some row → property row ≡ true
 find_all property test [] row all found = cc
 find_all property test (first ∷ rows) row all found =
     let parts = and_parts (property first) (list_all property rows) all in
@@ -68,9 +68,27 @@ infix_apart name operator found = apart_by operator (find_all is_apart _ operato
 pub prefix_apart : (name : ℕ) (operator : Operator) → prefix_named name ≡ Some operator → IsApart operator
 prefix_apart name operator found = apart_by operator (find_all is_apart _ operators operator all_apart found)
 
+pub infix_name : (name : ℕ) (operator : Operator) → infix_named name ≡ Some operator → operator.name ≡ name
+infix_name name operator found =
+    eqb-true operator.name name (and_parts (operator.name == name) (is_infix operator.fixity) (find_holds (λ row. (row.name == name) && is_infix row.fixity) operators operator found)).0
+
 pub prefix_name : (name : ℕ) (operator : Operator) → prefix_named name ≡ Some operator → operator.name ≡ name
 prefix_name name operator found =
     eqb-true operator.name name (and_parts (operator.name == name) (not (is_infix operator.fixity)) (find_holds (λ row. (row.name == name) && not (is_infix row.fixity)) operators operator found)).0
+
+-- an operator that takes two operands binds tighter than an argument may
+
+abbrev is_quantifier_row : Operator → Bool
+is_quantifier_row operator = not (takes_two operator.fixity) || operator.priority == 950
+
+all_quantifiers : list_all is_quantifier_row operators ≡ true
+unfolding operators
+all_quantifiers = refl
+
+pub quantifier_priority : (name : ℕ) (operator : Operator) → prefix_named name ≡ Some operator → takes_two operator.fixity ≡ true → operator.priority ≡ 950
+quantifier_priority name operator found two =
+    let either = find_all is_quantifier_row _ operators operator all_quantifiers found in
+    eqb-true operator.priority 950 (implied (takes_two operator.fixity) (operator.priority == 950) either two)
 
 -- the comma's row
 pub comma_row : (operator : Operator) → infix_named comma_name ≡ Some operator → operator.priority ≡ 1000

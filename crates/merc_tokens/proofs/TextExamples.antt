@@ -1,6 +1,7 @@
 -- Whole texts: their tokens, and their faults.
-use Rattle.std.proofs.Common.{◌≡◌, ℕ, inl, true, false, List, [], ◌∷◌, ◌++◌, refl, ap, ◌∙◌, Some, None}
+use Rattle.std.proofs.Common.{◌≡◌, ℕ, inl, true, false, List, [], ◌∷◌, ◌++◌, map, refl, ap, ◌∙◌, Some, None}
 use Rattle.std.specs.Prelude.{codes}
+use Rattle.std.proofs.Math.ListN.{replicate}
 use Rattle.std.specs.Char.{encode_utf8}
 use Rattle.std.specs.Str.{is_utf8, chars}
 use Rattle.std.specs.Str.Lossy.{utf8_valid_len}
@@ -12,10 +13,10 @@ use Rattle.merc_base.specs.declared.refusal.Construct.TheVariants.{Character}
 use Rattle.merc_base.specs.declared.refusal.Detail.TheVariants.{Plain, Word}
 use Rattle.merc_tokens.specs.declared.token.TokenKind.TheVariants.{Name as NameKind}
 use Rattle.merc_tokens.specs.declared.pieces.Spelling.{Spelling}
-use Rattle.merc_tokens.specs.declared.pieces.Spelling.TheVariants.{Name, Int, Var, Dot, Stop}
+use Rattle.merc_tokens.specs.declared.pieces.Spelling.TheVariants.{Name, Quoted, Int, Var, Text, OpenArgs, Open, Close, OpenList, CloseList, Comma, Bar, Dot, Stop}
 use Rattle.merc_tokens.specs.declared.pieces.Piece.TheVariants.{Token}
 use Rattle.merc_tokens.specs.Pieces.{first_piece}
-use Rattle.merc_tokens.specs.Tokens.{SpelledToken, HasTokens, ReadsTokens, named_text, spelling_in, with_names}
+use Rattle.merc_tokens.specs.Tokens.{SpelledToken, HasTokens, ReadsTokens, is_name, named_text, spelling_in, with_names}
 use Rattle.merc_tokens.specs.Tokens.HasTokensFrom.{ends, gap, token}
 use Rattle.merc_tokens.specs.Faults.{HasFault, HasNoTokens, EndsUtf8}
 use Rattle.merc_tokens.specs.Faults.HasFaultFrom.{here, behind_gap, behind_token}
@@ -38,6 +39,21 @@ unfolding encode_utf8
 qualified-example = record {
   utf8 = (codes "a.b", (refl, refl));
   all = token 0 1 false (Name (codes "a")) _ refl (token 1 1 true Dot _ refl (token 2 1 false (Name (codes "b")) _ refl (ends 3 true refl)));
+}
+
+-- names, quoted or not, are what a parenthesis or a qualifier mark stands directly behind
+pub names-example : map is_name (Name [] ∷ Quoted [] ∷ []) ≡ true ∷ true ∷ []
+names-example = refl
+
+pub no_names-example : map is_name (Var [] ∷ Int 0 ∷ Text [] ∷ OpenArgs ∷ Open ∷ Close ∷ OpenList ∷ CloseList ∷ Comma ∷ Bar ∷ Dot ∷ Stop ∷ [])
+    ≡ replicate 12 false
+no_names-example = refl
+
+pub quoted_arguments-example : HasTokens (codes "'a'(") (at (Quoted (codes "a")) 0 3 1 ∷ at OpenArgs 3 4 1 ∷ [])
+unfolding encode_utf8
+quoted_arguments-example = record {
+  utf8 = (codes "'a'(", (refl, refl));
+  all = token 0 3 false (Quoted (codes "a")) _ refl (token 3 1 true OpenArgs _ refl (ends 4 false refl));
 }
 
 -- `;` is a name too, on both sides of a qualifier mark
