@@ -195,6 +195,24 @@ chain-left = refl
 pub chain-right : written 0 (two comma_name a (two comma_name b c)) ≡ Conjunction (three (call 2 a_name) (call 6 b_name) (call 8 c_name)) here
 chain-right = refl
 
+-- `(a & b) & c` and `a & (b & c)`
+pub chain-parallel_left : written 0 (two ampersand_name (two ampersand_name a b) c) ≡ Parallel (three (call 4 a_name) (call 6 b_name) (call 8 c_name)) here
+chain-parallel_left = refl
+
+pub chain-parallel_right : written 0 (two ampersand_name a (two ampersand_name b c)) ≡ Parallel (three (call 2 a_name) (call 6 b_name) (call 8 c_name)) here
+chain-parallel_right = refl
+
+-- `(a ; b) ; c` and `a ; (b ; c)`
+pub chain-disjunction_left : written 0 (two semicolon_name (two semicolon_name a b) c) ≡ Disjunction (three (call 4 a_name) (call 6 b_name) (call 8 c_name)) here
+chain-disjunction_left = refl
+
+pub chain-disjunction_right : written 0 (two semicolon_name a (two semicolon_name b c)) ≡ Disjunction (three (call 2 a_name) (call 6 b_name) (call 8 c_name)) here
+chain-disjunction_right = refl
+
+-- `(a -> b ; c) ; a`: an if-then-else is one disjunct
+pub chain-begin : written 0 (two semicolon_name (two semicolon_name (two arrow_name a b) c) a) ≡ Disjunction (goals (Conditional (call 6 a_name) (call 8 b_name) (call 10 c_name) here) (call 12 a_name)) here
+chain-begin = refl
+
 -- another operator is no link
 pub chain-mixed : written 0 (two comma_name (two ampersand_name a b) c) ≡ Conjunction (goals (Parallel (goals (call 4 a_name) (call 6 b_name)) here) (call 8 c_name)) here
 chain-mixed = refl
@@ -313,6 +331,44 @@ wrong_forms-example = refl
 pub outside_forms-example : outside_forms faulty ≡ there ∷ []
 outside_forms-example = refl
 
+-- in each kind of goal
+
+abbrev wrong_at : ℕ → Written
+wrong_at first = WrongForm (apart first)
+
+abbrev outside_at : ℕ → Written
+outside_at first = OutsideProfile (apart first)
+
+pub wrong_forms-parallel : wrong_forms (Parallel (goals (wrong_at 1) (wrong_at 2)) here) ≡ apart 1 ∷ apart 2 ∷ []
+wrong_forms-parallel = refl
+
+pub wrong_forms-disjunction : wrong_forms (Disjunction (goals (wrong_at 1) (wrong_at 2)) here) ≡ apart 1 ∷ apart 2 ∷ []
+wrong_forms-disjunction = refl
+
+pub wrong_forms-conditional : wrong_forms (Conditional (wrong_at 1) (wrong_at 2) (wrong_at 3) here) ≡ apart 1 ∷ apart 2 ∷ apart 3 ∷ []
+wrong_forms-conditional = refl
+
+pub wrong_forms-negated : wrong_forms (Negated (wrong_at 1) here) ≡ apart 1 ∷ []
+wrong_forms-negated = refl
+
+pub wrong_forms-quantified : wrong_forms (Quantified (x_name ∷ []) (wrong_at 1) here) ≡ apart 1 ∷ []
+wrong_forms-quantified = refl
+
+pub outside_forms-parallel : outside_forms (Parallel (goals (outside_at 1) (outside_at 2)) here) ≡ apart 1 ∷ apart 2 ∷ []
+outside_forms-parallel = refl
+
+pub outside_forms-disjunction : outside_forms (Disjunction (goals (outside_at 1) (outside_at 2)) here) ≡ apart 1 ∷ apart 2 ∷ []
+outside_forms-disjunction = refl
+
+pub outside_forms-conditional : outside_forms (Conditional (outside_at 1) (outside_at 2) (outside_at 3) here) ≡ apart 1 ∷ apart 2 ∷ apart 3 ∷ []
+outside_forms-conditional = refl
+
+pub outside_forms-negated : outside_forms (Negated (outside_at 1) here) ≡ apart 1 ∷ []
+outside_forms-negated = refl
+
+pub outside_forms-quantified : outside_forms (Quantified (x_name ∷ []) (outside_at 1) here) ≡ apart 1 ∷ []
+outside_forms-quantified = refl
+
 pub first_span-example : first_span (there ∷ here ∷ []) ≡ Some here
 first_span-example = refl
 
@@ -344,3 +400,33 @@ widest_parallel-none = refl
 
 pub widest_parallel-not : widest_parallel (written 0 (two ampersand_name a (two ampersand_name b c))) ≡ 2 → ⊥
 widest_parallel-not pairs = cc
+
+-- two conjuncts, in each kind of goal
+
+abbrev a_goal : Written
+a_goal = call 2 a_name
+
+abbrev wide : Written
+wide = Parallel (goals (call 2 a_name) (call 4 b_name)) here
+
+pub widest_parallel-disjunction : widest_parallel (Disjunction (goals a_goal wide) here) ≡ 2
+widest_parallel-disjunction = refl
+
+pub widest_parallel-condition : widest_parallel (Conditional wide a_goal a_goal here) ≡ 2
+widest_parallel-condition = refl
+
+pub widest_parallel-then : widest_parallel (Conditional a_goal wide a_goal here) ≡ 2
+widest_parallel-then = refl
+
+pub widest_parallel-else : widest_parallel (Conditional a_goal a_goal wide here) ≡ 2
+widest_parallel-else = refl
+
+pub widest_parallel-negated : widest_parallel (Negated wide here) ≡ 2
+widest_parallel-negated = refl
+
+pub widest_parallel-quantified : widest_parallel (Quantified (x_name ∷ []) wide here) ≡ 2
+widest_parallel-quantified = refl
+
+-- three conjuncts within two
+pub widest_parallel-nested : widest_parallel (Parallel (goals (Negated (Parallel (three a_goal a_goal a_goal) here) here) a_goal) here) ≡ 3
+widest_parallel-nested = refl
