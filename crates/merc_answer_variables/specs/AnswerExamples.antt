@@ -126,6 +126,31 @@ quantified_in_part = refl
 quantified_beside : answers_of (binary comma_name (unary not_name (unary p_name x)) (some_x (unary q_name x))) ≡ []
 quantified_beside = refl
 
+-- `q(X), some [X] not p(X)`: X, since the one in the negation is another
+quantified_negation : answers_of (binary comma_name (unary q_name x) (some_x (unary not_name (unary p_name x)))) ≡ occurrence x_name 4 ∷ []
+quantified_negation = refl
+
+-- `p(X) & not q(Y)` and `p(X) ; not q(Y)`: X alone
+negated_beside : answers_of (binary ampersand_name (unary p_name x) (unary not_name (unary q_name y))) ≡ occurrence x_name 4 ∷ []
+negated_beside = refl
+
+negated_disjunct : answers_of (binary semicolon_name (unary p_name x) (unary not_name (unary q_name y))) ≡ occurrence x_name 4 ∷ []
+negated_disjunct = refl
+
+-- `if not p(X) then true else true`, and the negation in the then part and in the else part: none
+negated_condition : answers_of (if_then_else (unary not_name (unary p_name x)) (nullary true_name) (nullary true_name)) ≡ []
+negated_condition = refl
+
+negated_then : answers_of (if_then_else (nullary true_name) (unary not_name (unary p_name x)) (nullary true_name)) ≡ []
+negated_then = refl
+
+negated_else : answers_of (if_then_else (nullary true_name) (nullary true_name) (unary not_name (unary p_name x))) ≡ []
+negated_else = refl
+
+-- `some [X] not p(Y)`: none
+negated_quantified : answers_of (some_x (unary not_name (unary p_name y))) ≡ []
+negated_quantified = refl
+
 -- Variables with the names `X`, `_X` and `_`: `p(X, _X), q(_, X)`
 
 underscore_code : underscore ∷ [] ≡ codes "_"

@@ -1,6 +1,6 @@
 -- What goals become in flat form.
 use Rattle.std.specs.Prelude.{◌≡◌, refl, ℕ, ◌+◌, Bool, ◌==◌, List, [], ◌∷◌, Option, Some, None, pos, if◌then◌else◌}
-use Rattle.merc_base.specs.Names.{all_name, ampersand_name, at_least_name, at_most_name, comma_name, cons_name, div_name, else_name, equal_name, error_name, fail_name, greater_name, if_name, less_name, minus_name, mod_name, nil_name, not_equal_name, plus_name, rem_name, semicolon_name, slash_slash_name, some_name, star_name, then_name, true_name}
+use Rattle.merc_base.specs.Names.{all_name, ampersand_name, at_least_name, at_most_name, comma_name, cons_name, div_name, else_name, equal_name, error_name, fail_name, greater_name, if_name, less_name, minus_name, mod_name, nil_name, not_equal_name, not_name, plus_name, rem_name, semicolon_name, slash_slash_name, some_name, star_name, then_name, true_name}
 use Rattle.merc_base.specs.declared.place.Span.{Span}
 use Rattle.merc_tree.specs.Term.{Term, Terms, Variable, Integer, Text, Application, none, more, no_span}
 use Rattle.merc_goals.specs.Written.{written}
@@ -307,6 +307,38 @@ pub conditional-places : flat_form (placed else_name (more (placed if_name (more
     ≡ Conditional (Conjunction (nodes_of (Simple (Call p []) (at 5) ∷ Simple (Call q []) (at 8) ∷ [])) (at 5)) (Simple (Call q []) (at 15)) (Simple (Call r []) (at 22)) (at 2) ∷ []
 conditional-places = refl
 
+-- `if p then q, p else r, p`: so are those parts
+pub parts-places : flat_form (placed else_name (more (placed if_name (more (placed then_name (more (placed p none 5) (more (placed comma_name (more (placed q none 12) (more (placed p none 15) none)) 12) none)) 5) none) 2) (more (placed comma_name (more (placed r none 22) (more (placed p none 25) none)) 22) none)) 2)
+    ≡ Conditional (Simple (Call p []) (at 5)) (Conjunction (nodes_of (Simple (Call q []) (at 12) ∷ Simple (Call p []) (at 15) ∷ [])) (at 12))
+    (Conjunction (nodes_of (Simple (Call r []) (at 22) ∷ Simple (Call p []) (at 25) ∷ [])) (at 22)) (at 2) ∷ []
+parts-places = refl
+
+-- `not (p, q)`, `some [X] (p, q)`, `r & (p, q)` and `r ; (p, q)`
+abbrev both : Term
+both = placed comma_name (more (placed p none 8) (more (placed q none 11) none)) 7
+
+abbrev both_goals : Node
+both_goals = Conjunction (nodes_of (Simple (Call p []) (at 8) ∷ Simple (Call q []) (at 11) ∷ [])) (at 7)
+
+pub negation-places : flat_form (placed not_name (more both none) 2) ≡ Negation both_goals (at 2) ∷ []
+negation-places = refl
+
+pub quantified-places : flat_form (placed some_name (more list_x (more both none)) 2) ≡ Quantified [] both_goals (at 2) ∷ []
+quantified-places = refl
+
+pub parallel-places : flat_form (placed ampersand_name (more (placed r none 3) (more both none)) 2) ≡ Parallel (nodes_of (Simple (Call r []) (at 3) ∷ both_goals ∷ [])) (at 2) ∷ []
+parallel-places = refl
+
+pub disjunct-places : flat_form (placed semicolon_name (more (placed r none 3) (more both none)) 2) ≡ Disjunction (nodes_of (Simple (Call r []) (at 3) ∷ both_goals ∷ [])) (at 2) ∷ []
+disjunct-places = refl
+
+-- `true` and `fail`
+pub truth-places : flat_form (placed true_name none 2) ≡ Simple True (at 2) ∷ []
+truth-places = refl
+
+pub failure-places : flat_form (placed fail_name none 2) ≡ Simple Fail (at 2) ∷ []
+failure-places = refl
+
 -- `all [X] p(X)`: its three goals have its place
 pub all-places : flat_form (placed all_name (more list_x (more (placed p (more x none) 10) none)) 2)
     ≡ Negation (Quantified (10 ∷ []) (Negation (Simple (Call p (10 ∷ [])) (at 10)) (at 2)) (at 2)) (at 2) ∷ []
@@ -331,6 +363,10 @@ head-met = refl
 -- `p(X, Y, Z).`: nothing is to be done
 pub head-alone : clause_goal is_blank_name callee 3 (Application p None (more x (more y (more z none))) no_span) None no_span ≡ Simple True no_span
 head-alone = refl
+
+-- `p(X).`
+pub fact-places : clause_goal is_blank_name callee 1 (placed p (more x none) 5) None (at 4) ≡ Simple True (at 4)
+fact-places = refl
 
 -- `p(f(X)) :- q(X).`: the goals of the head have the place of the clause
 pub clause-places : clause_goal is_blank_name callee 1 (placed p (more (placed f (more x none) 7) none) 5) (Some (placed q (more x none) 15)) (at 4)
