@@ -59,9 +59,10 @@ trap 'rm -rf "$work"' EXIT
 trap 'exit 2' INT TERM HUP
 
 (cd "$folder" && rt run -- data/family.m) >"$work/output" 2>&1 || fail "$reader cannot be built"
-write_module 262144 >"$work/short.m" && write_module 1048576 >"$work/long.m" || fail "the modules cannot be written"
+{ write_module 262144 >"$work/short.m" && write_module 1048576 >"$work/long.m"; } ||
+    fail "the modules cannot be written"
 
-"$reader" "$work/short.m" && "$reader" "$work/long.m" || fail "a module was not read to its end"
+{ "$reader" "$work/short.m" && "$reader" "$work/long.m"; } || fail "a module was not read to its end"
 short=$(seconds "$work/short.m")
 long=$(seconds "$work/long.m")
 awk -v short="$short" -v long="$long" -v runs="$runs" '

@@ -4,12 +4,10 @@
 use merc_base::{NoMemory, Tap, Text};
 use merc_io::{FileShelf, OpenGate, OutSink};
 use merc_top::answer;
+use merc_top::statuses::NO_MEMORY;
 use std::env::FillError;
 use std::process::ExitCode;
 use std::rt::Env;
-
-// The status where memory is refused.
-const NO_MEMORY: u8 = 9;
 
 fn main(rt: HostRuntime) -> ExitCode {
     let alloc = rt.alloc();

@@ -1,3 +1,4 @@
+-- The answer variables of a goal.
 use Rattle.std.specs.Prelude.{ℕ, ◌+◌, Bool, false, ◌==◌, ◌&&◌, ◌||◌, not, nat_lt, List, [], ◌∷◌, if◌then◌else◌}
 use Rattle.std.specs.List.{count_by, filter, list_any}
 use Rattle.merc_value.specs.Text.{text_at}
@@ -8,9 +9,13 @@ use Rattle.merc_scopes.specs.Scopes.{free, is_blank}
 -- The answer variables of a goal: those whose name does not begin with `_` and that occur outside every quantifier over them, unless all their occurrences
 -- lie in one negated goal, or in the condition and the then part of one if-then-else with at least one in the condition.
 
+-- the code of `_`
+abbrev pub underscore : ℕ
+underscore = 95
+
 abbrev pub begins_with_underscore : List ℕ → Bool
 begins_with_underscore [] = false
-begins_with_underscore (first ∷ rest) = first == 95
+begins_with_underscore (first ∷ rest) = first == underscore
 
 -- each name where it first stands
 abbrev pub firsts : List ℕ → List Occurrence → List Occurrence

@@ -4,8 +4,6 @@
 mod answers;
 mod reader;
 mod terms;
-#[cfg(test)]
-mod tests;
 mod variables;
 
 pub use answers::answer_variables;

@@ -7,6 +7,7 @@ ghost use Rattle.merc_scopes.specs.Scopes.{is_blank, occurrences, occurrences_of
 ghost use Rattle.merc_answer_variables.specs.Reading.{own_occurrence, listed};
 
 use merc_base::{Names, NoMemory};
+use merc_goals::number_past;
 use merc_scopes::{Occurrence, is_blank};
 use merc_tree::{Arguments, Shape, TermRef};
 use std::alloc::Global;
@@ -24,7 +25,7 @@ pub(crate) fn side_variables(
     let mut terms = Vec::new(alloc);
     terms.push(right.copy())?;
     terms.push(left.copy())?;
-    term_variables(alloc, names, behind(at)?, terms)
+    term_variables(alloc, names, number_past(at, 2)?, terms)
 }
 
 /// The variables of the arguments of a term whose number is this.
@@ -38,7 +39,7 @@ pub(crate) fn argument_variables(
 {
     let mut terms = Vec::new(alloc);
     push_arguments(&mut terms, term.arguments())?;
-    term_variables(alloc, names, behind(at)?, terms)
+    term_variables(alloc, names, number_past(at, 2)?, terms)
 }
 
 // The variables of terms, from the last to the first of them. The last has this number.
@@ -55,7 +56,7 @@ fn term_variables(
     while let Some(term) = terms.pop() {
         push_variable(names, &term, at, &mut found)?;
         push_arguments(&mut terms, term.arguments())?;
-        at = behind(at)?;
+        at = number_past(at, 2)?;
     }
     Ok(found)
 }
@@ -88,14 +89,4 @@ fn push_arguments<'a>(
         terms.push(last)?;
     }
     Ok(())
-}
-
-// The number behind those of a term's root.
-fn behind(at: usize) -> Result<usize, NoMemory>
-    ensures { IfOk result (λ number. number ≡ at + 2) }
-{
-    match at.checked_add(2) {
-        Some(number) => Ok(number),
-        None => Err(NoMemory),
-    }
 }

@@ -1,4 +1,7 @@
 pub mod CategoryExamples
+pub mod FirstFaultExamples
+pub mod FirstFaultLaws
+pub mod FirstPlaceLaws
 pub mod FixedNames
 pub mod GroupLaws
 pub mod GroupsExamples
@@ -9,3 +12,4 @@ pub mod OutsideExamples
 pub mod RefusalExamples
 pub mod RefusalTable
 pub mod TextTables
+mod CharacterExamples

@@ -28,7 +28,7 @@ slice_get-with_text names text number kept h = by (is_among text names)
     by true = h
     by false = slice_get-front names (text ∷ []) number kept h
 
-fold-distinct : (names texts : List (List ℕ)) → IsDistinct bytes_eq names → IsDistinct bytes_eq (fold with_text names texts)
+pub fold-distinct : (names texts : List (List ℕ)) → IsDistinct bytes_eq names → IsDistinct bytes_eq (fold with_text names texts)
 fold-distinct names [] d = d
 fold-distinct names (text ∷ texts) d = fold-distinct (with_text names text) texts (with_text-distinct names text d)
 

@@ -3,5 +3,8 @@ pub mod Groups
 pub mod Names
 pub mod Outside
 pub mod Refusal
+pub mod FirstFault
+pub mod FirstPlace
 pub mod Texts
 pub mod TextsExamples
+pub mod Characters

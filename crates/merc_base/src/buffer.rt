@@ -1,9 +1,12 @@
 //! The buffer that a shelf fills with one piece of a file.
-ghost use Rattle.std.specs.Prelude.{◌≡◌, [], take, min, length, ◌≤◌, vec_capacity, IfOk};
+ghost use Rattle.std.specs.Prelude.{◌≡◌, ◌≤◌, [], take, min, length, IfOk, OnOk, OnErr};
+ghost use Rattle.std.specs.Io.KnownBytes.{Consumes, IsAtEnd, Keeps};
 ghost use Rattle.merc_base.specs.Outside.{piece_limit};
 
 use crate::NoMemory;
 use std::alloc::Global;
+use std::io;
+use std::io::Read;
 use std::marker::Model;
 
 /// The most bytes that one piece of a file has.
@@ -12,18 +15,18 @@ pub const PIECE_LIMIT: usize = 65536;
 /// Room for one piece of a file, taken when it is made. It is seen as the bytes that it holds.
 #[derive(Debug, Drop)]
 pub struct Buffer {
-    bytes: Vec<u8>,
+    room: Vec<u8>,
+    count: usize,
 }
 
 impl Model for Buffer {
-    ghost use Rattle.std.specs.Prelude.{List, ℕ, ◌≤◌, length};
-    ghost use Rattle.std.specs.Vec.{vec_capacity};
+    ghost use Rattle.std.specs.Prelude.{◌≡◌, ◌≤◌, List, ℕ, length, take};
 
     ghost Value = { List ℕ };
 
-    ghost view = { λ b. b.bytes.items };
+    ghost view = { λ b. take b.count b.room.items };
 
-    ghost invariant = { λ b. (65536 ≤ vec_capacity b.bytes) × (length b.bytes.items ≤ 65536) };
+    ghost invariant = { λ b. (length b.room.items ≡ 65536) × (b.count ≤ 65536) };
 }
 
 impl Buffer {
@@ -31,8 +34,8 @@ impl Buffer {
     pub fn new(alloc: Global) -> Result<Buffer, NoMemory>
         ensures { IfOk result (λ buffer. buffer ≡ []) }
     {
-        let bytes = Vec::with_capacity(alloc, PIECE_LIMIT)?;
-        Ok(Buffer { bytes })
+        let room = vec![in alloc; 0u8; PIECE_LIMIT]?;
+        Ok(Buffer { room, count: 0 })
     }
 
     /// Puts the first 65,536 of these bytes in place of what the buffer holds, and says how many they are.
@@ -43,8 +46,25 @@ impl Buffer {
         ensures count { result ≡ min piece_limit (length bytes.now) }
     {
         let count = bytes.len().min(PIECE_LIMIT);
-        refill(&mut self.bytes, &bytes[..count]);
+        put_front(&mut self.room, &bytes[..count]);
+        self.count = count;
         count
+    }
+
+    /// Reads once, and puts the bytes that came in place of what the buffer holds, at most 65,536. Where the read
+    /// fails the buffer is empty. It takes no memory.
+    #[tactic(auto, unfolding(crate::specs::Outside::piece_limit))]
+    pub fn read_from<R: Read>(&mut self, reader: &mut R) -> io::Result<usize>
+        ensures count { IfOk result (λ count. (length self.new ≡ count) × (count ≤ piece_limit)) }
+        ensures bytes { OnOk result (Consumes (R.remaining reader.old) (R.remaining reader.new) self.new) }
+        ensures end { IfOk result (λ count. count ≡ 0 → IsAtEnd (R.remaining reader.new)) }
+        ensures lost { OnErr result (Keeps (R.remaining reader.old) (R.remaining reader.new)) }
+        ensures empty { OnErr result (self.new ≡ []) }
+    {
+        self.count = 0;
+        let count = reader.read(&mut self.room)?;
+        self.count = count;
+        Ok(count)
     }
 
     /// What the buffer holds, at most 65,536 bytes.
@@ -53,16 +73,15 @@ impl Buffer {
         ensures value { result.now ≡ self.now }
         ensures bound { length self.now ≤ piece_limit }
     {
-        &self.bytes
+        &self.room[..self.count]
     }
 }
 
-// Puts a piece in place of these bytes, which have room for it.
-fn refill(bytes: &mut Vec<u8>, piece: &[u8])
-    requires { length piece.now ≤ vec_capacity bytes.old }
-    ensures items { bytes.new.items ≡ piece.now }
-    ensures room { vec_capacity bytes.old ≤ vec_capacity bytes.new }
+// Puts these bytes in place of the first ones of a room.
+fn put_front(room: &mut [u8], bytes: &[u8])
+    requires { length bytes.now ≤ length room.old }
+    ensures front { take (length bytes.now) room.new ≡ bytes.now }
+    ensures room { length room.new ≡ length room.old }
 {
-    bytes.clear();
-    bytes.extend_from_slice(piece).unwrap();
+    room[..bytes.len()].copy_from_slice(bytes);
 }

@@ -1,5 +1,5 @@
 //! Names: texts that are kept once and compared by number.
-ghost use Rattle.std.specs.Prelude.{◌≡◌, Some, false, map, find, slice_get, MatchOption, IfOk, OnOk, OnErr};
+ghost use Rattle.std.specs.Prelude.{◌≡◌, ◌+◌, Some, false, map, find, length, slice_get, MatchOption, IfOk, OnOk, OnErr};
 ghost use Rattle.std.specs.List.{IsDistinct, enumerate_from};
 ghost use Rattle.std.specs.Option.{option_copied, option_map};
 ghost use Rattle.std.specs.Str.{bytes_eq};
@@ -338,6 +338,15 @@ impl Names {
             return fixed_text(number);
         }
         added.text(number - FIXED.len())
+    }
+
+    /// A number behind those of the table's names: no text has it, and each offset gives another.
+    pub fn beyond(&self, offset: u32) -> Name
+        ensures { result ≡ length self.now + offset }
+    {
+        let added = &self.added;
+        let count = FIXED.len() + added.len();
+        Name(count as u64 + u64::from(offset))
     }
 }
 

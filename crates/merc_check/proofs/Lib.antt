@@ -1,5 +1,6 @@
 pub mod AcceptedLaws
 pub mod CheckedLaws
 pub mod FirstUntyped
+pub mod Growing
 pub mod Refusals
 pub mod TextLaws

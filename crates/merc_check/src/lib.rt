@@ -2,8 +2,6 @@
 #![tactic(auto)]
 
 mod checking;
-#[cfg(test)]
-mod tests;
 mod texts;
 
 pub use texts::{Checked, check, check_query};

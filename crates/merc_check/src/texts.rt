@@ -1,5 +1,5 @@
 //! The check of texts.
-ghost use Rattle.std.specs.Prelude.{◌≤◌, length, IfErr, IfOk};
+ghost use Rattle.std.specs.Prelude.{◌≡◌, ◌≤◌, ◌++◌, ℕ, List, length, IfErr, IfOk};
 ghost use Rattle.merc_terms.specs.Items.{IsRefusal};
 ghost use Rattle.merc_check.specs.Checked.{IsAccepted, IsGoal, Refuses, RefusesQuery};
 
@@ -18,7 +18,8 @@ pub struct Checked {
     pub module: Module,
 }
 
-/// Checks a module. Names that the text and the library spell are added to the table, also where the text is refused.
+/// Checks a module. Names that the text and the library spell are added behind those in the table, also where the text
+/// is refused.
 ///
 /// # Errors
 ///
@@ -29,6 +30,7 @@ pub fn check(alloc: Global, text: &Text, names: &mut Names) -> Result<Checked, F
     requires { length text.now ≤ 300000000 }
     ensures accepted { IfOk result (λ checked. IsAccepted names.old names.new text.now checked.items checked.module) }
     ensures refused { IfErr result (λ fault. IsRefusal (Refuses names.old text.now) fault) }
+    ensures grows { (more : List (List ℕ)) × (names.new ≡ names.old ++ more) }
 {
     let items = read_text(alloc, text.bytes(), names)?;
     let module = module_of_items(alloc, &items, names)?;
@@ -39,8 +41,8 @@ pub fn check(alloc: Global, text: &Text, names: &mut Names) -> Result<Checked, F
     Ok(Checked { items, module })
 }
 
-/// Checks a goal that is asked over a module, whose names are in the table. Names that the goal spells are added, also
-/// where it is refused.
+/// Checks a goal that is asked over a module, whose names are in the table. Names that the goal spells are added behind
+/// them, also where it is refused.
 ///
 /// # Errors
 ///
@@ -54,6 +56,7 @@ pub fn check_query(
 ) -> Result<Term, Fault>
     ensures accepted { IfOk result (λ goal. IsGoal names.old names.new «module».now text.now goal) }
     ensures refused { IfErr result (λ fault. IsRefusal (RefusesQuery names.old «module».now text.now) fault) }
+    ensures grows { (more : List (List ℕ)) × (names.new ≡ names.old ++ more) }
 {
     let goal = read_goal_text(alloc, text.bytes(), names)?;
     let known = Known::of(alloc, module)?;

@@ -1,104 +1,85 @@
--- Of the first predicate without a mode and the first with too many modes the earlier is the least fault.
-use Rattle.std.proofs.Common.{◌≡◌, ℕ, ◌≤◌, ◌<◌, Bool, true, false, List, ◌∷◌, ◌++◌, Option, Some, None, refl, subst, arith, nat_lt}
+-- Of the first predicate without a mode and the first with too many modes the earlier is the first fault.
+use Rattle.std.proofs.Common.{◌≡◌, ℕ, ◌≤◌, ◌<◌, inl, inr, Bool, true, false, List, Option, Some, None, refl, sym, subst, arith, nat_lt}
 use Rattle.std.specs.Bool.{if◌then◌else◌}
+use Rattle.std.proofs.Math.Nat.{eq-or-lt_of_le}
 use Rattle.std.proofs.lemmas.Bool.Decides.{nat_tests}
 use Rattle.merc_base.specs.Refusal.{rule_number}
+use Rattle.merc_base.specs.FirstFault.{ComesFirst, HasNone, IsFirst}
+use Rattle.merc_base.specs.FirstPlace.{StandsAt, first_place, IsLeast}
 use Rattle.merc_base.specs.declared.place.Place.{Place}
 use Rattle.merc_base.specs.declared.refusal.Rule.{Rule}
 use Rattle.merc_base.specs.declared.refusal.Rule.TheVariants.{MissingMode, LimitPassed}
 use Rattle.merc_base.specs.declared.refusal.Detail.{Detail}
-use Rattle.merc_base.specs.declared.refusal.Detail.TheVariants.{Plain, Limit}
-use Rattle.merc_base.specs.declared.refusal.LimitName.TheVariants.{Modes}
 use Rattle.merc_base.specs.declared.refusal.Refusal.{Refusal}
-use Rattle.merc_entries.specs.Entries.{Entry, is_own}
-use Rattle.merc_entries.specs.EntryValue.{NeverFalls}
-use Rattle.merc_declared.specs.PhaseFaults.{first_place, HasNone, IsLeast}
-use Rattle.merc_declared.specs.ModeFaults.{HasModeFault, missing, many, lacks_mode, has_many_modes}
-use Rattle.merc_declared.specs.ModeCounts.{lacks_mode_here, has_many_modes_here, too_few, too_many, earlier}
-use Rattle.merc_declared.proofs.EntryLaws.{StandsAt, first-found, none-stands, least-stands}
-use Rattle.merc_declared.proofs.FaultLaws.{both-true}
+use Rattle.merc_base.proofs.FirstPlaceLaws.{first_place-least}
+use Rattle.merc_entries.specs.Entries.{Entry}
+use Rattle.merc_entries.specs.EntryValue.{place_at, AreInOrder}
+use Rattle.merc_declared.specs.ModeFaults.{HasModeFault, missing, many, lacks_mode_here, has_many_modes_here}
+use Rattle.merc_declared.specs.ModeCounts.{too_few, too_many, earlier}
 
--- a fault is one of the two kinds
+at_or_before : (rule rule' : Rule) (byte byte' : ℕ) → rule_number rule ≤ rule_number rule' → byte ≤ byte' → ComesFirst byte rule byte' rule'
+at_or_before rule rule' byte byte' less before = elim (eq-or-lt_of_le before) [ inl same ↦ inr (same, less) | inr earlier_byte ↦ inl earlier_byte ]
 
-lacking : (entries : List Entry) (place : Place) → StandsAt (lacks_mode_here entries) entries place → HasModeFault entries MissingMode Plain place
-lacking entries place stands =
-    let both = both-true (is_own stands.entry) (lacks_mode entries stands.entry.item) stands.passes in
-    rw stands.there (missing stands.front stands.back stands.entry stands.whole both.0 both.1)
+module _ (entries : List Entry) where
+  abbrev Lacks : Place → Type 0
+  Lacks = StandsAt place_at (lacks_mode_here entries) entries
 
-surplus : (entries : List Entry) (place : Place) → StandsAt (has_many_modes_here entries) entries place → HasModeFault entries LimitPassed (Limit Modes) place
-surplus entries place stands =
-    let both = both-true (is_own stands.entry) (has_many_modes entries stands.entry.item) stands.passes in
-    rw stands.there (many stands.front stands.back stands.entry stands.whole both.0 both.1)
+  abbrev HasMany : Place → Type 0
+  HasMany = StandsAt place_at (has_many_modes_here entries) entries
 
-lacking-stands : (entries front back : List Entry) (entry : Entry) → entries ≡ front ++ entry ∷ back → is_own entry ≡ true → lacks_mode entries entry.item ≡ true → StandsAt (lacks_mode_here entries) entries entry.place
-lacking-stands entries front back entry whole own lacks = record { front = front; entry = entry; back = back; whole = whole; passes = rw (own, lacks); there = refl }
+  no_fault : IsLeast Lacks None → IsLeast HasMany None → HasNone (HasModeFault entries)
+  no_fault lacks has _ _ _ (missing place is) = lacks place is
+  no_fault lacks has _ _ _ (many place is) = has place is
 
-surplus-stands : (entries front back : List Entry) (entry : Entry) → entries ≡ front ++ entry ∷ back → is_own entry ≡ true → has_many_modes entries entry.item ≡ true → StandsAt (has_many_modes_here entries) entries entry.place
-surplus-stands entries front back entry whole own has = record { front = front; entry = entry; back = back; whole = whole; passes = rw (own, has); there = refl }
+  few_first : (place : Place) → IsLeast Lacks (Some place) → ((other : Place) → HasMany other → place.byte ≤ other.byte)
+      → (rule : Rule) (detail : Detail) (other : Place) → HasModeFault entries rule detail other → ComesFirst place.byte MissingMode other.byte rule
+  few_first place lacks has _ _ _ (missing other is) = at_or_before MissingMode MissingMode place.byte other.byte (omega arith) (lacks.1 other is)
+  few_first place lacks has _ _ _ (many other is) = at_or_before MissingMode LimitPassed place.byte other.byte (omega arith) (has other is)
 
--- what bounds both kinds bounds each fault
+  first_few : (place : Place) → IsLeast Lacks (Some place) → ((other : Place) → HasMany other → place.byte ≤ other.byte) → IsFirst (HasModeFault entries) (too_few place)
+  first_few place lacks has = record { fault = missing place lacks.0; first = few_first place lacks has }
 
-no-fault : (entries : List Entry) → ((place : Place) → StandsAt (lacks_mode_here entries) entries place → ⊥) → ((place : Place) → StandsAt (has_many_modes_here entries) entries place → ⊥) → HasNone (HasModeFault entries)
-no-fault entries none-lacks none-has rule detail place (missing front back entry whole own lacks) = none-lacks entry.place (lacking-stands entries front back entry whole own lacks)
-no-fault entries none-lacks none-has rule detail place (many front back entry whole own has) = none-has entry.place (surplus-stands entries front back entry whole own has)
+  more_first : (place : Place) → IsLeast HasMany (Some place) → ((other : Place) → Lacks other → place.byte < other.byte)
+      → (rule : Rule) (detail : Detail) (other : Place) → HasModeFault entries rule detail other → ComesFirst place.byte LimitPassed other.byte rule
+  more_first place has lacks _ _ _ (missing other is) = inl (lacks other is)
+  more_first place has lacks _ _ _ (many other is) = at_or_before LimitPassed LimitPassed place.byte other.byte (omega arith) (has.1 other is)
 
-at-least : (entries : List Entry) (bound : ℕ) → ((place : Place) → StandsAt (lacks_mode_here entries) entries place → bound ≤ place.byte) → ((place : Place) → StandsAt (has_many_modes_here entries) entries place → bound ≤ place.byte) → (rule : Rule) (detail : Detail) (place : Place) → HasModeFault entries rule detail place → bound ≤ place.byte
-at-least entries bound lacks-bound has-bound rule detail place (missing front back entry whole own lacks) = lacks-bound entry.place (lacking-stands entries front back entry whole own lacks)
-at-least entries bound lacks-bound has-bound rule detail place (many front back entry whole own has) = has-bound entry.place (surplus-stands entries front back entry whole own has)
+  first_more : (place : Place) → IsLeast HasMany (Some place) → ((other : Place) → Lacks other → place.byte < other.byte) → IsFirst (HasModeFault entries) (too_many place)
+  first_more place has lacks = record { fault = many place has.0; first = more_first place has lacks }
 
-lacking-first : (entries : List Entry) (rule : Rule) (detail : Detail) (place : Place) → HasModeFault entries rule detail place → 9 ≤ rule_number rule
-lacking-first entries rule detail place (missing front back entry whole own lacks) = omega arith
-lacking-first entries rule detail place (many front back entry whole own has) = omega arith
+  never_none : (test : Bool) (place other : Place) → (if test then Some (too_many other) else Some (too_few place)) ≡ None → ⊥
+  never_none true place other none = cc
+  never_none false place other none = cc
 
-surplus-only : (entries : List Entry) (byte : ℕ) → ((place : Place) → StandsAt (lacks_mode_here entries) entries place → byte ≡ place.byte → ⊥) → (rule : Rule) (detail : Detail) (place : Place) → HasModeFault entries rule detail place → byte ≡ place.byte → 16 ≤ rule_number rule
-surplus-only entries byte none-lacks rule detail place (missing front back entry whole own lacks) same = absurd (none-lacks entry.place (lacking-stands entries front back entry whole own lacks) same)
-surplus-only entries byte none-lacks rule detail place (many front back entry whole own has) same = omega arith
+  pub no_mode_fault : (few more : Option Place) → IsLeast Lacks few → IsLeast HasMany more → earlier few more ≡ None → HasNone (HasModeFault entries)
+  no_mode_fault None None lacks has none = no_fault lacks has
+  no_mode_fault None (Some other) lacks has none = absurd (let e : Some (too_many other) ≡ None = none in cc)
+  no_mode_fault (Some place) None lacks has none = absurd (let e : Some (too_few place) ≡ None = none in cc)
+  no_mode_fault (Some place) (Some other) lacks has none = absurd (never_none (nat_lt other.byte place.byte) place other none)
 
-never-none : (test : Bool) (place other : Place) → (if test then Some (too_many place) else Some (too_few other)) ≡ None → ⊥
-never-none true place other none = cc
-never-none false place other none = cc
+  of_both : (place other : Place) (refusal : Refusal) → IsLeast Lacks (Some place) → IsLeast HasMany (Some other) → (test : Bool) → nat_lt other.byte place.byte ≡ test
+      → (if test then Some (too_many other) else Some (too_few place)) ≡ Some refusal → IsFirst (HasModeFault entries) refusal
+  of_both place other refusal lacks has true tested chosen =
+      let below : other.byte < place.byte = grind (arith, nat_tests) in
+      let same : too_many other ≡ refusal = cc in
+      subst (IsFirst (HasModeFault entries)) same (first_more other has (λ third is. let bound = lacks.1 third is in omega (arith, bound, below)))
+  of_both place other refusal lacks has false tested chosen =
+      let above : place.byte ≤ other.byte = grind (arith, nat_tests) in
+      let same : too_few place ≡ refusal = cc in
+      subst (IsFirst (HasModeFault entries)) same (first_few place lacks (λ third is. let bound = has.1 third is in omega (arith, bound, above)))
 
-pub no-mode-fault : (entries : List Entry) (first-lacks first-has : Option Place) → first_place (lacks_mode_here entries) entries ≡ first-lacks → first_place (has_many_modes_here entries) entries ≡ first-has → earlier first-lacks first-has ≡ None → HasNone (HasModeFault entries)
-no-mode-fault entries None None lacks has none =
-    no-fault entries (λ place stands. none-stands (lacks_mode_here entries) entries place lacks stands) (λ place stands. none-stands (has_many_modes_here entries) entries place has stands)
-no-mode-fault entries None (Some other) lacks has none = cc
-no-mode-fault entries (Some place) None lacks has none = cc
-no-mode-fault entries (Some place) (Some other) lacks has none = absurd (never-none (nat_lt other.byte place.byte) other place none)
+  pub first_mode_fault : (few more : Option Place) (refusal : Refusal) → IsLeast Lacks few → IsLeast HasMany more → earlier few more ≡ Some refusal → IsFirst (HasModeFault entries) refusal
+  first_mode_fault None None refusal lacks has chosen = cc
+  first_mode_fault None (Some other) refusal lacks has chosen =
+      let same : too_many other ≡ refusal = cc in subst (IsFirst (HasModeFault entries)) same (first_more other has (λ place is. absurd (lacks place is)))
+  first_mode_fault (Some place) None refusal lacks has chosen =
+      let same : too_few place ≡ refusal = cc in subst (IsFirst (HasModeFault entries)) same (first_few place lacks (λ other is. absurd (has other is)))
+  first_mode_fault (Some place) (Some other) refusal lacks has chosen = of_both place other refusal lacks has (nat_lt other.byte place.byte) refl chosen
 
-least-lacking : (entries : List Entry) (place : Place) → NeverFalls entries → first_place (lacks_mode_here entries) entries ≡ Some place → ((other : Place) → StandsAt (has_many_modes_here entries) entries other → place.byte ≤ other.byte) → IsLeast (HasModeFault entries) (too_few place)
-least-lacking entries place order found has-bound = record {
-  fault = lacking entries place (first-found (lacks_mode_here entries) entries place found);
-  place_least = at-least entries place.byte (λ other stands. least-stands (lacks_mode_here entries) entries place other order found stands) has-bound;
-  rule_least = λ rule detail other fault same. lacking-first entries rule detail other fault;
-}
+  -- the least places are the first ones
 
-least-surplus : (entries : List Entry) (place : Place) → NeverFalls entries → first_place (has_many_modes_here entries) entries ≡ Some place → ((other : Place) → StandsAt (lacks_mode_here entries) entries other → place.byte < other.byte) → IsLeast (HasModeFault entries) (too_many place)
-least-surplus entries place order found lacks-bound = record {
-  fault = surplus entries place (first-found (has_many_modes_here entries) entries place found);
-  place_least = at-least entries place.byte (λ other stands. omega (arith, lacks-bound other stands)) (λ other stands. least-stands (has_many_modes_here entries) entries place other order found stands);
-  rule_least = surplus-only entries place.byte (λ other stands same. omega (arith, lacks-bound other stands));
-}
+  pub lacks_least : (found : Option Place) → AreInOrder entries → found ≡ first_place place_at (lacks_mode_here entries) entries → IsLeast Lacks found
+  lacks_least found order is = subst (IsLeast Lacks) (sym is) (first_place-least place_at (lacks_mode_here entries) 0 entries order)
 
-least-both : (entries : List Entry) (place other : Place) → NeverFalls entries → first_place (lacks_mode_here entries) entries ≡ Some place → first_place (has_many_modes_here entries) entries ≡ Some other → (refusal : Refusal) (test : Bool) → nat_lt other.byte place.byte ≡ test → (if test then Some (too_many other) else Some (too_few place)) ≡ Some refusal → IsLeast (HasModeFault entries) refusal
-least-both entries place other order lacks has refusal true tested chosen =
-    let below : other.byte < place.byte = grind (arith, nat_tests) in
-    let same : too_many other ≡ refusal = cc in
-    subst (IsLeast (HasModeFault entries)) same
-    (least-surplus entries other order has (λ (third : Place) stands. let bound = least-stands (lacks_mode_here entries) entries place third order lacks stands in omega (arith, bound, below)))
-least-both entries place other order lacks has refusal false tested chosen =
-    let above : place.byte ≤ other.byte = grind (arith, nat_tests) in
-    let same : too_few place ≡ refusal = cc in
-    subst (IsLeast (HasModeFault entries)) same
-    (least-lacking entries place order lacks (λ (third : Place) stands. let bound = least-stands (has_many_modes_here entries) entries other third order has stands in omega (arith, bound, above)))
-
-pub least-mode-fault : (entries : List Entry) (first-lacks first-has : Option Place) (refusal : Refusal) → NeverFalls entries → first_place (lacks_mode_here entries) entries ≡ first-lacks → first_place (has_many_modes_here entries) entries ≡ first-has → earlier first-lacks first-has ≡ Some refusal → IsLeast (HasModeFault entries) refusal
-least-mode-fault entries None None refusal order lacks has chosen = cc
-least-mode-fault entries None (Some other) refusal order lacks has chosen =
-    let same : too_many other ≡ refusal = cc in
-    subst (IsLeast (HasModeFault entries)) same
-    (least-surplus entries other order has (λ place stands. absurd (none-stands (lacks_mode_here entries) entries place lacks stands)))
-least-mode-fault entries (Some place) None refusal order lacks has chosen =
-    let same : too_few place ≡ refusal = cc in
-    subst (IsLeast (HasModeFault entries)) same
-    (least-lacking entries place order lacks (λ other stands. absurd (none-stands (has_many_modes_here entries) entries other has stands)))
-least-mode-fault entries (Some place) (Some other) refusal order lacks has chosen = least-both entries place other order lacks has refusal (nat_lt other.byte place.byte) refl chosen
+  pub many_least : (found : Option Place) → AreInOrder entries → found ≡ first_place place_at (has_many_modes_here entries) entries → IsLeast HasMany found
+  many_least found order is = subst (IsLeast HasMany) (sym is) (first_place-least place_at (has_many_modes_here entries) 0 entries order)

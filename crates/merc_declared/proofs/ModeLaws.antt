@@ -8,19 +8,18 @@ use Rattle.std.specs.Ordering.{is_eq}
 use Rattle.std.specs.BTreeMap.{get}
 use Rattle.std.proofs.lemmas.List.Sums.{sum_by-cons}
 use Rattle.std.proofs.lemmas.Bool.Decides.{nat_tests}
-use Rattle.merc_entries.specs.declared.key.Key.{Key as CodeKey}
 use Rattle.merc_declared.specs.declared.mode_counts.ModeCount.{ModeCount}
 use Rattle.merc_declared.specs.declared.mode_counts.ModeCounts.{ModeCounts}
-use Rattle.merc_entries.specs.KeyValue.{key_value}
 use Rattle.merc_item_forms.specs.Items.{Item, Opening, Ending, Section, Import, TypeItem, PredicateItem, ModeItem, ClauseItem, OtherType, OtherFunction, OtherGrammar, OtherDeclaration, Formless}
-use Rattle.merc_entries.specs.Entries.{Entry, Key, key_of, is_key, has_mode, is_own, are_keys}
+use Rattle.merc_base.specs.declared.groups.Key.{Key}
+use Rattle.merc_entries.specs.Entries.{Entry, key_of, is_key, has_mode, is_own, are_keys}
 use Rattle.merc_declared.specs.ModeFaults.{is_mode_of, lacks_mode}
 use Rattle.merc_declared.specs.ModeCounts.{no_modes, counted, with_mode, HoldsModes, lacks_mode_by}
 use Rattle.merc_entries.proofs.KeyLaws.{compare_keys, is_found, same-test, key-swap, test-equal, lookup-same, lookup-nothing, lookup-many}
 
 -- what an insertion leaves at a key
 
-at-key : (key found : CodeKey) (modes : ModeCount) (before after : Option ModeCount) (lacks_category : Bool) → after ≡ cond (is_eq (compare_keys key found)) (Some modes) before → (key ≡ found → modes ≡ with_mode (unwrap_or before no_modes) lacks_category) → (test : Bool) → is_eq (compare_keys key found) ≡ test → unwrap_or after no_modes ≡ (if test then with_mode (unwrap_or before no_modes) lacks_category else unwrap_or before no_modes)
+at-key : (key found : Key) (modes : ModeCount) (before after : Option ModeCount) (lacks_category : Bool) → after ≡ cond (is_eq (compare_keys key found)) (Some modes) before → (key ≡ found → modes ≡ with_mode (unwrap_or before no_modes) lacks_category) → (test : Bool) → is_eq (compare_keys key found) ≡ test → unwrap_or after no_modes ≡ (if test then with_mode (unwrap_or before no_modes) lacks_category else unwrap_or before no_modes)
 at-key key found modes before after lacks_category updated added true test =
     let now : after ≡ Some modes = updated ∙ rw test refl in
     rw now (added (test-equal key found test))
@@ -28,16 +27,16 @@ at-key key found modes before after lacks_category updated added false test =
     let now : after ≡ before = updated ∙ rw test refl in
     rw now refl
 
-pub counted-insert : (before after : ModeCounts) (key : CodeKey) (modes : ModeCount) (lacks_category : Bool) (found : List Key) → ((other : CodeKey) → get compare_keys after.by_key other ≡ cond (is_eq (compare_keys key other)) (Some modes) (get compare_keys before.by_key other)) → modes ≡ with_mode (counted before (key_value key ∷ [])) lacks_category → counted after found ≡ (if are_keys found (key_value key ∷ []) then with_mode (counted before found) lacks_category else counted before found)
+pub counted-insert : (before after : ModeCounts) (key : Key) (modes : ModeCount) (lacks_category : Bool) (found : List Key) → ((other : Key) → get compare_keys after.by_key other ≡ cond (is_eq (compare_keys key other)) (Some modes) (get compare_keys before.by_key other)) → modes ≡ with_mode (counted before (key ∷ [])) lacks_category → counted after found ≡ (if are_keys found (key ∷ []) then with_mode (counted before found) lacks_category else counted before found)
 counted-insert before after key modes lacks_category [] updated added = rw (lookup-nothing after.by_key.entries, lookup-nothing before.by_key.entries) refl
 counted-insert before after key modes lacks_category (a ∷ b ∷ more) updated added = rw (lookup-many a b more after.by_key.entries, lookup-many a b more before.by_key.entries) refl
 counted-insert before after key modes lacks_category (a ∷ []) updated added =
-    let found : CodeKey = record { name = a.name; arity = a.arity } in
-    let tests : is_eq (compare_keys key found) ≡ is_key a (key_value key) = same-test key found ∙ key-swap (key_value key) a in
+    let found : Key = record { name = a.name; arity = a.arity } in
+    let tests : is_eq (compare_keys key found) ≡ is_key a key = same-test key found ∙ key-swap key a in
     let now : lookup (is_found (a ∷ [])) after.by_key.entries ≡ cond (is_eq (compare_keys key found)) (Some modes) (lookup (is_found (a ∷ [])) before.by_key.entries) =
     sym (lookup-same found after.by_key.entries) ∙ updated found ∙ ap (λ (old : Option ModeCount). cond (is_eq (compare_keys key found)) (Some modes) old) (lookup-same found before.by_key.entries) in
-    let same : key ≡ found → modes ≡ with_mode (counted before (a ∷ [])) lacks_category = λ equal. added ∙ ap (λ (other : CodeKey). with_mode (counted before (key_value other ∷ [])) lacks_category) equal in
-    at-key key found modes (lookup (is_found (a ∷ [])) before.by_key.entries) (lookup (is_found (a ∷ [])) after.by_key.entries) lacks_category now same (is_key a (key_value key)) tests
+    let same : key ≡ found → modes ≡ with_mode (counted before (a ∷ [])) lacks_category = λ equal. added ∙ ap (λ (other : Key). with_mode (counted before (other ∷ [])) lacks_category) equal in
+    at-key key found modes (lookup (is_found (a ∷ [])) before.by_key.entries) (lookup (is_found (a ∷ [])) after.by_key.entries) lacks_category now same (is_key a key) tests
 
 -- some pass a test where they are counted
 
@@ -64,7 +63,7 @@ lacks_agrees entries counts (Import units) holds = refl
 lacks_agrees entries counts (TypeItem head constructors) holds = refl
 lacks_agrees entries counts (ModeItem head category) holds = refl
 lacks_agrees entries counts (ClauseItem head body) holds = refl
-lacks_agrees entries counts OtherType holds = refl
+lacks_agrees entries counts (OtherType head) holds = refl
 lacks_agrees entries counts OtherFunction holds = refl
 lacks_agrees entries counts OtherGrammar holds = refl
 lacks_agrees entries counts OtherDeclaration holds = refl

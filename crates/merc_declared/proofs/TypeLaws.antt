@@ -5,6 +5,7 @@ use Rattle.std.specs.Ordering.{is_eq, nat_cmp, ordering_then}
 use Rattle.std.specs.BTreeSet.{BTreeSet, insert_key}
 use Rattle.std.proofs.lemmas.List.{take_at, length-append}
 use Rattle.std.proofs.lemmas.List.Folds.{list_any-append}
+use Rattle.merc_base.specs.Names.{int_name, string_name}
 use Rattle.merc_tree.specs.Term.{Term, Terms, Variable, Integer, Text, Application, none, more, list_of}
 use Rattle.merc_tree.specs.declared.term.Shape.{Shape}
 use Rattle.merc_tree.specs.declared.term.Shape.TheVariants.{Variable as VariableShape}
@@ -13,10 +14,10 @@ use Rattle.merc_tree.specs.Postfix.{shapes_of, all_shapes}
 use Rattle.merc_declared.specs.declared.known_types.UnitKey.{UnitKey}
 use Rattle.merc_declared.specs.declared.known_types.KnownTypes.{KnownTypes}
 use Rattle.merc_declared.specs.declared.known_types.Variables.TheVariants.{Any, Only}
-use Rattle.merc_entries.specs.KeyValue.{key_value}
 use Rattle.merc_item_forms.specs.Items.{TypeItem, PredicateItem}
 use Rattle.merc_item_forms.specs.Forms.{is_blank, is_this_variable, has_part, argument_type}
-use Rattle.merc_entries.specs.Entries.{Entry, Key, is_key, key}
+use Rattle.merc_base.specs.declared.groups.Key.{Key}
+use Rattle.merc_entries.specs.Entries.{Entry, is_key, key}
 use Rattle.merc_declared.specs.UnknownTypes.{is_known_type, is_unknown, is_unbound, has_unknown}
 use Rattle.merc_declared.specs.KnownTypes.{HoldsTypes, is_known_by, is_wrong_shape, HoldsVariables}
 use Rattle.merc_entries.proofs.KeyLaws.{compare_keys, number-test, number-swap, number-equal, then-equal, keys-equal, any-insert}
@@ -28,7 +29,7 @@ abbrev pub compare_units : UnitKey → UnitKey → Ordering
 compare_units a b = ordering_then (nat_cmp a.unit b.unit) (compare_keys a.key b.key)
 
 abbrev pub is_unit_key : ℕ → Key → UnitKey → Bool
-is_unit_key unit found other = (other.unit == unit) && is_key found (key_value other.key)
+is_unit_key unit found other = (other.unit == unit) && is_key found other.key
 
 units-equal : (a b : UnitKey) → compare_units a b ≡ Equal → a ≡ b
 units-equal a b same =
@@ -46,7 +47,7 @@ or-false true = refl
 or-false false = refl
 
 known-agrees : (own : ℕ) (entries : List Entry) (types : KnownTypes) (qualifier : Option ℕ) (found : Key) → HoldsTypes own entries types → is_known_type own entries qualifier found ≡ is_known_by types qualifier found
-known-agrees own entries types None found holds = ap (λ (declared : Bool). is_key found (key 57 0) || is_key found (key 58 0) || declared) (sym (holds.any found))
+known-agrees own entries types None found holds = ap (λ (declared : Bool). is_key found (key int_name 0) || is_key found (key string_name 0) || declared) (sym (holds.any found))
 known-agrees own entries types (Some qualifier) found holds =
     rw (holds.own_name, holds.file found, holds.units qualifier found)
 

@@ -1,21 +1,17 @@
 -- What the keys of the file's own predicates and clauses say of an item.
 use Rattle.std.specs.Prelude.{◌≡◌, ℕ, Bool, false, not, ◌||◌, ◌&&◌, List}
-use Rattle.std.specs.List.{list_any}
 use Rattle.merc_declared.specs.declared.clause_heads.OwnKeys.{OwnKeys}
 use Rattle.merc_item_forms.specs.Items.{Item, PredicateItem, ModeItem, ClauseItem}
 use Rattle.merc_item_forms.specs.Forms.{is_foreign}
-use Rattle.merc_entries.specs.Entries.{Entry, Key, key_of, is_own}
-use Rattle.merc_declared.specs.AloneItems.{declares_predicate, is_clause_of, is_alone}
+use Rattle.merc_base.specs.declared.groups.Key.{Key}
+use Rattle.merc_entries.specs.Entries.{Entry, key_of, is_own}
+use Rattle.merc_declared.specs.AloneItems.{declares_predicate, has_clause, is_alone}
 use Rattle.merc_entries.specs.KeySets.{has_key}
 
--- whether a clause of the file has this key
-abbrev pub has_clause : List Entry → List Key → Bool
-has_clause entries found = list_any (λ entry. is_own entry && is_clause_of found entry.item) entries
-
 -- the keys are those of some entries
-pub record HoldsKeys (entries : List Entry) (keys : OwnKeys) : Type 0 where
+pub record HoldsKeys (own : ℕ) (entries : List Entry) (keys : OwnKeys) : Type 0 where
   pub predicates : (found : List Key) → has_key keys.predicates found ≡ declares_predicate entries found
-  pub clauses : (found : List Key) → has_key keys.clauses found ≡ has_clause entries found
+  pub clauses : (found : List Key) → has_key keys.clauses found ≡ has_clause own entries found
 
 -- whether an item goes together with none of these keys
 abbrev pub is_alone_by : ℕ → OwnKeys → Item → Bool

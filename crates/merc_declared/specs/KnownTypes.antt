@@ -3,6 +3,7 @@ use Rattle.std.specs.Prelude.{◌≡◌, ℕ, Bool, true, false, not, ◌==◌, 
 use Rattle.std.specs.List.{list_any}
 use Rattle.std.specs.Ordering.{nat_cmp}
 use Rattle.std.specs.BTreeSet.{BTreeSet, contains}
+use Rattle.merc_base.specs.Names.{int_name, string_name}
 use Rattle.merc_tree.specs.Term.{Term}
 use Rattle.merc_tree.specs.declared.term.Shape.{Shape}
 use Rattle.merc_tree.specs.declared.term.Shape.TheVariants.{Variable as VariableShape, Integer as IntegerShape, Text as TextShape, Application as ApplicationShape}
@@ -10,16 +11,16 @@ use Rattle.merc_declared.specs.declared.known_types.UnitKeys.{UnitKeys}
 use Rattle.merc_declared.specs.declared.known_types.KnownTypes.{KnownTypes}
 use Rattle.merc_declared.specs.declared.known_types.Variables.{Variables}
 use Rattle.merc_declared.specs.declared.known_types.Variables.TheVariants.{Any, Only}
-use Rattle.merc_entries.specs.KeyValue.{key_value}
 use Rattle.merc_item_forms.specs.Forms.{is_blank, is_this_variable}
-use Rattle.merc_entries.specs.Entries.{Entry, Key, is_key, types_of, is_own, key}
+use Rattle.merc_base.specs.declared.groups.Key.{Key}
+use Rattle.merc_entries.specs.Entries.{Entry, is_key, types_of, is_own, key}
 use Rattle.merc_declared.specs.UnknownTypes.{is_of_unit, declares_type, has_unknown}
 use Rattle.merc_entries.specs.KeySets.{has_key}
 
 -- whether a set has this key of this unit
 abbrev pub has_unit_key : UnitKeys → ℕ → List Key → Bool
 has_unit_key set unit [] = false
-has_unit_key set unit (found ∷ more) = list_any (λ other. (other.unit == unit) && is_key found (key_value other.key)) set.keys.keys
+has_unit_key set unit (found ∷ more) = list_any (λ other. (other.unit == unit) && is_key found other.key) set.keys.keys
 
 -- the types are those that some entries of a module declare
 pub record HoldsTypes (own : ℕ) (entries : List Entry) (types : KnownTypes) : Type 0 where
@@ -37,7 +38,7 @@ pub record AddsTypes (old new : KnownTypes) (entry : Entry) : Type 0 where
 
 -- whether a type is known
 abbrev pub is_known_by : KnownTypes → Option ℕ → Key → Bool
-is_known_by types None found = is_key found (key 57 0) || is_key found (key 58 0) || has_key types.any (found ∷ [])
+is_known_by types None found = is_key found (key int_name 0) || is_key found (key string_name 0) || has_key types.any (found ∷ [])
 is_known_by types (Some qualifier) found = (qualifier == types.own_name && has_key types.file (found ∷ [])) || has_unit_key types.units qualifier (found ∷ [])
 
 -- whether a variable may not stand in a type: one that is no parameter, or `_`

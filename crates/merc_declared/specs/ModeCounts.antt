@@ -12,17 +12,17 @@ use Rattle.merc_tree.specs.Term.{Term}
 use Rattle.merc_item_forms.specs.Forms.{is_moded}
 use Rattle.merc_declared.specs.declared.mode_counts.ModeCount.{ModeCount}
 use Rattle.merc_declared.specs.declared.mode_counts.ModeCounts.{ModeCounts}
-use Rattle.merc_entries.specs.KeyValue.{key_value}
 use Rattle.merc_item_forms.specs.Items.{Item, PredicateItem}
-use Rattle.merc_entries.specs.Entries.{Entry, Key, key_of, has_mode, is_own, are_keys}
-use Rattle.merc_declared.specs.ModeFaults.{is_mode_of, lacks_category_of, lacks_mode, own_mode_count, has_many_modes}
+use Rattle.merc_base.specs.declared.groups.Key.{Key}
+use Rattle.merc_entries.specs.Entries.{Entry, key_of, has_mode, is_own, are_keys}
+use Rattle.merc_declared.specs.ModeFaults.{is_mode_of, lacks_category_of, own_mode_count, mode_limit}
 
 abbrev pub no_modes : ModeCount
 no_modes = record { count = 0; lacks_category = false }
 
 -- the modes counted at a key, none where there is no key
 abbrev pub counted : ModeCounts → List Key → ModeCount
-counted counts found = unwrap_or (lookup (λ key. are_keys found (key_value key ∷ [])) counts.by_key.entries) no_modes
+counted counts found = unwrap_or (lookup (λ key. are_keys found (key ∷ [])) counts.by_key.entries) no_modes
 
 -- the counts are those of some entries
 pub record HoldsModes (entries : List Entry) (counts : ModeCounts) : Type 0 where
@@ -41,14 +41,8 @@ lacks_mode_by counts (PredicateItem head category) =
 lacks_mode_by counts other = false
 
 abbrev pub has_many_modes_by : ModeCounts → Item → Bool
-has_many_modes_by counts (PredicateItem head category) = nat_lt 16 (own_mode_count (has_mode head category) + (counted counts (key_of head)).count)
+has_many_modes_by counts (PredicateItem head category) = nat_lt mode_limit (own_mode_count (has_mode head category) + (counted counts (key_of head)).count)
 has_many_modes_by counts other = false
-
-abbrev pub lacks_mode_here : List Entry → Entry → Bool
-lacks_mode_here entries entry = is_own entry && lacks_mode entries entry.item
-
-abbrev pub has_many_modes_here : List Entry → Entry → Bool
-has_many_modes_here entries entry = is_own entry && has_many_modes entries entry.item
 
 abbrev pub too_few : Place → Refusal
 too_few place = record { rule = MissingMode; place = place; detail = Plain }

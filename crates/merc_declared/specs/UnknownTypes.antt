@@ -1,12 +1,16 @@
 -- Unknown types in the declarations of a file.
 use Rattle.std.specs.Prelude.{◌≡◌, ℕ, Bool, true, false, ◌==◌, ◌&&◌, ◌||◌, not, List, ◌∷◌, ◌++◌, length, Option, Some, None}
 use Rattle.std.specs.List.{list_any}
+use Rattle.merc_base.specs.FirstPlace.{StandsAt}
+use Rattle.merc_base.specs.Names.{int_name, string_name}
 use Rattle.merc_base.specs.declared.place.Place.{Place}
 use Rattle.merc_tree.specs.Term.{Term, Variable, Application}
 use Rattle.merc_tree.specs.Shape.{arguments_of}
 use Rattle.merc_item_forms.specs.Items.{Item, TypeItem, PredicateItem}
 use Rattle.merc_item_forms.specs.Forms.{is_blank, is_this_variable, has_part, argument_type}
-use Rattle.merc_entries.specs.Entries.{Entry, Key, key, is_key, types_of, is_own}
+use Rattle.merc_base.specs.declared.groups.Key.{Key}
+use Rattle.merc_entries.specs.EntryValue.{place_at}
+use Rattle.merc_entries.specs.Entries.{Entry, key, is_key, types_of, is_own}
 
 abbrev pub is_unit_name : ℕ → Option ℕ → Bool
 is_unit_name unit None = false
@@ -21,7 +25,7 @@ declares_type test entries found = list_any (λ entry. test entry && list_any (i
 
 -- A type's name without a qualifier is `int`, `string` or of any entry, with the module's name one of the file's, and with a unit's name one of that unit.
 abbrev pub is_known_type : ℕ → List Entry → Option ℕ → Key → Bool
-is_known_type own entries None found = is_key found (key 57 0) || is_key found (key 58 0) || declares_type (λ entry. true) entries found
+is_known_type own entries None found = is_key found (key int_name 0) || is_key found (key string_name 0) || declares_type (λ entry. true) entries found
 is_known_type own entries (Some qualifier) found =
     (qualifier == own && declares_type is_own entries found) || declares_type (is_of_unit qualifier) entries found
 
@@ -42,11 +46,6 @@ has_unknown names own entries (TypeItem head constructors) =
 has_unknown names own entries (PredicateItem head category) = list_any (λ argument. has_part (is_unknown own entries) (argument_type argument)) (arguments_of head)
 has_unknown names own entries other = false
 
-pub record HasUnknownType (names : List (List ℕ)) (own : ℕ) (entries : List Entry) (place : Place) : Type 0 where
-  pub front : List Entry
-  pub entry : Entry
-  pub back : List Entry
-  pub whole : entries ≡ front ++ entry ∷ back
-  pub file : is_own entry ≡ true
-  pub unknown : has_unknown names own entries entry.item ≡ true
-  pub there : place ≡ entry.place
+-- a declaration of the file with an unknown type, at its place
+abbrev pub HasUnknownType : List (List ℕ) → ℕ → List Entry → Place → Type 0
+HasUnknownType names own entries place = StandsAt place_at (λ entry. is_own entry && has_unknown names own entries entry.item) entries place

@@ -2,9 +2,10 @@
 ghost use Rattle.std.specs.Prelude.{◌≡◌, ◌&&◌, IfOk, IfErr};
 ghost use Rattle.merc_base.specs.declared.refusal.Rule.TheVariants.{Undeclared};
 ghost use Rattle.merc_declared.specs.AloneItems.{IsAlone};
-ghost use Rattle.merc_entries.specs.EntryValue.{entry_values, NeverFalls};
+ghost use Rattle.merc_entries.specs.EntryValue.{entry_values, AreInOrder, place_at};
 ghost use Rattle.merc_item_forms.specs.ItemValue.{item_value};
-ghost use Rattle.merc_declared.specs.PhaseFaults.{first_place, AtPlaces, HasNone, AnswersLeast};
+ghost use Rattle.merc_base.specs.FirstFault.{AtPlaces, HasNone, AnswersFirst};
+ghost use Rattle.merc_base.specs.FirstPlace.{first_place};
 ghost use Rattle.merc_declared.specs.ClauseHeads.{HoldsKeys, is_alone_by, is_alone_here};
 
 use merc_base::{Detail, Fault, Name, NoMemory, Place, Refusal, Rule};
@@ -20,11 +21,11 @@ use std::alloc::Global;
 /// predicate, a clause whose head has another module's name, or a predicate without a clause. `NoMemory` says that
 /// memory was refused.
 pub fn check_clauses(alloc: Global, entries: &[Entry<'_>], own: Name) -> Result<(), Fault>
-    requires order { NeverFalls (entry_values entries.now) }
+    requires order { AreInOrder (entry_values entries.now) }
     ensures fine { IfOk result (λ _. HasNone (AtPlaces Undeclared (IsAlone own (entry_values entries.now)))) }
-    ensures refused { IfErr result (λ fault. AnswersLeast (AtPlaces Undeclared (IsAlone own (entry_values entries.now))) fault) }
+    ensures refused { IfErr result (λ fault. AnswersFirst (AtPlaces Undeclared (IsAlone own (entry_values entries.now))) fault) }
 {
-    let keys = OwnKeys::of(alloc, entries)?;
+    let keys = OwnKeys::of(alloc, entries, own)?;
     match first_alone(entries, own, &keys) {
         Some(place) => Err(Fault::Refused(Refusal {
             rule: Rule::Undeclared,
@@ -35,7 +36,7 @@ pub fn check_clauses(alloc: Global, entries: &[Entry<'_>], own: Name) -> Result<
     }
 }
 
-// The keys of the file's own predicates, and those of its clauses.
+// The keys of the file's own predicates, and those of their clauses.
 #[derive(Drop)]
 struct OwnKeys {
     predicates: KeySet,
@@ -43,8 +44,8 @@ struct OwnKeys {
 }
 
 impl OwnKeys {
-    fn of(alloc: Global, entries: &[Entry<'_>]) -> Result<OwnKeys, NoMemory>
-        ensures { IfOk result (λ keys. HoldsKeys (entry_values entries.now) keys) }
+    fn of(alloc: Global, entries: &[Entry<'_>], own: Name) -> Result<OwnKeys, NoMemory>
+        ensures { IfOk result (λ keys. HoldsKeys own (entry_values entries.now) keys) }
     {
         let mut predicates = KeySet::new(alloc);
         let mut clauses = KeySet::new(alloc);
@@ -52,7 +53,9 @@ impl OwnKeys {
             if entry.unit.is_none() {
                 match &entry.item {
                     Item::Predicate(head, _) => predicates.insert(key_of(head))?,
-                    Item::Clause(head, _) => clauses.insert(key_of(head))?,
+                    Item::Clause(head, _) if !is_foreign(head, own) => clauses.insert(key_of(
+                        head,
+                    ))?,
                     _ => {}
                 }
             }
@@ -80,8 +83,8 @@ impl OwnKeys {
 
 // The place of the first item of the file that goes together with none of these keys.
 fn first_alone(entries: &[Entry<'_>], own: Name, keys: &OwnKeys) -> Option<Place>
-    requires { HoldsKeys (entry_values entries.now) keys.now }
-    ensures { result ≡ first_place (is_alone_here own (entry_values entries.now)) (entry_values entries.now) }
+    requires { HoldsKeys own (entry_values entries.now) keys.now }
+    ensures { result ≡ first_place place_at (is_alone_here own (entry_values entries.now)) (entry_values entries.now) }
 {
     for entry in entries {
         if entry.unit.is_none() && keys.is_alone(&entry.item, own) {

@@ -4,19 +4,20 @@ ghost use Rattle.std.specs.List.{list_any};
 ghost use Rattle.merc_base.specs.declared.refusal.Rule.TheVariants.{UnknownType};
 ghost use Rattle.merc_tree.specs.Shape.{arguments_of};
 ghost use Rattle.merc_tree.specs.Postfix.{shapes_of};
-ghost use Rattle.merc_entries.specs.KeyValue.{key_value};
 ghost use Rattle.merc_item_forms.specs.Forms.{argument_type};
-ghost use Rattle.merc_entries.specs.Entries.{Entry as entry_record, Key as key_record, is_key, types_of};
+ghost use Rattle.merc_base.specs.declared.groups.Key.{Key as key_record};
+ghost use Rattle.merc_entries.specs.Entries.{Entry as entry_record, is_key, types_of};
 ghost use Rattle.merc_declared.specs.UnknownTypes.{HasUnknownType, has_unknown};
-ghost use Rattle.merc_entries.specs.EntryValue.{entry_value, entry_values, NeverFalls};
+ghost use Rattle.merc_entries.specs.EntryValue.{entry_value, entry_values, AreInOrder, place_at};
 ghost use Rattle.merc_item_forms.specs.ItemValue.{item_value};
 ghost use Rattle.merc_entries.specs.KeySets.{keys_at};
-ghost use Rattle.merc_declared.specs.PhaseFaults.{first_place, AtPlaces, HasNone, AnswersLeast};
+ghost use Rattle.merc_base.specs.FirstFault.{AtPlaces, HasNone, AnswersFirst};
+ghost use Rattle.merc_base.specs.FirstPlace.{first_place};
 ghost use Rattle.merc_declared.specs.declared.known_types.Variables.TheVariants.{Any};
 ghost use Rattle.merc_declared.specs.KnownTypes.{has_unit_key, HoldsTypes, AddsTypes, is_known_by, is_unbound_by, is_wrong_shape, HoldsVariables, has_unknown_here};
 
-use merc_base::{Detail, Fault, Name, Names, NoMemory, Place, Refusal, Rule};
-use merc_entries::{Entry, Key, KeySet, key_of};
+use merc_base::{Detail, Fault, Key, Name, Names, NoMemory, Place, Refusal, Rule};
+use merc_entries::{Entry, KeySet, type_key};
 use merc_item_forms::{Item, argument_type, is_blank};
 use merc_operands::members;
 use merc_tree::{Shape, TermRef};
@@ -35,9 +36,9 @@ pub fn check_types(
     own: Name,
     names: &Names,
 ) -> Result<(), Fault>
-    requires order { NeverFalls (entry_values entries.now) }
+    requires order { AreInOrder (entry_values entries.now) }
     ensures fine { IfOk result (λ _. HasNone (AtPlaces UnknownType (HasUnknownType names.now own (entry_values entries.now)))) }
-    ensures refused { IfErr result (λ fault. AnswersLeast (AtPlaces UnknownType (HasUnknownType names.now own (entry_values entries.now))) fault) }
+    ensures refused { IfErr result (λ fault. AnswersFirst (AtPlaces UnknownType (HasUnknownType names.now own (entry_values entries.now))) fault) }
 {
     let types = KnownTypes::of(alloc, entries, own)?;
     match first_unknown(alloc, entries, names, &types)? {
@@ -58,7 +59,7 @@ fn first_unknown(
     types: &KnownTypes,
 ) -> Result<Option<Place>, NoMemory>
     requires { HoldsTypes types.now.own_name (entry_values entries.now) types.now }
-    ensures { IfOk result (λ place. place ≡ first_place (has_unknown_here names.now types.now.own_name (entry_values entries.now)) (entry_values entries.now)) }
+    ensures { IfOk result (λ place. place ≡ first_place place_at (has_unknown_here names.now types.now.own_name (entry_values entries.now)) (entry_values entries.now)) }
 {
     for entry in entries {
         if types.is_at_fault(alloc, entry, names)? {
@@ -101,7 +102,7 @@ impl UnitKeys {
     }
 
     fn contains(&self, unit: Name, key: Key) -> bool
-        ensures { result ≡ has_unit_key self.now unit (key_value key ∷ []) }
+        ensures { result ≡ has_unit_key self.now unit (key ∷ []) }
     {
         self.keys.contains(&UnitKey { unit, key })
     }
@@ -179,7 +180,7 @@ impl KnownTypes {
 
     // Whether a type with this qualifier is known.
     fn is_known(&self, qualifier: Option<Name>, key: Key) -> bool
-        ensures { result ≡ is_known_by self.now qualifier (key_value key) }
+        ensures { result ≡ is_known_by self.now qualifier key }
     {
         match qualifier {
             Some(qualifier) => {
@@ -290,15 +291,5 @@ impl KnownTypes {
         } else {
             Ok(false)
         }
-    }
-}
-
-// The key of the type that an item declares.
-fn type_key(item: &Item<'_>) -> Option<Key>
-    ensures { keys_at result ≡ types_of (item_value item.now) }
-{
-    match item {
-        Item::Type(head, _) => key_of(head),
-        _ => None,
     }
 }

@@ -1,15 +1,17 @@
 //! The modes of the file's predicates: each predicate has one, each mode a category, and no predicate has too many.
 ghost use Rattle.std.specs.Prelude.{◌≡◌, ◌<◌, ◌^◌, ◌&&◌, false, List, Some, IfOk, IfErr, OnOk, is_some, if◌then◌else◌};
-ghost use Rattle.merc_entries.specs.Entries.{Key as key_record, is_own, are_keys};
-ghost use Rattle.merc_declared.specs.ModeFaults.{HasModeFault};
-ghost use Rattle.merc_entries.specs.EntryValue.{entry_value, entry_values, NeverFalls};
+ghost use Rattle.merc_base.specs.declared.groups.Key.{Key as key_record};
+ghost use Rattle.merc_entries.specs.Entries.{is_own, are_keys};
+ghost use Rattle.merc_declared.specs.ModeFaults.{HasModeFault, lacks_mode_here, has_many_modes_here};
+ghost use Rattle.merc_entries.specs.EntryValue.{entry_value, entry_values, AreInOrder, place_at};
 ghost use Rattle.merc_item_forms.specs.ItemValue.{item_value};
 ghost use Rattle.merc_entries.specs.KeySets.{keys_at};
-ghost use Rattle.merc_declared.specs.PhaseFaults.{first_place, HasNone, AnswersLeast};
-ghost use Rattle.merc_declared.specs.ModeCounts.{no_modes, counted, with_mode, HoldsModes, lacks_mode_by, has_many_modes_by, lacks_mode_here, has_many_modes_here, too_few, too_many, earlier};
+ghost use Rattle.merc_base.specs.FirstFault.{HasNone, AnswersFirst};
+ghost use Rattle.merc_base.specs.FirstPlace.{first_place};
+ghost use Rattle.merc_declared.specs.ModeCounts.{no_modes, counted, with_mode, HoldsModes, lacks_mode_by, has_many_modes_by, too_few, too_many, earlier};
 
-use merc_base::{Detail, Fault, LimitName, Name, NoMemory, Place, Refusal, Rule};
-use merc_entries::{Entry, Key, has_mode, key_of};
+use merc_base::{Detail, Fault, Key, LimitName, Name, NoMemory, Place, Refusal, Rule};
+use merc_entries::{Entry, has_mode, key_of};
 use merc_item_forms::Item;
 use std::alloc::Global;
 use std::collections::BTreeMap;
@@ -25,9 +27,9 @@ const MODE_LIMIT: usize = 16;
 /// `Refused` says the first predicate that does not keep to this; where it lacks something and has too many, the lack is
 /// what is told. `NoMemory` says that memory was refused.
 pub fn check_modes(alloc: Global, entries: &[Entry<'_>]) -> Result<(), Fault>
-    requires order { NeverFalls (entry_values entries.now) }
+    requires order { AreInOrder (entry_values entries.now) }
     ensures fine { IfOk result (λ _. HasNone (HasModeFault (entry_values entries.now))) }
-    ensures refused { IfErr result (λ fault. AnswersLeast (HasModeFault (entry_values entries.now)) fault) }
+    ensures refused { IfErr result (λ fault. AnswersFirst (HasModeFault (entry_values entries.now)) fault) }
 {
     let counts = ModeCounts::of(alloc, entries)?;
     let missing = first_missing(entries, &counts);
@@ -190,7 +192,7 @@ impl ModeCounts {
 // The place of the first predicate of the file that lacks a mode or one of its modes a category.
 fn first_missing(entries: &[Entry<'_>], counts: &ModeCounts) -> Option<Place>
     requires { HoldsModes (entry_values entries.now) counts.now }
-    ensures { result ≡ first_place (lacks_mode_here (entry_values entries.now)) (entry_values entries.now) }
+    ensures { result ≡ first_place place_at (lacks_mode_here (entry_values entries.now)) (entry_values entries.now) }
 {
     for entry in entries {
         if counts.is_lacking(entry) {
@@ -203,7 +205,7 @@ fn first_missing(entries: &[Entry<'_>], counts: &ModeCounts) -> Option<Place>
 // The place of the first predicate of the file that has too many modes.
 fn first_many(entries: &[Entry<'_>], counts: &ModeCounts) -> Option<Place>
     requires { HoldsModes (entry_values entries.now) counts.now }
-    ensures { result ≡ first_place (has_many_modes_here (entry_values entries.now)) (entry_values entries.now) }
+    ensures { result ≡ first_place place_at (has_many_modes_here (entry_values entries.now)) (entry_values entries.now) }
 {
     for entry in entries {
         if entry.unit.is_none() && counts.has_many(&entry.item) {

@@ -4,7 +4,8 @@ use Rattle.std.proofs.Math.Seq.{drop-cons}
 use Rattle.std.proofs.lemmas.List.{append_assoc}
 use Rattle.merc_entries.specs.declared.entry.Entry.{Entry as CodeEntry}
 use Rattle.merc_item_forms.specs.Items.{Item}
-use Rattle.merc_entries.specs.Entries.{Key, Declared, declared_by}
+use Rattle.merc_base.specs.declared.groups.Key.{Key}
+use Rattle.merc_entries.specs.Entries.{Declared, declared_by}
 use Rattle.merc_item_forms.specs.ItemValue.{item_value}
 use Rattle.merc_entries.specs.EntryValue.{entry_values}
 use Rattle.merc_entries.specs.FirstPlaces.{declared_at}

@@ -3,78 +3,38 @@ use Rattle.std.proofs.Common.{◌≡◌, ◌≤◌, ◌⊎◌, inl, inr, ℕ, Bo
 use Rattle.std.specs.List.{list_any}
 use Rattle.std.proofs.lemmas.List.{append_assoc, append-nil}
 use Rattle.std.proofs.lemmas.Bool.Decides.{nat_tests}
+use Rattle.merc_base.specs.Names.{error_name, bool_name, maybe_name, require_name}
+use Rattle.merc_base.specs.FirstPlace.{NeverFalls, IsLeast, earlier}
 use Rattle.merc_base.specs.declared.place.Place.{Place}
+use Rattle.merc_base.proofs.FirstPlaceLaws.{least_along, least_earlier, never_falls_before}
 use Rattle.merc_item_forms.specs.Items.{Item}
 use Rattle.merc_entries.specs.Entries.{Entry, Declared, is_key, is_same_mode, types_of, constructors_of, predicates_of, modes_of, declared_by, key, is_own, own_entries}
 use Rattle.merc_entries.specs.DoubleFaults.{IsAgain, HasDouble, type_again, constructor_again, arithmetic, predicate_again, error_again, mode_again, bool_and_maybe, type_keys, is_arithmetic, import_place, later}
-use Rattle.merc_entries.specs.EntryValue.{NeverFalls}
-use Rattle.merc_entries.specs.FirstPlaces.{again_from, first_again, first_such, both_later, earlier, declared_at, constructor_double, predicate_double, first_double}
+use Rattle.merc_entries.specs.EntryValue.{place_at, AreInOrder}
+use Rattle.merc_entries.specs.FirstPlaces.{again_from, first_again, first_such, both_later, declared_at, constructor_double, predicate_double, first_double}
 use Rattle.merc_entries.proofs.FirstAgain.{is_among}
-
--- the least place of which something holds, None where it holds of none
-abbrev pub IsLeast : (Place → Type 0) → Option Place → Type 0
-IsLeast Holds None = (place : Place) → Holds place → ⊥
-IsLeast Holds (Some first) = Holds first × ((place : Place) → Holds place → first.byte ≤ place.byte)
-
-least_along : (P Q : Place → Type 0) → ((place : Place) → P place → Q place) → ((place : Place) → Q place → P place) → (found : Option Place) → IsLeast P found → IsLeast Q found
-least_along P Q to from None least = λ place q. least place (from place q)
-least_along P Q to from (Some first) least = (to first least.0, λ place q. least.1 place (from place q))
-
-least_if : (P Q : Place → Type 0) (test : Bool) (a b : Place) → (nat_le a.byte b.byte ≡ test)
-    → IsLeast P (Some a) → IsLeast Q (Some b) → IsLeast (λ place. P place ⊎ Q place) (if test then Some a else Some b)
-least_if P Q true a b is pa qb =
-    (inl pa.0, λ place h. elim h [ inl p ↦ pa.1 place p | inr q ↦ let e : b.byte ≤ place.byte = qb.1 place q in grind (arith, nat_tests) ])
-least_if P Q false a b is pa qb =
-    (inr qb.0, λ place h. elim h [ inl p ↦ let e : a.byte ≤ place.byte = pa.1 place p in grind (arith, nat_tests) | inr q ↦ qb.1 place q ])
-
-least_earlier : (P Q : Place → Type 0) (a b : Option Place) → IsLeast P a → IsLeast Q b → IsLeast (λ place. P place ⊎ Q place) (earlier a b)
-least_earlier P Q None None pa qb = λ place h. elim h [ inl p ↦ pa place p | inr q ↦ qb place q ]
-least_earlier P Q None (Some b) pa qb = (inr qb.0, λ place h. elim h [ inl p ↦ absurd (pa place p) | inr q ↦ qb.1 place q ])
-least_earlier P Q (Some a) None pa qb = (inl pa.0, λ place h. elim h [ inl p ↦ pa.1 place p | inr q ↦ absurd (qb place q) ])
-least_earlier P Q (Some a) (Some b) pa qb = least_if P Q (nat_le a.byte b.byte) a b refl pa qb
 
 -- Declarations in the order of their places, from a byte on
 
 abbrev Rises : {K : Type 0} → ℕ → List (Declared K) → Type 0
-Rises from [] = Unit {0}
-Rises from (next ∷ rest) = (from ≤ next.place.byte) × Rises next.place.byte rest
-
-abbrev EntriesRise : ℕ → List Entry → Type 0
-EntriesRise from [] = Unit {0}
-EntriesRise from (next ∷ rest) = (from ≤ next.place.byte) × EntriesRise next.place.byte rest
-
-rises_before : {K : Type 0} (from after : ℕ) (declared : List (Declared K)) → from ≤ after → Rises after declared → Rises from declared
-rises_before from after [] less rises = tt
-rises_before from after (next ∷ rest) less rises = (let e : after ≤ next.place.byte = rises.0 in omega arith, rises.1)
+Rises from declared = NeverFalls (λ next. next.place) from declared
 
 rises_at : {K : Type 0} (from : ℕ) (place : Place) (keys : List K) (rest : List (Declared K)) → from ≤ place.byte → Rises place.byte rest → Rises from (declared_at place keys ++ rest)
-rises_at from place [] rest less rises = rises_before from place.byte rest less rises
+rises_at from place [] rest less rises = never_falls_before (λ next. next.place) from place.byte rest less rises
 rises_at from place (key ∷ keys) rest less rises = (less, rises_at place.byte place keys rest (omega arith) rises)
 
-declared_rise : {K : Type 0} (keys : Item → List K) (from : ℕ) (entries : List Entry) → EntriesRise from entries → Rises from (declared_by keys entries)
+declared_rise : {K : Type 0} (keys : Item → List K) (from : ℕ) (entries : List Entry) → NeverFalls place_at from entries → Rises from (declared_by keys entries)
 declared_rise keys from [] rise = tt
 declared_rise keys from (entry ∷ rest) rise =
     rises_at from entry.place (keys entry.item) (declared_by keys rest) rise.0 (declared_rise keys entry.place.byte rest rise.1)
 
-entries_before : (from after : ℕ) (entries : List Entry) → from ≤ after → EntriesRise after entries → EntriesRise from entries
-entries_before from after [] less rise = tt
-entries_before from after (next ∷ rest) less rise = (let e : after ≤ next.place.byte = rise.0 in omega arith, rise.1)
-
-own_if : (test : Bool) (from : ℕ) (entry : Entry) (rest : List Entry) → from ≤ entry.place.byte → EntriesRise entry.place.byte rest → EntriesRise from (if test then entry ∷ rest else rest)
+own_if : (test : Bool) (from : ℕ) (entry : Entry) (rest : List Entry) → from ≤ entry.place.byte → NeverFalls place_at entry.place.byte rest → NeverFalls place_at from (if test then entry ∷ rest else rest)
 own_if true from entry rest less rise = (less, rise)
-own_if false from entry rest less rise = entries_before from entry.place.byte rest less rise
+own_if false from entry rest less rise = never_falls_before place_at from entry.place.byte rest less rise
 
-own_rise : (from : ℕ) (entries : List Entry) → EntriesRise from entries → EntriesRise from (own_entries entries)
+own_rise : (from : ℕ) (entries : List Entry) → NeverFalls place_at from entries → NeverFalls place_at from (own_entries entries)
 own_rise from [] rise = tt
 own_rise from (entry ∷ rest) rise = own_if (is_own entry) from entry (own_entries rest) rise.0 (own_rise entry.place.byte rest rise.1)
-
-never_fall : (from : ℕ) (first : Entry) (rest : List Entry) → from ≤ first.place.byte → NeverFalls (first ∷ rest) → EntriesRise from (first ∷ rest)
-never_fall from first [] less never = (less, tt)
-never_fall from first (next ∷ rest) less never = (less, never_fall first.place.byte next rest never.0 never.1)
-
-entries_rise : (entries : List Entry) → NeverFalls entries → EntriesRise 0 entries
-entries_rise [] never = tt
-entries_rise (first ∷ rest) never = never_fall 0 first rest (omega arith) never
 
 -- What is declared again
 
@@ -220,7 +180,7 @@ such_of keys test (entry ∷ rest) place such =
           record { front = entry ∷ found.front; entry = found.entry; back = found.back; whole = ap (λ l. entry ∷ l) found.whole; passes = found.passes; there = found.there }
     ]
 
-first_such-least : {K : Type 0} (keys : Item → List K) (test : K → Bool) (entries : List Entry) → EntriesRise 0 entries → IsLeast (DeclaresSuch keys test entries) (first_such test (declared_by keys entries))
+first_such-least : {K : Type 0} (keys : Item → List K) (test : K → Bool) (entries : List Entry) → NeverFalls place_at 0 entries → IsLeast (DeclaresSuch keys test entries) (first_such test (declared_by keys entries))
 first_such-least {K} keys test entries rise =
     least_along (AnySuch test (declared_by keys entries)) (DeclaresSuch keys test entries)
     (λ place such. such_of keys test entries place such)
@@ -264,11 +224,11 @@ abbrev AreDoubles : List Entry → Place → Type 0
 AreDoubles entries place =
     IsAgain is_key (type_keys entries) place ⊎ (
     (IsAgain is_key (declared_by constructors_of entries) place ⊎ DeclaresSuch constructors_of is_arithmetic entries place) ⊎ (
-    (IsAgain is_key (declared_by predicates_of entries) place ⊎ AreBoth (import_place 62 entries) (DeclaresSuch predicates_of (is_key (key 54 1)) entries) place) ⊎ (
+    (IsAgain is_key (declared_by predicates_of entries) place ⊎ AreBoth (import_place require_name entries) (DeclaresSuch predicates_of (is_key (key error_name 1)) entries) place) ⊎ (
     IsAgain is_same_mode (declared_by modes_of (own_entries entries)) place ⊎
-    AreBoth (import_place 60 entries) (λ maybe. import_place 61 entries ≡ Some maybe) place)))
+    AreBoth (import_place bool_name entries) (λ maybe. import_place maybe_name entries ≡ Some maybe) place)))
 
-constructors_least : (entries : List Entry) → EntriesRise 0 entries
+constructors_least : (entries : List Entry) → NeverFalls place_at 0 entries
     → IsLeast (λ place. IsAgain is_key (declared_by constructors_of entries) place ⊎ DeclaresSuch constructors_of is_arithmetic entries place) (constructor_double entries)
 constructors_least entries rise =
     least_earlier (IsAgain is_key (declared_by constructors_of entries)) (DeclaresSuch constructors_of is_arithmetic entries)
@@ -276,23 +236,23 @@ constructors_least entries rise =
     (first_again-least is_key 0 (declared_by constructors_of entries) (declared_rise constructors_of 0 entries rise))
     (first_such-least constructors_of is_arithmetic entries rise)
 
-predicates_least : (entries : List Entry) → EntriesRise 0 entries
-    → IsLeast (λ place. IsAgain is_key (declared_by predicates_of entries) place ⊎ AreBoth (import_place 62 entries) (DeclaresSuch predicates_of (is_key (key 54 1)) entries) place) (predicate_double entries)
+predicates_least : (entries : List Entry) → NeverFalls place_at 0 entries
+    → IsLeast (λ place. IsAgain is_key (declared_by predicates_of entries) place ⊎ AreBoth (import_place require_name entries) (DeclaresSuch predicates_of (is_key (key error_name 1)) entries) place) (predicate_double entries)
 predicates_least entries rise =
-    let errors = first_such (is_key (key 54 1)) (declared_by predicates_of entries) in
-    least_earlier (IsAgain is_key (declared_by predicates_of entries)) (AreBoth (import_place 62 entries) (DeclaresSuch predicates_of (is_key (key 54 1)) entries))
-    (first_again is_key (declared_by predicates_of entries)) (both_later (import_place 62 entries) errors)
+    let errors = first_such (is_key (key error_name 1)) (declared_by predicates_of entries) in
+    least_earlier (IsAgain is_key (declared_by predicates_of entries)) (AreBoth (import_place require_name entries) (DeclaresSuch predicates_of (is_key (key error_name 1)) entries))
+    (first_again is_key (declared_by predicates_of entries)) (both_later (import_place require_name entries) errors)
     (first_again-least is_key 0 (declared_by predicates_of entries) (declared_rise predicates_of 0 entries rise))
-    (both_least (import_place 62 entries) (DeclaresSuch predicates_of (is_key (key 54 1)) entries) errors (first_such-least predicates_of (is_key (key 54 1)) entries rise))
+    (both_least (import_place require_name entries) (DeclaresSuch predicates_of (is_key (key error_name 1)) entries) errors (first_such-least predicates_of (is_key (key error_name 1)) entries rise))
 
-modes_least : (entries : List Entry) → EntriesRise 0 entries → IsLeast (IsAgain is_same_mode (declared_by modes_of (own_entries entries))) (first_again is_same_mode (declared_by modes_of (own_entries entries)))
+modes_least : (entries : List Entry) → NeverFalls place_at 0 entries → IsLeast (IsAgain is_same_mode (declared_by modes_of (own_entries entries))) (first_again is_same_mode (declared_by modes_of (own_entries entries)))
 modes_least entries rise =
     first_again-least is_same_mode 0 (declared_by modes_of (own_entries entries)) (declared_rise modes_of 0 (own_entries entries) (own_rise 0 entries rise))
 
-units_least : (entries : List Entry) → IsLeast (AreBoth (import_place 60 entries) (λ maybe. import_place 61 entries ≡ Some maybe)) (both_later (import_place 60 entries) (import_place 61 entries))
-units_least entries = both_least (import_place 60 entries) (λ maybe. import_place 61 entries ≡ Some maybe) (import_place 61 entries) (itself_least (import_place 61 entries))
+units_least : (entries : List Entry) → IsLeast (AreBoth (import_place bool_name entries) (λ maybe. import_place maybe_name entries ≡ Some maybe)) (both_later (import_place bool_name entries) (import_place maybe_name entries))
+units_least entries = both_least (import_place bool_name entries) (λ maybe. import_place maybe_name entries ≡ Some maybe) (import_place maybe_name entries) (itself_least (import_place maybe_name entries))
 
-all_least : (entries : List Entry) → EntriesRise 0 entries → IsLeast (AreDoubles entries) (first_double entries)
+all_least : (entries : List Entry) → NeverFalls place_at 0 entries → IsLeast (AreDoubles entries) (first_double entries)
 all_least entries rise =
     least_earlier _ _ _ _ (first_again-least is_key 0 (type_keys entries) (omega arith, (omega arith, declared_rise types_of 0 entries rise)))
     (least_earlier _ _ _ _ (constructors_least entries rise)
@@ -306,7 +266,7 @@ doubles_to entries place (inr (inl (inr such))) =
     let P : Place → Type 0 = λ p. HasDouble entries p in subst P (sym such.there) (arithmetic such.front such.back such.entry such.whole such.passes)
 doubles_to entries place (inr (inr (inl (inl again)))) = predicate_again place again
 doubles_to entries place (inr (inr (inl (inr both)))) =
-    let such : DeclaresSuch predicates_of (is_key (key 54 1)) entries both.1 = both.3 in
+    let such : DeclaresSuch predicates_of (is_key (key error_name 1)) entries both.1 = both.3 in
     let P : Place → Type 0 = λ p. HasDouble entries p in
     let e : place ≡ later both.0 such.entry.place = both.4 ∙ ap (λ p. later both.0 p) such.there in
     subst P (sym e) (error_again such.front such.back such.entry both.0 such.whole such.passes both.2)
@@ -326,6 +286,6 @@ doubles_of entries _ (error_again front back entry import whole passes imported)
 doubles_of entries _ (mode_again place again) = inr (inr (inr (inl again)))
 doubles_of entries _ (bool_and_maybe bool maybe a b) = inr (inr (inr (inr (bool, maybe, a, b, refl))))
 
-pub first_double-least : (entries : List Entry) → NeverFalls entries → IsLeast (HasDouble entries) (first_double entries)
-first_double-least entries never =
-    least_along (AreDoubles entries) (HasDouble entries) (doubles_to entries) (doubles_of entries) (first_double entries) (all_least entries (entries_rise entries never))
+pub first_double-least : (entries : List Entry) → AreInOrder entries → IsLeast (HasDouble entries) (first_double entries)
+first_double-least entries order =
+    least_along (AreDoubles entries) (HasDouble entries) (doubles_to entries) (doubles_of entries) (first_double entries) (all_least entries order)

@@ -5,15 +5,14 @@ use Rattle.std.specs.Map.{lookup}
 use Rattle.std.specs.Ordering.{is_eq, nat_cmp, ordering_then, match_ordering}
 use Rattle.std.specs.BTreeSet.{insert_key}
 use Rattle.std.proofs.lemmas.Bool.Decides.{nat_tests}
-use Rattle.merc_entries.specs.declared.key.Key.{Key as CodeKey}
-use Rattle.merc_entries.specs.KeyValue.{key_value}
-use Rattle.merc_entries.specs.Entries.{Key, is_key, are_keys}
+use Rattle.merc_base.specs.declared.groups.Key.{Key}
+use Rattle.merc_entries.specs.Entries.{is_key, are_keys}
 
-abbrev pub compare_keys : CodeKey → CodeKey → Ordering
+abbrev pub compare_keys : Key → Key → Ordering
 compare_keys a b = ordering_then (nat_cmp a.name b.name) (nat_cmp a.arity b.arity)
 
-abbrev pub is_found : List Key → CodeKey → Bool
-is_found found key = are_keys found (key_value key ∷ [])
+abbrev pub is_found : List Key → Key → Bool
+is_found found key = are_keys found (key ∷ [])
 
 pub number-equal : (a b : ℕ) → nat_cmp a b ≡ Equal → a ≡ b
 number-equal a b same = grind (arith, nat_tests)
@@ -23,13 +22,13 @@ then-equal Less b same = cc
 then-equal Equal b same = (refl, same)
 then-equal Greater b same = cc
 
-pub keys-equal : (a b : CodeKey) → compare_keys a b ≡ Equal → a ≡ b
+pub keys-equal : (a b : Key) → compare_keys a b ≡ Equal → a ≡ b
 keys-equal a b same =
     let both = then-equal (nat_cmp a.name b.name) (nat_cmp a.arity b.arity) same in
     let names : a.name ≡ b.name = number-equal a.name b.name both.0 in
     let arities : a.arity ≡ b.arity = number-equal a.arity b.arity both.1 in
-    let with_name : ℕ → CodeKey = λ n. record { name = n; arity = a.arity } in
-    let with_arity : ℕ → CodeKey = λ n. record { name = b.name; arity = n } in
+    let with_name : ℕ → Key = λ n. record { name = n; arity = a.arity } in
+    let with_arity : ℕ → Key = λ n. record { name = b.name; arity = n } in
     ap with_name names ∙ ap with_arity arities
 
 swap : (a b c : Bool) → (a || (b || c)) ≡ ((b || c) || a)
@@ -64,16 +63,16 @@ module _ {K : Type 0} (compare : K → K → Ordering) (test : K → Bool) (same
   any-insert [] key = alone (test key)
   any-insert (first ∷ rest) key = any-insert-by first rest key (any-insert rest key) (compare key first) refl
 
-pub any-key : (found : List Key) (keys : List CodeKey) (key : CodeKey) → list_any (is_found found) (insert_key compare_keys keys key) ≡ (list_any (is_found found) keys || is_found found key)
+pub any-key : (found : List Key) (keys : List Key) (key : Key) → list_any (is_found found) (insert_key compare_keys keys key) ≡ (list_any (is_found found) keys || is_found found key)
 any-key found = any-insert compare_keys (is_found found) (λ a b equal. ap (is_found found) (keys-equal a b equal))
 
-pub none-found : (keys : List CodeKey) → list_any (is_found []) keys ≡ false
+pub none-found : (keys : List Key) → list_any (is_found []) keys ≡ false
 none-found [] = refl
 none-found (first ∷ rest) = none-found rest
 
 -- Maps by keys: a look-up by a key in the definitions' sense is one by the code's key
 
-then-both : (a b : Ordering) → is_eq (ordering_then a b) ≡ (is_eq a && is_eq b)
+pub then-both : (a b : Ordering) → is_eq (ordering_then a b) ≡ (is_eq a && is_eq b)
 then-both Less b = refl
 then-both Equal b = refl
 then-both Greater b = refl
@@ -81,26 +80,26 @@ then-both Greater b = refl
 pub number-test : (a b : ℕ) → is_eq (nat_cmp a b) ≡ (a == b)
 number-test a b = grind (arith, nat_tests)
 
-pub same-test : (a b : CodeKey) → is_eq (compare_keys a b) ≡ is_key (key_value a) (key_value b)
+pub same-test : (a b : Key) → is_eq (compare_keys a b) ≡ is_key a b
 same-test a b =
     then-both (nat_cmp a.name b.name) (nat_cmp a.arity b.arity)
     ∙ ap (λ (test : Bool). test && is_eq (nat_cmp a.arity b.arity)) (number-test a.name b.name)
     ∙ ap (λ (test : Bool). (a.name == b.name) && test) (number-test a.arity b.arity)
 
-lookup-by : {X : Type 0} (key : CodeKey) (entry : CodeKey × X) (rest : List (CodeKey × X)) → lookup (λ other. is_eq (compare_keys key other)) rest ≡ lookup (is_found (key_value key ∷ [])) rest → lookup (λ other. is_eq (compare_keys key other)) (entry ∷ rest) ≡ lookup (is_found (key_value key ∷ [])) (entry ∷ rest)
+lookup-by : {X : Type 0} (key : Key) (entry : Key × X) (rest : List (Key × X)) → lookup (λ other. is_eq (compare_keys key other)) rest ≡ lookup (is_found (key ∷ [])) rest → lookup (λ other. is_eq (compare_keys key other)) (entry ∷ rest) ≡ lookup (is_found (key ∷ [])) (entry ∷ rest)
 lookup-by {X} key entry rest hypothesis =
     ap (λ (test : Bool). cond test (Some entry.1) (lookup (λ other. is_eq (compare_keys key other)) rest)) (same-test key entry.0)
-    ∙ ap (λ (found : Option X). cond (is_found (key_value key ∷ []) entry.0) (Some entry.1) found) hypothesis
+    ∙ ap (λ (found : Option X). cond (is_found (key ∷ []) entry.0) (Some entry.1) found) hypothesis
 
-pub lookup-same : {X : Type 0} (key : CodeKey) (entries : List (CodeKey × X)) → lookup (λ other. is_eq (compare_keys key other)) entries ≡ lookup (is_found (key_value key ∷ [])) entries
+pub lookup-same : {X : Type 0} (key : Key) (entries : List (Key × X)) → lookup (λ other. is_eq (compare_keys key other)) entries ≡ lookup (is_found (key ∷ [])) entries
 lookup-same key [] = refl
 lookup-same key (entry ∷ rest) = lookup-by key entry rest (lookup-same key rest)
 
-pub lookup-nothing : {X : Type 0} (entries : List (CodeKey × X)) → lookup (is_found []) entries ≡ None
+pub lookup-nothing : {X : Type 0} (entries : List (Key × X)) → lookup (is_found []) entries ≡ None
 lookup-nothing [] = refl
 lookup-nothing (entry ∷ rest) = lookup-nothing rest
 
-pub lookup-many : {X : Type 0} (a b : Key) (more : List Key) (entries : List (CodeKey × X)) → lookup (is_found (a ∷ b ∷ more)) entries ≡ None
+pub lookup-many : {X : Type 0} (a b : Key) (more : List Key) (entries : List (Key × X)) → lookup (is_found (a ∷ b ∷ more)) entries ≡ None
 lookup-many a b more [] = refl
 lookup-many a b more (entry ∷ rest) = lookup-many a b more rest
 
@@ -117,5 +116,5 @@ is-equal Less same = cc
 is-equal Equal same = refl
 is-equal Greater same = cc
 
-pub test-equal : (a b : CodeKey) → is_eq (compare_keys a b) ≡ true → a ≡ b
+pub test-equal : (a b : Key) → is_eq (compare_keys a b) ≡ true → a ≡ b
 test-equal a b same = keys-equal a b (is-equal (compare_keys a b) same)

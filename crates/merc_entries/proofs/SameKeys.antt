@@ -3,23 +3,14 @@ use Rattle.std.proofs.Common.{◌≡◌, ℕ, ◌==◌, ◌&&◌, Bool, true, fa
 use Rattle.std.specs.List.{list_any}
 use Rattle.std.specs.Ordering.{is_eq, nat_cmp, bool_cmp, ordering_then}
 use Rattle.std.specs.Cmp.Lexicographic.{slice_cmp}
-use Rattle.std.proofs.lemmas.Bool.Decides.{nat_tests}
 use Rattle.std.proofs.lemmas.List.{map-append}
-use Rattle.merc_entries.specs.declared.key.Key.{Key as CodeKey}
 use Rattle.merc_entries.specs.declared.doubles.modes.Mode.{Mode as CodeMode}
 use Rattle.merc_entries.specs.declared.doubles.again.Declared.{Declared as CodeDeclared}
+use Rattle.merc_base.specs.declared.groups.Key.{Key}
 use Rattle.merc_entries.specs.Entries.{is_key, are_same, is_same_mode}
-use Rattle.merc_entries.specs.KeyValue.{key_value}
 use Rattle.merc_entries.specs.ModeValue.{mode_value}
+use Rattle.merc_entries.proofs.KeyLaws.{then-both, same-test}
 use Rattle.merc_entries.specs.FirstPlaces.{declared_value, again_from, first_again}
-
-equal_both : (a b : Ordering) → is_eq (ordering_then a b) ≡ is_eq a && is_eq b
-equal_both Less b = refl
-equal_both Equal b = refl
-equal_both Greater b = refl
-
-equal_numbers : (a b : ℕ) → is_eq (nat_cmp a b) ≡ (a == b)
-equal_numbers a b = grind (arith, nat_tests)
 
 equal_lists : (a b : List Bool) → is_eq (slice_cmp bool_cmp a b) ≡ are_same a b
 equal_lists [] [] = refl
@@ -31,20 +22,14 @@ equal_lists (true ∷ as') (false ∷ bs) = refl
 equal_lists (false ∷ as') (true ∷ bs) = refl
 equal_lists (false ∷ as') (false ∷ bs) = equal_lists as' bs
 
-pub same_key : (a b : CodeKey) → is_eq (ordering_then (nat_cmp a.name b.name) (nat_cmp a.arity b.arity)) ≡ is_key (key_value a) (key_value b)
-same_key a b =
-    equal_both (nat_cmp a.name b.name) (nat_cmp a.arity b.arity)
-    ∙ ap (λ t. t && is_eq (nat_cmp a.arity b.arity)) (equal_numbers a.name b.name)
-    ∙ ap (λ t. (a.name == b.name) && t) (equal_numbers a.arity b.arity)
-
 pub same_mode : (a b : CodeMode)
     → is_eq (ordering_then (ordering_then (nat_cmp a.predicate.name b.predicate.name) (nat_cmp a.predicate.arity b.predicate.arity)) (slice_cmp bool_cmp a.outputs.items b.outputs.items))
     ≡ is_same_mode (mode_value a) (mode_value b)
 same_mode a b =
     let keys = ordering_then (nat_cmp a.predicate.name b.predicate.name) (nat_cmp a.predicate.arity b.predicate.arity) in
-    equal_both keys (slice_cmp bool_cmp a.outputs.items b.outputs.items)
-    ∙ ap (λ t. t && is_eq (slice_cmp bool_cmp a.outputs.items b.outputs.items)) (same_key a.predicate b.predicate)
-    ∙ ap (λ t. is_key (key_value a.predicate) (key_value b.predicate) && t) (equal_lists a.outputs.items b.outputs.items)
+    then-both keys (slice_cmp bool_cmp a.outputs.items b.outputs.items)
+    ∙ ap (λ t. t && is_eq (slice_cmp bool_cmp a.outputs.items b.outputs.items)) (same-test a.predicate b.predicate)
+    ∙ ap (λ t. is_key a.predicate b.predicate && t) (equal_lists a.outputs.items b.outputs.items)
 
 module _ {C K : Type 0} (same : C → C → Bool) (same' : K → K → Bool) (value : C → K) (agree : (a b : C) → same a b ≡ same' (value a) (value b)) where
   among_as : (key : C) (seen : List (CodeDeclared C))

@@ -1,6 +1,6 @@
 -- The items of the units, read one text behind the other.
 use Rattle.std.proofs.Common.{◌≡◌, ◌≢◌, ℕ, true, List, [], is_some, refl, codes, ne_eqb}
-use Rattle.merc_base.specs.Names.{fixed_names}
+use Rattle.merc_base.specs.Names.{list_name, bool_name, maybe_name, fixed_names}
 use Rattle.merc_prelude.specs.Units.{units, unit_text}
 use Rattle.merc_tree.specs.Term.{Term}
 use Rattle.merc_entries.specs.declared.units.Units.{Units}
@@ -8,21 +8,21 @@ use Rattle.merc_entries.specs.Units.{constant_text, items_of, AreUnits, IsUnit}
 
 -- the three units have a text
 
-pub list_there : is_some (unit_text (constant_text 59)) ≡ true
+pub list_there : is_some (unit_text (constant_text list_name)) ≡ true
 unfolding units fixed_names
 list_there = refl
 
-pub bool_there : is_some (unit_text (constant_text 60)) ≡ true
+pub bool_there : is_some (unit_text (constant_text bool_name)) ≡ true
 unfolding units fixed_names
 bool_there = refl
 
-pub maybe_there : is_some (unit_text (constant_text 61)) ≡ true
+pub maybe_there : is_some (unit_text (constant_text maybe_name)) ≡ true
 unfolding units fixed_names
 maybe_there = refl
 
 -- other names than those of the three units with a text
-no_unit : (units : Units) (name : ℕ) → name ≢ 59 → name ≢ 60 → name ≢ 61 → items_of units name ≡ []
-no_unit units name no_list no_bool no_maybe = rw (ne_eqb name 59 no_list, ne_eqb name 60 no_bool, ne_eqb name 61 no_maybe) refl
+no_unit : (units : Units) (name : ℕ) → name ≢ list_name → name ≢ bool_name → name ≢ maybe_name → items_of units name ≡ []
+no_unit units name no_list no_bool no_maybe = rw (ne_eqb name list_name no_list, ne_eqb name bool_name no_bool, ne_eqb name maybe_name no_maybe) refl
 
 pub all_units : (before one two after : List (List ℕ)) (list bool maybe : List Term)
     → IsUnit before one (codes "list") list → IsUnit one two (codes "bool") bool → IsUnit two after (codes "maybe") maybe

@@ -1,7 +1,8 @@
 -- Doubled declarations: one of each kind, and two modules without any.
 use Rattle.std.specs.Prelude.{◌≡◌, ℕ, ◌*◌, Bool, false, true, ◌||◌, List, [], ◌∷◌, ◌++◌, Some, None, refl}
-use Rattle.std.specs.List.{list_any}
+use Rattle.std.specs.List.{list_any, list_all}
 use Rattle.std.proofs.Common.{ap, ◌∙◌}
+use Rattle.merc_base.specs.Names.{slash_name, less_name, plus_name, minus_name, star_name, slash_slash_name, div_name, mod_name, rem_name, error_name, in_name, int_name, string_name, list_name, bool_name, maybe_name, require_name, det_name, semidet_name}
 use Rattle.merc_base.specs.declared.place.Place.{Place}
 use Rattle.merc_base.specs.declared.place.Span.{Span}
 use Rattle.merc_tree.specs.Term.{Term, Application, none, more}
@@ -29,14 +30,34 @@ with_one name argument = Application name None (more argument none) span
 abbrev with_two : ℕ → Term → Term → Term
 with_two name first second = Application name None (more first (more second none)) span
 
+-- names of the file
+
+abbrev color_name : ℕ
+color_name = 100
+
+abbrev red_name : ℕ
+red_name = 101
+
+abbrev blue_name : ℕ
+blue_name = 102
+
+abbrev shade_name : ℕ
+shade_name = 103
+
+abbrev dark_name : ℕ
+dark_name = 104
+
+abbrev p_name : ℕ
+p_name = 110
+
 abbrev color : List Term → Item
-color constructors = TypeItem (plain 100) constructors
+color constructors = TypeItem (plain color_name) constructors
 
 -- `:- type color ---> red.` and `:- type color ---> blue.`
-pub type-example : HasDouble (entry (color (plain 101 ∷ [])) 1 ∷ entry (color (plain 102 ∷ [])) 2 ∷ []) (line 2)
+pub type-example : HasDouble (entry (color (plain red_name ∷ [])) 1 ∷ entry (color (plain blue_name ∷ [])) 2 ∷ []) (line 2)
 type-example = type_again (line 2) (record {
-  front = at_start (key 57 0) ∷ at_start (key 58 0) ∷ record { key = key 100 0; place = line 1 } ∷ [];
-  again = record { key = key 100 0; place = line 2 };
+  front = at_start (key int_name 0) ∷ at_start (key string_name 0) ∷ record { key = key color_name 0; place = line 1 } ∷ [];
+  again = record { key = key color_name 0; place = line 2 };
   back = [];
   whole = refl;
   before = refl;
@@ -44,10 +65,10 @@ type-example = type_again (line 2) (record {
 })
 
 -- `:- type int ---> red.`
-pub int-example : HasDouble (entry (TypeItem (plain 57) (plain 101 ∷ [])) 1 ∷ []) (line 1)
+pub int-example : HasDouble (entry (TypeItem (plain int_name) (plain red_name ∷ [])) 1 ∷ []) (line 1)
 int-example = type_again (line 1) (record {
-  front = at_start (key 57 0) ∷ at_start (key 58 0) ∷ [];
-  again = record { key = key 57 0; place = line 1 };
+  front = at_start (key int_name 0) ∷ at_start (key string_name 0) ∷ [];
+  again = record { key = key int_name 0; place = line 1 };
   back = [];
   whole = refl;
   before = refl;
@@ -55,10 +76,10 @@ int-example = type_again (line 1) (record {
 })
 
 -- `:- type color ---> red ; red.`
-pub constructor-example : HasDouble (entry (color (plain 101 ∷ plain 101 ∷ [])) 1 ∷ []) (line 1)
+pub constructor-example : HasDouble (entry (color (plain red_name ∷ plain red_name ∷ [])) 1 ∷ []) (line 1)
 constructor-example = constructor_again (line 1) (record {
-  front = record { key = key 101 0; place = line 1 } ∷ [];
-  again = record { key = key 101 0; place = line 1 };
+  front = record { key = key red_name 0; place = line 1 } ∷ [];
+  again = record { key = key red_name 0; place = line 1 };
   back = [];
   whole = refl;
   before = refl;
@@ -66,10 +87,10 @@ constructor-example = constructor_again (line 1) (record {
 })
 
 -- `:- type color ---> red.` and `:- type shade ---> dark ; red.`
-pub shared_constructor-example : HasDouble (entry (color (plain 101 ∷ [])) 1 ∷ entry (TypeItem (plain 103) (plain 104 ∷ plain 101 ∷ [])) 2 ∷ []) (line 2)
+pub shared_constructor-example : HasDouble (entry (color (plain red_name ∷ [])) 1 ∷ entry (TypeItem (plain shade_name) (plain dark_name ∷ plain red_name ∷ [])) 2 ∷ []) (line 2)
 shared_constructor-example = constructor_again (line 2) (record {
-  front = record { key = key 101 0; place = line 1 } ∷ record { key = key 104 0; place = line 2 } ∷ [];
-  again = record { key = key 101 0; place = line 2 };
+  front = record { key = key red_name 0; place = line 1 } ∷ record { key = key dark_name 0; place = line 2 } ∷ [];
+  again = record { key = key red_name 0; place = line 2 };
   back = [];
   whole = refl;
   before = refl;
@@ -77,14 +98,14 @@ shared_constructor-example = constructor_again (line 2) (record {
 })
 
 -- `:- type color ---> -(int).`
-pub arithmetic-example : HasDouble (entry (color (with_one 43 (plain 57) ∷ [])) 1 ∷ []) (line 1)
-arithmetic-example = arithmetic [] [] (entry (color (with_one 43 (plain 57) ∷ [])) 1) refl refl
+pub arithmetic-example : HasDouble (entry (color (with_one minus_name (plain int_name) ∷ [])) 1 ∷ []) (line 1)
+arithmetic-example = arithmetic [] [] (entry (color (with_one minus_name (plain int_name) ∷ [])) 1) refl refl
 
 -- `:- pred p(int).`, and the same once more
-pub predicate-example : HasDouble (entry (PredicateItem (with_one 110 (plain 57)) None) 1 ∷ entry (PredicateItem (with_one 110 (plain 57)) None) 3 ∷ []) (line 3)
+pub predicate-example : HasDouble (entry (PredicateItem (with_one p_name (plain int_name)) None) 1 ∷ entry (PredicateItem (with_one p_name (plain int_name)) None) 3 ∷ []) (line 3)
 predicate-example = predicate_again (line 3) (record {
-  front = record { key = key 110 1; place = line 1 } ∷ [];
-  again = record { key = key 110 1; place = line 3 };
+  front = record { key = key p_name 1; place = line 1 } ∷ [];
+  again = record { key = key p_name 1; place = line 3 };
   back = [];
   whole = refl;
   before = refl;
@@ -92,15 +113,15 @@ predicate-example = predicate_again (line 3) (record {
 })
 
 -- `:- pred error(string).`, and `:- import_module require.` behind it
-pub error-example : HasDouble (entry (PredicateItem (with_one 54 (plain 58)) None) 1 ∷ entry (Import (plain 62 ∷ [])) 2 ∷ []) (line 2)
+pub error-example : HasDouble (entry (PredicateItem (with_one error_name (plain string_name)) None) 1 ∷ entry (Import (plain require_name ∷ [])) 2 ∷ []) (line 2)
 error-example =
-    error_again [] (entry (Import (plain 62 ∷ [])) 2 ∷ []) (entry (PredicateItem (with_one 54 (plain 58)) None) 1) (line 2) refl refl refl
+    error_again [] (entry (Import (plain require_name ∷ [])) 2 ∷ []) (entry (PredicateItem (with_one error_name (plain string_name)) None) 1) (line 2) refl refl refl
 
 -- `:- mode p(in) is det.`, and `:- mode p(in) is semidet.` behind it
-pub mode-example : HasDouble (entry (ModeItem (with_one 110 (plain 55)) (Some (plain 63))) 1 ∷ entry (ModeItem (with_one 110 (plain 55)) (Some (plain 64))) 2 ∷ []) (line 2)
+pub mode-example : HasDouble (entry (ModeItem (with_one p_name (plain in_name)) (Some (plain det_name))) 1 ∷ entry (ModeItem (with_one p_name (plain in_name)) (Some (plain semidet_name))) 2 ∷ []) (line 2)
 mode-example = mode_again (line 2) (record {
-  front = record { key = record { predicate = key 110 1; outputs = false ∷ [] }; place = line 1 } ∷ [];
-  again = record { key = record { predicate = key 110 1; outputs = false ∷ [] }; place = line 2 };
+  front = record { key = record { predicate = key p_name 1; outputs = false ∷ [] }; place = line 1 } ∷ [];
+  again = record { key = record { predicate = key p_name 1; outputs = false ∷ [] }; place = line 2 };
   back = [];
   whole = refl;
   before = refl;
@@ -108,8 +129,17 @@ mode-example = mode_again (line 2) (record {
 })
 
 -- `:- import_module maybe.`, and `:- import_module list, bool.` behind it
-pub units-example : HasDouble (entry (Import (plain 61 ∷ [])) 1 ∷ entry (Import (plain 59 ∷ plain 60 ∷ [])) 2 ∷ []) (line 2)
+pub units-example : HasDouble (entry (Import (plain maybe_name ∷ [])) 1 ∷ entry (Import (plain list_name ∷ plain bool_name ∷ [])) 2 ∷ []) (line 2)
 units-example = bool_and_maybe (line 2) (line 1) refl refl
+
+-- each arithmetic constructor
+
+pub is_arithmetic-example : list_all is_arithmetic
+    (key plus_name 2 ∷ key minus_name 2 ∷ key star_name 2 ∷ key slash_slash_name 2 ∷ key div_name 2 ∷ key mod_name 2 ∷ key rem_name 2 ∷ key minus_name 1 ∷ []) ≡ true
+is_arithmetic-example = refl
+
+pub is_arithmetic-not : list_any is_arithmetic (key plus_name 1 ∷ key minus_name 0 ∷ key star_name 3 ∷ key slash_name 2 ∷ key less_name 2 ∷ []) ≡ false
+is_arithmetic-not = refl
 
 -- how a list of two splits
 
@@ -136,7 +166,7 @@ two_apart same a b place apart found = two_split same a b found.front found.agai
 
 -- `:- pred p(int).` and `:- pred p(int, int).`
 abbrev two_arities : List Entry
-two_arities = entry (PredicateItem (with_one 110 (plain 57)) None) 1 ∷ entry (PredicateItem (with_two 110 (plain 57) (plain 57)) None) 2 ∷ []
+two_arities = entry (PredicateItem (with_one p_name (plain int_name)) None) 1 ∷ entry (PredicateItem (with_two p_name (plain int_name) (plain int_name)) None) 2 ∷ []
 
 no_constructor : (found known : Entry) → found ≡ known → constructors_of known.item ≡ [] → list_any is_arithmetic (constructors_of found.item) ≡ true → ⊥
 no_constructor found known same without passes =
@@ -144,34 +174,34 @@ no_constructor found known same without passes =
 
 two_arities-arithmetic : (front : List Entry) (found : Entry) (back : List Entry) → two_arities ≡ front ++ found ∷ back → list_any is_arithmetic (constructors_of found.item) ≡ true → ⊥
 two_arities-arithmetic [] found back whole passes =
-    let same : found ≡ entry (PredicateItem (with_one 110 (plain 57)) None) 1 = cc in no_constructor found (entry (PredicateItem (with_one 110 (plain 57)) None) 1) same refl passes
+    let same : found ≡ entry (PredicateItem (with_one p_name (plain int_name)) None) 1 = cc in no_constructor found (entry (PredicateItem (with_one p_name (plain int_name)) None) 1) same refl passes
 two_arities-arithmetic (first ∷ []) found back whole passes =
-    let same : found ≡ entry (PredicateItem (with_two 110 (plain 57) (plain 57)) None) 2 = cc in
-    no_constructor found (entry (PredicateItem (with_two 110 (plain 57) (plain 57)) None) 2) same refl passes
+    let same : found ≡ entry (PredicateItem (with_two p_name (plain int_name) (plain int_name)) None) 2 = cc in
+    no_constructor found (entry (PredicateItem (with_two p_name (plain int_name) (plain int_name)) None) 2) same refl passes
 two_arities-arithmetic (first ∷ second ∷ front) found back whole passes = let e : [] ≡ front ++ found ∷ back = cc in no_split front found back e
 
 pub arity-counterexample : (place : Place) → HasDouble two_arities place → ⊥
-arity-counterexample _ (type_again place found) = two_apart is_key (at_start (key 57 0)) (at_start (key 58 0)) place refl found
+arity-counterexample _ (type_again place found) = two_apart is_key (at_start (key int_name 0)) (at_start (key string_name 0)) place refl found
 arity-counterexample _ (constructor_again place found) = none_again is_key place found
 arity-counterexample _ (arithmetic front back found whole passes) = two_arities-arithmetic front found back whole passes
-arity-counterexample _ (predicate_again place found) = two_apart is_key (record { key = key 110 1; place = line 1 }) (record { key = key 110 2; place = line 2 }) place refl found
+arity-counterexample _ (predicate_again place found) = two_apart is_key (record { key = key p_name 1; place = line 1 }) (record { key = key p_name 2; place = line 2 }) place refl found
 arity-counterexample _ (error_again front back found place whole passes imported) = cc
 arity-counterexample _ (mode_again place found) = none_again is_same_mode place found
 arity-counterexample _ (bool_and_maybe bool maybe a b) = cc
 
 -- `:- import_module bool.` twice
 abbrev imported_twice : List Entry
-imported_twice = entry (Import (plain 60 ∷ [])) 1 ∷ entry (Import (plain 60 ∷ [])) 2 ∷ []
+imported_twice = entry (Import (plain bool_name ∷ [])) 1 ∷ entry (Import (plain bool_name ∷ [])) 2 ∷ []
 
 imported_twice-arithmetic : (front : List Entry) (found : Entry) (back : List Entry) → imported_twice ≡ front ++ found ∷ back → list_any is_arithmetic (constructors_of found.item) ≡ true → ⊥
 imported_twice-arithmetic [] found back whole passes =
-    let same : found ≡ entry (Import (plain 60 ∷ [])) 1 = cc in no_constructor found (entry (Import (plain 60 ∷ [])) 1) same refl passes
+    let same : found ≡ entry (Import (plain bool_name ∷ [])) 1 = cc in no_constructor found (entry (Import (plain bool_name ∷ [])) 1) same refl passes
 imported_twice-arithmetic (first ∷ []) found back whole passes =
-    let same : found ≡ entry (Import (plain 60 ∷ [])) 2 = cc in no_constructor found (entry (Import (plain 60 ∷ [])) 2) same refl passes
+    let same : found ≡ entry (Import (plain bool_name ∷ [])) 2 = cc in no_constructor found (entry (Import (plain bool_name ∷ [])) 2) same refl passes
 imported_twice-arithmetic (first ∷ second ∷ front) found back whole passes = let e : [] ≡ front ++ found ∷ back = cc in no_split front found back e
 
 pub import-counterexample : (place : Place) → HasDouble imported_twice place → ⊥
-import-counterexample _ (type_again place found) = two_apart is_key (at_start (key 57 0)) (at_start (key 58 0)) place refl found
+import-counterexample _ (type_again place found) = two_apart is_key (at_start (key int_name 0)) (at_start (key string_name 0)) place refl found
 import-counterexample _ (constructor_again place found) = none_again is_key place found
 import-counterexample _ (arithmetic front back found whole passes) = imported_twice-arithmetic front found back whole passes
 import-counterexample _ (predicate_again place found) = none_again is_key place found

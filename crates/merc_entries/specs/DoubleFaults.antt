@@ -1,14 +1,11 @@
 -- Doubled declarations, at the later item, and the first of them.
-use Rattle.std.specs.Prelude.{◌≡◌, ℕ, ◌≤◌, Bool, true, nat_le, List, [], ◌∷◌, ◌++◌, Option, Some, None, if◌then◌else◌}
+use Rattle.std.specs.Prelude.{◌≡◌, ℕ, Bool, true, nat_le, List, [], ◌∷◌, ◌++◌, Option, Some, None, if◌then◌else◌}
 use Rattle.std.specs.List.{list_any}
+use Rattle.merc_base.specs.Names.{plus_name, minus_name, star_name, slash_slash_name, div_name, mod_name, rem_name, error_name, int_name, string_name, bool_name, maybe_name, require_name}
 use Rattle.merc_base.specs.declared.place.Place.{Place}
-use Rattle.merc_base.specs.declared.refusal.Refusal.{Refusal}
-use Rattle.merc_base.specs.declared.refusal.Rule.TheVariants.{DeclaredTwice}
-use Rattle.merc_base.specs.declared.refusal.Detail.TheVariants.{Plain}
-use Rattle.merc_base.specs.declared.refusal.Fault.{Fault}
-use Rattle.merc_base.specs.declared.refusal.Fault.TheVariants.{Refused, NoMemory}
 use Rattle.merc_item_forms.specs.Forms.{is_in}
-use Rattle.merc_entries.specs.Entries.{Entry, Key, key, Declared, is_key, is_same_mode, imports, types_of, constructors_of, predicates_of, modes_of, declared_by, own_entries}
+use Rattle.merc_base.specs.declared.groups.Key.{Key}
+use Rattle.merc_entries.specs.Entries.{Entry, key, Declared, is_key, is_same_mode, imports, types_of, constructors_of, predicates_of, modes_of, declared_by, own_entries}
 
 -- something is declared at this place that was declared before
 pub record IsAgain {K : Type 0} (same : K → K → Bool) (declared : List (Declared K)) (place : Place) : Type 0 where
@@ -24,11 +21,11 @@ at_start key = record { key = key; place = record { byte = 0; line = 1 } }
 
 -- `int` and `string` are declared from the start
 abbrev pub type_keys : List Entry → List (Declared Key)
-type_keys entries = at_start (key 57 0) ∷ at_start (key 58 0) ∷ declared_by types_of entries
+type_keys entries = at_start (key int_name 0) ∷ at_start (key string_name 0) ∷ declared_by types_of entries
 
--- `+` `-` `*` `//` `div` `mod` `rem` with two arguments and `-` with one
+-- the arithmetic constructors
 abbrev pub is_arithmetic : Key → Bool
-is_arithmetic found = list_any (is_key found) (key 42 2 ∷ key 43 2 ∷ key 44 2 ∷ key 45 2 ∷ key 46 2 ∷ key 47 2 ∷ key 48 2 ∷ key 43 1 ∷ [])
+is_arithmetic found = list_any (is_key found) (key plus_name 2 ∷ key minus_name 2 ∷ key star_name 2 ∷ key slash_slash_name 2 ∷ key div_name 2 ∷ key mod_name 2 ∷ key rem_name 2 ∷ key minus_name 1 ∷ [])
 
 -- where a unit is first imported
 abbrev pub import_place : ℕ → List Entry → Option Place
@@ -43,17 +40,6 @@ pub data HasDouble (entries : List Entry) : Place → Type 0 where
   constructor_again : (place : Place) → IsAgain is_key (declared_by constructors_of entries) place → HasDouble entries place
   arithmetic : (front back : List Entry) (entry : Entry) → entries ≡ front ++ entry ∷ back → list_any is_arithmetic (constructors_of entry.item) ≡ true → HasDouble entries entry.place
   predicate_again : (place : Place) → IsAgain is_key (declared_by predicates_of entries) place → HasDouble entries place
-  error_again : (front back : List Entry) (entry : Entry) (place : Place) → entries ≡ front ++ entry ∷ back → list_any (is_key (key 54 1)) (predicates_of entry.item) ≡ true → import_place 62 entries ≡ Some place → HasDouble entries (later place entry.place)
+  error_again : (front back : List Entry) (entry : Entry) (place : Place) → entries ≡ front ++ entry ∷ back → list_any (is_key (key error_name 1)) (predicates_of entry.item) ≡ true → import_place require_name entries ≡ Some place → HasDouble entries (later place entry.place)
   mode_again : (place : Place) → IsAgain is_same_mode (declared_by modes_of (own_entries entries)) place → HasDouble entries place
-  bool_and_maybe : (bool maybe : Place) → import_place 60 entries ≡ Some bool → import_place 61 entries ≡ Some maybe → HasDouble entries (later bool maybe)
-
--- the first doubled declaration
-pub record IsFirstDouble (entries : List Entry) (refusal : Refusal) : Type 0 where
-  pub twice : refusal.rule ≡ DeclaredTwice
-  pub plain : refusal.detail ≡ Plain
-  pub double : HasDouble entries refusal.place
-  pub first : (other : Place) → HasDouble entries other → refusal.place.byte ≤ other.byte
-
-abbrev pub IsDoubleRefusal : List Entry → Fault → Type 0
-IsDoubleRefusal entries (Refused refusal) = IsFirstDouble entries refusal
-IsDoubleRefusal entries NoMemory = Unit {0}
+  bool_and_maybe : (bool maybe : Place) → import_place bool_name entries ≡ Some bool → import_place maybe_name entries ≡ Some maybe → HasDouble entries (later bool maybe)

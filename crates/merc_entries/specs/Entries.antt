@@ -1,6 +1,8 @@
 -- The items of a module in the order in which they stand, those of a library unit at its first import.
 use Rattle.std.specs.Prelude.{ℕ, Bool, true, false, ◌==◌, ◌&&◌, not, List, [], ◌∷◌, ◌++◌, map, length, Option, Some, None, is_none, if◌then◌else◌}
 use Rattle.std.specs.List.{list_all, flat_map}
+use Rattle.merc_base.specs.Names.{out_name}
+use Rattle.merc_base.specs.declared.groups.Key.{Key}
 use Rattle.merc_base.specs.declared.place.Place.{Place}
 use Rattle.merc_base.specs.declared.place.Span.{Span}
 use Rattle.merc_tree.specs.Term.{Term, Application, span_of}
@@ -55,11 +57,6 @@ entries items terms = entries_from items [] terms
 abbrev pub units_of : List Term → List ℕ
 units_of terms = with_units [] (flat_map (λ term. imports (item_of term)) terms)
 
--- Names by which things are declared: a name with a number of arguments
-pub record Key : Type 0 where
-  pub name : ℕ
-  pub arity : ℕ
-
 -- something declared at a place
 pub record Declared (K : Type 0) : Type 0 where
   pub key : K
@@ -100,7 +97,7 @@ pub record Mode : Type 0 where
 
 abbrev pub is_out : Option ℕ → Bool
 is_out None = false
-is_out (Some name) = name == 56
+is_out (Some name) = name == out_name
 
 abbrev pub outputs_of : List (Option Term) → List Bool
 outputs_of [] = []

@@ -1,6 +1,8 @@
 -- First places among what is declared, as functions.
-use Rattle.std.specs.Prelude.{Bool, nat_le, List, [], ◌∷◌, ◌++◌, map, Option, Some, None, if◌then◌else◌}
+use Rattle.std.specs.Prelude.{Bool, List, [], ◌∷◌, ◌++◌, map, Option, Some, None, if◌then◌else◌}
 use Rattle.std.specs.List.{list_any}
+use Rattle.merc_base.specs.Names.{error_name, bool_name, maybe_name, require_name}
+use Rattle.merc_base.specs.FirstPlace.{first_place, earlier}
 use Rattle.merc_base.specs.declared.place.Place.{Place}
 use Rattle.merc_entries.specs.declared.doubles.again.Declared.{Declared as CodeDeclared}
 use Rattle.merc_entries.specs.Entries.{Entry, Declared, is_key, is_same_mode, constructors_of, predicates_of, modes_of, declared_by, key, own_entries}
@@ -23,22 +25,15 @@ again_from same seen (next ∷ rest) =
 abbrev pub first_again : {K : Type 0} → (K → K → Bool) → List (Declared K) → Option Place
 first_again same declared = again_from same [] declared
 
--- the place of the first that passes a test
+-- the place of the first whose key passes a test
 abbrev pub first_such : {K : Type 0} → (K → Bool) → List (Declared K) → Option Place
-first_such test [] = None
-first_such test (first ∷ rest) = if test first.key then Some first.place else first_such test rest
+first_such test declared = first_place (λ next. next.place) (λ next. test next.key) declared
 
 -- the later of two places, where both are there
 abbrev pub both_later : Option Place → Option Place → Option Place
 both_later None b = None
 both_later (Some a) None = None
 both_later (Some a) (Some b) = Some (later a b)
-
--- the earlier of two places, or the one that is there
-abbrev pub earlier : Option Place → Option Place → Option Place
-earlier None b = b
-earlier (Some a) None = Some a
-earlier (Some a) (Some b) = if nat_le a.byte b.byte then Some a else Some b
 
 -- the place of the first constructor that is declared again or is an arithmetic one
 abbrev pub constructor_double : List Entry → Option Place
@@ -48,7 +43,7 @@ constructor_double entries = earlier (first_again is_key (declared_by constructo
 abbrev pub predicate_double : List Entry → Option Place
 predicate_double entries =
     earlier (first_again is_key (declared_by predicates_of entries))
-    (both_later (import_place 62 entries) (first_such (is_key (key 54 1)) (declared_by predicates_of entries)))
+    (both_later (import_place require_name entries) (first_such (is_key (key error_name 1)) (declared_by predicates_of entries)))
 
 -- the place of the first doubled declaration
 abbrev pub first_double : List Entry → Option Place
@@ -57,4 +52,4 @@ first_double entries =
     (earlier (constructor_double entries)
     (earlier (predicate_double entries)
     (earlier (first_again is_same_mode (declared_by modes_of (own_entries entries)))
-    (both_later (import_place 60 entries) (import_place 61 entries)))))
+    (both_later (import_place bool_name entries) (import_place maybe_name entries)))))

@@ -1,6 +1,5 @@
 pub mod Entries
 pub mod EntryValue
-pub mod KeyValue
 pub mod ModeValue
 pub mod KeySets
 pub mod Units

@@ -1,7 +1,7 @@
 -- The items of the library units.
 use Rattle.std.specs.Prelude.{◌≡◌, ◌≢◌, ℕ, ◌==◌, List, [], Some, codes, slice_get, if◌then◌else◌}
 use Rattle.std.specs.Option.{unwrap_or}
-use Rattle.merc_base.specs.Names.{fixed_names}
+use Rattle.merc_base.specs.Names.{list_name, bool_name, maybe_name, fixed_names}
 use Rattle.merc_prelude.specs.Units.{unit_text}
 use Rattle.merc_tree.specs.Term.{Term}
 use Rattle.merc_terms.specs.Texts.{ReadsItems}
@@ -13,7 +13,7 @@ constant_text name = unwrap_or (slice_get fixed_names name) []
 
 -- the items of a unit; a name of no unit and a unit without a text have none
 abbrev pub items_of : Units → ℕ → List Term
-items_of units name = if name == 59 then units.list else if name == 60 then units.bool else if name == 61 then units.maybe else []
+items_of units name = if name == list_name then units.list else if name == bool_name then units.bool else if name == maybe_name then units.maybe else []
 
 -- the text of the unit of this name is read as these items
 pub record IsUnit (before after : List (List ℕ)) (name : List ℕ) (items : List Term) : Type 0 where
@@ -26,7 +26,7 @@ pub record IsUnit (before after : List (List ℕ)) (name : List ℕ) (items : Li
 pub record AreUnits (before after : List (List ℕ)) (items : ℕ → List Term) : Type 0 where
   pub after_list : List (List ℕ)
   pub after_bool : List (List ℕ)
-  pub list : IsUnit before after_list (codes "list") (items 59)
-  pub bool : IsUnit after_list after_bool (codes "bool") (items 60)
-  pub maybe : IsUnit after_bool after (codes "maybe") (items 61)
-  pub others : (name : ℕ) → name ≢ 59 → name ≢ 60 → name ≢ 61 → items name ≡ []
+  pub list : IsUnit before after_list (codes "list") (items list_name)
+  pub bool : IsUnit after_list after_bool (codes "bool") (items bool_name)
+  pub maybe : IsUnit after_bool after (codes "maybe") (items maybe_name)
+  pub others : (name : ℕ) → name ≢ list_name → name ≢ bool_name → name ≢ maybe_name → items name ≡ []

@@ -1,10 +1,11 @@
 //! Doubled declarations.
 ghost use Rattle.std.specs.Prelude.{◌≡◌, map, IfOk, IfErr};
-ghost use Rattle.merc_base.specs.declared.place.Place.{Place as PlaceValue};
+ghost use Rattle.merc_base.specs.Names.{error_name};
+ghost use Rattle.merc_base.specs.FirstFault.{AnswersFirst, AtPlaces, HasNone};
+ghost use Rattle.merc_base.specs.declared.refusal.Rule.TheVariants.{DeclaredTwice};
 ghost use Rattle.merc_entries.specs.Entries.{is_key, is_same_mode, key};
-ghost use Rattle.merc_entries.specs.DoubleFaults.{HasDouble, is_arithmetic, IsDoubleRefusal};
-ghost use Rattle.merc_entries.specs.EntryValue.{entry_values, NeverFalls};
-ghost use Rattle.merc_entries.specs.KeyValue.{key_value};
+ghost use Rattle.merc_entries.specs.DoubleFaults.{HasDouble, is_arithmetic};
+ghost use Rattle.merc_entries.specs.EntryValue.{entry_values, AreInOrder};
 ghost use Rattle.merc_entries.specs.ModeValue.{mode_value};
 ghost use Rattle.merc_entries.specs.FirstPlaces.{declared_value, first_again, first_such, constructor_double, predicate_double, first_double};
 
@@ -13,15 +14,13 @@ mod declarations;
 mod imports;
 mod modes;
 mod places;
-#[cfg(test)]
-mod tests;
 
 use crate::entry::Entry;
-use crate::key::Key;
 use again::{Declared, first_again};
+pub use declarations::type_key;
 use declarations::{constructors, modes, predicates, types};
 use imports::import_place;
-use merc_base::{Detail, Fault, Name, NoMemory, Place, Refusal, Rule};
+use merc_base::{Detail, Fault, Key, Name, NoMemory, Place, Refusal, Rule};
 use modes::Mode;
 use places::{both_later, earlier};
 use std::alloc::Global;
@@ -32,9 +31,9 @@ use std::alloc::Global;
 ///
 /// `Refused` says the first doubled declaration, at the later of the two items. `NoMemory` says that memory was refused.
 pub fn check_doubles(alloc: Global, entries: &[Entry<'_>]) -> Result<(), Fault>
-    requires order { NeverFalls (entry_values entries.now) }
-    ensures fine { IfOk result (λ _. (place : PlaceValue) → HasDouble (entry_values entries.now) place → ⊥) }
-    ensures refused { IfErr result (λ fault. IsDoubleRefusal (entry_values entries.now) fault) }
+    requires order { AreInOrder (entry_values entries.now) }
+    ensures fine { IfOk result (λ _. HasNone (AtPlaces DeclaredTwice (HasDouble (entry_values entries.now)))) }
+    ensures refused { IfErr result (λ fault. AnswersFirst (AtPlaces DeclaredTwice (HasDouble (entry_values entries.now))) fault) }
 {
     match first_double(alloc, entries)? {
         None => Ok(()),
@@ -84,7 +83,7 @@ fn predicate_double(alloc: Global, entries: &[Entry<'_>]) -> Result<Option<Place
 }
 
 fn first_key_again(alloc: Global, declared: Vec<Declared<Key>>) -> Result<Option<Place>, NoMemory>
-    ensures { IfOk result (λ place. place ≡ first_again is_key (map (declared_value key_value) declared.items)) }
+    ensures { IfOk result (λ place. place ≡ first_again is_key (map (declared_value (λ key. key)) declared.items)) }
 {
     first_again(alloc, declared)
 }
@@ -97,7 +96,7 @@ fn first_mode_again(alloc: Global, declared: Vec<Declared<Mode>>) -> Result<Opti
 
 // The place of the first arithmetic constructor.
 fn first_arithmetic(constructors: &[Declared<Key>]) -> Option<Place>
-    ensures { result ≡ first_such is_arithmetic (map (declared_value key_value) constructors.now) }
+    ensures { result ≡ first_such is_arithmetic (map (declared_value (λ key. key)) constructors.now) }
 {
     for constructor in constructors {
         if is_arithmetic(&constructor.key) {
@@ -109,7 +108,7 @@ fn first_arithmetic(constructors: &[Declared<Key>]) -> Option<Place>
 
 // Whether a constructor has the name of an arithmetic function, with as many arguments.
 fn is_arithmetic(found: &Key) -> bool
-    ensures { result ≡ is_arithmetic (key_value found.now) }
+    ensures { result ≡ is_arithmetic found.now }
 {
     is_key(found, Name::PLUS, 2)
         || is_key(found, Name::MINUS, 2)
@@ -122,14 +121,14 @@ fn is_arithmetic(found: &Key) -> bool
 }
 
 fn is_key(found: &Key, name: Name, arity: usize) -> bool
-    ensures { result ≡ is_key (key_value found.now) (key name arity) }
+    ensures { result ≡ is_key found.now (key name arity) }
 {
     found.name == name && found.arity == arity
 }
 
 // The place of the first predicate `error/1`.
 fn first_error(predicates: &[Declared<Key>]) -> Option<Place>
-    ensures { result ≡ first_such (is_key (key 54 1)) (map (declared_value key_value) predicates.now) }
+    ensures { result ≡ first_such (is_key (key error_name 1)) (map (declared_value (λ key. key)) predicates.now) }
 {
     for predicate in predicates {
         if is_error(&predicate.key) {
@@ -140,7 +139,7 @@ fn first_error(predicates: &[Declared<Key>]) -> Option<Place>
 }
 
 fn is_error(found: &Key) -> bool
-    ensures { result ≡ is_key (key 54 1) (key_value found.now) }
+    ensures { result ≡ is_key (key error_name 1) found.now }
 {
     Name::ERROR == found.name && 1 == found.arity
 }

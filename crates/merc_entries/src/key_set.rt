@@ -1,10 +1,10 @@
 //! Sets of keys.
 ghost use Rattle.std.specs.Prelude.{◌≡◌, ◌||◌, false, List, OnOk};
-ghost use Rattle.merc_entries.specs.Entries.{Key as key_record, key_of, are_keys};
+ghost use Rattle.merc_base.specs.declared.groups.Key.{Key as key_record};
+ghost use Rattle.merc_entries.specs.Entries.{key_of, are_keys};
 ghost use Rattle.merc_entries.specs.KeySets.{keys_at, has_key};
 
-use crate::key::Key;
-use merc_base::NoMemory;
+use merc_base::{Key, NoMemory};
 use merc_tree::{Shape, TermRef};
 use std::alloc::Global;
 use std::collections::BTreeSet;

@@ -5,18 +5,14 @@ mod distinct_names;
 mod doubles;
 mod entry;
 mod joining;
-mod key;
 mod key_set;
 mod moded;
-#[cfg(test)]
-mod tests;
 mod units;
 
 pub use distinct_names::DistinctNames;
-pub use doubles::check_doubles;
+pub use doubles::{check_doubles, type_key};
 pub use entry::Entry;
 pub use joining::{imports, join};
-pub use key::Key;
 pub use key_set::{KeySet, key_of};
 pub use moded::has_mode;
 pub use units::{Units, read_units};

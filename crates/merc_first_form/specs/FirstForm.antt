@@ -94,11 +94,18 @@ abbrev pub is_body : List Predicate → List (List ℕ) → List (List ℕ) → 
 is_body predicates bound variables body =
     nat_le 1 (length body) && nat_le (count_by is_call body) 1 && all_bound variables (bind_body predicates bound body)
 
+-- how many arguments a predicate may have, and how many predicates a module
+abbrev pub argument_limit : ℕ
+argument_limit = 64
+
+abbrev pub predicate_limit : ℕ
+predicate_limit = 64
+
 -- a predicate whose body calls only those before it
 abbrev pub is_predicate : List Predicate → Predicate → Bool
 is_predicate earlier predicate =
     is_plain_name predicate.name && not (list_any (λ other. bytes_eq predicate.name other.name) earlier)
-    && nat_le 1 (length predicate.modes) && nat_le (length predicate.modes) 64
+    && nat_le 1 (length predicate.modes) && nat_le (length predicate.modes) argument_limit
     && (length predicate.head == length predicate.modes) && are_distinct predicate.head
     && is_body earlier (in_places is_input predicate.modes predicate.head) predicate.head predicate.body
 
@@ -107,7 +114,7 @@ are_predicates earlier [] = true
 are_predicates earlier (predicate ∷ predicates) = is_predicate earlier predicate && are_predicates (earlier ++ predicate ∷ []) predicates
 
 abbrev pub is_module : Source → Bool
-is_module source = is_plain_name source.name && nat_le (length source.predicates) 64 && are_predicates [] source.predicates
+is_module source = is_plain_name source.name && nat_le (length source.predicates) predicate_limit && are_predicates [] source.predicates
 
 abbrev pub is_goal : Source → List Conjunct → Bool
 is_goal source goal = is_body source.predicates [] [] goal

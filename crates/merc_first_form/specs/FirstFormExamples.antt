@@ -1,5 +1,7 @@
 -- Worked examples of what is in the first form, and for each rule of the form one that breaks it and no other.
 use Rattle.std.specs.Prelude.{◌≡◌, ℕ, zero, suc, ◌+◌, ◌/◌, ◌%◌, true, false, List, [], ◌∷◌, Some, None, codes, map, replicate, refl, pos}
+use Rattle.merc_base.specs.Characters.{lower_a_code}
+use Rattle.std.specs.List.{list_any}
 use Rattle.merc_value.specs.Text.{word_operators}
 use Rattle.merc_first_form.specs.FirstForm.{is_plain_name, are_distinct, in_places, is_input, has_value, modes_of, bind_outputs, bind_conjunct, is_predicate, is_module, is_goal}
 use Rattle.merc_first_form.specs.declared.syntax.Operand.{Operand}
@@ -80,7 +82,7 @@ module_of predicates = record { name = codes "arithmetic"; predicates = predicat
 -- so many distinct names, of two lower-case letters each
 abbrev names_to : ℕ → List (List ℕ)
 names_to zero = []
-names_to (suc n) = ((97 + n / 26) ∷ (97 + n % 26) ∷ []) ∷ names_to n
+names_to (suc n) = ((lower_a_code + n / 26) ∷ (lower_a_code + n % 26) ∷ []) ∷ names_to n
 
 -- a predicate of this name with so many inputs
 abbrev of_arity : List ℕ → ℕ → Predicate
@@ -104,6 +106,10 @@ is_plain_name-example = refl
 is_plain_name-of_a_word : is_plain_name (codes "true") ≡ false
 unfolding word_operators
 is_plain_name-of_a_word = refl
+
+is_plain_name-of_other_words : list_any is_plain_name (codes "fail" ∷ codes "false" ∷ codes "error" ∷ []) ≡ false
+unfolding word_operators
+is_plain_name-of_other_words = refl
 
 is_plain_name-of_an_operator : is_plain_name (codes "type") ≡ false
 unfolding word_operators

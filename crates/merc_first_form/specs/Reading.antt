@@ -1,9 +1,12 @@
 -- A module and a goal of the first form, told by the terms that they are. A name goes by its text.
-use Rattle.std.specs.Prelude.{ℕ, Bool, false, ◌==◌, ◌&&◌, int_le, pos, List, [], ◌∷◌, Option, Some, None, slice_get, if◌then◌else◌}
+use Rattle.std.specs.Prelude.{ℕ, ℤ, Bool, false, ◌==◌, ◌&&◌, int_le, pos, List, [], ◌∷◌, Option, Some, None, slice_get, if◌then◌else◌}
 use Rattle.std.specs.List.{list_all}
 use Rattle.std.specs.Option.{option_map}
 use Rattle.std.specs.Char.{is_ascii_uppercase}
 use Rattle.std.specs.Str.{bytes_eq}
+use Rattle.merc_base.specs.Names.{colon_colon_name, comma_name, det_name, equal_name, in_name, int_name, out_name, plus_name}
+use Rattle.std.proofs.lemmas.Map.Entries.{option_filter}
+use Rattle.merc_tree.specs.Parts.{is_named}
 use Rattle.merc_value.specs.Text.{is_word_byte}
 use Rattle.merc_tree.specs.Term.{Term, Variable, Integer, Application, none, more, list_of}
 use Rattle.merc_operands.specs.Operands.{plain_name}
@@ -22,11 +25,6 @@ use Rattle.merc_first_form.specs.declared.syntax.Mode.TheVariants.{Input, Output
 use Rattle.merc_first_form.specs.declared.syntax.Predicate.{Predicate}
 use Rattle.merc_first_form.specs.declared.syntax.Source.{Source}
 
--- what is there, where it passes a test
-abbrev pub passing : {A : Type 0} → (A → Bool) → Option A → Option A
-passing test None = None
-passing test (Some value) = if test value then Some value else None
-
 -- what each of a list becomes, where each becomes something
 abbrev pub each_of : {A B : Type 0} → (A → Option B) → List A → Option (List B)
 each_of become [] = Some []
@@ -42,18 +40,22 @@ is_capital_word (byte ∷ bytes) = is_ascii_uppercase byte && list_all is_word_b
 
 -- a variable whose name is such a word
 abbrev pub variable_of : List (List ℕ) → Term → Option (List ℕ)
-variable_of names (Variable name span) = passing is_capital_word (slice_get names name)
+variable_of names (Variable name span) = option_filter is_capital_word (slice_get names name)
 variable_of names other = None
+
+-- the greatest integer of 18 digits
+abbrev pub number_limit : ℤ
+number_limit = pos 999999999999999999
 
 -- a variable, or an integer of at most 18 digits without a sign
 abbrev pub operand_of : List (List ℕ) → Term → Option Operand
-operand_of names (Integer value span) = if int_le (pos 0) value && int_le value (pos 999999999999999999) then Some (Number value) else None
+operand_of names (Integer value span) = if int_le (pos 0) value && int_le value number_limit then Some (Number value) else None
 operand_of names other = option_map VariableOperand (variable_of names other)
 
 -- an operand, or two with a `+` between them
 abbrev pub expression_of : List (List ℕ) → Term → Option Expression
 expression_of names (Application name None (more left (more right none)) span) =
-    if name == 42
+    if name == plus_name
     then (do
       one ← operand_of names left
       other ← operand_of names right
@@ -77,27 +79,22 @@ call_of names name arguments = do
 
 abbrev pub conjunct_of : List (List ℕ) → Term → Option Conjunct
 conjunct_of names (Application name None (more left (more right none)) span) =
-    if name == 36 then equation_of names left right else call_of names name (left ∷ right ∷ [])
+    if name == equal_name then equation_of names left right else call_of names name (left ∷ right ∷ [])
 conjunct_of names (Application name None arguments span) = call_of names name (list_of arguments)
 conjunct_of names other = None
 
 -- the conjuncts of a body, with a `,` between each two
 abbrev pub body_of : List (List ℕ) → Term → Option (List Conjunct)
-body_of names term = each_of (conjunct_of names) (chain 26 term)
-
--- whether a term is this name alone
-abbrev pub is_name : ℕ → Option ℕ → Bool
-is_name wanted None = false
-is_name wanted (Some name) = name == wanted
+body_of names term = each_of (conjunct_of names) (chain comma_name term)
 
 abbrev pub mode_named : Option ℕ → Option Mode
 mode_named None = None
-mode_named (Some name) = if name == 55 then Some Input else if name == 56 then Some Output else None
+mode_named (Some name) = if name == in_name then Some Input else if name == out_name then Some Output else None
 
 -- `int::in` or `int::out`
 abbrev pub mode_of : Term → Option Mode
 mode_of (Application name None (more kind (more mode none)) span) =
-    if (name == 18) && is_name 57 (plain_name kind) then mode_named (plain_name mode) else None
+    if (name == colon_colon_name) && is_named int_name (plain_name kind) then mode_named (plain_name mode) else None
 mode_of other = None
 
 -- the name and the modes in `p(int::in, .., int::out)`
@@ -110,7 +107,7 @@ declared_head_of names other = None
 
 -- `:- pred H is det.`
 abbrev pub declaration_of : List (List ℕ) → Item → Option (List ℕ × List Mode)
-declaration_of names (PredicateItem head (Some category)) = if is_name 63 (plain_name category) then declared_head_of names head else None
+declaration_of names (PredicateItem head (Some category)) = if is_named det_name (plain_name category) then declared_head_of names head else None
 declaration_of names other = None
 
 -- the name and the variables in `p(V1, .., Vn)`
@@ -147,7 +144,7 @@ predicates_of names (declaration ∷ clause ∷ rest) = do
 
 -- `:- import_module int.`
 abbrev pub is_int_import : Item → Bool
-is_int_import (Import (unit ∷ [])) = is_name 57 (plain_name unit)
+is_int_import (Import (unit ∷ [])) = is_named int_name (plain_name unit)
 is_int_import other = false
 
 abbrev pub behind_import : List Term → List Term
@@ -155,22 +152,22 @@ behind_import [] = []
 behind_import (first ∷ rest) = if is_int_import (item_of first) then rest else first ∷ rest
 
 -- the name in `:- module N.`
-abbrev pub module_name : List (List ℕ) → Item → Option (List ℕ)
-module_name names (Opening name) = slice_get names name
-module_name names other = None
+abbrev pub opened_name : List (List ℕ) → Item → Option (List ℕ)
+opened_name names (Opening name) = slice_get names name
+opened_name names other = None
 
 -- `:- module N.`, the import if there is one, and the predicates
 abbrev pub module_of : List (List ℕ) → List Term → Option Source
 module_of names [] = None
 module_of names (first ∷ rest) = do
-  name ← module_name names (item_of first)
+  name ← opened_name names (item_of first)
   predicates ← predicates_of names (behind_import rest)
   Some (record { name = name; predicates = predicates })
 
 -- the module of the first form that these items are
 abbrev pub source_of : List (List ℕ) → List Term → Option Source
-source_of names items = passing is_module (module_of names items)
+source_of names items = option_filter is_module (module_of names items)
 
 -- the goal of the first form over such a module that this term is
 abbrev pub goal_of : List (List ℕ) → Source → Term → Option (List Conjunct)
-goal_of names source term = passing (is_goal source) (body_of names term)
+goal_of names source term = option_filter (is_goal source) (body_of names term)

@@ -1,10 +1,11 @@
 -- Worked examples of what terms are in the first form, and for each definition terms that are not of it.
 use Rattle.std.specs.Prelude.{◌≡◌, ℕ, ℤ, pos, negsuc, true, false, List, [], ◌∷◌, ◌++◌, Some, None, codes, refl}
-use Rattle.merc_base.specs.Names.{fixed_names}
+use Rattle.merc_base.specs.Names.{fixed_names, colon_colon_name, colon_minus_name, comma_name, det_name, equal_name, import_module_name, in_name, int_name, is_name as is_operator, list_name, minus_name, module_name, out_name, plus_name, pred_name, semidet_name, string_name}
+use Rattle.merc_tree.specs.Parts.{is_named}
 use Rattle.merc_value.specs.Text.{word_operators}
 use Rattle.merc_tree.specs.Term.{Term, Variable, Integer, Text, Application, none, terms_of, no_span}
 use Rattle.merc_item_forms.specs.Items.{item_of}
-use Rattle.merc_first_form.specs.Reading.{each_of, is_capital_word, variable_of, operand_of, expression_of, equation_of, call_of, conjunct_of, body_of, is_name, mode_of, declared_head_of, declaration_of, head_of, clause_of, predicate_of, predicates_of, is_int_import, behind_import, module_name, source_of, goal_of}
+use Rattle.merc_first_form.specs.Reading.{each_of, is_capital_word, variable_of, operand_of, expression_of, equation_of, call_of, conjunct_of, body_of, mode_of, declared_head_of, declaration_of, head_of, clause_of, predicate_of, predicates_of, is_int_import, behind_import, opened_name, source_of, goal_of}
 use Rattle.merc_first_form.specs.ReadingParts.{applied_name, number_of, sum_of, call_by, predicate_of_both, imports_int, imports_int_at}
 use Rattle.merc_first_form.specs.declared.syntax.Operand.TheVariants.{Variable as VariableOperand, Number}
 use Rattle.merc_first_form.specs.declared.syntax.Expression.TheVariants.{Single, Sum}
@@ -14,9 +15,36 @@ use Rattle.merc_first_form.specs.declared.syntax.Mode.TheVariants.{Input, Output
 use Rattle.merc_first_form.specs.declared.syntax.Predicate.{Predicate}
 use Rattle.merc_first_form.specs.declared.syntax.Source.{Source}
 
--- a table of names: behind the constants `X` is 82, `Y` 83, `Z` 84, `_Z` 85, `add` 86, `twice` 87, `sums` 88 and `a b` 89
+-- a table of names, and the number of each behind the constants
 abbrev names : List (List ℕ)
 names = fixed_names ++ codes "X" ∷ codes "Y" ∷ codes "Z" ∷ codes "_Z" ∷ codes "add" ∷ codes "twice" ∷ codes "sums" ∷ codes "a b" ∷ []
+
+abbrev x_name : ℕ
+x_name = 82
+
+abbrev y_name : ℕ
+y_name = 83
+
+abbrev z_name : ℕ
+z_name = 84
+
+abbrev underscore_name : ℕ
+underscore_name = 85
+
+abbrev add_name : ℕ
+add_name = 86
+
+abbrev twice_name : ℕ
+twice_name = 87
+
+abbrev sums_name : ℕ
+sums_name = 88
+
+abbrev a_b_name : ℕ
+a_b_name = 89
+
+abbrev unknown_name : ℕ
+unknown_name = 90
 
 abbrev variable : ℕ → Term
 variable name = Variable name no_span
@@ -31,22 +59,22 @@ abbrev plain : ℕ → Term
 plain name = apply name []
 
 abbrev x : Term
-x = variable 82
+x = variable x_name
 
 abbrev y : Term
-y = variable 83
+y = variable y_name
 
 abbrev z : Term
-z = variable 84
+z = variable z_name
 
 abbrev equals : Term → Term → Term
-equals left right = apply 36 (left ∷ right ∷ [])
+equals left right = apply equal_name (left ∷ right ∷ [])
 
 abbrev plus : Term → Term → Term
-plus left right = apply 42 (left ∷ right ∷ [])
+plus left right = apply plus_name (left ∷ right ∷ [])
 
 abbrev «and» : Term → Term → Term
-«and» left right = apply 26 (left ∷ right ∷ [])
+«and» left right = apply comma_name (left ∷ right ∷ [])
 
 -- `Z = X + Y`
 abbrev sum : Term
@@ -54,7 +82,7 @@ sum = equals z (plus x y)
 
 -- `add(X, Y, Z)`
 abbrev call : Term
-call = apply 86 (x ∷ y ∷ z ∷ [])
+call = apply add_name (x ∷ y ∷ z ∷ [])
 
 abbrev sum_read : Conjunct
 sum_read = Equation (codes "Z") (Sum (VariableOperand (codes "X")) (VariableOperand (codes "Y")))
@@ -80,7 +108,7 @@ pub variable_of-example : variable_of names x ≡ Some (codes "X")
 unfolding fixed_names
 variable_of-example = refl
 
-pub variable_of-unknown : variable_of names (variable 90) ≡ None
+pub variable_of-unknown : variable_of names (variable unknown_name) ≡ None
 unfolding fixed_names
 variable_of-unknown = refl
 
@@ -90,7 +118,7 @@ pub operand_of-variable : operand_of names x ≡ Some (VariableOperand (codes "X
 unfolding fixed_names
 operand_of-variable = refl
 
-pub operand_of-underscore : operand_of names (variable 85) ≡ None
+pub operand_of-underscore : operand_of names (variable underscore_name) ≡ None
 unfolding fixed_names
 operand_of-underscore = refl
 
@@ -107,10 +135,10 @@ operand_of-19_digits = refl
 pub operand_of-negative : operand_of names (integer (negsuc 0)) ≡ None
 operand_of-negative = refl
 
-pub operand_of-text : operand_of names (Text 82 no_span) ≡ None
+pub operand_of-text : operand_of names (Text x_name no_span) ≡ None
 operand_of-text = refl
 
-pub operand_of-name : operand_of names (plain 86) ≡ None
+pub operand_of-name : operand_of names (plain add_name) ≡ None
 operand_of-name = refl
 
 -- ---- expressions
@@ -125,7 +153,7 @@ unfolding fixed_names
 expression_of-sum = refl
 
 -- `X - 7`
-pub expression_of-difference : expression_of names (apply 43 (x ∷ integer (pos 7) ∷ [])) ≡ None
+pub expression_of-difference : expression_of names (apply minus_name (x ∷ integer (pos 7) ∷ [])) ≡ None
 expression_of-difference = refl
 
 -- `X + Y + 7`
@@ -143,7 +171,7 @@ unfolding fixed_names
 conjunct_of-call = refl
 
 -- the text of a call's name is any: whether it is plain is a rule of the module
-pub conjunct_of-quoted : conjunct_of names (apply 89 (x ∷ [])) ≡ Some (Call (codes "a b") (VariableOperand (codes "X") ∷ []))
+pub conjunct_of-quoted : conjunct_of names (apply a_b_name (x ∷ [])) ≡ Some (Call (codes "a b") (VariableOperand (codes "X") ∷ []))
 unfolding fixed_names
 conjunct_of-quoted = refl
 
@@ -152,12 +180,12 @@ pub conjunct_of-sum_on_the_left : conjunct_of names (equals (plus x y) z) ≡ No
 conjunct_of-sum_on_the_left = refl
 
 -- `twice(X + Y, Z)`
-pub conjunct_of-sum_as_argument : conjunct_of names (apply 87 (plus x y ∷ z ∷ [])) ≡ None
+pub conjunct_of-sum_as_argument : conjunct_of names (apply twice_name (plus x y ∷ z ∷ [])) ≡ None
 unfolding fixed_names
 conjunct_of-sum_as_argument = refl
 
 -- `sums.add(X, Y, Z)`
-pub conjunct_of-qualified : conjunct_of names (Application 86 (Some 88) (terms_of (x ∷ y ∷ z ∷ [])) no_span) ≡ None
+pub conjunct_of-qualified : conjunct_of names (Application add_name (Some sums_name) (terms_of (x ∷ y ∷ z ∷ [])) no_span) ≡ None
 conjunct_of-qualified = refl
 
 pub conjunct_of-variable : conjunct_of names x ≡ None
@@ -170,11 +198,11 @@ equation_of-example = refl
 pub equation_of-integer : equation_of names (integer (pos 7)) x ≡ None
 equation_of-integer = refl
 
-pub call_of-example : call_of names 87 (x ∷ integer (pos 7) ∷ []) ≡ Some (Call (codes "twice") (VariableOperand (codes "X") ∷ Number (pos 7) ∷ []))
+pub call_of-example : call_of names twice_name (x ∷ integer (pos 7) ∷ []) ≡ Some (Call (codes "twice") (VariableOperand (codes "X") ∷ Number (pos 7) ∷ []))
 unfolding fixed_names
 call_of-example = refl
 
-pub call_of-unknown : call_of names 90 (x ∷ []) ≡ None
+pub call_of-unknown : call_of names unknown_name (x ∷ []) ≡ None
 unfolding fixed_names
 call_of-unknown = refl
 
@@ -198,46 +226,46 @@ body_of-variable = refl
 
 -- `int::in`
 abbrev int_in : Term
-int_in = apply 18 (plain 57 ∷ plain 55 ∷ [])
+int_in = apply colon_colon_name (plain int_name ∷ plain in_name ∷ [])
 
 -- `int::out`
 abbrev int_out : Term
-int_out = apply 18 (plain 57 ∷ plain 56 ∷ [])
+int_out = apply colon_colon_name (plain int_name ∷ plain out_name ∷ [])
 
 -- `:- D.`
 abbrev declare : Term → Term
-declare term = apply 10 (term ∷ [])
+declare term = apply colon_minus_name (term ∷ [])
 
 -- `:- pred H is C.`
 abbrev pred_is : Term → ℕ → Term
-pred_is head category = declare (apply 33 (apply 35 (head ∷ plain category ∷ []) ∷ []))
+pred_is head category = declare (apply pred_name (apply is_operator (head ∷ plain category ∷ []) ∷ []))
 
 abbrev add_head : Term
-add_head = apply 86 (int_in ∷ int_in ∷ int_out ∷ [])
+add_head = apply add_name (int_in ∷ int_in ∷ int_out ∷ [])
 
 -- `:- pred add(int::in, int::in, int::out) is det.`
 abbrev add_declared : Term
-add_declared = pred_is add_head 63
+add_declared = pred_is add_head det_name
 
 pub mode_of-example : mode_of int_out ≡ Some Output
 mode_of-example = refl
 
 -- `string::in`
-pub mode_of-string : mode_of (apply 18 (plain 58 ∷ plain 55 ∷ [])) ≡ None
+pub mode_of-string : mode_of (apply colon_colon_name (plain string_name ∷ plain in_name ∷ [])) ≡ None
 mode_of-string = refl
 
 -- `int::add`
-pub mode_of-another_name : mode_of (apply 18 (plain 57 ∷ plain 86 ∷ [])) ≡ None
+pub mode_of-another_name : mode_of (apply colon_colon_name (plain int_name ∷ plain add_name ∷ [])) ≡ None
 mode_of-another_name = refl
 
-pub mode_of-no_mode : mode_of (plain 57) ≡ None
+pub mode_of-no_mode : mode_of (plain int_name) ≡ None
 mode_of-no_mode = refl
 
-pub is_name-example : is_name 57 (Some 57) ≡ true
-is_name-example = refl
+pub is_named-example : is_named int_name (Some int_name) ≡ true
+is_named-example = refl
 
-pub is_name-another : is_name 57 (Some 58) ≡ false
-is_name-another = refl
+pub is_named-another : is_named int_name (Some string_name) ≡ false
+is_named-another = refl
 
 pub declared_head_of-example : declared_head_of names add_head ≡ Some (codes "add", Input ∷ Input ∷ Output ∷ [])
 unfolding fixed_names
@@ -251,7 +279,7 @@ pub each_of-reversed : each_of mode_of (int_in ∷ int_out ∷ []) ≡ Some (Out
 each_of-reversed wrong = cc
 
 -- `int` has no mode
-pub each_of-one_missing : each_of mode_of (int_in ∷ plain 57 ∷ []) ≡ None
+pub each_of-one_missing : each_of mode_of (int_in ∷ plain int_name ∷ []) ≡ None
 each_of-one_missing = refl
 
 pub declaration_of-example : declaration_of names (item_of add_declared) ≡ Some (codes "add", Input ∷ Input ∷ Output ∷ [])
@@ -259,15 +287,15 @@ unfolding fixed_names
 declaration_of-example = refl
 
 -- `:- pred add(int::in, int::in, int::out) is semidet.`
-pub declaration_of-semidet : declaration_of names (item_of (pred_is add_head 64)) ≡ None
+pub declaration_of-semidet : declaration_of names (item_of (pred_is add_head semidet_name)) ≡ None
 declaration_of-semidet = refl
 
 -- `:- pred add(int::in, int::in, int::out).`
-pub declaration_of-no_category : declaration_of names (item_of (declare (apply 33 (add_head ∷ [])))) ≡ None
+pub declaration_of-no_category : declaration_of names (item_of (declare (apply pred_name (add_head ∷ [])))) ≡ None
 declaration_of-no_category = refl
 
 -- `:- pred add(int, int, int) is det.`
-pub declaration_of-no_modes : declaration_of names (item_of (pred_is (apply 86 (plain 57 ∷ plain 57 ∷ plain 57 ∷ [])) 63)) ≡ None
+pub declaration_of-no_modes : declaration_of names (item_of (pred_is (apply add_name (plain int_name ∷ plain int_name ∷ plain int_name ∷ [])) det_name)) ≡ None
 unfolding fixed_names
 declaration_of-no_modes = refl
 
@@ -275,7 +303,7 @@ declaration_of-no_modes = refl
 
 -- `H :- B.`
 abbrev rule : Term → Term → Term
-rule head body = apply 10 (head ∷ body ∷ [])
+rule head body = apply colon_minus_name (head ∷ body ∷ [])
 
 -- `add(X, Y, Z) :- Z = X + Y.`
 abbrev add_defined : Term
@@ -286,7 +314,7 @@ unfolding fixed_names
 head_of-example = refl
 
 -- `add(X, Y, 7)`
-pub head_of-integer : head_of names (apply 86 (x ∷ y ∷ integer (pos 7) ∷ [])) ≡ None
+pub head_of-integer : head_of names (apply add_name (x ∷ y ∷ integer (pos 7) ∷ [])) ≡ None
 unfolding fixed_names
 head_of-integer = refl
 
@@ -316,7 +344,7 @@ unfolding fixed_names
 predicate_of-example = refl
 
 -- `twice(X, Y, Z) :- Z = X + Y.`
-pub predicate_of-another_name : predicate_of names add_declared (rule (apply 87 (x ∷ y ∷ z ∷ [])) sum) ≡ None
+pub predicate_of-another_name : predicate_of names add_declared (rule (apply twice_name (x ∷ y ∷ z ∷ [])) sum) ≡ None
 unfolding fixed_names
 predicate_of-another_name = refl
 
@@ -332,35 +360,35 @@ predicates_of-declaration_alone = refl
 
 -- `:- module sums.`
 abbrev opened : Term
-opened = declare (apply 12 (plain 88 ∷ []))
+opened = declare (apply module_name (plain sums_name ∷ []))
 
 -- `:- import_module U.`
 abbrev import_of : Term → Term
-import_of units = declare (apply 14 (units ∷ []))
+import_of units = declare (apply import_module_name (units ∷ []))
 
 -- `:- import_module int.`
 abbrev int_imported : Term
-int_imported = import_of (plain 57)
+int_imported = import_of (plain int_name)
 
 abbrev sums : Source
 sums = record { name = codes "sums"; predicates = add ∷ [] }
 
-pub module_name-example : module_name names (item_of opened) ≡ Some (codes "sums")
+pub opened_name-example : opened_name names (item_of opened) ≡ Some (codes "sums")
 unfolding fixed_names
-module_name-example = refl
+opened_name-example = refl
 
-pub module_name-of_an_import : module_name names (item_of int_imported) ≡ None
-module_name-of_an_import = refl
+pub opened_name-of_an_import : opened_name names (item_of int_imported) ≡ None
+opened_name-of_an_import = refl
 
 pub is_int_import-example : is_int_import (item_of int_imported) ≡ true
 is_int_import-example = refl
 
 -- `:- import_module list.`
-pub is_int_import-of_list : is_int_import (item_of (import_of (plain 59))) ≡ false
+pub is_int_import-of_list : is_int_import (item_of (import_of (plain list_name))) ≡ false
 is_int_import-of_list = refl
 
 -- `:- import_module int, int.`
-pub is_int_import-twice : is_int_import (item_of (import_of («and» (plain 57) (plain 57)))) ≡ false
+pub is_int_import-twice : is_int_import (item_of (import_of («and» (plain int_name) (plain int_name)))) ≡ false
 is_int_import-twice = refl
 
 pub behind_import-example : behind_import (int_imported ∷ add_declared ∷ []) ≡ add_declared ∷ []
@@ -406,7 +434,7 @@ unfolding fixed_names word_operators
 source_of-doubled = refl
 
 -- `:- module 'a b'.`
-pub source_of-quoted : source_of names (declare (apply 12 (plain 89 ∷ [])) ∷ []) ≡ None
+pub source_of-quoted : source_of names (declare (apply module_name (plain a_b_name ∷ [])) ∷ []) ≡ None
 unfolding fixed_names
 source_of-quoted = refl
 
@@ -414,7 +442,7 @@ source_of-quoted = refl
 
 -- `X = 7, add(X, 1, Y)`
 abbrev goal : Term
-goal = «and» (equals x (integer (pos 7))) (apply 86 (x ∷ integer (pos 1) ∷ y ∷ []))
+goal = «and» (equals x (integer (pos 7))) (apply add_name (x ∷ integer (pos 1) ∷ y ∷ []))
 
 pub goal_of-example : goal_of names sums goal ≡
     Some (
@@ -431,16 +459,16 @@ unfolding fixed_names
 goal_of-unbound = refl
 
 -- `twice(7, X)`, which the module lacks
-pub goal_of-unknown : goal_of names sums (apply 87 (integer (pos 7) ∷ x ∷ [])) ≡ None
+pub goal_of-unknown : goal_of names sums (apply twice_name (integer (pos 7) ∷ x ∷ [])) ≡ None
 unfolding fixed_names
 goal_of-unknown = refl
 
 -- ---- piece by piece
 
-pub applied_name-example : applied_name call ≡ Some 86
+pub applied_name-example : applied_name call ≡ Some add_name
 applied_name-example = refl
 
-pub applied_name-qualified : applied_name (Application 86 (Some 88) none no_span) ≡ None
+pub applied_name-qualified : applied_name (Application add_name (Some sums_name) none no_span) ≡ None
 applied_name-qualified = refl
 
 pub number_of-example : number_of (pos 7) ≡ Some (Number (pos 7))
@@ -453,11 +481,11 @@ pub sum_of-example : sum_of names x (integer (pos 7)) ≡ Some (Sum (VariableOpe
 unfolding fixed_names
 sum_of-example = refl
 
-pub sum_of-name : sum_of names x (plain 86) ≡ None
+pub sum_of-name : sum_of names x (plain add_name) ≡ None
 unfolding fixed_names
 sum_of-name = refl
 
-pub call_by-example : call_by names (Some 86) (x ∷ []) ≡ Some (Call (codes "add") (VariableOperand (codes "X") ∷ []))
+pub call_by-example : call_by names (Some add_name) (x ∷ []) ≡ Some (Call (codes "add") (VariableOperand (codes "X") ∷ []))
 unfolding fixed_names
 call_by-example = refl
 

@@ -3,7 +3,7 @@ use Rattle.std.specs.Prelude.{ℕ, Bool, false, ◌&&◌, int_le, pos, ℤ, List
 use Rattle.merc_tree.specs.Term.{Term, Application}
 use Rattle.merc_item_forms.specs.Items.{item_of}
 use Rattle.merc_first_form.specs.Chaining.{◌>>=◌}
-use Rattle.merc_first_form.specs.Reading.{operand_of, call_of, predicate_of, is_int_import}
+use Rattle.merc_first_form.specs.Reading.{number_limit, operand_of, call_of, predicate_of, is_int_import}
 use Rattle.merc_first_form.specs.declared.syntax.Operand.{Operand}
 use Rattle.merc_first_form.specs.declared.syntax.Operand.TheVariants.{Number}
 use Rattle.merc_first_form.specs.declared.syntax.Expression.{Expression}
@@ -18,7 +18,7 @@ applied_name other = None
 
 -- an integer of at most 18 digits without a sign
 abbrev pub number_of : ℤ → Option Operand
-number_of value = if int_le (pos 0) value && int_le value (pos 999999999999999999) then Some (Number value) else None
+number_of value = if int_le (pos 0) value && int_le value number_limit then Some (Number value) else None
 
 -- the two sides of a `+`
 abbrev pub sum_of : List (List ℕ) → Term → Term → Option Expression

@@ -5,7 +5,7 @@ ghost use Rattle.std.specs.List.{list_all, list_any};
 ghost use Rattle.std.specs.Option.{option_copied};
 ghost use Rattle.std.specs.Str.{bytes_eq};
 ghost use Rattle.merc_base.specs.Texts.{is_among};
-ghost use Rattle.merc_first_form.specs.FirstForm.{is_plain_name, are_distinct, in_places, is_input, is_output, has_value, operands_of, modes_of, bind_outputs, bind_call, bind_conjunct, bind_body, is_call, is_body, is_predicate, are_predicates, is_module, is_goal};
+ghost use Rattle.merc_first_form.specs.FirstForm.{argument_limit, is_plain_name, are_distinct, in_places, is_input, is_output, has_value, operands_of, modes_of, bind_outputs, bind_call, bind_conjunct, bind_body, is_call, is_body, is_predicate, are_predicates, is_module, is_goal};
 
 use crate::syntax::{Conjunct, Conjuncts, Expression, Mode, Operand, Predicate, Source};
 use merc_base::{NoMemory, Text, TextTable};
@@ -74,7 +74,7 @@ fn is_heading(earlier: &[Predicate], predicate: &Predicate) -> bool
     ensures { result ≡
         (is_plain_name predicate.now.name
         && not (list_any (λ other. bytes_eq predicate.now.name other.name) earlier.now)
-        && nat_le 1 (length predicate.now.modes) && nat_le (length predicate.now.modes) 64
+        && nat_le 1 (length predicate.now.modes) && nat_le (length predicate.now.modes) argument_limit
         && (length predicate.now.head == length predicate.now.modes) && are_distinct predicate.now.head) }
 {
     let name = predicate.name.bytes();
@@ -326,6 +326,3 @@ fn bind_variable(bound: &mut TextTable, name: &[u8]) -> Result<bool, NoMemory>
     bound.add(name)?;
     Ok(true)
 }
-
-#[cfg(test)]
-mod tests;

@@ -245,6 +245,3 @@ impl FlatGoals {
         Ok(())
     }
 }
-
-#[cfg(test)]
-mod tests;

@@ -2,7 +2,7 @@
 ghost use Rattle.std.specs.Prelude.{◌≡◌, ◌≤◌, length, drop, IfOk};
 ghost use Rattle.std.specs.Option.{option_copied};
 ghost use Rattle.merc_item_forms.specs.ItemValue.{item_value};
-ghost use Rattle.merc_first_form.specs.Reading.{goal_of, source_of, module_of, module_name, predicates_of, is_int_import};
+ghost use Rattle.merc_first_form.specs.Reading.{goal_of, source_of, module_of, opened_name, predicates_of, is_int_import};
 ghost use Rattle.merc_first_form.specs.ReadingParts.{imports_int_at, predicate_of_both};
 
 mod bodies;
@@ -98,7 +98,7 @@ fn module_of(alloc: Global, items: &Terms, names: &Names) -> Result<Option<Sourc
 
 // The name in `:- module N.`
 fn module_name<'a>(item: &Item<'_>, names: &'a Names) -> Option<&'a [u8]>
-    ensures { option_copied result ≡ module_name names.now (item_value item.now) }
+    ensures { option_copied result ≡ opened_name names.now (item_value item.now) }
 {
     match item {
         Item::Opening(name) => names.text(*name),
@@ -166,6 +166,3 @@ fn predicate_of_both(
         _ => Ok(None),
     }
 }
-
-#[cfg(test)]
-mod tests;

@@ -5,7 +5,7 @@ use Rattle.merc_base.specs.declared.refusal.Refusal.{Refusal}
 use Rattle.merc_goals.specs.Written.{Written}
 use Rattle.merc_goals.specs.Faults.{first_fault, widest_parallel}
 use Rattle.merc_goal_tree.specs.Nodes.{Node}
-use Rattle.merc_flat.specs.GoalFaults.{faults_of_form, first_of_faults, form_fault, variable_count}
+use Rattle.merc_flat.specs.GoalFaults.{faults_of_form, first_of_faults, form_fault, variable_count, variable_limit, conjunct_limit}
 use Rattle.merc_flat.specs.Flat.{either_fault}
 use Rattle.merc_flat.specs.SizeFaults.{first_of_two, size_fault, width_fault}
 
@@ -22,8 +22,8 @@ behind false one other = refl
 
 faults_by : (form : Option Refusal) (arity : ℕ) (span : Span) (goal : Written) (flat : Node)
     → first_of_faults (faults_of_form form arity span goal flat) ≡ first_of_two (either_fault form (size_fault arity span flat)) (width_fault span (widest_parallel goal))
-faults_by None arity span goal flat = sizes (nat_lt 16384 (variable_count arity flat)) (nat_lt 64 (widest_parallel goal)) _ _
-faults_by (Some fault) arity span goal flat = behind (nat_lt 64 (widest_parallel goal)) fault _
+faults_by None arity span goal flat = sizes (nat_lt variable_limit (variable_count arity flat)) (nat_lt conjunct_limit (widest_parallel goal)) _ _
+faults_by (Some fault) arity span goal flat = behind (nat_lt conjunct_limit (widest_parallel goal)) fault _
 
 module _ (arity : ℕ) (span : Span) (goal : Written) (flat : Node) where
   pub form_fault-by : (form first other whole : Option Refusal) (width : ℕ) → form ≡ first_fault goal → first ≡ either_fault form (size_fault arity span flat)

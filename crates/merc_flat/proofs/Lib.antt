@@ -1,4 +1,3 @@
 pub mod CountLaws
 pub mod FormLaws
 pub mod UnknownLaws
-pub mod EntryLaws

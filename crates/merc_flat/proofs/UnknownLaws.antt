@@ -1,6 +1,7 @@
 -- Unknown names, term by term and entry by entry.
 use Rattle.std.proofs.Common.{◌≡◌, ℕ, suc, ◌+◌, ◌<◌, ◌==◌, Bool, true, false, not, is_none, ◌&&◌, ◌||◌, List, [], ◌∷◌, ◌++◌, length, Option, Some, None, if◌then◌else◌, refl, ap, sym, ◌∙◌, ne_eqb, arith}
 use Rattle.std.proofs.lemmas.List.{append_assoc, append-nil}
+use Rattle.merc_base.specs.Names.{minus_name}
 use Rattle.merc_base.specs.declared.place.Span.{Span}
 use Rattle.merc_tree.specs.Term.{Term, Terms, Variable, Integer, Text, Application, none, more, list_of}
 use Rattle.merc_tree.specs.Shape.{arguments_of}
@@ -60,7 +61,7 @@ swap false false = refl
 
 arithmetic_same : (name : ℕ) (qualifier : Option ℕ) (arguments : Terms) → is_arithmetic name qualifier arguments ≡ is_arithmetic_name name qualifier (length (list_of arguments))
 arithmetic_same name qualifier none = and_false (is_none qualifier)
-arithmetic_same name qualifier (more only none) = swap (name == 43) (is_none qualifier)
+arithmetic_same name qualifier (more only none) = swap (name == minus_name) (is_none qualifier)
 arithmetic_same name qualifier (more left (more right none)) = or_false (is_none qualifier) (not (is_none (operation_of name)))
 arithmetic_same name qualifier (more first (more second (more third rest))) =
     others qualifier _ _ _ _ (more_than (length (list_of rest))) (more_than_one (length (list_of rest)))

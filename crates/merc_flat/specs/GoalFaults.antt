@@ -69,11 +69,19 @@ variable_count arity goal = arity + length (distinct (filter (λ variable. nat_l
 abbrev pub limit_passed : LimitName → Span → Refusal
 limit_passed limit span = record { rule = LimitPassed; place = place_of span; detail = Limit limit }
 
+-- the most variables of a clause or a goal, and the most conjuncts of a parallel conjunction
+
+abbrev pub variable_limit : ℕ
+variable_limit = 16384
+
+abbrev pub conjunct_limit : ℕ
+conjunct_limit = 64
+
 abbrev pub size_faults : ℕ → Span → Node → List Refusal
-size_faults arity span flat = if nat_lt 16384 (variable_count arity flat) then limit_passed Variables span ∷ [] else []
+size_faults arity span flat = if nat_lt variable_limit (variable_count arity flat) then limit_passed Variables span ∷ [] else []
 
 abbrev pub width_faults : Span → Written → List Refusal
-width_faults span goal = if nat_lt 64 (widest_parallel goal) then limit_passed Conjuncts span ∷ [] else []
+width_faults span goal = if nat_lt conjunct_limit (widest_parallel goal) then limit_passed Conjuncts span ∷ [] else []
 
 abbrev pub faults_of_form : Option Refusal → ℕ → Span → Written → Node → List Refusal
 faults_of_form None arity span goal flat = size_faults arity span flat ++ width_faults span goal

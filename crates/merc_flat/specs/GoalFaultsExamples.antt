@@ -1,30 +1,62 @@
--- Faults of a few goals, in a module with the type `t` of the constructors `c/0` and `f/1` and the predicate `p/1`: the names 100 to 103.
-use Rattle.std.specs.Prelude.{◌≡◌, ℕ, suc, zero, ◌+◌, [], ◌∷◌, Option, Some, None, refl}
+-- Faults of a few goals, in a module with the type `t` of the constructors `c/0` and `f/1` and the predicate `p/1`. `g` and `q` are unknown.
+use Rattle.std.specs.Prelude.{◌≡◌, ℕ, suc, zero, ◌+◌, List, [], ◌∷◌, Option, Some, None, refl}
 use Rattle.std.proofs.Common.{ap}
+use Rattle.merc_base.specs.Names.{int_name, less_name, plus_name}
 use Rattle.merc_base.specs.declared.place.Span.{Span}
 use Rattle.merc_base.specs.declared.refusal.Refusal.{Refusal}
-use Rattle.merc_base.specs.declared.refusal.LimitName.TheVariants.{Conjuncts}
+use Rattle.merc_base.specs.declared.refusal.LimitName.TheVariants.{Variables, Conjuncts}
 use Rattle.merc_tree.specs.Term.{Term, Terms, Variable, Application, none, more}
 use Rattle.merc_tree.specs.Types.{IntType}
+use Rattle.merc_tree.specs.declared.declarations.Clause.{Clause}
 use Rattle.merc_tree.specs.declared.declarations.Module.{Module}
-use Rattle.merc_goals.specs.Written.{Written, WrittenGoals, Truth, Called, Conjunction, Parallel, WrongForm, no_goals, more_goals}
+use Rattle.merc_goals.specs.Written.{Written, WrittenGoals, Truth, Equal, Compared, Called, Conjunction, Parallel, Disjunction, Conditional, Negated, Quantified, WrongForm, no_goals, more_goals}
 use Rattle.merc_goals.specs.Faults.{wrong_form}
 use Rattle.merc_goal_tree.specs.declared.goal.SimpleGoal.TheVariants.{True, Call}
 use Rattle.merc_goal_tree.specs.Nodes.{Node, Simple}
-use Rattle.merc_flat.specs.GoalFaults.{form_fault, limit_passed, name_fault, unknown_in, unknown_name, variable_count}
+use Rattle.merc_flat.specs.GoalFaults.{form_fault, limit_passed, name_fault, unknown, unknown_in, unknown_name, variable_count}
 
-abbrev at : ℕ → Span
+abbrev m_name : ℕ
+m_name = 99
+
+abbrev t_name : ℕ
+t_name = 100
+
+abbrev pub c_name : ℕ
+c_name = 101
+
+abbrev pub f_name : ℕ
+f_name = 102
+
+abbrev pub p_name : ℕ
+p_name = 103
+
+abbrev pub g_name : ℕ
+g_name = 104
+
+abbrev pub x_name : ℕ
+x_name = 105
+
+abbrev y_name : ℕ
+y_name = 106
+
+abbrev pub q_name : ℕ
+q_name = 107
+
+abbrev pub at : ℕ → Span
 at first = record { first = first; past = first + 1; line = 1 }
 
-abbrev example : Module
-example = record {
-  name = 99;
+abbrev pub with_clauses : List Clause → Module
+with_clauses clauses = record {
+  name = m_name;
   units = [];
-  types = record { name = 100; params = []; constructors = record { name = 101; args = [] } ∷ record { name = 102; args = IntType ∷ [] } ∷ []; unit = None } ∷ [];
-  preds = record { name = 103; args = IntType ∷ []; modes = []; span = at 0; unit = None } ∷ [];
+  types = record { name = t_name; params = []; constructors = record { name = c_name; args = [] } ∷ record { name = f_name; args = IntType ∷ [] } ∷ []; unit = None } ∷ [];
+  preds = record { name = p_name; args = IntType ∷ []; modes = []; span = at 0; unit = None } ∷ [];
   own = 1;
-  clauses = [];
+  clauses = clauses;
 }
+
+abbrev pub example : Module
+example = with_clauses []
 
 -- forms and sizes
 
@@ -52,6 +84,21 @@ conjuncts_allowed = refl
 conjuncts_forgotten : form_fault 0 (at 0) (Parallel (truths 65) (at 0)) truth ≡ None → ⊥
 conjuncts_forgotten wrong = cc
 
+-- so many variables as arguments
+variables_allowed : form_fault 16384 (at 0) (Truth (at 0)) truth ≡ None
+variables_allowed = refl
+
+variables_passed : form_fault 16385 (at 3) (Truth (at 5)) truth ≡ Some (limit_passed Variables (at 3))
+variables_passed = refl
+
+-- at one byte too many variables come before too many conjuncts
+variables_before_conjuncts : form_fault 16385 (at 0) (Parallel (truths 65) (at 0)) truth ≡ Some (limit_passed Variables (at 0))
+variables_before_conjuncts = refl
+
+-- where a part has no form the variables are not counted
+form_before_variables : form_fault 16385 (at 0) (WrongForm (at 3)) truth ≡ Some (wrong_form (at 3))
+form_before_variables = refl
+
 -- two arguments, and two other variables of which one occurs twice
 variables : variable_count 2 (Simple (Call 0 (1 ∷ 5 ∷ 7 ∷ 5 ∷ [])) (at 0)) ≡ 4
 variables = refl
@@ -66,35 +113,35 @@ abbrev applied : ℕ → Option ℕ → Terms → ℕ → Term
 applied name qualifier arguments first = Application name qualifier arguments (at first)
 
 abbrev p : Term → Written
-p only = Called 0 103 None (more only none) (at 0)
+p only = Called 0 p_name None (more only none) (at 0)
 
 -- `p(f(c))`
-all_known : name_fault example none (p (applied 102 None (more (applied 101 None none 4) none) 2)) ≡ None
+all_known : name_fault example none (p (applied f_name None (more (applied c_name None none 4) none) 2)) ≡ None
 all_known = refl
 
 -- `p(f(g))`: an unknown constructor in an argument
-unknown_argument : name_fault example none (p (applied 102 None (more (applied 104 None none 4) none) 2)) ≡ Some (unknown_name example (at 4))
+unknown_argument : name_fault example none (p (applied f_name None (more (applied g_name None none 4) none) 2)) ≡ Some (unknown_name example (at 4))
 unknown_argument = refl
 
 -- `c` with an argument is another name
-unknown_arity : unknown_in example (applied 101 None (more (Variable 105 (at 4)) none) 2) ≡ at 2 ∷ []
+unknown_arity : unknown_in example (applied c_name None (more (Variable x_name (at 4)) none) 2) ≡ at 2 ∷ []
 unknown_arity = refl
 
 -- `X + Y` is arithmetic, and with a qualifier it is an unknown name
-arithmetic : unknown_in example (applied 42 None (more (Variable 105 (at 2)) (more (Variable 106 (at 6)) none)) 2) ≡ []
+arithmetic : unknown_in example (applied plus_name None (more (Variable x_name (at 2)) (more (Variable y_name (at 6)) none)) 2) ≡ []
 arithmetic = refl
 
-qualified_arithmetic : unknown_in example (applied 42 (Some 57) (more (Variable 105 (at 2)) (more (Variable 106 (at 6)) none)) 2) ≡ at 2 ∷ []
+qualified_arithmetic : unknown_in example (applied plus_name (Some int_name) (more (Variable x_name (at 2)) (more (Variable y_name (at 6)) none)) 2) ≡ at 2 ∷ []
 qualified_arithmetic = refl
 
 -- `p(g), q`: the earlier of two unknown names is told
 abbrev both : Written
-both = Conjunction (more_goals (p (applied 104 None none 2)) (more_goals (Called 9 107 None none (at 6)) no_goals)) (at 0)
+both = Conjunction (more_goals (p (applied g_name None none 2)) (more_goals (Called 9 q_name None none (at 6)) no_goals)) (at 0)
 
 unknown_both : name_fault example none both ≡ Some (unknown_name example (at 2))
 unknown_both = refl
 
-abbrev byte_of : Option Refusal → ℕ
+abbrev pub byte_of : Option Refusal → ℕ
 byte_of None = 0
 byte_of (Some fault) = fault.place.byte
 
@@ -103,3 +150,39 @@ not_later same = cc
 
 unknown_later : name_fault example none both ≡ Some (unknown_name example (at 6)) → ⊥
 unknown_later wrong = not_later (ap byte_of wrong)
+
+-- an unknown name in the arguments of a head
+unknown_head : name_fault example (more (applied g_name None none 2) none) (Truth (at 0)) ≡ Some (unknown_name example (at 2))
+unknown_head = refl
+
+-- in each kind of goal
+
+abbrev unknown_at : ℕ → Written
+unknown_at first = Called 0 q_name None none (at first)
+
+abbrev two : ℕ → ℕ → WrittenGoals
+two first second = more_goals (unknown_at first) (more_goals (unknown_at second) no_goals)
+
+unknown_conjuncts : unknown example (Conjunction (two 1 2) (at 0)) ≡ at 1 ∷ at 2 ∷ []
+unknown_conjuncts = refl
+
+unknown_parallel : unknown example (Parallel (two 1 2) (at 0)) ≡ at 1 ∷ at 2 ∷ []
+unknown_parallel = refl
+
+unknown_disjuncts : unknown example (Disjunction (two 1 2) (at 0)) ≡ at 1 ∷ at 2 ∷ []
+unknown_disjuncts = refl
+
+unknown_parts : unknown example (Conditional (unknown_at 1) (unknown_at 2) (unknown_at 3) (at 0)) ≡ at 1 ∷ at 2 ∷ at 3 ∷ []
+unknown_parts = refl
+
+unknown_negated : unknown example (Negated (unknown_at 1) (at 0)) ≡ at 1 ∷ []
+unknown_negated = refl
+
+unknown_quantified : unknown example (Quantified (x_name ∷ []) (unknown_at 1) (at 0)) ≡ at 1 ∷ []
+unknown_quantified = refl
+
+unknown_sides : unknown example (Equal 0 (applied g_name None none 1) (applied g_name None none 2) (at 0)) ≡ at 1 ∷ at 2 ∷ []
+unknown_sides = refl
+
+unknown_operands : unknown example (Compared 0 less_name (applied g_name None none 1) (applied g_name None none 2) (at 0)) ≡ at 1 ∷ at 2 ∷ []
+unknown_operands = refl

@@ -4,7 +4,7 @@ use Rattle.merc_base.specs.declared.place.Span.{Span}
 use Rattle.merc_base.specs.declared.refusal.Refusal.{Refusal}
 use Rattle.merc_base.specs.declared.refusal.LimitName.TheVariants.{Variables, Conjuncts}
 use Rattle.merc_goal_tree.specs.Nodes.{Node}
-use Rattle.merc_flat.specs.GoalFaults.{earlier_fault, limit_passed, variable_count}
+use Rattle.merc_flat.specs.GoalFaults.{earlier_fault, limit_passed, variable_count, variable_limit, conjunct_limit}
 
 abbrev pub first_of_two : Option Refusal → Option Refusal → Option Refusal
 first_of_two None other = other
@@ -13,7 +13,7 @@ first_of_two (Some one) other = Some (earlier_fault one other)
 -- too many variables, and too many conjuncts of a parallel conjunction
 
 abbrev pub size_fault : ℕ → Span → Node → Option Refusal
-size_fault arity span flat = if nat_lt 16384 (variable_count arity flat) then Some (limit_passed Variables span) else None
+size_fault arity span flat = if nat_lt variable_limit (variable_count arity flat) then Some (limit_passed Variables span) else None
 
 abbrev pub width_fault : Span → ℕ → Option Refusal
-width_fault span width = if nat_lt 64 width then Some (limit_passed Conjuncts span) else None
+width_fault span width = if nat_lt conjunct_limit width then Some (limit_passed Conjuncts span) else None

@@ -1,5 +1,6 @@
 -- Unknown names, term by term and entry by entry.
 use Rattle.std.specs.Prelude.{ℕ, Bool, false, ◌==◌, ◌&&◌, ◌||◌, not, is_none, List, [], ◌∷◌, ◌++◌, length, Option, Some, None, if◌then◌else◌}
+use Rattle.merc_base.specs.Names.{minus_name}
 use Rattle.merc_base.specs.declared.place.Span.{Span}
 use Rattle.merc_base.specs.declared.refusal.Refusal.{Refusal}
 use Rattle.merc_base.specs.declared.refusal.Rule.TheVariants.{UnknownName}
@@ -20,7 +21,7 @@ unknown_refusal span = record { rule = UnknownName; place = place_of span; detai
 -- arithmetic, by the number of arguments
 abbrev pub is_arithmetic_name : ℕ → Option ℕ → ℕ → Bool
 is_arithmetic_name name qualifier arity =
-    is_none qualifier && (((arity == 2) && not (is_none (operation_of name))) || ((arity == 1) && (name == 43)))
+    is_none qualifier && (((arity == 2) && not (is_none (operation_of name))) || ((arity == 1) && (name == minus_name)))
 
 -- terms that are put on a stack, the first at its top
 abbrev pub stacked : List Term → List Term → List Term

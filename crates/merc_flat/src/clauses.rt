@@ -7,10 +7,10 @@ ghost use Rattle.merc_flat.specs.Flat.{arity_of, goal_of};
 ghost use Rattle.merc_flat.specs.ClauseFaults.{form_fault_of, name_fault_of};
 
 use crate::faults::{form_fault, size_fault};
-use crate::unknown::{earlier, first_in_arguments, first_unknown, name_fault};
+use crate::unknown::{first_in_arguments, first_unknown, name_fault};
 use merc_base::{NoMemory, Refusal, Span};
 use merc_goal_tree::NodeRef;
-use merc_goals::{WrittenGoal, written_goal};
+use merc_goals::{WrittenGoal, earlier, number_behind, written_goal};
 use merc_known::Known;
 use merc_tree::{Clause, Term};
 use std::alloc::Global;
@@ -84,26 +84,6 @@ fn body_goal<'a>(
 ) -> Result<WrittenGoal<'a>, NoMemory>
     ensures { IfOk result (λ goal. goal ≡ written (arity_of clause.now + parts clause.now.head) body.now) }
 {
-    let at = body_number(clause)?;
+    let at = number_behind(arity_of(clause), &clause.head.as_ref())?;
     written_goal(alloc, &body.as_ref(), at)
-}
-
-// The number of a clause's body among its parts.
-#[tactic(auto, using(merc_goals::proofs::PartCounts::parts_shapes))]
-fn body_number(clause: &Clause) -> Result<usize, NoMemory>
-    ensures { IfOk result (λ number. number ≡ arity_of clause.now + parts clause.now.head) }
-{
-    let count = clause.head.as_ref().part_count();
-    let half = number_past(arity_of(clause), count)?;
-    number_past(half, count)
-}
-
-// A number so much further on.
-fn number_past(at: usize, more: usize) -> Result<usize, NoMemory>
-    ensures { IfOk result (λ number. number ≡ at + more) }
-{
-    match at.checked_add(more) {
-        Some(number) => Ok(number),
-        None => Err(NoMemory),
-    }
 }

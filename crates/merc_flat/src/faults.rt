@@ -1,14 +1,13 @@
 //! What is wrong with the form of a goal and its size.
 ghost use Rattle.std.specs.Prelude.{◌≡◌, IfOk};
-ghost use Rattle.merc_goals.specs.Faults.{place_of};
 ghost use Rattle.merc_flat.specs.GoalFaults.{comes_first, form_fault, limit_passed};
 ghost use Rattle.merc_flat.specs.Flat.{either_fault};
 ghost use Rattle.merc_flat.specs.SizeFaults.{first_of_two, size_fault, width_fault};
 
 use crate::counting::variable_count;
-use merc_base::{Detail, LimitName, NoMemory, Place, Refusal, Rule, Span};
+use merc_base::{Detail, LimitName, NoMemory, Refusal, Rule, Span};
 use merc_goal_tree::NodeRef;
-use merc_goals::WrittenGoal;
+use merc_goals::{WrittenGoal, place_of};
 use std::alloc::Global;
 
 /// The most variables of a clause or a goal.
@@ -93,16 +92,6 @@ fn limit_passed(limit: LimitName, span: Span) -> Refusal
         rule: Rule::LimitPassed,
         place: place_of(span),
         detail: Detail::Limit(limit),
-    }
-}
-
-/// Where a span begins.
-pub(crate) fn place_of(span: Span) -> Place
-    ensures { result ≡ place_of span }
-{
-    Place {
-        byte: span.first,
-        line: span.line,
     }
 }
 

@@ -10,7 +10,7 @@ use crate::clauses::{arity_of, clause_form_fault, clause_name_fault};
 use crate::faults::form_fault;
 use crate::unknown::{first_unknown, name_fault};
 use merc_answer_variables::answer_variables;
-use merc_base::{Fault, Names, Refusal, Sequence, Span};
+use merc_base::{Fault, Names, Refusal, Sequence};
 use merc_flat_form::{clause_form, goal_form};
 use merc_goal_tree::{NodeRef, Nodes};
 use merc_goals::{WrittenGoal, written_goal};
@@ -143,16 +143,6 @@ fn check_query(
     ensures faultless { OnOk result (asked_fault known.now goal.now flat.now ≡ None) }
     ensures refused { IfErr result (λ fault. IsRefusal (λ refusal. asked_fault known.now goal.now flat.now ≡ Some refusal) fault) }
 {
-    refuse(form_fault(alloc, 0, goal_span(goal), goal, flat)?)?;
+    refuse(form_fault(alloc, 0, goal.span(), goal, flat)?)?;
     refuse(name_fault(first_unknown(alloc, known, goal)?))
-}
-
-// Where a goal stands: where the entry of the whole stands, which is the first.
-fn goal_span(goal: &WrittenGoal<'_>) -> Span
-    ensures { result ≡ written_span goal.now }
-{
-    match goal.entries() {
-        [whole, ..] => whole.span,
-        [] => unreachable!(),
-    }
 }

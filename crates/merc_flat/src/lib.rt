@@ -5,8 +5,6 @@ mod clauses;
 mod counting;
 mod faults;
 mod flattening;
-#[cfg(test)]
-mod tests;
 mod unknown;
 
 pub use flattening::{Query, flatten, flatten_query};

@@ -7,10 +7,9 @@ ghost use Rattle.merc_flat_form.specs.FlatForm.{argument_terms};
 ghost use Rattle.merc_flat.specs.GoalFaults.{unknown, unknown_among, unknown_in};
 ghost use Rattle.merc_flat.specs.UnknownNames.{call_span, entries_unknown, entry_unknown, is_arithmetic_name, is_unknown, is_unknown_call, own_span, stacked, unknown_on, unknown_refusal};
 
-use crate::faults::place_of;
 use merc_base::{Detail, Name, NoMemory, Refusal, Rule, Span};
 use merc_flat_form::operation_of;
-use merc_goals::{Entry, Form, WrittenGoal};
+use merc_goals::{Entry, Form, WrittenGoal, earlier, place_of};
 use merc_known::Known;
 use merc_tree::{Shape, TermRef};
 use std::alloc::Global;
@@ -140,17 +139,6 @@ fn push_arguments<'a>(stack: &mut Vec<TermRef<'a>>, term: &TermRef<'a>) -> Resul
         stack.push(last)?;
     }
     Ok(())
-}
-
-// The one that begins earlier, the former where both begin at one byte.
-pub(crate) fn earlier(one: Option<Span>, other: Option<Span>) -> Option<Span>
-    ensures { result ≡ earlier one other }
-{
-    match (one, other) {
-        (None, other) => other,
-        (Some(one), None) => Some(one),
-        (Some(one), Some(other)) => Some(if one.first <= other.first { one } else { other }),
-    }
 }
 
 // Where a call stands that is of no predicate.

@@ -8,11 +8,12 @@ use Rattle.merc_goal_tree.specs.declared.goal.Comparison.{Comparison}
 use Rattle.merc_known.specs.declared.callee.Callee.{Callee}
 use Rattle.merc_known.specs.declared.callee.Callee.TheVariants.{Predicate, Error}
 use Rattle.merc_scopes.specs.declared.occurrence.Occurrence.{Occurrence}
-use Rattle.merc_flat_form.specs.declared.numbering.Numbered.{Numbered}
+use Rattle.merc_goals.specs.declared.numbers.Numbered.{Numbered}
 use Rattle.merc_flat_form.specs.declared.tasks.Task.{Task}
 use Rattle.merc_flat_form.specs.declared.tasks.Task.TheVariants.{Put}
 use Rattle.merc_flat_form.specs.FlatForm.{argument_terms, variable_at, variables_at, naming_all, call_of, called, compare, comparison_of, compared}
-use Rattle.merc_flat_form.specs.Numbering.{numbered_from, numbered_arguments, sides_of}
+use Rattle.merc_goals.specs.Numbers.{numbered_from}
+use Rattle.merc_flat_form.specs.Numbering.{numbered_arguments, sides_of}
 use Rattle.merc_flat_form.specs.Tasks.{argument_tasks, variable_for, performed, compared_plan}
 use Rattle.merc_flat_form.proofs.TaskLaws.{joined, arguments_named, variable-is, variables-are}
 

@@ -10,11 +10,12 @@ use Rattle.merc_goal_tree.specs.declared.goal.SimpleGoal.{SimpleGoal}
 use Rattle.merc_goal_tree.specs.declared.goal.SimpleGoal.TheVariants.{Same}
 use Rattle.merc_scopes.specs.declared.occurrence.Occurrence.{Occurrence}
 use Rattle.merc_scopes.specs.Scopes.{occurrences, occurrences_of}
-use Rattle.merc_flat_form.specs.declared.numbering.Numbered.{Numbered}
+use Rattle.merc_goals.specs.declared.numbers.Numbered.{Numbered}
 use Rattle.merc_flat_form.specs.declared.tasks.Task.{Task}
 use Rattle.merc_flat_form.specs.declared.tasks.Task.TheVariants.{Give, Put}
 use Rattle.merc_flat_form.specs.FlatForm.{argument_terms, variable_of, head_scope, head_goal, head_goals, naming}
-use Rattle.merc_flat_form.specs.Numbering.{numbered_from, numbered_arguments}
+use Rattle.merc_goals.specs.Numbers.{numbered_from}
+use Rattle.merc_flat_form.specs.Numbering.{numbered_arguments}
 use Rattle.merc_flat_form.specs.Tasks.{performed}
 use Rattle.merc_flat_form.specs.HeadTasks.{named, head_part, head_parts, head_same, head_task, head_tasks}
 use Rattle.merc_flat_form.proofs.TaskLaws.{joined, performed-append}

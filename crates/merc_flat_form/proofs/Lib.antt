@@ -8,3 +8,4 @@ pub mod FrameLaws
 pub mod TakingUp
 pub mod Walking
 pub mod WholeGoals
+pub mod MeaningLaws

@@ -3,6 +3,7 @@ use Rattle.std.proofs.Common.{◌≡◌, ℕ, suc, ◌+◌, ◌*◌, ◌≤◌, 
 use Rattle.std.proofs.lemmas.Bool.Decides.{nat_tests}
 use Rattle.std.proofs.lemmas.List.{append_assoc, append-nil, length-append}
 use Rattle.std.specs.Option.{is_none}
+use Rattle.merc_base.specs.Names.{minus_name}
 use Rattle.merc_base.specs.declared.place.Span.{Span}
 use Rattle.merc_tree.specs.Term.{Term, Terms, Variable, Integer, Text, Application, none, more, list_of}
 use Rattle.merc_tree.specs.Shape.{shape_of, arguments_of}
@@ -13,11 +14,12 @@ use Rattle.merc_goal_tree.specs.declared.goal.Symbol.TheVariants.{Constructor, I
 use Rattle.merc_goal_tree.specs.declared.goal.Operation.{Operation}
 use Rattle.merc_goal_tree.specs.declared.goal.Operation.TheVariants.{Subtract}
 use Rattle.merc_scopes.specs.declared.occurrence.Occurrence.{Occurrence}
-use Rattle.merc_flat_form.specs.declared.numbering.Numbered.{Numbered}
+use Rattle.merc_goals.specs.declared.numbers.Numbered.{Numbered}
 use Rattle.merc_flat_form.specs.declared.tasks.Task.{Task}
 use Rattle.merc_flat_form.specs.declared.tasks.Task.TheVariants.{Give, Put}
 use Rattle.merc_flat_form.specs.FlatForm.{variable_at, variables_at, applied, naming, naming_all, is_negation, operation_of}
-use Rattle.merc_flat_form.specs.Numbering.{numbered_from, numbered_arguments, is_negative}
+use Rattle.merc_goals.specs.Numbers.{numbered_from}
+use Rattle.merc_flat_form.specs.Numbering.{numbered_arguments, is_negative}
 use Rattle.merc_flat_form.specs.Tasks.{argument_task, argument_tasks, arithmetic, applied_plan, negative_plan, variable_for, goals_of_task, performed, application_by, plan}
 
 -- the last argument's task comes last of all, and so stands first
@@ -180,7 +182,7 @@ module _ (blank : ℕ → Bool) (scope : List Occurrence) where
   negation-is name qualifier at none = refl
   negation-is name qualifier at (more only none) = refl
   negation-is name qualifier at (more first (more second rest)) =
-      ap (λ one. one && (name == 43) && is_none qualifier) (not_one (length (numbered_from (at + parts first + parts second) (list_of rest))))
+      ap (λ one. one && (name == minus_name) && is_none qualifier) (not_one (length (numbered_from (at + parts first + parts second) (list_of rest))))
 
   plan_term : (variable at : ℕ) (term : Term) → performed blank scope (plan blank scope variable (record { term = term; at = at })) ≡ naming blank scope variable at term
   plan_term variable at (Variable name span) = refl

@@ -1,6 +1,7 @@
 -- The flat form of a goal: each argument and operand is a variable. A variable has the number of the part where it first stands in its scope, and a part
 -- that is no variable is named by the variable of its own number.
 use Rattle.std.specs.Prelude.{ℕ, ◌+◌, Bool, ◌==◌, ◌&&◌, ◌||◌, false, is_none, List, [], ◌∷◌, ◌++◌, map, length, Option, Some, None, unwrap_or, if◌then◌else◌, pos}
+use Rattle.merc_base.specs.Names.{at_least_name, at_most_name, div_name, greater_name, less_name, minus_name, mod_name, plus_name, rem_name, slash_slash_name, star_name}
 use Rattle.merc_base.specs.declared.place.Span.{Span}
 use Rattle.merc_tree.specs.Term.{Term, Terms, Variable, Integer, Text, Application, none, more, list_of}
 use Rattle.merc_goals.specs.Written.{Written, WrittenGoals, Truth, Failure, Equal, Compared, Called, Conjunction as WrittenConjunction, Parallel as WrittenParallel, Disjunction as WrittenDisjunction, Conditional as WrittenConditional, Negated, Quantified as WrittenQuantified, no_goals, more_goals, parts, written, written_span}
@@ -19,28 +20,28 @@ use Rattle.merc_scopes.specs.Scopes.{at_of, introduced, occurrence, occurrences}
 
 -- `- E`
 abbrev pub is_negation : ℕ → Option ℕ → Terms → Bool
-is_negation name qualifier (more only none) = (name == 43) && is_none qualifier
+is_negation name qualifier (more only none) = (name == minus_name) && is_none qualifier
 is_negation name qualifier other = false
 
 -- `+` `-` `*` `//` `div` `mod` `rem`
 abbrev pub operation_of : ℕ → Option Operation
 operation_of name =
-    if name == 42 then Some Add
-    else if name == 43 then Some Subtract
-    else if name == 44 then Some Multiply
-    else if name == 45 then Some Quotient
-    else if name == 46 then Some Div
-    else if name == 47 then Some Mod
-    else if name == 48 then Some Rem
+    if name == plus_name then Some Add
+    else if name == minus_name then Some Subtract
+    else if name == star_name then Some Multiply
+    else if name == slash_slash_name then Some Quotient
+    else if name == div_name then Some Div
+    else if name == mod_name then Some Mod
+    else if name == rem_name then Some Rem
     else None
 
 -- `<` `>` `=<` `>=`
 abbrev pub comparison_of : ℕ → Option Comparison
 comparison_of name =
-    if name == 38 then Some Less
-    else if name == 39 then Some Greater
-    else if name == 40 then Some AtMost
-    else if name == 41 then Some AtLeast
+    if name == less_name then Some Less
+    else if name == greater_name then Some Greater
+    else if name == at_most_name then Some AtMost
+    else if name == at_least_name then Some AtLeast
     else None
 
 -- the comparison of two variables, none for a name that is no comparison's

@@ -6,7 +6,7 @@ use Rattle.merc_tree.specs.declared.term.Shape.TheVariants.{Variable as Variable
 use Rattle.merc_goal_tree.specs.declared.goal.SimpleGoal.TheVariants.{Same}
 use Rattle.merc_scopes.specs.declared.occurrence.Occurrence.{Occurrence}
 use Rattle.merc_scopes.specs.Scopes.{occurrence, occurrences}
-use Rattle.merc_flat_form.specs.declared.numbering.Numbered.{Numbered}
+use Rattle.merc_goals.specs.declared.numbers.Numbered.{Numbered}
 use Rattle.merc_flat_form.specs.declared.tasks.Task.{Task}
 use Rattle.merc_flat_form.specs.declared.tasks.Task.TheVariants.{Give, Put}
 use Rattle.merc_flat_form.specs.FlatForm.{variable_of}

@@ -1,14 +1,10 @@
 -- Terms with their numbers among the parts of a text.
-use Rattle.std.specs.Prelude.{ℕ, ◌+◌, Bool, true, false, ◌==◌, ◌&&◌, List, [], ◌∷◌}
+use Rattle.std.specs.Prelude.{ℕ, ◌+◌, Bool, true, false, ◌==◌, ◌&&◌, List}
+use Rattle.merc_base.specs.Names.{minus_name}
 use Rattle.merc_tree.specs.Term.{Term, Variable, Integer, Text, Application}
 use Rattle.merc_tree.specs.Shape.{arguments_of}
-use Rattle.merc_goals.specs.Written.{parts}
-use Rattle.merc_flat_form.specs.declared.numbering.Numbered.{Numbered}
-
--- terms one after the other, of which the first has this number
-abbrev pub numbered_from : ℕ → List Term → List Numbered
-numbered_from at [] = []
-numbered_from at (first ∷ rest) = record { term = first; at = at } ∷ numbered_from (at + parts first) rest
+use Rattle.merc_goals.specs.Numbers.{left_of, numbered_from, right_of}
+use Rattle.merc_goals.specs.declared.numbers.Numbered.{Numbered}
 
 -- the arguments of a term
 abbrev pub numbered_arguments : Numbered → List Numbered
@@ -16,7 +12,7 @@ numbered_arguments whole = numbered_from (whole.at + 2) (arguments_of whole.term
 
 -- both sides of the goal with this number
 abbrev pub sides_of : ℕ → Term → Term → Numbered × Numbered
-sides_of at left right = (record { term = left; at = at + 2 }, record { term = right; at = at + 2 + parts left })
+sides_of at left right = (left_of at left, right_of at left right)
 
 abbrev pub is_variable : Term → Bool
 is_variable (Variable name span) = true
@@ -26,4 +22,4 @@ is_variable (Application name qualifier arguments span) = false
 
 -- `- E`, where there are so many arguments
 abbrev pub is_negative : ℕ → Bool → ℕ → Bool
-is_negative name plain count = (count == 1) && (name == 43) && plain
+is_negative name plain count = (count == 1) && (name == minus_name) && plain

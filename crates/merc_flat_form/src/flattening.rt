@@ -16,12 +16,12 @@ use crate::heads::{head_goals, head_scope};
 use crate::opening::{conjunction_frame, frame_of, open, open_conditional, open_quantified};
 use crate::scope_stack::ScopeStack;
 use crate::simple::{put_all, put_simple};
-use merc_base::{Names, NoMemory, Sequence, Span};
+use merc_base::{Names, NoMemory, Sequence};
 use merc_goal_tree::Nodes;
-use merc_goals::{Entry, Form, WrittenGoal, written_goal};
+use merc_goals::{Entry, Form, WrittenGoal, number_behind, written_goal};
 use merc_known::Known;
 use merc_scopes::{Occurrence, bindings};
-use merc_tree::{Clause, TermRef};
+use merc_tree::Clause;
 use std::alloc::Global;
 
 /// Puts the flat form of a goal behind other goals, as one goal. In it these names of variables stand for the numbers
@@ -42,12 +42,10 @@ pub fn goal_form(
     ensures { OnOk result (nodes.new ≡ nodes.old ++ one_goal (written_span goal.now) (flat (is_blank names.now) (callee_in known.now) scope.now goal.now) ∷ []) }
 {
     let found = bindings(alloc, goal, names)?;
-    let mut stack = ScopeStack::new(alloc);
-    stack.enter()?;
-    stack.bind_over(scope)?;
+    let mut stack = ScopeStack::of(alloc, scope)?;
     let start = nodes.len();
     flatten(alloc, goal, &found, &mut stack, known, names, nodes)?;
-    make_one(nodes, start, span_of(goal))
+    make_one(nodes, start, goal.span())
 }
 
 /// Puts the flat form of a clause behind other goals, as one goal: the unifications of its head, then those of its body.
@@ -65,9 +63,7 @@ pub fn clause_form(
     let head = clause.head.as_ref();
     let start = nodes.len();
     let scope = head_scope(alloc, names, at, &head)?;
-    let mut stack = ScopeStack::new(alloc);
-    stack.enter()?;
-    stack.bind_over(&scope)?;
+    let mut stack = ScopeStack::of(alloc, &scope)?;
     let goals = head_goals(alloc, &stack, names, at, &head)?;
     put_all(nodes, goals, clause.span)?;
     put_body(alloc, clause, at, &mut stack, known, names, nodes)?;
@@ -158,35 +154,5 @@ fn take_up(
         Form::Conditional => open_conditional(span, start, found, frames, stack),
         Form::Quantified(_) => open_quantified(alloc, span, start, found, frames, stack),
         _ => put_simple(alloc, entry, found, keeps, stack, known, names, nodes),
-    }
-}
-
-// Where a goal stands in its text.
-fn span_of(goal: &WrittenGoal<'_>) -> Span
-    ensures { result ≡ written_span goal.now }
-{
-    match goal.entries().first() {
-        Some(entry) => entry.span,
-        None => unreachable!(),
-    }
-}
-
-// The number of the part behind those of a term.
-#[tactic(auto, using(merc_goals::proofs::PartCounts::parts_shapes))]
-fn number_behind(at: usize, term: &TermRef<'_>) -> Result<usize, NoMemory>
-    ensures { IfOk result (λ number. number ≡ at + parts term.now) }
-{
-    let count = term.part_count();
-    let half = number_past(at, count)?;
-    number_past(half, count)
-}
-
-// A number so much further on. No memory holds a text whose parts have greater numbers.
-fn number_past(at: usize, more: usize) -> Result<usize, NoMemory>
-    ensures { IfOk result (λ number. number ≡ at + more) }
-{
-    match at.checked_add(more) {
-        Some(number) => Ok(number),
-        None => Err(NoMemory),
     }
 }

@@ -6,11 +6,12 @@ ghost use Rattle.merc_flat_form.specs.Levels.{scope_of};
 ghost use Rattle.merc_flat_form.specs.FlatForm.{argument_terms, head_goals, head_scope};
 ghost use Rattle.merc_flat_form.specs.HeadTasks.{head_part, head_parts, head_same, head_task, head_tasks, named};
 
-use crate::numbering::{Numbered, numbered_arguments};
+use crate::numbering::numbered_arguments;
 use crate::scope_stack::ScopeStack;
 use crate::tasks::{Task, give, perform, put, variable_of};
 use merc_base::{Name, Names, NoMemory};
 use merc_goal_tree::{SimpleGoal, Var};
+use merc_goals::Numbered;
 use merc_scopes::{Occurrence, is_blank};
 use merc_tree::{Shape, TermRef};
 use std::alloc::Global;

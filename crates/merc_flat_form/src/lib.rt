@@ -6,16 +6,12 @@ mod flattening;
 mod frames;
 mod heads;
 mod naming;
-#[cfg(test)]
-mod naming_tests;
 mod numbering;
 mod opening;
 mod operations;
 mod scope_stack;
 mod simple;
 mod tasks;
-#[cfg(test)]
-mod tests;
 
 pub use flattening::{clause_form, goal_form};
 pub use operations::{comparison_of, operation_of};

@@ -1,12 +1,12 @@
 //! The goals by which variables have the values of terms.
-ghost use Rattle.std.specs.Prelude.{◌≡◌, ◌+◌, ◌++◌, map, OnOk, IfOk};
+ghost use Rattle.std.specs.Prelude.{◌≡◌, [], ◌∷◌, ◌++◌, map, OnOk, IfOk};
 ghost use Rattle.merc_scopes.specs.Scopes.{is_blank};
 ghost use Rattle.merc_flat_form.specs.Levels.{scope_of};
 ghost use Rattle.merc_flat_form.specs.FlatForm.{argument_terms, call_of, called, compare, compared, comparison_of, equal};
 ghost use Rattle.merc_flat_form.specs.Numbering.{sides_of};
-ghost use Rattle.merc_flat_form.specs.Tasks.{compared_plan, equal_plan};
+ghost use Rattle.merc_flat_form.specs.Tasks.{argument_tasks, compared_plan, equal_plan};
 
-use crate::numbering::{Numbered, is_variable, number_behind, number_past, numbered_arguments};
+use crate::numbering::{is_variable, numbered_arguments};
 use crate::operations::comparison_of;
 use crate::scope_stack::ScopeStack;
 use crate::tasks::{
@@ -14,6 +14,7 @@ use crate::tasks::{
 };
 use merc_base::{Name, Names, NoMemory};
 use merc_goal_tree::{SimpleGoal, Var, Vars};
+use merc_goals::{Numbered, left_of, right_of};
 use merc_known::Callee;
 use merc_tree::TermRef;
 use std::alloc::Global;
@@ -84,16 +85,8 @@ fn sides<'a>(
 ) -> Result<(Numbered<'a>, Numbered<'a>), NoMemory>
     ensures { IfOk result (λ both. both ≡ sides_of at left.now right.now) }
 {
-    let first = number_past(at, 2)?;
-    let second = number_behind(first, left)?;
-    let left = Numbered {
-        term: left.copy(),
-        at: first,
-    };
-    let right = Numbered {
-        term: right.copy(),
-        at: second,
-    };
+    let right = right_of(at, left, right.copy())?;
+    let left = left_of(at, left.copy())?;
     Ok((left, right))
 }
 
@@ -134,6 +127,17 @@ fn plan_compared<'a>(
     let first = variable_for(stack, names, &left);
     let second = variable_for(stack, names, &right);
     put_comparison(tasks, name, first, second)?;
+    push_sides(tasks, left, right)
+}
+
+// Both sides of a comparison get their values, the left one first.
+fn push_sides<'a>(
+    tasks: &mut Vec<Task<'a>>,
+    left: Numbered<'a>,
+    right: Numbered<'a>,
+) -> Result<(), NoMemory>
+    ensures { OnOk result (tasks.new.items ≡ tasks.old.items ++ argument_tasks (left.entry ∷ right.entry ∷ [])) }
+{
     push_argument(tasks, right)?;
     push_argument(tasks, left)
 }

@@ -1,5 +1,5 @@
 //! What the names of variables stand for, goal within goal.
-ghost use Rattle.std.specs.Prelude.{◌≡◌, ◌<◌, [], ◌∷◌, length, drop, ℕ, OnOk, IsSome, if◌then◌else◌, ◌==◌};
+ghost use Rattle.std.specs.Prelude.{◌≡◌, ◌<◌, [], ◌∷◌, length, drop, ℕ, IfOk, OnOk, IsSome, if◌then◌else◌, ◌==◌};
 ghost use Rattle.std.specs.Ordering.{nat_cmp};
 ghost use Rattle.std.specs.BTreeMap.{get};
 ghost use Rattle.merc_scopes.specs.Scopes.{at_of, occurrence};
@@ -57,6 +57,16 @@ impl ScopeStack {
             current: BTreeMap::new(alloc),
             changes: Vec::new(alloc),
         }
+    }
+
+    /// One level, in which these names stand for the numbers beside them. The first of a name counts.
+    pub(crate) fn of(alloc: Global, scope: &[Occurrence]) -> Result<ScopeStack, NoMemory>
+        ensures { IfOk result (λ stack. (name : ℕ) → shown name stack ≡ at_of name scope.now) }
+    {
+        let mut stack = ScopeStack::new(alloc);
+        stack.enter()?;
+        stack.bind_over(scope)?;
+        Ok(stack)
     }
 
     /// What a name stands for, None where no level gives it a meaning.

@@ -6,11 +6,12 @@ ghost use Rattle.merc_flat_form.specs.FlatForm.{operation_of, variable_of};
 ghost use Rattle.merc_flat_form.specs.Numbering.{is_negative};
 ghost use Rattle.merc_flat_form.specs.Tasks.{applied_plan, argument_task, argument_tasks, arithmetic, negative_plan, performed, plan, variable_for};
 
-use crate::numbering::{Numbered, is_variable, number_past, numbered_arguments};
+use crate::numbering::{is_variable, numbered_arguments};
 use crate::operations::operation_of;
 use crate::scope_stack::ScopeStack;
 use merc_base::{Name, Names, NoMemory};
 use merc_goal_tree::{Operation, SimpleGoal, Symbol, Var, Vars};
+use merc_goals::{Numbered, number_past};
 use merc_scopes::is_blank;
 use merc_tree::Shape;
 use std::alloc::Global;

@@ -5,9 +5,9 @@ use Rattle.merc_base.specs.declared.place.Span.{Span}
 use Rattle.merc_goal_tree.specs.declared.goal.SimpleGoal.TheVariants.{Call}
 use Rattle.merc_goal_tree.specs.declared.entries.Entry.{Entry}
 use Rattle.merc_goal_tree.specs.declared.entries.Root.{Root}
-use Rattle.merc_goal_tree.specs.declared.entries.Root.TheVariants.{Simple as SimpleRoot, Conjunction as ConjunctionRoot, Disjunction as DisjunctionRoot, Conditional as ConditionalRoot, Negation as NegationRoot, Quantified as QuantifiedRoot}
-use Rattle.merc_goal_tree.specs.declared.node_ref.NodeView.TheVariants.{Conjunction as ConjunctionView, Parallel as ParallelView}
-use Rattle.merc_goal_tree.specs.Nodes.{Node, Simple, Conjunction, Disjunction, Conditional, Negation, Quantified, no_nodes, more_nodes}
+use Rattle.merc_goal_tree.specs.declared.entries.Root.TheVariants.{Simple as SimpleRoot, Conjunction as ConjunctionRoot, Parallel as ParallelRoot, Disjunction as DisjunctionRoot, Conditional as ConditionalRoot, Negation as NegationRoot, Quantified as QuantifiedRoot}
+use Rattle.merc_goal_tree.specs.declared.node_ref.NodeView.TheVariants.{Conjunction as ConjunctionView, Parallel as ParallelView, Disjunction as DisjunctionView, Conditional as ConditionalView, Negation as NegationView}
+use Rattle.merc_goal_tree.specs.Nodes.{Node, Simple, Conjunction, Parallel, Disjunction, Conditional, Negation, Quantified, no_nodes, more_nodes}
 use Rattle.merc_goal_tree.specs.Roots.{root_of, goals_of, arity_of, joining, joined}
 use Rattle.merc_goal_tree.specs.Parts.{parts_of}
 use Rattle.merc_goal_tree.specs.Views.{viewed}
@@ -73,6 +73,12 @@ joined-example = refl
 pub joined-all : joined (DisjunctionRoot 2) (at 5) (both ∷ not_c ∷ []) ≡ choice ∷ []
 joined-all = refl
 
+pub joined-parallel : joined (ParallelRoot 2) (at 3) (c ∷ a ∷ b ∷ []) ≡ c ∷ Parallel (more_nodes a (more_nodes b no_nodes)) (at 3) ∷ []
+joined-parallel = refl
+
+pub joined-quantified : joined (QuantifiedRoot (7 ∷ [])) (at 4) (a ∷ c ∷ []) ≡ a ∷ Quantified (7 ∷ []) c (at 4) ∷ []
+joined-quantified = refl
+
 pub joined-not : joined (ConjunctionRoot 2) (at 3) (c ∷ a ∷ b ∷ []) ≡ c ∷ Conjunction (more_nodes b (more_nodes a no_nodes)) (at 3) ∷ [] → ⊥
 joined-not backwards = cc
 
@@ -81,6 +87,15 @@ joined-not backwards = cc
 pub parts_of-example : parts_of choice
     ≡ (SimpleRoot (Call 0 []), at 0) ∷ (SimpleRoot (Call 1 []), at 1) ∷ (ConjunctionRoot 2, at 3) ∷ (SimpleRoot (Call 2 []), at 2) ∷ (NegationRoot, at 4) ∷ (DisjunctionRoot 2, at 5) ∷ []
 parts_of-example = refl
+
+pub parts_of-conditional : parts_of (Conditional c a b (at 5)) ≡ (SimpleRoot (Call 2 []), at 2) ∷ (SimpleRoot (Call 0 []), at 0) ∷ (SimpleRoot (Call 1 []), at 1) ∷ (ConditionalRoot, at 5) ∷ []
+parts_of-conditional = refl
+
+pub parts_of-parallel : parts_of (Parallel (more_nodes a (more_nodes b no_nodes)) (at 3)) ≡ (SimpleRoot (Call 0 []), at 0) ∷ (SimpleRoot (Call 1 []), at 1) ∷ (ParallelRoot 2, at 3) ∷ []
+parts_of-parallel = refl
+
+pub parts_of-quantified : parts_of (Quantified (7 ∷ 8 ∷ []) c (at 4)) ≡ (SimpleRoot (Call 2 []), at 2) ∷ (QuantifiedRoot (7 ∷ 8 ∷ []), at 4) ∷ []
+parts_of-quantified = refl
 
 pub parts_of-not : parts_of not_c ≡ (NegationRoot, at 4) ∷ (SimpleRoot (Call 2 []), at 2) ∷ [] → ⊥
 parts_of-not root_first =
@@ -91,6 +106,15 @@ parts_of-not root_first =
 
 pub viewed-example : viewed (ConjunctionView (a ∷ b ∷ [])) (at 3) ≡ both
 viewed-example = refl
+
+pub viewed-disjunction : viewed (DisjunctionView (both ∷ not_c ∷ [])) (at 5) ≡ choice
+viewed-disjunction = refl
+
+pub viewed-conditional : viewed (ConditionalView c a b) (at 5) ≡ Conditional c a b (at 5)
+viewed-conditional = refl
+
+pub viewed-negation : viewed (NegationView c) (at 4) ≡ not_c
+viewed-negation = refl
 
 pub viewed-not : viewed (ParallelView (a ∷ b ∷ [])) (at 3) ≡ both → ⊥
 viewed-not same = cc

@@ -5,8 +5,6 @@ mod entries;
 pub mod goal;
 pub mod node_ref;
 pub mod nodes;
-#[cfg(test)]
-mod tests;
 
 pub use entries::Root;
 pub use goal::{Comparison, Operation, Predicate, SimpleGoal, Symbol, Var, Vars};

@@ -1,13 +1,15 @@
 -- The members of a chain are the sub-goals of one list.
 use Rattle.std.proofs.Common.{◌≡◌, ℕ, ◌+◌, ◌==◌, ◌||◌, Bool, true, false, List, [], ◌∷◌, ◌++◌, map, Option, Some, None, if◌then◌else◌, refl, ap, sym, ◌∙◌}
+use Rattle.merc_base.specs.Names.{arrow_name, fail_name, false_name, if_name, not_name, not_provable_name, true_name}
 use Rattle.merc_base.specs.declared.place.Span.{Span}
 use Rattle.merc_tree.specs.Term.{Term, Variable, Integer, Text, Application, none, more}
 use Rattle.merc_goals.specs.Written.{Written, WrittenGoals, no_goals, more_goals, Truth, Failure, Equal, Compared, Called, Conjunction, Parallel, Disjunction, Conditional, Negated, Quantified, WrongForm, OutsideProfile, parts, joined, conjuncts, parallel_conjuncts, disjuncts, listed_variables, quantified, conditional, written}
 use Rattle.merc_goals.specs.Entries.{goals_of}
 use Rattle.merc_goals.specs.Roles.{role_of}
-use Rattle.merc_goals.specs.Links.{left_of, right_of, sides, condition_sides, joins, chain}
+use Rattle.merc_goals.specs.Numbers.{left_of, right_of}
+use Rattle.merc_goals.specs.Links.{sides, condition_sides, joins, chain}
 use Rattle.merc_goals.proofs.RoleLaws.{by_role, goal_at, goals_at, is_some, arrow_parts-sides, is_arrow-parts, written-by_role}
-use Rattle.merc_goals.specs.declared.links.Numbered.{Numbered}
+use Rattle.merc_goals.specs.declared.numbers.Numbered.{Numbered}
 use Rattle.merc_goals.specs.declared.roles.ChainKind.{ChainKind}
 use Rattle.merc_goals.specs.declared.roles.ChainKind.TheVariants.{Conjuncts, ParallelConjuncts, Disjuncts}
 use Rattle.merc_goals.specs.declared.roles.Role.{Role}
@@ -135,15 +137,15 @@ chain_goals kind at (Integer value span) = refl
 chain_goals kind at (Text text span) = refl
 chain_goals kind at (Application name None none span) =
     let call : Written = Called at name None none span in
-    only_if kind (name == 51) (Truth span) (if (name == 52) || (name == 53) then Failure span else call) refl
-    (only_if kind ((name == 52) || (name == 53)) (Failure span) call refl refl)
+    only_if kind (name == true_name) (Truth span) (if (name == fail_name) || (name == false_name) then Failure span else call) refl
+    (only_if kind ((name == fail_name) || (name == false_name)) (Failure span) call refl refl)
 chain_goals kind at (Application name None (more first none) span) =
     let call : Written = Called at name None (more first none) span in
-    only_if kind ((name == 31) || (name == 32)) (Negated (written (at + 2) first) span) (if name == 21 then WrongForm span else call) refl
-    (only_if kind (name == 21) (WrongForm span) call refl refl)
+    only_if kind ((name == not_name) || (name == not_provable_name)) (Negated (written (at + 2) first) span) (if name == if_name then WrongForm span else call) refl
+    (only_if kind (name == if_name) (WrongForm span) call refl refl)
 chain_goals kind at (Application name None (more left (more right none)) span) =
     let self : Numbered = record { term = Application name None (more left (more right none)) span; at = at } in
-    let arrow = goals_at (sides 24 (left_of at left)) in
+    let arrow = goals_at (sides arrow_name (left_of at left)) in
     let front = chain kind (at + 2) left in
     let back = chain kind (at + 2 + parts left) right in
     let is = written-by_role at name left right span in

@@ -1,12 +1,14 @@
 -- A chain is taken apart link by link, with a stack.
 use Rattle.std.proofs.Common.{◌≡◌, ℕ, ◌+◌, ◌≤◌, ◌<◌, ◌==◌, Bool, true, false, List, [], ◌∷◌, ◌++◌, Option, Some, None, if◌then◌else◌, refl, ap, sym, subst, ◌∙◌, arith}
 use Rattle.std.proofs.lemmas.List.{append_assoc, append-nil}
+use Rattle.merc_base.specs.Names.{if_name, then_name}
 use Rattle.merc_base.specs.declared.place.Span.{Span}
 use Rattle.merc_tree.specs.Term.{Term, Variable, Integer, Text, Application, none, more}
 use Rattle.merc_goals.specs.Written.{parts}
 use Rattle.merc_goals.specs.Roles.{role_of}
-use Rattle.merc_goals.specs.Links.{left_of, sides_of, sides, condition_sides, is_joined, link_of, chain}
-use Rattle.merc_goals.specs.declared.links.Numbered.{Numbered}
+use Rattle.merc_goals.specs.Numbers.{left_of}
+use Rattle.merc_goals.specs.Links.{sides_of, sides, condition_sides, is_joined, link_of, chain}
+use Rattle.merc_goals.specs.declared.numbers.Numbered.{Numbered}
 use Rattle.merc_goals.specs.declared.links.Both.{Both}
 use Rattle.merc_goals.specs.declared.roles.ChainKind.{ChainKind}
 
@@ -111,8 +113,8 @@ condition_less at (Integer value span) = tt
 condition_less at (Text text span) = tt
 condition_less at (Application name None none span) = tt
 condition_less at (Application name None (more only none) span) =
-    less_or (name == 21) (parts (Application name None (more only none) span)) (sides 22 (left_of at only))
-    (less_more (parts only) (parts (Application name None (more only none) span)) (sides 22 (left_of at only)) (omega arith) (sides_less 22 (at + 2) only))
+    less_or (name == if_name) (parts (Application name None (more only none) span)) (sides then_name (left_of at only))
+    (less_more (parts only) (parts (Application name None (more only none) span)) (sides then_name (left_of at only)) (omega arith) (sides_less then_name (at + 2) only))
 condition_less at (Application name None (more left (more right none)) span) = tt
 condition_less at (Application name None (more first (more second (more third rest))) span) = tt
 condition_less at (Application name (Some qualifier) arguments span) = tt

@@ -7,3 +7,4 @@ pub mod Writing
 pub mod PlanWriting
 pub mod PlanSizes
 pub mod Lists
+pub mod EntryLaws

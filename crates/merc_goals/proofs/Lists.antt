@@ -2,6 +2,7 @@
 use Rattle.std.proofs.Common.{◌≡◌, ℕ, ◌<◌, ◌==◌, Bool, true, false, List, [], ◌∷◌, ◌++◌, Option, Some, None, if◌then◌else◌, refl, ap, sym, subst, ◌∙◌, arith}
 use Rattle.std.proofs.lemmas.List.{append_assoc}
 use Rattle.std.specs.Option.{option_map}
+use Rattle.merc_base.specs.Names.{cons_name, nil_name}
 use Rattle.merc_tree.specs.Term.{Term, Variable, Integer, Text, Application, none, more}
 use Rattle.merc_operands.specs.Operands.{plain_name}
 use Rattle.merc_goals.specs.Written.{parts, listed_variables}
@@ -23,7 +24,7 @@ behind-behind front back (Some others) = ap Some (sym (append_assoc front back o
 
 abbrev pub if_nil : Option ℕ → Option (List ℕ)
 if_nil None = None
-if_nil (Some name) = if name == 1 then Some [] else None
+if_nil (Some name) = if name == nil_name then Some [] else None
 
 -- the variables where the list begins with a cell, and where it does not
 abbrev pub variables_by : Term → Option Cell → Option (List ℕ)
@@ -50,13 +51,13 @@ variables-by (Application name None (more (Integer value place) none) span) = re
 variables-by (Application name None (more (Text text place) none) span) = refl
 variables-by (Application name None (more (Application other qualifier arguments place) none) span) = refl
 variables-by (Application name None (more (Variable variable place) (more rest none)) span) =
-    cell_if (name == 2) (Application name None (more (Variable variable place) (more rest none)) span) rest variable refl
+    cell_if (name == cons_name) (Application name None (more (Variable variable place) (more rest none)) span) rest variable refl
 variables-by (Application name None (more (Integer value place) (more rest none)) span) =
-    no_cell (name == 2) (Application name None (more (Integer value place) (more rest none)) span) refl
+    no_cell (name == cons_name) (Application name None (more (Integer value place) (more rest none)) span) refl
 variables-by (Application name None (more (Text text place) (more rest none)) span) =
-    no_cell (name == 2) (Application name None (more (Text text place) (more rest none)) span) refl
+    no_cell (name == cons_name) (Application name None (more (Text text place) (more rest none)) span) refl
 variables-by (Application name None (more (Application other qualifier arguments place) (more rest none)) span) =
-    no_cell (name == 2) (Application name None (more (Application other qualifier arguments place) (more rest none)) span) refl
+    no_cell (name == cons_name) (Application name None (more (Application other qualifier arguments place) (more rest none)) span) refl
 variables-by (Application name None (more (Variable variable place) (more second (more third rest))) span) = refl
 variables-by (Application name None (more (Integer value place) (more second (more third rest))) span) = refl
 variables-by (Application name None (more (Text text place) (more second (more third rest))) span) = refl
@@ -82,10 +83,10 @@ cell_less (Text text span) = tt
 cell_less (Application name None none span) = tt
 cell_less (Application name None (more only none) span) = tt
 cell_less (Application name None (more (Variable variable place) (more rest none)) span) =
-    less_if (name == 2) (parts (Application name None (more (Variable variable place) (more rest none)) span)) (record { variable = variable; rest = rest }) (omega arith)
-cell_less (Application name None (more (Integer value place) (more rest none)) span) = none_less (name == 2) _
-cell_less (Application name None (more (Text text place) (more rest none)) span) = none_less (name == 2) _
-cell_less (Application name None (more (Application other qualifier arguments place) (more rest none)) span) = none_less (name == 2) _
+    less_if (name == cons_name) (parts (Application name None (more (Variable variable place) (more rest none)) span)) (record { variable = variable; rest = rest }) (omega arith)
+cell_less (Application name None (more (Integer value place) (more rest none)) span) = none_less (name == cons_name) _
+cell_less (Application name None (more (Text text place) (more rest none)) span) = none_less (name == cons_name) _
+cell_less (Application name None (more (Application other qualifier arguments place) (more rest none)) span) = none_less (name == cons_name) _
 cell_less (Application name None (more first (more second (more third rest))) span) = tt
 cell_less (Application name (Some qualifier) arguments span) = tt
 

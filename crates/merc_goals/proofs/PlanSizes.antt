@@ -1,14 +1,16 @@
 -- The plan of a term is smaller than the task to read it.
 use Rattle.std.proofs.Common.{◌≡◌, ℕ, ◌+◌, ◌*◌, ◌≤◌, ◌<◌, ◌==◌, ◌||◌, Bool, true, false, not, List, [], ◌∷◌, ◌++◌, map, Option, Some, None, if◌then◌else◌, refl, ap, ◌∙◌, arith}
+use Rattle.merc_base.specs.Names.{arrow_name, fail_name, false_name, if_name, not_name, not_provable_name, true_name}
 use Rattle.merc_base.specs.declared.place.Span.{Span}
 use Rattle.merc_tree.specs.Term.{Term, Variable, Integer, Text, Application, none, more}
 use Rattle.merc_goals.specs.Written.{parts, listed_variables}
 use Rattle.merc_goals.specs.Roles.{role_of}
-use Rattle.merc_goals.specs.Links.{left_of, right_of, sides_of, sides, condition_sides, is_arrow, joins, chain}
+use Rattle.merc_goals.specs.Numbers.{left_of, right_of}
+use Rattle.merc_goals.specs.Links.{sides_of, sides, condition_sides, is_arrow, joins, chain}
 use Rattle.merc_goals.specs.Plans.{plan, plain_plan, call_plan, two_plan, arrow_plan, if_plan, some_by, all_by}
 use Rattle.merc_goals.proofs.RoleLaws.{goals_at, is_some, arrow_parts-sides, is_arrow-parts}
 use Rattle.merc_goals.proofs.ChainLaws.{parts_all, parts_some, AreLess, sides_less, condition_less, joined_less}
-use Rattle.merc_goals.specs.declared.links.Numbered.{Numbered}
+use Rattle.merc_goals.specs.declared.numbers.Numbered.{Numbered}
 use Rattle.merc_goals.specs.declared.links.Both.{Both}
 use Rattle.merc_goals.specs.declared.planning.Task.{Task}
 use Rattle.merc_goals.specs.declared.planning.Task.TheVariants.{Read, Put}
@@ -59,7 +61,7 @@ module _ (start : ℕ) (whole : Numbered) (left right : Numbered) (size : ℕ) (
   all_less span (Some variables) = omega (arith, parts_some left.term)
 
 -- the first side of `;` is no `C -> T` where it has no such sides
-no_arrow : (at : ℕ) (left : Term) → sides 24 (left_of at left) ≡ None → is_arrow left ≡ false
+no_arrow : (at : ℕ) (left : Term) → sides arrow_name (left_of at left) ≡ None → is_arrow left ≡ false
 no_arrow at left is = is_arrow-parts (at + 2) left ∙ ap is_some (arrow_parts-sides (at + 2) left ∙ ap goals_at is)
 
 module _ (start at name : ℕ) (left right : Term) (span : Span) where
@@ -71,7 +73,7 @@ module _ (start at name : ℕ) (left right : Term) (span : Span) where
   two_less ConjunctionRole small = omega (arith, small Conjuncts refl, total-members (chain Conjuncts whole.at whole.term))
   two_less ParallelRole small = omega (arith, small ParallelConjuncts refl, total-members (chain ParallelConjuncts whole.at whole.term))
   two_less DisjunctionRole small =
-      alternatives_less start whole (left_of at left) (right_of at left right) (parts whole.term) (omega arith) (sides 24 (left_of at left)) (sides_less 24 (at + 2) left)
+      alternatives_less start whole (left_of at left) (right_of at left right) (parts whole.term) (omega arith) (sides arrow_name (left_of at left)) (sides_less arrow_name (at + 2) left)
       (λ is. small Disjuncts (ap not (no_arrow at left is)))
   two_less Else small =
       else_less start whole (left_of at left) (right_of at left right) (parts whole.term) (omega arith) span (condition_sides (left_of at left)) (condition_less (at + 2) left)
@@ -90,14 +92,14 @@ term_less start at (Integer value span) = omega arith
 term_less start at (Text text span) = omega arith
 term_less start at (Application name None none span) =
     let call : List Task = call_plan start (record { term = Application name None none span; at = at }) in
-    less_if (name == 51) 4 (plain_plan start TruthForm span) (if (name == 52) || (name == 53) then plain_plan start FailureForm span else call) (omega arith)
-    (less_if ((name == 52) || (name == 53)) 4 (plain_plan start FailureForm span) call (omega arith) (omega arith))
+    less_if (name == true_name) 4 (plain_plan start TruthForm span) (if (name == fail_name) || (name == false_name) then plain_plan start FailureForm span else call) (omega arith)
+    (less_if ((name == fail_name) || (name == false_name)) 4 (plain_plan start FailureForm span) call (omega arith) (omega arith))
 term_less start at (Application name None (more only none) span) =
     let size = 2 * parts (Application name None (more only none) span) in
     let call : List Task = call_plan start (record { term = Application name None (more only none) span; at = at }) in
     let goal : List Task = Put NegatedForm 0 span start ∷ Read (left_of at only) ∷ [] in
-    less_if ((name == 31) || (name == 32)) size goal (if name == 21 then plain_plan start NoForm span else call) (omega arith)
-    (less_if (name == 21) size (plain_plan start NoForm span) call (omega arith) (omega arith))
+    less_if ((name == not_name) || (name == not_provable_name)) size goal (if name == if_name then plain_plan start NoForm span else call) (omega arith)
+    (less_if (name == if_name) size (plain_plan start NoForm span) call (omega arith) (omega arith))
 term_less start at (Application name None (more left (more right none)) span) =
     two_less start at name left right span (role_of name) (λ kind is. joined_less kind at name left right span is)
 term_less start at (Application name None (more first (more second (more third rest))) span) = omega arith

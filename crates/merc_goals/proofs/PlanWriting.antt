@@ -1,16 +1,18 @@
 -- The plan of a term writes the entries of the goal that it is.
 use Rattle.std.proofs.Common.{◌≡◌, ℕ, suc, ◌+◌, ◌==◌, ◌||◌, true, false, List, [], ◌∷◌, ◌++◌, length, Option, Some, None, if◌then◌else◌, refl, ap, sym, subst, ◌∙◌}
+use Rattle.merc_base.specs.Names.{arrow_name, fail_name, false_name, if_name, not_name, not_provable_name, true_name}
 use Rattle.merc_base.specs.declared.place.Span.{Span}
 use Rattle.merc_tree.specs.Term.{Term, Variable, Integer, Text, Application, none, more, span_of}
 use Rattle.merc_goals.specs.Written.{Written, WrittenGoals, Truth, Failure, Called, Negated, WrongForm, alternatives, conditional, quantified, listed_variables, written}
 use Rattle.merc_goals.specs.Entries.{goal_list, entry_before, entries_of, all_entries}
 use Rattle.merc_goals.specs.Roles.{role_of}
-use Rattle.merc_goals.specs.Links.{left_of, right_of, sides_of, sides, condition_sides, chain}
+use Rattle.merc_goals.specs.Numbers.{left_of, right_of}
+use Rattle.merc_goals.specs.Links.{sides_of, sides, condition_sides, chain}
 use Rattle.merc_goals.specs.Plans.{plan, plain_plan, call_plan, two_plan, members_plan, chain_form, conditional_plan, arrow_plan, if_plan, some_by, all_by}
 use Rattle.merc_goals.proofs.RoleLaws.{by_role, goal_at, goals_at, written-by_role}
 use Rattle.merc_goals.proofs.ChainGoals.{members_of, goals_for, chain_goals}
 use Rattle.merc_goals.proofs.Writing.{Writes, writes_read, writes_before, writes_put, writes_leaf, writes_if, writes_members}
-use Rattle.merc_goals.specs.declared.links.Numbered.{Numbered}
+use Rattle.merc_goals.specs.declared.numbers.Numbered.{Numbered}
 use Rattle.merc_goals.specs.declared.links.Both.{Both}
 use Rattle.merc_goals.specs.declared.planning.Task.TheVariants.{Read, Put}
 use Rattle.merc_goals.specs.declared.goal.Form.TheVariants.{Truth as TruthForm, Failure as FailureForm, Equal as EqualForm, Compared as ComparedForm, Called as CalledForm, Conditional as ConditionalForm, Negated as NegatedForm, Quantified as QuantifiedForm, WrongForm as NoForm, OutsideProfile as OutsideForm}
@@ -69,14 +71,14 @@ module _ (start at name : ℕ) (left right : Term) (span : Span) where
   abbrev goal_by : Role → Written
   goal_by role =
       by_role role at name left right (goal_at (left_of at left)) (goal_at (right_of at left right))
-      (goals_at (sides 24 (left_of at left))) (goals_at (condition_sides (left_of at left))) span
+      (goals_at (sides arrow_name (left_of at left))) (goals_at (condition_sides (left_of at left))) span
 
   writes_two : (role : Role) → ((kind : ChainKind) → goals_for (chain kind whole.at whole.term) ≡ members_of (goal_by role) kind)
       → Writes start (two_plan start whole role name (sides_of at left right)) (entries_of (goal_by role))
   writes_two ConjunctionRole goals = writes_chain start Conjuncts span (chain Conjuncts whole.at whole.term) _ (goals Conjuncts)
   writes_two ParallelRole goals = writes_chain start ParallelConjuncts span (chain ParallelConjuncts whole.at whole.term) _ (goals ParallelConjuncts)
   writes_two DisjunctionRole goals =
-      writes_alternatives start whole (sides 24 (left_of at left)) (right_of at left right) (goal_at (left_of at left)) (goals Disjuncts)
+      writes_alternatives start whole (sides arrow_name (left_of at left)) (right_of at left right) (goal_at (left_of at left)) (goals Disjuncts)
   writes_two Else goals = writes_else start (condition_sides (left_of at left)) (right_of at left right) span
   writes_two Misplaced goals = writes_leaf start NoForm 0 span
   writes_two Existential goals = writes_some start (listed_variables left) (right_of at left right) span
@@ -95,18 +97,18 @@ writes_term start at (Application name None none span) =
     let term = Application name None none span in
     let call = call_plan start (record { term = term; at = at }) in
     let goal : Written = Called at name None none span in
-    writes_if start (name == 51) (plain_plan start TruthForm span) (if (name == 52) || (name == 53) then plain_plan start FailureForm span else call)
-    (Truth span) (if (name == 52) || (name == 53) then Failure span else goal) (writes_leaf start TruthForm 0 span)
-    (writes_if start ((name == 52) || (name == 53)) (plain_plan start FailureForm span) call (Failure span) goal
+    writes_if start (name == true_name) (plain_plan start TruthForm span) (if (name == fail_name) || (name == false_name) then plain_plan start FailureForm span else call)
+    (Truth span) (if (name == fail_name) || (name == false_name) then Failure span else goal) (writes_leaf start TruthForm 0 span)
+    (writes_if start ((name == fail_name) || (name == false_name)) (plain_plan start FailureForm span) call (Failure span) goal
     (writes_leaf start FailureForm 0 span) (writes_leaf start (CalledForm term) at span))
 writes_term start at (Application name None (more only none) span) =
     let term = Application name None (more only none) span in
     let call = call_plan start (record { term = term; at = at }) in
     let goal : Written = Called at name None (more only none) span in
-    writes_if start ((name == 31) || (name == 32)) (Put NegatedForm 0 span start ∷ Read (left_of at only) ∷ []) (if name == 21 then plain_plan start NoForm span else call)
-    (Negated (written (at + 2) only) span) (if name == 21 then WrongForm span else goal)
+    writes_if start ((name == not_name) || (name == not_provable_name)) (Put NegatedForm 0 span start ∷ Read (left_of at only) ∷ []) (if name == if_name then plain_plan start NoForm span else call)
+    (Negated (written (at + 2) only) span) (if name == if_name then WrongForm span else goal)
     (writes_put start NegatedForm 0 span (Read (left_of at only) ∷ []) (entries_of (written (at + 2) only)) (writes_read start (left_of at only)))
-    (writes_if start (name == 21) (plain_plan start NoForm span) call (WrongForm span) goal
+    (writes_if start (name == if_name) (plain_plan start NoForm span) call (WrongForm span) goal
     (writes_leaf start NoForm 0 span) (writes_leaf start (CalledForm term) at span))
 writes_term start at (Application name None (more left (more right none)) span) =
     let term = Application name None (more left (more right none)) span in

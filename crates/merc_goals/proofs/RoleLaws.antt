@@ -1,11 +1,13 @@
 -- The goal that a name with two arguments is, by the name's role.
 use Rattle.std.proofs.Common.{◌≡◌, ℕ, ◌+◌, ◌==◌, ◌&&◌, ◌||◌, nat_le, Bool, true, false, Option, Some, None, if◌then◌else◌, refl, ap, sym, ◌∙◌}
+use Rattle.merc_base.specs.Names.{all_name, ampersand_name, arrow_name, at_least_name, at_most_name, colon_colon_name, comma_name, else_name, equal_equal_name, equal_name, equivalent_name, greater_name, if_name, implies_name, is_name, less_name, not_equal_name, semicolon_name, some_name, then_name}
 use Rattle.merc_base.specs.declared.place.Span.{Span}
 use Rattle.merc_tree.specs.Term.{Term, Variable, Integer, Text, Application, none, more}
 use Rattle.merc_goals.specs.Written.{Written, Equal, Compared, Called, Conjunction, Parallel, Negated, WrongForm, OutsideProfile, joined, conjuncts, parallel_conjuncts, alternatives, conditional, quantified, listed_variables, binary, written, arrow_parts, if_then_parts, then_parts}
 use Rattle.merc_goals.specs.Roles.{role_of}
-use Rattle.merc_goals.specs.Links.{left_of, right_of, sides, condition_sides, is_arrow}
-use Rattle.merc_goals.specs.declared.links.Numbered.{Numbered}
+use Rattle.merc_goals.specs.Numbers.{left_of, right_of}
+use Rattle.merc_goals.specs.Links.{sides, condition_sides, is_arrow}
+use Rattle.merc_goals.specs.declared.numbers.Numbered.{Numbered}
 use Rattle.merc_goals.specs.declared.links.Both.{Both}
 use Rattle.merc_goals.specs.declared.roles.Role.{Role}
 use Rattle.merc_goals.specs.declared.roles.Role.TheVariants.{Conjunction as ConjunctionRole, Parallel as ParallelRole, Disjunction as DisjunctionRole, Else, Misplaced, Existential, Universal, Equation, Inequation, Comparison, Unsupported, Call}
@@ -32,17 +34,17 @@ pub binary-by_role : (at name : ℕ) (left right : Term) (first second : Written
     → by_role (role_of name) at name left right first second arrow if_then span ≡ binary at name left right first second arrow if_then span
 binary-by_role at name left right first second arrow if_then span =
     let f : Role → Written = λ r. by_role r at name left right first second arrow if_then span in
-    through f (name == 26) _ _ _ _ refl
-    (through f (name == 25) _ _ _ _ refl
-    (through f (name == 23) _ _ _ _ refl
-    (through f (name == 20) _ _ _ _ refl
-    (through f ((name == 24) || (name == 22)) _ _ _ _ refl
-    (through f (name == 27) _ _ _ _ refl
-    (through f (name == 28) _ _ _ _ refl
-    (through f (name == 36) _ _ _ _ refl
-    (through f (name == 37) _ _ _ _ refl
-    (through f (nat_le 38 name && nat_le name 41) _ _ _ _ refl
-    (through f ((name == 29) || (name == 30) || (name == 35) || (name == 19) || (name == 18)) _ _ _ _ refl refl))))))))))
+    through f (name == comma_name) _ _ _ _ refl
+    (through f (name == ampersand_name) _ _ _ _ refl
+    (through f (name == semicolon_name) _ _ _ _ refl
+    (through f (name == else_name) _ _ _ _ refl
+    (through f ((name == arrow_name) || (name == then_name)) _ _ _ _ refl
+    (through f (name == some_name) _ _ _ _ refl
+    (through f (name == all_name) _ _ _ _ refl
+    (through f (name == equal_name) _ _ _ _ refl
+    (through f (name == not_equal_name) _ _ _ _ refl
+    (through f ((name == less_name) || (name == greater_name) || (name == at_most_name) || (name == at_least_name)) _ _ _ _ refl
+    (through f ((name == implies_name) || (name == equivalent_name) || (name == is_name) || (name == equal_equal_name) || (name == colon_colon_name)) _ _ _ _ refl refl))))))))))
 
 -- the goal of a term with its number
 abbrev pub goal_at : Numbered → Written
@@ -59,25 +61,25 @@ goals_if : (test : Bool) (both : Both) → (if test then Some (both_goals both) 
 goals_if true both = refl
 goals_if false both = refl
 
-pub arrow_parts-sides : (at : ℕ) (term : Term) → arrow_parts at term ≡ goals_at (sides 24 (record { term = term; at = at }))
+pub arrow_parts-sides : (at : ℕ) (term : Term) → arrow_parts at term ≡ goals_at (sides arrow_name (record { term = term; at = at }))
 arrow_parts-sides at (Variable name span) = refl
 arrow_parts-sides at (Integer value span) = refl
 arrow_parts-sides at (Text text span) = refl
 arrow_parts-sides at (Application name None none span) = refl
 arrow_parts-sides at (Application name None (more only none) span) = refl
 arrow_parts-sides at (Application name None (more left (more right none)) span) =
-    goals_if (name == 24) (record { left = left_of at left; right = right_of at left right })
+    goals_if (name == arrow_name) (record { left = left_of at left; right = right_of at left right })
 arrow_parts-sides at (Application name None (more first (more second (more third rest))) span) = refl
 arrow_parts-sides at (Application name (Some qualifier) arguments span) = refl
 
-pub then_parts-sides : (at : ℕ) (term : Term) → then_parts at term ≡ goals_at (sides 22 (record { term = term; at = at }))
+pub then_parts-sides : (at : ℕ) (term : Term) → then_parts at term ≡ goals_at (sides then_name (record { term = term; at = at }))
 then_parts-sides at (Variable name span) = refl
 then_parts-sides at (Integer value span) = refl
 then_parts-sides at (Text text span) = refl
 then_parts-sides at (Application name None none span) = refl
 then_parts-sides at (Application name None (more only none) span) = refl
 then_parts-sides at (Application name None (more left (more right none)) span) =
-    goals_if (name == 22) (record { left = left_of at left; right = right_of at left right })
+    goals_if (name == then_name) (record { left = left_of at left; right = right_of at left right })
 then_parts-sides at (Application name None (more first (more second (more third rest))) span) = refl
 then_parts-sides at (Application name (Some qualifier) arguments span) = refl
 
@@ -92,7 +94,7 @@ if_then_parts-sides at (Integer value span) = refl
 if_then_parts-sides at (Text text span) = refl
 if_then_parts-sides at (Application name None none span) = refl
 if_then_parts-sides at (Application name None (more only none) span) =
-    parts_if (name == 21) (then_parts (at + 2) only) (sides 22 (left_of at only)) (then_parts-sides (at + 2) only)
+    parts_if (name == if_name) (then_parts (at + 2) only) (sides then_name (left_of at only)) (then_parts-sides (at + 2) only)
 if_then_parts-sides at (Application name None (more left (more right none)) span) = refl
 if_then_parts-sides at (Application name None (more first (more second (more third rest))) span) = refl
 if_then_parts-sides at (Application name (Some qualifier) arguments span) = refl
@@ -112,7 +114,7 @@ is_arrow-parts at (Integer value span) = refl
 is_arrow-parts at (Text text span) = refl
 is_arrow-parts at (Application name None none span) = refl
 is_arrow-parts at (Application name None (more only none) span) = refl
-is_arrow-parts at (Application name None (more left (more right none)) span) = some_if (name == 24) _
+is_arrow-parts at (Application name None (more left (more right none)) span) = some_if (name == arrow_name) _
 is_arrow-parts at (Application name None (more first (more second (more third rest))) span) = refl
 is_arrow-parts at (Application name (Some qualifier) arguments span) = refl
 
@@ -120,10 +122,10 @@ is_arrow-parts at (Application name (Some qualifier) arguments span) = refl
 pub written-by_role : (at name : ℕ) (left right : Term) (span : Span)
     → written at (Application name None (more left (more right none)) span)
     ≡ by_role (role_of name) at name left right (goal_at (left_of at left)) (goal_at (right_of at left right))
-    (goals_at (sides 24 (left_of at left))) (goals_at (condition_sides (left_of at left))) span
+    (goals_at (sides arrow_name (left_of at left))) (goals_at (condition_sides (left_of at left))) span
 written-by_role at name left right span =
     let first = goal_at (left_of at left) in
     let second = goal_at (right_of at left right) in
     sym (binary-by_role at name left right first second (arrow_parts (at + 2) left) (if_then_parts (at + 2) left) span)
     ∙ ap (λ arrow. by_role (role_of name) at name left right first second arrow (if_then_parts (at + 2) left) span) (arrow_parts-sides (at + 2) left)
-    ∙ ap (λ parts. by_role (role_of name) at name left right first second (goals_at (sides 24 (left_of at left))) parts span) (if_then_parts-sides (at + 2) left)
+    ∙ ap (λ parts. by_role (role_of name) at name left right first second (goals_at (sides arrow_name (left_of at left))) parts span) (if_then_parts-sides (at + 2) left)

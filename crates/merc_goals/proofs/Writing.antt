@@ -6,7 +6,7 @@ use Rattle.merc_goals.specs.Written.{Written}
 use Rattle.merc_goals.specs.Entries.{entry_before, entries_of, all_entries}
 use Rattle.merc_goals.proofs.RoleLaws.{goal_at}
 use Rattle.merc_goals.proofs.ChainGoals.{goals_for}
-use Rattle.merc_goals.specs.declared.links.Numbered.{Numbered}
+use Rattle.merc_goals.specs.declared.numbers.Numbered.{Numbered}
 use Rattle.merc_goals.specs.declared.planning.Task.{Task}
 use Rattle.merc_goals.specs.declared.planning.Task.TheVariants.{Read, Put}
 use Rattle.merc_goals.specs.declared.goal.Form.{Form}

@@ -66,20 +66,60 @@ written_of-entries_of goal =
 
 -- a form by a number of its own, its numbers and its terms, and back
 
+-- the number of each form
+abbrev truth_tag : ℕ
+truth_tag = 0
+
+abbrev failure_tag : ℕ
+failure_tag = 1
+
+abbrev equal_tag : ℕ
+equal_tag = 2
+
+abbrev compared_tag : ℕ
+compared_tag = 3
+
+abbrev called_tag : ℕ
+called_tag = 4
+
+abbrev conjunction_tag : ℕ
+conjunction_tag = 5
+
+abbrev parallel_tag : ℕ
+parallel_tag = 6
+
+abbrev disjunction_tag : ℕ
+disjunction_tag = 7
+
+abbrev conditional_tag : ℕ
+conditional_tag = 8
+
+abbrev negated_tag : ℕ
+negated_tag = 9
+
+abbrev quantified_tag : ℕ
+quantified_tag = 10
+
+abbrev wrong_form_tag : ℕ
+wrong_form_tag = 11
+
+abbrev outside_profile_tag : ℕ
+outside_profile_tag = 12
+
 abbrev pub form_parts : Form → ℕ × (List ℕ × List Term)
-form_parts TruthForm = (0, ([], []))
-form_parts FailureForm = (1, ([], []))
-form_parts (EqualForm left right) = (2, ([], left ∷ right ∷ []))
-form_parts (ComparedForm name left right) = (3, (name ∷ [], left ∷ right ∷ []))
-form_parts (CalledForm term) = (4, ([], term ∷ []))
-form_parts (ConjunctionForm count) = (5, (count ∷ [], []))
-form_parts (ParallelForm count) = (6, (count ∷ [], []))
-form_parts (DisjunctionForm count) = (7, (count ∷ [], []))
-form_parts ConditionalForm = (8, ([], []))
-form_parts NegatedForm = (9, ([], []))
-form_parts (QuantifiedForm variables) = (10, (variables, []))
-form_parts NoForm = (11, ([], []))
-form_parts OutsideForm = (12, ([], []))
+form_parts TruthForm = (truth_tag, ([], []))
+form_parts FailureForm = (failure_tag, ([], []))
+form_parts (EqualForm left right) = (equal_tag, ([], left ∷ right ∷ []))
+form_parts (ComparedForm name left right) = (compared_tag, (name ∷ [], left ∷ right ∷ []))
+form_parts (CalledForm term) = (called_tag, ([], term ∷ []))
+form_parts (ConjunctionForm count) = (conjunction_tag, (count ∷ [], []))
+form_parts (ParallelForm count) = (parallel_tag, (count ∷ [], []))
+form_parts (DisjunctionForm count) = (disjunction_tag, (count ∷ [], []))
+form_parts ConditionalForm = (conditional_tag, ([], []))
+form_parts NegatedForm = (negated_tag, ([], []))
+form_parts (QuantifiedForm variables) = (quantified_tag, (variables, []))
+form_parts NoForm = (wrong_form_tag, ([], []))
+form_parts OutsideForm = (outside_profile_tag, ([], []))
 
 abbrev pub head_number : List ℕ → ℕ
 head_number [] = 0
@@ -95,18 +135,18 @@ called_form (term ∷ rest) = CalledForm term
 
 abbrev pub form_from : ℕ → List ℕ → List Term → Form
 form_from tag numbers terms =
-    if tag == 0 then TruthForm
-    else if tag == 1 then FailureForm
-    else if tag == 2 then with_terms (λ left right. EqualForm left right) terms
-    else if tag == 3 then with_terms (λ left right. ComparedForm (head_number numbers) left right) terms
-    else if tag == 4 then called_form terms
-    else if tag == 5 then ConjunctionForm (head_number numbers)
-    else if tag == 6 then ParallelForm (head_number numbers)
-    else if tag == 7 then DisjunctionForm (head_number numbers)
-    else if tag == 8 then ConditionalForm
-    else if tag == 9 then NegatedForm
-    else if tag == 10 then QuantifiedForm numbers
-    else if tag == 11 then NoForm
+    if tag == truth_tag then TruthForm
+    else if tag == failure_tag then FailureForm
+    else if tag == equal_tag then with_terms (λ left right. EqualForm left right) terms
+    else if tag == compared_tag then with_terms (λ left right. ComparedForm (head_number numbers) left right) terms
+    else if tag == called_tag then called_form terms
+    else if tag == conjunction_tag then ConjunctionForm (head_number numbers)
+    else if tag == parallel_tag then ParallelForm (head_number numbers)
+    else if tag == disjunction_tag then DisjunctionForm (head_number numbers)
+    else if tag == conditional_tag then ConditionalForm
+    else if tag == negated_tag then NegatedForm
+    else if tag == quantified_tag then QuantifiedForm numbers
+    else if tag == wrong_form_tag then NoForm
     else OutsideForm
 
 abbrev pub form_of : ℕ × (List ℕ × List Term) → Form

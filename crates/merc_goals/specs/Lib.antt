@@ -5,5 +5,6 @@ pub mod Faults
 pub mod Found
 pub mod Roles
 pub mod Links
+pub mod Numbers
 pub mod Plans
 pub mod WrittenExamples

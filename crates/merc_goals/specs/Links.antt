@@ -1,26 +1,22 @@
 -- Terms with their numbers, and how chains and lists are taken apart.
 use Rattle.std.specs.Prelude.{ℕ, ◌+◌, Bool, true, false, ◌==◌, not, List, [], ◌∷◌, ◌++◌, Option, Some, None, if◌then◌else◌}
+use Rattle.merc_base.specs.Names.{arrow_name, cons_name, if_name, then_name}
 use Rattle.merc_tree.specs.Term.{Term, Variable, Application, none, more}
 use Rattle.merc_operands.specs.Operands.{operands_of}
 use Rattle.merc_operands.specs.declared.operands.Operands.{Operands}
 use Rattle.merc_operands.specs.declared.operands.Operands.TheVariants.{One, Two}
 use Rattle.merc_goals.specs.Written.{parts}
+use Rattle.merc_goals.specs.Numbers.{left_of, right_of}
 use Rattle.merc_goals.specs.Roles.{role_of}
 use Rattle.merc_goals.specs.declared.roles.Role.{Role}
 use Rattle.merc_goals.specs.declared.roles.Role.TheVariants.{Conjunction as ConjunctionRole, Parallel as ParallelRole, Disjunction as DisjunctionRole}
 use Rattle.merc_goals.specs.declared.roles.ChainKind.{ChainKind}
 use Rattle.merc_goals.specs.declared.roles.ChainKind.TheVariants.{Conjuncts, ParallelConjuncts, Disjuncts}
-use Rattle.merc_goals.specs.declared.links.Numbered.{Numbered}
+use Rattle.merc_goals.specs.declared.numbers.Numbered.{Numbered}
 use Rattle.merc_goals.specs.declared.links.Both.{Both}
 use Rattle.merc_goals.specs.declared.links.Cell.{Cell}
 
--- the arguments of the term with this number
-abbrev pub left_of : ℕ → Term → Numbered
-left_of at left = record { term = left; at = at + 2 }
-
-abbrev pub right_of : ℕ → Term → Term → Numbered
-right_of at left right = record { term = right; at = at + 2 + parts left }
-
+-- both sides of the operator whose term has this number
 abbrev pub sides_of : ℕ → Term → Term → Both
 sides_of at left right = record { left = left_of at left; right = right_of at left right }
 
@@ -34,7 +30,7 @@ sides operator whole = sides_by operator whole.at (operands_of whole.term)
 
 -- the condition and the then part of `if C then T`
 abbrev pub condition_by : ℕ → Operands → Option Both
-condition_by at (One name only) = if name == 21 then sides 22 (left_of at only) else None
+condition_by at (One name only) = if name == if_name then sides then_name (left_of at only) else None
 condition_by at other = None
 
 abbrev pub condition_sides : Numbered → Option Both
@@ -42,7 +38,7 @@ condition_sides whole = condition_by whole.at (operands_of whole.term)
 
 -- `C -> T`
 abbrev pub is_arrow_by : Operands → Bool
-is_arrow_by (Two name left right) = name == 24
+is_arrow_by (Two name left right) = name == arrow_name
 is_arrow_by other = false
 
 abbrev pub is_arrow : Term → Bool
@@ -80,7 +76,7 @@ cell_at (Variable variable span) rest = Some (record { variable = variable; rest
 cell_at other rest = None
 
 abbrev pub cell_by : Operands → Option Cell
-cell_by (Two name first rest) = if name == 2 then cell_at first rest else None
+cell_by (Two name first rest) = if name == cons_name then cell_at first rest else None
 cell_by other = None
 
 abbrev pub cell_of : Term → Option Cell

@@ -1,5 +1,6 @@
 -- What is to be done to write down the entries of a goal, from its last entry to its first. The last of the tasks comes first.
 use Rattle.std.specs.Prelude.{ℕ, ◌==◌, ◌||◌, List, [], ◌∷◌, length, map, Option, Some, None, if◌then◌else◌}
+use Rattle.merc_base.specs.Names.{arrow_name, fail_name, false_name, if_name, not_name, not_provable_name, true_name}
 use Rattle.merc_base.specs.declared.place.Span.{Span}
 use Rattle.merc_tree.specs.Term.{Term, span_of}
 use Rattle.merc_tree.specs.Shape.{shape_of}
@@ -10,12 +11,13 @@ use Rattle.merc_operands.specs.declared.operands.Operands.{Operands}
 use Rattle.merc_operands.specs.declared.operands.Operands.TheVariants.{Zero, One, Two, Many, Qualified, NotApplied}
 use Rattle.merc_goals.specs.Written.{listed_variables}
 use Rattle.merc_goals.specs.Roles.{role_of}
-use Rattle.merc_goals.specs.Links.{left_of, sides_of, sides, condition_sides, chain}
+use Rattle.merc_goals.specs.Numbers.{left_of}
+use Rattle.merc_goals.specs.Links.{sides_of, sides, condition_sides, chain}
 use Rattle.merc_goals.specs.declared.roles.Role.{Role}
 use Rattle.merc_goals.specs.declared.roles.Role.TheVariants.{Conjunction as ConjunctionRole, Parallel as ParallelRole, Disjunction as DisjunctionRole, Else, Misplaced, Existential, Universal, Equation, Inequation, Comparison, Unsupported, Call}
 use Rattle.merc_goals.specs.declared.roles.ChainKind.{ChainKind}
 use Rattle.merc_goals.specs.declared.roles.ChainKind.TheVariants.{Conjuncts, ParallelConjuncts, Disjuncts}
-use Rattle.merc_goals.specs.declared.links.Numbered.{Numbered}
+use Rattle.merc_goals.specs.declared.numbers.Numbered.{Numbered}
 use Rattle.merc_goals.specs.declared.links.Both.{Both}
 use Rattle.merc_goals.specs.declared.planning.Task.{Task}
 use Rattle.merc_goals.specs.declared.planning.Task.TheVariants.{Read, Put}
@@ -31,8 +33,8 @@ call_plan start whole = Put (CalledForm whole.term) whole.at (span_of whole.term
 -- a name alone
 abbrev pub name_plan : ℕ → Numbered → ℕ → List Task
 name_plan start whole name =
-    if name == 51 then plain_plan start TruthForm (span_of whole.term)
-    else if (name == 52) || (name == 53) then plain_plan start FailureForm (span_of whole.term)
+    if name == true_name then plain_plan start TruthForm (span_of whole.term)
+    else if (name == fail_name) || (name == false_name) then plain_plan start FailureForm (span_of whole.term)
     else call_plan start whole
 
 -- a variable or a literal
@@ -43,8 +45,8 @@ unapplied_plan start other span = plain_plan start NoForm span
 -- a name with one argument
 abbrev pub one_plan : ℕ → Numbered → ℕ → Term → List Task
 one_plan start whole name only =
-    if (name == 31) || (name == 32) then Put NegatedForm 0 (span_of whole.term) start ∷ Read (left_of whole.at only) ∷ []
-    else if name == 21 then plain_plan start NoForm (span_of whole.term)
+    if (name == not_name) || (name == not_provable_name) then Put NegatedForm 0 (span_of whole.term) start ∷ Read (left_of whole.at only) ∷ []
+    else if name == if_name then plain_plan start NoForm (span_of whole.term)
     else call_plan start whole
 
 abbrev pub chain_form : ChainKind → ℕ → Form
@@ -66,7 +68,7 @@ arrow_plan start whole (Some parts) right = conditional_plan start parts right (
 arrow_plan start whole None right = chain_plan start Disjuncts whole
 
 abbrev pub alternatives_plan : ℕ → Numbered → Both → List Task
-alternatives_plan start whole both = arrow_plan start whole (sides 24 both.left) both.right
+alternatives_plan start whole both = arrow_plan start whole (sides arrow_name both.left) both.right
 
 abbrev pub if_plan : ℕ → Option Both → Numbered → Span → List Task
 if_plan start (Some parts) right span = conditional_plan start parts right span

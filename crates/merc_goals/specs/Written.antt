@@ -1,6 +1,7 @@
 -- What a term is as a goal, and where its parts stand.
-use Rattle.std.specs.Prelude.{ℕ, ◌+◌, Bool, true, false, ◌==◌, ◌&&◌, ◌||◌, nat_le, List, [], ◌∷◌, Option, Some, None, if◌then◌else◌}
+use Rattle.std.specs.Prelude.{ℕ, ◌+◌, Bool, true, false, ◌==◌, ◌||◌, List, [], ◌∷◌, Option, Some, None, if◌then◌else◌}
 use Rattle.std.specs.Option.{option_map}
+use Rattle.merc_base.specs.Names.{all_name, ampersand_name, arrow_name, at_least_name, at_most_name, colon_colon_name, comma_name, cons_name, else_name, equal_equal_name, equal_name, equivalent_name, fail_name, false_name, greater_name, if_name, implies_name, is_name, less_name, nil_name, not_equal_name, not_name, not_provable_name, semicolon_name, some_name, then_name, true_name}
 use Rattle.merc_base.specs.declared.place.Span.{Span}
 use Rattle.merc_tree.specs.Term.{Term, Terms, Variable, Application, none, more, span_of}
 
@@ -73,9 +74,9 @@ disjuncts other = more_goals other no_goals
 
 -- the variables of a proper list of variables
 abbrev pub listed_variables : Term → Option (List ℕ)
-listed_variables (Application name None none span) = if name == 1 then Some [] else None
+listed_variables (Application name None none span) = if name == nil_name then Some [] else None
 listed_variables (Application name None (more (Variable variable place) (more rest none)) span) =
-    if name == 2 then option_map (λ others. variable ∷ others) (listed_variables rest) else None
+    if name == cons_name then option_map (λ others. variable ∷ others) (listed_variables rest) else None
 listed_variables other = None
 
 -- `some [X, ..] G`, and `all [X, ..] G`, which is `not some [X, ..] not G`
@@ -87,8 +88,8 @@ quantified false (Some variables) goal span = Quantified variables goal span
 -- a goal without arguments
 abbrev pub nullary : ℕ → ℕ → Span → Written
 nullary at name span =
-    if name == 51 then Truth span
-    else if (name == 52) || (name == 53) then Failure span
+    if name == true_name then Truth span
+    else if (name == fail_name) || (name == false_name) then Failure span
     else Called at name None none span
 
 -- `if then else`, where a condition and a then part stand before the `else`
@@ -104,17 +105,17 @@ alternatives None first second span = Disjunction (joined (disjuncts first) (dis
 -- A goal with two arguments, of which these are the goals that they are, the parts of the first as `C -> T` and as `if C then T`, and its list of variables
 abbrev pub binary : ℕ → ℕ → Term → Term → Written → Written → Option (Written × Written) → Option (Written × Written) → Span → Written
 binary at name left right first second arrow if_then span =
-    if name == 26 then Conjunction (joined (conjuncts first) (conjuncts second)) span
-    else if name == 25 then Parallel (joined (parallel_conjuncts first) (parallel_conjuncts second)) span
-    else if name == 23 then alternatives arrow first second span
-    else if name == 20 then conditional if_then second span
-    else if (name == 24) || (name == 22) then WrongForm span
-    else if name == 27 then quantified false (listed_variables left) second span
-    else if name == 28 then quantified true (listed_variables left) second span
-    else if name == 36 then Equal at left right span
-    else if name == 37 then Negated (Equal at left right span) span
-    else if nat_le 38 name && nat_le name 41 then Compared at name left right span
-    else if (name == 29) || (name == 30) || (name == 35) || (name == 19) || (name == 18) then OutsideProfile span
+    if name == comma_name then Conjunction (joined (conjuncts first) (conjuncts second)) span
+    else if name == ampersand_name then Parallel (joined (parallel_conjuncts first) (parallel_conjuncts second)) span
+    else if name == semicolon_name then alternatives arrow first second span
+    else if name == else_name then conditional if_then second span
+    else if (name == arrow_name) || (name == then_name) then WrongForm span
+    else if name == some_name then quantified false (listed_variables left) second span
+    else if name == all_name then quantified true (listed_variables left) second span
+    else if name == equal_name then Equal at left right span
+    else if name == not_equal_name then Negated (Equal at left right span) span
+    else if (name == less_name) || (name == greater_name) || (name == at_most_name) || (name == at_least_name) then Compared at name left right span
+    else if (name == implies_name) || (name == equivalent_name) || (name == is_name) || (name == equal_equal_name) || (name == colon_colon_name) then OutsideProfile span
     else Called at name None (more left (more right none)) span
 
 abbrev mutual
@@ -123,8 +124,8 @@ abbrev mutual
   written at (Variable name span) = OutsideProfile span
   written at (Application name None none span) = nullary at name span
   written at (Application name None (more only none) span) =
-      if (name == 31) || (name == 32) then Negated (written (at + 2) only) span
-      else if name == 21 then WrongForm span
+      if (name == not_name) || (name == not_provable_name) then Negated (written (at + 2) only) span
+      else if name == if_name then WrongForm span
       else Called at name None (more only none) span
   written at (Application name None (more left (more right none)) span) =
       binary at name left right (written (at + 2) left) (written (at + 2 + parts left) right) (arrow_parts (at + 2) left) (if_then_parts (at + 2) left) span
@@ -134,15 +135,15 @@ abbrev mutual
   -- both sides of `C -> T`
   pub arrow_parts : ℕ → Term → Option (Written × Written)
   arrow_parts at (Application name None (more left (more right none)) span) =
-      if name == 24 then Some (written (at + 2) left, written (at + 2 + parts left) right) else None
+      if name == arrow_name then Some (written (at + 2) left, written (at + 2 + parts left) right) else None
   arrow_parts at other = None
 
   -- the condition and the then part of `if C then T`
   pub if_then_parts : ℕ → Term → Option (Written × Written)
-  if_then_parts at (Application name None (more only none) span) = if name == 21 then then_parts (at + 2) only else None
+  if_then_parts at (Application name None (more only none) span) = if name == if_name then then_parts (at + 2) only else None
   if_then_parts at other = None
 
   pub then_parts : ℕ → Term → Option (Written × Written)
   then_parts at (Application name None (more left (more right none)) span) =
-      if name == 22 then Some (written (at + 2) left, written (at + 2 + parts left) right) else None
+      if name == then_name then Some (written (at + 2) left, written (at + 2 + parts left) right) else None
   then_parts at other = None

@@ -1,5 +1,6 @@
 -- Worked examples of terms as goals, which the prover computes, and false statements that it refutes.
-use Rattle.std.specs.Prelude.{◌≡◌, ℕ, [], ◌∷◌, length, Some, None, pos, refl}
+use Rattle.std.specs.Prelude.{◌≡◌, ℕ, ◌+◌, [], ◌∷◌, length, Some, None, pos, refl}
+use Rattle.merc_base.specs.Names.{all_name, ampersand_name, arrow_name, at_least_name, at_most_name, colon_colon_name, comma_name, cons_name, else_name, equal_equal_name, equal_name, equivalent_name, fail_name, false_name, greater_name, if_name, implies_name, is_name, less_name, nil_name, not_equal_name, not_name, not_provable_name, semicolon_name, some_name, then_name, true_name}
 use Rattle.merc_base.specs.declared.place.Span.{Span}
 use Rattle.merc_tree.specs.Term.{Term, Variable, Integer, Text, Application, none, more}
 use Rattle.merc_goals.specs.Written.{Written, WrittenGoals, no_goals, more_goals, Truth, Failure, Equal, Compared, Called, Conjunction, Parallel, Disjunction, Conditional, Negated, Quantified, WrongForm, OutsideProfile, parts, listed_variables, written}
@@ -7,7 +8,25 @@ use Rattle.merc_goals.specs.Entries.{entries_of, written_of}
 use Rattle.merc_goals.specs.Faults.{wrong_forms, outside_forms, first_span, wrong_form, outside_profile, first_fault, widest_parallel}
 use Rattle.merc_goals.specs.declared.goal.Form.TheVariants.{Conjunction as ConjunctionForm, Called as CalledForm}
 
--- Terms stand at one span. `a`, `b` and `c` have the numbers 91, 92 and 93.
+-- Terms stand at one span. The names have numbers behind those of the constants.
+
+abbrev a_name : ℕ
+a_name = 91
+
+abbrev b_name : ℕ
+b_name = 92
+
+abbrev c_name : ℕ
+c_name = 93
+
+abbrev x_name : ℕ
+x_name = 95
+
+abbrev y_name : ℕ
+y_name = 96
+
+abbrev m_name : ℕ
+m_name = 97
 
 abbrev here : Span
 here = record { first = 3; past = 4; line = 1 }
@@ -25,19 +44,19 @@ abbrev two : ℕ → Term → Term → Term
 two name left right = Application name None (more left (more right none)) here
 
 abbrev a : Term
-a = plain 91
+a = plain a_name
 
 abbrev b : Term
-b = plain 92
+b = plain b_name
 
 abbrev c : Term
-c = plain 93
+c = plain c_name
 
 abbrev x : Term
-x = Variable 95 here
+x = Variable x_name here
 
 abbrev y : Term
-y = Variable 96 here
+y = Variable y_name here
 
 abbrev call : ℕ → ℕ → Written
 call at name = Called at name None none here
@@ -50,117 +69,185 @@ three first second third = more_goals first (goals second third)
 
 -- how many numbers a term and its parts have
 
-pub parts-example : parts (two 26 a b) ≡ 6
+pub parts-example : parts (two comma_name a b) ≡ 6
 parts-example = refl
 
-pub parts-not : parts (two 26 a b) ≡ 3 → ⊥
+pub parts-not : parts (two comma_name a b) ≡ 3 → ⊥
 parts-not same = cc
 
 -- one goal of each form
 
-pub truth-example : written 0 (plain 51) ≡ Truth here
+pub truth-example : written 0 (plain true_name) ≡ Truth here
 truth-example = refl
 
-pub failure-example : written 0 (plain 53) ≡ Failure here
+pub failure-example : written 0 (plain false_name) ≡ Failure here
 failure-example = refl
 
+pub fail-example : written 0 (plain fail_name) ≡ Failure here
+fail-example = refl
+
+-- `a`, and `true(a)`, which is called
+pub name-example : written 4 a ≡ call 4 a_name
+name-example = refl
+
+pub truth-called : written 4 (one true_name a) ≡ Called 4 true_name None (more a none) here
+truth-called = refl
+
 -- `X = Y`
-pub equal-example : written 4 (two 36 x y) ≡ Equal 4 x y here
+pub equal-example : written 4 (two equal_name x y) ≡ Equal 4 x y here
 equal-example = refl
 
 -- `X < Y`
-pub compared-example : written 4 (two 38 x y) ≡ Compared 4 38 x y here
+pub compared-example : written 4 (two less_name x y) ≡ Compared 4 less_name x y here
 compared-example = refl
 
+-- `X > Y`, `X =< Y` and `X >= Y`
+pub greater-example : written 4 (two greater_name x y) ≡ Compared 4 greater_name x y here
+greater-example = refl
+
+pub at_most-example : written 4 (two at_most_name x y) ≡ Compared 4 at_most_name x y here
+at_most-example = refl
+
+pub at_least-example : written 4 (two at_least_name x y) ≡ Compared 4 at_least_name x y here
+at_least-example = refl
+
+-- `<(X)`, with one argument, is called
+pub compared-called : written 4 (one less_name x) ≡ Called 4 less_name None (more x none) here
+compared-called = refl
+
 -- `a(X)`
-pub called-example : written 4 (one 91 x) ≡ Called 4 91 None (more x none) here
+pub called-example : written 4 (one a_name x) ≡ Called 4 a_name None (more x none) here
 called-example = refl
 
 -- `a, b`
-pub conjunction-example : written 0 (two 26 a b) ≡ Conjunction (goals (call 2 91) (call 4 92)) here
+pub conjunction-example : written 0 (two comma_name a b) ≡ Conjunction (goals (call 2 a_name) (call 4 b_name)) here
 conjunction-example = refl
 
 -- `a & b`
-pub parallel-example : written 0 (two 25 a b) ≡ Parallel (goals (call 2 91) (call 4 92)) here
+pub parallel-example : written 0 (two ampersand_name a b) ≡ Parallel (goals (call 2 a_name) (call 4 b_name)) here
 parallel-example = refl
 
 -- `a ; b`
-pub disjunction-example : written 0 (two 23 a b) ≡ Disjunction (goals (call 2 91) (call 4 92)) here
+pub disjunction-example : written 0 (two semicolon_name a b) ≡ Disjunction (goals (call 2 a_name) (call 4 b_name)) here
 disjunction-example = refl
 
 -- `if a then b else c`
-pub conditional-example : written 0 (two 20 (one 21 (two 22 a b)) c) ≡ Conditional (call 6 91) (call 8 92) (call 10 93) here
+pub conditional-example : written 0 (two else_name (one if_name (two then_name a b)) c) ≡ Conditional (call 6 a_name) (call 8 b_name) (call 10 c_name) here
 conditional-example = refl
 
 -- `a -> b ; c`
-pub arrow-example : written 0 (two 23 (two 24 a b) c) ≡ Conditional (call 4 91) (call 6 92) (call 8 93) here
+pub arrow-example : written 0 (two semicolon_name (two arrow_name a b) c) ≡ Conditional (call 4 a_name) (call 6 b_name) (call 8 c_name) here
 arrow-example = refl
 
 -- `\+ a`
-pub negated-example : written 0 (one 32 a) ≡ Negated (call 2 91) here
+pub negated-example : written 0 (one not_provable_name a) ≡ Negated (call 2 a_name) here
 negated-example = refl
 
+-- `not a`
+pub not-example : written 0 (one not_name a) ≡ Negated (call 2 a_name) here
+not-example = refl
+
 -- `X \= Y`
-pub unequal-example : written 4 (two 37 x y) ≡ Negated (Equal 4 x y here) here
+pub unequal-example : written 4 (two not_equal_name x y) ≡ Negated (Equal 4 x y here) here
 unequal-example = refl
 
 -- `[X, Y]`
 abbrev x_and_y : Term
-x_and_y = two 2 x (two 2 y (plain 1))
+x_and_y = two cons_name x (two cons_name y (plain nil_name))
 
 -- `some [X, Y] a`
-pub some-example : written 0 (two 27 x_and_y a) ≡ Quantified (95 ∷ 96 ∷ []) (call 12 91) here
+pub some-example : written 0 (two some_name x_and_y a) ≡ Quantified (x_name ∷ y_name ∷ []) (call 12 a_name) here
 some-example = refl
 
 -- `all [X, Y] a`
-pub all-example : written 0 (two 28 x_and_y a) ≡ Negated (Quantified (95 ∷ 96 ∷ []) (Negated (call 12 91) here) here) here
+pub all-example : written 0 (two all_name x_and_y a) ≡ Negated (Quantified (x_name ∷ y_name ∷ []) (Negated (call 12 a_name) here) here) here
 all-example = refl
+
+-- the place of the goals that stand for one
+
+abbrev apart : ℕ → Span
+apart first = record { first = first; past = first + 1; line = 1 }
+
+abbrev a_at : ℕ → Term
+a_at first = Application a_name None none (apart first)
+
+-- `all [X] a`: each of its goals stands where the `all` does, and `a` at its own place
+pub all-places : written 0 (Application all_name None (more (two cons_name x (plain nil_name)) (more (a_at 9) none)) (apart 2))
+    ≡ Negated (Quantified (x_name ∷ []) (Negated (Called 8 a_name None none (apart 9)) (apart 2)) (apart 2)) (apart 2)
+all-places = refl
+
+-- `X \= Y`: both of its goals stand where the whole does
+pub unequal-places : written 4 (Application not_equal_name None (more x (more y none)) (apart 2)) ≡ Negated (Equal 4 x y (apart 2)) (apart 2)
+unequal-places = refl
+
+-- `a, a`: each conjunct stands at its own place
+pub conjunction-places : written 0 (Application comma_name None (more (a_at 2) (more (a_at 5) none)) (apart 2))
+    ≡ Conjunction (goals (Called 2 a_name None none (apart 2)) (Called 4 a_name None none (apart 5))) (apart 2)
+conjunction-places = refl
 
 -- chains
 
 -- `(a, b), c`
-pub chain-left : written 0 (two 26 (two 26 a b) c) ≡ Conjunction (three (call 4 91) (call 6 92) (call 8 93)) here
+pub chain-left : written 0 (two comma_name (two comma_name a b) c) ≡ Conjunction (three (call 4 a_name) (call 6 b_name) (call 8 c_name)) here
 chain-left = refl
 
 -- `a, (b, c)`
-pub chain-right : written 0 (two 26 a (two 26 b c)) ≡ Conjunction (three (call 2 91) (call 6 92) (call 8 93)) here
+pub chain-right : written 0 (two comma_name a (two comma_name b c)) ≡ Conjunction (three (call 2 a_name) (call 6 b_name) (call 8 c_name)) here
 chain-right = refl
 
+-- `(a & b) & c` and `a & (b & c)`
+pub chain-parallel_left : written 0 (two ampersand_name (two ampersand_name a b) c) ≡ Parallel (three (call 4 a_name) (call 6 b_name) (call 8 c_name)) here
+chain-parallel_left = refl
+
+pub chain-parallel_right : written 0 (two ampersand_name a (two ampersand_name b c)) ≡ Parallel (three (call 2 a_name) (call 6 b_name) (call 8 c_name)) here
+chain-parallel_right = refl
+
+-- `(a ; b) ; c` and `a ; (b ; c)`
+pub chain-disjunction_left : written 0 (two semicolon_name (two semicolon_name a b) c) ≡ Disjunction (three (call 4 a_name) (call 6 b_name) (call 8 c_name)) here
+chain-disjunction_left = refl
+
+pub chain-disjunction_right : written 0 (two semicolon_name a (two semicolon_name b c)) ≡ Disjunction (three (call 2 a_name) (call 6 b_name) (call 8 c_name)) here
+chain-disjunction_right = refl
+
+-- `(a -> b ; c) ; a`: an if-then-else is one disjunct
+pub chain-begin : written 0 (two semicolon_name (two semicolon_name (two arrow_name a b) c) a) ≡ Disjunction (goals (Conditional (call 6 a_name) (call 8 b_name) (call 10 c_name) here) (call 12 a_name)) here
+chain-begin = refl
+
 -- another operator is no link
-pub chain-mixed : written 0 (two 26 (two 25 a b) c) ≡ Conjunction (goals (Parallel (goals (call 4 91) (call 6 92)) here) (call 8 93)) here
+pub chain-mixed : written 0 (two comma_name (two ampersand_name a b) c) ≡ Conjunction (goals (Parallel (goals (call 4 a_name) (call 6 b_name)) here) (call 8 c_name)) here
 chain-mixed = refl
 
 -- `a ; (b -> c ; a)` ends with the conditional
-pub chain-end : written 0 (two 23 a (two 23 (two 24 b c) a)) ≡ Disjunction (goals (call 2 91) (Conditional (call 8 92) (call 10 93) (call 12 91) here)) here
+pub chain-end : written 0 (two semicolon_name a (two semicolon_name (two arrow_name b c) a)) ≡ Disjunction (goals (call 2 a_name) (Conditional (call 8 b_name) (call 10 c_name) (call 12 a_name) here)) here
 chain-end = refl
 
-pub chain-not : written 0 (two 26 (two 26 a b) c) ≡ Conjunction (goals (Conjunction (goals (call 4 91) (call 6 92)) here) (call 8 93)) here → ⊥
+pub chain-not : written 0 (two comma_name (two comma_name a b) c) ≡ Conjunction (goals (Conjunction (goals (call 4 a_name) (call 6 b_name)) here) (call 8 c_name)) here → ⊥
 chain-not nested = cc
 
 -- `m.(a, b)`: with a qualifier even `,` is called
-pub qualifier-example : written 4 (Application 26 (Some 97) (more a (more b none)) here) ≡ Called 4 26 (Some 97) (more a (more b none)) here
+pub qualifier-example : written 4 (Application comma_name (Some m_name) (more a (more b none)) here) ≡ Called 4 comma_name (Some m_name) (more a (more b none)) here
 qualifier-example = refl
 
 -- no goals of a known form
 
 -- `if a then b`
-pub if-alone : written 0 (one 21 (two 22 a b)) ≡ WrongForm here
+pub if-alone : written 0 (one if_name (two then_name a b)) ≡ WrongForm here
 if-alone = refl
 
 -- `a else b`
-pub else-alone : written 0 (two 20 a b) ≡ WrongForm here
+pub else-alone : written 0 (two else_name a b) ≡ WrongForm here
 else-alone = refl
 
 -- `if a else b`
-pub else-without_then : written 0 (two 20 (one 21 a) b) ≡ WrongForm here
+pub else-without_then : written 0 (two else_name (one if_name a) b) ≡ WrongForm here
 else-without_then = refl
 
 -- `a then b`
-pub then-alone : written 0 (two 22 a b) ≡ WrongForm here
+pub then-alone : written 0 (two then_name a b) ≡ WrongForm here
 then-alone = refl
 
 -- `a -> b`
-pub arrow-alone : written 0 (two 24 a b) ≡ WrongForm here
+pub arrow-alone : written 0 (two arrow_name a b) ≡ WrongForm here
 arrow-alone = refl
 
 -- `3`
@@ -168,19 +255,19 @@ pub integer-goal : written 0 (Integer (pos 3) here) ≡ WrongForm here
 integer-goal = refl
 
 -- `"a"`
-pub text-goal : written 0 (Text 91 here) ≡ WrongForm here
+pub text-goal : written 0 (Text a_name here) ≡ WrongForm here
 text-goal = refl
 
 -- `some X a`
-pub some-no_list : written 0 (two 27 x a) ≡ WrongForm here
+pub some-no_list : written 0 (two some_name x a) ≡ WrongForm here
 some-no_list = refl
 
 -- `some [X | Y] a`
-pub some-open_list : written 0 (two 27 (two 2 x y) a) ≡ WrongForm here
+pub some-open_list : written 0 (two some_name (two cons_name x y) a) ≡ WrongForm here
 some-open_list = refl
 
 -- `all [a] b`
-pub all-no_variables : written 0 (two 28 (two 2 a (plain 1)) b) ≡ WrongForm here
+pub all-no_variables : written 0 (two all_name (two cons_name a (plain nil_name)) b) ≡ WrongForm here
 all-no_variables = refl
 
 -- outside the profile
@@ -190,38 +277,46 @@ pub variable-goal : written 0 x ≡ OutsideProfile here
 variable-goal = refl
 
 -- `X is Y`
-pub is-goal : written 0 (two 35 x y) ≡ OutsideProfile here
+pub is-goal : written 0 (two is_name x y) ≡ OutsideProfile here
 is-goal = refl
 
 -- `a => b`
-pub implies-goal : written 0 (two 29 a b) ≡ OutsideProfile here
+pub implies-goal : written 0 (two implies_name a b) ≡ OutsideProfile here
 implies-goal = refl
 
+-- `a <=> b`
+pub equivalent-goal : written 0 (two equivalent_name a b) ≡ OutsideProfile here
+equivalent-goal = refl
+
+-- `X :: Y`
+pub annotated-goal : written 0 (two colon_colon_name x y) ≡ OutsideProfile here
+annotated-goal = refl
+
 -- `X == Y`
-pub identical-goal : written 0 (two 19 x y) ≡ OutsideProfile here
+pub identical-goal : written 0 (two equal_equal_name x y) ≡ OutsideProfile here
 identical-goal = refl
 
-pub variable-not : written 0 x ≡ Called 0 95 None none here → ⊥
+pub variable-not : written 0 x ≡ Called 0 x_name None none here → ⊥
 variable-not called = cc
 
-pub listed_variables-example : listed_variables x_and_y ≡ Some (95 ∷ 96 ∷ [])
+pub listed_variables-example : listed_variables x_and_y ≡ Some (x_name ∷ y_name ∷ [])
 listed_variables-example = refl
 
-pub listed_variables-none : listed_variables (two 2 x a) ≡ None
+pub listed_variables-none : listed_variables (two cons_name x a) ≡ None
 listed_variables-none = refl
 
 -- `a, b` lies in three entries, of which the first counts all
 
-pub entries-example : entries_of (written 0 (two 26 a b))
+pub entries-example : entries_of (written 0 (two comma_name a b))
     ≡ record { form = ConjunctionForm 2; at = 0; span = here; size = 3 }
     ∷ record { form = CalledForm a; at = 2; span = here; size = 1 }
     ∷ record { form = CalledForm b; at = 4; span = here; size = 1 } ∷ []
 entries-example = refl
 
-pub entries-back : written_of (entries_of (written 0 (two 26 (one 31 a) b))) ≡ written 0 (two 26 (one 31 a) b)
+pub entries-back : written_of (entries_of (written 0 (two comma_name (one not_name a) b))) ≡ written 0 (two comma_name (one not_name a) b)
 entries-back = refl
 
-pub entries-not : length (entries_of (written 0 (two 37 x y))) ≡ 1 → ⊥
+pub entries-not : length (entries_of (written 0 (two not_equal_name x y))) ≡ 1 → ⊥
 entries-not same = cc
 
 -- faults
@@ -235,6 +330,44 @@ wrong_forms-example = refl
 
 pub outside_forms-example : outside_forms faulty ≡ there ∷ []
 outside_forms-example = refl
+
+-- in each kind of goal
+
+abbrev wrong_at : ℕ → Written
+wrong_at first = WrongForm (apart first)
+
+abbrev outside_at : ℕ → Written
+outside_at first = OutsideProfile (apart first)
+
+pub wrong_forms-parallel : wrong_forms (Parallel (goals (wrong_at 1) (wrong_at 2)) here) ≡ apart 1 ∷ apart 2 ∷ []
+wrong_forms-parallel = refl
+
+pub wrong_forms-disjunction : wrong_forms (Disjunction (goals (wrong_at 1) (wrong_at 2)) here) ≡ apart 1 ∷ apart 2 ∷ []
+wrong_forms-disjunction = refl
+
+pub wrong_forms-conditional : wrong_forms (Conditional (wrong_at 1) (wrong_at 2) (wrong_at 3) here) ≡ apart 1 ∷ apart 2 ∷ apart 3 ∷ []
+wrong_forms-conditional = refl
+
+pub wrong_forms-negated : wrong_forms (Negated (wrong_at 1) here) ≡ apart 1 ∷ []
+wrong_forms-negated = refl
+
+pub wrong_forms-quantified : wrong_forms (Quantified (x_name ∷ []) (wrong_at 1) here) ≡ apart 1 ∷ []
+wrong_forms-quantified = refl
+
+pub outside_forms-parallel : outside_forms (Parallel (goals (outside_at 1) (outside_at 2)) here) ≡ apart 1 ∷ apart 2 ∷ []
+outside_forms-parallel = refl
+
+pub outside_forms-disjunction : outside_forms (Disjunction (goals (outside_at 1) (outside_at 2)) here) ≡ apart 1 ∷ apart 2 ∷ []
+outside_forms-disjunction = refl
+
+pub outside_forms-conditional : outside_forms (Conditional (outside_at 1) (outside_at 2) (outside_at 3) here) ≡ apart 1 ∷ apart 2 ∷ apart 3 ∷ []
+outside_forms-conditional = refl
+
+pub outside_forms-negated : outside_forms (Negated (outside_at 1) here) ≡ apart 1 ∷ []
+outside_forms-negated = refl
+
+pub outside_forms-quantified : outside_forms (Quantified (x_name ∷ []) (outside_at 1) here) ≡ apart 1 ∷ []
+outside_forms-quantified = refl
 
 pub first_span-example : first_span (there ∷ here ∷ []) ≡ Some here
 first_span-example = refl
@@ -252,18 +385,48 @@ first_fault-same_byte = refl
 pub first_fault-earlier : first_fault (Conjunction (goals (OutsideProfile here) (WrongForm there)) here) ≡ Some (outside_profile here)
 first_fault-earlier = refl
 
-pub first_fault-none : first_fault (written 0 (two 26 a b)) ≡ None
+pub first_fault-none : first_fault (written 0 (two comma_name a b)) ≡ None
 first_fault-none = refl
 
 pub first_fault-not : first_fault faulty ≡ None → ⊥
 first_fault-not sound = cc
 
 -- `(a & b & c), (a & b)`
-pub widest_parallel-example : widest_parallel (written 0 (two 26 (two 25 a (two 25 b c)) (two 25 a b))) ≡ 3
+pub widest_parallel-example : widest_parallel (written 0 (two comma_name (two ampersand_name a (two ampersand_name b c)) (two ampersand_name a b))) ≡ 3
 widest_parallel-example = refl
 
-pub widest_parallel-none : widest_parallel (written 0 (two 26 a b)) ≡ 0
+pub widest_parallel-none : widest_parallel (written 0 (two comma_name a b)) ≡ 0
 widest_parallel-none = refl
 
-pub widest_parallel-not : widest_parallel (written 0 (two 25 a (two 25 b c))) ≡ 2 → ⊥
+pub widest_parallel-not : widest_parallel (written 0 (two ampersand_name a (two ampersand_name b c))) ≡ 2 → ⊥
 widest_parallel-not pairs = cc
+
+-- two conjuncts, in each kind of goal
+
+abbrev a_goal : Written
+a_goal = call 2 a_name
+
+abbrev wide : Written
+wide = Parallel (goals (call 2 a_name) (call 4 b_name)) here
+
+pub widest_parallel-disjunction : widest_parallel (Disjunction (goals a_goal wide) here) ≡ 2
+widest_parallel-disjunction = refl
+
+pub widest_parallel-condition : widest_parallel (Conditional wide a_goal a_goal here) ≡ 2
+widest_parallel-condition = refl
+
+pub widest_parallel-then : widest_parallel (Conditional a_goal wide a_goal here) ≡ 2
+widest_parallel-then = refl
+
+pub widest_parallel-else : widest_parallel (Conditional a_goal a_goal wide here) ≡ 2
+widest_parallel-else = refl
+
+pub widest_parallel-negated : widest_parallel (Negated wide here) ≡ 2
+widest_parallel-negated = refl
+
+pub widest_parallel-quantified : widest_parallel (Quantified (x_name ∷ []) wide here) ≡ 2
+widest_parallel-quantified = refl
+
+-- three conjuncts within two
+pub widest_parallel-nested : widest_parallel (Parallel (goals (Negated (Parallel (three a_goal a_goal a_goal) here) here) a_goal) here) ≡ 3
+widest_parallel-nested = refl

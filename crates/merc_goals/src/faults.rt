@@ -51,8 +51,8 @@ fn outside_profile(span: Span) -> Refusal
     }
 }
 
-// Where a span begins.
-fn place_of(span: Span) -> Place
+/// Where a span begins.
+pub fn place_of(span: Span) -> Place
     ensures { result ≡ place_of span }
 {
     Place {
@@ -83,8 +83,8 @@ fn first_outside(entries: &[Entry<'_>]) -> Option<Span>
     first
 }
 
-// The one that begins earlier, the former where both begin at one byte.
-fn earlier(one: Option<Span>, other: Option<Span>) -> Option<Span>
+/// The one that begins earlier, the former where both begin at one byte.
+pub fn earlier(one: Option<Span>, other: Option<Span>) -> Option<Span>
     ensures { result ≡ earlier one other }
 {
     match (one, other) {

@@ -1,6 +1,7 @@
 //! A goal as it is written, in one list of entries.
 ghost use Rattle.std.specs.Prelude.{◌≡◌};
 ghost use Rattle.merc_goals.specs.Entries.{entries_of};
+ghost use Rattle.merc_goals.specs.Written.{written_span};
 ghost use Rattle.merc_goals.specs.Faults.{first_fault, widest_parallel};
 
 use crate::faults;
@@ -84,6 +85,16 @@ impl<'a> WrittenGoal<'a> {
         ensures { result.now ≡ entries_of self.now }
     {
         &self.entries
+    }
+
+    /// Where the goal stands in its text.
+    pub fn span(&self) -> Span
+        ensures { result ≡ written_span self.now }
+    {
+        match self.entries() {
+            [whole, ..] => whole.span,
+            [] => unreachable!(),
+        }
     }
 
     /// The first part of the goal that is of no form, or outside the supported part of the language: the one that

@@ -4,11 +4,12 @@
 mod faults;
 mod goal;
 mod links;
+mod numbers;
 mod planning;
 mod reading;
 mod roles;
-#[cfg(test)]
-mod tests;
 
+pub use faults::{earlier, place_of};
 pub use goal::{Entry, Form, WrittenGoal};
+pub use numbers::{Numbered, left_of, number_behind, number_past, right_of};
 pub use reading::written_goal;

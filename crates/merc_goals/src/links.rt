@@ -1,80 +1,21 @@
 //! Terms with their numbers, and the sides of an operator.
-ghost use Rattle.std.specs.Prelude.{◌≡◌, ◌+◌, IfOk};
-ghost use Rattle.merc_goals.specs.Written.{parts, listed_variables};
+ghost use Rattle.std.specs.Prelude.{◌≡◌, IfOk};
+ghost use Rattle.merc_goals.specs.Written.{listed_variables};
 ghost use Rattle.merc_goals.specs.Roles.{role_of};
-ghost use Rattle.merc_goals.specs.Links.{left_of, right_of, sides, condition_sides, is_arrow, is_joined, link_of, chain, cell_of};
+ghost use Rattle.merc_goals.specs.Links.{sides, condition_sides, is_arrow, is_joined, link_of, chain, cell_of};
 
+use crate::numbers::{Numbered, left_of, right_of};
 use crate::roles::{ChainKind, Role, role_of};
 use merc_base::{Name, NoMemory};
 use merc_operands::{Operands, operands_of, plain_name};
 use merc_tree::{NameList, Shape, TermRef};
 use std::alloc::Global;
 
-// A term with its number among the parts of a text.
-#[derive(Drop)]
-pub(crate) struct Numbered<'a> {
-    pub(crate) term: TermRef<'a>,
-    pub(crate) at: usize,
-}
-
-impl<'a> Numbered<'a> {
-    // The same term with its number once more.
-    pub(crate) fn copy(&self) -> Numbered<'a>
-        ensures { result ≡ self.now }
-    {
-        Numbered {
-            term: self.term.copy(),
-            at: self.at,
-        }
-    }
-}
-
 // Both sides of an operator.
 #[derive(Drop)]
 pub(crate) struct Both<'a> {
     pub(crate) left: Numbered<'a>,
     pub(crate) right: Numbered<'a>,
-}
-
-// The first argument of the term with this number.
-pub(crate) fn left_of<'a>(at: usize, left: TermRef<'a>) -> Result<Numbered<'a>, NoMemory>
-    ensures { IfOk result (λ numbered. numbered ≡ left_of at left.entry) }
-{
-    let at = number_past(at, 2)?;
-    Ok(Numbered { term: left, at })
-}
-
-// The second argument of the term with this number, behind the first.
-pub(crate) fn right_of<'a>(
-    at: usize,
-    left: &TermRef<'a>,
-    right: TermRef<'a>,
-) -> Result<Numbered<'a>, NoMemory>
-    ensures { IfOk result (λ numbered. numbered ≡ right_of at left.now right.entry) }
-{
-    let at = number_behind(at, left)?;
-    Ok(Numbered { term: right, at })
-}
-
-// The number of the second argument, behind those of the first and its parts.
-#[tactic(auto, using(crate::proofs::PartCounts::parts_shapes))]
-fn number_behind(at: usize, left: &TermRef<'_>) -> Result<usize, NoMemory>
-    ensures { IfOk result (λ number. number ≡ at + 2 + parts left.now) }
-{
-    let count = left.part_count();
-    let first = number_past(at, 2)?;
-    let half = number_past(first, count)?;
-    number_past(half, count)
-}
-
-// A number so much further on. No memory holds a text whose parts have greater numbers.
-fn number_past(at: usize, more: usize) -> Result<usize, NoMemory>
-    ensures { IfOk result (λ number. number ≡ at + more) }
-{
-    match at.checked_add(more) {
-        Some(number) => Ok(number),
-        None => Err(NoMemory),
-    }
 }
 
 // Both sides of the operator, where the term is such an application.

@@ -6,9 +6,8 @@ ghost use Rattle.merc_goals.specs.Roles.{role_of};
 ghost use Rattle.merc_goals.specs.Plans.{plan, plan_by, name_plan, unapplied_plan, one_plan, two_plan, chain_form, chain_plan, alternatives_plan, else_plan, conditional_plan, some_plan, all_plan, call_plan, plain_plan};
 
 use crate::goal::Form;
-use crate::links::{
-    Both, Numbered, chain, condition_sides, left_of, listed_variables, right_of, sides,
-};
+use crate::links::{Both, chain, condition_sides, listed_variables, sides};
+use crate::numbers::{Numbered, left_of, right_of};
 use crate::roles::{ChainKind, Role, role_of};
 use merc_base::{Name, NoMemory, Span};
 use merc_operands::{Operands, operands_of};

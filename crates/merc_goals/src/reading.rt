@@ -4,7 +4,7 @@ ghost use Rattle.merc_goals.specs.Written.{written};
 ghost use Rattle.merc_goals.specs.Entries.{entries_of};
 
 use crate::goal::{Entry, WrittenGoal};
-use crate::links::Numbered;
+use crate::numbers::Numbered;
 use crate::planning::{Task, plan};
 use merc_base::NoMemory;
 use merc_tree::TermRef;

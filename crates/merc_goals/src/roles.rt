@@ -74,7 +74,11 @@ fn literal_role_of(name: Name) -> Role
         Role::Equation
     } else if name == Name::NOT_EQUAL {
         Role::Inequation
-    } else if Name::LESS <= name && name <= Name::AT_LEAST {
+    } else if name == Name::LESS
+        || name == Name::GREATER
+        || name == Name::AT_MOST
+        || name == Name::AT_LEAST
+    {
         Role::Comparison
     } else if name == Name::IMPLIES
         || name == Name::EQUIVALENT

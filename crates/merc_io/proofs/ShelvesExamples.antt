@@ -1,7 +1,7 @@
 -- Worked examples of what the shelves in memory answer.
-use Rattle.std.proofs.Common.{◌≡◌, [], ◌∷◌, Some, refl}
+use Rattle.std.proofs.Common.{◌≡◌, [], ◌∷◌, Some, None, refl, arith}
 use Rattle.merc_base.specs.declared.outside.Fetched.TheVariants.{Got, End, Absent, Failed}
-use Rattle.merc_io.specs.Shelves.{next_piece, KeepsUnlessGot, failures, FailingShelfState, FileShelfState, stands_after}
+use Rattle.merc_io.specs.Shelves.{next_piece, KeepsUnlessGot, failures, FailingShelfState, FileShelfState, stands_after, place_behind, last_place, HasLeft, BringsPiece}
 
 -- of three bytes, two are left at place 1
 pub next_piece-example : next_piece 8 (Some (7 ∷ 8 ∷ 9 ∷ [])) 1 ≡ Got 2
@@ -39,9 +39,9 @@ failures-counterexample one = cc
 pub FailingShelfState-example : FailingShelfState
 FailingShelfState-example = record { files = []; fail = 2 ∷ []; most = 1; next_call = 1; faults = 0 }
 
--- a shelf over the system's files, of which the file 1 stands open behind its first three bytes
+-- a shelf that does not tell its files, of which the file 1 stands open behind its first three bytes
 pub FileShelfState-example : FileShelfState
-FileShelfState-example = record { faults = 0; stands = Some (1 ∷ [], 3) }
+FileShelfState-example = record { files = None; faults = 0; stands = Some (1 ∷ [], 3) }
 
 -- behind two bytes from place 3 on stands place 5
 pub stands_after-example : stands_after (Got 2) (1 ∷ []) 3 ≡ Some (1 ∷ [], 5)
@@ -50,3 +50,27 @@ stands_after-example = refl
 -- after a failed read the file is not open any more
 pub stands_after-counterexample : stands_after Failed (1 ∷ []) 3 ≡ Some (1 ∷ [], 3) → ⊥
 stands_after-counterexample same = cc
+
+-- the place behind the last one has no number
+pub place_behind-past : place_behind (1 ∷ []) last_place 1 ≡ None
+place_behind-past = refl
+
+-- the last place has one
+pub place_behind-last : place_behind (1 ∷ []) last_place 0 ≡ None → ⊥
+place_behind-last none = cc
+
+-- at place 1 of three bytes the last two are left
+pub HasLeft-example : HasLeft (Some (7 ∷ 8 ∷ 9 ∷ [])) 1 (Some (8 ∷ 9 ∷ []))
+HasLeft-example = refl
+
+-- all three are not
+pub HasLeft-counterexample : HasLeft (Some (7 ∷ 8 ∷ 9 ∷ [])) 1 (Some (7 ∷ 8 ∷ 9 ∷ [])) → ⊥
+HasLeft-counterexample left = cc
+
+-- one of the two bytes that are left at place 1
+pub BringsPiece-example : BringsPiece (Some (7 ∷ 8 ∷ 9 ∷ [])) 1 (8 ∷ [])
+BringsPiece-example = (9 ∷ [], refl, λ none. absurd (omega (arith, none)))
+
+-- no piece is empty before the end
+pub BringsPiece-counterexample : BringsPiece (Some (7 ∷ 8 ∷ 9 ∷ [])) 1 [] → ⊥
+BringsPiece-counterexample (rest, whole, end) = let none = end refl in cc

@@ -1,7 +1,7 @@
 -- Worked examples of what the sinks in memory hold.
-use Rattle.std.proofs.Common.{◌≡◌, [], ◌∷◌, Some, None, refl, ap}
+use Rattle.std.proofs.Common.{◌≡◌, true, false, [], ◌∷◌, Some, None, refl, ap}
 use Rattle.merc_base.specs.declared.outside.Wrote.TheVariants.{Took, Failed}
-use Rattle.merc_io.specs.Sinks.{MemSinkState, FailingSinkState, empty_sink, room_left, sink_after, front_of}
+use Rattle.merc_io.specs.Sinks.{MemSinkState, FailingSinkState, empty_sink, room_left, sink_after, front_of, OutSinkState, told_if}
 
 -- two bytes written, in a room of three
 pub MemSinkState-example : MemSinkState
@@ -46,3 +46,15 @@ front_of-counterexample same = cc
 -- a sink of which a write takes one byte, and whose second write fails, before the first
 pub FailingSinkState-example : FailingSinkState
 FailingSinkState-example = record { sink = empty_sink 3; fail = 2 ∷ []; most = Some 1; next_write = 1 }
+
+-- a sink over a writer that holds one byte, after one write that failed
+pub OutSinkState-example : OutSinkState
+OutSinkState-example = record { written = Some (7 ∷ []); faults = 1 }
+
+-- a writer's bytes
+pub told_if-example : told_if true (Some (7 ∷ [])) ≡ Some (7 ∷ [])
+told_if-example = refl
+
+-- standard output tells none
+pub told_if-counterexample : told_if false (Some (7 ∷ [])) ≡ Some (7 ∷ []) → ⊥
+told_if-counterexample told = cc

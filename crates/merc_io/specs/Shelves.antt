@@ -1,5 +1,5 @@
 -- What the shelves in memory answer, and what a shelf whose calls fail as told is.
-use Rattle.std.specs.Prelude.{◌≡◌, ℕ, ◌+◌, ◌-◌, ◌^◌, List, length, min, nat_le, Option, Some, None, if◌then◌else◌}
+use Rattle.std.specs.Prelude.{◌≡◌, ℕ, ◌+◌, ◌-◌, ◌^◌, List, [], ◌++◌, length, drop, min, nat_le, Option, Some, None, if◌then◌else◌}
 use Rattle.merc_base.specs.Outside.{Files}
 use Rattle.merc_base.specs.declared.outside.Fetched.{Fetched}
 use Rattle.merc_base.specs.declared.outside.Fetched.TheVariants.{Got, End, Absent, Failed, NoMemory}
@@ -35,17 +35,36 @@ pub record FailingShelfState : Type 0 where
   pub next_call : ℕ
   pub faults : ℕ
 
--- a shelf over the files of the system: how often it has failed, and the name of the file that stands
--- open with the place that it was read to, if there is one
+-- a shelf over files that are opened by name: its files, if they are told, how often it has failed, and the
+-- name of the file that stands open with the place that it was read to, if there is one
 pub record FileShelfState : Type 0 where
+  pub files : Option Files
   pub faults : ℕ
   pub stands : Option (List ℕ × ℕ)
+
+-- the last place of a file that has a number
+abbrev pub last_place : ℕ
+last_place = 2 ^ 64 - 1
+
+-- the place behind so many bytes from this place of the file of this name on, where it has a number
+abbrev pub place_behind : List ℕ → ℕ → ℕ → Option (List ℕ × ℕ)
+place_behind name at n = if nat_le (at + n) last_place then Some (name, at + n) else None
 
 -- what stands open after this answer, from this place of the file of this name; where a read fails
 -- the file is closed
 abbrev pub stands_after : Fetched → List ℕ → ℕ → Option (List ℕ × ℕ)
-stands_after (Got n) name at = Some (name, min (at + n) (2 ^ 64 - 1))
+stands_after (Got n) name at = place_behind name at n
 stands_after End name at = Some (name, at)
 stands_after Absent name at = None
 stands_after Failed name at = None
 stands_after NoMemory name at = None
+
+-- a reader has left what stands in this file, `None` for one that is not there, from this place on
+abbrev pub HasLeft : Option (List ℕ) → ℕ → Option (List ℕ) → Type 0
+HasLeft None at left = ⊥
+HasLeft (Some file) at left = left ≡ Some (drop at file)
+
+-- these bytes stand in this file from this place on, and they are none only at its end
+abbrev pub BringsPiece : Option (List ℕ) → ℕ → List ℕ → Type 0
+BringsPiece None at bytes = ⊥
+BringsPiece (Some file) at bytes = (rest : List ℕ) × (drop at file ≡ bytes ++ rest) × (length bytes ≡ 0 → rest ≡ [])

@@ -1,5 +1,5 @@
 -- What the sinks in memory hold, and which writes fail.
-use Rattle.std.specs.Prelude.{ℕ, ◌+◌, ◌-◌, List, [], ◌++◌, length, take, Option, Some, None}
+use Rattle.std.specs.Prelude.{ℕ, ◌+◌, ◌-◌, Bool, true, false, List, [], ◌++◌, length, take, Option, Some, None}
 use Rattle.merc_base.specs.declared.outside.Wrote.{Wrote}
 use Rattle.merc_base.specs.declared.outside.Wrote.TheVariants.{Took, Failed}
 
@@ -34,3 +34,13 @@ pub record FailingSinkState : Type 0 where
   pub fail : List ℕ
   pub most : Option ℕ
   pub next_write : ℕ
+
+-- a sink over a writer: the bytes that it holds, if they are told, and how many writes have failed
+pub record OutSinkState : Type 0 where
+  pub written : Option (List ℕ)
+  pub faults : ℕ
+
+-- these bytes where they are told, and nothing where not
+abbrev pub told_if : Bool → Option (List ℕ) → Option (List ℕ)
+told_if true bytes = bytes
+told_if false bytes = None

@@ -1,5 +1,5 @@
-//! The outside world: files and standard output, and shelves and sinks in memory that stand in for them
-//! and fail as told.
+//! The outside world: shelves over files that are opened and sinks over writers, those of the system among them, and
+//! shelves and sinks in memory that stand in for them and fail as told.
 #![tactic(auto)]
 
 pub mod failing_shelf;
@@ -8,6 +8,7 @@ pub mod file_shelf;
 pub mod mem_shelf;
 pub mod mem_sink;
 pub mod open_gate;
+pub mod opening;
 pub mod out_sink;
 
 pub use failing_shelf::FailingShelf;
@@ -16,7 +17,8 @@ pub use file_shelf::FileShelf;
 pub use mem_shelf::MemShelf;
 pub use mem_sink::MemSink;
 pub use open_gate::OpenGate;
-pub use out_sink::OutSink;
+pub use opening::{Opener, ReadFault, SystemFiles};
+pub use out_sink::{OutSink, SystemOutput};
 
 #[cfg(test)]
 mod tests;

@@ -1,5 +1,5 @@
-//! Standard output, as a sink. What the system does with the bytes is trusted.
-ghost use Rattle.std.specs.Prelude.{◌≡◌, ◌+◌, ◌<◌, ◌≤◌, None, length, take, IfSome, IfNone};
+//! A sink over a writer, standard output or another.
+ghost use Rattle.std.specs.Prelude.{◌≡◌, ◌+◌, ◌<◌, ◌≤◌, None, length, take, true, IfSome, IfNone, is_some};
 ghost use Rattle.std.specs.Io.KnownBytes.{Appends, Keeps};
 ghost use Rattle.merc_base.specs.Outside.{AnswersWrite};
 
@@ -8,44 +8,66 @@ use std::io;
 use std::io::Write;
 use std::marker::Model;
 
-/// Standard output, with no buffer: what a write took is with the system. It is seen as the count of its
-/// faults.
+/// A writer, with no buffer: what a write took is with the writer.
 #[derive(Drop)]
-pub struct OutSink<R: Print + Drop> {
-    rt: R,
+pub struct OutSink<W: Write + Drop> {
+    writer: W,
+    // Whether the writer tells its bytes, from the first on. Clauses alone speak of it.
+    is_told: bool,
     faults: u64,
 }
 
-impl<R: Print + Drop> Model for OutSink<R> {
-    ghost use Rattle.std.specs.Prelude.{ℕ};
+impl<W: Write + Drop> Model for OutSink<W> {
+    ghost use Rattle.std.specs.Prelude.{◌≡◌, true, is_some};
+    ghost use Rattle.merc_io.specs.Sinks.{OutSinkState, told_if};
 
-    ghost Value = { ℕ };
+    ghost Value = { OutSinkState };
 
-    ghost view = { λ s. s.faults };
+    ghost view = { λ s. record { written = told_if s.is_told (W.contents s.writer); faults = s.faults } };
+
+    ghost invariant = { λ s. s.is_told ≡ true → is_some (W.contents s.writer) ≡ true };
 }
 
-impl<R: Print + Drop> OutSink<R> {
-    /// The standard output of this runtime.
-    pub fn new(rt: R) -> OutSink<R>
-        ensures { result ≡ 0 }
+impl<R: Print + Drop> OutSink<SystemOutput<R>> {
+    /// The standard output of this runtime. What the system does with the bytes is trusted.
+    pub fn new(rt: R) -> OutSink<SystemOutput<R>>
+        ensures { result ≡ record { written = None; faults = 0 } }
     {
-        OutSink { rt, faults: 0 }
+        OutSink {
+            writer: SystemOutput { rt },
+            is_told: false,
+            faults: 0,
+        }
     }
 }
 
-impl<R: Print + Drop> Sink for OutSink<R> {
-    ghost written = { λ _. None };
+impl<W: Write + Drop> OutSink<W> {
+    /// A writer that tells its bytes.
+    pub fn over(writer: W) -> OutSink<W>
+        requires { is_some (W.contents writer) ≡ true }
+        ensures { result ≡ record { written = W.contents writer; faults = 0 } }
+    {
+        OutSink {
+            writer,
+            is_told: true,
+            faults: 0,
+        }
+    }
+}
 
-    ghost write_faults = { λ s. s };
+impl<W: Write + Drop> Sink for OutSink<W> {
+    ghost written = { λ s. s.written };
+
+    ghost write_faults = { λ s. s.faults };
 
     /// One write. The count of faults rises by one where it fails, and where it takes nothing of a piece that
     /// is not empty.
     fn write(&mut self, bytes: &[u8]) -> Wrote
-        requires { self.old < 18446744073709551615 }
-        ensures answer { AnswersWrite bytes.now None None self.old self.new result }
-        ensures by_one { self.new ≤ self.old + 1 }
+        requires { self.old.faults < 18446744073709551615 }
+        ensures answer { AnswersWrite bytes.now self.old.written self.new.written self.old.faults self.new.faults result }
+        ensures by_one { self.new.faults ≤ self.old.faults + 1 }
     {
-        match write_once(&mut io::writer(&self.rt), bytes) {
+        match write_once(&mut self.writer, bytes) {
             Some(count) => Wrote::Took(count),
             None => {
                 self.faults += 1;
@@ -66,5 +88,21 @@ fn write_once<W: Write>(writer: &mut W, bytes: &[u8]) -> Option<usize>
     match writer.write(bytes) {
         Ok(count) if count > 0 || bytes.is_empty() => Some(count),
         _ => None,
+    }
+}
+
+/// The standard output of a runtime, as a writer that tells nothing.
+#[derive(Drop)]
+pub struct SystemOutput<R: Print + Drop> {
+    rt: R,
+}
+
+impl<R: Print + Drop> Write for SystemOutput<R> {
+    fn write(&mut self, bytes: &[u8]) -> io::Result<usize> {
+        io::writer(&self.rt).write(bytes)
+    }
+
+    fn flush(&mut self) -> io::Result<()> {
+        Ok(())
     }
 }

@@ -1,73 +1,97 @@
+ghost use Rattle.std.specs.Prelude.{None, Some};
+
+//! What no clause can say: what the files of the system hold, and that a reader may give and a writer take less.
 use super::*;
-use merc_base::{Buffer, Fetched, Gate, NoMemory, Shelf, Sink, Text, Wrote};
-use std::alloc::Global;
+use merc_base::{Buffer, Fetched, Gate, Shelf, Sink, Text, Wrote};
+use std::io::{ErrorKind, Read, Write};
+use std::os::fd::AsRawFd;
 use std::test::Fail;
-use std::{fs, process};
+use std::{fs, io, process};
 
-fn two_files(alloc: Global) -> Result<Vec<(Text, Text)>, NoMemory> {
-    let mut files = Vec::new(alloc);
-    files.push((Text::of(alloc, b"a")?, Text::of(alloc, b"first")?))?;
-    files.push((Text::of(alloc, b"b")?, Text::of(alloc, b"second")?))?;
-    Ok(files)
+// A reader that gives two bytes at a time, and fails after four.
+#[derive(Drop)]
+struct Short {
+    given: usize,
+}
+
+impl Read for Short {
+    fn read(&mut self, room: &mut [u8]) -> io::Result<usize> {
+        if self.given >= 4 || room.len() < 2 {
+            return Err(io::Error::from(ErrorKind::Other));
+        }
+        self.given += 2;
+        room[0] = b'a';
+        room[1] = b'b';
+        Ok(2)
+    }
+}
+
+#[derive(Drop)]
+struct ShortFiles;
+
+impl Opener for ShortFiles {
+    type Reader = Short;
+
+    ghost files = { λ _. None };
+
+    fn open_at(&self, _name: &Text, _at: u64) -> Result<Short, ReadFault> {
+        Ok(Short { given: 0 })
+    }
+
+    fn tells(&self) -> bool {
+        false
+    }
+}
+
+// A writer that takes two bytes at a time, and fails when it has four.
+#[derive(Drop)]
+struct Narrow {
+    bytes: Vec<u8>,
+}
+
+impl Write for Narrow {
+    ghost contents = { λ w. Some w.bytes.items };
+
+    fn write(&mut self, bytes: &[u8]) -> io::Result<usize> {
+        if self.bytes.len() >= 4 {
+            return Err(io::Error::from(ErrorKind::WriteZero));
+        }
+        let count = bytes.len().min(2);
+        match self.bytes.extend_from_slice(&bytes[..count]) {
+            Ok(()) => Ok(count),
+            Err(_) => Err(io::Error::from(ErrorKind::OutOfMemory)),
+        }
+    }
+
+    fn flush(&mut self) -> io::Result<()> {
+        Ok(())
+    }
 }
 
 #[test]
-fn memory_is_read(rt: HostRuntime) -> Result<(), Fail> {
+fn a_reader_gives_less(rt: HostRuntime) -> Result<(), Fail> {
     let alloc = rt.alloc();
     let mut buffer = Buffer::new(alloc)?;
-    let mut shelf = MemShelf::new(two_files(alloc)?);
-    let name = Text::of(alloc, b"b")?;
-    assert_eq!(rt; shelf.fetch(&name, 2, &mut buffer), Fetched::Got(4));
-    assert_eq!(rt; buffer.bytes(), b"cond".as_slice());
-    assert_eq!(rt; shelf.fetch(&name, 6, &mut buffer), Fetched::End);
-    assert_eq!(rt;
-        shelf.fetch(&Text::new(alloc), 0, &mut buffer),
-        Fetched::Absent
-    );
-    Ok(())
-}
-
-#[test]
-fn the_second_read_fails(rt: HostRuntime) -> Result<(), Fail> {
-    let alloc = rt.alloc();
-    let mut buffer = Buffer::new(alloc)?;
-    let mut shelf = FailingShelf::new(two_files(alloc)?, vec![in alloc; 2]?, 3);
+    let mut shelf = FileShelf::over(alloc, ShortFiles);
     let name = Text::of(alloc, b"a")?;
-    assert_eq!(rt; shelf.fetch(&name, 0, &mut buffer), Fetched::Got(3));
-    assert_eq!(rt; shelf.fetch(&name, 3, &mut buffer), Fetched::Failed);
-    assert_eq!(rt; shelf.fetch(&name, 3, &mut buffer), Fetched::Got(2));
-    assert_eq!(rt; buffer.bytes(), b"st".as_slice());
+    assert_eq!(rt; shelf.fetch(&name, 0, &mut buffer), Fetched::Got(2));
+    assert_eq!(rt; buffer.bytes(), b"ab".as_slice());
+    assert_eq!(rt; shelf.fetch(&name, 2, &mut buffer), Fetched::Got(2));
+    assert_eq!(rt; shelf.fetch(&name, 4, &mut buffer), Fetched::Failed);
+    assert_eq!(rt; shelf.fetch(&name, 4, &mut buffer), Fetched::Got(2));
     Ok(())
 }
 
 #[test]
-fn memory_is_written(rt: HostRuntime) -> Result<(), Fail> {
-    let mut sink = MemSink::with_room(rt.alloc(), 4)?;
-    assert_eq!(rt; sink.write(b"abc"), Wrote::Took(3));
-    assert_eq!(rt; sink.write(b"de"), Wrote::Failed);
-    assert_eq!(rt; sink.write(b"f"), Wrote::Took(1));
-    assert_eq!(rt; sink.bytes(), b"abcf".as_slice());
-    Ok(())
-}
-
-#[test]
-fn the_second_write_fails(rt: HostRuntime) -> Result<(), Fail> {
-    let alloc = rt.alloc();
-    let mut whole = FailingSink::with_room(alloc, 9, vec![in alloc; 2]?)?;
-    assert_eq!(rt; whole.write(b"abc"), Wrote::Took(3));
-    assert_eq!(rt; whole.write(b"abc"), Wrote::Failed);
-    assert_eq!(rt; whole.write(b"abc"), Wrote::Took(3));
-    assert_eq!(rt; whole.bytes(), b"abcabc".as_slice());
-    Ok(())
-}
-
-#[test]
-fn short_writes_are_taken(rt: HostRuntime) -> Result<(), Fail> {
-    let alloc = rt.alloc();
-    let mut short = FailingSink::taking(alloc, 9, Vec::new(alloc), 2)?;
-    assert_eq!(rt; short.write(b"abc"), Wrote::Took(2));
-    assert_eq!(rt; short.write(b"c"), Wrote::Took(1));
-    assert_eq!(rt; short.bytes(), b"abc".as_slice());
+fn a_writer_takes_less(rt: HostRuntime) -> Result<(), Fail> {
+    let mut sink = OutSink::over(Narrow {
+        bytes: Vec::new(rt.alloc()),
+    });
+    assert_eq!(rt; sink.write(b"abc"), Wrote::Took(2));
+    assert_eq!(rt; sink.write(b"c"), Wrote::Took(1));
+    assert_eq!(rt; sink.write(b""), Wrote::Took(0));
+    assert_eq!(rt; sink.write(b"de"), Wrote::Took(2));
+    assert_eq!(rt; sink.write(b"f"), Wrote::Failed);
     Ok(())
 }
 
@@ -88,24 +112,11 @@ fn the_system_is_read(rt: HostRuntime) -> Result<(), Fail> {
         shelf.fetch(&Text::of(alloc, b"/")?, 0, &mut buffer),
         Fetched::Failed
     );
-    assert_eq!(rt;
-        shelf.fetch(&Text::of(alloc, b"\xff")?, 0, &mut buffer),
-        Fetched::Failed
-    );
     Ok(())
 }
 
 #[test]
-fn the_system_is_written(rt: HostRuntime) {
-    let mut sink = OutSink::new(&rt);
-    assert_eq!(rt; sink.write(b"written\n"), Wrote::Took(8));
-    OpenGate.enter(1);
-}
-
-#[test]
 fn a_pipe_is_read_on(rt: HostRuntime) -> Result<(), Fail> {
-    use std::io::Write;
-    use std::os::fd::AsRawFd;
     let alloc = rt.alloc();
     let (reader, mut writer) = std::io::pipe(&rt)?;
     let path = format!(in alloc; "/proc/self/fd/{}", reader.as_raw_fd())?;
@@ -119,4 +130,11 @@ fn a_pipe_is_read_on(rt: HostRuntime) -> Result<(), Fail> {
     writer.write_all(b"abc")?;
     assert_eq!(rt; shelf.fetch(&name, 9, &mut buffer), Fetched::Failed);
     Ok(())
+}
+
+#[test]
+fn the_system_is_written(rt: HostRuntime) {
+    let mut sink = OutSink::new(&rt);
+    assert_eq!(rt; sink.write(b"written\n"), Wrote::Took(8));
+    OpenGate.enter(1);
 }

@@ -1,6 +1,7 @@
 -- The first refusal of the items is the first of their faults.
 use Rattle.std.proofs.Common.{◌≡◌, ℕ, ◌<◌, ◌≤◌, ◌⊎◌, inl, inr, Bool, true, false, List, [], ◌∷◌, ◌++◌, Option, Some, None, refl, ap, sym, subst, ◌∙◌, arith}
 use Rattle.merc_base.specs.Refusal.{rule_number}
+use Rattle.merc_base.specs.FirstFault.{ComesFirst, HasNone, IsFirst}
 use Rattle.merc_base.specs.declared.place.Place.{Place}
 use Rattle.merc_base.specs.declared.refusal.Construct.{Construct}
 use Rattle.merc_base.specs.declared.refusal.Rule.{Rule}
@@ -12,7 +13,7 @@ use Rattle.merc_base.specs.declared.refusal.Refusal.{Refusal}
 use Rattle.merc_tree.specs.Term.{Term, span_of}
 use Rattle.merc_item_forms.specs.Items.{Item, item_of, place_of}
 use Rattle.merc_item_forms.specs.Forms.{words, is_too_wide}
-use Rattle.merc_item_forms.specs.FormFaults.{is_nil, opened, own_name, HasFormFault, no_item as no_item_at_all, wrong, outside, wide, Rises, IsFirstFormFault}
+use Rattle.merc_item_forms.specs.FormFaults.{is_nil, opened, own_name, HasFormFault, no_item as no_item_at_all, wrong, outside, wide, Rises}
 use Rattle.merc_item_forms.specs.FormChecks.{is_wrong, first_of, least_fault, fault_of, at_place, or_else, refusal_from, no_item, first_refusal}
 use Rattle.merc_item_forms.proofs.WrongForms.{wrong_if, if_wrong}
 
@@ -121,14 +122,9 @@ module _ (names : List (List ℕ)) (own : ℕ) (first : Bool) (start : Term) (re
 
 -- the refusal that is computed is such a fault, and no other comes before it
 
-record IsFirst (names : List (List ℕ)) (own : ℕ) (first : Bool) (terms : List Term) (refusal : Refusal) : Type 0 where
-  is : FaultAt names own first terms refusal.rule refusal.detail refusal.place
-  least : (rule : Rule) (detail : Detail) (place : Place) → FaultAt names own first terms rule detail place
-      → (refusal.place.byte < place.byte) ⊎ ((place ≡ refusal.place) × (rule_number refusal.rule ≤ rule_number rule))
-
 abbrev IsRefusalOf : (names : List (List ℕ)) (own : ℕ) (first : Bool) (terms : List Term) → Option Refusal → Type 0
-IsRefusalOf names own first terms None = (rule : Rule) (detail : Detail) (place : Place) → FaultAt names own first terms rule detail place → ⊥
-IsRefusalOf names own first terms (Some refusal) = IsFirst names own first terms refusal
+IsRefusalOf names own first terms None = HasNone (FaultAt names own first terms)
+IsRefusalOf names own first terms (Some refusal) = IsFirst (FaultAt names own first terms) refusal
 
 rises_rest : (start : Term) (rest : List Term) → Rises (start ∷ rest) → Rises rest
 rises_rest start [] up = tt
@@ -170,8 +166,8 @@ module _ (names : List (List ℕ)) (own : ℕ) (first : Bool) (start : Term) (re
 
   first_here : (rule : Rule) (detail : Detail) → Rises (start ∷ rest) → IsLeast names own first (is_nil rest) (item_of start) rule detail
       → (other : Rule) (other_detail : Detail) (place : Place) → Splits names own first start rest other other_detail place
-      → ((place_of start).byte < place.byte) ⊎ ((place ≡ place_of start) × (rule_number rule ≤ rule_number other))
-  first_here rule detail up least other other_detail place (here fault there) = inr (there, least.least other other_detail fault)
+      → ComesFirst (place_of start).byte rule place.byte other
+  first_here rule detail up least other other_detail place (here fault there) = inr (ap (λ (p : Place). p.byte) (sym there), least.least other other_detail fault)
   first_here rule detail up least other other_detail place (behind at) =
       let later : (span_of start).first < (span_of at.term).first = rises_to start rest at.front at.back at.term up at.whole in
       let P : Place → Type 0 = λ p. (place_of start).byte < p.byte in
@@ -181,16 +177,16 @@ module _ (names : List (List ℕ)) (own : ℕ) (first : Bool) (start : Term) (re
       → IsRefusalOf names own false rest refusal → IsRefusalOf names own first (start ∷ rest) (or_else (at_place (place_of start) fault) refusal)
   or_behind (Some (rule, detail)) refusal up least others =
       record {
-        is = at_start rule detail least.is;
-        least = λ other other_detail place at. first_here rule detail up least other other_detail place (split names own first start rest at);
+        fault = at_start rule detail least.is;
+        first = λ other other_detail place at. first_here rule detail up least other other_detail place (split names own first start rest at);
       }
   or_behind None None up none others =
       λ rule detail place at. others rule detail place (not_here names own first start rest none rule detail place (split names own first start rest at))
   or_behind None (Some refusal) up none others =
       record {
-        is = moved others.is;
-        least = λ other other_detail place at.
-            others.least other other_detail place (not_here names own first start rest none other other_detail place (split names own first start rest at));
+        fault = moved others.fault;
+        first = λ other other_detail place at.
+            others.first other other_detail place (not_here names own first start rest none other other_detail place (split names own first start rest at));
       }
 
 nothing_in_none : (names : List (List ℕ)) (own : ℕ) (first : Bool) (rule : Rule) (detail : Detail) (place : Place) (front back : List Term) (term : Term)
@@ -240,8 +236,7 @@ some_term start rest same = grind (arith, same)
 some_refusal : (refusal : Refusal) → None ≡ Some refusal → ⊥
 some_refusal refusal same = grind (arith, same)
 
-pub no_fault : (names : List (List ℕ)) (terms : List Term) → Rises terms → None ≡ first_refusal names terms
-    → (rule : Rule) (detail : Detail) (place : Place) → HasFormFault names terms rule detail place → ⊥
+pub no_fault : (names : List (List ℕ)) (terms : List Term) → Rises terms → None ≡ first_refusal names terms → HasNone (HasFormFault names terms)
 no_fault names [] up none rule detail place fault = some_refusal no_item none
 no_fault names (start ∷ rest) up none rule detail place fault =
     let P : Option Refusal → Type 0 = λ o. IsRefusalOf names (opened (item_of start)) true (start ∷ rest) o in
@@ -250,26 +245,26 @@ no_fault names (start ∷ rest) up none rule detail place fault =
     clear rule detail place (to_place names (start ∷ rest) (some_term start rest) fault)
 
 only_no_item : (names : List (List ℕ)) {rule : Rule} {detail : Detail} {place : Place} → HasFormFault names [] rule detail place
-    → (no_item.place.byte < place.byte) ⊎ ((place ≡ no_item.place) × (rule_number no_item.rule ≤ rule_number rule))
+    → ComesFirst no_item.place.byte no_item.rule place.byte rule
 only_no_item names (no_item_at_all empty) = inr (refl, omega arith)
 only_no_item names (wrong front back term whole is) = absurd (nothing_in_none names 0 true WrongForm Plain no_item.place front back term whole)
 only_no_item names (outside front back term word rest whole is) = absurd (nothing_in_none names 0 true WrongForm Plain no_item.place front back term whole)
 only_no_item names (wide front back term whole is) = absurd (nothing_in_none names 0 true WrongForm Plain no_item.place front back term whole)
 
-first_no_item : (names : List (List ℕ)) → IsFirstFormFault names [] no_item
+first_no_item : (names : List (List ℕ)) → IsFirst (HasFormFault names []) no_item
 first_no_item names = record { fault = no_item_at_all refl; first = λ rule detail place fault. only_no_item names fault }
 
 same_refusal : (refusal other : Refusal) → Some refusal ≡ Some other → refusal ≡ other
 same_refusal refusal other same = cc
 
-pub first_fault : (names : List (List ℕ)) (terms : List Term) (refusal : Refusal) → Rises terms → Some refusal ≡ first_refusal names terms → IsFirstFormFault names terms refusal
+pub first_fault : (names : List (List ℕ)) (terms : List Term) (refusal : Refusal) → Rises terms → Some refusal ≡ first_refusal names terms → IsFirst (HasFormFault names terms) refusal
 first_fault names [] refusal up found =
-    let P : Refusal → Type 0 = λ r. IsFirstFormFault names [] r in subst P (sym (same_refusal refusal no_item found)) (first_no_item names)
+    let P : Refusal → Type 0 = λ r. IsFirst (HasFormFault names []) r in subst P (sym (same_refusal refusal no_item found)) (first_no_item names)
 first_fault names (start ∷ rest) refusal up found =
     let P : Option Refusal → Type 0 = λ o. IsRefusalOf names (opened (item_of start)) true (start ∷ rest) o in
-    let least : IsFirst names (opened (item_of start)) true (start ∷ rest) refusal =
+    let least : IsFirst (FaultAt names (opened (item_of start)) true (start ∷ rest)) refusal =
     subst P (sym found) (refusal_is names (opened (item_of start)) true (start ∷ rest) up) in
     record {
-      fault = from_place names (start ∷ rest) refusal.rule refusal.detail refusal.place least.is;
-      first = λ rule detail place fault. least.least rule detail place (to_place names (start ∷ rest) (some_term start rest) fault);
+      fault = from_place names (start ∷ rest) refusal.rule refusal.detail refusal.place least.fault;
+      first = λ rule detail place fault. least.first rule detail place (to_place names (start ∷ rest) (some_term start rest) fault);
     }

@@ -1,5 +1,6 @@
 -- What items are, by the operands of their terms.
 use Rattle.std.proofs.Common.{◌≡◌, ℕ, ◌==◌, Bool, true, false, Option, Some, None, if◌then◌else◌, refl}
+use Rattle.merc_base.specs.Names.{colon_minus_name, grammar_arrow_name, type_arrow_name, equal_equal_name, semicolon_name, is_name}
 use Rattle.merc_tree.specs.Term.{Term, Variable, Integer, Text, Application, none, more}
 use Rattle.merc_item_forms.specs.Items.{Item, OtherType, OtherGrammar, OtherDeclaration, Formless, TypeItem, ClauseItem, item_of, declaration, nullary, unary, wider, type_item, with_category}
 use Rattle.merc_operands.specs.Members.{chain}
@@ -9,8 +10,8 @@ use Rattle.merc_operands.specs.declared.operands.Operands.TheVariants.{Zero, One
 
 abbrev pub item_by : Term → Operands → Item
 item_by whole (Zero name) = ClauseItem whole None
-item_by whole (One name only) = if name == 10 then declaration only else ClauseItem whole None
-item_by whole (Two name first second) = if name == 10 then ClauseItem first (Some second) else if name == 11 then OtherGrammar else ClauseItem whole None
+item_by whole (One name only) = if name == colon_minus_name then declaration only else ClauseItem whole None
+item_by whole (Two name first second) = if name == colon_minus_name then ClauseItem first (Some second) else if name == grammar_arrow_name then OtherGrammar else ClauseItem whole None
 item_by whole (Many name) = ClauseItem whole None
 item_by whole Qualified = ClauseItem whole None
 item_by whole NotApplied = ClauseItem whole None
@@ -43,15 +44,16 @@ declaration-by (Application name None (more first (more second none)) span) = re
 declaration-by (Application name None (more first (more second (more third rest))) span) = refl
 declaration-by (Application name (Some qualifier) arguments span) = refl
 
-abbrev pub type_by : Operands → Item
-type_by (Zero word) = OtherType
-type_by (One word argument) = OtherType
-type_by (Two name head constructors) = if name == 17 then TypeItem head (chain 23 constructors) else OtherType
-type_by (Many word) = OtherType
-type_by Qualified = OtherType
-type_by NotApplied = Formless
+abbrev pub type_by : Term → Operands → Item
+type_by whole (Zero word) = OtherType whole
+type_by whole (One word argument) = OtherType whole
+type_by whole (Two name head second) =
+    if name == type_arrow_name then TypeItem head (chain semicolon_name second) else if name == equal_equal_name then OtherType head else OtherType whole
+type_by whole (Many word) = OtherType whole
+type_by whole Qualified = OtherType whole
+type_by whole NotApplied = OtherType whole
 
-pub type_item-by : (term : Term) → type_item term ≡ type_by (operands_of term)
+pub type_item-by : (term : Term) → type_item term ≡ type_by term (operands_of term)
 type_item-by (Variable name span) = refl
 type_item-by (Integer value span) = refl
 type_item-by (Text text span) = refl
@@ -76,6 +78,6 @@ with_category-by make (Text text span) = refl
 with_category-by make (Application name None none span) = refl
 with_category-by make (Application name None (more only none) span) = refl
 with_category-by make (Application name None (more first (more second none)) span) =
-    two_ways (name == 35) make first second (Application name None (more first (more second none)) span)
+    two_ways (name == is_name) make first second (Application name None (more first (more second none)) span)
 with_category-by make (Application name None (more first (more second (more third rest))) span) = refl
 with_category-by make (Application name (Some qualifier) arguments span) = refl

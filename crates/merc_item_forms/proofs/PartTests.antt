@@ -1,14 +1,15 @@
 -- Tests on the parts of a term are tests on its shapes.
-use Rattle.std.proofs.Common.{◌≡◌, ℕ, suc, ◌-◌, ◌==◌, nat_le, Bool, true, false, ◌&&◌, ◌||◌, List, [], ◌∷◌, ◌++◌, Some, None, length, take, refl, ap, sym, ◌∙◌, ne_eqb, arith}
+use Rattle.std.proofs.Common.{◌≡◌, ℕ, suc, ◌-◌, ◌==◌, Bool, true, false, ◌&&◌, ◌||◌, List, [], ◌∷◌, ◌++◌, Some, None, length, take, refl, ap, sym, ◌∙◌, ne_eqb, arith}
 use Rattle.std.specs.List.{list_any}
 use Rattle.std.proofs.lemmas.List.{take_at, length-append}
 use Rattle.std.proofs.lemmas.List.Folds.{list_any-append}
+use Rattle.merc_base.specs.Names.{colon_colon_name}
 use Rattle.merc_tree.specs.declared.term.Shape.{Shape}
 use Rattle.merc_tree.specs.declared.term.Shape.TheVariants.{Application as ApplicationShape}
 use Rattle.merc_tree.specs.Term.{Term, Terms, Variable, Integer, Text, Application, none, more, list_of}
 use Rattle.merc_tree.specs.Shape.{shape_of, arguments_of}
 use Rattle.merc_tree.specs.Postfix.{shapes_of, all_shapes}
-use Rattle.merc_item_forms.specs.Forms.{has_part, have_part}
+use Rattle.merc_item_forms.specs.Forms.{has_part, have_part, is_outside_plain, is_outside_applied}
 use Rattle.merc_item_forms.specs.Parts.{test_of, shape_test}
 use Rattle.merc_item_forms.specs.declared.parts.PartTest.{PartTest}
 use Rattle.merc_item_forms.specs.declared.parts.PartTest.TheVariants.{Literal, OutsideType, Moded, Wide}
@@ -62,7 +63,7 @@ outside_same (Integer value span) = refl
 outside_same (Text text span) = refl
 outside_same (Application name None none span) = refl
 outside_same (Application name None (more first rest) span) =
-    ap (λ b. (b && (nat_le 71 name && nat_le name 81)) || (name == 33) || (name == 34)) (sym (not_zero (length (list_of rest))))
+    ap (λ b. (b && is_outside_plain name) || is_outside_applied name) (sym (not_zero (length (list_of rest))))
 outside_same (Application name (Some qualifier) arguments span) = refl
 
 pub moded_same : (term : Term) → test_of Moded term ≡ shape_test Moded (shape_of term)
@@ -72,7 +73,7 @@ moded_same (Text text span) = refl
 moded_same (Application name None none span) = refl
 moded_same (Application name None (more only none) span) = refl
 moded_same (Application name None (more first (more second none)) span) = refl
-moded_same (Application name None (more first (more second (more third rest))) span) = ap (λ b. b && (name == 18)) (sym (not_two (length (list_of rest))))
+moded_same (Application name None (more first (more second (more third rest))) span) = ap (λ b. b && (name == colon_colon_name)) (sym (not_two (length (list_of rest))))
 moded_same (Application name (Some qualifier) arguments span) = refl
 
 wide_same : (term : Term) → test_of Wide term ≡ shape_test Wide (shape_of term)

@@ -2,8 +2,8 @@
 use Rattle.std.proofs.Common.{◌≡◌, ℕ, ◌⊎◌, inl, inr, Bool, true, false, not, ◌&&◌, ◌||◌, List, Option, refl, ap}
 use Rattle.merc_tree.specs.Term.{Term}
 use Rattle.merc_item_forms.specs.Items.{Item, Opening, Ending, Section, Import, TypeItem, PredicateItem, ModeItem, ClauseItem, OtherType, OtherFunction, OtherGrammar, OtherDeclaration, Formless}
-use Rattle.merc_item_forms.specs.Forms.{is_opening, IsWrong, no_opening, second_opening, early_end, other_end, formless, type_head, type_qualifier, parameters, parameters_repeat, constructor_head, constructor_qualifier, constructor_literal, predicate_head, predicate_qualifier, predicate_literal, partly_moded, predicate_mode, predicate_category, mode_head, mode_qualifier, mode_argument, mode_category, clause_head}
-use Rattle.merc_item_forms.specs.FormChecks.{is_wrong_type, is_wrong_predicate, is_wrong_mode, is_wrong_there, is_wrong}
+use Rattle.merc_item_forms.specs.Forms.{is_opening, IsWrongTypeHead, no_name, qualifier, parameters, parameters_repeat, IsWrong, no_opening, second_opening, early_end, other_end, formless, type_head, other_type_head, constructor_head, constructor_qualifier, constructor_literal, predicate_head, predicate_qualifier, predicate_literal, partly_moded, predicate_mode, predicate_category, mode_head, mode_qualifier, mode_argument, mode_category, clause_head}
+use Rattle.merc_item_forms.specs.FormChecks.{is_wrong_type_head, is_wrong_type, is_wrong_predicate, is_wrong_mode, is_wrong_there, is_wrong}
 
 -- tests
 
@@ -29,6 +29,21 @@ both_of : (a b : Bool) → (a && b) ≡ true → (a ≡ true) × (b ≡ true)
 both_of true b is = (refl, is)
 both_of false b is = cc
 
+-- heads of types
+
+wrong_head : (names : List (List ℕ)) (own : ℕ) (head : Term) → is_wrong_type_head names own head ≡ true → IsWrongTypeHead names own head
+wrong_head names own head is =
+    elim (either_of _ _ is) [
+      | inl heads ↦ elim (either_of _ _ heads) [ inl plain ↦ no_name (no_longer _ plain) | inr foreign ↦ qualifier foreign ]
+      | inr variables ↦ elim (either_of _ _ variables) [ inl kinds ↦ parameters (no_longer _ kinds) | inr twice ↦ parameters_repeat twice ]
+    ]
+
+if_wrong_head : {names : List (List ℕ)} {own : ℕ} {head : Term} → IsWrongTypeHead names own head → is_wrong_type_head names own head ≡ true
+if_wrong_head (no_name is) = left_of _ _ (left_of _ _ (negated _ is))
+if_wrong_head (qualifier is) = left_of _ _ (right_of _ _ is)
+if_wrong_head (parameters is) = right_of _ _ (left_of _ _ (negated _ is))
+if_wrong_head (parameters_repeat is) = right_of _ _ (right_of _ _ is)
+
 module _ (names : List (List ℕ)) (own : ℕ) (first last : Bool) where
   abbrev Wrong : Item → Type 0
   Wrong item = IsWrong names own first last item
@@ -38,16 +53,7 @@ module _ (names : List (List ℕ)) (own : ℕ) (first last : Bool) where
   wrong_type : (head : Term) (constructors : List Term) → is_wrong_type names own head constructors ≡ true → Wrong (TypeItem head constructors)
   wrong_type head constructors is =
       elim (either_of _ _ is) [
-        | inl start ↦ elim (either_of _ _ start) [
-          | inl heads ↦ elim (either_of _ _ heads) [
-            | inl plain ↦ type_head first last head constructors (no_longer _ plain)
-            | inr foreign ↦ type_qualifier first last head constructors foreign
-          ]
-          | inr variables ↦ elim (either_of _ _ variables) [
-            | inl kinds ↦ parameters first last head constructors (no_longer _ kinds)
-            | inr twice ↦ parameters_repeat first last head constructors twice
-          ]
-        ]
+        | inl heads ↦ type_head first last head constructors (wrong_head names own head heads)
         | inr rest ↦ elim (either_of _ _ rest) [
           | inl start ↦ elim (either_of _ _ start) [
             | inl kinds ↦ constructor_head first last head constructors (no_longer _ kinds)
@@ -100,7 +106,7 @@ wrong_there names own first last (TypeItem head constructors) is = wrong_type na
 wrong_there names own first last (PredicateItem head category) is = wrong_predicate names own first last head category is
 wrong_there names own first last (ModeItem head category) is = wrong_mode names own first last head category is
 wrong_there names own first last (ClauseItem head body) is = clause_head first last head body (no_longer _ is)
-wrong_there names own first last OtherType is = cc
+wrong_there names own first last (OtherType head) is = other_type_head first last head (wrong_head names own head is)
 wrong_there names own first last OtherFunction is = cc
 wrong_there names own first last OtherGrammar is = cc
 wrong_there names own first last OtherDeclaration is = cc
@@ -129,14 +135,8 @@ module _ (names : List (List ℕ)) (own : ℕ) where
   if_wrong (early_end first name) = there_only first false (Ending name) refl
   if_wrong (other_end first last name is) = there_only first last (Ending name) (right_of _ _ (negated _ is))
   if_wrong (formless first last) = there_only first last Formless refl
-  if_wrong (type_head first last head constructors is) =
-      there_only first last (TypeItem head constructors) (left_of _ _ (left_of _ _ (left_of _ _ (negated _ is))))
-  if_wrong (type_qualifier first last head constructors is) =
-      there_only first last (TypeItem head constructors) (left_of _ _ (left_of _ _ (right_of _ _ is)))
-  if_wrong (parameters first last head constructors is) =
-      there_only first last (TypeItem head constructors) (left_of _ _ (right_of _ _ (left_of _ _ (negated _ is))))
-  if_wrong (parameters_repeat first last head constructors is) =
-      there_only first last (TypeItem head constructors) (left_of _ _ (right_of _ _ (right_of _ _ is)))
+  if_wrong (type_head first last head constructors is) = there_only first last (TypeItem head constructors) (left_of _ _ (if_wrong_head is))
+  if_wrong (other_type_head first last head is) = there_only first last (OtherType head) (if_wrong_head is)
   if_wrong (constructor_head first last head constructors is) =
       there_only first last (TypeItem head constructors) (right_of _ _ (left_of _ _ (left_of _ _ (negated _ is))))
   if_wrong (constructor_qualifier first last head constructors is) =

@@ -43,9 +43,11 @@ abbrev pub are_wrong_constructors : ℕ → List Term → Bool
 are_wrong_constructors own constructors =
     not (list_all is_application constructors) || list_any (is_foreign own) constructors || list_any (has_part is_literal) constructors
 
+abbrev pub is_wrong_type_head : List (List ℕ) → ℕ → Term → Bool
+is_wrong_type_head names own head = not (is_application head) || is_foreign own head || are_wrong_parameters names (arguments_of head)
+
 abbrev pub is_wrong_type : List (List ℕ) → ℕ → Term → List Term → Bool
-is_wrong_type names own head constructors =
-    not (is_application head) || is_foreign own head || are_wrong_parameters names (arguments_of head) || are_wrong_constructors own constructors
+is_wrong_type names own head constructors = is_wrong_type_head names own head || are_wrong_constructors own constructors
 
 abbrev pub is_wrong_predicate : ℕ → Term → Option Term → Bool
 is_wrong_predicate own head category = is_wrong_head own head || are_wrong_arguments (arguments_of head) || lacks_category category
@@ -62,7 +64,7 @@ is_wrong_there names own first last (TypeItem head constructors) = is_wrong_type
 is_wrong_there names own first last (PredicateItem head category) = is_wrong_predicate own head category
 is_wrong_there names own first last (ModeItem head category) = is_wrong_mode own head category
 is_wrong_there names own first last (ClauseItem head body) = not (is_head head)
-is_wrong_there names own first last OtherType = false
+is_wrong_there names own first last (OtherType head) = is_wrong_type_head names own head
 is_wrong_there names own first last OtherFunction = false
 is_wrong_there names own first last OtherGrammar = false
 is_wrong_there names own first last OtherDeclaration = false

@@ -1,8 +1,10 @@
 -- Worked examples of how the forms are checked, which the prover computes, and false statements that it refutes.
 use Rattle.std.specs.Prelude.{◌≡◌, ℕ, ◌≤◌, true, false, List, [], ◌∷◌, ◌++◌, Some, None, refl}
-use Rattle.std.proofs.Common.{ap, inr, lit<, arith}
+use Rattle.std.proofs.Common.{ap, sym, inr, lit<, arith}
 use Rattle.merc_base.specs.declared.place.Place.{Place}
 use Rattle.merc_base.specs.Refusal.{rule_number}
+use Rattle.merc_base.specs.FirstFault.{AnswersFirst}
+use Rattle.merc_base.specs.Names.{pragma_name, colon_minus_name, module_name, colon_colon_name, pred_name, char_name}
 use Rattle.merc_base.specs.declared.refusal.Detail.{Detail}
 use Rattle.merc_base.specs.declared.refusal.Detail.TheVariants.{Plain, Word, Limit}
 use Rattle.merc_base.specs.declared.refusal.Construct.TheVariants.{Declaration}
@@ -14,8 +16,8 @@ use Rattle.merc_tree.specs.Term.{Term, Application, none, more}
 use Rattle.merc_tree.specs.declared.term.Shape.TheVariants.{Application as ApplicationShape}
 use Rattle.merc_item_forms.specs.Forms.{second_opening}
 use Rattle.merc_item_forms.specs.FormChecks.{fault_of, least_fault, first_refusal}
-use Rattle.merc_item_forms.specs.FormFaults.{Rises, IsFormRefusal, HasFormFault, no_item, wrong, outside, wide}
-use Rattle.merc_item_forms.specs.FormsExamples.{names, blank, t, plain, m, f, p, apply, both, declared, int}
+use Rattle.merc_item_forms.specs.FormFaults.{Rises, HasFormFault, no_item, wrong, outside, wide}
+use Rattle.merc_item_forms.specs.FormsExamples.{names, blank, t_name, t, plain, m, f, p, apply, both, declared, int}
 use Rattle.merc_operands.specs.Members.{link_of, stacked}
 use Rattle.merc_operands.specs.Operands.{operands_of, head_and_category}
 use Rattle.merc_item_forms.specs.Parameters.{own_variables, has_double, has_equal_neighbors}
@@ -24,14 +26,14 @@ use Rattle.merc_operands.specs.declared.operands.Operands.TheVariants.{Two, Qual
 
 -- parts
 
-pub is_outside_shape-char : is_outside_shape (ApplicationShape 71 None 0) ≡ true
+pub is_outside_shape-char : is_outside_shape (ApplicationShape char_name None 0) ≡ true
 is_outside_shape-char = refl
 
 -- `char` with an argument is a type of the file's own
-pub is_outside_shape-argument : is_outside_shape (ApplicationShape 71 None 1) ≡ false
+pub is_outside_shape-argument : is_outside_shape (ApplicationShape char_name None 1) ≡ false
 is_outside_shape-argument = refl
 
-pub is_moded_shape-example : is_moded_shape (ApplicationShape 18 None 2) ≡ true
+pub is_moded_shape-example : is_moded_shape (ApplicationShape colon_colon_name None 2) ≡ true
 is_moded_shape-example = refl
 
 pub is_wide_shape-example : is_wide_shape (ApplicationShape f None 65) ≡ true
@@ -42,7 +44,7 @@ is_wide_shape-64 = refl
 
 -- parameters
 
-pub own_variables-example : own_variables names (t ∷ blank ∷ int ∷ t ∷ []) ≡ 1 ∷ 1 ∷ []
+pub own_variables-example : own_variables names (t ∷ blank ∷ int ∷ t ∷ []) ≡ t_name ∷ t_name ∷ []
 own_variables-example = refl
 
 pub has_double-example : has_double (7 ∷ 8 ∷ 7 ∷ []) ≡ true
@@ -56,17 +58,17 @@ has_equal_neighbors-apart = refl
 
 -- the fault of one item
 
-pub fault_of-wrong : fault_of names m false false (declared 12 (plain m)) ≡ Some (WrongForm, Plain)
+pub fault_of-wrong : fault_of names m false false (declared module_name (plain m)) ≡ Some (WrongForm, Plain)
 fault_of-wrong = refl
 
-pub fault_of-outside : fault_of names m false false (declared 7 (plain f)) ≡ Some (OutsideProfile, Word Declaration)
+pub fault_of-outside : fault_of names m false false (declared pragma_name (plain f)) ≡ Some (OutsideProfile, Word Declaration)
 fault_of-outside = refl
 
 -- a wrong form comes before what the profile leaves out
-pub fault_of-both : fault_of names m true false (declared 7 (plain f)) ≡ Some (WrongForm, Plain)
+pub fault_of-both : fault_of names m true false (declared pragma_name (plain f)) ≡ Some (WrongForm, Plain)
 fault_of-both = refl
 
-pub fault_of-none : fault_of names m false false (declared 33 (plain p)) ≡ None
+pub fault_of-none : fault_of names m false false (declared pred_name (plain p)) ≡ None
 fault_of-none = refl
 
 pub least_fault-wide : least_fault false None true ≡ Some (LimitPassed, Limit Arity)
@@ -76,7 +78,7 @@ least_fault-wide = refl
 
 -- `:- module m.` from this byte on
 abbrev opening : ℕ → Term
-opening first = Application 10 None (more (apply 12 (plain m ∷ [])) none) (record { first = first; past = first; line = 1 })
+opening first = Application colon_minus_name None (more (apply module_name (plain m ∷ [])) none) (record { first = first; past = first; line = 1 })
 
 pub Rises-example : Rises (opening 0 ∷ opening 20 ∷ [])
 Rises-example = (lit< tt, tt)
@@ -111,9 +113,9 @@ no_item_only (wide front back term whole is) = absurd (nothing front back term w
 three_of : (rule : Rule) → rule ≡ WrongForm → 3 ≤ rule_number rule
 three_of rule same = omega (arith, ap rule_number same)
 
-pub IsFormRefusal-example : IsFormRefusal names [] (Refused (record { rule = WrongForm; place = record { byte = 0; line = 1 }; detail = Plain }))
-IsFormRefusal-example =
-    record { fault = no_item refl; first = λ rule detail place fault. let found = no_item_only fault in inr (found.0, three_of rule found.1) }
+pub AnswersFirst-example : AnswersFirst (HasFormFault names []) (Refused (record { rule = WrongForm; place = record { byte = 0; line = 1 }; detail = Plain }))
+AnswersFirst-example =
+    record { fault = no_item refl; first = λ rule detail place fault. let found = no_item_only fault in inr (ap (λ (p : Place). p.byte) (sym found.0), three_of rule found.1) }
 
-pub IsFormRefusal-not : IsFormRefusal names [] (Refused (record { rule = WrongForm; place = at_twenty; detail = Plain })) → ⊥
-IsFormRefusal-not refused = omega (arith, ap (λ place. place.byte) (no_item_only refused.fault).0)
+pub AnswersFirst-not : AnswersFirst (HasFormFault names []) (Refused (record { rule = WrongForm; place = at_twenty; detail = Plain })) → ⊥
+AnswersFirst-not refused = omega (arith, ap (λ place. place.byte) (no_item_only refused.fault).0)

@@ -1,6 +1,6 @@
 -- The faults of the forms of a module's items, and the first of them.
-use Rattle.std.specs.Prelude.{◌≡◌, ℕ, ◌≤◌, ◌<◌, ◌⊎◌, Bool, true, false, List, [], ◌∷◌, ◌++◌}
-use Rattle.merc_base.specs.Refusal.{rule_number}
+use Rattle.std.specs.Prelude.{◌≡◌, ℕ, ◌<◌, Bool, true, false, List, [], ◌∷◌, ◌++◌}
+use Rattle.merc_base.specs.Names.{division_by_zero_name}
 use Rattle.merc_base.specs.declared.place.Place.{Place}
 use Rattle.merc_base.specs.declared.refusal.Rule.{Rule}
 use Rattle.merc_base.specs.declared.refusal.Rule.TheVariants.{WrongForm, OutsideProfile, LimitPassed}
@@ -8,9 +8,6 @@ use Rattle.merc_base.specs.declared.refusal.Construct.{Construct}
 use Rattle.merc_base.specs.declared.refusal.Detail.{Detail}
 use Rattle.merc_base.specs.declared.refusal.Detail.TheVariants.{Plain, Word, Limit}
 use Rattle.merc_base.specs.declared.refusal.LimitName.TheVariants.{Arity}
-use Rattle.merc_base.specs.declared.refusal.Refusal.{Refusal}
-use Rattle.merc_base.specs.declared.refusal.Fault.{Fault}
-use Rattle.merc_base.specs.declared.refusal.Fault.TheVariants.{Refused, NoMemory}
 use Rattle.merc_tree.specs.Term.{Term, span_of}
 use Rattle.merc_item_forms.specs.Items.{Item, Opening, item_of, place_of}
 use Rattle.merc_item_forms.specs.Forms.{IsWrong, words, is_too_wide}
@@ -19,13 +16,13 @@ abbrev pub is_nil : List Term → Bool
 is_nil [] = true
 is_nil (first ∷ rest) = false
 
--- the name of a module whose first item gives it
+-- the name of a module whose first item gives it; any name where it gives none
 abbrev pub opened : Item → ℕ
 opened (Opening name) = name
-opened other = 0
+opened other = division_by_zero_name
 
 abbrev pub own_name : List Term → ℕ
-own_name [] = 0
+own_name [] = division_by_zero_name
 own_name (first ∷ rest) = opened (item_of first)
 
 -- Forms: each item by itself, at its first token; no item at all on line 1.
@@ -40,14 +37,3 @@ abbrev pub Rises : List Term → Type 0
 Rises [] = Unit {0}
 Rises (only ∷ []) = Unit {0}
 Rises (first ∷ next ∷ rest) = ((span_of first).first < (span_of next).first) × Rises (next ∷ rest)
-
--- a fault of the forms that no other comes before: another stands at a later place, or at the same place and is of no lower rule
-pub record IsFirstFormFault (names : List (List ℕ)) (terms : List Term) (refusal : Refusal) : Type 0 where
-  pub fault : HasFormFault names terms refusal.rule refusal.detail refusal.place
-  pub first : (rule : Rule) (detail : Detail) (place : Place) → HasFormFault names terms rule detail place
-      → (refusal.place.byte < place.byte) ⊎ ((place ≡ refusal.place) × (rule_number refusal.rule ≤ rule_number rule))
-
--- what a refusal of the forms says
-abbrev pub IsFormRefusal : List (List ℕ) → List Term → Fault → Type 0
-IsFormRefusal names terms (Refused refusal) = IsFirstFormFault names terms refusal
-IsFormRefusal names terms NoMemory = Unit {0}

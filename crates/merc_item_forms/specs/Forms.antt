@@ -1,7 +1,8 @@
 -- The forms of declarations and clause heads: what is wrong with an item by itself. The name of the module is that of the first item.
-use Rattle.std.specs.Prelude.{◌≡◌, ℕ, Bool, true, false, ◌==◌, ◌&&◌, ◌||◌, not, nat_le, nat_lt, List, [], ◌∷◌, ◌++◌, length, Option, Some, None, is_some, if◌then◌else◌, codes}
+use Rattle.std.specs.Prelude.{◌≡◌, ℕ, Bool, true, false, ◌==◌, ◌&&◌, ◌||◌, not, nat_lt, List, [], ◌∷◌, ◌++◌, length, Option, Some, None, is_some, if◌then◌else◌, codes}
 use Rattle.std.specs.List.{list_any, list_all, flat_map}
 use Rattle.std.specs.Str.{bytes_eq}
+use Rattle.merc_base.specs.Names.{colon_colon_name, else_name, if_name, then_name, semicolon_name, arrow_name, ampersand_name, comma_name, some_name, all_name, implies_name, equivalent_name, not_name, not_provable_name, pred_name, func_name, equal_name, not_equal_name, less_name, greater_name, at_most_name, at_least_name, true_name, fail_name, false_name, in_name, out_name, int_name, string_name, list_name, bool_name, maybe_name, require_name, det_name, semidet_name, multi_name, nondet_name, erroneous_name, failure_name, cc_multi_name, cc_nondet_name, char_name, float_name, uint_name, int8_name, int16_name, int32_name, int64_name, uint8_name, uint16_name, uint32_name, uint64_name}
 use Rattle.merc_value.specs.Text.{text_at}
 use Rattle.merc_base.specs.declared.category.Category.{Category}
 use Rattle.merc_base.specs.declared.category.Category.TheVariants.{Det, Semidet, Multi, Nondet, Erroneous, Failure}
@@ -17,10 +18,14 @@ is_in name names = list_any (λ other. name == other) names
 
 -- Heads
 
--- `true` `fail` `false` `not` `\=` `<` `>` `=<` `>=` `,` `;` `&` `->` `if` `then` `else` `\+` `some` `all` `=>` `<=>`
+-- constants, negations, comparisons, connectives and quantifiers
 abbrev pub is_reserved : ℕ → Bool
 is_reserved name =
-    is_in name (51 ∷ 52 ∷ 53 ∷ 31 ∷ 37 ∷ 38 ∷ 39 ∷ 40 ∷ 41 ∷ 26 ∷ 23 ∷ 25 ∷ 24 ∷ 21 ∷ 22 ∷ 20 ∷ 32 ∷ 27 ∷ 28 ∷ 29 ∷ 30 ∷ [])
+    is_in name (
+    true_name ∷ fail_name ∷ false_name ∷ not_name ∷ not_provable_name ∷
+    not_equal_name ∷ less_name ∷ greater_name ∷ at_most_name ∷ at_least_name ∷
+    comma_name ∷ semicolon_name ∷ ampersand_name ∷ arrow_name ∷ if_name ∷ then_name ∷ else_name ∷
+    some_name ∷ all_name ∷ implies_name ∷ equivalent_name ∷ [])
 
 abbrev pub is_application : Term → Bool
 is_application (Application name qualifier arguments span) = true
@@ -33,7 +38,7 @@ is_head other = false
 
 -- a head with `=` and two arguments is a function's
 abbrev pub is_function_head : Term → Bool
-is_function_head (Application name qualifier (more first (more second none)) span) = name == 36
+is_function_head (Application name qualifier (more first (more second none)) span) = name == equal_name
 is_function_head other = false
 
 -- a qualifier other than the module's name
@@ -41,8 +46,12 @@ abbrev pub is_foreign : ℕ → Term → Bool
 is_foreign own (Application name (Some qualifier) arguments span) = not (qualifier == own)
 is_foreign own other = false
 
+-- the most arguments of a predicate, a constructor or a type
+abbrev pub arity_limit : ℕ
+arity_limit = 64
+
 abbrev pub is_wide : Term → Bool
-is_wide term = nat_lt 64 (length (arguments_of term))
+is_wide term = nat_lt arity_limit (length (arguments_of term))
 
 -- Types
 
@@ -63,32 +72,43 @@ is_literal (Integer value span) = true
 is_literal (Text name span) = true
 is_literal other = false
 
--- `char`, `float`, `uint`, `int8` to `int64` and `uint8` to `uint64` without arguments and qualifier, and `pred` and `func` types
+-- types that are left out where they have no arguments: characters, floats, and integers of other sizes
+abbrev pub is_outside_plain : ℕ → Bool
+is_outside_plain name =
+    is_in name (
+    char_name ∷ float_name ∷ uint_name ∷ int8_name ∷ int16_name ∷ int32_name ∷ int64_name ∷
+    uint8_name ∷ uint16_name ∷ uint32_name ∷ uint64_name ∷ [])
+
+-- and with any arguments: those of predicates and functions
+abbrev pub is_outside_applied : ℕ → Bool
+is_outside_applied name = (name == pred_name) || (name == func_name)
+
+-- a type that is left out has no qualifier
 abbrev pub is_outside_type : Term → Bool
-is_outside_type (Application name None none span) = (nat_le 71 name && nat_le name 81) || (name == 33) || (name == 34)
-is_outside_type (Application name None arguments span) = (name == 33) || (name == 34)
+is_outside_type (Application name None none span) = is_outside_plain name || is_outside_applied name
+is_outside_type (Application name None arguments span) = is_outside_applied name
 is_outside_type other = false
 
 -- `T::M`
 abbrev pub is_moded : Term → Bool
-is_moded (Application name None (more first (more second none)) span) = name == 18
+is_moded (Application name None (more first (more second none)) span) = name == colon_colon_name
 is_moded other = false
 
 -- the type of a predicate's argument, and its mode
 abbrev pub argument_type : Term → Term
 argument_type (Application name None (more first (more second none)) span) =
-    if name == 18 then first else Application name None (more first (more second none)) span
+    if name == colon_colon_name then first else Application name None (more first (more second none)) span
 argument_type other = other
 
 abbrev pub argument_mode : Term → Option Term
-argument_mode (Application name None (more first (more second none)) span) = if name == 18 then Some second else None
+argument_mode (Application name None (more first (more second none)) span) = if name == colon_colon_name then Some second else None
 argument_mode other = None
 
 -- Modes and categories
 
 abbrev pub is_mode_name : Option ℕ → Bool
 is_mode_name None = false
-is_mode_name (Some name) = (name == 55) || (name == 56)
+is_mode_name (Some name) = (name == in_name) || (name == out_name)
 
 abbrev pub is_mode : Term → Bool
 is_mode term = is_mode_name (plain_name term)
@@ -101,21 +121,21 @@ lacks_mode (Some term) = not (is_application term)
 -- a category's name; `cc_multi` and `cc_nondet` are left out
 abbrev pub category_named : ℕ → Option Category
 category_named name =
-    if name == 63 then Some Det
-    else if name == 64 then Some Semidet
-    else if name == 65 then Some Multi
-    else if name == 66 then Some Nondet
-    else if name == 67 then Some Erroneous
-    else if name == 68 then Some Failure
+    if name == det_name then Some Det
+    else if name == semidet_name then Some Semidet
+    else if name == multi_name then Some Multi
+    else if name == nondet_name then Some Nondet
+    else if name == erroneous_name then Some Erroneous
+    else if name == failure_name then Some Failure
     else None
 
 abbrev pub is_outside_category : Option ℕ → Bool
 is_outside_category None = false
-is_outside_category (Some name) = (name == 69) || (name == 70)
+is_outside_category (Some name) = (name == cc_multi_name) || (name == cc_nondet_name)
 
 abbrev pub is_category : Option ℕ → Bool
 is_category None = false
-is_category (Some name) = is_some (category_named name) || (name == 69) || (name == 70)
+is_category (Some name) = is_some (category_named name) || is_outside_category (Some name)
 
 -- whether a category stands there that is no category's name
 abbrev pub lacks_category : Option Term → Bool
@@ -145,6 +165,13 @@ abbrev pub is_opening : Item → Bool
 is_opening (Opening name) = true
 is_opening other = false
 
+-- What is wrong with the head of a type, in a module of this name.
+pub data IsWrongTypeHead (names : List (List ℕ)) (own : ℕ) (head : Term) : Type 0 where
+  no_name : is_application head ≡ false → IsWrongTypeHead names own head
+  qualifier : is_foreign own head ≡ true → IsWrongTypeHead names own head
+  parameters : list_all is_variable (arguments_of head) ≡ false → IsWrongTypeHead names own head
+  parameters_repeat : repeats names (arguments_of head) ≡ true → IsWrongTypeHead names own head
+
 -- What is not of the form of an item, in a module of this name.
 pub data IsWrong (names : List (List ℕ)) (own : ℕ) : (first last : Bool) → Item → Type 0 where
   no_opening : (last : Bool) (item : Item) → is_opening item ≡ false → IsWrong names own true last item
@@ -152,10 +179,8 @@ pub data IsWrong (names : List (List ℕ)) (own : ℕ) : (first last : Bool) →
   early_end : (first : Bool) (name : ℕ) → IsWrong names own first false (Ending name)
   other_end : (first last : Bool) (name : ℕ) → name == own ≡ false → IsWrong names own first last (Ending name)
   formless : (first last : Bool) → IsWrong names own first last Formless
-  type_head : (first last : Bool) (head : Term) (constructors : List Term) → is_application head ≡ false → IsWrong names own first last (TypeItem head constructors)
-  type_qualifier : (first last : Bool) (head : Term) (constructors : List Term) → is_foreign own head ≡ true → IsWrong names own first last (TypeItem head constructors)
-  parameters : (first last : Bool) (head : Term) (constructors : List Term) → list_all is_variable (arguments_of head) ≡ false → IsWrong names own first last (TypeItem head constructors)
-  parameters_repeat : (first last : Bool) (head : Term) (constructors : List Term) → repeats names (arguments_of head) ≡ true → IsWrong names own first last (TypeItem head constructors)
+  type_head : (first last : Bool) (head : Term) (constructors : List Term) → IsWrongTypeHead names own head → IsWrong names own first last (TypeItem head constructors)
+  other_type_head : (first last : Bool) (head : Term) → IsWrongTypeHead names own head → IsWrong names own first last (OtherType head)
   constructor_head : (first last : Bool) (head : Term) (constructors : List Term) → list_all is_application constructors ≡ false → IsWrong names own first last (TypeItem head constructors)
   constructor_qualifier : (first last : Bool) (head : Term) (constructors : List Term) → list_any (is_foreign own) constructors ≡ true → IsWrong names own first last (TypeItem head constructors)
   constructor_literal : (first last : Bool) (head : Term) (constructors : List Term) → list_any (has_part is_literal) constructors ≡ true → IsWrong names own first last (TypeItem head constructors)
@@ -191,10 +216,10 @@ abbrev pub category_words : Option Term → List Construct
 category_words None = []
 category_words (Some term) = word_if (is_outside_category (plain_name term)) CategoryWord
 
--- the six units: `int` `string` `list` `bool` `maybe` `require`
+-- the units that there are
 abbrev pub is_unit : Option ℕ → Bool
 is_unit None = false
-is_unit (Some name) = nat_le 57 name && nat_le name 62
+is_unit (Some name) = is_in name (int_name ∷ string_name ∷ list_name ∷ bool_name ∷ maybe_name ∷ require_name ∷ [])
 
 -- a constructor with `::` or a type that is left out, in an argument
 abbrev pub constructor_words : Term → List Construct
@@ -210,13 +235,13 @@ words (ModeItem head category) =
     if is_function_head head then Function ∷ []
     else flat_map (λ argument. mode_words (Some argument)) (arguments_of head) ++ category_words category
 words (ClauseItem head body) = word_if (is_function_head head) Function
-words OtherType = TypeWord ∷ []
+words (OtherType head) = TypeWord ∷ []
 words OtherFunction = Function ∷ []
 words OtherGrammar = GrammarRule ∷ []
 words OtherDeclaration = Declaration ∷ []
 words other = []
 
--- More than 64 arguments of a predicate, a constructor or a type.
+-- More arguments of a predicate, a constructor or a type than there may be.
 abbrev pub is_too_wide : Item → Bool
 is_too_wide (TypeItem head constructors) = is_wide head || list_any (has_part is_wide) constructors
 is_too_wide (PredicateItem head category) = is_wide head || list_any (λ argument. has_part is_wide (argument_type argument)) (arguments_of head)

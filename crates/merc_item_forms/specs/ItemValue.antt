@@ -1,4 +1,5 @@
 -- What the code's items stand for.
+use Rattle.merc_base.specs.Names.{comma_name, semicolon_name}
 use Rattle.merc_item_forms.specs.declared.item.Item.{Item as CodeItem}
 use Rattle.merc_item_forms.specs.declared.item.Item.TheVariants.{Opening as CodeOpening, Ending as CodeEnding, Section as CodeSection, Import as CodeImport, «Type» as CodeType, Predicate as CodePredicate, Mode as CodeMode, Clause as CodeClause, OtherType as CodeOtherType, OtherFunction as CodeOtherFunction, OtherGrammar as CodeOtherGrammar, OtherDeclaration as CodeOtherDeclaration, Formless as CodeFormless}
 use Rattle.merc_item_forms.specs.Items.{Item, Opening, Ending, Section, Import, TypeItem, PredicateItem, ModeItem, ClauseItem, OtherType, OtherFunction, OtherGrammar, OtherDeclaration, Formless}
@@ -9,12 +10,12 @@ abbrev pub item_value : CodeItem → Item
 item_value (CodeOpening name) = Opening name
 item_value (CodeEnding name) = Ending name
 item_value CodeSection = Section
-item_value (CodeImport root) = Import (chain 26 root)
-item_value (CodeType head root) = TypeItem head (chain 23 root)
+item_value (CodeImport root) = Import (chain comma_name root)
+item_value (CodeType head root) = TypeItem head (chain semicolon_name root)
 item_value (CodePredicate head category) = PredicateItem head category
 item_value (CodeMode head category) = ModeItem head category
 item_value (CodeClause head body) = ClauseItem head body
-item_value CodeOtherType = OtherType
+item_value (CodeOtherType head) = OtherType head
 item_value CodeOtherFunction = OtherFunction
 item_value CodeOtherGrammar = OtherGrammar
 item_value CodeOtherDeclaration = OtherDeclaration

@@ -1,13 +1,14 @@
 -- What an item of a module is, told by its term.
 use Rattle.std.specs.Prelude.{ℕ, Bool, ◌==◌, ◌||◌, List, [], ◌∷◌, Option, Some, None, if◌then◌else◌}
 use Rattle.std.specs.List.{list_any}
+use Rattle.merc_base.specs.Names.{colon_minus_name, grammar_arrow_name, module_name, end_module_name, import_module_name, mode_name, type_name, type_arrow_name, equal_equal_name, semicolon_name, comma_name, pred_name, func_name, is_name, interface_name, implementation_name}
 use Rattle.merc_base.specs.declared.place.Place.{Place}
 use Rattle.merc_tree.specs.Term.{Term, Application, none, more, span_of}
 use Rattle.merc_operands.specs.Members.{chain}
 use Rattle.merc_operands.specs.Operands.{plain_name}
 
 -- An item opens or ends the module, opens a section, imports units, declares a type, a predicate or a mode, or is a clause. Else it is a declaration
--- that the profile leaves out, or of no known form.
+-- that the profile leaves out, among them types that are not declared by constructors, or of no known form.
 pub data Item : Type 0 where
   Opening : (name : ℕ) → Item
   Ending : (name : ℕ) → Item
@@ -17,7 +18,7 @@ pub data Item : Type 0 where
   PredicateItem : (head : Term) (category : Option Term) → Item
   ModeItem : (head : Term) (category : Option Term) → Item
   ClauseItem : (head : Term) (body : Option Term) → Item
-  OtherType : Item
+  OtherType : (head : Term) → Item
   OtherFunction : Item
   OtherGrammar : Item
   OtherDeclaration : Item
@@ -31,44 +32,43 @@ abbrev pub ending : Option ℕ → Item
 ending None = Formless
 ending (Some name) = Ending name
 
--- `H ---> C ; D` declares a type. `A == B` and a type's name alone are left out.
+-- `H ---> C ; D` declares a type. What else stands behind `type` is left out: `H == T` has the head H, and anything else is a head.
 abbrev pub type_item : Term → Item
-type_item (Application name None (more first (more second none)) span) = if name == 17 then TypeItem first (chain 23 second) else OtherType
-type_item (Application name qualifier arguments span) = OtherType
-type_item other = Formless
+type_item (Application name None (more first (more second none)) span) =
+    if name == type_arrow_name then TypeItem first (chain semicolon_name second)
+    else if name == equal_equal_name then OtherType first
+    else OtherType (Application name None (more first (more second none)) span)
+type_item other = OtherType other
 
 -- `H is C` has a category
 abbrev pub with_category : (Term → Option Term → Item) → Term → Item
 with_category make (Application name None (more first (more second none)) span) =
-    if name == 35 then make first (Some second) else make (Application name None (more first (more second none)) span) None
+    if name == is_name then make first (Some second) else make (Application name None (more first (more second none)) span) None
 with_category make other = make other None
 
--- the words of declarations: `module` `end_module` `import_module` `mode` `type` `pred` `interface` `implementation`
+-- the words of declarations
 abbrev pub is_word : ℕ → Bool
-is_word name = list_any (λ word. name == word) (12 ∷ 13 ∷ 14 ∷ 15 ∷ 16 ∷ 33 ∷ 49 ∷ 50 ∷ [])
+is_word name =
+    list_any (λ word. name == word)
+    (module_name ∷ end_module_name ∷ import_module_name ∷ mode_name ∷ type_name ∷ pred_name ∷ interface_name ∷ implementation_name ∷ [])
+
+-- a declaration by its word alone
+abbrev pub wider : ℕ → Item
+wider word = if word == func_name then OtherFunction else if is_word word then Formless else OtherDeclaration
 
 -- a declaration whose word has one argument, or none
 abbrev pub unary : ℕ → Term → Item
 unary word argument =
-    if word == 12 then opening (plain_name argument)
-    else if word == 13 then ending (plain_name argument)
-    else if word == 14 then Import (chain 26 argument)
-    else if word == 15 then with_category ModeItem argument
-    else if word == 16 then type_item argument
-    else if word == 33 then with_category PredicateItem argument
-    else if word == 34 then OtherFunction
-    else if is_word word then Formless
-    else OtherDeclaration
+    if word == module_name then opening (plain_name argument)
+    else if word == end_module_name then ending (plain_name argument)
+    else if word == import_module_name then Import (chain comma_name argument)
+    else if word == mode_name then with_category ModeItem argument
+    else if word == type_name then type_item argument
+    else if word == pred_name then with_category PredicateItem argument
+    else wider word
 
 abbrev pub nullary : ℕ → Item
-nullary word =
-    if (word == 49) || (word == 50) then Section
-    else if word == 34 then OtherFunction
-    else if is_word word then Formless
-    else OtherDeclaration
-
-abbrev pub wider : ℕ → Item
-wider word = if word == 34 then OtherFunction else if is_word word then Formless else OtherDeclaration
+nullary word = if (word == interface_name) || (word == implementation_name) then Section else wider word
 
 abbrev pub declaration : Term → Item
 declaration (Application word None none span) = nullary word
@@ -80,10 +80,10 @@ declaration other = Formless
 -- `:- D` is a declaration, `H :- B` a clause, `A --> B` a grammar rule, anything else a clause without a body.
 abbrev pub item_of : Term → Item
 item_of (Application name None (more only none) span) =
-    if name == 10 then declaration only else ClauseItem (Application name None (more only none) span) None
+    if name == colon_minus_name then declaration only else ClauseItem (Application name None (more only none) span) None
 item_of (Application name None (more first (more second none)) span) =
-    if name == 10 then ClauseItem first (Some second)
-    else if name == 11 then OtherGrammar
+    if name == colon_minus_name then ClauseItem first (Some second)
+    else if name == grammar_arrow_name then OtherGrammar
     else ClauseItem (Application name None (more first (more second none)) span) None
 item_of other = ClauseItem other None
 

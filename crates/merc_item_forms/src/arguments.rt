@@ -1,12 +1,12 @@
 //! Arguments of declarations: types, modes and categories.
 ghost use Rattle.std.specs.Prelude.{◌≡◌, not, Some};
 ghost use Rattle.std.specs.List.{list_any, flat_map};
-ghost use Rattle.merc_item_forms.specs.Forms.{is_moded, has_part, is_literal, is_wide, argument_type, argument_mode, is_mode, lacks_mode, is_category, is_outside_category, lacks_category, is_unit, word_if, mode_words, argument_words, constructor_words, category_words};
+ghost use Rattle.merc_item_forms.specs.Forms.{is_moded, has_part, is_literal, is_wide, argument_type, argument_mode, is_mode, lacks_mode, is_category, category_named, is_outside_category, lacks_category, is_unit, word_if, mode_words, argument_words, constructor_words, category_words};
 ghost use Rattle.merc_item_forms.specs.FormChecks.{first_of, unit_words, is_partly_moded, are_wrong_arguments};
 
 use crate::heads::is_application;
 use crate::parts::{PartTest, arguments_have_part, has_part, passes};
-use merc_base::{Construct, Name};
+use merc_base::{Category, Construct, Name};
 use merc_operands::{Operands, operands_of, plain_name};
 use merc_tree::TermRef;
 
@@ -118,8 +118,29 @@ fn is_category(name: Option<Name>) -> bool
     ensures { result ≡ is_category name }
 {
     match name {
-        Some(name) => Name::DET <= name && name <= Name::CC_NONDET,
+        Some(known) => category_named(known).is_some() || is_outside_category(name),
         None => false,
+    }
+}
+
+/// The category with this name.
+pub fn category_named(name: Name) -> Option<Category>
+    ensures { result ≡ category_named name }
+{
+    if name == Name::DET {
+        Some(Category::Det)
+    } else if name == Name::SEMIDET {
+        Some(Category::Semidet)
+    } else if name == Name::MULTI {
+        Some(Category::Multi)
+    } else if name == Name::NONDET {
+        Some(Category::Nondet)
+    } else if name == Name::ERRONEOUS {
+        Some(Category::Erroneous)
+    } else if name == Name::FAILURE {
+        Some(Category::Failure)
+    } else {
+        None
     }
 }
 
@@ -199,9 +220,20 @@ fn is_unit(name: Option<Name>) -> bool
     ensures { result ≡ is_unit name }
 {
     match name {
-        Some(name) => Name::INT <= name && name <= Name::REQUIRE,
+        Some(name) => is_unit_name(name),
         None => false,
     }
+}
+
+fn is_unit_name(name: Name) -> bool
+    ensures { result ≡ is_unit (Some name) }
+{
+    name == Name::INT
+        || name == Name::STRING
+        || name == Name::LIST
+        || name == Name::BOOL
+        || name == Name::MAYBE
+        || name == Name::REQUIRE
 }
 
 /// The first word for what the profile leaves out of the arguments of a predicate's declaration.

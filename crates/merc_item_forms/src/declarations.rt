@@ -1,11 +1,13 @@
 //! What is wrong with a declaration or a clause by itself.
-ghost use Rattle.std.specs.Prelude.{◌≡◌, false, not, IfOk};
+ghost use Rattle.std.specs.Prelude.{◌≡◌, false, not, Some, IfOk};
+ghost use Rattle.merc_base.specs.declared.refusal.Construct.TheVariants.{«Type» as TypeWord};
 ghost use Rattle.std.specs.List.{list_any, list_all};
+ghost use Rattle.merc_base.specs.Names.{comma_name, semicolon_name};
 ghost use Rattle.merc_item_forms.specs.Items.{Import, TypeItem, PredicateItem, ModeItem, ClauseItem};
 ghost use Rattle.merc_operands.specs.Members.{chain};
 ghost use Rattle.merc_item_forms.specs.Forms.{is_application, is_variable, is_foreign, has_part, is_literal, is_wide, is_head, is_opening, words, is_too_wide};
 ghost use Rattle.merc_item_forms.specs.ItemValue.{item_value};
-ghost use Rattle.merc_item_forms.specs.FormChecks.{are_wrong_parameters, are_wrong_constructors, is_wrong_type, is_wrong_predicate, is_wrong_mode, first_of, wide_fault, least_fault, fault_of};
+ghost use Rattle.merc_item_forms.specs.FormChecks.{are_wrong_parameters, are_wrong_constructors, is_wrong_type, is_wrong_type_head, is_wrong_predicate, is_wrong_mode, first_of, wide_fault, least_fault, fault_of};
 
 use crate::arguments::{
     are_wrong_arguments, category_word, first_argument_word, first_constructor_word,
@@ -55,7 +57,7 @@ fn wide_fault(is_too_wide: bool) -> Option<(Rule, Detail)>
 
 // The first fault of an import, which has the form of one.
 fn import_fault(alloc: Global, root: &TermRef<'_>) -> Result<Option<(Rule, Detail)>, NoMemory>
-    ensures { IfOk result (λ fault. fault ≡ least_fault false (first_of (words (Import (chain 26 root.now)))) false) }
+    ensures { IfOk result (λ fault. fault ≡ least_fault false (first_of (words (Import (chain comma_name root.now)))) false) }
 {
     let units = members(alloc, root, Name::COMMA)?;
     Ok(least_fault(false, first_unit_word(&units), false))
@@ -69,7 +71,7 @@ fn type_fault(
     head: &TermRef<'_>,
     root: &TermRef<'_>,
 ) -> Result<Option<(Rule, Detail)>, NoMemory>
-    ensures { IfOk result (λ fault. fault ≡ least_fault (is_wrong_type names.now own head.now (chain 23 root.now)) (first_of (words (TypeItem head.now (chain 23 root.now)))) (is_too_wide (TypeItem head.now (chain 23 root.now)))) }
+    ensures { IfOk result (λ fault. fault ≡ least_fault (is_wrong_type names.now own head.now (chain semicolon_name root.now)) (first_of (words (TypeItem head.now (chain semicolon_name root.now)))) (is_too_wide (TypeItem head.now (chain semicolon_name root.now)))) }
 {
     let constructors = members(alloc, root, Name::SEMICOLON)?;
     let is_wrong = is_wrong_type(alloc, names, own, head, &constructors)?;
@@ -89,14 +91,39 @@ fn is_wrong_type(
 ) -> Result<bool, NoMemory>
     ensures { IfOk result (λ wrong. wrong ≡ is_wrong_type names.now own head.now constructors.now) }
 {
+    if is_wrong_type_head(alloc, names, own, head)? {
+        return Ok(true);
+    }
+    Ok(are_wrong_constructors(constructors, own))
+}
+
+// Whether this cannot be the head of a type: a name of the module's own over distinct variables.
+fn is_wrong_type_head(
+    alloc: Global,
+    names: &Names,
+    own: Name,
+    head: &TermRef<'_>,
+) -> Result<bool, NoMemory>
+    ensures { IfOk result (λ wrong. wrong ≡ is_wrong_type_head names.now own head.now) }
+{
     if !is_application(head) || is_foreign(head, own) {
         return Ok(true);
     }
     let parameters = arguments(alloc, head)?;
-    if are_wrong_parameters(alloc, names, &parameters)? {
-        return Ok(true);
-    }
-    Ok(are_wrong_constructors(constructors, own))
+    are_wrong_parameters(alloc, names, &parameters)
+}
+
+// The first fault of a type that is not declared by its constructors.
+fn other_type_fault(
+    alloc: Global,
+    names: &Names,
+    own: Name,
+    head: &TermRef<'_>,
+) -> Result<Option<(Rule, Detail)>, NoMemory>
+    ensures { IfOk result (λ fault. fault ≡ least_fault (is_wrong_type_head names.now own head.now) (Some TypeWord) false) }
+{
+    let is_wrong = is_wrong_type_head(alloc, names, own, head)?;
+    Ok(least_fault(is_wrong, Some(Construct::Type), false))
 }
 
 // Whether the parameters of a type are not distinct variables.
@@ -237,7 +264,7 @@ pub(crate) fn item_fault(
         Item::Predicate(head, category) => predicate_fault(alloc, own, head, category),
         Item::Mode(head, category) => mode_fault(alloc, own, head, category),
         Item::Clause(head, _) => Ok(clause_fault(head)),
-        Item::OtherType => Ok(least_fault(false, Some(Construct::Type), false)),
+        Item::OtherType(head) => other_type_fault(alloc, names, own, head),
         Item::OtherFunction => Ok(least_fault(false, Some(Construct::Function), false)),
         Item::OtherGrammar => Ok(least_fault(false, Some(Construct::GrammarRule), false)),
         Item::OtherDeclaration => Ok(least_fault(false, Some(Construct::Declaration), false)),

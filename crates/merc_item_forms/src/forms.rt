@@ -1,10 +1,8 @@
 //! The forms of declarations and clause heads: each item by itself.
 ghost use Rattle.std.specs.Prelude.{◌≡◌, IfOk, IfErr};
-ghost use Rattle.merc_base.specs.declared.refusal.Rule.{Rule};
-ghost use Rattle.merc_base.specs.declared.refusal.Detail.{Detail};
-ghost use Rattle.merc_base.specs.declared.place.Place.{Place};
+ghost use Rattle.merc_base.specs.FirstFault.{AnswersFirst, HasNone};
 ghost use Rattle.merc_item_forms.specs.Items.{place_of};
-ghost use Rattle.merc_item_forms.specs.FormFaults.{HasFormFault, opened, own_name, Rises, IsFormRefusal};
+ghost use Rattle.merc_item_forms.specs.FormFaults.{HasFormFault, opened, own_name, Rises};
 ghost use Rattle.merc_item_forms.specs.ItemValue.{item_value};
 ghost use Rattle.merc_item_forms.specs.FormChecks.{at_place, refusal_at, no_item, first_refusal};
 
@@ -22,8 +20,8 @@ use std::alloc::Global;
 /// refused.
 pub fn check_forms(alloc: Global, terms: &Terms, names: &Names) -> Result<(), Fault>
     requires order { Rises terms.now }
-    ensures fine { IfOk result (λ _. (rule : Rule) (detail : Detail) (place : Place) → HasFormFault names.now terms.now rule detail place → ⊥) }
-    ensures refused { IfErr result (λ fault. IsFormRefusal names.now terms.now fault) }
+    ensures fine { IfOk result (λ _. HasNone (HasFormFault names.now terms.now)) }
+    ensures refused { IfErr result (λ fault. AnswersFirst (HasFormFault names.now terms.now) fault) }
 {
     match first_refusal(alloc, terms, names)? {
         Some(refusal) => Err(Fault::Refused(refusal)),

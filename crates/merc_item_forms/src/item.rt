@@ -27,8 +27,8 @@ pub enum Item<'a> {
     Mode(TermRef<'a>, Option<TermRef<'a>>),
     /// `H :- B.`, or a head alone.
     Clause(TermRef<'a>, Option<TermRef<'a>>),
-    /// A type that is not declared by its constructors.
-    OtherType,
+    /// A type that is not declared by its constructors, with its head.
+    OtherType(TermRef<'a>),
     /// A function.
     OtherFunction,
     /// A grammar rule.
@@ -116,7 +116,7 @@ fn unary<'a>(word: Name, argument: &TermRef<'a>) -> Item<'a>
     }
 }
 
-// A declaration by its word alone, where the number of arguments is not one of its own.
+// A declaration by its word alone.
 fn wider<'a>(word: Name) -> Item<'a>
     ensures { item_value result ≡ wider word }
 {
@@ -150,12 +150,13 @@ fn type_item<'a>(term: &TermRef<'a>) -> Item<'a>
         Operands::Two(name, head, constructors) => {
             if name == Name::TYPE_ARROW {
                 Item::Type(head, constructors)
+            } else if name == Name::EQUAL_EQUAL {
+                Item::OtherType(head)
             } else {
-                Item::OtherType
+                Item::OtherType(term.copy())
             }
         }
-        Operands::NotApplied => Item::Formless,
-        _ => Item::OtherType,
+        _ => Item::OtherType(term.copy()),
     }
 }
 

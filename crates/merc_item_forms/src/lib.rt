@@ -8,10 +8,8 @@ mod heads;
 mod item;
 mod parameters;
 mod parts;
-#[cfg(test)]
-mod tests;
 
-pub use arguments::{argument_mode, argument_type, is_moded};
+pub use arguments::{argument_mode, argument_type, category_named, is_moded};
 pub use forms::{check_forms, own_name};
 pub use heads::is_foreign;
 pub use item::{Item, item_of};

@@ -3,7 +3,7 @@ ghost use Rattle.std.specs.Prelude.{◌≡◌, take};
 ghost use Rattle.std.specs.List.{list_any};
 ghost use Rattle.merc_tree.specs.Postfix.{shapes_of};
 ghost use Rattle.merc_tree.specs.Shape.{arguments_of};
-ghost use Rattle.merc_item_forms.specs.Forms.{has_part};
+ghost use Rattle.merc_item_forms.specs.Forms.{has_part, is_outside_plain};
 ghost use Rattle.merc_item_forms.specs.Parts.{test_of, shape_test, is_literal_shape, is_outside_shape, is_outside_name, is_moded_shape, is_wide_shape};
 
 use merc_base::Name;
@@ -85,13 +85,28 @@ fn is_outside_type(shape: &Shape) -> bool
     }
 }
 
-// `char`, `float`, `uint` and the integers of other sizes, and the types of predicates and functions.
+// The types of predicates and functions, and others without arguments.
 fn is_outside_name(name: Name, arity: usize) -> bool
     ensures { result ≡ is_outside_name name arity }
 {
-    (arity == 0 && Name::CHAR <= name && name <= Name::UINT64)
-        || name == Name::PRED
-        || name == Name::FUNC
+    (arity == 0 && is_outside_plain(name)) || name == Name::PRED || name == Name::FUNC
+}
+
+// Characters, floats, and integers of other sizes.
+fn is_outside_plain(name: Name) -> bool
+    ensures { result ≡ is_outside_plain name }
+{
+    name == Name::CHAR
+        || name == Name::FLOAT
+        || name == Name::UINT
+        || name == Name::INT8
+        || name == Name::INT16
+        || name == Name::INT32
+        || name == Name::INT64
+        || name == Name::UINT8
+        || name == Name::UINT16
+        || name == Name::UINT32
+        || name == Name::UINT64
 }
 
 fn is_moded(shape: &Shape) -> bool

@@ -13,7 +13,8 @@ use Rattle.merc_items.specs.declared.parting.Part.{Part}
 use Rattle.merc_items.specs.declared.parting.Part.TheVariants.{File, Units}
 use Rattle.merc_item_forms.specs.Items.{Item, Opening, Ending, Section, Import, TypeItem, PredicateItem, ModeItem, ClauseItem, OtherType, OtherFunction, OtherGrammar, OtherDeclaration, Formless, item_of}
 use Rattle.merc_item_forms.specs.Forms.{is_in}
-use Rattle.merc_entries.specs.Entries.{Entry, Key, imports, key_of, units_of, with_units, is_own, own_entries}
+use Rattle.merc_base.specs.declared.groups.Key.{Key}
+use Rattle.merc_entries.specs.Entries.{Entry, imports, key_of, units_of, with_units, is_own, own_entries}
 use Rattle.merc_item_forms.specs.FormFaults.{own_name}
 use Rattle.merc_items.specs.ModuleOf.{clauses_in, modes_in, module_of, pred_decls, pred_decls_of, type_defs, unit_items}
 use Rattle.merc_items.specs.Assembling.{pred_decl_of, preds_by, preds_in}
@@ -71,10 +72,10 @@ module _ {A : Type 0} (declared : Entry → List A) where
 
 -- predicates with the modes of a table
 
-module _ (table : ModeTable) (others : List Entry) (modes : (predicate : List Key) → kept_modes table predicate ≡ flat_map (modes_in predicate) others) where
-  same_in : (unit : Option ℕ) (span : Span) (item : Item) → preds_in table unit span item ≡ pred_decls_of others unit span item
+module _ (names : List (List ℕ)) (table : ModeTable) (others : List Entry) (modes : (predicate : List Key) → kept_modes table predicate ≡ flat_map (modes_in predicate) others) where
+  same_in : (unit : Option ℕ) (span : Span) (item : Item) → preds_in names table unit span item ≡ pred_decls_of names others unit span item
   same_in unit span (PredicateItem head category) =
-      let with_modes : List ModeDecl → PredDecl = λ m. record { name = (pred_decl_of table unit span head).name; args = (pred_decl_of table unit span head).args; modes = m; span = span; unit = unit } in
+      let with_modes : List ModeDecl → PredDecl = λ m. record { name = (pred_decl_of names table unit span head).name; args = (pred_decl_of names table unit span head).args; modes = m; span = span; unit = unit } in
       ap (λ (m : List ModeDecl). with_modes m ∷ []) (modes (key_of head))
   same_in unit span (ModeItem head category) = refl
   same_in unit span (Opening name) = refl
@@ -83,21 +84,21 @@ module _ (table : ModeTable) (others : List Entry) (modes : (predicate : List Ke
   same_in unit span (Import units) = refl
   same_in unit span (TypeItem head constructors) = refl
   same_in unit span (ClauseItem head body) = refl
-  same_in unit span OtherType = refl
+  same_in unit span (OtherType head) = refl
   same_in unit span OtherFunction = refl
   same_in unit span OtherGrammar = refl
   same_in unit span OtherDeclaration = refl
   same_in unit span Formless = refl
 
-  same_preds : (entries : List Entry) → flat_map (preds_by table) entries ≡ flat_map (pred_decls others) entries
+  same_preds : (entries : List Entry) → flat_map (preds_by names table) entries ≡ flat_map (pred_decls names others) entries
   same_preds [] = refl
-  same_preds (entry ∷ rest) = ap (λ l. l ++ flat_map (preds_by table) rest) (same_in entry.unit entry.span entry.item) ∙ ap (λ l. pred_decls others entry ++ l) (same_preds rest)
+  same_preds (entry ∷ rest) = ap (λ l. l ++ flat_map (preds_by names table) rest) (same_in entry.unit entry.span entry.item) ∙ ap (λ l. pred_decls names others entry ++ l) (same_preds rest)
 
-pub part_preds : (part : Part) (table : ModeTable) (entries : List Entry) → ((predicate : List Key) → kept_modes table predicate ≡ flat_map (kept part (modes_in predicate)) entries)
-    → flat_map (kept part (preds_by table)) entries ≡ flat_map (pred_decls (part_of part entries)) (part_of part entries)
-part_preds part table entries modes =
-    kept_part (preds_by table) part entries
-    ∙ same_preds table (part_of part entries) (λ predicate. modes predicate ∙ kept_part (modes_in predicate) part entries) (part_of part entries)
+pub part_preds : (names : List (List ℕ)) (part : Part) (table : ModeTable) (entries : List Entry) → ((predicate : List Key) → kept_modes table predicate ≡ flat_map (kept part (modes_in predicate)) entries)
+    → flat_map (kept part (preds_by names table)) entries ≡ flat_map (pred_decls names (part_of part entries)) (part_of part entries)
+part_preds names part table entries modes =
+    kept_part (preds_by names table) part entries
+    ∙ same_preds names table (part_of part entries) (λ predicate. modes predicate ∙ kept_part (modes_in predicate) part entries) (part_of part entries)
 
 -- two parts one behind the other
 both : {A : Type 0} (declared : Entry → List A) (entries : List Entry) (first all : List A) → first ≡ flat_map (kept File declared) entries
@@ -110,18 +111,18 @@ both declared entries first all first_is all_is =
 abbrev pub with_parts : ℕ → List ℕ → List TypeDef → List PredDecl → ℕ → List Clause → Module
 with_parts name units types preds own clauses = record { name = name; units = units; types = types; preds = preds; own = own; clauses = clauses }
 
-pub whole_module : (terms : List Term) (entries : List Entry) (name : ℕ) (units : List ℕ) (own_types types : List TypeDef) (own_preds preds : List PredDecl) (own_clauses clauses : List Clause)
+pub whole_module : (names : List (List ℕ)) (terms : List Term) (entries : List Entry) (name : ℕ) (units : List ℕ) (own_types types : List TypeDef) (own_preds preds : List PredDecl) (own_clauses clauses : List Clause)
     → name ≡ own_name terms → units ≡ units_of terms
-    → own_types ≡ flat_map (kept File type_defs) entries → types ≡ own_types ++ flat_map (kept Units type_defs) entries
-    → own_preds ≡ flat_map (pred_decls (own_entries entries)) (own_entries entries) → preds ≡ own_preds ++ flat_map (pred_decls (unit_items entries)) (unit_items entries)
+    → own_types ≡ flat_map (kept File (type_defs names)) entries → types ≡ own_types ++ flat_map (kept Units (type_defs names)) entries
+    → own_preds ≡ flat_map (pred_decls names (own_entries entries)) (own_entries entries) → preds ≡ own_preds ++ flat_map (pred_decls names (unit_items entries)) (unit_items entries)
     → own_clauses ≡ flat_map (kept File clauses_in) entries → clauses ≡ own_clauses ++ flat_map (kept Units clauses_in) entries
-    → with_parts name units types preds (length own_preds) clauses ≡ module_of terms entries
-whole_module terms entries name units own_types types own_preds preds own_clauses clauses name_is units_is own_types_are types_are own_preds_are preds_are own_clauses_are clauses_are =
-    let wanted = module_of terms entries in
+    → with_parts name units types preds (length own_preds) clauses ≡ module_of names terms entries
+whole_module names terms entries name units own_types types own_preds preds own_clauses clauses name_is units_is own_types_are types_are own_preds_are preds_are own_clauses_are clauses_are =
+    let wanted = module_of names terms entries in
     ap (λ n. with_parts n units types preds (length own_preds) clauses) name_is
     ∙ ap (λ u. with_parts wanted.name u types preds (length own_preds) clauses) units_is
-    ∙ ap (λ t. with_parts wanted.name wanted.units t preds (length own_preds) clauses) (both type_defs entries own_types types own_types_are types_are)
+    ∙ ap (λ t. with_parts wanted.name wanted.units t preds (length own_preds) clauses) (both (type_defs names) entries own_types types own_types_are types_are)
     ∙ ap (λ p. with_parts wanted.name wanted.units wanted.types p (length own_preds) clauses)
-    (preds_are ∙ ap (λ l. l ++ flat_map (pred_decls (unit_items entries)) (unit_items entries)) own_preds_are)
+    (preds_are ∙ ap (λ l. l ++ flat_map (pred_decls names (unit_items entries)) (unit_items entries)) own_preds_are)
     ∙ ap (λ (o : List PredDecl). with_parts wanted.name wanted.units wanted.types wanted.preds (length o) clauses) own_preds_are
     ∙ ap (λ c. with_parts wanted.name wanted.units wanted.types wanted.preds wanted.own c) (both clauses_in entries own_clauses clauses own_clauses_are clauses_are)

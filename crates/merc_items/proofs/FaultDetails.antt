@@ -13,7 +13,7 @@ use Rattle.merc_item_forms.specs.Forms.{words}
 use Rattle.merc_item_forms.specs.FormFaults.{Rises, HasFormFault, no_item, wrong, outside, wide}
 use Rattle.merc_entries.specs.Entries.{Entry}
 use Rattle.merc_declared.specs.ModeFaults.{HasModeFault, missing, many}
-use Rattle.merc_items.specs.Phases.{HasFault, form, double, unknown_type, mode, alone}
+use Rattle.merc_items.specs.Phases.{forms_phase, doubles_phase, types_phase, modes_phase, clauses_phase, HasFault, form, double, unknown_type, mode, alone}
 use Rattle.merc_items.proofs.FaultPlaces.{IsPlace, among-whole, term-of_places}
 
 abbrev is_plain : Rule → Bool
@@ -24,27 +24,27 @@ is_plain other = true
 -- what a phase can say of a rule at a place
 data Says (terms : List Term) (place : Place) : ℕ → Rule → Detail → Type 0 where
   plainly : (phase : ℕ) (rule : Rule) → is_plain rule ≡ true → Says terms place phase rule Plain
-  word_there : (is : IsPlace terms place) (word : Construct) (rest : List Construct) → words (item_of is.term) ≡ word ∷ rest → Says terms place 3 OutsideProfile (Word word)
-  arity : Says terms place 3 LimitPassed (Limit Arity)
-  modes : Says terms place 6 LimitPassed (Limit Modes)
+  word_there : (is : IsPlace terms place) (word : Construct) (rest : List Construct) → words (item_of is.term) ≡ word ∷ rest → Says terms place forms_phase OutsideProfile (Word word)
+  arity : Says terms place forms_phase LimitPassed (Limit Arity)
+  modes : Says terms place modes_phase LimitPassed (Limit Modes)
 
-form-says : (names : List (List ℕ)) (terms : List Term) (rule : Rule) (detail : Detail) (place : Place) → HasFormFault names terms rule detail place → Says terms place 3 rule detail
-form-says names terms _ _ _ (no_item empty) = plainly 3 WrongForm refl
-form-says names terms _ _ _ (wrong front back term whole is) = plainly 3 WrongForm refl
+form-says : (names : List (List ℕ)) (terms : List Term) (rule : Rule) (detail : Detail) (place : Place) → HasFormFault names terms rule detail place → Says terms place forms_phase rule detail
+form-says names terms _ _ _ (no_item empty) = plainly forms_phase WrongForm refl
+form-says names terms _ _ _ (wrong front back term whole is) = plainly forms_phase WrongForm refl
 form-says names terms _ _ _ (outside front back term word rest whole is) =
     word_there (record { term = term; among = among-whole front term back terms whole; there = refl }) word rest is
 form-says names terms _ _ _ (wide front back term whole is) = arity
 
-mode-says : (terms : List Term) (entries : List Entry) (rule : Rule) (detail : Detail) (place : Place) → HasModeFault entries rule detail place → Says terms place 6 rule detail
-mode-says terms entries _ _ _ (missing front back entry whole own lacks) = plainly 6 MissingMode refl
-mode-says terms entries _ _ _ (many front back entry whole own lacks) = modes
+mode-says : (terms : List Term) (entries : List Entry) (rule : Rule) (detail : Detail) (place : Place) → HasModeFault entries rule detail place → Says terms place modes_phase rule detail
+mode-says terms entries _ _ _ (missing place stands) = plainly modes_phase MissingMode refl
+mode-says terms entries _ _ _ (many place stands) = modes
 
 fault-says : (names : List (List ℕ)) (terms : List Term) (entries : List Entry) (phase : ℕ) (rule : Rule) (detail : Detail) (place : Place) → HasFault names terms entries phase rule detail place → Says terms place phase rule detail
 fault-says names terms entries _ _ _ _ (form rule detail place fault) = form-says names terms rule detail place fault
-fault-says names terms entries _ _ _ _ (double place fault) = plainly 4 DeclaredTwice refl
-fault-says names terms entries _ _ _ _ (unknown_type place fault) = plainly 5 UnknownType refl
+fault-says names terms entries _ _ _ _ (double place fault) = plainly doubles_phase DeclaredTwice refl
+fault-says names terms entries _ _ _ _ (unknown_type place fault) = plainly types_phase UnknownType refl
 fault-says names terms entries _ _ _ _ (mode rule detail place fault) = mode-says terms entries rule detail place fault
-fault-says names terms entries _ _ _ _ (alone place fault) = plainly 7 Undeclared refl
+fault-says names terms entries _ _ _ _ (alone place fault) = plainly clauses_phase Undeclared refl
 
 says-one : (terms : List Term) (place : Place) (phase : ℕ) (rule : Rule) (detail detail' : Detail) → Rises terms → Says terms place phase rule detail → Says terms place phase rule detail' → detail ≡ detail'
 says-one terms place _ _ _ _ rises (plainly phase rule is) (plainly _ _ is') = refl

@@ -1,14 +1,18 @@
 -- The place of a fault is that of a term of the file, and where terms rise one byte has one place.
 use Rattle.std.proofs.Common.{◌≡◌, ℕ, ◌<◌, ◌⊎◌, inl, inr, Bool, true, false, ◌||◌, nat_le, List, [], ◌∷◌, ◌++◌, append_assoc, map, Option, Some, None, if◌then◌else◌, refl, sym, ap, subst, ◌∙◌, arith}
 use Rattle.std.specs.List.{AllByRecursion, list_any}
+use Rattle.merc_base.specs.Names.{int_name, string_name}
+use Rattle.merc_base.specs.FirstPlace.{StandsAt}
 use Rattle.merc_base.specs.declared.place.Place.{Place}
+use Rattle.merc_entries.specs.EntryValue.{place_at}
 use Rattle.merc_base.specs.declared.refusal.Rule.{Rule}
 use Rattle.merc_base.specs.declared.refusal.Detail.{Detail}
 use Rattle.merc_tree.specs.Term.{Term, span_of}
 use Rattle.merc_item_forms.specs.Items.{Item, item_of, place_of}
 use Rattle.merc_item_forms.specs.Forms.{is_in}
 use Rattle.merc_item_forms.specs.FormFaults.{Rises, HasFormFault, no_item, wrong, outside, wide}
-use Rattle.merc_entries.specs.Entries.{Entry, Key, Declared, entries, entries_from, imports, unit_entries, with_units, types_of, constructors_of, predicates_of, modes_of, is_key, declared_by, key, is_own, own_entries}
+use Rattle.merc_base.specs.declared.groups.Key.{Key}
+use Rattle.merc_entries.specs.Entries.{Entry, Declared, entries, entries_from, imports, unit_entries, with_units, types_of, constructors_of, predicates_of, modes_of, is_key, declared_by, key, is_own, own_entries}
 use Rattle.merc_entries.specs.DoubleFaults.{IsAgain, type_keys, at_start, import_place, later, HasDouble}
 use Rattle.merc_declared.specs.ModeFaults.{HasModeFault, missing, many}
 use Rattle.merc_items.specs.Phases.{HasFault, form, double, unknown_type, mode, alone}
@@ -85,6 +89,9 @@ module _ (P : Place → Type 0) where
   entry-place : (entries front : List Entry) (entry : Entry) (back : List Entry) → AtEntries entries → entries ≡ front ++ entry ∷ back → P entry.place
   entry-place entries front entry back at whole = all-one front entry back (subst AtEntries whole at)
 
+  standing-place : (test : Entry → Bool) (entries : List Entry) (place : Place) → AtEntries entries → StandsAt place_at test entries place → P place
+  standing-place test entries place at stands = subst P (sym stands.there) (entry-place entries stands.front stands.item stands.back at stands.whole)
+
   one-unit : (place : Place) (unit : ℕ) (terms : List Term) → P place → AtEntries (map (λ term. record { item = item_of term; span = span_of term; place = place; unit = Some unit }) terms)
   one-unit place unit [] here = tt
   one-unit place unit (term ∷ terms) here = (here, one-unit place unit terms here)
@@ -126,9 +133,9 @@ module _ (P : Place → Type 0) where
       behind : (front : List (Declared Key)) (again : Declared Key) (back : List (Declared Key)) → type_keys entries ≡ front ++ again ∷ back → list_any (λ other. is_key again.key other.key) front ≡ true → P again.place
       behind [] again back whole before = absurd (cc)
       behind (int ∷ []) again back whole before =
-          let first : at_start (key 57 0) ≡ int = cc in
-          let second : at_start (key 58 0) ≡ again = cc in
-          let e : false ≡ true = ap (λ (d : Declared Key). is_key d.key (key 57 0) || false) second ∙ ap (λ (d : Declared Key). is_key again.key d.key || false) first ∙ before in
+          let first : at_start (key int_name 0) ≡ int = cc in
+          let second : at_start (key string_name 0) ≡ again = cc in
+          let e : false ≡ true = ap (λ (d : Declared Key). is_key d.key (key int_name 0) || false) second ∙ ap (λ (d : Declared Key). is_key again.key d.key || false) first ∙ before in
           absurd (cc)
       behind (int ∷ string ∷ front) again back whole before =
           let rest : declared_by types_of entries ≡ front ++ again ∷ back = cc in
@@ -154,8 +161,8 @@ module _ (P : Place → Type 0) where
   double-place entries _ at (bool_and_maybe bool maybe found found') = later-place bool maybe (imported _ entries bool at found) (imported _ entries maybe at found')
 
   mode-place : (entries : List Entry) (rule : Rule) (detail : Detail) (place : Place) → AtEntries entries → HasModeFault entries rule detail place → P place
-  mode-place entries _ _ _ at (missing front back entry whole own lacks) = entry-place entries front entry back at whole
-  mode-place entries _ _ _ at (many front back entry whole own lacks) = entry-place entries front entry back at whole
+  mode-place entries _ _ _ at (missing place stands) = standing-place _ entries place at stands
+  mode-place entries _ _ _ at (many place stands) = standing-place _ entries place at stands
 
 all-terms : (terms : List Term) → AllByRecursion (λ (term : Term). IsPlace terms (place_of term)) terms
 all-terms terms = from [] terms refl
@@ -181,11 +188,9 @@ pub fault-place : (names : List (List ℕ)) (terms : List Term) (items : ℕ →
     → HasFault names terms (entries items terms) phase rule detail place → IsFaultPlace terms place
 fault-place names terms items _ _ _ _ (form rule detail place fault) = form-place names terms rule detail place fault
 fault-place names terms items _ _ _ _ (double place fault) = inr (double-place (IsPlace terms) (entries items terms) place (entries-places items terms) fault)
-fault-place names terms items _ _ _ _ (unknown_type place fault) =
-    inr (subst (IsPlace terms) (sym fault.there) (entry-place (IsPlace terms) (entries items terms) fault.front fault.entry fault.back (entries-places items terms) fault.whole))
+fault-place names terms items _ _ _ _ (unknown_type place fault) = inr (standing-place (IsPlace terms) _ (entries items terms) place (entries-places items terms) fault)
 fault-place names terms items _ _ _ _ (mode rule detail place fault) = inr (mode-place (IsPlace terms) (entries items terms) rule detail place (entries-places items terms) fault)
-fault-place names terms items _ _ _ _ (alone place fault) =
-    inr (subst (IsPlace terms) (sym fault.there) (entry-place (IsPlace terms) (entries items terms) fault.front fault.entry fault.back (entries-places items terms) fault.whole))
+fault-place names terms items _ _ _ _ (alone place fault) = inr (standing-place (IsPlace terms) _ (entries items terms) place (entries-places items terms) fault)
 
 no_place : (terms : List Term) (place : Place) → terms ≡ [] → IsPlace terms place → ⊥
 no_place terms place empty is = subst (IsAmong is.term) empty is.among

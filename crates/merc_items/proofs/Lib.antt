@@ -10,3 +10,5 @@ pub mod FaultPlaces
 pub mod FaultDetails
 pub mod OneFault
 pub mod RefusalLaws
+pub mod TypeVariableLaws
+pub mod FirstFaultExamples

@@ -6,19 +6,18 @@ use Rattle.std.proofs.lemmas.List.{append-nil}
 use Rattle.merc_base.specs.declared.place.Span.{Span}
 use Rattle.merc_tree.specs.declared.declarations.ModeDecl.{ModeDecl}
 use Rattle.merc_items.specs.declared.declared_modes.ModeTable.{ModeTable}
-use Rattle.merc_entries.specs.declared.key.Key.{Key as CodeKey}
 use Rattle.merc_items.specs.DeclaredModes.{entry_modes, item_modes, kept_modes, listed, moded_predicate}
-use Rattle.merc_entries.specs.Entries.{Entry, Key, is_key, key_of, has_mode, are_keys}
+use Rattle.merc_base.specs.declared.groups.Key.{Key}
+use Rattle.merc_entries.specs.Entries.{Entry, is_key, key_of, has_mode, are_keys}
 use Rattle.merc_item_forms.specs.Items.{Item, Opening, Ending, Section, Import, TypeItem, PredicateItem, ModeItem, ClauseItem, OtherType, OtherFunction, OtherGrammar, OtherDeclaration, Formless}
 use Rattle.merc_items.specs.ModuleOf.{modes_in, modes_in_item}
-use Rattle.merc_entries.specs.KeyValue.{key_value}
 use Rattle.merc_entries.proofs.KeyLaws.{compare_keys, same-test, key-swap, test-equal, lookup-same, lookup-nothing, lookup-many}
 
 abbrev Group : Type 0
 Group = List ModeDecl
 
 -- a group that is taken out and put back with more
-at_key : (key found : CodeKey) (group : Group) (more : List ModeDecl) (before middle after : Option Group) → middle ≡ cond (is_eq (compare_keys key found)) None before
+at_key : (key found : Key) (group : Group) (more : List ModeDecl) (before middle after : Option Group) → middle ≡ cond (is_eq (compare_keys key found)) None before
     → after ≡ cond (is_eq (compare_keys key found)) (Some group) middle → (key ≡ found → group ≡ listed before ++ more)
     → (test : Bool) → is_eq (compare_keys key found) ≡ test → listed after ≡ (if test then listed before ++ more else listed before)
 at_key key found group more before middle after removed inserted added true test =
@@ -28,23 +27,23 @@ at_key key found group more before middle after removed inserted added false tes
     let now : after ≡ before = inserted ∙ rw test (removed ∙ rw test refl) in
     rw now refl
 
-pub one_more : (before middle after : ModeTable) (key : CodeKey) (more : List ModeDecl) (old new : Group)
-    → ((other : CodeKey) → get compare_keys middle.by_key other ≡ cond (is_eq (compare_keys key other)) None (get compare_keys before.by_key other))
-    → ((other : CodeKey) → get compare_keys after.by_key other ≡ cond (is_eq (compare_keys key other)) (Some new) (get compare_keys middle.by_key other))
+pub one_more : (before middle after : ModeTable) (key : Key) (more : List ModeDecl) (old new : Group)
+    → ((other : Key) → get compare_keys middle.by_key other ≡ cond (is_eq (compare_keys key other)) None (get compare_keys before.by_key other))
+    → ((other : Key) → get compare_keys after.by_key other ≡ cond (is_eq (compare_keys key other)) (Some new) (get compare_keys middle.by_key other))
     → old ≡ listed (get compare_keys before.by_key key) → new ≡ old ++ more
-    → (found : List Key) → kept_modes after found ≡ (if are_keys found (key_value key ∷ []) then kept_modes before found ++ more else kept_modes before found)
+    → (found : List Key) → kept_modes after found ≡ (if are_keys found (key ∷ []) then kept_modes before found ++ more else kept_modes before found)
 one_more before middle after key more old new removed inserted old_is new_is [] = rw (lookup-nothing after.by_key.entries, lookup-nothing before.by_key.entries) refl
 one_more before middle after key more old new removed inserted old_is new_is (a ∷ b ∷ rest) = rw (lookup-many a b rest after.by_key.entries, lookup-many a b rest before.by_key.entries) refl
 one_more before middle after key more old new removed inserted old_is new_is (a ∷ []) =
-    let found : CodeKey = record { name = a.name; arity = a.arity } in
+    let found : Key = record { name = a.name; arity = a.arity } in
     let there : Option Group = get compare_keys before.by_key found in
     let added : key ≡ found → new ≡ listed there ++ more = λ same.
-    new_is ∙ ap (λ l. l ++ more) (old_is ∙ ap (λ (k : CodeKey). listed (get compare_keys before.by_key k)) same) in
-    let whole : listed (get compare_keys after.by_key found) ≡ (if is_key a (key_value key) then listed there ++ more else listed there) =
+    new_is ∙ ap (λ l. l ++ more) (old_is ∙ ap (λ (k : Key). listed (get compare_keys before.by_key k)) same) in
+    let whole : listed (get compare_keys after.by_key found) ≡ (if is_key a key then listed there ++ more else listed there) =
     at_key key found new more there (get compare_keys middle.by_key found) (get compare_keys after.by_key found) (removed found) (inserted found) added
-    (is_key a (key_value key)) (same-test key found ∙ key-swap (key_value key) a) in
+    (is_key a key) (same-test key found ∙ key-swap key a) in
     ap listed (sym (lookup-same found after.by_key.entries)) ∙ whole
-    ∙ ap (λ (o : Option Group). if is_key a (key_value key) then listed o ++ more else listed o) (lookup-same found before.by_key.entries)
+    ∙ ap (λ (o : Option Group). if is_key a key then listed o ++ more else listed o) (lookup-same found before.by_key.entries)
 
 -- what an item declares for a predicate
 
@@ -77,7 +76,7 @@ modes_by_key predicate span Section = without_key predicate []
 modes_by_key predicate span (Import units) = without_key predicate []
 modes_by_key predicate span (TypeItem head constructors) = without_key predicate []
 modes_by_key predicate span (ClauseItem head body) = without_key predicate []
-modes_by_key predicate span OtherType = without_key predicate []
+modes_by_key predicate span (OtherType head) = without_key predicate []
 modes_by_key predicate span OtherFunction = without_key predicate []
 modes_by_key predicate span OtherGrammar = without_key predicate []
 modes_by_key predicate span OtherDeclaration = without_key predicate []

@@ -3,6 +3,7 @@ use Rattle.std.proofs.Common.{◌≡◌, ℕ, ◌==◌, Bool, true, false, List,
 use mathlib.Core.Path.{fun_ext}
 use Rattle.std.specs.List.{IsDistinct}
 use Rattle.std.specs.Str.{bytes_eq}
+use Rattle.merc_base.specs.Names.{list_name, bool_name, maybe_name}
 use Rattle.merc_base.specs.declared.refusal.Refusal.{Refusal}
 use Rattle.merc_tree.specs.Term.{Term}
 use Rattle.merc_tree.specs.declared.declarations.Module.{Module}
@@ -32,26 +33,26 @@ module _ (before after after' : List (List ℕ)) (distinct : IsDistinct bytes_eq
 
 -- units with the same items of the three that have a text are the same
 same_items : (before after before' after' : List (List ℕ)) (items items' : ℕ → List Term) → AreUnits before after items → AreUnits before' after' items'
-    → items 59 ≡ items' 59 → items 60 ≡ items' 60 → items 61 ≡ items' 61 → items ≡ items'
+    → items list_name ≡ items' list_name → items bool_name ≡ items' bool_name → items maybe_name ≡ items' maybe_name → items ≡ items'
 same_items before after before' after' items items' units units' list bool maybe =
     let P : ℕ → Type 0 = λ n. items n ≡ items' n in
     fun_ext (λ name.
-    by_number 59 P name (name == 59) refl list (λ no_list.
-    by_number 60 P name (name == 60) refl bool (λ no_bool.
-    by_number 61 P name (name == 61) refl maybe (λ no_maybe.
+    by_number list_name P name (name == list_name) refl list (λ no_list.
+    by_number bool_name P name (name == bool_name) refl bool (λ no_bool.
+    by_number maybe_name P name (name == maybe_name) refl maybe (λ no_maybe.
     units.others name no_list no_bool no_maybe ∙ sym (units'.others name no_list no_bool no_maybe)))))
 
 -- and so have all units together
 pub AreUnits-unique : (before after after' : List (List ℕ)) (items items' : ℕ → List Term) → IsDistinct bytes_eq before
     → AreUnits before after items → AreUnits before after' items' → (after ≡ after') × (items ≡ items')
 AreUnits-unique before after after' items items' distinct units units' =
-    let list = same_unit before units.after_list units'.after_list distinct (codes "list") (items 59) (items' 59) units.list units'.list in
-    let list_distinct = unit-distinct before units.after_list units.after_list distinct (codes "list") (items 59) units.list in
-    let bool' = subst (λ (names : List (List ℕ)). IsUnit names units'.after_bool (codes "bool") (items' 60)) (sym list.0) units'.bool in
-    let bool = same_unit units.after_list units.after_bool units'.after_bool list_distinct (codes "bool") (items 60) (items' 60) units.bool bool' in
-    let bool_distinct = unit-distinct units.after_list units.after_bool units.after_bool list_distinct (codes "bool") (items 60) units.bool in
-    let maybe' = subst (λ (names : List (List ℕ)). IsUnit names after' (codes "maybe") (items' 61)) (sym bool.0) units'.maybe in
-    let maybe = same_unit units.after_bool after after' bool_distinct (codes "maybe") (items 61) (items' 61) units.maybe maybe' in
+    let list = same_unit before units.after_list units'.after_list distinct (codes "list") (items list_name) (items' list_name) units.list units'.list in
+    let list_distinct = unit-distinct before units.after_list units.after_list distinct (codes "list") (items list_name) units.list in
+    let bool' = subst (λ (names : List (List ℕ)). IsUnit names units'.after_bool (codes "bool") (items' bool_name)) (sym list.0) units'.bool in
+    let bool = same_unit units.after_list units.after_bool units'.after_bool list_distinct (codes "bool") (items bool_name) (items' bool_name) units.bool bool' in
+    let bool_distinct = unit-distinct units.after_list units.after_bool units.after_bool list_distinct (codes "bool") (items bool_name) units.bool in
+    let maybe' = subst (λ (names : List (List ℕ)). IsUnit names after' (codes "maybe") (items' maybe_name)) (sym bool.0) units'.maybe in
+    let maybe = same_unit units.after_bool after after' bool_distinct (codes "maybe") (items maybe_name) (items' maybe_name) units.maybe maybe' in
     (maybe.0, same_items before after before after' items items' units units' list.1 bool.1 maybe.1)
 
 -- the items of a file are one module at most,
@@ -59,16 +60,16 @@ pub IsModuleOf-unique : (before after after' : List (List ℕ)) (terms : List Te
     → IsModuleOf before after terms found → IsModuleOf before after' terms found' → (after ≡ after') × (found ≡ found')
 IsModuleOf-unique before after after' terms found found' distinct is is' =
     let same = AreUnits-unique before after after' is.items is'.items distinct is.units is'.units in
-    (same.0, is.same ∙ ap (λ (items : ℕ → List Term). module_of terms (entries items terms)) same.1 ∙ sym is'.same)
+    (same.0, is.same ∙ ap (λ (names : List (List ℕ)). module_of names terms (entries is.items terms)) same.0 ∙ ap (λ (items : ℕ → List Term). module_of after' terms (entries items terms)) same.1 ∙ sym is'.same)
 
 -- and none where they are refused
 pub RefusesItemsOf-excludes : (before after : List (List ℕ)) (terms : List Term) (refusal : Refusal) (found : Module) → IsDistinct bytes_eq before
     → RefusesItemsOf before terms refusal → IsModuleOf before after terms found → ⊥
-RefusesItemsOf-excludes before after terms _ found distinct (first after' items rule detail place units fault) is =
+RefusesItemsOf-excludes before after terms _ found distinct (first after' items refusal units fault) is =
     let same = AreUnits-unique before after after' is.items items distinct is.units units in
     let names : HasNoFault after' terms (entries is.items terms) = subst (λ (names : List (List ℕ)). HasNoFault names terms (entries is.items terms)) same.0 is.faultless in
     let faultless : HasNoFault after' terms (entries items terms) = subst (λ (some : ℕ → List Term). HasNoFault after' terms (entries some terms)) same.1 names in
-    faultless fault.phase rule detail place fault.fault
+    faultless fault.phase refusal.rule refusal.detail refusal.place fault.decides.fault
 
 -- a text is one module at most,
 pub IsModule-unique : (before after after' : List (List ℕ)) (text : List ℕ) (terms terms' : List Term) (found found' : Module) → IsDistinct bytes_eq before

@@ -1,5 +1,6 @@
 -- What is read of a text, and what is refused.
 use Rattle.std.proofs.Common.{◌≡◌, ℕ, List, ◌++◌, append_assoc, sym, ap, subst, ◌∙◌}
+use Rattle.merc_base.specs.FirstFault.{IsFirstOf}
 use Rattle.merc_base.specs.declared.refusal.Fault.{Fault}
 use Rattle.merc_base.specs.declared.refusal.Fault.TheVariants.{Refused, NoMemory}
 use Rattle.merc_tree.specs.Term.{Term}
@@ -8,12 +9,11 @@ use Rattle.merc_terms.specs.Items.{IsRefusal}
 use Rattle.merc_terms.specs.Texts.{ReadsItems, RefusesText}
 use Rattle.merc_item_forms.specs.FormFaults.{Rises}
 use Rattle.merc_entries.specs.Entries.{Entry, entries}
-use Rattle.merc_entries.specs.EntryValue.{NeverFalls}
+use Rattle.merc_entries.specs.EntryValue.{AreInOrder}
 use Rattle.merc_entries.specs.Units.{AreUnits}
-use Rattle.merc_entries.proofs.EntryOrder.{entries_never_fall}
-use Rattle.merc_items.specs.ModuleFaults.{IsFirstFault}
+use Rattle.merc_entries.proofs.EntryOrder.{entries_in_order}
 use Rattle.merc_items.specs.ModuleOf.{module_of}
-use Rattle.merc_items.specs.Phases.{HasNoFault}
+use Rattle.merc_items.specs.Phases.{HasFault, HasNoFault}
 use Rattle.merc_items.specs.ReadModule.{IsModuleOf, RefusesItemsOf, first, RefusesModule, no_items, items as items_refused}
 use Rattle.merc_items.proofs.Rising.{items-rises}
 
@@ -32,21 +32,20 @@ items_of-refused before names text terms NoMemory reads refuses = tt
 
 -- the items of the units stand among the entries of a file
 module _ (before after : List (List ℕ)) (terms : List Term) (items : ℕ → List Term) (units : AreUnits before after items) (all : List Entry) (same : all ≡ entries items terms) where
-  pub items-refused : (fault : Fault) → IsRefusal (IsFirstFault after terms all) fault → IsRefusal (RefusesItemsOf before terms) fault
-  items-refused (Refused refusal) fault =
-      first after items refusal.rule refusal.detail refusal.place units (subst (λ (some : List Entry). IsFirstFault after terms some refusal) same fault)
+  pub items-refused : (fault : Fault) → IsRefusal (IsFirstOf (HasFault after terms all)) fault → IsRefusal (RefusesItemsOf before terms) fault
+  items-refused (Refused refusal) fault = first after items refusal units (subst (λ (some : List Entry). IsFirstOf (HasFault after terms some) refusal) same fault)
   items-refused NoMemory fault = tt
 
-  pub is_module : (found : Module) → HasNoFault after terms all → found ≡ module_of terms all → IsModuleOf before after terms found
+  pub is_module : (found : Module) → HasNoFault after terms all → found ≡ module_of after terms all → IsModuleOf before after terms found
   is_module found faultless is = record {
     items = items;
     units = units;
     faultless = subst (HasNoFault after terms) same faultless;
-    same = is ∙ ap (module_of terms) same;
+    same = is ∙ ap (module_of after terms) same;
   }
 
-pub entries-order : (terms : List Term) (items : ℕ → List Term) (all : List Entry) → Rises terms → all ≡ entries items terms → NeverFalls all
-entries-order terms items all rises same = subst NeverFalls (sym same) (entries_never_fall items terms rises)
+pub entries-order : (terms : List Term) (items : ℕ → List Term) (all : List Entry) → Rises terms → all ≡ entries items terms → AreInOrder all
+entries-order terms items all rises same = subst AreInOrder (sym same) (entries_in_order items terms rises)
 
 -- a table that grows twice grows
 pub grows_twice : (before middle after more more' : List (List ℕ)) → middle ≡ before ++ more → after ≡ middle ++ more' → (all : List (List ℕ)) × (after ≡ before ++ all)

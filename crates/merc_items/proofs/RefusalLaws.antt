@@ -2,34 +2,28 @@
 use Rattle.std.proofs.Common.{◌≡◌, ℕ, List, sym, subst}
 use Rattle.std.specs.List.{IsDistinct}
 use Rattle.std.specs.Str.{bytes_eq}
-use Rattle.merc_base.specs.declared.place.Place.{Place}
-use Rattle.merc_base.specs.declared.refusal.Rule.{Rule}
-use Rattle.merc_base.specs.declared.refusal.Detail.{Detail}
+use Rattle.merc_base.specs.FirstFault.{IsFirstOf}
 use Rattle.merc_base.specs.declared.refusal.Refusal.{Refusal}
 use Rattle.merc_tree.specs.Term.{Term}
-use Rattle.merc_terms.specs.Items.{refusal_at}
 use Rattle.merc_terms.specs.Texts.{ReadsItems, RefusesText}
 use Rattle.merc_entries.specs.Entries.{entries}
 use Rattle.merc_item_forms.specs.FormFaults.{Rises}
-use Rattle.merc_items.specs.Phases.{FirstFault}
+use Rattle.merc_items.specs.Phases.{HasFault}
 use Rattle.merc_items.specs.ReadModule.{RefusesItemsOf, first, RefusesModule, no_items, items as items_refused}
 use Rattle.merc_entries.specs.Units.{AreUnits}
-use Rattle.merc_items.proofs.OneFault.{FirstFault-unique}
+use Rattle.merc_items.proofs.OneFault.{one_first}
 use Rattle.merc_items.proofs.ModuleLaws.{AreUnits-unique}
 use Rattle.merc_items.proofs.ReadingLaws.{reads-rises}
 use Rattle.merc_terms.proofs.TextLaws.{ReadsItems-distinct, ReadsItems-unique, RefusesText-unique, RefusesText-excludes}
 
-same_refusal : (rule rule' : Rule) (detail detail' : Detail) (place place' : Place) → (rule ≡ rule') × (detail ≡ detail') × (place ≡ place') → refusal_at rule detail place ≡ refusal_at rule' detail' place'
-same_refusal rule rule' detail detail' place place' same = (λ i. record { rule = same.0 i; place = same.2 i; detail = same.1 i })
-
 -- the items of a file are refused in one way
 pub RefusesItemsOf-unique : (before : List (List ℕ)) (terms : List Term) (one other : Refusal) → IsDistinct bytes_eq before → Rises terms
     → RefusesItemsOf before terms one → RefusesItemsOf before terms other → one ≡ other
-RefusesItemsOf-unique before terms _ _ distinct rises (first after items rule detail place units fault) (first after' items' rule' detail' place' units' fault') =
+RefusesItemsOf-unique before terms _ _ distinct rises (first after items one units fault) (first after' items' other units' fault') =
     let same = AreUnits-unique before after after' items items' distinct units units' in
-    let names = subst (λ (names : List (List ℕ)). FirstFault names terms (entries items' terms) rule' detail' place') (sym same.0) fault' in
-    let moved = subst (λ (some : ℕ → List Term). FirstFault after terms (entries some terms) rule' detail' place') (sym same.1) names in
-    same_refusal rule rule' detail detail' place place' (FirstFault-unique after terms items rule rule' detail detail' place place' rises fault moved)
+    let names = subst (λ (names : List (List ℕ)). IsFirstOf (HasFault names terms (entries items' terms)) other) (sym same.0) fault' in
+    let moved = subst (λ (some : ℕ → List Term). IsFirstOf (HasFault after terms (entries some terms)) other) (sym same.1) names in
+    one_first after terms items one other rises fault moved
 
 -- a text is refused in one way
 pub RefusesModule-unique : (before : List (List ℕ)) (text : List ℕ) (one other : Refusal) → IsDistinct bytes_eq before → RefusesModule before text one → RefusesModule before text other → one ≡ other

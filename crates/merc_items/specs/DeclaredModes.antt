@@ -5,10 +5,10 @@ use Rattle.merc_base.specs.declared.place.Span.{Span}
 use Rattle.merc_tree.specs.Shape.{arguments_of}
 use Rattle.merc_tree.specs.declared.declarations.ModeDecl.{ModeDecl}
 use Rattle.merc_items.specs.declared.declared_modes.ModeTable.{ModeTable}
-use Rattle.merc_entries.specs.KeyValue.{key_value}
 use Rattle.merc_item_forms.specs.Items.{Item, Opening, Ending, Section, Import, TypeItem, PredicateItem, ModeItem, ClauseItem, OtherType, OtherFunction, OtherGrammar, OtherDeclaration, Formless}
 use Rattle.merc_item_forms.specs.Forms.{argument_mode}
-use Rattle.merc_entries.specs.Entries.{Entry, Key, key_of, has_mode, are_keys}
+use Rattle.merc_base.specs.declared.groups.Key.{Key}
+use Rattle.merc_entries.specs.Entries.{Entry, key_of, has_mode, are_keys}
 use Rattle.merc_items.specs.ModuleOf.{mode_decl}
 
 -- the predicate for which an item declares a mode
@@ -21,7 +21,7 @@ moded_predicate Section = []
 moded_predicate (Import units) = []
 moded_predicate (TypeItem head constructors) = []
 moded_predicate (ClauseItem head body) = []
-moded_predicate OtherType = []
+moded_predicate (OtherType head) = []
 moded_predicate OtherFunction = []
 moded_predicate OtherGrammar = []
 moded_predicate OtherDeclaration = []
@@ -42,4 +42,4 @@ listed (Some modes) = modes
 
 -- the modes that are kept for a predicate
 abbrev pub kept_modes : ModeTable → List Key → List ModeDecl
-kept_modes table predicate = listed (lookup (λ key. are_keys predicate (key_value key ∷ [])) table.by_key.entries)
+kept_modes table predicate = listed (lookup (λ key. are_keys predicate (key ∷ [])) table.by_key.entries)

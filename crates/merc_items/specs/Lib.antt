@@ -1,7 +1,6 @@
 pub mod Phases
 pub mod ModuleOf
 pub mod ReadModule
-pub mod ModuleFaults
 pub mod Parting
 pub mod Assembling
 pub mod DeclaredTypes

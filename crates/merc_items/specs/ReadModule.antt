@@ -1,15 +1,12 @@
 -- The module that a text is, or what is wrong with it.
 use Rattle.std.specs.Prelude.{◌≡◌, ℕ, List}
-use Rattle.merc_base.specs.declared.place.Place.{Place}
-use Rattle.merc_base.specs.declared.refusal.Rule.{Rule}
-use Rattle.merc_base.specs.declared.refusal.Detail.{Detail}
+use Rattle.merc_base.specs.FirstFault.{IsFirstOf}
 use Rattle.merc_base.specs.declared.refusal.Refusal.{Refusal}
 use Rattle.merc_tree.specs.Term.{Term}
 use Rattle.merc_tree.specs.declared.declarations.Module.{Module}
-use Rattle.merc_terms.specs.Items.{refusal_at}
 use Rattle.merc_terms.specs.Texts.{ReadsItems, RefusesText}
 use Rattle.merc_entries.specs.Entries.{entries}
-use Rattle.merc_items.specs.Phases.{FirstFault, HasNoFault}
+use Rattle.merc_items.specs.Phases.{HasFault, HasNoFault}
 use Rattle.merc_items.specs.ModuleOf.{module_of}
 use Rattle.merc_entries.specs.Units.{AreUnits}
 
@@ -19,11 +16,11 @@ pub record IsModuleOf (before after : List (List ℕ)) (terms : List Term) (foun
   pub items : ℕ → List Term
   pub units : AreUnits before after items
   pub faultless : HasNoFault after terms (entries items terms)
-  pub same : found ≡ module_of terms (entries items terms)
+  pub same : found ≡ module_of after terms (entries items terms)
 
 -- what is wrong with the items of a file: their first fault among those of the units
 pub data RefusesItemsOf (before : List (List ℕ)) (terms : List Term) : Refusal → Type 0 where
-  first : (after : List (List ℕ)) (items : ℕ → List Term) (rule : Rule) (detail : Detail) (place : Place) → AreUnits before after items → FirstFault after terms (entries items terms) rule detail place → RefusesItemsOf before terms (refusal_at rule detail place)
+  first : (after : List (List ℕ)) (items : ℕ → List Term) (refusal : Refusal) → AreUnits before after items → IsFirstOf (HasFault after terms (entries items terms)) refusal → RefusesItemsOf before terms refusal
 
 -- a text is items that are a module
 pub record IsModule (before after : List (List ℕ)) (text : List ℕ) (terms : List Term) (found : Module) : Type 0 where

@@ -1,19 +1,20 @@
 //! The module that items are.
 ghost use Rattle.std.specs.Prelude.{◌≡◌, [], ◌∷◌, ◌++◌, map, IfOk, OnOk};
 ghost use Rattle.std.specs.List.{flat_map};
+ghost use Rattle.merc_base.specs.Names.{semicolon_name};
 ghost use Rattle.merc_entries.specs.Entries.{with_units, units_of};
 ghost use Rattle.merc_entries.specs.EntryValue.{entry_values};
 ghost use Rattle.merc_item_forms.specs.ItemValue.{item_value};
 ghost use Rattle.merc_operands.specs.Members.{chain};
 ghost use Rattle.merc_item_forms.specs.Items.{TypeItem};
-ghost use Rattle.merc_items.specs.ModuleOf.{constructor_of, clauses_in, head_name, module_of, pred_decls, type_defs, type_defs_of, variable_names};
+ghost use Rattle.merc_items.specs.ModuleOf.{constructor_of, clauses_in, head_name, module_of, parameters, pred_decls, type_defs, type_defs_of};
 ghost use Rattle.merc_items.specs.Assembling.{clause_of, pred_decl_of, preds_by};
 ghost use Rattle.merc_items.specs.Parting.{kept, part_of};
 
 use crate::declared_modes::ModeTable;
-use crate::declared_types::{argument_types, declared_types};
+use crate::declared_types::{argument_types, declared_types, type_variable};
 use crate::parting::Part;
-use merc_base::{Name, NoMemory, Span};
+use merc_base::{Name, Names, NoMemory, Span};
 use merc_entries::{DistinctNames, Entry, imports};
 use merc_item_forms::{Item, item_of, own_name};
 use merc_operands::{arguments, members};
@@ -27,19 +28,20 @@ use std::alloc::Global;
 /// type, a constructor or a predicate, any name stands there.
 pub(crate) fn module_of(
     alloc: Global,
+    names: &Names,
     terms: &Terms,
     entries: &[Entry<'_>],
 ) -> Result<Module, NoMemory>
-    ensures { IfOk result (λ found. found ≡ module_of terms.now (entry_values entries.now)) }
+    ensures { IfOk result (λ found. found ≡ module_of names.now terms.now (entry_values entries.now)) }
 {
     let units = units_of(alloc, terms)?;
     let mut types = TypeDefs::new(alloc);
-    push_types(alloc, Part::File, entries, &mut types)?;
-    push_types(alloc, Part::Units, entries, &mut types)?;
+    push_types(alloc, names, Part::File, entries, &mut types)?;
+    push_types(alloc, names, Part::Units, entries, &mut types)?;
     let mut preds = PredDecls::new(alloc);
-    push_predicates(alloc, Part::File, entries, &mut preds)?;
+    push_predicates(alloc, names, Part::File, entries, &mut preds)?;
     let own = preds.as_slice().len();
-    push_predicates(alloc, Part::Units, entries, &mut preds)?;
+    push_predicates(alloc, names, Part::Units, entries, &mut preds)?;
     let mut clauses = Clauses::new(alloc);
     push_clauses(alloc, Part::File, entries, &mut clauses)?;
     push_clauses(alloc, Part::Units, entries, &mut clauses)?;
@@ -81,16 +83,17 @@ fn insert_all(units: &mut DistinctNames, names: &[Name]) -> Result<(), NoMemory>
 // Puts the types of a part of the module behind the others.
 fn push_types(
     alloc: Global,
+    names: &Names,
     part: Part,
     entries: &[Entry<'_>],
     types: &mut TypeDefs,
 ) -> Result<(), NoMemory>
-    ensures { OnOk result (types.new ≡ types.old ++ flat_map (kept part type_defs) (entry_values entries.now)) }
+    ensures { OnOk result (types.new ≡ types.old ++ flat_map (kept part (type_defs names.now)) (entry_values entries.now)) }
 {
     for entry in entries {
         if part.has(entry) {
             if let Item::Type(head, root) = &entry.item {
-                types.push(type_def(alloc, entry.unit, head, root)?)?;
+                types.push(type_def(alloc, names, entry.unit, head, root)?)?;
             }
         }
     }
@@ -100,16 +103,17 @@ fn push_types(
 // The type with this head and this chain of constructors.
 fn type_def(
     alloc: Global,
+    names: &Names,
     unit: Option<Name>,
     head: &TermRef<'_>,
     root: &TermRef<'_>,
 ) -> Result<TypeDef, NoMemory>
-    ensures { IfOk result (λ type_def. type_def ∷ [] ≡ type_defs_of unit (TypeItem head.now (chain 23 root.now))) }
+    ensures { IfOk result (λ type_def. type_def ∷ [] ≡ type_defs_of names.now unit (TypeItem head.now (chain semicolon_name root.now))) }
 {
     Ok(TypeDef {
         name: head_name(head),
-        params: variable_names(alloc, &arguments(alloc, head)?)?,
-        constructors: constructors(alloc, &members(alloc, root, Name::SEMICOLON)?)?,
+        params: parameters(alloc, names, &arguments(alloc, head)?)?,
+        constructors: constructors(alloc, names, &members(alloc, root, Name::SEMICOLON)?)?,
         unit,
     })
 }
@@ -123,64 +127,71 @@ fn head_name(head: &TermRef<'_>) -> Name
     }
 }
 
-fn variable_names(alloc: Global, terms: &[TermRef<'_>]) -> Result<NameList, NoMemory>
-    ensures { IfOk result (λ names. names ≡ variable_names terms.now) }
+// The type variables among the arguments of a type's head.
+fn parameters(alloc: Global, names: &Names, terms: &[TermRef<'_>]) -> Result<NameList, NoMemory>
+    ensures { IfOk result (λ variables. variables ≡ parameters names.now terms.now) }
 {
-    let mut names = NameList::new(alloc);
+    let mut variables = NameList::new(alloc);
     for term in terms {
         if let Shape::Variable(name) = term.shape() {
-            names.push(name)?;
+            variables.push(type_variable(names, name, term.span()))?;
         }
     }
-    Ok(names)
+    Ok(variables)
 }
 
-fn constructors(alloc: Global, terms: &[TermRef<'_>]) -> Result<Constructors, NoMemory>
-    ensures { IfOk result (λ constructors. constructors ≡ map constructor_of terms.now) }
+fn constructors(
+    alloc: Global,
+    names: &Names,
+    terms: &[TermRef<'_>],
+) -> Result<Constructors, NoMemory>
+    ensures { IfOk result (λ constructors. constructors ≡ map (constructor_of names.now) terms.now) }
 {
     let mut constructors = Constructors::new(alloc);
     for term in terms {
-        constructors.push(constructor(alloc, term)?)?;
+        constructors.push(constructor(alloc, names, term)?)?;
     }
     Ok(constructors)
 }
 
-fn constructor(alloc: Global, term: &TermRef<'_>) -> Result<Constructor, NoMemory>
-    ensures { IfOk result (λ constructor. constructor ≡ constructor_of term.now) }
+fn constructor(alloc: Global, names: &Names, term: &TermRef<'_>) -> Result<Constructor, NoMemory>
+    ensures { IfOk result (λ constructor. constructor ≡ constructor_of names.now term.now) }
 {
     Ok(Constructor {
         name: head_name(term),
-        args: declared_types(alloc, &arguments(alloc, term)?)?,
+        args: declared_types(alloc, names, &arguments(alloc, term)?)?,
     })
 }
 
 // Puts the predicates of a part of the module behind the others, each with its modes in that part.
 fn push_predicates(
     alloc: Global,
+    names: &Names,
     part: Part,
     entries: &[Entry<'_>],
     preds: &mut PredDecls,
 ) -> Result<(), NoMemory>
-    ensures { OnOk result (preds.new ≡ preds.old ++ flat_map (pred_decls (part_of part (entry_values entries.now))) (part_of part (entry_values entries.now))) }
+    ensures { OnOk result (preds.new ≡ preds.old ++ flat_map (pred_decls names.now (part_of part (entry_values entries.now))) (part_of part (entry_values entries.now))) }
 {
     let table = ModeTable::of(alloc, part, entries)?;
-    push_with_modes(alloc, &table, part, entries, preds)
+    push_with_modes(alloc, names, &table, part, entries, preds)
 }
 
 // The same with the modes of a table.
 fn push_with_modes(
     alloc: Global,
+    names: &Names,
     table: &ModeTable,
     part: Part,
     entries: &[Entry<'_>],
     preds: &mut PredDecls,
 ) -> Result<(), NoMemory>
-    ensures { OnOk result (preds.new ≡ preds.old ++ flat_map (kept part (preds_by table.now)) (entry_values entries.now)) }
+    ensures { OnOk result (preds.new ≡ preds.old ++ flat_map (kept part (preds_by names.now table.now)) (entry_values entries.now)) }
 {
     for entry in entries {
         if part.has(entry) {
             if let Item::Predicate(head, _) = &entry.item {
-                preds.push(predicate(alloc, table, entry.unit, head, entry.span)?)?;
+                preds.push(predicate(alloc, names, table, entry.unit, head, entry.span)?)?;
             }
         }
     }
@@ -189,16 +200,17 @@ fn push_with_modes(
 
 fn predicate(
     alloc: Global,
+    names: &Names,
     table: &ModeTable,
     unit: Option<Name>,
     head: &TermRef<'_>,
     span: Span,
 ) -> Result<PredDecl, NoMemory>
-    ensures { IfOk result (λ predicate. predicate ≡ pred_decl_of table.now unit span head.now) }
+    ensures { IfOk result (λ predicate. predicate ≡ pred_decl_of names.now table.now unit span head.now) }
 {
     Ok(PredDecl {
         name: head_name(head),
-        args: argument_types(alloc, &arguments(alloc, head)?)?,
+        args: argument_types(alloc, names, &arguments(alloc, head)?)?,
         modes: table.modes(alloc, head)?,
         span,
         unit,

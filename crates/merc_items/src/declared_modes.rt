@@ -4,7 +4,8 @@ ghost use Rattle.std.specs.List.{flat_map};
 ghost use Rattle.merc_tree.specs.Shape.{arguments_of};
 ghost use Rattle.merc_operands.specs.Operands.{plain_name};
 ghost use Rattle.merc_item_forms.specs.Forms.{argument_mode, category_named};
-ghost use Rattle.merc_entries.specs.Entries.{Key as key_record, has_mode, is_out, key_of, are_keys};
+ghost use Rattle.merc_base.specs.declared.groups.Key.{Key as key_record};
+ghost use Rattle.merc_entries.specs.Entries.{has_mode, is_out, key_of, are_keys};
 ghost use Rattle.merc_entries.specs.EntryValue.{entry_value, entry_values};
 ghost use Rattle.merc_item_forms.specs.ItemValue.{item_value};
 ghost use Rattle.merc_entries.specs.KeySets.{keys_at};
@@ -13,9 +14,9 @@ ghost use Rattle.merc_items.specs.DeclaredModes.{entry_modes, kept_modes, moded_
 ghost use Rattle.merc_items.specs.Parting.{kept};
 
 use crate::parting::Part;
-use merc_base::{Category, Name, NoMemory};
-use merc_entries::{Entry, Key, has_mode, key_of};
-use merc_item_forms::{Item, argument_mode};
+use merc_base::{Category, Key, Name, NoMemory};
+use merc_entries::{Entry, has_mode, key_of};
+use merc_item_forms::{Item, argument_mode, category_named};
 use merc_operands::{arguments, plain_name};
 use merc_tree::{Arg, Args, ModeDecl, ModeDecls, TermRef};
 use std::alloc::Global;
@@ -170,27 +171,18 @@ fn declared_category(category: &Option<TermRef<'_>>) -> Category
 {
     match category {
         Some(term) => match plain_name(term) {
-            Some(name) => category_named(name),
+            Some(name) => named_category(name),
             None => Category::Det,
         },
         None => Category::Det,
     }
 }
 
-fn category_named(name: Name) -> Category
+fn named_category(name: Name) -> Category
     ensures { result ≡ category_or_det (category_named name) }
 {
-    if name == Name::SEMIDET {
-        Category::Semidet
-    } else if name == Name::MULTI {
-        Category::Multi
-    } else if name == Name::NONDET {
-        Category::Nondet
-    } else if name == Name::ERRONEOUS {
-        Category::Erroneous
-    } else if name == Name::FAILURE {
-        Category::Failure
-    } else {
-        Category::Det
+    match category_named(name) {
+        Some(category) => category,
+        None => Category::Det,
     }
 }

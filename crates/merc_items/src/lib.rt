@@ -7,7 +7,5 @@ mod declared_types;
 mod parting;
 mod phases;
 mod reading;
-#[cfg(test)]
-mod tests;
 
 pub use reading::{module_of_items, read_module};

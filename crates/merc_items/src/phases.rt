@@ -1,10 +1,10 @@
 //! The checks of the items of a module, one phase after the other.
 ghost use Rattle.std.specs.Prelude.{IfOk, IfErr};
+ghost use Rattle.merc_base.specs.FirstFault.{IsFirstOf};
 ghost use Rattle.merc_terms.specs.Items.{IsRefusal};
-ghost use Rattle.merc_entries.specs.EntryValue.{entry_values, NeverFalls};
+ghost use Rattle.merc_entries.specs.EntryValue.{entry_values, AreInOrder};
 ghost use Rattle.merc_item_forms.specs.FormFaults.{Rises};
-ghost use Rattle.merc_items.specs.ModuleFaults.{IsFirstFault};
-ghost use Rattle.merc_items.specs.Phases.{HasNoFault};
+ghost use Rattle.merc_items.specs.Phases.{HasFault, HasNoFault};
 
 use merc_base::{Fault, Names};
 use merc_declared::{check_clauses, check_modes, check_types};
@@ -22,9 +22,9 @@ pub(crate) fn check_items(
     names: &Names,
 ) -> Result<(), Fault>
     requires terms { Rises terms.now }
-    requires entries { NeverFalls (entry_values entries.now) }
+    requires entries { AreInOrder (entry_values entries.now) }
     ensures fine { IfOk result (λ _. HasNoFault names.now terms.now (entry_values entries.now)) }
-    ensures refused { IfErr result (λ fault. IsRefusal (IsFirstFault names.now terms.now (entry_values entries.now)) fault) }
+    ensures refused { IfErr result (λ fault. IsRefusal (IsFirstOf (HasFault names.now terms.now (entry_values entries.now))) fault) }
 {
     let own = own_name(terms);
     check_forms(alloc, terms, names)?;

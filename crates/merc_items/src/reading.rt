@@ -5,9 +5,6 @@ ghost use Rattle.merc_terms.specs.Items.{IsRefusal};
 ghost use Rattle.merc_item_forms.specs.FormFaults.{Rises};
 ghost use Rattle.merc_items.specs.ReadModule.{IsModule, IsModuleOf, RefusesItemsOf, RefusesModule};
 
-#[cfg(test)]
-mod tests;
-
 use crate::assembling::module_of;
 use crate::phases::check_items;
 use merc_base::{Fault, Names, Text};
@@ -65,5 +62,5 @@ pub fn module_of_items(alloc: Global, terms: &Terms, names: &mut Names) -> Resul
     let units = read_units(alloc, names)?;
     let entries = join(alloc, terms, &units)?;
     check_items(alloc, terms, &entries, names)?;
-    Ok(module_of(alloc, terms, &entries)?)
+    Ok(module_of(alloc, names, terms, &entries)?)
 }

@@ -8,6 +8,7 @@ use Rattle.merc_tree.specs.declared.declarations.PredDecl.{PredDecl}
 use Rattle.merc_tree.specs.declared.declarations.Module.{Module}
 use Rattle.merc_base.specs.declared.groups.Groups.{Groups}
 use Rattle.merc_base.specs.Groups.{kept}
+use Rattle.merc_base.specs.Names.{require_name}
 use Rattle.merc_known.specs.Known.{allows, has_name}
 
 abbrev pub is_named : ℕ → ℕ → PredDecl → Bool
@@ -47,6 +48,6 @@ constructor_seen found = (found.0.now, found.1.now)
 
 -- what is kept of a module: whether `require` is imported, its predicates and its constructors by their names
 pub record Indexes (found : Module) (requires : Bool) (predicates : Groups (ℕ × Bor PredDecl)) (constructors : Groups (Bor TypeDef × Bor Constructor)) : Type 0 where
-  pub requires_is : requires ≡ list_any (λ unit. unit == 62) found.units
+  pub requires_is : requires ≡ list_any (λ unit. unit == require_name) found.units
   pub predicates_are : (name arity : ℕ) → map predicate_seen (kept predicates name arity) ≡ predicates_from 0 found.preds name arity
   pub constructors_are : (name arity : ℕ) → map constructor_seen (kept constructors name arity) ≡ constructors_of found.types name arity

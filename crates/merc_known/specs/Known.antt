@@ -2,6 +2,7 @@
 use Rattle.std.specs.Prelude.{ℕ, Bool, true, ◌==◌, ◌&&◌, nat_lt, List, [], ◌∷◌, length, Option, Some, None, if◌then◌else◌}
 use Rattle.std.specs.Option.{option_map}
 use Rattle.std.specs.List.{find, list_any, position_or_len}
+use Rattle.merc_base.specs.Names.{error_name, require_name}
 use Rattle.merc_tree.specs.declared.declarations.Constructor.{Constructor}
 use Rattle.merc_tree.specs.declared.declarations.TypeDef.{TypeDef}
 use Rattle.merc_tree.specs.declared.declarations.PredDecl.{PredDecl}
@@ -18,7 +19,7 @@ allows own (Some qualifier) (Some unit) = qualifier == unit
 -- `error/1`, where `require` is imported
 abbrev pub is_error : Module → ℕ → Option ℕ → ℕ → Bool
 is_error found name qualifier arity =
-    (name == 54) && (arity == 1) && list_any (λ unit. unit == 62) found.units && allows found.name qualifier (Some 62)
+    (name == error_name) && (arity == 1) && list_any (λ unit. unit == require_name) found.units && allows found.name qualifier (Some require_name)
 
 abbrev pub is_predicate : ℕ → ℕ → Option ℕ → ℕ → PredDecl → Bool
 is_predicate own name qualifier arity declared = (declared.name == name) && (length declared.args == arity) && allows own qualifier declared.unit

@@ -1,51 +1,146 @@
--- A module `m` that imports `list` and `require`, with a predicate p/1 of its own and a predicate q/1 of `list`.
+-- A module `m` that imports `list` and `require`, with a predicate p/1 of its own, predicates q/1 and p/1 of `list`, a type of its own with the
+-- constructor c/0, and a type of `list` with the constructors d/1 and c/0.
 use Rattle.std.specs.Prelude.{◌≡◌, ℕ, true, false, List, [], ◌∷◌, Option, Some, None, refl}
+use Rattle.merc_base.specs.Names.{error_name, list_name, require_name}
 use Rattle.merc_base.specs.declared.place.Span.{Span}
 use Rattle.merc_tree.specs.Term.{no_span}
 use Rattle.merc_tree.specs.Types.{IntType, TypeVariable}
+use Rattle.merc_tree.specs.declared.declarations.Constructor.{Constructor}
+use Rattle.merc_tree.specs.declared.declarations.TypeDef.{TypeDef}
 use Rattle.merc_tree.specs.declared.declarations.PredDecl.{PredDecl}
 use Rattle.merc_tree.specs.declared.declarations.Module.{Module}
 use Rattle.merc_known.specs.declared.callee.Callee.TheVariants.{Predicate, Error}
-use Rattle.merc_known.specs.Known.{callee_in, is_callee, is_constructor}
+use Rattle.merc_known.specs.Known.{callee_in, is_callee, is_constructor, constructor_in}
+
+abbrev m : ℕ
+m = 100
+
+abbrev p : ℕ
+p = 101
+
+abbrev q : ℕ
+q = 102
+
+abbrev own_type : ℕ
+own_type = 103
+
+abbrev c : ℕ
+c = 104
+
+abbrev list_type : ℕ
+list_type = 105
+
+abbrev d : ℕ
+d = 106
 
 abbrev predicate : ℕ → Option ℕ → PredDecl
 predicate name unit = record { name = name; args = IntType ∷ []; modes = []; span = no_span; unit = unit }
 
-abbrev example : Module
-example = record {
-  name = 100;
-  units = 59 ∷ 62 ∷ [];
-  types = record { name = 103; params = []; constructors = record { name = 104; args = [] } ∷ []; unit = None } ∷ [];
-  preds = predicate 101 None ∷ predicate 102 (Some 59) ∷ [];
+abbrev plain_constructor : Constructor
+plain_constructor = record { name = c; args = [] }
+
+abbrev own : TypeDef
+own = record { name = own_type; params = []; constructors = plain_constructor ∷ []; unit = None }
+
+abbrev of_list : TypeDef
+of_list = record { name = list_type; params = []; constructors = record { name = d; args = IntType ∷ [] } ∷ plain_constructor ∷ []; unit = Some list_name }
+
+abbrev without_require : Module
+without_require = record {
+  name = m;
+  units = list_name ∷ [];
+  types = own ∷ of_list ∷ [];
+  preds = predicate p None ∷ predicate q (Some list_name) ∷ predicate p (Some list_name) ∷ [];
   own = 1;
   clauses = [];
 }
 
-plain : callee_in example 102 None 1 ≡ Predicate 1
+abbrev example : Module
+example = record {
+  name = m;
+  units = list_name ∷ require_name ∷ [];
+  types = own ∷ of_list ∷ [];
+  preds = predicate p None ∷ predicate q (Some list_name) ∷ predicate p (Some list_name) ∷ [];
+  own = 1;
+  clauses = [];
+}
+
+plain : callee_in example q None 1 ≡ Predicate 1
 plain = refl
 
-qualified : callee_in example 102 (Some 59) 1 ≡ Predicate 1
+qualified : callee_in example q (Some list_name) 1 ≡ Predicate 1
 qualified = refl
 
--- `m.q` is not there, nor is `list.p`
-of_another : callee_in example 102 (Some 100) 1 ≡ Predicate 2
+-- of several predicates the first is meant
+first : callee_in example p None 1 ≡ Predicate 0
+first = refl
+
+own_qualified : callee_in example p (Some m) 1 ≡ Predicate 0
+own_qualified = refl
+
+-- a qualifier tells the unit
+of_unit : callee_in example p (Some list_name) 1 ≡ Predicate 2
+of_unit = refl
+
+-- `m.q` is not there
+of_another : callee_in example q (Some m) 1 ≡ Predicate 3
 of_another = refl
 
-not_there : is_callee example (callee_in example 101 (Some 59) 1) ≡ false
+is_there : is_callee example (callee_in example p (Some list_name) 1) ≡ true
+is_there = refl
+
+not_there : is_callee example (callee_in example q (Some m) 1) ≡ false
 not_there = refl
 
-error : callee_in example 54 None 1 ≡ Error
+-- nor is `require.p`
+other_unit : is_callee example (callee_in example p (Some require_name) 1) ≡ false
+other_unit = refl
+
+-- a name is known with its number of arguments alone
+other_arity : is_callee example (callee_in example p None 2) ≡ false
+other_arity = refl
+
+error : callee_in example error_name None 1 ≡ Error
 error = refl
 
-error_qualified : callee_in example 54 (Some 62) 1 ≡ Error
+error_qualified : callee_in example error_name (Some require_name) 1 ≡ Error
 error_qualified = refl
 
+error_there : is_callee example Error ≡ true
+error_there = refl
+
 -- a unit's item is of that unit alone
-error_of_module : callee_in example 54 (Some 100) 1 ≡ Error → ⊥
+error_of_module : callee_in example error_name (Some m) 1 ≡ Error → ⊥
 error_of_module wrong = cc
 
-constructor : is_constructor example 104 (Some 100) 0 ≡ true
+error_not_imported : callee_in without_require error_name None 1 ≡ Predicate 3
+error_not_imported = refl
+
+error_arity : callee_in example error_name None 2 ≡ Predicate 3
+error_arity = refl
+
+error_of_none : callee_in example error_name None 0 ≡ Predicate 3
+error_of_none = refl
+
+constructor : is_constructor example c (Some m) 0 ≡ true
 constructor = refl
 
-constructor_arity : is_constructor example 104 None 1 ≡ true → ⊥
+constructor_of_unit : is_constructor example d (Some list_name) 1 ≡ true
+constructor_of_unit = refl
+
+-- a unit's constructor is of that unit alone
+constructor_of_another : is_constructor example d (Some m) 1 ≡ false
+constructor_of_another = refl
+
+constructor_arity : is_constructor example c None 1 ≡ true → ⊥
 constructor_arity wrong = cc
+
+-- of several constructors the first is meant
+constructor_first : constructor_in example.types c 0 ≡ Some (own, plain_constructor)
+constructor_first = refl
+
+constructor_later : constructor_in example.types d 1 ≡ Some (of_list, record { name = d; args = IntType ∷ [] })
+constructor_later = refl
+
+constructor_none : constructor_in example.types d 0 ≡ None
+constructor_none = refl

@@ -4,8 +4,6 @@
 mod callee;
 mod indexing;
 mod known;
-#[cfg(test)]
-mod tests;
 
 pub use callee::Callee;
 pub use known::Known;

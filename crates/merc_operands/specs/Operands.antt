@@ -1,5 +1,6 @@
 -- A term by its name and the number of its arguments, where it has no qualifier.
 use Rattle.std.specs.Prelude.{ℕ, ◌==◌, List, [], ◌∷◌, Option, Some, None, if◌then◌else◌}
+use Rattle.merc_base.specs.Names.{is_name}
 use Rattle.merc_tree.specs.Term.{Term, Variable, Integer, Text, Application, none, list_of}
 use Rattle.merc_operands.specs.declared.operands.Operands.{Operands}
 use Rattle.merc_operands.specs.declared.operands.Operands.TheVariants.{Zero, One, Two, Many, Qualified, NotApplied}
@@ -24,7 +25,7 @@ operands_of (Text text span) = NotApplied
 
 -- `H is C` as H and C, another term as a head without a category
 abbrev pub split_category : Term → Operands → Term × Option Term
-split_category whole (Two name head category) = if name == 35 then (head, Some category) else (whole, None)
+split_category whole (Two name head category) = if name == is_name then (head, Some category) else (whole, None)
 split_category whole (Zero name) = (whole, None)
 split_category whole (One name only) = (whole, None)
 split_category whole (Many name) = (whole, None)

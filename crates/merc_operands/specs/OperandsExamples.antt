@@ -1,63 +1,115 @@
 -- Worked examples of terms by their operands, which the prover computes, and false statements that it refutes.
-use Rattle.std.specs.Prelude.{◌≡◌, ℕ, List, [], ◌∷◌, Some, None, refl}
-use Rattle.merc_tree.specs.Term.{Term, Application, none, more, no_span}
+use Rattle.std.specs.Prelude.{◌≡◌, ℕ, List, [], ◌∷◌, Some, None, refl, pos}
+use Rattle.merc_base.specs.Names.{nil_name, semicolon_name, comma_name, is_name, equal_name, int_name, det_name, module_name, true_name, list_name}
+use Rattle.merc_tree.specs.Term.{Term, Variable, Integer, Text, Application, none, more, no_span}
 use Rattle.merc_operands.specs.Operands.{plain_name, operands_of, head_and_category}
 use Rattle.merc_operands.specs.Members.{chain, link_of, stacked}
-use Rattle.merc_operands.specs.declared.operands.Operands.TheVariants.{Two, Qualified}
+use Rattle.merc_operands.specs.declared.operands.Operands.TheVariants.{Zero, One, Two, Many, Qualified, NotApplied}
 
 abbrev plain : ℕ → Term
 plain name = Application name None none no_span
 
+abbrev only : ℕ → Term → Term
+only name argument = Application name None (more argument none) no_span
+
 abbrev both : ℕ → Term → Term → Term
 both operator first second = Application operator None (more first (more second none)) no_span
 
-abbrev t : Term
-t = plain 1
+abbrev three : ℕ → Term → Term → Term → Term
+three name first second third = Application name None (more first (more second (more third none))) no_span
+
+abbrev nil : Term
+nil = plain nil_name
 
 abbrev int : Term
-int = plain 57
+int = plain int_name
+
+abbrev true : Term
+true = plain true_name
+
+-- `module.list`
+abbrev qualified : Term
+qualified = Application list_name (Some module_name) none no_span
 
 -- terms by their operands
 
-pub operands_of-example : operands_of (both 26 t int) ≡ Two 26 t int
-operands_of-example = refl
+pub operands_of-zero : operands_of int ≡ Zero int_name
+operands_of-zero = refl
 
-pub operands_of-qualified : operands_of (Application 2 (Some 3) none no_span) ≡ Qualified
+pub operands_of-one : operands_of (only list_name int) ≡ One list_name int
+operands_of-one = refl
+
+pub operands_of-two : operands_of (both comma_name nil int) ≡ Two comma_name nil int
+operands_of-two = refl
+
+pub operands_of-many : operands_of (three list_name nil int true) ≡ Many list_name
+operands_of-many = refl
+
+pub operands_of-qualified : operands_of qualified ≡ Qualified
 operands_of-qualified = refl
 
-pub operands_of-not : operands_of (both 26 t int) ≡ Two 26 int t → ⊥
+pub operands_of-variable : operands_of (Variable list_name no_span) ≡ NotApplied
+operands_of-variable = refl
+
+pub operands_of-integer : operands_of (Integer (pos 3) no_span) ≡ NotApplied
+operands_of-integer = refl
+
+pub operands_of-text : operands_of (Text list_name no_span) ≡ NotApplied
+operands_of-text = refl
+
+pub operands_of-not : operands_of (both comma_name nil int) ≡ Two comma_name int nil → ⊥
 operands_of-not same = cc
 
-pub head_and_category-example : head_and_category (both 35 (plain 4) (plain 63)) ≡ (plain 4, Some (plain 63))
+-- `true is det`
+pub head_and_category-example : head_and_category (both is_name true (plain det_name)) ≡ (true, Some (plain det_name))
 head_and_category-example = refl
 
-pub head_and_category-none : head_and_category (both 36 (plain 4) (plain 63)) ≡ (both 36 (plain 4) (plain 63), None)
+-- `true = det`
+pub head_and_category-none : head_and_category (both equal_name true (plain det_name)) ≡ (both equal_name true (plain det_name), None)
 head_and_category-none = refl
 
-pub plain_name-example : plain_name (plain 4) ≡ Some 4
+pub head_and_category-one : head_and_category (only is_name true) ≡ (only is_name true, None)
+head_and_category-one = refl
+
+pub plain_name-example : plain_name int ≡ Some int_name
 plain_name-example = refl
 
-pub plain_name-qualified : plain_name (Application 2 (Some 3) none no_span) ≡ None
+pub plain_name-qualified : plain_name qualified ≡ None
 plain_name-qualified = refl
+
+pub plain_name-applied : plain_name (only list_name int) ≡ None
+plain_name-applied = refl
 
 -- chains
 
--- `a, b, c`
-pub chain-example : chain 26 (both 26 t (both 26 int (plain 2))) ≡ t ∷ int ∷ plain 2 ∷ []
+-- `[], int, true`
+pub chain-example : chain comma_name (both comma_name nil (both comma_name int true)) ≡ nil ∷ int ∷ true ∷ []
 chain-example = refl
 
-pub chain-not : chain 23 (both 26 t int) ≡ t ∷ int ∷ [] → ⊥
+-- `([], int), true`
+pub chain-left : chain comma_name (both comma_name (both comma_name nil int) true) ≡ nil ∷ int ∷ true ∷ []
+chain-left = refl
+
+-- `[] ; int, true`
+pub chain-other : chain semicolon_name (both semicolon_name nil (both comma_name int true)) ≡ nil ∷ both comma_name int true ∷ []
+chain-other = refl
+
+-- an application of the operator's name to three terms is no chain
+pub chain-three : chain comma_name (three comma_name nil int true) ≡ three comma_name nil int true ∷ []
+chain-three = refl
+
+pub chain-not : chain semicolon_name (both comma_name nil int) ≡ nil ∷ int ∷ [] → ⊥
 chain-not same = cc
 
-pub link_of-example : link_of 26 (both 26 t int) ≡ Some (t, int)
+pub link_of-example : link_of comma_name (both comma_name nil int) ≡ Some (nil, int)
 link_of-example = refl
 
-pub link_of-other : link_of 23 (both 26 t int) ≡ None
+pub link_of-other : link_of semicolon_name (both comma_name nil int) ≡ None
 link_of-other = refl
 
 -- the last of the stack first
-pub stacked-example : stacked 26 (t ∷ both 26 (plain 2) (plain 4) ∷ []) ≡ plain 2 ∷ plain 4 ∷ t ∷ []
+pub stacked-example : stacked comma_name (nil ∷ both comma_name int true ∷ []) ≡ int ∷ true ∷ nil ∷ []
 stacked-example = refl
 
-pub stacked-not : stacked 26 (t ∷ int ∷ []) ≡ t ∷ int ∷ [] → ⊥
+pub stacked-not : stacked comma_name (nil ∷ int ∷ []) ≡ nil ∷ int ∷ [] → ⊥
 stacked-not same = cc

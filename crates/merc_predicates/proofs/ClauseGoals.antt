@@ -8,7 +8,7 @@ use Rattle.merc_goal_tree.specs.Nodes.{Node, Disjunction, nodes_of}
 use Rattle.merc_goal_tree.specs.Roots.{joined}
 use Rattle.merc_goal_tree.specs.RootLaws.{joined_last}
 use Rattle.merc_goal_tree.specs.declared.entries.Root.TheVariants.{Disjunction as DisjunctionRoot}
-use Rattle.merc_predicates.specs.Groups.{clause_seen}
+use Rattle.merc_predicates.specs.Headed.{clause_seen}
 use Rattle.merc_predicates.specs.Predicates.{clause_forms, clause_parts, disjunction_of}
 
 module _ (names : List (List ℕ)) (known : Module) where

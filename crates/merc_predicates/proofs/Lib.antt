@@ -1,2 +1,1 @@
 pub mod ClauseGoals
-pub mod GroupLaws

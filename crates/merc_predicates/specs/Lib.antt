@@ -1,3 +1,3 @@
-pub mod Groups
+pub mod Headed
 pub mod Predicates
 pub mod PredicatesExamples

@@ -14,7 +14,7 @@ use Rattle.merc_flat_form.specs.FlatForm.{clause_goal}
 
 -- whether a clause's head has a predicate's name and number of arguments
 abbrev pub is_head : PredDecl → Term → Bool
-is_head declared (Application name qualifier arguments span) = (declared.name == name) && (length declared.args == length (list_of arguments))
+is_head declared (Application name qualifier arguments span) = (name == declared.name) && (length (list_of arguments) == length declared.args)
 is_head declared (Variable name span) = false
 is_head declared (Integer value span) = false
 is_head declared (Text text span) = false

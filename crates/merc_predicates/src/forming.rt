@@ -1,15 +1,15 @@
 //! How the clauses of a predicate become one goal.
 ghost use Rattle.std.specs.Prelude.{◌≡◌, ◌+◌, [], ◌∷◌, ◌++◌, map, IfOk, OnOk};
-ghost use Rattle.merc_goals.specs.Written.{parts};
-ghost use Rattle.merc_predicates.specs.Groups.{clause_seen};
+ghost use Rattle.merc_predicates.specs.Headed.{clause_seen};
 ghost use Rattle.merc_predicates.specs.Predicates.{clause_forms, clause_parts, disjunction_of, predicate_form};
 
-use crate::grouping::{Key, grouped};
-use merc_base::{Names, NoMemory, Span};
+use crate::grouping::grouped;
+use merc_base::{Key, Names, NoMemory, Span};
 use merc_flat_form::clause_form;
 use merc_goal_tree::{Nodes, SimpleGoal};
+use merc_goals::number_behind;
 use merc_known::Known;
-use merc_tree::{Clause, TermRef};
+use merc_tree::Clause;
 use std::alloc::Global;
 
 // Where a predicate without clauses stands: nowhere.
@@ -92,25 +92,5 @@ fn number_behind_clause(at: usize, clause: &Clause) -> Result<usize, NoMemory>
     match &clause.body {
         Some(body) => number_behind(behind, &body.as_ref()),
         None => Ok(behind),
-    }
-}
-
-// The number behind those of a term and its parts, which have two each.
-#[tactic(auto, using(merc_goals::proofs::PartCounts::parts_shapes))]
-fn number_behind(at: usize, term: &TermRef<'_>) -> Result<usize, NoMemory>
-    ensures { IfOk result (λ number. number ≡ at + parts term.now) }
-{
-    let count = term.part_count();
-    let half = number_past(at, count)?;
-    number_past(half, count)
-}
-
-// A number so much further on. No memory holds a text whose parts have greater numbers.
-fn number_past(at: usize, more: usize) -> Result<usize, NoMemory>
-    ensures { IfOk result (λ number. number ≡ at + more) }
-{
-    match at.checked_add(more) {
-        Some(number) => Ok(number),
-        None => Err(NoMemory),
     }
 }

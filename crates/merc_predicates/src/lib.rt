@@ -3,7 +3,5 @@
 
 mod forming;
 mod grouping;
-#[cfg(test)]
-mod tests;
 
 pub use forming::predicate_forms;

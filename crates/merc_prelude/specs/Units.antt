@@ -3,10 +3,14 @@ use Rattle.std.specs.Prelude.{ℕ, List, [], ◌∷◌, ◌++◌, Option, find, 
 use Rattle.std.specs.Option.{option_map}
 use Rattle.std.specs.Str.{bytes_eq}
 
--- these lines, each with a line end behind it
+-- these lines, each with a line feed behind it
+
+abbrev pub line_feed : ℕ
+line_feed = 10
+
 abbrev pub lines : List (List ℕ) → List ℕ
 lines [] = []
-lines (line ∷ rest) = line ++ 10 ∷ lines rest
+lines (line ∷ rest) = line ++ line_feed ∷ lines rest
 
 -- the declarations and clauses of the unit `list`
 abbrev pub list_lines : List (List ℕ)

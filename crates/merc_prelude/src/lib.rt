@@ -1,8 +1,6 @@
 //! The library units, which every program carries: what a module may import by `import_module`.
 #![tactic(auto)]
 
-#[cfg(test)]
-mod tests;
 mod units;
 
 pub use units::unit;

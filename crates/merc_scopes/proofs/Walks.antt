@@ -7,10 +7,11 @@ use Rattle.merc_tree.specs.Shape.{shape_of, arguments_of}
 use Rattle.merc_tree.specs.declared.term.Shape.{Shape}
 use Rattle.merc_tree.specs.declared.term.Shape.TheVariants.{Variable as VariableShape}
 use Rattle.merc_goals.specs.Written.{parts, parts_of}
-use Rattle.merc_scopes.specs.declared.occurring.Numbered.{Numbered}
+use Rattle.merc_goals.specs.declared.numbers.Numbered.{Numbered}
 use Rattle.merc_scopes.specs.declared.occurrence.Occurrence.{Occurrence}
 use Rattle.merc_scopes.specs.Scopes.{at_of, occurrence, occurrences, occurrences_of}
-use Rattle.merc_scopes.specs.Walking.{numbered_from, stacked}
+use Rattle.merc_goals.specs.Numbers.{numbered_from}
+use Rattle.merc_scopes.specs.Walking.{stacked}
 use Rattle.merc_scopes.proofs.PlaceLaws.{at_of-append, option_or-assoc}
 
 pub terms_of-list_of : (terms : Terms) → terms_of (list_of terms) ≡ terms

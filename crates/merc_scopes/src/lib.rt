@@ -7,8 +7,6 @@ mod introducing;
 mod listing;
 mod occurrence;
 mod occurring;
-#[cfg(test)]
-mod tests;
 
 pub use blanks::is_blank;
 pub use introducing::bindings;

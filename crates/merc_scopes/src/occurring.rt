@@ -6,20 +6,15 @@ ghost use Rattle.merc_tree.specs.Shape.{arguments_of};
 ghost use Rattle.merc_goals.specs.Written.{parts};
 ghost use Rattle.merc_scopes.specs.Scopes.{at_of, is_blank, occurrence, occurrences, occurrences_of};
 ghost use Rattle.merc_scopes.specs.FirstPlaces.{place_in, IsInStep, Lists};
-ghost use Rattle.merc_scopes.specs.Walking.{numbered_from, stacked};
+ghost use Rattle.merc_goals.specs.Numbers.{numbered_from};
+ghost use Rattle.merc_scopes.specs.Walking.{stacked};
 
 use crate::is_blank;
 use crate::listing::Listing;
 use merc_base::{Name, Names, NoMemory};
+use merc_goals::{Numbered, left_of, number_behind, right_of};
 use merc_tree::{Shape, TermRef};
 use std::alloc::Global;
-
-// A term with its number among the parts of a text.
-#[derive(Drop)]
-struct Numbered<'a> {
-    term: TermRef<'a>,
-    at: usize,
-}
 
 /// The variables of both sides of the operator whose term has this number.
 pub(crate) fn variables_of_sides(
@@ -31,17 +26,9 @@ pub(crate) fn variables_of_sides(
 ) -> Result<Listing, NoMemory>
     ensures { IfOk result (λ found. Lists found (occurrences (is_blank names.now) (at + 2) left.now ++ occurrences (is_blank names.now) (at + 2 + parts left.now) right.now)) }
 {
-    let left_at = number_past(at, 2)?;
-    let right_at = number_behind(left_at, left)?;
     let mut stack = Vec::new(alloc);
-    stack.push(Numbered {
-        term: right.copy(),
-        at: right_at,
-    })?;
-    stack.push(Numbered {
-        term: left.copy(),
-        at: left_at,
-    })?;
+    stack.push(right_of(at, left, right.copy())?)?;
+    stack.push(left_of(at, left.copy())?)?;
     variables(alloc, names, stack)
 }
 
@@ -109,16 +96,6 @@ fn push_arguments<'a>(
     Ok(())
 }
 
-// The number behind the parts of the term that has this number.
-#[tactic(auto, using(merc_goals::proofs::PartCounts::parts_shapes))]
-fn number_behind(at: usize, term: &TermRef<'_>) -> Result<usize, NoMemory>
-    ensures { IfOk result (λ number. number ≡ at + parts term.now) }
-{
-    let count = term.part_count();
-    let half = number_past(at, count)?;
-    number_past(half, count)
-}
-
 // The number of the term behind whose parts this number is.
 #[tactic(auto, using(merc_goals::proofs::PartCounts::parts_shapes))]
 fn number_before(past: usize, term: &TermRef<'_>) -> usize
@@ -127,14 +104,4 @@ fn number_before(past: usize, term: &TermRef<'_>) -> usize
 {
     let count = term.part_count();
     past - count - count
-}
-
-// A number so much further on. No memory holds a text whose parts have greater numbers.
-fn number_past(at: usize, more: usize) -> Result<usize, NoMemory>
-    ensures { IfOk result (λ number. number ≡ at + more) }
-{
-    match at.checked_add(more) {
-        Some(number) => Ok(number),
-        None => Err(NoMemory),
-    }
 }

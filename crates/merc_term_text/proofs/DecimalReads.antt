@@ -7,6 +7,7 @@ use Rattle.std.proofs.lemmas.Bool.{le-leb, lt-ltb, ne_eqb, leb-true, and_parts, 
 use Rattle.std.proofs.lemmas.Fmt.{decimal_by_steps, decimal_digit, first_decimal}
 use Rattle.std.proofs.lemmas.List.{reverse-append}
 use Rattle.std.proofs.lemmas.List.Folds.{list_all-append}
+use Rattle.merc_base.specs.Characters.{nine_code, underscore_code, zero_code}
 use Rattle.merc_tokens.specs.declared.bytes.Class.TheVariants.{Digits}
 use Rattle.merc_tokens.specs.declared.bytes.Start.TheVariants.{Digit}
 use Rattle.merc_tokens.specs.declared.integers.Form.TheVariants.{Decimal}
@@ -15,7 +16,7 @@ use Rattle.merc_tokens.specs.declared.integers.Integer.{Integer}
 use Rattle.merc_tokens.specs.declared.pieces.Spelling.TheVariants.{Int}
 use Rattle.merc_tokens.specs.declared.pieces.Piece.TheVariants.{Token}
 use Rattle.merc_tokens.specs.Bytes.{is_digit, digit_of, is_digit_of, is_underscore, class_test, is_graphic, begins_with, start_of}
-use Rattle.merc_tokens.specs.Integers.{digits_value, digits_len, within_limit, based_integer, form_of, integer_of, integer_at}
+use Rattle.merc_tokens.specs.Integers.{digits_value, digits_len, within_limit, based_integer, form_of, integer_of, integer_at, integer_limit}
 use Rattle.merc_tokens.specs.Pieces.{integer_piece, first_piece}
 use Rattle.merc_term_text.proofs.Behind.{EndsOperand, no_digit, no_letter, no_fraction, no_form}
 
@@ -32,7 +33,7 @@ data IsDigit (byte : ℕ) : Type 0 where
   digit : (value : ℕ) → value < 10 → byte ≡ 48 + value → IsDigit byte
 
 digit-bounds : (byte : ℕ) → is_digit byte ≡ true → (48 ≤ byte) × (byte ≤ 57)
-digit-bounds byte is = let parts = and_parts (leb 48 byte) (leb byte 57) is in (leb-true 48 byte parts.0, leb-true byte 57 parts.1)
+digit-bounds byte is = let parts = and_parts (leb zero_code byte) (leb byte nine_code) is in (leb-true zero_code byte parts.0, leb-true byte nine_code parts.1)
 
 digit-is : (value : ℕ) → value < 10 → is_digit (48 + value) ≡ true
 digit-is value small = and_from (leb 48 (48 + value)) (leb (48 + value) 57) (le-leb 48 (48 + value) (omega arith)) (le-leb (48 + value) 57 (omega arith))
@@ -41,13 +42,13 @@ digit-of : (value : ℕ) → value < 10 → digit_of (48 + value) ≡ value
 digit-of value small = rw (digit-is value small) (omega arith)
 
 digit-base : (byte : ℕ) → is_digit byte ≡ true → is_digit_of 10 byte ≡ true
-digit-base byte is = let bounds = digit-bounds byte is in rw is (lt-ltb (byte - 48) 10 (omega arith))
+digit-base byte is = let bounds = digit-bounds byte is in rw is (lt-ltb (byte - zero_code) 10 (omega arith))
 
 digit-class : (byte : ℕ) → is_digit byte ≡ true → class_test (Digits 10) byte ≡ true
 digit-class byte is = rw (digit-base byte is) refl
 
 digit-no_underscore : (byte : ℕ) → is_digit byte ≡ true → is_underscore byte ≡ false
-digit-no_underscore byte is = let bounds = digit-bounds byte is in ne_eqb byte 95 (λ same. omega arith)
+digit-no_underscore byte is = let bounds = digit-bounds byte is in ne_eqb byte underscore_code (λ same. omega arith)
 
 digit-start : (byte : ℕ) → is_digit byte ≡ true → start_of byte ≡ Digit
 digit-start byte is = let bounds = digit-bounds byte is in grind (arith, nat_tests)
@@ -84,7 +85,7 @@ value-more false x y m n last one other = other
 digits_value-last : (value byte : ℕ) (digits : List ℕ) → is_digit byte ≡ true → digits_value 10 value (digits ++ byte ∷ []) ≡ 10 * digits_value 10 value digits + digit_of byte
 digits_value-last value byte [] is = rw (digit-no_underscore byte is) refl
 digits_value-last value byte (first ∷ digits) is =
-    value-more (first == 95) (digits_value 10 value (digits ++ byte ∷ [])) _ (digits_value 10 value digits) _ (digit_of byte)
+    value-more (first == underscore_code) (digits_value 10 value (digits ++ byte ∷ [])) _ (digits_value 10 value digits) _ (digit_of byte)
     (digits_value-last value byte digits is) (digits_value-last (10 * value + digit_of first) byte digits is)
 
 -- what is known of the digits of a number
@@ -117,7 +118,7 @@ integer value digits = record { value = Some value; past = length digits; is_dec
 -- no form but the decimal one
 form-first : (byte : ℕ) (rest : List ℕ) → 48 < byte → form_of (byte ∷ rest) ≡ Decimal
 form-first byte [] above = refl
-form-first byte (next ∷ rest) above = rw (ne_eqb byte 48 (λ same. omega arith)) refl
+form-first byte (next ∷ rest) above = rw (ne_eqb byte zero_code (λ same. omega arith)) refl
 
 form-more : (digits rest : List ℕ) → 48 < get_or digits 0 0 → form_of (digits ++ rest) ≡ Decimal
 form-more [] rest above = absurd (omega arith)
@@ -127,13 +128,13 @@ form-of : (value : ℕ) (rest : List ℕ) → value < 2 ^ 64 → EndsOperand res
 form-of zero rest small ends = rw (decimal_digit 0 (omega arith)) (no_form rest ends)
 form-of (suc value) rest small ends = form-more (decimal (suc value)) rest (first_decimal (suc value) (omega arith) small)
 
-within : (value : ℕ) → value ≤ 9223372036854775808 → within_limit value ≡ Some value
-within value fits = rw (le-leb value 9223372036854775808 fits) refl
+within : (value : ℕ) → value ≤ integer_limit → within_limit value ≡ Some value
+within value fits = rw (le-leb value integer_limit fits) refl
 
 front-first : (byte : ℕ) (digits rest : List ℕ) → take (1 + length digits) (byte ∷ (digits ++ rest)) ≡ byte ∷ digits
 front-first byte digits rest = rw one-add (ap (λ (t : List ℕ). byte ∷ t) (take-append_seam digits rest))
 
-based-reads : (value : ℕ) (digits rest : List ℕ) → value ≤ 9223372036854775808 → Spelled value digits → EndsOperand rest → based_integer 10 0 (digits ++ rest) ≡ Some (integer value digits)
+based-reads : (value : ℕ) (digits rest : List ℕ) → value ≤ integer_limit → Spelled value digits → EndsOperand rest → based_integer 10 0 (digits ++ rest) ≡ Some (integer value digits)
 based-reads value [] rest fits spelled ends = absurd (omega (arith, spelled.some))
 based-reads value (byte ∷ digits) rest fits spelled ends =
     let parts = and_parts (is_digit byte) (list_all is_digit digits) spelled.all in
@@ -143,7 +144,7 @@ based-reads value (byte ∷ digits) rest fits spelled ends =
     rw (digit-base byte parts.0, digits_len-run byte digits rest parts.1 (no_digit rest ends))
     (ap₂ (λ (v : Option ℕ) (n : ℕ). Some (record { value = v; past = n; is_decimal = true })) found many)
 
-integer-reads : (value : ℕ) (digits rest : List ℕ) → value ≤ 9223372036854775808 → EndsOperand rest → Spelled value digits → integer_piece (Some (integer value digits)) (digits ++ rest) ≡ Token (Int value) (length digits)
+integer-reads : (value : ℕ) (digits rest : List ℕ) → value ≤ integer_limit → EndsOperand rest → Spelled value digits → integer_piece (Some (integer value digits)) (digits ++ rest) ≡ Token (Int value) (length digits)
 integer-reads value digits rest fits ends spelled =
     rw (drop-append_seam digits rest, no_letter rest ends, no_fraction rest ends) refl
 
@@ -154,7 +155,7 @@ start-first value (byte ∷ digits) rest after spelled =
     rw (digit-start byte parts.0) refl
 
 -- a number of at most 2^63 reads as itself, before what may stand behind it
-pub decimal-reads : (value : ℕ) (rest : List ℕ) (after : Bool) → value ≤ 9223372036854775808 → EndsOperand rest → first_piece after (decimal value ++ rest) ≡ Token (Int value) (length (decimal value))
+pub decimal-reads : (value : ℕ) (rest : List ℕ) (after : Bool) → value ≤ integer_limit → EndsOperand rest → first_piece after (decimal value ++ rest) ≡ Token (Int value) (length (decimal value))
 decimal-reads value rest after fits ends =
     let small : value < 2 ^ 64 = omega arith in
     let found : integer_at (decimal value ++ rest) ≡ Some (integer value (decimal value)) =
@@ -172,5 +173,5 @@ first-no_graphic value (byte ∷ digits) rest spelled =
     ap (λ (b : Bool). b && is_graphic byte) (sym parts.0) ∙ apart
 
 -- no graphic character begins a number
-pub decimal-no_graphic : (value : ℕ) (rest : List ℕ) → value ≤ 9223372036854775808 → begins_with is_graphic (decimal value ++ rest) ≡ false
+pub decimal-no_graphic : (value : ℕ) (rest : List ℕ) → value ≤ integer_limit → begins_with is_graphic (decimal value ++ rest) ≡ false
 decimal-no_graphic value rest fits = first-no_graphic value (decimal value) rest (spelled value (omega arith))

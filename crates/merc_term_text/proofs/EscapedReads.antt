@@ -2,6 +2,7 @@
 use Rattle.std.proofs.Common.{◌≡◌, ℕ, ◌+◌, ◌<◌, true, false, ◌==◌, List, [], ◌∷◌, ◌++◌, length, Some, refl, sym, ◌∙◌, ap, subst, arith, append_assoc, append-nil, length-append, IsUtf8, flat_map, inl, inr}
 use Rattle.std.proofs.lemmas.Bool.{eqb-true, eqb-false, cases_Bool}
 use Rattle.std.proofs.lemmas.Str.{IsUtf8-append}
+use Rattle.merc_base.specs.Characters.{backslash_code, line_end_code, tab_code}
 use Rattle.merc_value.specs.Text.{escape, quoted as written}
 use Rattle.merc_tokens.specs.Bytes.{next_is}
 use Rattle.merc_tokens.specs.Quoted.{is_escape, escaped, quoted}
@@ -11,7 +12,7 @@ use Rattle.merc_term_text.proofs.Utf8Parts.{before_ascii, after_ascii, ascii_byt
 -- a byte within quotes is an escape, or stands for itself
 data Escaping (quote byte : ℕ) : Type 0 where
   special : (letter : ℕ) → byte < 128 → letter < 128 → is_escape letter ≡ true → escaped letter ≡ byte → escape quote byte ≡ 92 ∷ letter ∷ [] → Escaping quote byte
-  plain : byte == quote ≡ false → byte == 92 ≡ false → byte == 10 ≡ false → escape quote byte ≡ byte ∷ [] → Escaping quote byte
+  plain : byte == quote ≡ false → byte == backslash_code ≡ false → byte == line_end_code ≡ false → escape quote byte ≡ byte ∷ [] → Escaping quote byte
 
 -- a quote that can be escaped
 pub record IsQuote (quote : ℕ) : Type 0 where
@@ -29,12 +30,12 @@ double_quote = record { escapes = refl; stays = refl; small = omega arith; no_ba
 
 module _ (quote : ℕ) (is_quote : IsQuote quote) where
   escaping : (byte : ℕ) → Escaping quote byte
-  escaping byte = elim (cases_Bool (byte == 10)) [
-    | inl line ↦ special 110 (omega (arith, eqb-true byte 10 line)) (omega arith) refl (sym (eqb-true byte 10 line)) (rw line refl)
-    | inr no_line ↦ elim (cases_Bool (byte == 9)) [
-      | inl tab ↦ special 116 (omega (arith, eqb-true byte 9 tab)) (omega arith) refl (sym (eqb-true byte 9 tab)) (rw (no_line, tab) refl)
-      | inr no_tab ↦ elim (cases_Bool (byte == 92)) [
-        | inl back ↦ special 92 (omega (arith, eqb-true byte 92 back)) (omega arith) refl (sym (eqb-true byte 92 back)) (rw (no_line, no_tab, back) (ap (λ (b : ℕ). 92 ∷ b ∷ []) (eqb-true byte 92 back)))
+  escaping byte = elim (cases_Bool (byte == line_end_code)) [
+    | inl line ↦ special 110 (omega (arith, eqb-true byte line_end_code line)) (omega arith) refl (sym (eqb-true byte line_end_code line)) (rw line refl)
+    | inr no_line ↦ elim (cases_Bool (byte == tab_code)) [
+      | inl tab ↦ special 116 (omega (arith, eqb-true byte tab_code tab)) (omega arith) refl (sym (eqb-true byte tab_code tab)) (rw (no_line, tab) refl)
+      | inr no_tab ↦ elim (cases_Bool (byte == backslash_code)) [
+        | inl back ↦ special 92 (omega (arith, eqb-true byte backslash_code back)) (omega arith) refl (sym (eqb-true byte backslash_code back)) (rw (no_line, no_tab, back) (ap (λ (b : ℕ). 92 ∷ b ∷ []) (eqb-true byte backslash_code back)))
         | inr no_back ↦ elim (cases_Bool (byte == quote)) [
           | inl same ↦ special quote (omega (arith, eqb-true byte quote same, is_quote.small)) is_quote.small is_quote.escapes (is_quote.stays ∙ sym (eqb-true byte quote same)) (rw (no_line, no_tab, no_back, same) (ap (λ (b : ℕ). 92 ∷ b ∷ []) (eqb-true byte quote same)))
           | inr other ↦ plain other no_back no_line (rw (no_line, no_tab, no_back, other) refl)
@@ -47,7 +48,7 @@ module _ (quote : ℕ) (is_quote : IsQuote quote) where
       → quoted quote content past (92 ∷ letter ∷ text) ≡ quoted quote (content ++ byte ∷ []) (past + 2) text
   step_special content text past byte letter escapes stands = rw (is_quote.no_backslash, escapes, stands) refl
 
-  step_plain : (content text rest : List ℕ) (past byte : ℕ) → byte == quote ≡ false → byte == 92 ≡ false → byte == 10 ≡ false
+  step_plain : (content text rest : List ℕ) (past byte : ℕ) → byte == quote ≡ false → byte == backslash_code ≡ false → byte == line_end_code ≡ false
       → quoted quote content past (byte ∷ (text ++ quote ∷ rest)) ≡ quoted quote (content ++ byte ∷ []) (past + 1) (text ++ quote ∷ rest)
   step_plain content text rest past byte other no_back no_line =
       quoted-plain quote past content (byte ∷ (text ++ quote ∷ rest)) (omega (arith, length-append text (quote ∷ rest))) (eqb-false byte quote other) (eqb-false byte 92 no_back) (eqb-false byte 10 no_line)
@@ -86,7 +87,7 @@ module _ (quote : ℕ) (is_quote : IsQuote quote) where
   more_utf8 front text spelled byte (special letter small small' escapes stands is) others whole =
       rw is (
       IsUtf8-append front (92 ∷ letter ∷ spelled) (before_ascii front text byte small whole)
-      (IsUtf8-append (92 ∷ []) (letter ∷ spelled) (ascii_byte 92 (omega arith))
+      (IsUtf8-append (92 ∷ []) (letter ∷ spelled) (ascii_byte backslash_code (omega arith))
       (IsUtf8-append (letter ∷ []) spelled (ascii_byte letter small')
       (others [] (after_ascii front text byte small whole))))
       )

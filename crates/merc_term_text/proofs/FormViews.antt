@@ -1,5 +1,6 @@
 -- What the form of a term tells of its name and its arguments.
 use Rattle.std.proofs.Common.{◌≡◌, ℕ, ◌==◌, ◌&&◌, not, Bool, true, false, Option, Some, None, length, cond, refl, ap, sym, subst, eqb-true}
+use Rattle.merc_base.specs.Names.{cons_name}
 use Rattle.merc_tree.specs.Shape.{arguments_of}
 use Rattle.merc_tree.specs.Term.{Term, Terms, Variable, Integer, Text, Application, none, more, list_of}
 use Rattle.merc_terms.specs.declared.operators.Operator.{Operator}
@@ -45,15 +46,15 @@ module _ (name : ℕ) where
   unlisted arguments other true h = h
   unlisted arguments other false h = h
 
-  listed : (first second : Term) (test : Bool) → (name == 2) ≡ test → IsForm name (more first (more second none)) (cond (test && true) ListForm (infix_form (infix_named name) (prefix_form false true (prefix_named name))))
+  listed : (first second : Term) (test : Bool) → (name == cons_name) ≡ test → IsForm name (more first (more second none)) (cond (test && true) ListForm (infix_form (infix_named name) (prefix_form false true (prefix_named name))))
   listed first second true e = is_list first second refl refl (eqb-true name 2 e)
   listed first second false e = of_infix first second (infix_named name) refl
 
   pub seen : (arguments : Terms) → IsForm name arguments (form_of name None arguments)
-  seen none = unlisted none (prefix_form false false (prefix_named name)) (name == 2) (of_none none (prefix_named name))
-  seen (more only none) = unlisted (more only none) (prefix_form true false (prefix_named name)) (name == 2) (of_one only (prefix_named name) refl)
-  seen (more first (more second none)) = listed first second (name == 2) refl
-  seen (more first (more second (more third rest))) = unlisted (more first (more second (more third rest))) (prefix_form false false (prefix_named name)) (name == 2) (of_none (more first (more second (more third rest))) (prefix_named name))
+  seen none = unlisted none (prefix_form false false (prefix_named name)) (name == cons_name) (of_none none (prefix_named name))
+  seen (more only none) = unlisted (more only none) (prefix_form true false (prefix_named name)) (name == cons_name) (of_one only (prefix_named name) refl)
+  seen (more first (more second none)) = listed first second (name == cons_name) refl
+  seen (more first (more second (more third rest))) = unlisted (more first (more second (more third rest))) (prefix_form false false (prefix_named name)) (name == cons_name) (of_none (more first (more second (more third rest))) (prefix_named name))
 
 -- how many arguments a form has
 

@@ -1,5 +1,6 @@
 -- The form of a term, by its name and the number of its arguments.
 use Rattle.std.proofs.Common.{◌≡◌, ℕ, suc, ◌==◌, ◌&&◌, not, Bool, true, false, Option, Some, None, is_some, length, cond, refl, ap, sym, ◌∙◌, ne_eqb, arith}
+use Rattle.merc_base.specs.Names.{cons_name}
 use Rattle.merc_tree.specs.declared.term.Shape.TheVariants.{Application as ApplicationShape}
 use Rattle.merc_tree.specs.Shape.{shape_of}
 use Rattle.merc_tree.specs.Term.{Term, Terms, Variable, Integer, Text, Application, none, more, list_of}
@@ -42,14 +43,14 @@ more_arguments (Some operator) count e f =
     ∙ elim (takes_two operator.fixity) as (λ b. cond b PlainForm PlainForm ≡ cond (b && false) (QuantifierForm operator) (cond (not b && false) (PrefixForm operator) PlainForm)) [ true ↦ refl | false ↦ refl ]
 
 by_arguments : (name : ℕ) (arguments : Terms) → arity_form name (length (list_of arguments)) ≡ form_of name None arguments
-by_arguments name none = no_arguments (prefix_named name) ∙ sym (both_false (name == 2) ListForm (prefix_form false false (prefix_named name)))
-by_arguments name (more only none) = one_argument (prefix_named name) ∙ sym (both_false (name == 2) ListForm (prefix_form true false (prefix_named name)))
+by_arguments name none = no_arguments (prefix_named name) ∙ sym (both_false (name == cons_name) ListForm (prefix_form false false (prefix_named name)))
+by_arguments name (more only none) = one_argument (prefix_named name) ∙ sym (both_false (name == cons_name) ListForm (prefix_form true false (prefix_named name)))
 by_arguments name (more first (more second none)) =
-    ap (λ f. cond (name == 2) ListForm (infix_form (infix_named name) f)) (two_arguments (prefix_named name)) ∙ sym (both_true (name == 2) ListForm (infix_form (infix_named name) (prefix_form false true (prefix_named name))))
+    ap (λ f. cond (name == cons_name) ListForm (infix_form (infix_named name) f)) (two_arguments (prefix_named name)) ∙ sym (both_true (name == cons_name) ListForm (infix_form (infix_named name) (prefix_form false true (prefix_named name))))
 by_arguments name (more first (more second (more third rest))) =
-    ap (λ (b : Bool). cond (not b) (rest_form_of (prefix_named name) (suc (suc (suc (length (list_of rest)))))) (cond (name == 2) ListForm (infix_form (infix_named name) (rest_form_of (prefix_named name) (suc (suc (suc (length (list_of rest))))))))) (not_two (length (list_of rest)))
+    ap (λ (b : Bool). cond (not b) (rest_form_of (prefix_named name) (suc (suc (suc (length (list_of rest)))))) (cond (name == cons_name) ListForm (infix_form (infix_named name) (rest_form_of (prefix_named name) (suc (suc (suc (length (list_of rest))))))))) (not_two (length (list_of rest)))
     ∙ more_arguments (prefix_named name) (suc (suc (suc (length (list_of rest))))) (not_one (length (list_of rest))) (not_two (length (list_of rest)))
-    ∙ sym (both_false (name == 2) ListForm (prefix_form false false (prefix_named name)))
+    ∙ sym (both_false (name == cons_name) ListForm (prefix_form false false (prefix_named name)))
 
 pub form_known : (term : Term) (name : ℕ) (qualifier : Option ℕ) (arity : ℕ) → ApplicationShape name qualifier arity ≡ shape_of term → is_some qualifier ≡ false → arity_form name arity ≡ term_form term
 form_known (Variable name' span) name qualifier arity same other = absurd (cc)

@@ -1,10 +1,8 @@
-pub mod BoolLaws
 pub mod Parted
 pub mod Forms
 pub mod FormViews
 pub mod TermPieces
 pub mod WalkLemmas
-pub mod Table
 pub mod IntegerText
 pub mod TokenKinds
 pub mod OperatorFacts
@@ -25,3 +23,4 @@ pub mod Writable
 pub mod WrittenParted
 pub mod BareTerms
 pub mod ReadsBack
+mod WordOperators

@@ -7,14 +7,15 @@ use Rattle.std.specs.Str.{IsUtf8}
 use Rattle.std.proofs.lemmas.Str.{IsUtf8-append, IsUtf8-nil}
 use Rattle.merc_term_text.proofs.Utf8Parts.{ascii_byte}
 use Rattle.merc_term_text.proofs.Parted.{HasName, IsSpelled, is_operator}
-use Rattle.merc_base.specs.Names.{HoldsFixed, fixed_names}
+use Rattle.merc_base.specs.Names.{HoldsFixed, fixed_names, comma_name, minus_name}
+use Rattle.std.proofs.lemmas.Bool.{and_parts, not-true}
+use Rattle.merc_tokens.specs.Pieces.{name_limit}
+use Rattle.merc_terms.proofs.Table.{find_all, find_holds, infix_name, prefix_name}
 use Rattle.merc_value.specs.Text.{text_at, is_plain, word_operators}
 use Rattle.merc_tokens.specs.declared.token.TokenKind.TheVariants.{Name}
 use Rattle.merc_terms.specs.declared.operators.Operator.{Operator}
-use Rattle.merc_terms.specs.Operators.{operators, infix_named, prefix_named, takes_two, is_infix, last_most}
+use Rattle.merc_terms.specs.Operators.{operators, infix_named, prefix_named, takes_two, is_infix, last_most, term_most}
 use Rattle.merc_terms.specs.Reading.{leaves_plain}
-use Rattle.merc_term_text.proofs.Table.{found_checked, found_tested, infix_name, prefix_name}
-use Rattle.merc_term_text.proofs.BoolLaws.{not_true, and_first, and_second}
 
 -- the rows of the table
 
@@ -40,21 +41,21 @@ unfolding operators text_check fixed_names word_operators
 all_texts = refl
 
 infix_checked : (check : Operator → Bool) → list_all check operators ≡ true → (name : ℕ) (operator : Operator) → infix_named name ≡ Some operator → check operator ≡ true
-infix_checked check all name operator found = found_checked (λ o. (o.name == name) && is_infix o.fixity) check operators operator all found
+infix_checked check all name operator found = find_all check (λ o. (o.name == name) && is_infix o.fixity) operators operator all found
 
 prefix_checked : (check : Operator → Bool) → list_all check operators ≡ true → (name : ℕ) (operator : Operator) → prefix_named name ≡ Some operator → check operator ≡ true
-prefix_checked check all name operator found = found_checked (λ o. (o.name == name) && not (is_infix o.fixity)) check operators operator all found
+prefix_checked check all name operator found = find_all check (λ o. (o.name == name) && not (is_infix o.fixity)) operators operator all found
 
 -- the least and the greatest priority of an operator
 pub record IsBounded (priority : ℕ) : Type 0 where
   pub low : 200 ≤ priority
-  pub high : priority ≤ 1200
+  pub high : priority ≤ term_most
 
 bounded_by : (operator : Operator) → bounded_check operator ≡ true → IsBounded operator.priority
 unfolding bounded_check
 bounded_by operator h = record {
-  low = leb-true 200 operator.priority (and_first (nat_le 200 operator.priority) (nat_le operator.priority 1200) h);
-  high = leb-true operator.priority 1200 (and_second (nat_le 200 operator.priority) (nat_le operator.priority 1200) h);
+  low = leb-true 200 operator.priority ((and_parts (nat_le 200 operator.priority) (nat_le operator.priority 1200) h).0);
+  high = leb-true operator.priority 1200 ((and_parts (nat_le 200 operator.priority) (nat_le operator.priority 1200) h).1);
 }
 
 pub infix_bounded : (name : ℕ) (operator : Operator) → infix_named name ≡ Some operator → IsBounded operator.priority
@@ -72,13 +73,13 @@ minus_by operator minus prefix h =
     ∙ ap (λ b. b || (not (takes_two operator.fixity) && last_most operator == 199)) prefix) ∙ h
 
 prefix_fixity : (name : ℕ) (operator : Operator) → prefix_named name ≡ Some operator → is_infix operator.fixity ≡ false
-prefix_fixity name operator found = not_true (is_infix operator.fixity) (and_second (operator.name == name) (not (is_infix operator.fixity)) (found_tested (λ o. (o.name == name) && not (is_infix o.fixity)) operators operator found))
+prefix_fixity name operator found = not-true (is_infix operator.fixity) ((and_parts (operator.name == name) (not (is_infix operator.fixity)) (find_holds (λ o. (o.name == name) && not (is_infix o.fixity)) operators operator found)).1)
 
 pub minus_row : (operator : Operator) → prefix_named 43 ≡ Some operator → (takes_two operator.fixity ≡ false) × (last_most operator ≡ 199)
 minus_row operator found =
     let h = minus_by operator (prefix_name 43 operator found) (prefix_fixity 43 operator found) (prefix_checked minus_check all_minus 43 operator found) in (
-      not_true (takes_two operator.fixity) (and_first (not (takes_two operator.fixity)) (last_most operator == 199) h),
-      eqb-true (last_most operator) 199 (and_second (not (takes_two operator.fixity)) (last_most operator == 199) h),
+      not-true (takes_two operator.fixity) ((and_parts (not (takes_two operator.fixity)) (last_most operator == 199) h).0),
+      eqb-true (last_most operator) 199 ((and_parts (not (takes_two operator.fixity)) (last_most operator == 199) h).1),
     )
 
 -- a plain name is no operator
@@ -93,8 +94,8 @@ fixed_text names fixed name there = fixed_known names fixed name (slice_get fixe
 text_by : (names : List (List ℕ)) → HoldsFixed names → (operator : Operator) → text_check operator ≡ true → is_plain (text_at names operator.name) ≡ false
 unfolding text_check
 text_by names fixed operator h =
-    ap is_plain (fixed_text names fixed operator.name (and_first (is_some (slice_get fixed_names operator.name)) (not (is_plain (text_at fixed_names operator.name))) h))
-    ∙ not_true (is_plain (text_at fixed_names operator.name)) (and_second (is_some (slice_get fixed_names operator.name)) (not (is_plain (text_at fixed_names operator.name))) h)
+    ap is_plain (fixed_text names fixed operator.name ((and_parts (is_some (slice_get fixed_names operator.name)) (not (is_plain (text_at fixed_names operator.name))) h).0))
+    ∙ not-true (is_plain (text_at fixed_names operator.name)) ((and_parts (is_some (slice_get fixed_names operator.name)) (not (is_plain (text_at fixed_names operator.name))) h).1)
 
 none_by : {A : Type 0} (found : Option A) → ((operator : A) → found ≡ Some operator → ⊥) → found ≡ None
 none_by None never = refl
@@ -112,7 +113,7 @@ no_prefix names fixed name plain = none_by (prefix_named name) (λ operator foun
     clash (is_plain (text_at names name)) plain (ap (λ (n : ℕ). is_plain (text_at names n)) (sym (prefix_name name operator found)) ∙ text_by names fixed operator (prefix_checked text_check all_texts name operator found)))
 
 -- the sign itself is a prefix operator too, which leaves one before it as it is
-pub minus_kept : leaves_plain (Name 43) ≡ false
+pub minus_kept : leaves_plain (Name minus_name) ≡ false
 unfolding operators
 minus_kept = refl
 
@@ -125,11 +126,11 @@ ascii_utf8 : (text : List ℕ) → list_all is_small text ≡ true → IsUtf8 te
 unfolding is_small
 ascii_utf8 [] small = IsUtf8-nil
 ascii_utf8 (byte ∷ bytes) small =
-    IsUtf8-append (byte ∷ []) bytes (ascii_byte byte (ltb-true byte 128 (and_first (nat_lt byte 128) (list_all is_small bytes) small))) (ascii_utf8 bytes (and_second (nat_lt byte 128) (list_all is_small bytes) small))
+    IsUtf8-append (byte ∷ []) bytes (ascii_byte byte (ltb-true byte 128 ((and_parts (nat_lt byte 128) (list_all is_small bytes) small).0))) (ascii_utf8 bytes ((and_parts (nat_lt byte 128) (list_all is_small bytes) small).1))
 
 abbrev has_text : Option (List ℕ) → Bool
 has_text None = false
-has_text (Some text) = list_all is_small text && nat_le (length text) 255
+has_text (Some text) = list_all is_small text && nat_le (length text) name_limit
 
 name_check : Operator → Bool
 name_check operator = has_text (slice_get fixed_names operator.name)
@@ -143,37 +144,37 @@ known_name names fixed name None e good = absurd (cc)
 known_name names fixed name (Some text) e good = record {
   text = text;
   there = fixed.text name text e;
-  utf8 = ascii_utf8 text (and_first (list_all is_small text) (nat_le (length text) 255) good);
-  short = leb-true (length text) 255 (and_second (list_all is_small text) (nat_le (length text) 255) good);
+  utf8 = ascii_utf8 text ((and_parts (list_all is_small text) (nat_le (length text) name_limit) good).0);
+  short = leb-true (length text) name_limit ((and_parts (list_all is_small text) (nat_le (length text) name_limit) good).1);
 }
 
 name_by : (names : List (List ℕ)) → HoldsFixed names → (operator : Operator) → name_check operator ≡ true → HasName names operator.name
 unfolding name_check
 name_by names fixed operator good = known_name names fixed operator.name (slice_get fixed_names operator.name) refl good
 
-pub infix_spelled : (names : List (List ℕ)) → HoldsFixed names → (operator : Operator) → infix_named operator.name ≡ Some operator → (operator.name == 26) ≡ false → IsSpelled names (Name operator.name)
+pub infix_spelled : (names : List (List ℕ)) → HoldsFixed names → (operator : Operator) → infix_named operator.name ≡ Some operator → (operator.name == comma_name) ≡ false → IsSpelled names (Name operator.name)
 infix_spelled names fixed operator row other = (
   name_by names fixed operator (infix_checked name_check all_names operator.name operator row),
-  inr (ap (λ o. (is_some o || is_some (prefix_named operator.name)) && not (operator.name == 26)) row ∙ ap not other),
+  inr (ap (λ o. (is_some o || is_some (prefix_named operator.name)) && not (operator.name == comma_name)) row ∙ ap not other),
 )
 
 -- a comma is no prefix operator
 comma_check : Operator → Bool
-comma_check operator = is_infix operator.fixity || not (operator.name == 26)
+comma_check operator = is_infix operator.fixity || not (operator.name == comma_name)
 
 all_commas : list_all comma_check operators ≡ true
 unfolding operators comma_check
 all_commas = refl
 
-comma_by : (operator : Operator) → is_infix operator.fixity ≡ false → comma_check operator ≡ true → not (operator.name == 26) ≡ true
+comma_by : (operator : Operator) → is_infix operator.fixity ≡ false → comma_check operator ≡ true → not (operator.name == comma_name) ≡ true
 unfolding comma_check
-comma_by operator prefix h = sym (ap (λ b. b || not (operator.name == 26)) prefix) ∙ h
+comma_by operator prefix h = sym (ap (λ b. b || not (operator.name == comma_name)) prefix) ∙ h
 
 pub prefix_spelled : (names : List (List ℕ)) → HoldsFixed names → (operator : Operator) → prefix_named operator.name ≡ Some operator → IsSpelled names (Name operator.name)
 prefix_spelled names fixed operator row = (
   name_by names fixed operator (prefix_checked name_check all_names operator.name operator row),
-  inr (ap (λ o. (is_some (infix_named operator.name) || is_some o) && not (operator.name == 26)) row
-      ∙ ap (λ b. b && not (operator.name == 26)) (or-true (is_some (infix_named operator.name)))
+  inr (ap (λ o. (is_some (infix_named operator.name) || is_some o) && not (operator.name == comma_name)) row
+      ∙ ap (λ b. b && not (operator.name == comma_name)) (or-true (is_some (infix_named operator.name)))
       ∙ comma_by operator (prefix_fixity operator.name operator row) (prefix_checked comma_check all_commas operator.name operator row)),
 )
 
@@ -185,5 +186,5 @@ minus_operator : is_operator 43 ≡ true
 unfolding operators
 minus_operator = refl
 
-pub minus_spelled : (names : List (List ℕ)) → HoldsFixed names → IsSpelled names (Name 43)
+pub minus_spelled : (names : List (List ℕ)) → HoldsFixed names → IsSpelled names (Name minus_name)
 minus_spelled names fixed = (known_name names fixed 43 (slice_get fixed_names 43) refl minus_known, inr minus_operator)

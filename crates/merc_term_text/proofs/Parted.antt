@@ -3,6 +3,11 @@ use Rattle.std.specs.Prelude.{◌≡◌, ℕ, ◌≤◌, ◌⊎◌, Bool, true, 
 use Rattle.std.specs.Int.{w64}
 use Rattle.std.specs.List.{list_all}
 use Rattle.std.specs.Str.{IsUtf8}
+use Rattle.merc_base.specs.Characters.{underscore_code}
+use Rattle.merc_base.specs.Names.{comma_name}
+use Rattle.merc_tokens.specs.Pieces.{name_limit}
+use Rattle.merc_tokens.specs.Integers.{integer_limit}
+use Rattle.merc_terms.specs.Reading.{is_integer}
 use Rattle.merc_value.specs.Text.{text_at, is_plain}
 use Rattle.merc_tokens.specs.Bytes.{is_upper, is_word}
 use Rattle.merc_tokens.specs.declared.token.Token.{Token as TokenOf}
@@ -63,22 +68,6 @@ begins_part Comma = true
 begins_part Bar = true
 begins_part Dot = false
 begins_part Stop = false
-
-abbrev pub is_integer : TokenKind → Bool
-is_integer (Name name) = false
-is_integer (Quoted name) = false
-is_integer (Var name) = false
-is_integer (Int value) = true
-is_integer (TextToken name) = false
-is_integer OpenArgs = false
-is_integer Open = false
-is_integer Close = false
-is_integer OpenList = false
-is_integer CloseList = false
-is_integer Comma = false
-is_integer Bar = false
-is_integer Dot = false
-is_integer Stop = false
 
 -- a plain or quoted name
 abbrev pub is_name_kind : List (List ℕ) → TokenKind → Bool
@@ -144,23 +133,23 @@ pub record HasName (names : List (List ℕ)) (name : ℕ) : Type 0 where
   pub text : List ℕ
   pub there : slice_get names name ≡ Some text
   pub utf8 : IsUtf8 text
-  pub short : length text ≤ 255
+  pub short : length text ≤ name_limit
 
 -- an upper-case letter or `_`, and then letters, digits and `_`
 abbrev pub is_variable_text : List ℕ → Bool
 is_variable_text [] = false
-is_variable_text (byte ∷ rest) = (is_upper byte || (byte == 95)) && list_all is_word rest
+is_variable_text (byte ∷ rest) = (is_upper byte || (byte == underscore_code)) && list_all is_word rest
 
 -- a name of the operator table but for the comma, which is a token of its own
 abbrev pub is_operator : ℕ → Bool
-is_operator name = (is_some (infix_named name) || is_some (prefix_named name)) && not (name == 26)
+is_operator name = (is_some (infix_named name) || is_some (prefix_named name)) && not (name == comma_name)
 
 -- the table has what a token names, and the token can be spelled so
 abbrev pub IsSpelled : List (List ℕ) → TokenKind → Type 0
 IsSpelled names (Name name) = HasName names name × ((is_plain (text_at names name) ≡ true) ⊎ (is_operator name ≡ true))
 IsSpelled names (Quoted name) = HasName names name
 IsSpelled names (Var name) = HasName names name × (is_variable_text (text_at names name) ≡ true)
-IsSpelled names (Int value) = value ≤ 9223372036854775808
+IsSpelled names (Int value) = value ≤ integer_limit
 IsSpelled names (TextToken name) = (text : List ℕ) × (slice_get names name ≡ Some text) × IsUtf8 text
 IsSpelled names OpenArgs = Unit {0}
 IsSpelled names Open = Unit {0}

@@ -1,14 +1,16 @@
 -- What well parted pieces have behind a token, and what stands before it.
 use Rattle.std.proofs.Common.{◌≡◌, ℕ, ◌<◌, Bool, true, false, ◌==◌, ◌||◌, ◌&&◌, List, [], ◌∷◌, ◌++◌, Option, Some, None, refl, sym, ◌∙◌, ap, arith, inl, inr}
 use Rattle.std.proofs.lemmas.Bool.{and_parts, or_cases, and_right, or_from, eqb-true, false≢true, agree_below_at}
+use Rattle.merc_base.specs.Characters.{percent_code, quote_code}
 use Rattle.merc_base.specs.Names.{HoldsFixed}
+use Rattle.merc_terms.specs.Reading.{is_integer}
 use Rattle.merc_value.specs.Text.{text_at, is_plain}
 use Rattle.merc_tokens.specs.Bytes.{is_blank, is_lower, is_graphic}
 use Rattle.merc_tokens.specs.Pieces.{ends_item, begins_name}
 use Rattle.merc_tokens.specs.declared.token.TokenKind.{TokenKind}
 use Rattle.merc_tokens.specs.declared.token.TokenKind.TheVariants.{Name, Quoted, Var, Int, Text as TextToken, OpenArgs, Open, Close, OpenList, CloseList, Comma, Bar, Dot, Stop}
 use Rattle.merc_term_text.specs.Pieces.{Piece, Blank, Token, pieces_text}
-use Rattle.merc_term_text.proofs.Parted.{parted, touches, begins_part, ends_operand, ends_name, is_integer, is_name_kind}
+use Rattle.merc_term_text.proofs.Parted.{parted, touches, begins_part, ends_operand, ends_name, is_name_kind}
 use Rattle.merc_term_text.proofs.Behind.{EndsItem, at_end, at_blank, stopped, EndsOperand, nothing, blank, close, close_list, comma, EndsName, operand, open_args, dot}
 use Rattle.merc_term_text.proofs.NamesRead.{IsPlain, plain, plain-is, lower-bounds}
 use Rattle.merc_term_text.proofs.OperatorsRead.{minus-text}
@@ -203,10 +205,10 @@ lower-begins byte rest lower =
     let bounds = lower-bounds byte lower in
     let within : byte < 123 = omega arith in
     let no_graphic : is_lower byte && is_graphic byte ≡ false = agree_below_at (λ b. is_lower b && is_graphic b) (λ b. false) 123 byte refl within in
-    let no_end : is_lower byte && (is_blank byte || (byte == 37)) ≡ false = agree_below_at (λ b. is_lower b && (is_blank b || (b == 37))) (λ b. false) 123 byte refl within in
+    let no_end : is_lower byte && (is_blank byte || (byte == percent_code)) ≡ false = agree_below_at (λ b. is_lower b && (is_blank b || (b == percent_code))) (λ b. false) 123 byte refl within in
     begins byte rest
     (ap (λ (b : Bool). b && is_graphic byte) (sym lower) ∙ no_graphic)
-    (ap (λ (b : Bool). b && (is_blank byte || (byte == 37))) (sym lower) ∙ no_end)
+    (ap (λ (b : Bool). b && (is_blank byte || (byte == percent_code))) (sym lower) ∙ no_end)
     (rw lower refl)
 
 plain-begins : (text rest : List ℕ) → IsPlain text → BeginsName (text ++ rest)
@@ -214,7 +216,7 @@ plain-begins _ rest (plain byte bytes lower all) = lower-begins byte (bytes ++ r
 
 name-begins : (names : List (List ℕ)) (next : TokenKind) (rest : List Piece) → is_name_kind names next ≡ true → BeginsName (pieces_text names (Token next ∷ rest))
 name-begins names (Name name) rest is = plain-begins (text_at names name) (pieces_text names rest) (plain-is (text_at names name) is)
-name-begins names (Quoted name) rest is = begins 39 _ refl refl refl
+name-begins names (Quoted name) rest is = begins quote_code _ refl refl refl
 name-begins names (Var name) rest is = absurd (cc)
 name-begins names (Int value) rest is = absurd (cc)
 name-begins names (TextToken name) rest is = absurd (cc)

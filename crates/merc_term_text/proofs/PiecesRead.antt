@@ -5,6 +5,7 @@ use Rattle.std.proofs.Math.Seq.{drop-append_seam}
 use Rattle.std.proofs.lemmas.Bool.{and_parts, and_from}
 use Rattle.std.proofs.lemmas.Fmt.{IsAscii-decimal}
 use Rattle.std.proofs.lemmas.Str.{IsUtf8-append, IsUtf8-from_ascii, IsUtf8-nil}
+use Rattle.merc_base.specs.Characters.{bar_code, close_code, close_list_code, comma_code, dot_code, double_quote_code, open_code, open_list_code, quote_code, space_code}
 use Rattle.merc_base.specs.Names.{HoldsFixed}
 use Rattle.merc_value.specs.Text.{text_at}
 use Rattle.merc_tokens.specs.declared.token.Token.{Token as TokenOf}
@@ -34,23 +35,23 @@ module _ (names : List (List ℕ)) where
 
   token-utf8 : (kind : TokenKind) → IsSpelled names kind → IsUtf8 (token_text names kind)
   token-utf8 (Name name) spelled = name-utf8 name spelled.0
-  token-utf8 (Quoted name) spelled = written_utf8 39 single_quote (text_at names name) (name-utf8 name spelled)
+  token-utf8 (Quoted name) spelled = written_utf8 quote_code single_quote (text_at names name) (name-utf8 name spelled)
   token-utf8 (Var name) spelled = name-utf8 name spelled.0
   token-utf8 (Int value) spelled = IsUtf8-from_ascii _ (IsAscii-decimal value (omega arith))
-  token-utf8 (TextToken name) spelled = written_utf8 34 double_quote (text_at names name) (text-utf8 name spelled.0 spelled.1 spelled.2)
-  token-utf8 OpenArgs spelled = ascii_byte 40 (omega arith)
-  token-utf8 Open spelled = ascii_byte 40 (omega arith)
-  token-utf8 Close spelled = ascii_byte 41 (omega arith)
-  token-utf8 OpenList spelled = ascii_byte 91 (omega arith)
-  token-utf8 CloseList spelled = ascii_byte 93 (omega arith)
-  token-utf8 Comma spelled = ascii_byte 44 (omega arith)
-  token-utf8 Bar spelled = ascii_byte 124 (omega arith)
-  token-utf8 Dot spelled = ascii_byte 46 (omega arith)
-  token-utf8 Stop spelled = ascii_byte 46 (omega arith)
+  token-utf8 (TextToken name) spelled = written_utf8 double_quote_code double_quote (text_at names name) (text-utf8 name spelled.0 spelled.1 spelled.2)
+  token-utf8 OpenArgs spelled = ascii_byte open_code (omega arith)
+  token-utf8 Open spelled = ascii_byte open_code (omega arith)
+  token-utf8 Close spelled = ascii_byte close_code (omega arith)
+  token-utf8 OpenList spelled = ascii_byte open_list_code (omega arith)
+  token-utf8 CloseList spelled = ascii_byte close_list_code (omega arith)
+  token-utf8 Comma spelled = ascii_byte comma_code (omega arith)
+  token-utf8 Bar spelled = ascii_byte bar_code (omega arith)
+  token-utf8 Dot spelled = ascii_byte dot_code (omega arith)
+  token-utf8 Stop spelled = ascii_byte dot_code (omega arith)
 
   pieces-utf8 : (pieces : List Piece) → AllByRecursion (IsSpelled names) (kinds_of pieces) → IsUtf8 (pieces_text names pieces)
   pieces-utf8 [] spelled = IsUtf8-nil
-  pieces-utf8 (Blank ∷ rest) spelled = IsUtf8-append (codes " ") (pieces_text names rest) (ascii_byte 32 (omega arith)) (pieces-utf8 rest spelled)
+  pieces-utf8 (Blank ∷ rest) spelled = IsUtf8-append (codes " ") (pieces_text names rest) (ascii_byte space_code (omega arith)) (pieces-utf8 rest spelled)
   pieces-utf8 (Token kind ∷ rest) spelled = IsUtf8-append (token_text names kind) (pieces_text names rest) (token-utf8 kind spelled.0) (pieces-utf8 rest spelled.1)
 
   -- from a place on a text has tokens of these kinds
@@ -77,7 +78,7 @@ module _ (names : List (List ℕ)) where
   gap-kinds front rest after kinds others = record {
     spelled = others.spelled;
     tokens = others.tokens;
-    has = gap (length front) 1 after others.spelled (first-at front (32 ∷ rest) after (Gap 1) refl) (moved front (32 ∷ []) rest false others.spelled others.has);
+    has = gap (length front) 1 after others.spelled (first-at front (space_code ∷ rest) after (Gap 1) refl) (moved front (32 ∷ []) rest false others.spelled others.has);
     named = others.named;
     same = others.same;
   }

@@ -4,6 +4,7 @@ use Rattle.std.specs.List.{list_all, prefix_len}
 use Rattle.std.proofs.lemmas.Bool.{cond_both, leb-true, eqb-true, and_parts, and_from}
 use Rattle.std.proofs.lemmas.Bool.Decides.{nat_tests}
 use Rattle.std.proofs.lemmas.Str.{IsUtf8-append, IsUtf8-from_ascii}
+use Rattle.merc_base.specs.Characters.{backslash_code, dot_code, double_quote_code, line_end_code, quote_code, semicolon_code, slash_code, star_code, underscore_code}
 use Rattle.merc_base.specs.declared.refusal.Rule.TheVariants.{OutsideProfile}
 use Rattle.merc_base.specs.declared.refusal.Construct.TheVariants.{Float, IntegerSuffix}
 use Rattle.merc_base.specs.declared.refusal.Detail.TheVariants.{Word}
@@ -18,14 +19,14 @@ use Rattle.merc_tokens.specs.declared.pieces.Piece.TheVariants.{Token, Fault}
 use Rattle.merc_tokens.specs.Bytes.{is_graphic, is_letter, is_upper, is_word, class_test, begins_with, next_is, start_of}
 use Rattle.merc_tokens.specs.Integers.{integer_at}
 use Rattle.merc_tokens.specs.Quoted.{is_escape, escaped, quoted}
-use Rattle.merc_tokens.specs.Pieces.{run_of, named, comment_past, comment_piece, begins_fraction, graphic_piece, integer_piece, limited, dot_of, ends_item, begins_name, quoted_piece, string_piece, piece_of, first_piece}
+use Rattle.merc_tokens.specs.Pieces.{run_of, named, comment_past, comment_piece, begins_fraction, graphic_piece, integer_piece, limited, dot_of, ends_item, begins_name, quoted_piece, string_piece, piece_of, first_piece, name_limit}
 use Rattle.merc_term_text.proofs.Parted.{is_variable_text}
 use Rattle.merc_term_text.proofs.Utf8Parts.{before_ascii, after_ascii, ascii_byte}
 
 -- a name's text, of at most 255 bytes
 pub record IsNameText (text : List ℕ) : Type 0 where
   pub utf8 : IsUtf8 text
-  pub short : length text ≤ 255
+  pub short : length text ≤ name_limit
 
 abbrev pub IsValid : Spelling → Type 0
 IsValid (Name text) = IsNameText text
@@ -61,13 +62,13 @@ escaped-small byte small = grind (arith, nat_tests)
 lower-is : (byte : ℕ) → start_of byte ≡ Lower → is_word byte ≡ true
 lower-is byte is = grind (arith, nat_tests)
 
-upper-is : (byte : ℕ) → start_of byte ≡ Upper → is_upper byte || (byte == 95) ≡ true
+upper-is : (byte : ℕ) → start_of byte ≡ Upper → is_upper byte || (byte == underscore_code) ≡ true
 upper-is byte is = grind (arith, nat_tests)
 
 graphic-is : (byte : ℕ) → start_of byte ≡ Graphic → is_graphic byte ≡ true
 graphic-is byte is = grind (arith, nat_tests)
 
-upper-word : (byte : ℕ) → is_upper byte || (byte == 95) ≡ true → is_word byte ≡ true
+upper-word : (byte : ℕ) → is_upper byte || (byte == underscore_code) ≡ true → is_word byte ≡ true
 upper-word byte is = grind (arith, nat_tests)
 
 all_small : (test : ℕ → Bool) → ((byte : ℕ) → test byte ≡ true → byte < 128) → (bytes : List ℕ) → list_all test bytes ≡ true → IsAscii bytes
@@ -114,27 +115,27 @@ module _ (quote : ℕ) (small : quote < 128) where
       (λ also on. quoted-utf8 (content ++ quote ∷ []) rest (past + 2) found (escaped-utf8 content rest byte next quote (omega (arith, eqb-true byte quote same, small)) (omega (arith, eqb-true next quote also, small)) small whole) on)
       (λ _ on. content-utf8 content (next ∷ rest) byte past found same whole on)
       here)
-      (λ _ here. cond_both (byte == 92) (cond (is_escape next) (quoted quote (content ++ escaped next ∷ []) (past + 2) rest) None) _ (λ o. o ≡ Some found → IsUtf8 found.0)
+      (λ _ here. cond_both (byte == backslash_code) (cond (is_escape next) (quoted quote (content ++ escaped next ∷ []) (past + 2) rest) None) _ (λ o. o ≡ Some found → IsUtf8 found.0)
       (λ back on. cond_both (is_escape next) (quoted quote (content ++ escaped next ∷ []) (past + 2) rest) None (λ o. o ≡ Some found → IsUtf8 found.0)
-      (λ escape more. quoted-utf8 (content ++ escaped next ∷ []) rest (past + 2) found (escaped-utf8 content rest byte next (escaped next) (omega (arith, eqb-true byte 92 back)) (escape-small next escape) (escaped-small next (escape-small next escape)) whole) more)
+      (λ escape more. quoted-utf8 (content ++ escaped next ∷ []) rest (past + 2) found (escaped-utf8 content rest byte next (escaped next) (omega (arith, eqb-true byte backslash_code back)) (escape-small next escape) (escaped-small next (escape-small next escape)) whole) more)
       (λ _ more. absurd (cc))
       on)
-      (λ _ on. cond_both (byte == 10) None (quoted quote (content ++ byte ∷ []) (past + 1) (next ∷ rest)) (λ o. o ≡ Some found → IsUtf8 found.0)
+      (λ _ on. cond_both (byte == line_end_code) None (quoted quote (content ++ byte ∷ []) (past + 1) (next ∷ rest)) (λ o. o ≡ Some found → IsUtf8 found.0)
       (λ _ more. absurd (cc))
       (λ _ more. quoted-utf8 (content ++ byte ∷ []) (next ∷ rest) (past + 1) found (subst IsUtf8 (sym (append_assoc content (byte ∷ []) (next ∷ rest))) whole) more)
       on)
       here)
       is
 
-named-valid : (make : List ℕ → Spelling) (name : List ℕ) (len : ℕ) (spelling : Spelling) (len' : ℕ) → (length name ≤ 255 → IsValid (make name)) → named make name len ≡ Token spelling len' → IsValid spelling
+named-valid : (make : List ℕ → Spelling) (name : List ℕ) (len : ℕ) (spelling : Spelling) (len' : ℕ) → (length name ≤ name_limit → IsValid (make name)) → named make name len ≡ Token spelling len' → IsValid spelling
 named-valid make name len spelling len' valid is =
-    cond_both (leb (length name) 255) (Token (make name) len) _ (λ piece. piece ≡ Token spelling len' → IsValid spelling)
-    (λ short same. let here : make name ≡ spelling = cc in subst IsValid here (valid (leb-true (length name) 255 short)))
+    cond_both (leb (length name) name_limit) (Token (make name) len) _ (λ piece. piece ≡ Token spelling len' → IsValid spelling)
+    (λ short same. let here : make name ≡ spelling = cc in subst IsValid here (valid (leb-true (length name) name_limit short)))
     (λ _ same. absurd (cc))
     is
 
 -- a name, quoted or not, in ASCII or as it was read
-name-text : (text : List ℕ) → IsUtf8 text → length text ≤ 255 → IsNameText text
+name-text : (text : List ℕ) → IsUtf8 text → length text ≤ name_limit → IsNameText text
 name-text text whole short = record { utf8 = whole; short = short }
 
 word-valid : (byte : ℕ) (bytes : List ℕ) (spelling : Spelling) (len : ℕ) → start_of byte ≡ Lower
@@ -160,13 +161,13 @@ dot-valid : (after : Bool) (rest : List ℕ) → IsValid (dot_of after rest)
 dot-valid after rest =
     cond_both (ends_item rest) Stop _ IsValid
     (λ _. tt)
-    (λ _. cond_both (after && begins_with begins_name rest) Dot (Name (codes ".")) IsValid (λ _. tt) (λ _. name-text (codes ".") (ascii_byte 46 (omega arith)) (omega arith)))
+    (λ _. cond_both (after && begins_with begins_name rest) Dot (Name (codes ".")) IsValid (λ _. tt) (λ _. name-text (codes ".") (ascii_byte dot_code (omega arith)) (omega arith)))
 
 graphic-valid : (after : Bool) (byte : ℕ) (bytes : List ℕ) (spelling : Spelling) (len : ℕ) → start_of byte ≡ Graphic → graphic_piece after byte bytes ≡ Token spelling len → IsValid spelling
 graphic-valid after byte bytes spelling len starts is =
-    cond_both ((byte == 47) && next_is 42 bytes) (comment_piece (option_map (λ past. 2 + past) (comment_past 0 (drop 1 bytes)))) _ (λ piece. piece ≡ Token spelling len → IsValid spelling)
+    cond_both ((byte == slash_code) && next_is star_code bytes) (comment_piece (option_map (λ past. 2 + past) (comment_past 0 (drop 1 bytes)))) _ (λ piece. piece ≡ Token spelling len → IsValid spelling)
     (λ _ here. comment-valid (option_map (λ past. 2 + past) (comment_past 0 (drop 1 bytes))) spelling len here)
-    (λ _ here. cond_both ((byte == 46) && not (begins_with is_graphic bytes)) (Token (dot_of after bytes) 1) _ (λ piece. piece ≡ Token spelling len → IsValid spelling)
+    (λ _ here. cond_both ((byte == dot_code) && not (begins_with is_graphic bytes)) (Token (dot_of after bytes) 1) _ (λ piece. piece ≡ Token spelling len → IsValid spelling)
     (λ _ on. let same : dot_of after bytes ≡ spelling = cc in subst IsValid same (dot-valid after bytes))
     (λ _ on. named-valid Name (run_of GraphicClass (byte ∷ bytes)) _ spelling len (λ short. name-text _ (run-utf8 GraphicClass byte bytes graphic-small (graphic-is byte starts)) short) on)
     here)
@@ -187,15 +188,15 @@ integer-valid (Some integer) text spelling len is =
     here)
     is
 
-quoted-valid : (rest : List ℕ) (found : Option (List ℕ × ℕ)) (spelling : Spelling) (len : ℕ) → IsUtf8 rest → quoted 39 [] 0 rest ≡ found → quoted_piece found ≡ Token spelling len → IsValid spelling
+quoted-valid : (rest : List ℕ) (found : Option (List ℕ × ℕ)) (spelling : Spelling) (len : ℕ) → IsUtf8 rest → quoted quote_code [] 0 rest ≡ found → quoted_piece found ≡ Token spelling len → IsValid spelling
 quoted-valid rest None spelling len whole read is = absurd (cc)
 quoted-valid rest (Some found) spelling len whole read is =
-    named-valid Quoted found.0 (1 + found.1) spelling len (λ short. name-text found.0 (quoted-utf8 39 (omega arith) [] rest 0 found whole read) short) is
+    named-valid Quoted found.0 (1 + found.1) spelling len (λ short. name-text found.0 (quoted-utf8 quote_code (omega arith) [] rest 0 found whole read) short) is
 
-string-valid : (rest : List ℕ) (found : Option (List ℕ × ℕ)) (spelling : Spelling) (len : ℕ) → IsUtf8 rest → quoted 34 [] 0 rest ≡ found → string_piece found ≡ Token spelling len → IsValid spelling
+string-valid : (rest : List ℕ) (found : Option (List ℕ × ℕ)) (spelling : Spelling) (len : ℕ) → IsUtf8 rest → quoted double_quote_code [] 0 rest ≡ found → string_piece found ≡ Token spelling len → IsValid spelling
 string-valid rest None spelling len whole read is = absurd (cc)
 string-valid rest (Some found) spelling len whole read is =
-    let same : Text found.0 ≡ spelling = cc in subst IsValid same (quoted-utf8 34 (omega arith) [] rest 0 found whole read)
+    let same : Text found.0 ≡ spelling = cc in subst IsValid same (quoted-utf8 double_quote_code (omega arith) [] rest 0 found whole read)
 
 open-valid : (after : Bool) (spelling : Spelling) (len : ℕ) → Token (cond after OpenArgs Open) 1 ≡ Token spelling len → IsValid spelling
 open-valid true spelling len is = let same : OpenArgs ≡ spelling = cc in subst IsValid same tt
@@ -217,9 +218,9 @@ start-valid Percent after front byte rest spelling len starts whole is = absurd 
 start-valid Lower after front byte rest spelling len starts whole is = word-valid byte rest spelling len starts is
 start-valid Upper after front byte rest spelling len starts whole is = variable-valid byte rest spelling len starts is
 start-valid Digit after front byte rest spelling len starts whole is = integer-valid (integer_at (byte ∷ rest)) (byte ∷ rest) spelling len is
-start-valid Quote after front byte rest spelling len starts whole is = quoted-valid rest (quoted 39 [] 0 rest) spelling len (after_ascii front rest byte (single-small byte starts) whole) refl is
-start-valid DoubleQuote after front byte rest spelling len starts whole is = string-valid rest (quoted 34 [] 0 rest) spelling len (after_ascii front rest byte (double-small byte starts) whole) refl is
-start-valid Semicolon after front byte rest spelling len starts whole is = fixed-valid (Name (codes ";")) spelling len (name-text (codes ";") (ascii_byte 59 (omega arith)) (omega arith)) is
+start-valid Quote after front byte rest spelling len starts whole is = quoted-valid rest (quoted quote_code [] 0 rest) spelling len (after_ascii front rest byte (single-small byte starts) whole) refl is
+start-valid DoubleQuote after front byte rest spelling len starts whole is = string-valid rest (quoted double_quote_code [] 0 rest) spelling len (after_ascii front rest byte (double-small byte starts) whole) refl is
+start-valid Semicolon after front byte rest spelling len starts whole is = fixed-valid (Name (codes ";")) spelling len (name-text (codes ";") (ascii_byte semicolon_code (omega arith)) (omega arith)) is
 start-valid OpenStart after front byte rest spelling len starts whole is = open-valid after spelling len is
 start-valid CloseStart after front byte rest spelling len starts whole is = fixed-valid Close spelling len tt is
 start-valid OpenListStart after front byte rest spelling len starts whole is = fixed-valid OpenList spelling len tt is

@@ -1,9 +1,11 @@
 -- The pieces of a term by those of its arguments in a list.
 use Rattle.std.proofs.Common.{◌≡◌, ℕ, suc, ◌+◌, Bool, Option, Some, None, length, map, List, [], ◌∷◌, ◌++◌, ◌==◌, ◌&&◌, ◌||◌, nat_lt, true, false, cond, refl, ap, sym, ◌∙◌, arith, ne_eqb}
 use Rattle.std.proofs.Math.Bool.{and-false}
+use Rattle.merc_base.specs.Names.{nil_name}
+use Rattle.merc_terms.specs.Operators.{argument_most, argument_most}
+use Rattle.merc_terms.proofs.Table.{quantifier_priority}
 use Rattle.merc_tree.specs.Shape.{arguments_of, shape_of}
 use Rattle.merc_tree.specs.declared.term.Shape.TheVariants.{Application as ApplicationShape}
-use Rattle.merc_term_text.proofs.Table.{quantifier_priority}
 use Rattle.merc_term_text.proofs.FormViews.{IsForm, is_list, is_infix, is_prefix, is_quantifier, is_plain, seen}
 use Rattle.merc_tree.specs.Term.{Term, Terms, Variable, Integer, Text, Application, none, more, list_of}
 use Rattle.merc_terms.specs.declared.operators.Operator.{Operator}
@@ -69,20 +71,20 @@ not_none count = ne_eqb (suc count) 0 (λ same. absurd (omega arith))
 
 head_written : (names : List (List ℕ)) (name : ℕ) (qualifier : Option ℕ) (arguments : Terms)
     → head_pieces names name qualifier (length (list_of arguments)) ++ arguments_pieces (map (part_of names) (list_of arguments)) ≡ plain_pieces names name qualifier (parts_of names arguments)
-head_written names name None none = elim (name == 1) as (λ b. cond (b && true) (Token OpenList ∷ Token CloseList ∷ []) (name_piece names name ∷ []) ++ [] ≡ cond b (Token OpenList ∷ Token CloseList ∷ []) (name_piece names name ∷ [])) [ true ↦ refl | false ↦ refl ]
+head_written names name None none = elim (name == nil_name) as (λ b. cond (b && true) (Token OpenList ∷ Token CloseList ∷ []) (name_piece names name ∷ []) ++ [] ≡ cond b (Token OpenList ∷ Token CloseList ∷ []) (name_piece names name ∷ [])) [ true ↦ refl | false ↦ refl ]
 head_written names name (Some qualifier) none = refl
 head_written names name None (more first rest) =
-    ap (λ (b : Bool). cond (name == 1 && b) (Token OpenList ∷ Token CloseList ∷ []) (name_piece names name ∷ []) ++ arguments_pieces (map (part_of names) (list_of (more first rest)))) (not_none (length (list_of rest)))
-    ∙ ap (λ (b : Bool). cond b (Token OpenList ∷ Token CloseList ∷ []) (name_piece names name ∷ []) ++ arguments_pieces (map (part_of names) (list_of (more first rest)))) (and-false (name == 1)) ∙ ap (λ parts. name_piece names name ∷ Token OpenArgs ∷ (part_pieces 1199 false (part_of names first) ++ other_pieces parts)) (sym (parts_is names rest))
+    ap (λ (b : Bool). cond (name == nil_name && b) (Token OpenList ∷ Token CloseList ∷ []) (name_piece names name ∷ []) ++ arguments_pieces (map (part_of names) (list_of (more first rest)))) (not_none (length (list_of rest)))
+    ∙ ap (λ (b : Bool). cond b (Token OpenList ∷ Token CloseList ∷ []) (name_piece names name ∷ []) ++ arguments_pieces (map (part_of names) (list_of (more first rest)))) (and-false (name == nil_name)) ∙ ap (λ parts. name_piece names name ∷ Token OpenArgs ∷ (part_pieces argument_most false (part_of names first) ++ other_pieces parts)) (sym (parts_is names rest))
 head_written names name (Some qualifier) (more first rest) =
-    ap (λ parts. qualified_pieces names name (Some qualifier) ++ (Token OpenArgs ∷ (part_pieces 1199 false (part_of names first) ++ other_pieces parts))) (sym (parts_is names rest))
+    ap (λ parts. qualified_pieces names name (Some qualifier) ++ (Token OpenArgs ∷ (part_pieces argument_most false (part_of names first) ++ other_pieces parts))) (sym (parts_is names rest))
 
 nil_parts : (names : List (List ℕ)) (name : ℕ) (arguments : Terms) → is_nil_shape name None (length (list_of arguments)) ≡ is_nil name None (parts_of names arguments)
-nil_parts names name none = elim (name == 1) as (λ b. b && true ≡ b) [ true ↦ refl | false ↦ refl ]
-nil_parts names name (more first rest) = ap (λ b. name == 1 && b) (not_none (length (list_of rest))) ∙ and-false (name == 1)
+nil_parts names name none = elim (name == nil_name) as (λ b. b && true ≡ b) [ true ↦ refl | false ↦ refl ]
+nil_parts names name (more first rest) = ap (λ b. name == nil_name && b) (not_none (length (list_of rest))) ∙ and-false (name == nil_name)
 
 tail_by : (names : List (List ℕ)) (name : ℕ) (arguments : Terms) (form : Form) → IsForm name arguments form → (form ≡ ListForm → ⊥) → is_nil name None (parts_of names arguments) ≡ false
-    → bar_pieces (enclosed_if (is_enclosed 1199 false form) (formed names (is_enclosed 1199 false form) form name None (parts_of names arguments))) ≡ tail_pieces names form name None (parts_of names arguments)
+    → bar_pieces (enclosed_if (is_enclosed argument_most false form) (formed names (is_enclosed argument_most false form) form name None (parts_of names arguments))) ≡ tail_pieces names form name None (parts_of names arguments)
 tail_by names name arguments form (is_list head tail a f e) unlisted other = absurd (unlisted f)
 tail_by names name arguments form (is_infix left right operator a f e) unlisted other = rw f refl
 tail_by names name arguments form (is_prefix operand operator a f e t) unlisted other = rw f refl
@@ -105,7 +107,7 @@ plain_written names commas (Application name' qualifier' arguments span) name qu
 
 -- a tail that is no list
 
-pub other_tail : (names : List (List ℕ)) (term : Term) → (term_form term ≡ ListForm → ⊥) → is_nil_term term ≡ false → bar_pieces (part_pieces 1199 false (part_of names term)) ≡ (part_of names term).tail
+pub other_tail : (names : List (List ℕ)) (term : Term) → (term_form term ≡ ListForm → ⊥) → is_nil_term term ≡ false → bar_pieces (part_pieces argument_most false (part_of names term)) ≡ (part_of names term).tail
 other_tail names (Variable name span) unlisted other = refl
 other_tail names (Integer value span) unlisted other = refl
 other_tail names (Text name span) unlisted other = refl
@@ -128,4 +130,4 @@ pub quantifier_not_list : (operator : Operator) → QuantifierForm operator ≡ 
 quantifier_not_list operator h = cc
 
 pub no_nil : (name : ℕ) (first : Term) (others : Terms) → is_nil_term (Application name None (more first others) record { first = 0; past = 0; line = 0 }) ≡ false
-no_nil name first others = ap (λ b. name == 1 && b) (ne_eqb (suc (length (list_of others))) 0 (λ same. absurd (omega arith))) ∙ and-false (name == 1)
+no_nil name first others = ap (λ b. name == nil_name && b) (ne_eqb (suc (length (list_of others))) 0 (λ same. absurd (omega arith))) ∙ and-false (name == nil_name)

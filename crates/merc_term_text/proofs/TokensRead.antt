@@ -2,6 +2,7 @@
 use Rattle.std.proofs.Common.{◌≡◌, ℕ, ◌+◌, ◌≤◌, ◌⊎◌, Bool, true, false, List, [], ◌∷◌, ◌++◌, length, Option, Some, slice_get, option_map, flat_map, codes, refl, sym, ◌∙◌, ap, subst, arith, inl, inr, unwrap_or, append_assoc, length-append, decimal}
 use Rattle.std.specs.List.{AllByRecursion}
 use Rattle.std.proofs.lemmas.Bool.{cases_Bool, false≢true}
+use Rattle.merc_base.specs.Characters.{dot_code, double_quote_code, quote_code, space_code}
 use Rattle.merc_base.specs.Names.{HoldsFixed}
 use Rattle.merc_value.specs.Text.{text_at, is_plain, escape, quoted as written}
 use Rattle.merc_tokens.specs.declared.token.TokenKind.{TokenKind}
@@ -11,7 +12,7 @@ use Rattle.merc_tokens.specs.declared.pieces.Spelling.TheVariants.{Name as NameO
 use Rattle.merc_tokens.specs.declared.pieces.Piece.TheVariants.{Token as TokenFound}
 use Rattle.merc_tokens.specs.Bytes.{next_is}
 use Rattle.merc_tokens.specs.Quoted.{quoted}
-use Rattle.merc_tokens.specs.Pieces.{first_piece, quoted_piece, string_piece}
+use Rattle.merc_tokens.specs.Pieces.{first_piece, quoted_piece, string_piece, name_limit}
 use Rattle.merc_tokens.specs.Tokens.{is_name, spelling_in}
 use Rattle.merc_term_text.specs.Pieces.{Piece, token_text, pieces_text, kinds_of}
 use Rattle.merc_term_text.proofs.Parted.{parted, HasName, IsSpelled, is_operator, is_variable_text}
@@ -42,16 +43,16 @@ quoted-found quote is_quote text rest apart =
 quoted-length : (quote : ℕ) (text : List ℕ) → 1 + (length (flat_map (escape quote) text) + 1) ≡ length (written quote text)
 quoted-length quote text = omega (arith, length-append (flat_map (escape quote) text) (quote ∷ []))
 
-quoted-reads : (text rest : List ℕ) (after : Bool) → length text ≤ 255 → EndsName rest → first_piece after (written 39 text ++ rest) ≡ TokenFound (QuotedOf text) (length (written 39 text))
+quoted-reads : (text rest : List ℕ) (after : Bool) → length text ≤ name_limit → EndsName rest → first_piece after (written quote_code text ++ rest) ≡ TokenFound (QuotedOf text) (length (written quote_code text))
 quoted-reads text rest after short ends =
-    ap quoted_piece (quoted-found 39 single_quote text rest (no_single_quote rest ends))
+    ap quoted_piece (quoted-found quote_code single_quote text rest (no_single_quote rest ends))
     ∙ named-short QuotedOf text _ short
-    ∙ ap (TokenFound (QuotedOf text)) (quoted-length 39 text)
+    ∙ ap (TokenFound (QuotedOf text)) (quoted-length quote_code text)
 
-string-reads : (text rest : List ℕ) (after : Bool) → EndsOperand rest → first_piece after (written 34 text ++ rest) ≡ TokenFound (TextOf text) (length (written 34 text))
+string-reads : (text rest : List ℕ) (after : Bool) → EndsOperand rest → first_piece after (written double_quote_code text ++ rest) ≡ TokenFound (TextOf text) (length (written double_quote_code text))
 string-reads text rest after ends =
-    ap string_piece (quoted-found 34 double_quote text rest (no_double_quote rest ends))
-    ∙ ap (TokenFound (TextOf text)) (quoted-length 34 text)
+    ap string_piece (quoted-found double_quote_code double_quote text rest (no_double_quote rest ends))
+    ∙ ap (TokenFound (TextOf text)) (quoted-length double_quote_code text)
 
 -- a token with a name in the table
 module _ (names : List (List ℕ)) (after : Bool) (name : ℕ) (rest : List ℕ) where
@@ -72,7 +73,7 @@ module _ (names : List (List ℕ)) (after : Bool) (name : ℕ) (rest : List ℕ)
         spelling = QuotedOf has.text;
         looked_up = ap (option_map QuotedOf) has.there;
         name = refl;
-        piece = subst (λ (t : List ℕ). first_piece after (written 39 t ++ rest) ≡ TokenFound (QuotedOf has.text) (length (written 39 t))) (sym same) (quoted-reads has.text rest after has.short ends);
+        piece = subst (λ (t : List ℕ). first_piece after (written quote_code t ++ rest) ≡ TokenFound (QuotedOf has.text) (length (written quote_code t))) (sym same) (quoted-reads has.text rest after has.short ends);
       }
 
   variable-token : HasName names name → is_variable_text (text_at names name) ≡ true → EndsOperand rest → ReadsAsToken names after (Var name) rest
@@ -92,7 +93,7 @@ module _ (names : List (List ℕ)) (after : Bool) (name : ℕ) (rest : List ℕ)
         spelling = TextOf text;
         looked_up = ap (option_map TextOf) there;
         name = refl;
-        piece = subst (λ (t : List ℕ). first_piece after (written 34 t ++ rest) ≡ TokenFound (TextOf text) (length (written 34 t))) (sym same) (string-reads text rest after ends);
+        piece = subst (λ (t : List ℕ). first_piece after (written double_quote_code t ++ rest) ≡ TokenFound (TextOf text) (length (written double_quote_code t))) (sym same) (string-reads text rest after ends);
       }
 
   operator-token : (text : List ℕ) → slice_get names name ≡ Some text → first_piece after (text ++ rest) ≡ TokenFound (NameOf text) (length text) → ReadsAsToken names after (Name name) rest
@@ -109,10 +110,10 @@ fixed-token : (names : List (List ℕ)) (after : Bool) (kind : TokenKind) (rest 
     → first_piece after (token_text names kind ++ rest) ≡ TokenFound spelling (length (token_text names kind)) → ReadsAsToken names after kind rest
 fixed-token names after kind rest spelling looked_up name piece = record { spelling = spelling; looked_up = looked_up; name = name; piece = piece }
 
-qualifier-reads : (rest : List ℕ) → BeginsName rest → first_piece true (46 ∷ rest) ≡ TokenFound DotOf 1
+qualifier-reads : (rest : List ℕ) → BeginsName rest → first_piece true (dot_code ∷ rest) ≡ TokenFound DotOf 1
 qualifier-reads _ (begins byte rest other going name) = rw (other, going, name) refl
 
-stop-reads : (after : Bool) (rest : List ℕ) → EndsItem rest → first_piece after (46 ∷ rest) ≡ TokenFound StopOf 1
+stop-reads : (after : Bool) (rest : List ℕ) → EndsItem rest → first_piece after (dot_code ∷ rest) ≡ TokenFound StopOf 1
 stop-reads after _ at_end = refl
 stop-reads after _ (at_blank rest) = refl
 
@@ -122,7 +123,7 @@ module _ (names : List (List ℕ)) (fixed : HoldsFixed names) where
   symbol-reads after name _ reads symbol_end others =
       operator-token names after name [] reads.text (fixed.text name reads.text reads.is) (reads.piece after [] at_end)
   symbol-reads after name _ reads (symbol_blank rest) others =
-      operator-token names after name (32 ∷ pieces_text names rest) reads.text (fixed.text name reads.text reads.is) (reads.piece after (32 ∷ pieces_text names rest) (at_blank (pieces_text names rest)))
+      operator-token names after name (space_code ∷ pieces_text names rest) reads.text (fixed.text name reads.text reads.is) (reads.piece after (space_code ∷ pieces_text names rest) (at_blank (pieces_text names rest)))
   symbol-reads after name _ reads (symbol_sign value rest same) others =
       operator-token names after name (decimal value ++ pieces_text names rest) (codes "-")
       (subst (λ (n : ℕ). slice_get names n ≡ Some (codes "-")) (sym same) (fixed.text 43 (codes "-") minus-fixed))

@@ -3,23 +3,24 @@ use Rattle.std.proofs.Common.{◌≡◌, ℕ, ◌+◌, ◌==◌, ◌&&◌, ◌||
 use Rattle.std.proofs.Math.Bool.{or-true}
 use Rattle.std.specs.Int.{w64}
 use Rattle.std.specs.List.{AllByRecursion}
-use Rattle.merc_base.specs.Names.{HoldsFixed}
+use Rattle.merc_base.specs.Names.{HoldsFixed, comma_name, nil_name, minus_name}
 use Rattle.merc_base.specs.declared.place.Span.{Span}
+use Rattle.std.proofs.lemmas.Bool.{and_from, and_parts}
+use Rattle.merc_terms.specs.Reading.{is_integer}
+use Rattle.merc_terms.proofs.Table.{infix_name, prefix_name}
 use Rattle.merc_value.specs.Text.{text_at, is_plain}
 use Rattle.merc_tokens.specs.declared.token.TokenKind.{TokenKind}
 use Rattle.merc_tokens.specs.declared.token.TokenKind.TheVariants.{Name, Quoted, Var, Int, Text as TextToken, OpenArgs, Open, Close, OpenList, CloseList, Comma, Bar, Dot, Stop}
 use Rattle.merc_tree.specs.Term.{Term, Terms, Variable, Integer, Text, Application, none, more}
 use Rattle.merc_terms.specs.declared.operators.Operator.{Operator}
-use Rattle.merc_terms.specs.Operators.{infix_named, prefix_named, first_most, last_most}
+use Rattle.merc_terms.specs.Operators.{infix_named, prefix_named, first_most, last_most, argument_most, term_most}
 use Rattle.merc_term_text.specs.Pieces.{Piece, Blank, Token, kinds_of, name_piece}
 use Rattle.merc_term_text.specs.Written.{Form, ListForm, PlainForm, form_of, is_enclosed, enclosed_if, part_of, parts_of, part_pieces, operand_pieces, operator_pieces, integer_pieces, other_pieces, item_pieces, infix_pieces, prefix_pieces, quantifier_pieces, plain_pieces, bar_pieces, tail_pieces, formed}
-use Rattle.merc_term_text.proofs.Parted.{parted, begins_part, ends_operand, ends_name, touches, is_integer, HasName, IsSpelled, IsWritable, AreWritable}
+use Rattle.merc_term_text.proofs.Parted.{parted, begins_part, ends_operand, ends_name, touches, HasName, IsSpelled, IsWritable, AreWritable}
 use Rattle.merc_term_text.proofs.FormViews.{IsForm, is_list, is_infix, is_prefix, is_quantifier, is_plain as is_plain_form, seen}
 use Rattle.merc_term_text.specs.Walking.{is_nil_term}
 use Rattle.merc_term_text.proofs.TermPieces.{other_tail, list_tail, plain_not_list, infix_not_list, prefix_not_list, quantifier_not_list, no_nil}
-use Rattle.merc_term_text.proofs.Table.{infix_name, prefix_name}
 use Rattle.merc_term_text.proofs.OperatorFacts.{infix_spelled, prefix_spelled, minus_spelled}
-use Rattle.merc_term_text.proofs.BoolLaws.{both, and_first, and_second}
 
 -- what may stand before a part
 pub data IsStart (before : Option TokenKind) : Type 0 where
@@ -30,10 +31,10 @@ pub data IsStart (before : Option TokenKind) : Type 0 where
 
 module _ (names : List (List ℕ)) where
   started : (before : Option TokenKind) (next : TokenKind) (rest : List Piece) → IsStart before → begins_part next ≡ true → parted names (Some next) rest ≡ true → parted names before (Token next ∷ rest) ≡ true
-  started before next rest (nothing e) first well = rw e (both (begins_part next) (parted names (Some next) rest) first well)
-  started before next rest (open_arguments e) first well = rw e (both (begins_part next) (parted names (Some next) rest) first well)
-  started before next rest (open_parenthesis e) first well = rw e (both (begins_part next) (parted names (Some next) rest) first well)
-  started before next rest (open_bracket e) first well = rw e (both (begins_part next) (parted names (Some next) rest) first well)
+  started before next rest (nothing e) first well = rw e (and_from (begins_part next) (parted names (Some next) rest) first well)
+  started before next rest (open_arguments e) first well = rw e (and_from (begins_part next) (parted names (Some next) rest) first well)
+  started before next rest (open_parenthesis e) first well = rw e (and_from (begins_part next) (parted names (Some next) rest) first well)
+  started before next rest (open_bracket e) first well = rw e (and_from (begins_part next) (parted names (Some next) rest) first well)
 
   -- What may stand behind a closing parenthesis may stand behind other tokens too.
 
@@ -77,7 +78,7 @@ module _ (names : List (List ℕ)) where
   behind_quoted name [] well = refl
   behind_quoted name (Blank ∷ rest) well = well
   behind_quoted name (Token next ∷ rest) well =
-      both (ends_name next) (parted names (Some next) rest) (ends_more next (and_first (ends_operand next) (parted names (Some next) rest) well)) (and_second (ends_operand next) (parted names (Some next) rest) well)
+      and_from (ends_name next) (parted names (Some next) rest) (ends_more next ((and_parts (ends_operand next) (parted names (Some next) rest) well).0)) ((and_parts (ends_operand next) (parted names (Some next) rest) well).1)
 
   -- a name, in quotes or not
 
@@ -89,7 +90,7 @@ module _ (names : List (List ℕ)) where
   behind_name name [] plain well = refl
   behind_name name (Blank ∷ rest) plain well = well
   behind_name name (Token next ∷ rest) plain well =
-      both (touches names (Name name) next) (parted names (Some next) rest) (plain_touches name next plain (and_first (ends_name next) (parted names (Some next) rest) well)) (and_second (ends_name next) (parted names (Some next) rest) well)
+      and_from (touches names (Name name) next) (parted names (Some next) rest) (plain_touches name next plain ((and_parts (ends_name next) (parted names (Some next) rest) well).0)) ((and_parts (ends_name next) (parted names (Some next) rest) well).1)
 
   named_by : (name : ℕ) (before : Option TokenKind) (rest : List Piece) (test : Bool) → is_plain (text_at names name) ≡ test → IsStart before → parted names (Some (Quoted name)) rest ≡ true
       → parted names before (cond test (Token (Name name)) (Token (Quoted name)) ∷ rest) ≡ true
@@ -101,7 +102,7 @@ module _ (names : List (List ℕ)) where
 
   marked_by : (name : ℕ) (rest : List Piece) (test : Bool) → is_plain (text_at names name) ≡ test → parted names (Some (Quoted name)) rest ≡ true
       → parted names (Some Dot) (cond test (Token (Name name)) (Token (Quoted name)) ∷ rest) ≡ true
-  marked_by name rest true e well = both (is_plain (text_at names name)) (parted names (Some (Name name)) rest) e (behind_name name rest e well)
+  marked_by name rest true e well = and_from (is_plain (text_at names name)) (parted names (Some (Name name)) rest) e (behind_name name rest e well)
   marked_by name rest false e well = well
 
   -- a name behind a qualifier mark
@@ -169,7 +170,7 @@ module _ (names : List (List ℕ)) where
     operand_spelled max commas = enclosed_spelled (part_of names term).is_integer (part_pieces max commas (part_of names term)) (part_spelled max commas)
 
     -- a list's tail behind a bar
-    barred : bar_pieces (part_pieces 1199 false (part_of names term)) ≡ (part_of names term).tail → IsWell names term
+    barred : bar_pieces (part_pieces argument_most false (part_of names term)) ≡ (part_of names term).tail → IsWell names term
     barred e = record {
       placed = placed;
       spelled = spelled;
@@ -182,36 +183,36 @@ module _ (names : List (List ℕ)) where
   others_behind : (others : Terms) → AreWell names others → AreBehind names (other_pieces (parts_of names others))
   others_behind none all rest well = well
   others_behind (more next others) all rest well =
-      subst (λ ts. parted names None ts ≡ true) (sym (append_assoc (part_pieces 1199 false (part_of names next)) (other_pieces (parts_of names others)) rest))
+      subst (λ ts. parted names None ts ≡ true) (sym (append_assoc (part_pieces argument_most false (part_of names next)) (other_pieces (parts_of names others)) rest))
       (part_placed next all.0.placed all.0.spelled 1199 false None (other_pieces (parts_of names others) ++ rest) (nothing refl) (others_behind others all.1 rest well))
 
   others_spelled : (others : Terms) → AreWell names others → AreSpelled names (other_pieces (parts_of names others))
   others_spelled none all = (tt, tt)
   others_spelled (more next others) all =
-      (tt, spelled_append names (part_pieces 1199 false (part_of names next)) (other_pieces (parts_of names others)) (part_spelled next all.0.placed all.0.spelled 1199 false) (others_spelled others all.1))
+      (tt, spelled_append names (part_pieces argument_most false (part_of names next)) (other_pieces (parts_of names others)) (part_spelled next all.0.placed all.0.spelled 1199 false) (others_spelled others all.1))
 
   module _ (first : Term) (others : Terms) (well : IsWell names first) (all : AreWell names others) where
     abbrev inner : List Piece
-    inner = part_pieces 1199 false (part_of names first) ++ other_pieces (parts_of names others)
+    inner = part_pieces argument_most false (part_of names first) ++ other_pieces (parts_of names others)
 
     inner_placed : ArePlaced names inner
     inner_placed before rest start fits =
-        subst (λ ts. parted names before ts ≡ true) (sym (append_assoc (part_pieces 1199 false (part_of names first)) (other_pieces (parts_of names others)) rest))
+        subst (λ ts. parted names before ts ≡ true) (sym (append_assoc (part_pieces argument_most false (part_of names first)) (other_pieces (parts_of names others)) rest))
         (part_placed first well.placed well.spelled 1199 false before (other_pieces (parts_of names others) ++ rest) start (others_behind others all rest fits))
 
     inner_spelled : AreSpelled names inner
-    inner_spelled = spelled_append names (part_pieces 1199 false (part_of names first)) (other_pieces (parts_of names others)) (part_spelled first well.placed well.spelled 1199 false) (others_spelled others all)
+    inner_spelled = spelled_append names (part_pieces argument_most false (part_of names first)) (other_pieces (parts_of names others)) (part_spelled first well.placed well.spelled 1199 false) (others_spelled others all)
 
   -- lists
 
   module _ (head tail : Term) (well_head : IsWell names head) (well_tail : IsWell names tail) where
     items_placed : ArePlaced names (item_pieces (part_of names head ∷ part_of names tail ∷ []))
     items_placed before rest start fits =
-        subst (λ ts. parted names before ts ≡ true) (sym (append_assoc (part_pieces 1199 false (part_of names head)) (part_of names tail).tail rest))
+        subst (λ ts. parted names before ts ≡ true) (sym (append_assoc (part_pieces argument_most false (part_of names head)) (part_of names tail).tail rest))
         (part_placed head well_head.placed well_head.spelled 1199 false before ((part_of names tail).tail ++ rest) start (well_tail.behind rest fits))
 
     items_spelled : AreSpelled names (item_pieces (part_of names head ∷ part_of names tail ∷ []))
-    items_spelled = spelled_append names (part_pieces 1199 false (part_of names head)) (part_of names tail).tail (part_spelled head well_head.placed well_head.spelled 1199 false) well_tail.tail_spelled
+    items_spelled = spelled_append names (part_pieces argument_most false (part_of names head)) (part_of names tail).tail (part_spelled head well_head.placed well_head.spelled 1199 false) well_tail.tail_spelled
 
     list_placed : ArePlaced names (Token OpenList ∷ (item_pieces (part_of names head ∷ part_of names tail ∷ []) ++ Token CloseList ∷ []))
     list_placed before rest start fits =
@@ -225,12 +226,12 @@ module _ (names : List (List ℕ)) where
   -- operators
 
   module _ (fixed : HoldsFixed names) (operator : Operator) (row : infix_named operator.name ≡ Some operator) where
-    operator_by : (test : Bool) → (operator.name == 26) ≡ test → AreSpelled names (cond test (Token Comma ∷ Blank ∷ []) (Blank ∷ Token (Name operator.name) ∷ Blank ∷ []))
+    operator_by : (test : Bool) → (operator.name == comma_name) ≡ test → AreSpelled names (cond test (Token Comma ∷ Blank ∷ []) (Blank ∷ Token (Name operator.name) ∷ Blank ∷ []))
     operator_by true e = (tt, tt)
     operator_by false e = (infix_spelled names fixed operator row e, tt)
 
     operator_behind : (pieces : List Piece) → parted names None pieces ≡ true → parted names (Some Close) (operator_pieces operator ++ pieces) ≡ true
-    operator_behind pieces well = elim (operator.name == 26) as (λ b. parted names (Some Close) (cond b (Token Comma ∷ Blank ∷ []) (Blank ∷ Token (Name operator.name) ∷ Blank ∷ []) ++ pieces) ≡ true) [ true ↦ well | false ↦ well ]
+    operator_behind pieces well = elim (operator.name == comma_name) as (λ b. parted names (Some Close) (cond b (Token Comma ∷ Blank ∷ []) (Blank ∷ Token (Name operator.name) ∷ Blank ∷ []) ++ pieces) ≡ true) [ true ↦ well | false ↦ well ]
 
     module _ (left right : Term) (well_left : IsWell names left) (well_right : IsWell names right) (commas : Bool) where
       abbrev lefts : List Piece
@@ -247,7 +248,7 @@ module _ (names : List (List ℕ)) where
 
       infix_spells : AreSpelled names (infix_pieces commas operator (part_of names left ∷ part_of names right ∷ []))
       infix_spells = spelled_append names lefts (operator_pieces operator ++ rights) (part_spelled left well_left.placed well_left.spelled (first_most operator) commas)
-          (spelled_append names (operator_pieces operator) rights (operator_by (operator.name == 26) refl) (part_spelled right well_right.placed well_right.spelled (last_most operator) commas))
+          (spelled_append names (operator_pieces operator) rights (operator_by (operator.name == comma_name) refl) (part_spelled right well_right.placed well_right.spelled (last_most operator) commas))
 
   module _ (fixed : HoldsFixed names) (operator : Operator) (row : prefix_named operator.name ≡ Some operator) where
     prefix_placed : (operand : Term) → IsWell names operand → (commas : Bool) → ArePlaced names (prefix_pieces commas operator (part_of names operand ∷ []))
@@ -263,7 +264,7 @@ module _ (names : List (List ℕ)) where
       bound = part_pieces 0 commas (part_of names variables)
 
       abbrev goals : List Piece
-      goals = part_pieces 1200 true (part_of names goal)
+      goals = part_pieces term_most true (part_of names goal)
 
       quantifier_placed : ArePlaced names (quantifier_pieces commas operator (part_of names variables ∷ part_of names goal ∷ []))
       quantifier_placed before rest start fits =
@@ -288,14 +289,14 @@ module _ (names : List (List ℕ)) where
   text_well : (name : ℕ) (span : Span) → IsWritable names (Text name span) → IsWell names (Text name span)
   text_well name span writable = barred (Text name span) (λ commas before rest start well. started names before (TextToken name) rest start refl (behind_text names name rest well)) (λ commas. (writable, tt)) refl
 
-  sign_touches : (value : ℕ) → touches names (Name 43) (Int value) ≡ true
+  sign_touches : (value : ℕ) → touches names (Name minus_name) (Int value) ≡ true
   sign_touches value = or-true (is_plain (text_at names 43) && false)
 
   integer_placed : (value : ℤ) → ArePlaced names (integer_pieces value)
   integer_placed (pos n) before rest start well = started names before (Int n) rest start refl (behind_integer names n rest well)
   integer_placed (negsuc n) before rest start well =
-      started names before (Name 43) (Token (Int (n + 1)) ∷ rest) start refl
-      (both (touches names (Name 43) (Int (n + 1))) (parted names (Some (Int (n + 1))) rest) (sign_touches (n + 1)) (behind_integer names (n + 1) rest well))
+      started names before (Name minus_name) (Token (Int (n + 1)) ∷ rest) start refl
+      (and_from (touches names (Name minus_name) (Int (n + 1))) (parted names (Some (Int (n + 1))) rest) (sign_touches (n + 1)) (behind_integer names (n + 1) rest well))
 
   integer_spelled : HoldsFixed names → (value : ℤ) → FitsSigned w64 value → AreSpelled names (integer_pieces value)
   integer_spelled fixed (pos n) fits = (omega (arith, fits), tt)
@@ -311,7 +312,7 @@ module _ (names : List (List ℕ)) where
   constant_by name false known = ((λ before rest start well. named names name before rest start (behind_quoted names name rest well)), name_spelled names name [] known tt)
 
   plain_well : (name : ℕ) (arguments : Terms) → HasName names name → AreWell names arguments → ArePlaced names (plain_pieces names name None (parts_of names arguments)) × AreSpelled names (plain_pieces names name None (parts_of names arguments))
-  plain_well name none known all = constant_by name (name == 1) known
+  plain_well name none known all = constant_by name (name == nil_name) known
   plain_well name (more first others) known all = (
     (λ before rest start well. named names name before (Token OpenArgs ∷ (inner first others all.0 all.1 ++ rest)) start (inner_placed first others all.0 all.1 (Some OpenArgs) rest (open_arguments refl) well)),
     name_spelled names name (Token OpenArgs ∷ inner first others all.0 all.1) known (tt, inner_spelled first others all.0 all.1),
@@ -373,7 +374,7 @@ module _ (names : List (List ℕ)) where
             tail_spelled = subst (AreSpelled names) (sym (list_tail names term (sym l))) (tt, items_spelled head tail all.0 all.1.0);
           }
 
-      constant_well : form_of name None none ≡ PlainForm → (test : Bool) → (name == 1) ≡ test → IsWell names (Application name None none span)
+      constant_well : form_of name None none ≡ PlainForm → (test : Bool) → (name == nil_name) ≡ test → IsWell names (Application name None none span)
       constant_well f true e =
           let formed' : Formed none (form_of name None none) = formed_well none (form_of name None none) (seen name none) in
           let empty : (part_of names (Application name None none span)).tail ≡ [] = ap (λ g. tail_pieces names g name None []) f ∙ ap (λ b. cond b [] (bar_pieces (plain_pieces names name None []))) e in
@@ -386,7 +387,7 @@ module _ (names : List (List ℕ)) where
       constant_well f false e = application_barred none tt (λ l. plain_not_list (sym f ∙ l)) (ap (λ b. b && true) e)
 
       plain_application_well : (arguments : Terms) → Well PlainForm arguments
-      plain_application_well none all f = constant_well f (name == 1) refl
+      plain_application_well none all f = constant_well f (name == nil_name) refl
       plain_application_well (more first others) all f = application_barred (more first others) all (λ l. plain_not_list (sym f ∙ l)) (no_nil name first others)
 
       well_by : (arguments : Terms) (form : Form) → form_of name None arguments ≡ form → IsForm name arguments form → AreWell names arguments → IsWell names (Application name None arguments span)

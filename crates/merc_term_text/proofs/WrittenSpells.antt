@@ -1,25 +1,25 @@
 -- Tokens of the kinds that a term is written with spell that term.
 use Rattle.std.proofs.Common.{◌≡◌, ℕ, ◌+◌, ◌≤◌, ◌<◌, ◌==◌, ◌&&◌, ◌||◌, not, nat_lt, ℤ, pos, negsuc, neg_ℤ, Bool, true, false, List, [], ◌∷◌, ◌++◌, Option, Some, None, is_some, is_none, cond, refl, ap, sym, ◌∙◌, subst, eqb-true, ltb-false, le-ltb, arith, append_assoc, add-one}
 use Rattle.std.proofs.Math.Bool.{and-false, or-false, or-true}
-use Rattle.merc_base.specs.Names.{HoldsFixed}
+use Rattle.merc_base.specs.Names.{HoldsFixed, comma_name, minus_name}
 use Rattle.merc_base.specs.declared.place.Span.{Span}
+use Rattle.std.proofs.lemmas.Bool.{or_parts, true≢false}
+use Rattle.merc_terms.proofs.Table.{infix_name, prefix_name}
 use Rattle.merc_value.specs.Text.{text_at, is_plain}
 use Rattle.merc_tokens.specs.declared.token.Token.{Token as TokenOf}
 use Rattle.merc_tokens.specs.declared.token.TokenKind.{TokenKind}
 use Rattle.merc_tokens.specs.declared.token.TokenKind.TheVariants.{Name, Quoted, Var, Int, Text as TextToken, OpenArgs, Open, Close, OpenList, CloseList, Comma, Bar, Dot}
 use Rattle.merc_tree.specs.Term.{Term, Terms, Variable, Integer, Text, Application, none, more, bare, bare_all, no_span, span_of, with_span}
 use Rattle.merc_terms.specs.declared.operators.Operator.{Operator}
-use Rattle.merc_terms.specs.Operators.{infix_named, prefix_named, takes_two, first_most, last_most}
+use Rattle.merc_terms.specs.Operators.{infix_named, prefix_named, takes_two, first_most, last_most, argument_most, term_most}
 use Rattle.merc_terms.specs.Reading.{token, joined, begins_with, is_integer, goes_on_name, is_infix_name, leaves_plain, is_left_plain, IsName, plain, quoted, IsQualified, unquoted, alone, IsInfix, name, comma, cell, nil, Spells, variable, integer, negative, text, constant, qualified, application, qualified_application, empty_list, list, parenthesis, before, quantifier, between, SpellsArguments, last_argument, argument, SpellsItems, last_item, items_tail, item}
 use Rattle.merc_term_text.specs.Pieces.{Piece, Blank, Token, kinds_of, name_piece}
 use Rattle.merc_term_text.specs.Written.{Form, ListForm, InfixForm, PrefixForm, QuantifierForm, PlainForm, form_of, form_priority, is_comma_form, is_enclosed, enclosed_if, Part, part_of, parts_of, part_pieces, operand_pieces, operator_pieces, integer_pieces, other_pieces, item_pieces, infix_pieces, prefix_pieces, quantifier_pieces, plain_pieces, bar_pieces, tail_pieces, formed, is_nil}
 use Rattle.merc_term_text.proofs.FormViews.{IsForm, is_list, is_infix, is_prefix, is_quantifier, is_plain as is_plain_form, seen}
 use Rattle.merc_term_text.specs.Walking.{is_nil_term}
 use Rattle.merc_term_text.proofs.TermPieces.{other_tail, list_tail, plain_not_list, infix_not_list, prefix_not_list, quantifier_not_list, no_nil}
-use Rattle.merc_term_text.proofs.Table.{infix_name, prefix_name}
 use Rattle.merc_term_text.proofs.TokenKinds.{kinds, take_token, begins, begins_is}
 use Rattle.merc_term_text.proofs.OperatorFacts.{infix_bounded, prefix_bounded, minus_row, no_infix, no_prefix, minus_kept}
-use Rattle.merc_term_text.proofs.BoolLaws.{or_first, or_second, true_not_false}
 
 abbrev pub is_integer_term : Term → Bool
 is_integer_term (Variable name' span) = false
@@ -64,11 +64,11 @@ ReadsWhole term priority is_chain pieces = (commas : Bool) (tokens : List TokenO
 
 -- and as a list's tail, behind a head
 abbrev pub ReadsTail : Term → List Piece → Type 0
-ReadsTail term pieces = (head : Term) (priority : ℕ) (tokens rest : List TokenOf) (after : List Piece) → Spells false head priority tokens rest → priority ≤ 1199
+ReadsTail term pieces = (head : Term) (priority : ℕ) (tokens rest : List TokenOf) (after : List Piece) → Spells false head priority tokens rest → priority ≤ argument_most
     → kinds rest ≡ kinds_of (pieces ++ Token CloseList ∷ after) → ReadItems head term tokens after
 
 pub record Reads (names : List (List ℕ)) (term : Term) : Type 0 where
-  pub bounded : form_priority (part_of names term).form ≤ 1200
+  pub bounded : form_priority (part_of names term).form ≤ term_most
   pub whole : ReadsWhole term (form_priority (part_of names term).form) (is_comma_form (part_of names term).form) (part_of names term).pieces
   pub tail : ReadsTail term (part_of names term).tail
   pub tail_first : (after : List Piece) → begins goes_on_name (kinds_of ((part_of names term).tail ++ Token CloseList ∷ after)) ≡ false
@@ -123,7 +123,7 @@ module _ (commas : Bool) (term : Term) (pieces : List Piece)
       }
 
 -- a part where terms of at most this priority may stand
-module _ (names : List (List ℕ)) (term : Term) (bounded : form_priority (part_of names term).form ≤ 1200)
+module _ (names : List (List ℕ)) (term : Term) (bounded : form_priority (part_of names term).form ≤ term_most)
     (whole : ReadsWhole term (form_priority (part_of names term).form) (is_comma_form (part_of names term).form) (part_of names term).pieces) where
   part_by : (max : ℕ) (commas enclosed : Bool) → is_enclosed max commas (part_of names term).form ≡ enclosed → (tokens : List TokenOf) (after : List Piece)
       → kinds tokens ≡ kinds_of (enclosed_if enclosed ((part_of names term).pieces (commas || enclosed)) ++ after) → begins goes_on_name (kinds_of after) ≡ false → Read commas term max tokens after
@@ -131,18 +131,18 @@ module _ (names : List (List ℕ)) (term : Term) (bounded : form_priority (part_
       raised (enclosed_read commas term ((part_of names term).pieces (commas || true)) (λ tokens' after' same' fits'.
       raised (whole true tokens' after' (and-false (is_comma_form (part_of names term).form)) (same' ∙ ap (λ b. kinds_of ((part_of names term).pieces b ++ after')) (or-true commas)) fits') 1200 bounded) tokens after same) max (omega arith)
   part_by max commas false e tokens after same fits =
-      raised (whole commas tokens after (or_second (nat_lt max (form_priority (part_of names term).form)) (is_comma_form (part_of names term).form && not commas) e)
+      raised (whole commas tokens after ((or_parts (nat_lt max (form_priority (part_of names term).form)) (is_comma_form (part_of names term).form && not commas) e).1)
       (same ∙ ap (λ b. kinds_of ((part_of names term).pieces b ++ after)) (or-false commas)) fits) max
-      (ltb-false max (form_priority (part_of names term).form) (or_first (nat_lt max (form_priority (part_of names term).form)) (is_comma_form (part_of names term).form && not commas) e))
+      (ltb-false max (form_priority (part_of names term).form) ((or_parts (nat_lt max (form_priority (part_of names term).form)) (is_comma_form (part_of names term).form && not commas) e).0))
 
   part_from : (max : ℕ) (commas : Bool) (tokens : List TokenOf) (after : List Piece)
       → kinds tokens ≡ kinds_of (part_pieces max commas (part_of names term) ++ after) → begins goes_on_name (kinds_of after) ≡ false → Read commas term max tokens after
   part_from max commas tokens after same fits = part_by max commas (is_enclosed max commas (part_of names term).form) refl tokens after same fits
 
   -- a list's tail behind a bar
-  tail_by_bar : bar_pieces (part_pieces 1199 false (part_of names term)) ≡ (part_of names term).tail → ReadsTail term (part_of names term).tail
+  tail_by_bar : bar_pieces (part_pieces argument_most false (part_of names term)) ≡ (part_of names term).tail → ReadsTail term (part_of names term).tail
   tail_by_bar barred head priority tokens rest after head_spells within same =
-      let bar = take_token Bar rest (kinds_of (part_pieces 1199 false (part_of names term) ++ Token CloseList ∷ after)) (same ∙ ap (λ pieces. kinds_of (pieces ++ Token CloseList ∷ after)) (sym barred)) in
+      let bar = take_token Bar rest (kinds_of (part_pieces argument_most false (part_of names term) ++ Token CloseList ∷ after)) (same ∙ ap (λ pieces. kinds_of (pieces ++ Token CloseList ∷ after)) (sym barred)) in
       let read = part_from 1199 false bar.rest (Token CloseList ∷ after) bar.left refl in
       let close = take_token CloseList read.rest (kinds_of after) read.left in
       record {
@@ -192,9 +192,9 @@ negated n = ap (λ (k : ℕ). neg_ℤ (pos k)) (add-one n)
 integer_read : (value : ℤ) (span : Span) → ReadsWhole (Integer value span) 0 false (λ commas. integer_pieces value)
 integer_read (pos n) span commas tokens after chain same fits =
     let first = take_token (Int n) tokens (kinds_of after) same in
-    token_read commas (Integer (pos n) span) (Integer (pos n) first.span) (Int n) first.span tokens first.rest after first.is first.left (integer commas n first.span first.rest) refl refl (λ other. absurd (true_not_false other))
+    token_read commas (Integer (pos n) span) (Integer (pos n) first.span) (Int n) first.span tokens first.rest after first.is first.left (integer commas n first.span first.rest) refl refl (λ other. absurd (true≢false other))
 integer_read (negsuc n) span commas tokens after chain same fits =
-    let sign = take_token (Name 43) tokens (Int (n + 1) ∷ kinds_of after) same in
+    let sign = take_token (Name minus_name) tokens (Int (n + 1) ∷ kinds_of after) same in
     let last = take_token (Int (n + 1)) sign.rest (kinds_of after) sign.left in
     record {
       found = Integer (neg_ℤ (pos (n + 1))) (joined sign.span last.span);
@@ -202,12 +202,12 @@ integer_read (negsuc n) span commas tokens after chain same fits =
       rest = last.rest;
       within = omega arith;
       spells = subst (λ ts. Spells commas (Integer (neg_ℤ (pos (n + 1))) (joined sign.span last.span)) 0 ts last.rest) (sym sign.is)
-          (subst (λ ts. Spells commas (Integer (neg_ℤ (pos (n + 1))) (joined sign.span last.span)) 0 (token (Name 43) sign.span ∷ ts) last.rest) (sym last.is)
+          (subst (λ ts. Spells commas (Integer (neg_ℤ (pos (n + 1))) (joined sign.span last.span)) 0 (token (Name minus_name) sign.span ∷ ts) last.rest) (sym last.is)
           (negative commas (n + 1) sign.span last.span last.rest));
       left = last.left;
       same = ap (λ z. Integer z no_span) (negated n);
       starts = ap is_left_plain sign.is ∙ minus_kept;
-      unsigned = λ low other. absurd (true_not_false other);
+      unsigned = λ low other. absurd (true≢false other);
     }
 
 -- a name, in quotes or not
@@ -257,7 +257,7 @@ take_name names fixed name' tokens after same = named_by names fixed name' (is_p
 -- an infix operator
 
 operator_kind : Operator → TokenKind
-operator_kind operator = cond (operator.name == 26) Comma (Name operator.name)
+operator_kind operator = cond (operator.name == comma_name) Comma (Name operator.name)
 
 record Operated (commas : Bool) (operator : Operator) (tokens : List TokenOf) (after : List Piece) : Type 0 where
   kind : TokenKind
@@ -267,22 +267,22 @@ record Operated (commas : Bool) (operator : Operator) (tokens : List TokenOf) (a
   left : kinds rest ≡ kinds_of after
   operates : IsInfix commas kind operator
 
-operator_by : (commas : Bool) (name' : ℕ) (operator : Operator) → infix_named operator.name ≡ Some operator → (test : Bool) → (operator.name == 26) ≡ test → (test && not commas ≡ false) → (tokens : List TokenOf) (after : List Piece)
+operator_by : (commas : Bool) (name' : ℕ) (operator : Operator) → infix_named operator.name ≡ Some operator → (test : Bool) → (operator.name == comma_name) ≡ test → (test && not commas ≡ false) → (tokens : List TokenOf) (after : List Piece)
     → kinds tokens ≡ kinds_of (cond test (Token Comma ∷ Blank ∷ []) (Blank ∷ Token (Name operator.name) ∷ Blank ∷ []) ++ after) → Operated commas operator tokens after
 operator_by true name' operator row true e chain tokens after same =
     let first = take_token Comma tokens (kinds_of after) same in
     record { kind = Comma; span = first.span; rest = first.rest; is = first.is; left = first.left; operates = comma operator (ap infix_named (sym (eqb-true operator.name 26 e)) ∙ row) }
-operator_by false name' operator row true e chain tokens after same = absurd (true_not_false chain)
+operator_by false name' operator row true e chain tokens after same = absurd (true≢false chain)
 operator_by commas name' operator row false e chain tokens after same =
     let first = take_token (Name operator.name) tokens (kinds_of after) same in
     record { kind = Name operator.name; span = first.span; rest = first.rest; is = first.is; left = first.left; operates = name commas operator.name operator row }
 
 operator_first : (operator : Operator) (after : List Piece) → begins goes_on_name (kinds_of (operator_pieces operator ++ after)) ≡ false
-operator_first operator after = elim (operator.name == 26) as (λ b. begins goes_on_name (kinds_of (cond b (Token Comma ∷ Blank ∷ []) (Blank ∷ Token (Name operator.name) ∷ Blank ∷ []) ++ after)) ≡ false) [ true ↦ refl | false ↦ refl ]
+operator_first operator after = elim (operator.name == comma_name) as (λ b. begins goes_on_name (kinds_of (cond b (Token Comma ∷ Blank ∷ []) (Blank ∷ Token (Name operator.name) ∷ Blank ∷ []) ++ after)) ≡ false) [ true ↦ refl | false ↦ refl ]
 
 module _ (names : List (List ℕ)) (name' : ℕ) (operator : Operator) (left right : Term) (span : Span) (row : infix_named name' ≡ Some operator)
     (reads_left : Reads names left) (reads_right : Reads names right) where
-  infix_read : ReadsWhole (Application name' None (more left (more right none)) span) operator.priority (operator.name == 26) (λ commas. infix_pieces commas operator (part_of names left ∷ part_of names right ∷ []))
+  infix_read : ReadsWhole (Application name' None (more left (more right none)) span) operator.priority (operator.name == comma_name) (λ commas. infix_pieces commas operator (part_of names left ∷ part_of names right ∷ []))
   infix_read commas tokens after chain same fits =
       let named : operator.name ≡ name' = infix_name name' operator row in
       let lefts : List Piece = part_pieces (first_most operator) commas (part_of names left) in
@@ -290,7 +290,7 @@ module _ (names : List (List ℕ)) (name' : ℕ) (operator : Operator) (left rig
       let one = part_read names left reads_left (first_most operator) commas tokens (operator_pieces operator ++ (rights ++ after))
       (same ∙ ap kinds_of (append_assoc lefts (operator_pieces operator ++ rights) after ∙ ap (λ t. lefts ++ t) (append_assoc (operator_pieces operator) rights after)))
       (operator_first operator (rights ++ after)) in
-      let between' = operator_by commas name' operator (ap infix_named named ∙ row) (operator.name == 26) refl chain one.rest (rights ++ after) one.left in
+      let between' = operator_by commas name' operator (ap infix_named named ∙ row) (operator.name == comma_name) refl chain one.rest (rights ++ after) one.left in
       let two = part_read names right reads_right (last_most operator) commas between'.rest after between'.left fits in
       record {
         found = Application operator.name None (more one.found (more two.found none)) (joined (span_of one.found) (span_of two.found));
@@ -375,7 +375,7 @@ no_minus : (operator : Operator) → takes_two operator.fixity ≡ true → pref
     → (test : Bool) → (operator.name == 43) ≡ test → test && begins_with is_integer tokens ≡ false
 no_minus operator two row tokens true e =
     let minus = minus_row operator (ap prefix_named (sym (eqb-true operator.name 43 e)) ∙ row) in
-    absurd (true_not_false (sym two ∙ minus.0))
+    absurd (true≢false (sym two ∙ minus.0))
 no_minus operator two row tokens false e = refl
 
 module _ (names : List (List ℕ)) (name' : ℕ) (operator : Operator) (variables goal : Term) (span : Span) (row : prefix_named name' ≡ Some operator) (two : takes_two operator.fixity ≡ true)
@@ -385,10 +385,10 @@ module _ (names : List (List ℕ)) (name' : ℕ) (operator : Operator) (variable
       let named : operator.name ≡ name' = prefix_name name' operator row in
       let row' : prefix_named operator.name ≡ Some operator = ap prefix_named named ∙ row in
       let bound : List Piece = part_pieces 0 commas (part_of names variables) in
-      let enclosed : List Piece = Token Open ∷ (part_pieces 1200 true (part_of names goal) ++ Token Close ∷ []) in
+      let enclosed : List Piece = Token Open ∷ (part_pieces term_most true (part_of names goal) ++ Token Close ∷ []) in
       let first = take_token (Name operator.name) tokens (kinds_of ((bound ++ (Blank ∷ enclosed)) ++ after)) same in
       let one = part_read names variables reads_variables 0 commas first.rest (Blank ∷ (enclosed ++ after)) (first.left ∙ ap kinds_of (append_assoc bound (Blank ∷ enclosed) after)) refl in
-      let last = enclosed_read commas goal (part_pieces 1200 true (part_of names goal)) (λ tokens' after' same' fits'. part_read names goal reads_goal 1200 true tokens' after' same' fits') one.rest after one.left in
+      let last = enclosed_read commas goal (part_pieces term_most true (part_of names goal)) (λ tokens' after' same' fits'. part_read names goal reads_goal 1200 true tokens' after' same' fits') one.rest after one.left in
       record {
         found = Application operator.name None (more one.found (more last.found none)) (joined first.span (span_of last.found));
         priority = operator.priority;
@@ -409,9 +409,9 @@ module _ (names : List (List ℕ)) (name' : ℕ) (operator : Operator) (variable
 -- arguments
 
 arguments_read : (names : List (List ℕ)) (first : Term) (others : Terms) → Reads names first → AllRead names others → (tokens : List TokenOf) (after : List Piece)
-    → kinds tokens ≡ kinds_of ((part_pieces 1199 false (part_of names first) ++ other_pieces (parts_of names others)) ++ after) → ReadArguments (more first others) tokens after
+    → kinds tokens ≡ kinds_of ((part_pieces argument_most false (part_of names first) ++ other_pieces (parts_of names others)) ++ after) → ReadArguments (more first others) tokens after
 arguments_read names first none reads all tokens after same =
-    let one = part_read names first reads 1199 false tokens (Token Close ∷ after) (same ∙ ap kinds_of (append_assoc (part_pieces 1199 false (part_of names first)) (Token Close ∷ []) after)) refl in
+    let one = part_read names first reads 1199 false tokens (Token Close ∷ after) (same ∙ ap kinds_of (append_assoc (part_pieces argument_most false (part_of names first)) (Token Close ∷ []) after)) refl in
     let close = take_token Close one.rest (kinds_of after) one.left in
     record {
       found = more one.found none;
@@ -422,9 +422,9 @@ arguments_read names first none reads all tokens after same =
       same = ap (λ t. more t none) one.same;
     }
 arguments_read names first (more second others) reads all tokens after same =
-    let behind : List Piece = part_pieces 1199 false (part_of names second) ++ other_pieces (parts_of names others) in
+    let behind : List Piece = part_pieces argument_most false (part_of names second) ++ other_pieces (parts_of names others) in
     let one = part_read names first reads 1199 false tokens (Token Comma ∷ Blank ∷ (behind ++ after))
-    (same ∙ ap kinds_of (append_assoc (part_pieces 1199 false (part_of names first)) (Token Comma ∷ Blank ∷ behind) after)) refl in
+    (same ∙ ap kinds_of (append_assoc (part_pieces argument_most false (part_of names first)) (Token Comma ∷ Blank ∷ behind) after)) refl in
     let mark = take_token Comma one.rest (kinds_of (behind ++ after)) one.left in
     let inner = arguments_read names second others all.0 all.1 mark.rest after mark.left in
     record {
@@ -456,7 +456,7 @@ module _ (names : List (List ℕ)) (head tail : Term) (reads_head : Reads names 
   items_read : (tokens : List TokenOf) (after : List Piece) → kinds tokens ≡ kinds_of (item_pieces (part_of names head ∷ part_of names tail ∷ []) ++ Token CloseList ∷ after) → ReadItems head tail tokens after
   items_read tokens after same =
       let one = part_read names head reads_head 1199 false tokens ((part_of names tail).tail ++ Token CloseList ∷ after)
-      (same ∙ ap kinds_of (append_assoc (part_pieces 1199 false (part_of names head)) (part_of names tail).tail (Token CloseList ∷ after))) (reads_tail.tail_first after) in
+      (same ∙ ap kinds_of (append_assoc (part_pieces argument_most false (part_of names head)) (part_of names tail).tail (Token CloseList ∷ after))) (reads_tail.tail_first after) in
       let items = reads_tail.tail one.found one.priority tokens one.rest after one.spells one.within one.left in
       record {
         found = items.found;
@@ -525,7 +525,7 @@ module _ (names : List (List ℕ)) (fixed : HoldsFixed names) (name' : ℕ) (spa
 
   module _ (first : Term) (others : Terms) (reads : Reads names first) (all : AllRead names others) where
     abbrev inner : List Piece
-    inner = part_pieces 1199 false (part_of names first) ++ other_pieces (parts_of names others)
+    inner = part_pieces argument_most false (part_of names first) ++ other_pieces (parts_of names others)
 
     application_read : ReadsWhole (Application name' None (more first others) span) 0 false (λ commas. name_piece names name' ∷ Token OpenArgs ∷ inner)
     application_read commas tokens after chain same fits =
@@ -570,9 +570,9 @@ module _ (names : List (List ℕ)) (fixed : HoldsFixed names) (name' qualifier :
 
   module _ (first : Term) (others : Terms) (reads : Reads names first) (all : AllRead names others) where
     qualified_application_read : ReadsWhole (Application name' (Some qualifier) (more first others) span) 0 false
-        (λ commas. name_piece names qualifier ∷ Token Dot ∷ name_piece names name' ∷ Token OpenArgs ∷ (part_pieces 1199 false (part_of names first) ++ other_pieces (parts_of names others)))
+        (λ commas. name_piece names qualifier ∷ Token Dot ∷ name_piece names name' ∷ Token OpenArgs ∷ (part_pieces argument_most false (part_of names first) ++ other_pieces (parts_of names others)))
     qualified_application_read commas tokens after chain same fits =
-        let pieces : List Piece = part_pieces 1199 false (part_of names first) ++ other_pieces (parts_of names others) in
+        let pieces : List Piece = part_pieces argument_most false (part_of names first) ++ other_pieces (parts_of names others) in
         let start = take_name names fixed qualifier tokens (Token Dot ∷ name_piece names name' ∷ Token OpenArgs ∷ (pieces ++ after)) same in
         let mark = take_token Dot start.rest (kinds_of (name_piece names name' ∷ Token OpenArgs ∷ (pieces ++ after))) start.left in
         let last = take_name names fixed name' mark.rest (Token OpenArgs ∷ (pieces ++ after)) mark.left in
@@ -616,7 +616,7 @@ module _ (names : List (List ℕ)) (fixed : HoldsFixed names) (name' : ℕ) (spa
       (λ all. quantifier_read names name' operator variables goal span row two all.0 all.1.0))
   whole_by arguments form (is_plain_form f) = subst (λ g. Whole arguments g) (sym f) (plain_read arguments)
 
-  form_bounded : (arguments : Terms) (form : Form) → IsForm name' arguments form → form_priority form ≤ 1200
+  form_bounded : (arguments : Terms) (form : Form) → IsForm name' arguments form → form_priority form ≤ term_most
   form_bounded arguments form (is_list head tail a f cons) = rw f (omega arith)
   form_bounded arguments form (is_infix left right operator a f row) = rw f (infix_bounded name' operator row).high
   form_bounded arguments form (is_prefix operand operator a f row one) = rw f (prefix_bounded name' operator row).high
@@ -684,7 +684,7 @@ qualified_whole names fixed name' qualifier (more first others) span all = quali
 -- each term reads as it is written
 
 leaf_reads : (names : List (List ℕ)) (term : Term) (whole : ReadsWhole term (form_priority (part_of names term).form) (is_comma_form (part_of names term).form) (part_of names term).pieces)
-    → form_priority (part_of names term).form ≤ 1200 → bar_pieces (part_pieces 1199 false (part_of names term)) ≡ (part_of names term).tail
+    → form_priority (part_of names term).form ≤ term_most → bar_pieces (part_pieces argument_most false (part_of names term)) ≡ (part_of names term).tail
     → ((after : List Piece) → begins goes_on_name (kinds_of ((part_of names term).tail ++ Token CloseList ∷ after)) ≡ false) → Reads names term
 leaf_reads names term whole bounded barred' first = record { bounded = bounded; whole = whole; tail = tail_by_bar names term bounded whole barred'; tail_first = first }
 

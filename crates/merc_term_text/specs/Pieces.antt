@@ -2,6 +2,7 @@
 use Rattle.std.specs.Prelude.{ℕ, List, [], ◌∷◌, if◌then◌else◌, codes}
 use Rattle.std.specs.List.{flat_map}
 use Rattle.std.specs.Fmt.{decimal}
+use Rattle.merc_base.specs.Characters.{double_quote_code, quote_code}
 use Rattle.merc_value.specs.Text.{text_at, quoted, is_plain}
 use Rattle.merc_tokens.specs.declared.token.TokenKind.{TokenKind}
 use Rattle.merc_tokens.specs.declared.token.TokenKind.TheVariants.{Name, Quoted, Var, Int, Text as TextToken, OpenArgs, Open, Close, OpenList, CloseList, Comma, Bar, Dot, Stop}
@@ -13,10 +14,10 @@ pub data Piece : Type 0 where
 
 abbrev pub token_text : List (List ℕ) → TokenKind → List ℕ
 token_text names (Name name) = text_at names name
-token_text names (Quoted name) = quoted 39 (text_at names name)
+token_text names (Quoted name) = quoted quote_code (text_at names name)
 token_text names (Var name) = text_at names name
 token_text names (Int value) = decimal value
-token_text names (TextToken name) = quoted 34 (text_at names name)
+token_text names (TextToken name) = quoted double_quote_code (text_at names name)
 token_text names OpenArgs = codes "("
 token_text names Open = codes "("
 token_text names Close = codes ")"

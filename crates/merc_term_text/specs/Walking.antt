@@ -1,9 +1,10 @@
 -- What the writer of terms has still to do, on its stack.
 use Rattle.std.specs.Prelude.{◌≡◌, ℕ, ◌+◌, ◌*◌, ◌<◌, ◌≤◌, Bool, true, false, ◌==◌, ◌&&◌, not, List, [], ◌∷◌, ◌++◌, length, Option, Some, None, if◌then◌else◌}
+use Rattle.merc_base.specs.Names.{cons_name, nil_name}
 use Rattle.merc_tokens.specs.declared.token.TokenKind.TheVariants.{Name, Var, Text as TextToken, OpenArgs, Open, Close, OpenList, CloseList, Comma, Bar, Dot}
 use Rattle.merc_tree.specs.Term.{Term, Terms, Variable, Integer, Text, Application, none, more, list_of}
 use Rattle.merc_terms.specs.declared.operators.Operator.{Operator}
-use Rattle.merc_terms.specs.Operators.{infix_named, prefix_named, takes_two}
+use Rattle.merc_terms.specs.Operators.{infix_named, prefix_named, takes_two, argument_most, term_most}
 use Rattle.merc_term_text.specs.Pieces.{Piece, Blank, Token, name_piece}
 use Rattle.merc_term_text.specs.Written.{Form, ListForm, InfixForm, PrefixForm, QuantifierForm, PlainForm, infix_form, part_of, part_pieces, operand_pieces, other_pieces, integer_pieces, Part}
 use Rattle.merc_term_text.specs.declared.form.Form.{Form as CodeForm}
@@ -38,7 +39,7 @@ rest_form name arity = rest_form_of (prefix_named name) arity
 abbrev pub arity_form : ℕ → ℕ → Form
 arity_form name arity =
     if not (arity == 2) then rest_form name arity
-    else if name == 2 then ListForm
+    else if name == cons_name then ListForm
     else infix_form (infix_named name) (rest_form name arity)
 
 -- the pieces of a mark
@@ -114,11 +115,11 @@ pub record Takes (pieces : List (List ℕ) → List Piece) (heavy : ℕ) (old ne
 -- the parenthesis behind a name, the arguments and the closing parenthesis, where there are arguments
 abbrev pub arguments_pieces : List Part → List Piece
 arguments_pieces [] = []
-arguments_pieces (first ∷ rest) = Token OpenArgs ∷ (part_pieces 1199 false first ++ other_pieces rest)
+arguments_pieces (first ∷ rest) = Token OpenArgs ∷ (part_pieces argument_most false first ++ other_pieces rest)
 
 -- a blank and a quantifier's goal
 abbrev pub goal_pieces : Part → List Piece
-goal_pieces goal = Blank ∷ Token Open ∷ (part_pieces 1200 true goal ++ Token Close ∷ [])
+goal_pieces goal = Blank ∷ Token Open ∷ (part_pieces term_most true goal ++ Token Close ∷ [])
 
 -- what stands before the argument that follows so many
 abbrev pub mark_before : ℕ → Mark
@@ -126,12 +127,12 @@ mark_before count = if count == 0 then OpenArgumentsMark else CommaMark
 
 -- a name with its qualifier, before so many arguments
 abbrev pub head_pieces : List (List ℕ) → ℕ → Option ℕ → ℕ → List Piece
-head_pieces names name None arity = if name == 1 && arity == 0 then Token OpenList ∷ Token CloseList ∷ [] else name_piece names name ∷ []
+head_pieces names name None arity = if name == nil_name && arity == 0 then Token OpenList ∷ Token CloseList ∷ [] else name_piece names name ∷ []
 head_pieces names name (Some qualifier) arity = name_piece names qualifier ∷ Token Dot ∷ name_piece names name ∷ []
 
 -- whether a term is the empty list
 abbrev pub is_nil_shape : ℕ → Option ℕ → ℕ → Bool
-is_nil_shape name None arity = name == 1 && arity == 0
+is_nil_shape name None arity = name == nil_name && arity == 0
 is_nil_shape name (Some qualifier) arity = false
 
 abbrev pub is_nil_term : Term → Bool

@@ -1,11 +1,12 @@
 -- How a term is written: with as few parentheses as the operators' priorities ask for, but for the goal of a quantifier and an integer behind a prefix
 -- operator.
 use Rattle.std.specs.Prelude.{ℕ, ◌+◌, ℤ, pos, negsuc, Bool, true, false, ◌==◌, ◌&&◌, ◌||◌, not, nat_lt, List, [], ◌∷◌, ◌++◌, Option, Some, None, if◌then◌else◌}
+use Rattle.merc_base.specs.Names.{comma_name, cons_name, nil_name, minus_name}
 use Rattle.merc_tokens.specs.declared.token.TokenKind.TheVariants.{Name, Var, Int, Text as TextToken, OpenArgs, Open, Close, OpenList, CloseList, Comma, Bar, Dot}
 use Rattle.merc_tree.specs.Term.{Term, Terms, Variable, Integer, Text, Application, none, more}
 use Rattle.merc_tree.specs.Nesting.{are_two}
 use Rattle.merc_terms.specs.declared.operators.Operator.{Operator}
-use Rattle.merc_terms.specs.Operators.{infix_named, prefix_named, first_most, last_most, takes_two}
+use Rattle.merc_terms.specs.Operators.{infix_named, prefix_named, first_most, last_most, takes_two, argument_most, term_most}
 use Rattle.merc_term_text.specs.Pieces.{Piece, Blank, Token, name_piece, pieces_text}
 
 -- how an application is written
@@ -36,7 +37,7 @@ infix_form (Some operator) other = InfixForm operator
 abbrev pub form_of : ℕ → Option ℕ → Terms → Form
 form_of name (Some qualifier) arguments = PlainForm
 form_of name None arguments =
-    if name == 2 && are_two arguments then ListForm
+    if name == cons_name && are_two arguments then ListForm
     else if are_two arguments then infix_form (infix_named name) (prefix_form false true (prefix_named name))
     else prefix_form (is_one arguments) false (prefix_named name)
 
@@ -50,7 +51,7 @@ form_priority PlainForm = 0
 
 abbrev pub is_comma_form : Form → Bool
 is_comma_form ListForm = false
-is_comma_form (InfixForm operator) = operator.name == 26
+is_comma_form (InfixForm operator) = operator.name == comma_name
 is_comma_form (PrefixForm operator) = false
 is_comma_form (QuantifierForm operator) = false
 is_comma_form PlainForm = false
@@ -87,7 +88,7 @@ operand_pieces max commas part = enclosed_if part.is_integer (part_pieces max co
 
 abbrev pub integer_pieces : ℤ → List Piece
 integer_pieces (pos n) = Token (Int n) ∷ []
-integer_pieces (negsuc n) = Token (Name 43) ∷ Token (Int (n + 1)) ∷ []
+integer_pieces (negsuc n) = Token (Name minus_name) ∷ Token (Int (n + 1)) ∷ []
 
 -- a name with its qualifier
 abbrev pub qualified_pieces : List (List ℕ) → ℕ → Option ℕ → List Piece
@@ -95,31 +96,31 @@ qualified_pieces names name None = name_piece names name ∷ []
 qualified_pieces names name (Some qualifier) = name_piece names qualifier ∷ Token Dot ∷ name_piece names name ∷ []
 
 abbrev pub constant_pieces : List (List ℕ) → ℕ → Option ℕ → List Piece
-constant_pieces names name None = if name == 1 then Token OpenList ∷ Token CloseList ∷ [] else name_piece names name ∷ []
+constant_pieces names name None = if name == nil_name then Token OpenList ∷ Token CloseList ∷ [] else name_piece names name ∷ []
 constant_pieces names name (Some qualifier) = qualified_pieces names name (Some qualifier)
 
 -- an infix operator between its operands
 abbrev pub operator_pieces : Operator → List Piece
-operator_pieces operator = if operator.name == 26 then Token Comma ∷ Blank ∷ [] else Blank ∷ Token (Name operator.name) ∷ Blank ∷ []
+operator_pieces operator = if operator.name == comma_name then Token Comma ∷ Blank ∷ [] else Blank ∷ Token (Name operator.name) ∷ Blank ∷ []
 
 -- whether a name with these arguments is the empty list
 abbrev pub is_nil : ℕ → Option ℕ → List Part → Bool
-is_nil name None [] = name == 1
+is_nil name None [] = name == nil_name
 is_nil name None (first ∷ rest) = false
 is_nil name (Some qualifier) parts = false
 
 -- the arguments behind the first, and the closing parenthesis
 abbrev pub other_pieces : List Part → List Piece
 other_pieces [] = Token Close ∷ []
-other_pieces (next ∷ rest) = Token Comma ∷ Blank ∷ (part_pieces 1199 false next ++ other_pieces rest)
+other_pieces (next ∷ rest) = Token Comma ∷ Blank ∷ (part_pieces argument_most false next ++ other_pieces rest)
 
 abbrev pub plain_pieces : List (List ℕ) → ℕ → Option ℕ → List Part → List Piece
 plain_pieces names name qualifier [] = constant_pieces names name qualifier
-plain_pieces names name qualifier (first ∷ rest) = qualified_pieces names name qualifier ++ (Token OpenArgs ∷ (part_pieces 1199 false first ++ other_pieces rest))
+plain_pieces names name qualifier (first ∷ rest) = qualified_pieces names name qualifier ++ (Token OpenArgs ∷ (part_pieces argument_most false first ++ other_pieces rest))
 
 -- the items of a list from a cell with these arguments on, without a bracket
 abbrev pub item_pieces : List Part → List Piece
-item_pieces (head ∷ tail ∷ []) = part_pieces 1199 false head ++ tail.tail
+item_pieces (head ∷ tail ∷ []) = part_pieces argument_most false head ++ tail.tail
 item_pieces [] = []
 item_pieces (only ∷ []) = []
 item_pieces (first ∷ second ∷ third ∷ rest) = []
@@ -139,7 +140,7 @@ prefix_pieces commas operator (first ∷ second ∷ rest) = []
 -- a quantifier, whose goal stands in parentheses
 abbrev pub quantifier_pieces : Bool → Operator → List Part → List Piece
 quantifier_pieces commas operator (variables ∷ goal ∷ []) =
-    Token (Name operator.name) ∷ Blank ∷ (part_pieces 0 commas variables ++ (Blank ∷ Token Open ∷ (part_pieces 1200 true goal ++ Token Close ∷ [])))
+    Token (Name operator.name) ∷ Blank ∷ (part_pieces 0 commas variables ++ (Blank ∷ Token Open ∷ (part_pieces term_most true goal ++ Token Close ∷ [])))
 quantifier_pieces commas operator [] = []
 quantifier_pieces commas operator (only ∷ []) = []
 quantifier_pieces commas operator (first ∷ second ∷ third ∷ rest) = []
@@ -159,8 +160,8 @@ bar_pieces pieces = Blank ∷ Token Bar ∷ Blank ∷ pieces
 -- the part as a list's tail: nothing for the empty list, further items for a cell
 abbrev pub tail_pieces : List (List ℕ) → Form → ℕ → Option ℕ → List Part → List Piece
 tail_pieces names ListForm name qualifier parts = Token Comma ∷ Blank ∷ item_pieces parts
-tail_pieces names (InfixForm operator) name qualifier parts = bar_pieces (enclosed_if (is_enclosed 1199 false (InfixForm operator)) (infix_pieces (is_enclosed 1199 false (InfixForm operator)) operator parts))
-tail_pieces names (PrefixForm operator) name qualifier parts = bar_pieces (enclosed_if (is_enclosed 1199 false (PrefixForm operator)) (prefix_pieces (is_enclosed 1199 false (PrefixForm operator)) operator parts))
+tail_pieces names (InfixForm operator) name qualifier parts = bar_pieces (enclosed_if (is_enclosed argument_most false (InfixForm operator)) (infix_pieces (is_enclosed argument_most false (InfixForm operator)) operator parts))
+tail_pieces names (PrefixForm operator) name qualifier parts = bar_pieces (enclosed_if (is_enclosed argument_most false (PrefixForm operator)) (prefix_pieces (is_enclosed argument_most false (PrefixForm operator)) operator parts))
 tail_pieces names (QuantifierForm operator) name qualifier parts = bar_pieces (quantifier_pieces false operator parts)
 tail_pieces names PlainForm name qualifier parts = if is_nil name qualifier parts then [] else bar_pieces (plain_pieces names name qualifier parts)
 

@@ -1,15 +1,39 @@
 -- Worked examples of how terms are written, which the prover computes, and false statements that it refutes.
 use Rattle.std.specs.Prelude.{◌≡◌, ℕ, pos, negsuc, List, [], ◌∷◌, ◌++◌, Some, None, codes, refl}
 use Rattle.std.specs.Fmt.{digits}
-use Rattle.merc_base.specs.Names.{fixed_names}
+use Rattle.merc_base.specs.Names.{fixed_names, arrow_name, colon_minus_name, comma_name, cons_name, else_name, if_name, minus_name, mode_name, nil_name, semicolon_name, some_name, then_name}
 use Rattle.merc_value.specs.Text.{word_operators}
 use Rattle.merc_tree.specs.Term.{Term, Variable, Integer, Application, none, more, no_span}
 use Rattle.merc_terms.specs.Operators.{operators}
 use Rattle.merc_term_text.specs.Written.{term_text}
 
--- the constants, and some names behind them, by number from 82
+-- the constants, and some names behind them
 abbrev names : List (List ℕ)
 names = fixed_names ++ (codes "a" ∷ codes "b" ∷ codes "c" ∷ codes "p" ∷ codes "X" ∷ codes "Y" ∷ codes "Z" ∷ codes "two words" ∷ [])
+
+abbrev a_name : ℕ
+a_name = 82
+
+abbrev b_name : ℕ
+b_name = 83
+
+abbrev c_name : ℕ
+c_name = 84
+
+abbrev p_name : ℕ
+p_name = 85
+
+abbrev x_name : ℕ
+x_name = 86
+
+abbrev y_name : ℕ
+y_name = 87
+
+abbrev z_name : ℕ
+z_name = 88
+
+abbrev two_words_name : ℕ
+two_words_name = 89
 
 abbrev atom : ℕ → Term
 atom name = Application name None none no_span
@@ -21,61 +45,61 @@ abbrev two : ℕ → Term → Term → Term
 two name left right = Application name None (more left (more right none)) no_span
 
 abbrev a : Term
-a = atom 82
+a = atom a_name
 
 abbrev b : Term
-b = atom 83
+b = atom b_name
 
 abbrev c : Term
-c = atom 84
+c = atom c_name
 
 abbrev x : Term
-x = Variable 86 no_span
+x = Variable x_name no_span
 
 abbrev y : Term
-y = Variable 87 no_span
+y = Variable y_name no_span
 
 abbrev z : Term
-z = Variable 88 no_span
+z = Variable z_name no_span
 
 abbrev int : ℕ → Term
 int value = Integer (pos value) no_span
 
 -- A clause binds looser than its body's commas. A second clause mark needs parentheses on both sides.
 
-pub clause : term_text names (two 10 a (two 26 b c)) ≡ codes "a :- b, c"
+pub clause : term_text names (two colon_minus_name a (two comma_name b c)) ≡ codes "a :- b, c"
 unfolding operators fixed_names word_operators
 clause = refl
 
-pub clause-left : term_text names (two 10 (two 10 a b) c) ≡ codes "(a :- b) :- c"
+pub clause-left : term_text names (two colon_minus_name (two colon_minus_name a b) c) ≡ codes "(a :- b) :- c"
 unfolding operators fixed_names word_operators
 clause-left = refl
 
-pub clause-not : term_text names (two 10 (two 10 a b) c) ≡ codes "a :- b :- c" → ⊥
+pub clause-not : term_text names (two colon_minus_name (two colon_minus_name a b) c) ≡ codes "a :- b :- c" → ⊥
 unfolding operators fixed_names word_operators
 clause-not bare = cc
 
 -- Subtraction chains go on to the left.
 
-pub minus-left : term_text names (two 43 (two 43 x y) z) ≡ codes "X - Y - Z"
+pub minus-left : term_text names (two minus_name (two minus_name x y) z) ≡ codes "X - Y - Z"
 unfolding operators fixed_names
 minus-left = refl
 
-pub minus-right : term_text names (two 43 x (two 43 y z)) ≡ codes "X - (Y - Z)"
+pub minus-right : term_text names (two minus_name x (two minus_name y z)) ≡ codes "X - (Y - Z)"
 unfolding operators fixed_names
 minus-right = refl
 
-pub minus-not : term_text names (two 43 x (two 43 y z)) ≡ term_text names (two 43 (two 43 x y) z) → ⊥
+pub minus-not : term_text names (two minus_name x (two minus_name y z)) ≡ term_text names (two minus_name (two minus_name x y) z) → ⊥
 unfolding operators fixed_names
 minus-not same = cc
 
 -- A conjunction goes on to the right.
 
-pub and-right : term_text names (two 26 x (two 26 y z)) ≡ codes "X, Y, Z"
+pub and-right : term_text names (two comma_name x (two comma_name y z)) ≡ codes "X, Y, Z"
 unfolding operators fixed_names
 and-right = refl
 
-pub and-left : term_text names (two 26 (two 26 x y) z) ≡ codes "(X, Y), Z"
+pub and-left : term_text names (two comma_name (two comma_name x y) z) ≡ codes "(X, Y), Z"
 unfolding operators fixed_names
 and-left = refl
 
@@ -85,104 +109,104 @@ pub negative : term_text names (Integer (negsuc 0) no_span) ≡ codes "-1"
 unfolding operators fixed_names digits
 negative = refl
 
-pub negated-one : term_text names (one 43 (int 1)) ≡ codes "- (1)"
+pub negated-one : term_text names (one minus_name (int 1)) ≡ codes "- (1)"
 unfolding operators fixed_names digits
 negated-one = refl
 
-pub negated-variable : term_text names (one 43 x) ≡ codes "- X"
+pub negated-variable : term_text names (one minus_name x) ≡ codes "- X"
 unfolding operators fixed_names
 negated-variable = refl
 
-pub negated-not : term_text names (one 43 (int 1)) ≡ codes "- 1" → ⊥
+pub negated-not : term_text names (one minus_name (int 1)) ≡ codes "- 1" → ⊥
 unfolding operators fixed_names digits
 negated-not bare = cc
 
 -- Lists, with and without a tail behind a bar.
 
-pub list : term_text names (two 2 (int 1) (two 2 (int 2) (atom 1))) ≡ codes "[1, 2]"
+pub list : term_text names (two cons_name (int 1) (two cons_name (int 2) (atom nil_name))) ≡ codes "[1, 2]"
 unfolding operators fixed_names digits
 list = refl
 
-pub list-tail : term_text names (two 2 (int 1) (two 2 (int 2) x)) ≡ codes "[1, 2 | X]"
+pub list-tail : term_text names (two cons_name (int 1) (two cons_name (int 2) x)) ≡ codes "[1, 2 | X]"
 unfolding operators fixed_names digits
 list-tail = refl
 
-pub list-nil : term_text names (atom 1) ≡ codes "[]"
+pub list-nil : term_text names (atom nil_name) ≡ codes "[]"
 unfolding operators fixed_names
 list-nil = refl
 
-pub list-not : term_text names (two 2 (int 1) x) ≡ codes "[1, X]" → ⊥
+pub list-not : term_text names (two cons_name (int 1) x) ≡ codes "[1, X]" → ⊥
 unfolding operators fixed_names digits
 list-not no_bar = cc
 
 -- Names in quotes where they are not plain, as operators' names are where they stand alone.
 
-pub quoted-name : term_text names (one 89 a) ≡ codes "'two words'(a)"
+pub quoted-name : term_text names (one two_words_name a) ≡ codes "'two words'(a)"
 unfolding operators fixed_names word_operators
 quoted-name = refl
 
-pub operator-alone : term_text names (one 85 (atom 43)) ≡ codes "p('-')"
+pub operator-alone : term_text names (one p_name (atom minus_name)) ≡ codes "p('-')"
 unfolding operators fixed_names word_operators
 operator-alone = refl
 
-pub operator-not : term_text names (one 85 (atom 43)) ≡ codes "p(-)" → ⊥
+pub operator-not : term_text names (one p_name (atom minus_name)) ≡ codes "p(-)" → ⊥
 unfolding operators fixed_names word_operators
 operator-not bare = cc
 
 -- An operator's name with another number of arguments, or with a qualifier, is written as a plain name.
 
-pub operator-three : term_text names (Application 43 None (more x (more y (more z none))) no_span) ≡ codes "'-'(X, Y, Z)"
+pub operator-three : term_text names (Application minus_name None (more x (more y (more z none))) no_span) ≡ codes "'-'(X, Y, Z)"
 unfolding operators fixed_names word_operators
 operator-three = refl
 
-pub qualified : term_text names (Application 43 (Some 85) (more x (more y none)) no_span) ≡ codes "p.'-'(X, Y)"
+pub qualified : term_text names (Application minus_name (Some p_name) (more x (more y none)) no_span) ≡ codes "p.'-'(X, Y)"
 unfolding operators fixed_names word_operators
 qualified = refl
 
 -- A quantifier before its variables and its goal.
 
-pub some : term_text names (two 27 (two 2 x (atom 1)) (one 85 x)) ≡ codes "some [X] (p(X))"
+pub some : term_text names (two some_name (two cons_name x (atom nil_name)) (one p_name x)) ≡ codes "some [X] (p(X))"
 unfolding operators fixed_names word_operators
 some = refl
 
-pub some-not : term_text names (two 27 (two 2 x (atom 1)) (one 85 x)) ≡ codes "some [X] p(X)" → ⊥
+pub some-not : term_text names (two some_name (two cons_name x (atom nil_name)) (one p_name x)) ≡ codes "some [X] p(X)" → ⊥
 unfolding operators fixed_names word_operators
 some-not bare = cc
 
 -- If-then-else, in its two forms.
 
-pub if_else : term_text names (two 20 (one 21 (two 22 a b)) c) ≡ codes "if a then b else c"
+pub if_else : term_text names (two else_name (one if_name (two then_name a b)) c) ≡ codes "if a then b else c"
 unfolding operators fixed_names word_operators
 if_else = refl
 
-pub arrow : term_text names (two 23 (two 24 a b) c) ≡ codes "a -> b ; c"
+pub arrow : term_text names (two semicolon_name (two arrow_name a b) c) ≡ codes "a -> b ; c"
 unfolding operators fixed_names word_operators
 arrow = refl
 
 -- A chain of commas stands in parentheses as an argument and as a list item, also behind a looser operator's, and not inside parentheses.
 
-pub comma-argument : term_text names (Application 85 None (more (two 26 a b) (more c none)) no_span) ≡ codes "p((a, b), c)"
+pub comma-argument : term_text names (Application p_name None (more (two comma_name a b) (more c none)) no_span) ≡ codes "p((a, b), c)"
 unfolding operators fixed_names word_operators
 comma-argument = refl
 
-pub comma-item : term_text names (two 2 (two 26 a b) (atom 1)) ≡ codes "[(a, b)]"
+pub comma-item : term_text names (two cons_name (two comma_name a b) (atom nil_name)) ≡ codes "[(a, b)]"
 unfolding operators fixed_names word_operators
 comma-item = refl
 
-pub comma-inside : term_text names (one 85 (two 23 (two 26 a b) c)) ≡ codes "p((a, b) ; c)"
+pub comma-inside : term_text names (one p_name (two semicolon_name (two comma_name a b) c)) ≡ codes "p((a, b) ; c)"
 unfolding operators fixed_names word_operators
 comma-inside = refl
 
-pub comma-not : term_text names (one 85 (two 26 a b)) ≡ codes "p(a, b)" → ⊥
+pub comma-not : term_text names (one p_name (two comma_name a b)) ≡ codes "p(a, b)" → ⊥
 unfolding operators fixed_names word_operators
 comma-not bare = cc
 
 -- A clause as an argument: only 1199 may stand there.
 
-pub clause-argument : term_text names (one 85 (two 10 a b)) ≡ codes "p((a :- b))"
+pub clause-argument : term_text names (one p_name (two colon_minus_name a b)) ≡ codes "p((a :- b))"
 unfolding operators fixed_names word_operators
 clause-argument = refl
 
-pub declaration-argument : term_text names (one 85 (one 15 a)) ≡ codes "p(mode a)"
+pub declaration-argument : term_text names (one p_name (one mode_name a)) ≡ codes "p(mode a)"
 unfolding operators fixed_names word_operators
 declaration-argument = refl

@@ -2,8 +2,6 @@
 #![tactic(auto)]
 
 mod form;
-#[cfg(test)]
-mod tests;
 mod work;
 pub mod writing;
 

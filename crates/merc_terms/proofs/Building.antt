@@ -2,6 +2,7 @@
 use Rattle.std.proofs.Common.{◌≡◌, ℕ, zero, suc, ◌+◌, ◌-◌, ℤ, pos, negsuc, neg_ℤ, Bool, true, false, ◌||◌, not, nat_lt, List, [], ◌∷◌, ◌++◌, length, take, drop, Option, None, refl, sym, ap, ◌∙◌, arith, append_assoc, append-nil, length-append}
 use Rattle.std.specs.Bool.{if◌then◌else◌}
 use Rattle.merc_base.specs.declared.place.Span.{Span}
+use Rattle.merc_tokens.specs.Integers.{integer_limit}
 use Rattle.merc_tree.specs.Term.{Term, Terms, Variable, Integer, Text, Application, none, more, terms_of, list_of, span_of, with_span, applied, enclosed}
 use Rattle.merc_terms.specs.declared.built.Built.{Built}
 use Rattle.merc_terms.specs.Reader.{fits, with_term, with_integer, clipped, clipped_all, is_great, are_great, pushed, with_application, with_cells, with_list, with_enclosed}
@@ -43,11 +44,11 @@ by_fit false value span built = built_is refl (or_true built.is_great)
     or_true false = refl
 
 pub pushed_integer : (value : ℕ) (span : Span) (built : Built) → with_integer false value span built ≡ pushed (Integer (pos value) span) built
-pushed_integer value span built = by_fit (nat_lt value 9223372036854775808) (pos value) span built
+pushed_integer value span built = by_fit (nat_lt value integer_limit) (pos value) span built
 
 pub pushed_negative : (value : ℕ) (span : Span) (built : Built) → with_integer true value span built ≡ pushed (Integer (neg_ℤ (pos value)) span) built
 pushed_negative zero span built = pushed_fitting (Integer (pos 0) span) built refl refl
-pushed_negative (suc value) span built = by_fit (nat_lt value 9223372036854775808) (negsuc value) span built
+pushed_negative (suc value) span built = by_fit (nat_lt value integer_limit) (negsuc value) span built
 
 -- terms that were read one after the other, the newest first
 

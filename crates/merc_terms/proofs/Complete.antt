@@ -3,6 +3,7 @@ use Rattle.std.proofs.Common.{◌≡◌, ℕ, suc, ◌+◌, ◌<◌, ◌≤◌, 
 use Rattle.std.specs.Bool.{if◌then◌else◌}
 use Rattle.std.proofs.lemmas.Option.{same_Some}
 use Rattle.merc_base.specs.declared.place.Span.{Span}
+use Rattle.merc_base.specs.Names.{comma_name, comma_name, minus_name, nil_name}
 use Rattle.merc_tokens.specs.declared.token.Token.{Token}
 use Rattle.merc_tokens.specs.declared.token.TokenKind.{TokenKind}
 use Rattle.merc_tokens.specs.declared.token.TokenKind.TheVariants.{Name, Quoted, Var, Int, Text as TextToken, OpenArgs, Open, Close, OpenList, CloseList, Comma, Bar, Dot, Stop}
@@ -13,7 +14,7 @@ use Rattle.merc_terms.specs.declared.frame.Frame.{Frame}
 use Rattle.merc_terms.specs.declared.operators.Operator.{Operator}
 use Rattle.merc_terms.specs.declared.starting.Start.{Start}
 use Rattle.merc_terms.specs.declared.starting.Start.TheVariants.{Variable as VariableStart, Integer as IntegerStart, Text as TextStart, Constant, Application as ApplicationStart, List as ListStart, Parenthesis, Prefix}
-use Rattle.merc_terms.specs.Operators.{infix_named, prefix_named, first_most, last_most, takes_two}
+use Rattle.merc_terms.specs.Operators.{infix_named, prefix_named, first_most, last_most, takes_two, term_most, argument_most}
 use Rattle.merc_terms.specs.Reading.{token, joined, begins_with, is_integer, goes_on_name, is_infix_name, leaves_plain, is_left_plain, is_sign, IsName, plain, left_plain, quoted, IsQualified, unquoted, quoted as quoted_behind, IsOpen, alone, behind_operator, IsPrefix, IsInfix, name as infix_name, comma as infix_comma, Spells, variable, integer, negative, text, constant, qualified, application, qualified_application, empty_list, list, parenthesis, before as spells_before, quantifier, between, SpellsArguments, last_argument, argument, SpellsItems, last_item, items_tail, item, cell, nil}
 use Rattle.merc_terms.specs.Starting.{named_at, named_before, qualified_start, is_mark, plain_start, operator_start, is_list_end, list_start, start_with, start_at}
 use Rattle.merc_terms.specs.declared.built.Built.{Built}
@@ -61,12 +62,12 @@ plain_start-qualified kind qualifier name span mark last rest (unquoted _) = ref
 plain_start-qualified kind qualifier name span mark last rest (quoted_behind _) = refl
 
 not_sign : (name : ℕ) (rest : List Token) → is_left_plain rest ≡ true → is_sign name rest ≡ false
-not_sign name [] left = and_false (name == 43)
+not_sign name [] left = and_false (name == minus_name)
   where
     and_false : (b : Bool) → (b && false) ≡ false
     and_false true = refl
     and_false false = refl
-not_sign name (first ∷ rest) left = by first.kind (name == 43) left
+not_sign name (first ∷ rest) left = by first.kind (name == minus_name) left
   where
     by : (kind : TokenKind) (b : Bool) → leaves_plain kind ≡ true → (b && is_integer kind) ≡ false
     by (Int value) b left = cc
@@ -104,7 +105,7 @@ IsInfix-unique commas kind one other (infix_comma _ found) (infix_comma _ found'
 
 IsInfix-apart : (commas : Bool) (kind : TokenKind) (operator : Operator) → IsInfix commas kind operator → IsApart operator
 IsInfix-apart commas kind operator (infix_name _ name _ found) = infix_apart name operator found
-IsInfix-apart commas kind operator (infix_comma _ found) = infix_apart 26 operator found
+IsInfix-apart commas kind operator (infix_comma _ found) = infix_apart comma_name operator found
 
 fitting-found : (bound : Bound) (priority : ℕ) (operator : Operator) (rest : List Token) (found : Option Operator) → found ≡ Some operator
     → operator.priority ≤ bound.max → priority ≤ first_most operator → fitting bound priority found rest ≡ Some (operator, rest)
@@ -117,7 +118,7 @@ infix_at-found : (commas : Bool) (kind : TokenKind) (operator : Operator) → Is
     → bound.commas ≡ commas → operator.priority ≤ bound.max → priority ≤ first_most operator → infix_at bound priority (token kind mark ∷ rest) ≡ Some (operator, rest)
 infix_at-found commas kind operator (infix_name _ name _ found) bound priority mark rest same low high = fitting-found bound priority operator rest (infix_named name) found low high
 infix_at-found commas kind operator (infix_comma _ found) bound priority mark rest same low high =
-    if_true bound.commas _ _ same ∙ fitting-found bound priority operator rest (infix_named 26) found low high
+    if_true bound.commas _ _ same ∙ fitting-found bound priority operator rest (infix_named comma_name) found low high
 
 -- a term of this priority may stand before each infix operator that these tokens begin with
 abbrev Follows : Bool → ℕ → List Token → Type 0
@@ -216,7 +217,7 @@ tail-built bound built other span priority rest is =
     sym (settled_tail-by bound built span priority rest) ∙ ap (λ (b : Built). settled_tail bound b span priority rest) is
 
 parenthesis-leads : (commas : Bool) (kind : TokenKind) (term : Term) (priority : ℕ) (open' close : Span) (inner rest : List Token) → IsOpen kind
-    → Leads true term priority inner (token Close close ∷ rest) → priority ≤ 1200 → Leads commas (with_span (joined open' close) term) 0 (token kind open' ∷ inner) rest
+    → Leads true term priority inner (token Close close ∷ rest) → priority ≤ term_most → Leads commas (with_span (joined open' close) term) 0 (token kind open' ∷ inner) rest
 parenthesis-leads commas kind term priority open' close inner rest opens leads low bound built same within follows =
     let s = joined open' close in
     begun bound built (token kind open' ∷ inner) (Parenthesis open') inner (start_with-open kind open' inner opens)
@@ -233,7 +234,7 @@ LeadsArguments terms close tokens rest =
     → settled_filled (frame_of (Argument name qualifier span count) bound) (settled_term argument_bound (pushed_back before built) tokens)
     ≡ settled_tail bound (pushed (Application name qualifier (behind before terms) (joined span close)) built) (joined span close) 0 rest
 
-last_argument-leads : (term : Term) (priority : ℕ) (close : Span) (tokens rest : List Token) → Leads false term priority tokens (token Close close ∷ rest) → priority ≤ 1199
+last_argument-leads : (term : Term) (priority : ℕ) (close : Span) (tokens rest : List Token) → Leads false term priority tokens (token Close close ∷ rest) → priority ≤ argument_most
     → LeadsArguments (more term none) close tokens rest
 last_argument-leads term priority close tokens rest leads low name qualifier span count bound built before is =
     filled-part (frame_of (Argument name qualifier span count) bound) (settled_term argument_bound (pushed_back before built) tokens)
@@ -242,7 +243,7 @@ last_argument-leads term priority close tokens rest leads low name qualifier spa
     ∙ tail-built bound _ _ (joined span close) 0 rest (pushed_application name qualifier count (joined span close) (term ∷ before) built is)
 
 argument-leads : (term : Term) (terms : Terms) (priority : ℕ) (mark close : Span) (tokens middle rest : List Token) → Leads false term priority tokens (token Comma mark ∷ middle)
-    → priority ≤ 1199 → LeadsArguments terms close middle rest → LeadsArguments (more term terms) close tokens rest
+    → priority ≤ argument_most → LeadsArguments terms close middle rest → LeadsArguments (more term terms) close tokens rest
 argument-leads term terms priority mark close tokens middle rest leads low others name qualifier span count bound built before is =
     filled-part (frame_of (Argument name qualifier span count) bound) (settled_term argument_bound (pushed_back before built) tokens)
     (read_of term (pushed_back before built) priority (token Comma mark ∷ middle))
@@ -258,7 +259,7 @@ LeadsItems whole term close tokens rest =
     ≡ settled_tail bound (pushed (cells whole before term) built) whole 0 rest
 
 last_item-leads : (whole : Span) (term : Term) (priority : ℕ) (close : Span) (tokens rest : List Token) → Leads false term priority tokens (token CloseList close ∷ rest)
-    → priority ≤ 1199 → LeadsItems whole (cell whole term (nil whole)) close tokens rest
+    → priority ≤ argument_most → LeadsItems whole (cell whole term (nil whole)) close tokens rest
 last_item-leads whole term priority close tokens rest leads low span count bound built before at is =
     filled-part (frame_of (Item span count) bound) (settled_term argument_bound (pushed_back before built) tokens)
     (read_of term (pushed_back before built) priority (token CloseList close ∷ rest))
@@ -268,7 +269,7 @@ last_item-leads whole term priority close tokens rest leads low span count bound
     (ap (λ (n : ℕ). with_list n whole (pushed_back (term ∷ before) built)) is ∙ pushed_list whole (term ∷ before) built)
 
 item-leads : (whole : Span) (term others : Term) (priority : ℕ) (mark close : Span) (tokens middle rest : List Token) → Leads false term priority tokens (token Comma mark ∷ middle)
-    → priority ≤ 1199 → LeadsItems whole others close middle rest → LeadsItems whole (cell whole term others) close tokens rest
+    → priority ≤ argument_most → LeadsItems whole others close middle rest → LeadsItems whole (cell whole term others) close tokens rest
 item-leads whole term others priority mark close tokens middle rest leads low behind' span count bound built before at is =
     filled-part (frame_of (Item span count) bound) (settled_term argument_bound (pushed_back before built) tokens)
     (read_of term (pushed_back before built) priority (token Comma mark ∷ middle))
@@ -276,7 +277,7 @@ item-leads whole term others priority mark close tokens middle rest leads low be
     ∙ behind' span (count + 1) bound built (term ∷ before) at (add-one count ∙ ap suc is)
 
 items_tail-leads : (whole : Span) (term end : Term) (priority priority' : ℕ) (mark close : Span) (tokens middle rest : List Token)
-    → Leads false term priority tokens (token Bar mark ∷ middle) → priority ≤ 1199 → Leads false end priority' middle (token CloseList close ∷ rest) → priority' ≤ 1199
+    → Leads false term priority tokens (token Bar mark ∷ middle) → priority ≤ argument_most → Leads false end priority' middle (token CloseList close ∷ rest) → priority' ≤ argument_most
     → LeadsItems whole (cell whole term end) close tokens rest
 items_tail-leads whole term end priority priority' mark close tokens middle rest leads low leads' low' span count bound built before at is =
     filled-part (frame_of (Item span count) bound) (settled_term argument_bound (pushed_back before built) tokens)
@@ -485,7 +486,7 @@ mutual
   Spells-leads (qualified_application commas kind kind' qualifier name arguments span mark span' open' close inner rest named behind' inside) =
       qualified_application-leads commas kind kind' qualifier name arguments span mark span' open' close inner rest named behind' (SpellsArguments-lead inside)
   Spells-leads (empty_list commas open' close rest) =
-      leaf-leads commas (nil (joined open' close)) _ rest (Constant 1 None (joined open' close)) refl (constant-goes 1 None (joined open' close) rest)
+      leaf-leads commas (nil (joined open' close)) _ rest (Constant nil_name None (joined open' close)) refl (constant-goes 1 None (joined open' close) rest)
   Spells-leads (list commas term open' close inner rest inside) = list-leads commas term open' close inner rest inside (SpellsItems-lead inside)
   Spells-leads (parenthesis commas kind term priority open' close inner rest opens inside within) =
       parenthesis-leads commas kind term priority open' close inner rest opens (Spells-leads inside) within

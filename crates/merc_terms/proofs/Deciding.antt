@@ -3,6 +3,7 @@ use Rattle.std.proofs.Common.{◌≡◌, ℕ, zero, suc, ◌≤◌, Bool, true, 
 use Rattle.std.proofs.lemmas.Bool.{and_parts}
 use Rattle.std.specs.List.{list_all}
 use Rattle.merc_base.specs.declared.place.Span.{Span}
+use Rattle.merc_terms.specs.Operators.{term_most}
 use Rattle.merc_tokens.specs.declared.token.Token.{Token}
 use Rattle.merc_tokens.specs.declared.token.TokenKind.{TokenKind}
 use Rattle.merc_tokens.specs.declared.token.TokenKind.TheVariants.{Name, Quoted, Var, Int, Text as TextToken, OpenArgs, Open, Close, OpenList, CloseList, Comma, Bar, Dot, Stop}
@@ -10,7 +11,7 @@ use Rattle.merc_tree.specs.Term.{Term}
 use Rattle.merc_tree.specs.Nesting.{nesting}
 use Rattle.merc_terms.specs.declared.built.Built.{Built}
 use Rattle.merc_terms.specs.Reading.{token, Spells}
-use Rattle.merc_terms.specs.Items.{IsAllowed, HasItems, none, item}
+use Rattle.merc_terms.specs.Items.{IsAllowed, HasItems, none, item, nesting_limit}
 use Rattle.merc_terms.specs.Reader.{Read, clipped, is_great, pushed, whole_term}
 use Rattle.merc_terms.proofs.WholeTerms.{whole_sound, great_fits}
 use Rattle.merc_terms.proofs.Renaming.{built_none}
@@ -38,7 +39,7 @@ stops others (first ∷ rest) = is_stop first.kind && others rest
 
 -- whether what was built keeps the limits
 abbrev keeps_limits : Built → Bool
-keeps_limits built = not built.is_great && list_all (λ term. not (nat_lt 256 (nesting term))) built.terms
+keeps_limits built = not built.is_great && list_all (λ term. not (nat_lt nesting_limit (nesting term))) built.terms
 
 abbrev reads_on : (List Token → Bool) → Option Read → Bool
 reads_on others None = false
@@ -62,12 +63,12 @@ is_false true is = absurd cc
 -- a term that was built alone
 within_limits : (built : Built) (term : Term) → built ≡ pushed term built_none → keeps_limits built ≡ true → IsAllowed term
 within_limits built term is keeps =
-    let parts = and_parts (not (is_great term)) (not (nat_lt 256 (nesting (clipped term))) && true) (ap keeps_limits (sym is) ∙ keeps) in
+    let parts = and_parts (not (is_great term)) (not (nat_lt nesting_limit (nesting (clipped term))) && true) (ap keeps_limits (sym is) ∙ keeps) in
     let fits = great_fits term (is_false (is_great term) parts.0) in
-    let shallow = (and_parts (not (nat_lt 256 (nesting (clipped term)))) true parts.1).0 in
+    let shallow = (and_parts (not (nat_lt nesting_limit (nesting (clipped term)))) true parts.1).0 in
     record {
       words = fits.0;
-      nested = subst (λ (t : Term). nesting t ≤ 256) fits.1 (ltb-false 256 (nesting (clipped term)) (is_false (nat_lt 256 (nesting (clipped term))) shallow));
+      nested = subst (λ (t : Term). nesting t ≤ nesting_limit) fits.1 (ltb-false nesting_limit (nesting (clipped term)) (is_false (nat_lt nesting_limit (nesting (clipped term))) shallow));
     }
 
 -- what a test of the tokens behind an item says is right
@@ -76,7 +77,7 @@ IsRight others = (tokens : List Token) → others tokens ≡ true → Itemized t
 
 module _ (others : List Token → Bool) (right : IsRight others) where
   stopped : (tokens : List Token) (term : Term) (priority : ℕ) (kind : TokenKind) (span : Span) (rest : List Token) → Spells true term priority tokens (token kind span ∷ rest)
-      → priority ≤ 1200 → IsAllowed term → is_stop kind && others rest ≡ true → Itemized tokens
+      → priority ≤ term_most → IsAllowed term → is_stop kind && others rest ≡ true → Itemized tokens
   stopped tokens term priority Stop span rest spelled within allowed is =
       let behind = right rest is in
       record {
@@ -85,7 +86,7 @@ module _ (others : List Token → Bool) (right : IsRight others) where
       }
   stopped tokens term priority kind span rest spelled within allowed is = absurd cc
 
-  ended : (tokens : List Token) (term : Term) (priority : ℕ) (left : List Token) → Spells true term priority tokens left → priority ≤ 1200 → IsAllowed term → stops others left ≡ true → Itemized tokens
+  ended : (tokens : List Token) (term : Term) (priority : ℕ) (left : List Token) → Spells true term priority tokens left → priority ≤ term_most → IsAllowed term → stops others left ≡ true → Itemized tokens
   ended tokens term priority [] spelled within allowed is = absurd cc
   ended tokens term priority (first ∷ rest) spelled within allowed is = stopped tokens term priority first.kind first.span rest spelled within allowed is
 

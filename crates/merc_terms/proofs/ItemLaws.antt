@@ -17,7 +17,7 @@ use Rattle.merc_terms.specs.declared.built.Built.{Built}
 use Rattle.merc_terms.specs.declared.moving.Progress.{Progress}
 use Rattle.merc_terms.specs.Reading.{token, Spells}
 use Rattle.merc_terms.specs.Reader.{Read, clipped, is_great, pushed, whole_term}
-use Rattle.merc_terms.specs.Items.{SpellsItem, SpellsGoal, Ends, at_once, stopped, IsAllowed, HasItems, none, item, HasGoal, RefusesGoal, goal, IsWrong, unread, great, nested, RefusesItems, here, later, refusal_at, place_of}
+use Rattle.merc_terms.specs.Items.{SpellsItem, SpellsGoal, Ends, at_once, stopped, IsAllowed, HasItems, none, item, HasGoal, RefusesGoal, goal, IsWrong, unread, great, nested, RefusesItems, here, later, refusal_at, place_of, nesting_limit}
 use Rattle.merc_terms.specs.Moves.{read_of}
 use Rattle.merc_terms.specs.Standing.{ReadsTerm}
 use Rattle.merc_terms.specs.Outcomes.{TakesStop, IsAtEnd, ReadsItem, ReadsGoal, passed_limit, PassesLimit, SaysWrong}
@@ -89,22 +89,22 @@ within_limits : (term : Term) (is : Bool) → is_great term ≡ is → None ≡ 
 within_limits term true e limit = cc
 within_limits term false e limit =
     let fits = great_fits term e in
-    (record { words = fits.0; nested = shallow (nat_lt 256 (nesting (clipped term))) refl limit fits.1 }, refl, fits.1)
+    (record { words = fits.0; nested = shallow (nat_lt nesting_limit (nesting (clipped term))) refl limit fits.1 }, refl, fits.1)
   where
-    shallow : (b : Bool) → nat_lt 256 (nesting (clipped term)) ≡ b → None ≡ (if b then Some NestingLimit else None) → clipped term ≡ term → nesting term ≤ 256
+    shallow : (b : Bool) → nat_lt nesting_limit (nesting (clipped term)) ≡ b → None ≡ (if b then Some NestingLimit else None) → clipped term ≡ term → nesting term ≤ nesting_limit
     shallow true e limit same = cc
-    shallow false e limit same = subst (λ (t : Term). nesting t ≤ 256) same (ltb-false 256 (nesting (clipped term)) e)
+    shallow false e limit same = subst (λ (t : Term). nesting t ≤ nesting_limit) same (ltb-false nesting_limit (nesting (clipped term)) e)
 
 -- a term that passes one
 beyond : (Reads : Term → Type 0) (term : Term) (limit : LimitName) (is : Bool) → Reads term → is_great term ≡ is → Some limit ≡ passed_limit is (clipped term) → IsWrong Reads LimitPassed (Limit limit)
 beyond Reads term limit true reads e same = let limit_is : limit ≡ IntegerLimit = cc in rw limit_is (great term reads (great_passes term e))
-beyond Reads term limit false reads e same = deep (nat_lt 256 (nesting (clipped term))) refl same
+beyond Reads term limit false reads e same = deep (nat_lt nesting_limit (nesting (clipped term))) refl same
   where
-    deep : (b : Bool) → nat_lt 256 (nesting (clipped term)) ≡ b → Some limit ≡ (if b then Some NestingLimit else None) → IsWrong Reads LimitPassed (Limit limit)
+    deep : (b : Bool) → nat_lt nesting_limit (nesting (clipped term)) ≡ b → Some limit ≡ (if b then Some NestingLimit else None) → IsWrong Reads LimitPassed (Limit limit)
     deep true e' same =
         let fits = great_fits term e in
         let limit_is : limit ≡ NestingLimit = cc in
-        rw limit_is (nested term reads fits.0 (subst (λ (t : Term). 256 < nesting t) fits.1 (ltb-true 256 (nesting (clipped term)) e')))
+        rw limit_is (nested term reads fits.0 (subst (λ (t : Term). nesting_limit < nesting t) fits.1 (ltb-true nesting_limit (nesting (clipped term)) e')))
     deep false e' same = cc
 
 -- what the last of the terms passes where one more was read

@@ -24,3 +24,4 @@ pub mod TextsReadExamples
 pub mod TextSteps
 pub mod TextLaws
 pub mod TextExamples
+mod OperatorExamples

@@ -3,6 +3,7 @@ use Rattle.std.proofs.Common.{◌≡◌, true, false, [], ◌∷◌, Some, None,
 use Rattle.merc_base.specs.declared.refusal.Rule.TheVariants.{NoTerm}
 use Rattle.merc_base.specs.declared.refusal.Detail.TheVariants.{Plain}
 use Rattle.merc_base.specs.declared.refusal.LimitName.TheVariants.{Integer as IntegerLimit}
+use Rattle.merc_base.specs.Names.{nil_name}
 use Rattle.merc_tokens.specs.declared.token.Token.{Token}
 use Rattle.merc_tokens.specs.declared.token.TokenKind.TheVariants.{Stop, Comma}
 use Rattle.merc_tree.specs.Term.{Text, no_span}
@@ -32,10 +33,10 @@ ends_with_one : IsAtEnd (token Stop no_span ∷ token Stop no_span ∷ []) true 
 ends_with_one ends = elim ends [ ]
 
 -- the limit on integers comes first, and a text passes none
-passes_integers : passed_limit true (Text 1 no_span) ≡ Some IntegerLimit
+passes_integers : passed_limit true (Text nil_name no_span) ≡ Some IntegerLimit
 passes_integers = refl
 
-passes_none : passed_limit false (Text 1 no_span) ≡ None
+passes_none : passed_limit false (Text nil_name no_span) ≡ None
 passes_none = refl
 
 -- without a term, rule 2 is broken
@@ -46,7 +47,7 @@ no_term_is_wrong : (built : Built) → SaysWrong built false None → ⊥
 no_term_is_wrong built e = cc
 
 -- of `1(2, 3, (` two terms are built
-two_are_built : pending_all (frame_of (Enclosed no_span) argument_bound ∷ frame_of (Argument 1 None no_span 3) whole_bound ∷ []) ≡ 2
+two_are_built : pending_all (frame_of (Enclosed no_span) argument_bound ∷ frame_of (Argument nil_name None no_span 3) whole_bound ∷ []) ≡ 2
 two_are_built = refl
 
 -- a number for an open term must lie above the number of the tokens

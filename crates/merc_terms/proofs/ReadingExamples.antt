@@ -4,6 +4,7 @@ use Rattle.std.specs.Bool.{if◌then◌else◌}
 use Rattle.std.proofs.lemmas.Bool.{and_parts}
 use Rattle.std.proofs.lemmas.Option.{same_Some}
 use Rattle.merc_base.specs.declared.place.Span.{Span}
+use Rattle.merc_base.specs.Names.{all_name, ampersand_name, arrow_name, colon_colon_name, colon_minus_name, comma_name, cons_name, else_name, equal_equal_name, equal_name, equivalent_name, if_name, implies_name, is_name, minus_name, mod_name, module_name, nil_name, not_name, not_provable_name, plus_name, pred_name, semicolon_name, slash_slash_name, some_name, star_name, then_name, type_arrow_name, type_name}
 use Rattle.merc_tokens.specs.declared.token.Token.{Token}
 use Rattle.merc_tokens.specs.declared.token.TokenKind.{TokenKind}
 use Rattle.merc_tokens.specs.declared.token.TokenKind.TheVariants.{Name, Quoted, Var, Int, Text as TextToken, OpenArgs, Open, Close, OpenList, CloseList, Comma, Bar, Dot, Stop}
@@ -23,13 +24,13 @@ placed n [] = []
 placed n (kind ∷ kinds) = token kind (record { first = n; past = suc n; line = 1 }) ∷ placed (suc n) kinds
 
 -- tokens of these kinds spell a term that is this one, spans aside
-record Reads (kinds : List TokenKind) (shape : Term) : Type 0 where
+pub record Reads (kinds : List TokenKind) (shape : Term) : Type 0 where
   term : Term
   spelled : SpellsGoal term (placed 0 kinds)
   same : bare term ≡ shape
 
 -- tokens of these kinds spell no term
-record Unread (kinds : List TokenKind) : Type 0 where
+pub record Unread (kinds : List TokenKind) : Type 0 where
   none : (term : Term) → SpellsGoal term (placed 0 kinds) → ⊥
 
 abbrev is_stop : TokenKind → Bool
@@ -64,7 +65,7 @@ abbrev outcome : Option Read → Option (List Term × Bool)
 outcome None = None
 outcome (Some read) = if is_ended read.rest then Some (shown read) else None
 
-abbrev answer : List TokenKind → Option (List Term × Bool)
+abbrev pub answer : List TokenKind → Option (List Term × Bool)
 answer kinds = outcome (whole_term built_none (placed 0 kinds))
 
 ended_by : (kind : TokenKind) (span : Span) (rest : List Token) → is_stop kind ≡ true → is_last rest ≡ true → Ends (token kind span ∷ rest)
@@ -80,7 +81,7 @@ Ends-ended : (rest : List Token) → Ends rest → is_ended rest ≡ true
 Ends-ended rest at_once = refl
 Ends-ended rest (stopped stop) = refl
 
-reads : (kinds : List TokenKind) (shape : Term) → answer kinds ≡ Some (shape ∷ [], false) → Reads kinds shape
+pub reads : (kinds : List TokenKind) (shape : Term) → answer kinds ≡ Some (shape ∷ [], false) → Reads kinds shape
 reads kinds shape same = go (whole_term built_none (placed 0 kinds)) refl same
   where
     by : (read : Read) → whole_term built_none (placed 0 kinds) ≡ Some read → (b : Bool) → is_ended read.rest ≡ b
@@ -103,7 +104,7 @@ reads kinds shape same = go (whole_term built_none (placed 0 kinds)) refl same
     go None is same' = cc
     go (Some read) is same' = by read is (is_ended read.rest) refl same'
 
-unread : (kinds : List TokenKind) → answer kinds ≡ None → Unread kinds
+pub unread : (kinds : List TokenKind) → answer kinds ≡ None → Unread kinds
 unread kinds same = record { none = no_term }
   where
     by : (b : Bool) (x : List Term × Bool) → b ≡ true → (if b then Some x else None) ≡ None → ⊥
@@ -116,145 +117,165 @@ unread kinds same = record { none = no_term }
         let other = sym (ap outcome there) ∙ same in
         by (is_ended is.rest) (bare (clipped term) ∷ [], is_great term) (Ends-ended is.rest is.ends) other
 
+-- names behind the constants
+
+abbrev pub a_name : ℕ
+a_name = 100
+
+abbrev pub b_name : ℕ
+b_name = 101
+
+abbrev pub c_name : ℕ
+c_name = 102
+
+abbrev x_name : ℕ
+x_name = 120
+
+abbrev y_name : ℕ
+y_name = 121
+
+abbrev z_name : ℕ
+z_name = 122
+
 -- terms without spans
 
 abbrev X : Term
-X = Variable 120 no_span
+X = Variable x_name no_span
 
 abbrev Y : Term
-Y = Variable 121 no_span
+Y = Variable y_name no_span
 
 abbrev Z : Term
-Z = Variable 122 no_span
+Z = Variable z_name no_span
 
 abbrev integer : ℤ → Term
 integer value = Integer value no_span
 
-abbrev apply : ℕ → List Term → Term
+abbrev pub apply : ℕ → List Term → Term
 apply name terms = Application name None (terms_of terms) no_span
 
-abbrev a : Term
-a = apply 100 []
+abbrev pub a : Term
+a = apply a_name []
 
-abbrev b : Term
-b = apply 101 []
+abbrev pub b : Term
+b = apply b_name []
 
-abbrev c : Term
-c = apply 102 []
+abbrev pub c : Term
+c = apply c_name []
 
 abbrev cons : Term → Term → Term
-cons head tail = apply 2 (head ∷ tail ∷ [])
+cons head tail = apply cons_name (head ∷ tail ∷ [])
 
 abbrev end : Term
-end = apply 1 []
+end = apply nil_name []
 
 -- their tokens
 
 abbrev x' : TokenKind
-x' = Var 120
+x' = Var x_name
 
 abbrev y' : TokenKind
-y' = Var 121
+y' = Var y_name
 
 abbrev z' : TokenKind
-z' = Var 122
+z' = Var z_name
 
-abbrev a' : TokenKind
-a' = Name 100
+abbrev pub a' : TokenKind
+a' = Name a_name
 
-abbrev b' : TokenKind
-b' = Name 101
+abbrev pub b' : TokenKind
+b' = Name b_name
 
-abbrev c' : TokenKind
-c' = Name 102
+abbrev pub c' : TokenKind
+c' = Name c_name
 
 -- clauses and declarations: `a :- b`, `:- module a`, but not `a :- b :- c`
 
-clause : Reads (a' ∷ Name 10 ∷ b' ∷ Stop ∷ []) (apply 10 (a ∷ b ∷ []))
+clause : Reads (a' ∷ Name colon_minus_name ∷ b' ∷ Stop ∷ []) (apply colon_minus_name (a ∷ b ∷ []))
 unfolding reading operators
 clause = reads _ _ refl
 
-declaration : Reads (Name 10 ∷ Name 12 ∷ a' ∷ Stop ∷ []) (apply 10 (apply 12 (a ∷ []) ∷ []))
+declaration : Reads (Name colon_minus_name ∷ Name module_name ∷ a' ∷ Stop ∷ []) (apply colon_minus_name (apply module_name (a ∷ []) ∷ []))
 unfolding reading operators
 declaration = reads _ _ refl
 
-clause_of_clause : Unread (a' ∷ Name 10 ∷ b' ∷ Name 10 ∷ c' ∷ [])
+clause_of_clause : Unread (a' ∷ Name colon_minus_name ∷ b' ∷ Name colon_minus_name ∷ c' ∷ [])
 unfolding reading operators
 clause_of_clause = unread _ refl
 
 -- `:- type a ---> b`, but not `type :- a`
 
-type_declaration : Reads (Name 10 ∷ Name 16 ∷ a' ∷ Name 17 ∷ b' ∷ []) (apply 10 (apply 16 (apply 17 (a ∷ b ∷ []) ∷ []) ∷ []))
+type_declaration : Reads (Name colon_minus_name ∷ Name type_name ∷ a' ∷ Name type_arrow_name ∷ b' ∷ []) (apply colon_minus_name (apply type_name (apply type_arrow_name (a ∷ b ∷ []) ∷ []) ∷ []))
 unfolding reading operators
 type_declaration = reads _ _ refl
 
-type_of_declaration : Unread (Name 16 ∷ Name 10 ∷ a' ∷ [])
+type_of_declaration : Unread (Name type_name ∷ Name colon_minus_name ∷ a' ∷ [])
 unfolding reading operators
 type_of_declaration = unread _ refl
 
 -- `X :: a`, but not `X :: Y :: Z`
 
-moded : Reads (x' ∷ Name 18 ∷ a' ∷ []) (apply 18 (X ∷ a ∷ []))
+moded : Reads (x' ∷ Name colon_colon_name ∷ a' ∷ []) (apply colon_colon_name (X ∷ a ∷ []))
 unfolding reading operators
 moded = reads _ _ refl
 
-moded_twice : Unread (x' ∷ Name 18 ∷ y' ∷ Name 18 ∷ z' ∷ [])
+moded_twice : Unread (x' ∷ Name colon_colon_name ∷ y' ∷ Name colon_colon_name ∷ z' ∷ [])
 unfolding reading operators
 moded_twice = unread _ refl
 
 -- `a == b`, but not `a == b == c`
 
-equality : Reads (a' ∷ Name 19 ∷ b' ∷ []) (apply 19 (a ∷ b ∷ []))
+equality : Reads (a' ∷ Name equal_equal_name ∷ b' ∷ []) (apply equal_equal_name (a ∷ b ∷ []))
 unfolding reading operators
 equality = reads _ _ refl
 
-equality_of_equality : Unread (a' ∷ Name 19 ∷ b' ∷ Name 19 ∷ c' ∷ [])
+equality_of_equality : Unread (a' ∷ Name equal_equal_name ∷ b' ∷ Name equal_equal_name ∷ c' ∷ [])
 unfolding reading operators
 equality_of_equality = unread _ refl
 
 -- `if a then b else c`, but not `a then b then c`
 
-conditional : Reads (Name 21 ∷ a' ∷ Name 22 ∷ b' ∷ Name 20 ∷ c' ∷ []) (apply 20 (apply 21 (apply 22 (a ∷ b ∷ []) ∷ []) ∷ c ∷ []))
+conditional : Reads (Name if_name ∷ a' ∷ Name then_name ∷ b' ∷ Name else_name ∷ c' ∷ []) (apply else_name (apply if_name (apply then_name (a ∷ b ∷ []) ∷ []) ∷ c ∷ []))
 unfolding reading operators
 conditional = reads _ _ refl
 
-then_twice : Unread (a' ∷ Name 22 ∷ b' ∷ Name 22 ∷ c' ∷ [])
+then_twice : Unread (a' ∷ Name then_name ∷ b' ∷ Name then_name ∷ c' ∷ [])
 unfolding reading operators
 then_twice = unread _ refl
 
 -- `a ; b ; c` goes on to the right, but `a ;` wants an operand
 
-disjunction : Reads (a' ∷ Name 23 ∷ b' ∷ Name 23 ∷ c' ∷ []) (apply 23 (a ∷ apply 23 (b ∷ c ∷ []) ∷ []))
+disjunction : Reads (a' ∷ Name semicolon_name ∷ b' ∷ Name semicolon_name ∷ c' ∷ []) (apply semicolon_name (a ∷ apply semicolon_name (b ∷ c ∷ []) ∷ []))
 unfolding reading operators
 disjunction = reads _ _ refl
 
-disjunction_open : Unread (a' ∷ Name 23 ∷ [])
+disjunction_open : Unread (a' ∷ Name semicolon_name ∷ [])
 unfolding reading operators
 disjunction_open = unread _ refl
 
 -- `a -> b ; c` is a disjunction, but `-> a` is nothing
 
-arrow : Reads (a' ∷ Name 24 ∷ b' ∷ Name 23 ∷ c' ∷ []) (apply 23 (apply 24 (a ∷ b ∷ []) ∷ c ∷ []))
+arrow : Reads (a' ∷ Name arrow_name ∷ b' ∷ Name semicolon_name ∷ c' ∷ []) (apply semicolon_name (apply arrow_name (a ∷ b ∷ []) ∷ c ∷ []))
 unfolding reading operators
 arrow = reads _ _ refl
 
-arrow_alone : Unread (Name 24 ∷ a' ∷ [])
+arrow_alone : Unread (Name arrow_name ∷ a' ∷ [])
 unfolding reading operators
 arrow_alone = unread _ refl
 
 -- `a & b , c` is a parallel conjunction, but `a & & b` is nothing
 
-parallel : Reads (a' ∷ Name 25 ∷ b' ∷ Comma ∷ c' ∷ []) (apply 25 (a ∷ apply 26 (b ∷ c ∷ []) ∷ []))
+parallel : Reads (a' ∷ Name ampersand_name ∷ b' ∷ Comma ∷ c' ∷ []) (apply ampersand_name (a ∷ apply comma_name (b ∷ c ∷ []) ∷ []))
 unfolding reading operators
 parallel = reads _ _ refl
 
-parallel_twice : Unread (a' ∷ Name 25 ∷ Name 25 ∷ b' ∷ [])
+parallel_twice : Unread (a' ∷ Name ampersand_name ∷ Name ampersand_name ∷ b' ∷ [])
 unfolding reading operators
 parallel_twice = unread _ refl
 
 -- `a , b , c` goes on to the right, but `a ,` wants an operand
 
-conjunction : Reads (a' ∷ Comma ∷ b' ∷ Comma ∷ c' ∷ []) (apply 26 (a ∷ apply 26 (b ∷ c ∷ []) ∷ []))
+conjunction : Reads (a' ∷ Comma ∷ b' ∷ Comma ∷ c' ∷ []) (apply comma_name (a ∷ apply comma_name (b ∷ c ∷ []) ∷ []))
 unfolding reading operators
 conjunction = reads _ _ refl
 
@@ -264,137 +285,137 @@ conjunction_open = unread _ refl
 
 -- `some [ X ] a , b` is a conjunction, but `some [ X ] = a` is nothing: no infix operator's name stands behind the variables
 
-quantified : Reads (Name 27 ∷ OpenList ∷ x' ∷ CloseList ∷ a' ∷ Comma ∷ b' ∷ []) (apply 26 (apply 27 (cons X end ∷ a ∷ []) ∷ b ∷ []))
+quantified : Reads (Name some_name ∷ OpenList ∷ x' ∷ CloseList ∷ a' ∷ Comma ∷ b' ∷ []) (apply comma_name (apply some_name (cons X end ∷ a ∷ []) ∷ b ∷ []))
 unfolding reading operators
 quantified = reads _ _ refl
 
-quantified_twice : Reads (Name 27 ∷ x' ∷ Name 28 ∷ y' ∷ a' ∷ []) (apply 27 (X ∷ apply 28 (Y ∷ a ∷ []) ∷ []))
+quantified_twice : Reads (Name some_name ∷ x' ∷ Name all_name ∷ y' ∷ a' ∷ []) (apply some_name (X ∷ apply all_name (Y ∷ a ∷ []) ∷ []))
 unfolding reading operators
 quantified_twice = reads _ _ refl
 
-quantified_infix : Unread (Name 27 ∷ OpenList ∷ x' ∷ CloseList ∷ Name 36 ∷ a' ∷ [])
+quantified_infix : Unread (Name some_name ∷ OpenList ∷ x' ∷ CloseList ∷ Name equal_name ∷ a' ∷ [])
 unfolding reading operators
 quantified_infix = unread _ refl
 
 -- `a => b => c` goes on to the right, but `a <=>` wants an operand
 
-implication : Reads (a' ∷ Name 29 ∷ b' ∷ Name 29 ∷ c' ∷ []) (apply 29 (a ∷ apply 29 (b ∷ c ∷ []) ∷ []))
+implication : Reads (a' ∷ Name implies_name ∷ b' ∷ Name implies_name ∷ c' ∷ []) (apply implies_name (a ∷ apply implies_name (b ∷ c ∷ []) ∷ []))
 unfolding reading operators
 implication = reads _ _ refl
 
-equivalence_open : Unread (a' ∷ Name 30 ∷ [])
+equivalence_open : Unread (a' ∷ Name equivalent_name ∷ [])
 unfolding reading operators
 equivalence_open = unread _ refl
 
 -- `not not a`, `\+ X = a`, but not `not some X a`: `some` is looser
 
-negation : Reads (Name 31 ∷ Name 31 ∷ a' ∷ []) (apply 31 (apply 31 (a ∷ []) ∷ []))
+negation : Reads (Name not_name ∷ Name not_name ∷ a' ∷ []) (apply not_name (apply not_name (a ∷ []) ∷ []))
 unfolding reading operators
 negation = reads _ _ refl
 
-negation_of_equation : Reads (Name 32 ∷ x' ∷ Name 36 ∷ a' ∷ []) (apply 32 (apply 36 (X ∷ a ∷ []) ∷ []))
+negation_of_equation : Reads (Name not_provable_name ∷ x' ∷ Name equal_name ∷ a' ∷ []) (apply not_provable_name (apply equal_name (X ∷ a ∷ []) ∷ []))
 unfolding reading operators
 negation_of_equation = reads _ _ refl
 
-negation_of_quantified : Unread (Name 31 ∷ Name 27 ∷ x' ∷ a' ∷ [])
+negation_of_quantified : Unread (Name not_name ∷ Name some_name ∷ x' ∷ a' ∷ [])
 unfolding reading operators
 negation_of_quantified = unread _ refl
 
 -- `pred a`, but not `pred pred a`
 
-predicate : Reads (Name 33 ∷ a' ∷ []) (apply 33 (a ∷ []))
+predicate : Reads (Name pred_name ∷ a' ∷ []) (apply pred_name (a ∷ []))
 unfolding reading operators
 predicate = reads _ _ refl
 
-predicate_twice : Unread (Name 33 ∷ Name 33 ∷ a' ∷ [])
+predicate_twice : Unread (Name pred_name ∷ Name pred_name ∷ a' ∷ [])
 unfolding reading operators
 predicate_twice = unread _ refl
 
 -- `X = a is b`: `is` is looser than `=`, but not `X is Y is Z`
 
-result : Reads (x' ∷ Name 36 ∷ a' ∷ Name 35 ∷ b' ∷ []) (apply 35 (apply 36 (X ∷ a ∷ []) ∷ b ∷ []))
+result : Reads (x' ∷ Name equal_name ∷ a' ∷ Name is_name ∷ b' ∷ []) (apply is_name (apply equal_name (X ∷ a ∷ []) ∷ b ∷ []))
 unfolding reading operators
 result = reads _ _ refl
 
-result_twice : Unread (x' ∷ Name 35 ∷ y' ∷ Name 35 ∷ z' ∷ [])
+result_twice : Unread (x' ∷ Name is_name ∷ y' ∷ Name is_name ∷ z' ∷ [])
 unfolding reading operators
 result_twice = unread _ refl
 
 -- `X = Y + Z`, but not `X = Y = Z`
 
-equation : Reads (x' ∷ Name 36 ∷ y' ∷ Name 42 ∷ z' ∷ []) (apply 36 (X ∷ apply 42 (Y ∷ Z ∷ []) ∷ []))
+equation : Reads (x' ∷ Name equal_name ∷ y' ∷ Name plus_name ∷ z' ∷ []) (apply equal_name (X ∷ apply plus_name (Y ∷ Z ∷ []) ∷ []))
 unfolding reading operators
 equation = reads _ _ refl
 
-equation_twice : Unread (x' ∷ Name 36 ∷ y' ∷ Name 36 ∷ z' ∷ [])
+equation_twice : Unread (x' ∷ Name equal_name ∷ y' ∷ Name equal_name ∷ z' ∷ [])
 unfolding reading operators
 equation_twice = unread _ refl
 
 -- `X + Y - Z` goes on to the left, but `X + = Y` is nothing
 
-sum : Reads (x' ∷ Name 42 ∷ y' ∷ Name 43 ∷ z' ∷ []) (apply 43 (apply 42 (X ∷ Y ∷ []) ∷ Z ∷ []))
+sum : Reads (x' ∷ Name plus_name ∷ y' ∷ Name minus_name ∷ z' ∷ []) (apply minus_name (apply plus_name (X ∷ Y ∷ []) ∷ Z ∷ []))
 unfolding reading operators
 sum = reads _ _ refl
 
-sum_open : Unread (x' ∷ Name 42 ∷ Name 36 ∷ y' ∷ [])
+sum_open : Unread (x' ∷ Name plus_name ∷ Name equal_name ∷ y' ∷ [])
 unfolding reading operators
 sum_open = unread _ refl
 
 -- `X * Y // Z` goes on to the left, but `X * Y mod Z` and `a mod b mod c` are nothing
 
-product : Reads (x' ∷ Name 44 ∷ y' ∷ Name 45 ∷ z' ∷ []) (apply 45 (apply 44 (X ∷ Y ∷ []) ∷ Z ∷ []))
+product : Reads (x' ∷ Name star_name ∷ y' ∷ Name slash_slash_name ∷ z' ∷ []) (apply slash_slash_name (apply star_name (X ∷ Y ∷ []) ∷ Z ∷ []))
 unfolding reading operators
 product = reads _ _ refl
 
-product_of_remainder : Unread (x' ∷ Name 44 ∷ y' ∷ Name 47 ∷ z' ∷ [])
+product_of_remainder : Unread (x' ∷ Name star_name ∷ y' ∷ Name mod_name ∷ z' ∷ [])
 unfolding reading operators
 product_of_remainder = unread _ refl
 
-remainder_twice : Unread (a' ∷ Name 47 ∷ b' ∷ Name 47 ∷ c' ∷ [])
+remainder_twice : Unread (a' ∷ Name mod_name ∷ b' ∷ Name mod_name ∷ c' ∷ [])
 unfolding reading operators
 remainder_twice = unread _ refl
 
 -- `- X`, but not `- - X`
 
-minus : Reads (Name 43 ∷ x' ∷ []) (apply 43 (X ∷ []))
+minus : Reads (Name minus_name ∷ x' ∷ []) (apply minus_name (X ∷ []))
 unfolding reading operators
 minus = reads _ _ refl
 
-minus_twice : Unread (Name 43 ∷ Name 43 ∷ x' ∷ [])
+minus_twice : Unread (Name minus_name ∷ Name minus_name ∷ x' ∷ [])
 unfolding reading operators
 minus_twice = unread _ refl
 
 -- `-` before an integer where a term begins is its sign; behind a term it is the operator
 
-negative : Reads (Name 43 ∷ Int 5 ∷ []) (integer (negsuc 4))
+negative : Reads (Name minus_name ∷ Int 5 ∷ []) (integer (negsuc 4))
 unfolding reading operators
 negative = reads _ _ refl
 
-difference : Reads (x' ∷ Name 43 ∷ Int 5 ∷ []) (apply 43 (X ∷ integer (pos 5) ∷ []))
+difference : Reads (x' ∷ Name minus_name ∷ Int 5 ∷ []) (apply minus_name (X ∷ integer (pos 5) ∷ []))
 unfolding reading operators
 difference = reads _ _ refl
 
 -- `- - ( 5 )` is nothing, but `- -( 5 )` is: with a parenthesis directly behind it `-` is a plain name
 
-minus_of_minus : Unread (Name 43 ∷ Name 43 ∷ Open ∷ Int 5 ∷ Close ∷ [])
+minus_of_minus : Unread (Name minus_name ∷ Name minus_name ∷ Open ∷ Int 5 ∷ Close ∷ [])
 unfolding reading operators
 minus_of_minus = unread _ refl
 
-minus_of_name : Reads (Name 43 ∷ Name 43 ∷ OpenArgs ∷ Int 5 ∷ Close ∷ []) (apply 43 (apply 43 (integer (pos 5) ∷ []) ∷ []))
+minus_of_name : Reads (Name minus_name ∷ Name minus_name ∷ OpenArgs ∷ Int 5 ∷ Close ∷ []) (apply minus_name (apply minus_name (integer (pos 5) ∷ []) ∷ []))
 unfolding reading operators
 minus_of_name = reads _ _ refl
 
 -- an argument is below a clause: `a(b :- c)` is nothing, `a((b :- c))` is
 
-clause_argument : Unread (a' ∷ OpenArgs ∷ b' ∷ Name 10 ∷ c' ∷ Close ∷ [])
+clause_argument : Unread (a' ∷ OpenArgs ∷ b' ∷ Name colon_minus_name ∷ c' ∷ Close ∷ [])
 unfolding reading operators
 clause_argument = unread _ refl
 
-clause_in_parentheses : Reads (a' ∷ OpenArgs ∷ Open ∷ b' ∷ Name 10 ∷ c' ∷ Close ∷ Close ∷ []) (apply 100 (apply 10 (b ∷ c ∷ []) ∷ []))
+clause_in_parentheses : Reads (a' ∷ OpenArgs ∷ Open ∷ b' ∷ Name colon_minus_name ∷ c' ∷ Close ∷ Close ∷ []) (apply a_name (apply colon_minus_name (b ∷ c ∷ []) ∷ []))
 unfolding reading operators
 clause_in_parentheses = reads _ _ refl
 
-two_arguments : Reads (a' ∷ OpenArgs ∷ x' ∷ Comma ∷ y' ∷ Name 42 ∷ z' ∷ Close ∷ []) (apply 100 (X ∷ apply 42 (Y ∷ Z ∷ []) ∷ []))
+two_arguments : Reads (a' ∷ OpenArgs ∷ x' ∷ Comma ∷ y' ∷ Name plus_name ∷ z' ∷ Close ∷ []) (apply a_name (X ∷ apply plus_name (Y ∷ Z ∷ []) ∷ []))
 unfolding reading operators
 two_arguments = reads _ _ refl
 
@@ -422,11 +443,11 @@ list_no_tail = unread _ refl
 
 -- qualified names: `a.b`, `a.b(X)`, but not `a.b.c`
 
-qualified_name : Reads (a' ∷ Dot ∷ b' ∷ []) (Application 101 (Some 100) none no_span)
+qualified_name : Reads (a' ∷ Dot ∷ b' ∷ []) (Application b_name (Some a_name) none no_span)
 unfolding reading operators
 qualified_name = reads _ _ refl
 
-qualified_application : Reads (a' ∷ Dot ∷ b' ∷ OpenArgs ∷ x' ∷ Close ∷ []) (Application 101 (Some 100) (more X none) no_span)
+qualified_application : Reads (a' ∷ Dot ∷ b' ∷ OpenArgs ∷ x' ∷ Close ∷ []) (Application b_name (Some a_name) (more X none) no_span)
 unfolding reading operators
 qualified_application = reads _ _ refl
 
@@ -436,20 +457,20 @@ qualified_twice = unread _ refl
 
 -- a prefix operator's name before a full stop is a plain name: `X = not .`, but not `X = not Y`
 
-plain_operator : Reads (x' ∷ Name 36 ∷ Name 31 ∷ Stop ∷ []) (apply 36 (X ∷ apply 31 [] ∷ []))
+plain_operator : Reads (x' ∷ Name equal_name ∷ Name not_name ∷ Stop ∷ []) (apply equal_name (X ∷ apply not_name [] ∷ []))
 unfolding reading operators
 plain_operator = reads _ _ refl
 
-operator_too_loose : Unread (x' ∷ Name 36 ∷ Name 31 ∷ y' ∷ [])
+operator_too_loose : Unread (x' ∷ Name equal_name ∷ Name not_name ∷ y' ∷ [])
 unfolding reading operators
 operator_too_loose = unread _ refl
 
 -- a quoted operator is a name: `X = '+'`, but not `X '+' Y`
 
-quoted_operator : Reads (x' ∷ Name 36 ∷ Quoted 42 ∷ []) (apply 36 (X ∷ apply 42 [] ∷ []))
+quoted_operator : Reads (x' ∷ Name equal_name ∷ Quoted plus_name ∷ []) (apply equal_name (X ∷ apply plus_name [] ∷ []))
 unfolding reading operators
 quoted_operator = reads _ _ refl
 
-quoted_infix : Unread (x' ∷ Quoted 42 ∷ y' ∷ [])
+quoted_infix : Unread (x' ∷ Quoted plus_name ∷ y' ∷ [])
 unfolding reading operators
 quoted_infix = unread _ refl

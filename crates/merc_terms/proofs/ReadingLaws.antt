@@ -6,7 +6,7 @@ use Rattle.merc_base.specs.declared.refusal.Detail.{Detail}
 use Rattle.merc_tokens.specs.declared.token.Token.{Token}
 use Rattle.merc_tree.specs.Term.{Term, HasWords}
 use Rattle.merc_tree.specs.Nesting.{nesting}
-use Rattle.merc_terms.specs.Items.{SpellsItem, SpellsGoal, Ends, at_once, stopped, IsAllowed, HasItems, none, item, HasGoal, IsWrong, unread, great, nested, refusal_at, place_of, RefusesItems, here, later, RefusesGoal, goal}
+use Rattle.merc_terms.specs.Items.{SpellsItem, SpellsGoal, Ends, at_once, stopped, IsAllowed, HasItems, none, item, HasGoal, IsWrong, unread, great, nested, refusal_at, place_of, RefusesItems, here, later, RefusesGoal, goal, nesting_limit}
 use Rattle.merc_terms.proofs.Shorter.{Spells-shorter}
 use Rattle.merc_terms.proofs.WholeTerms.{IsEnd, nothing, full_stop}
 use Rattle.merc_terms.proofs.Renaming.{Spells-unique}
@@ -49,7 +49,7 @@ wrong-allowed : (Reads : Term → Type 0) → IsOne Reads → (rule : Rule) (det
 wrong-allowed Reads one rule detail term (unread no_term) reads allowed = no_term term reads
 wrong-allowed Reads one rule detail term (great other reads' passes) reads allowed = passes (subst HasWords (one term other reads reads') allowed.words)
 wrong-allowed Reads one rule detail term (nested other reads' words deep) reads allowed =
-    let shallow : nesting other ≤ 256 = subst (λ (t : Term). nesting t ≤ 256) (one term other reads reads') allowed.nested in omega arith
+    let shallow : nesting other ≤ nesting_limit = subst (λ (t : Term). nesting t ≤ nesting_limit) (one term other reads reads') allowed.nested in omega arith
 
 IsWrong-unique : (Reads : Term → Type 0) → IsOne Reads → (rule rule' : Rule) (detail detail' : Detail) → IsWrong Reads rule detail → IsWrong Reads rule' detail'
     → (rule ≡ rule') × (detail ≡ detail')

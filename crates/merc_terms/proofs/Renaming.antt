@@ -3,6 +3,8 @@ use Rattle.std.proofs.Common.{◌≡◌, ℕ, zero, suc, ◌≤◌, ℤ, pos, ne
 use Rattle.std.specs.Bool.{if◌then◌else◌}
 use Rattle.std.proofs.lemmas.Option.{same_Some}
 use Rattle.merc_base.specs.declared.place.Span.{Span}
+use Rattle.merc_base.specs.Names.{minus_name, minus_name}
+use Rattle.merc_terms.specs.Operators.{term_most}
 use Rattle.merc_tokens.specs.declared.token.Token.{Token}
 use Rattle.merc_tokens.specs.declared.token.TokenKind.{TokenKind}
 use Rattle.merc_tokens.specs.declared.token.TokenKind.TheVariants.{Name, Quoted, Var, Int, Text as TextToken, OpenArgs, Open, Close, OpenList, CloseList, Comma, Bar, Dot, Stop}
@@ -110,7 +112,7 @@ IsPrefix-renamed : (f : ℕ → ℕ) (name : ℕ) (operator : Operator) (rest : 
 IsPrefix-renamed f name operator rest is = record {
   row = is.row;
   not_plain = is_left_plain-renamed f rest ∙ is.not_plain;
-  no_sign = ap (λ (b : Bool). (name == 43) && b) (begins_with-renamed is_integer is_integer-ignores f rest) ∙ is.no_sign;
+  no_sign = ap (λ (b : Bool). (name == minus_name) && b) (begins_with-renamed is_integer is_integer-ignores f rest) ∙ is.no_sign;
 }
 
 ends-renamed : (f : ℕ → ℕ) (rest : List Token) → begins_with goes_on_name rest ≡ false → begins_with goes_on_name (renamed_all f rest) ≡ false
@@ -126,7 +128,7 @@ mutual
   Spells-renamed f same (variable commas name span rest) = variable commas name span (renamed_all f rest)
   Spells-renamed f same (integer commas value span rest) = integer commas (f value) span (renamed_all f rest)
   Spells-renamed f same (negative commas value sign span rest) =
-      subst (λ (z : ℤ). Spells commas (Integer z (joined sign span)) 0 (token (Name 43) sign ∷ token (Int (f value)) span ∷ renamed_all f rest) (renamed_all f rest))
+      subst (λ (z : ℤ). Spells commas (Integer z (joined sign span)) 0 (token (Name minus_name) sign ∷ token (Int (f value)) span ∷ renamed_all f rest) (renamed_all f rest))
       (negative-renamed f same value) (negative commas (f value) sign span (renamed_all f rest))
   Spells-renamed f same (text commas name span rest) = text commas name span (renamed_all f rest)
   Spells-renamed f same (constant commas kind name span rest named ends) =
@@ -292,8 +294,8 @@ clipped_same : (one other : Term) → pushed one built_none ≡ pushed other bui
 clipped_same one other same = let e : ◌≡◌ {A = List Term} (clipped one ∷ []) (clipped other ∷ []) = ap (λ (b : Built). b.terms) same in cc
 
 -- What whole term the tokens spell is decided, and what is left behind it.
-pub Spells-unique : (one other : Term) (priority priority' : ℕ) (tokens rest rest' : List Token) → Spells true one priority tokens rest → priority ≤ 1200 → IsEnd rest
-    → Spells true other priority' tokens rest' → priority' ≤ 1200 → IsEnd rest' → (one ≡ other) × (rest ≡ rest')
+pub Spells-unique : (one other : Term) (priority priority' : ℕ) (tokens rest rest' : List Token) → Spells true one priority tokens rest → priority ≤ term_most → IsEnd rest
+    → Spells true other priority' tokens rest' → priority' ≤ term_most → IsEnd rest' → (one ≡ other) × (rest ≡ rest')
 Spells-unique one other priority priority' tokens rest rest' spelled within ends spelled' within' ends' = (
   term_same one other (λ mark. alike (marked mark) refl (marked_fits mark one) (marked_fits mark other)),
   ap (λ (r : Read). r.rest) (same_Some _ _ (sym (whole_complete built_none one priority tokens rest spelled within ends) ∙ whole_complete built_none other priority' tokens rest' spelled' within' ends')),

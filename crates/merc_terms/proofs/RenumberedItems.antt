@@ -3,34 +3,35 @@ use Rattle.std.proofs.Common.{◌≡◌, ℕ, ◌+◌, ◌<◌, ◌≤◌, Bool,
 use Rattle.std.proofs.lemmas.Bool.{and_parts}
 use Rattle.std.specs.Bool.{if◌then◌else◌}
 use Rattle.std.specs.List.{list_all, list_any}
+use Rattle.merc_base.specs.Names.{ampersand_name, comma_name, cons_name, else_name, semicolon_name}
 use Rattle.merc_tokens.specs.declared.token.Token.{Token}
 use Rattle.merc_tree.specs.Term.{Term, Terms, Variable, Integer, Text, Application, none, more, HasWords, HaveWords}
 use Rattle.merc_tree.specs.Nesting.{is_chain, are_two, goes_on, greater, nesting, deepest, chain_nesting, end_nesting}
-use Rattle.merc_terms.specs.Items.{SpellsItem, IsAllowed, HasItems, none as no_items, item}
-use Rattle.merc_terms.proofs.Renumbering.{renumbered, renumbered_all, renumbered_tokens, KeepsFixed, kept, Spells-renumbered}
+use Rattle.merc_terms.specs.Items.{SpellsItem, IsAllowed, HasItems, none as no_items, item, nesting_limit}
+use Rattle.merc_terms.proofs.Renumbering.{renumbered, renumbered_all, renumbered_tokens, KeepsFixed, kept, Spells-renumbered, constant_count}
 
-apart : (name other : ℕ) → 82 ≤ name → other < 82 → (name == other) ≡ false
+apart : (name other : ℕ) → constant_count ≤ name → other < constant_count → (name == other) ≡ false
 apart name other above below = by (name == other) refl
   where
     by : (b : Bool) → (name == other) ≡ b → b ≡ false
     by true is = let e = eqb-true name other is in absurd (omega arith)
     by false is = refl
 
-apart_below : (name other : ℕ) → 82 ≤ name → other < 82 → (other == name) ≡ false
+apart_below : (name other : ℕ) → constant_count ≤ name → other < constant_count → (other == name) ≡ false
 apart_below name other above below = by (other == name) refl
   where
     by : (b : Bool) → (other == name) ≡ b → b ≡ false
     by true is = let e = eqb-true other name is in absurd (omega arith)
     by false is = refl
 
-none_of : (name : ℕ) (others : List ℕ) → 82 ≤ name → list_all (λ other. nat_lt other 82) others ≡ true → list_any (λ other. name == other) others ≡ false
+none_of : (name : ℕ) (others : List ℕ) → constant_count ≤ name → list_all (λ other. nat_lt other constant_count) others ≡ true → list_any (λ other. name == other) others ≡ false
 none_of name [] above below = refl
 none_of name (other ∷ others) above below =
-    let parts = and_parts (nat_lt other 82) (list_all (λ n. nat_lt n 82) others) below in
-    ap₂ (λ (a b : Bool). a || b) (apart name other above (ltb-true other 82 parts.0)) (none_of name others above parts.1)
+    let parts = and_parts (nat_lt other constant_count) (list_all (λ n. nat_lt n constant_count) others) below in
+    ap₂ (λ (a b : Bool). a || b) (apart name other above (ltb-true other constant_count parts.0)) (none_of name others above parts.1)
 
-no_chain : (name : ℕ) → 82 ≤ name → is_chain name ≡ false
-no_chain name above = none_of name (26 ∷ 23 ∷ 25 ∷ 20 ∷ 2 ∷ []) above refl
+no_chain : (name : ℕ) → constant_count ≤ name → is_chain name ≡ false
+no_chain name above = none_of name (comma_name ∷ semicolon_name ∷ ampersand_name ∷ else_name ∷ cons_name ∷ []) above refl
 
 module _ (f : ℕ → ℕ) (keeps : KeepsFixed f) where
   chain_kept : (name : ℕ) → is_chain (f name) ≡ is_chain name
@@ -38,15 +39,15 @@ module _ (f : ℕ → ℕ) (keeps : KeepsFixed f) where
 
   -- a chain's name is the same as another exactly where it was
   same_kept : (chain name : ℕ) → (is_chain (f name) && (f name == f chain)) ≡ (is_chain name && (name == chain))
-  same_kept chain name = by (nat_lt name 82) refl
+  same_kept chain name = by (nat_lt name constant_count) refl
     where
-      by : (b : Bool) → nat_lt name 82 ≡ b → (is_chain (f name) && (f name == f chain)) ≡ (is_chain name && (name == chain))
+      by : (b : Bool) → nat_lt name constant_count ≡ b → (is_chain (f name) && (f name == f chain)) ≡ (is_chain name && (name == chain))
       by true low =
-          let below = ltb-true name 82 low in
+          let below = ltb-true name constant_count low in
           ap₂ (λ (a b : Bool). a && b) (chain_kept name)
           (ap (λ (n : ℕ). n == f chain) (keeps.low name below) ∙ kept f keeps (λ other. name == other) false (λ other above. apart_below other name above below) chain)
       by false high =
-          let above = ltb-false name 82 high in
+          let above = ltb-false name constant_count high in
           ap (λ (b : Bool). b && (f name == f chain)) (no_chain (f name) (keeps.high name above)) ∙ sym (ap (λ (b : Bool). b && (name == chain)) (no_chain name above))
 
   two_kept : (terms : Terms) → are_two (renumbered_all f terms) ≡ are_two terms
@@ -97,7 +98,7 @@ module _ (f : ℕ → ℕ) (keeps : KeepsFixed f) where
   allowed_kept : (term : Term) → IsAllowed term → IsAllowed (renumbered f term)
   allowed_kept term allowed = record {
     words = words_kept term allowed.words;
-    nested = subst (λ (n : ℕ). n ≤ 256) (sym (nesting_kept term)) allowed.nested;
+    nested = subst (λ (n : ℕ). n ≤ nesting_limit) (sym (nesting_kept term)) allowed.nested;
   }
 
   item_renumbered : (term : Term) (tokens rest : List Token) → SpellsItem term tokens rest → SpellsItem (renumbered f term) (renumbered_tokens f tokens) (renumbered_tokens f rest)

@@ -4,6 +4,7 @@ use Rattle.std.proofs.lemmas.Bool.{and_parts}
 use Rattle.std.specs.List.{list_all}
 use Rattle.std.specs.Option.{option_map}
 use Rattle.merc_base.specs.declared.place.Span.{Span}
+use Rattle.merc_base.specs.Names.{comma_name, minus_name, minus_name, minus_name, minus_name}
 use Rattle.merc_tokens.specs.declared.token.Token.{Token}
 use Rattle.merc_tokens.specs.declared.token.TokenKind.{TokenKind}
 use Rattle.merc_tokens.specs.declared.token.TokenKind.TheVariants.{Name, Quoted, Var, Int, Text as TextToken, OpenArgs, Open, Close, OpenList, CloseList, Comma, Bar, Dot, Stop}
@@ -12,6 +13,10 @@ use Rattle.merc_terms.specs.declared.operators.Fixity.{Fixity}
 use Rattle.merc_terms.specs.declared.operators.Operator.{Operator}
 use Rattle.merc_terms.specs.Operators.{operators, infix_named, prefix_named, is_infix}
 use Rattle.merc_terms.specs.Reading.{token, joined, cell, nil, begins_with, is_integer, goes_on_name, is_infix_name, leaves_plain, is_left_plain, IsName, plain, left_plain, quoted, IsQualified, unquoted, quoted as quoted_behind, IsOpen, alone, behind_operator, IsPrefix, IsInfix, name as infix_name, comma as infix_comma, Spells, variable, integer, negative, text, constant, qualified, application, qualified_application, empty_list, list, parenthesis, before, quantifier, between, SpellsArguments, last_argument, argument, SpellsItems, last_item, items_tail, item}
+
+-- how many constants every table of names holds
+abbrev pub constant_count : ℕ
+constant_count = 82
 
 abbrev pub renumbered_kind : (ℕ → ℕ) → TokenKind → TokenKind
 renumbered_kind f (Name name) = Name (f name)
@@ -46,13 +51,13 @@ abbrev mutual
 
 -- The constants keep their numbers, and no other name takes one of theirs.
 pub record KeepsFixed (f : ℕ → ℕ) : Type 0 where
-  pub low : (name : ℕ) → name < 82 → f name ≡ name
-  pub high : (name : ℕ) → 82 ≤ name → 82 ≤ f name
+  pub low : (name : ℕ) → name < constant_count → f name ≡ name
+  pub high : (name : ℕ) → constant_count ≤ name → constant_count ≤ f name
 
 -- each operator's name is a constant
 
 abbrev are_low : List Operator → Bool
-are_low rows = list_all (λ operator. nat_lt operator.name 82) rows
+are_low rows = list_all (λ operator. nat_lt operator.name constant_count) rows
 
 operators-low : are_low operators ≡ true
 unfolding operators
@@ -60,25 +65,25 @@ operators-low = refl
 
 -- the operator that is found has the name
 record IsFound (name : ℕ) (operator : Operator) : Type 0 where
-  low : name < 82
+  low : name < constant_count
   same : operator.name ≡ name
 
 found_in : (test : Fixity → Bool) (name : ℕ) (operator : Operator) (rows : List Operator) → are_low rows ≡ true
     → find (λ row. (row.name == name) && test row.fixity) rows ≡ Some operator → IsFound name operator
 found_in test name operator [] low is = absurd cc
 found_in test name operator (row ∷ rows) low is =
-    let lows = and_parts (nat_lt row.name 82) (are_low rows) low in by ((row.name == name) && test row.fixity) refl lows.0 (found_in test name operator rows lows.1) is
+    let lows = and_parts (nat_lt row.name constant_count) (are_low rows) low in by ((row.name == name) && test row.fixity) refl lows.0 (found_in test name operator rows lows.1) is
   where
-    by : (b : Bool) → ((row.name == name) && test row.fixity) ≡ b → nat_lt row.name 82 ≡ true → (find (λ other. (other.name == name) && test other.fixity) rows ≡ Some operator → IsFound name operator)
+    by : (b : Bool) → ((row.name == name) && test row.fixity) ≡ b → nat_lt row.name constant_count ≡ true → (find (λ other. (other.name == name) && test other.fixity) rows ≡ Some operator → IsFound name operator)
         → cond b (Some row) (find (λ other. (other.name == name) && test other.fixity) rows) ≡ Some operator → IsFound name operator
     by true there first others same =
         let is_row : row ≡ operator = cc in
         let named : row.name ≡ name = eqb-true row.name name (and_parts (row.name == name) (test row.fixity) there).0 in
-        let below = ltb-true row.name 82 first in
+        let below = ltb-true row.name constant_count first in
         record { low = omega arith; same = sym (ap (λ (o : Operator). o.name) is_row) ∙ named }
     by false there first others same = others same
 
-none_above : (name : ℕ) (found : Option Operator) → 82 ≤ name → ((operator : Operator) → found ≡ Some operator → IsFound name operator) → found ≡ None
+none_above : (name : ℕ) (found : Option Operator) → constant_count ≤ name → ((operator : Operator) → found ≡ Some operator → IsFound name operator) → found ≡ None
 none_above name None above is = refl
 none_above name (Some operator) above is = let low = (is operator refl).low in absurd (omega arith)
 
@@ -90,12 +95,12 @@ prefix_found name operator is = found_in (λ fixity. not (is_infix fixity)) name
 
 module _ (f : ℕ → ℕ) (keeps : KeepsFixed f) where
   -- what is nothing for a name that is no constant is the same for the other number
-  pub kept : {A : Type 0} (of_name : ℕ → A) (other : A) → ((name : ℕ) → 82 ≤ name → of_name name ≡ other) → (name : ℕ) → of_name (f name) ≡ of_name name
-  kept of_name other above name = by (nat_lt name 82) refl
+  pub kept : {A : Type 0} (of_name : ℕ → A) (other : A) → ((name : ℕ) → constant_count ≤ name → of_name name ≡ other) → (name : ℕ) → of_name (f name) ≡ of_name name
+  kept of_name other above name = by (nat_lt name constant_count) refl
     where
-      by : (b : Bool) → nat_lt name 82 ≡ b → of_name (f name) ≡ of_name name
-      by true low = ap of_name (keeps.low name (ltb-true name 82 low))
-      by false high = let most = ltb-false name 82 high in above (f name) (keeps.high name most) ∙ sym (above name most)
+      by : (b : Bool) → nat_lt name constant_count ≡ b → of_name (f name) ≡ of_name name
+      by true low = ap of_name (keeps.low name (ltb-true name constant_count low))
+      by false high = let most = ltb-false name constant_count high in above (f name) (keeps.high name most) ∙ sym (above name most)
 
   infix_kept : (name : ℕ) → infix_named (f name) ≡ infix_named name
   infix_kept name = kept infix_named None (λ n above. none_above n (infix_named n) above (infix_found n)) name
@@ -103,11 +108,11 @@ module _ (f : ℕ → ℕ) (keeps : KeepsFixed f) where
   prefix_kept : (name : ℕ) → prefix_named (f name) ≡ prefix_named name
   prefix_kept name = kept prefix_named None (λ n above. none_above n (prefix_named n) above (prefix_found n)) name
 
-  minus_kept : (name : ℕ) → (f name == 43) ≡ (name == 43)
-  minus_kept name = kept (λ n. n == 43) false (λ n above. not_minus n above (n == 43) refl) name
+  minus_kept : (name : ℕ) → (f name == minus_name) ≡ (name == minus_name)
+  minus_kept name = kept (λ n. n == minus_name) false (λ n above. not_minus n above (n == minus_name) refl) name
     where
-      not_minus : (n : ℕ) → 82 ≤ n → (b : Bool) → (n == 43) ≡ b → (n == 43) ≡ false
-      not_minus n above true is = let e = eqb-true n 43 is in absurd (omega arith)
+      not_minus : (n : ℕ) → constant_count ≤ n → (b : Bool) → (n == minus_name) ≡ b → (n == minus_name) ≡ false
+      not_minus n above true is = let e = eqb-true n minus_name is in absurd (omega arith)
       not_minus n above false is = is
 
   span_of-renumbered : (term : Term) → span_of (renumbered f term) ≡ span_of term
@@ -168,7 +173,7 @@ module _ (f : ℕ → ℕ) (keeps : KeepsFixed f) where
 
   infix_low : (commas : Bool) (kind : TokenKind) (operator : Operator) → IsInfix commas kind operator → f operator.name ≡ operator.name
   infix_low commas kind operator (infix_name _ name _ found) = let is = infix_found name operator found in keeps.low operator.name (omega (arith, is.low, is.same))
-  infix_low commas kind operator (infix_comma _ found) = let is = infix_found 26 operator found in keeps.low operator.name (omega (arith, is.low, is.same))
+  infix_low commas kind operator (infix_comma _ found) = let is = infix_found comma_name operator found in keeps.low operator.name (omega (arith, is.low, is.same))
 
   IsPrefix-renumbered : (name : ℕ) (operator : Operator) (rest : List Token) → IsPrefix name operator rest → IsPrefix (f name) operator (renumbered_tokens f rest)
   IsPrefix-renumbered name operator rest is = record {
@@ -193,7 +198,7 @@ module _ (f : ℕ → ℕ) (keeps : KeepsFixed f) where
     Spells-renumbered (integer commas value span rest) = integer commas value span (renumbered_tokens f rest)
     Spells-renumbered (negative commas value sign span rest) =
         subst (λ (n : ℕ). Spells commas (Integer (neg_ℤ (pos value)) (joined sign span)) 0 (token (Name n) sign ∷ token (Int value) span ∷ renumbered_tokens f rest) (renumbered_tokens f rest))
-        (sym (keeps.low 43 (omega arith))) (negative commas value sign span (renumbered_tokens f rest))
+        (sym (keeps.low minus_name (omega arith))) (negative commas value sign span (renumbered_tokens f rest))
     Spells-renumbered (text commas name span rest) = text commas (f name) span (renumbered_tokens f rest)
     Spells-renumbered (constant commas kind name span rest named ends) =
         constant commas (renumbered_kind f kind) (f name) span (renumbered_tokens f rest) (IsName-renumbered kind name rest named) (ends-renumbered rest ends)

@@ -2,6 +2,7 @@
 use Rattle.std.proofs.Common.{ℕ, suc, ◌<◌, ◌≤◌, Bool, true, false, List, [], ◌∷◌, length, Option, Some, None, arith}
 use Rattle.std.specs.Bool.{if◌then◌else◌}
 use Rattle.merc_base.specs.declared.place.Span.{Span}
+use Rattle.merc_base.specs.Names.{nil_name}
 use Rattle.merc_tokens.specs.declared.token.Token.{Token}
 use Rattle.merc_tokens.specs.declared.token.TokenKind.{TokenKind}
 use Rattle.merc_tokens.specs.declared.token.TokenKind.TheVariants.{Name, Quoted, Var, Int, Text as TextToken, OpenArgs, Open, OpenList, Dot}
@@ -105,7 +106,7 @@ list_start-left : (limit : ℕ) (span : Span) (rest : List Token) → length res
 list_start-left limit span [] short = short
 list_start-left limit span (first ∷ rest) short = go (is_list_end first.kind)
   where
-    go : (b : Bool) → IsLeft limit (if b then Some (Constant 1 None (joined span first.span), rest) else Some (ListStart span, first ∷ rest))
+    go : (b : Bool) → IsLeft limit (if b then Some (Constant nil_name None (joined span first.span), rest) else Some (ListStart span, first ∷ rest))
     go true = omega arith
     go false = short
 

@@ -4,6 +4,7 @@ use Rattle.std.specs.Bool.{if◌then◌else◌}
 use Rattle.std.proofs.lemmas.Bool.{and_parts}
 use Rattle.std.proofs.lemmas.Option.{same_Some}
 use Rattle.merc_base.specs.declared.place.Span.{Span}
+use Rattle.merc_base.specs.Names.{comma_name}
 use Rattle.merc_tokens.specs.declared.token.Token.{Token}
 use Rattle.merc_tokens.specs.declared.token.TokenKind.{TokenKind}
 use Rattle.merc_tokens.specs.declared.token.TokenKind.TheVariants.{Name, Close, CloseList, Comma, Bar}
@@ -17,7 +18,7 @@ use Rattle.merc_terms.specs.declared.frame.Delimiter.TheVariants.{Comma as Comma
 use Rattle.merc_terms.specs.declared.operators.Operator.{Operator}
 use Rattle.merc_terms.specs.declared.starting.Start.{Start}
 use Rattle.merc_terms.specs.declared.starting.Start.TheVariants.{Variable as VariableStart, Integer as IntegerStart, Text as TextStart, Constant, Application as ApplicationStart, List as ListStart, Parenthesis, Prefix}
-use Rattle.merc_terms.specs.Operators.{infix_named, first_most, last_most, takes_two}
+use Rattle.merc_terms.specs.Operators.{infix_named, first_most, last_most, takes_two, term_most, argument_most}
 use Rattle.merc_terms.specs.Reading.{token, joined, begins_with, is_infix_name, IsInfix, name as infix_name, comma as infix_comma, Spells, before as spells_before, quantifier, between, SpellsArguments, last_argument, argument, SpellsItems, last_item, items_tail, item, cell, nil}
 use Rattle.merc_terms.specs.Starting.{Started, start_at}
 use Rattle.merc_terms.specs.declared.built.Built.{Built}
@@ -65,7 +66,7 @@ AwaitsLast operator span bound old tokens built rest =
 abbrev Awaits : Role → Bound → Built → List Token → Built → List Token → Type 0
 Awaits (Enclosed span) bound old tokens built rest =
     (built ≡ old)
-    × ((term : Term) (priority : ℕ) (close : Span) (left : List Token) → Spells true term priority rest (token Close close ∷ left) → priority ≤ 1200
+    × ((term : Term) (priority : ℕ) (close : Span) (left : List Token) → Spells true term priority rest (token Close close ∷ left) → priority ≤ term_most
     → Spells bound.commas (with_span (joined span close) term) 0 tokens left)
 Awaits (Argument name qualifier span count) bound old tokens built rest =
     (before : List Term) × (count ≡ suc (length before)) × (built ≡ pushed_back before old)
@@ -77,7 +78,7 @@ Awaits (Item span count) bound old tokens built rest =
     → Spells bound.commas (cells (joined span close) before term) 0 tokens left)
 Awaits (ListTail span count) bound old tokens built rest =
     (last : Term) × (before : List Term) × (count ≡ suc (length before)) × (built ≡ pushed_back (last ∷ before) old)
-    × ((term : Term) (priority : ℕ) (close : Span) (left : List Token) → Spells false term priority rest (token CloseList close ∷ left) → priority ≤ 1199
+    × ((term : Term) (priority : ℕ) (close : Span) (left : List Token) → Spells false term priority rest (token CloseList close ∷ left) → priority ≤ argument_most
     → Spells bound.commas (cells (joined span close) (last ∷ before) term) 0 tokens left)
 Awaits (Operand operator span) bound old tokens built rest =
     (built ≡ old) × (operator.priority ≤ bound.max)
@@ -123,9 +124,9 @@ fitting-is bound priority kind mark rest (Some operator) is = go (nat_le operato
     go false both = tt
 
 comma-is : (bound : Bound) (priority : ℕ) (mark : Span) (rest : List Token) (b : Bool) → bound.commas ≡ b
-    → WhereInfix bound priority (token Comma mark ∷ rest) (if b then fitting bound priority (infix_named 26) rest else None)
+    → WhereInfix bound priority (token Comma mark ∷ rest) (if b then fitting bound priority (infix_named comma_name) rest else None)
 comma-is bound priority mark rest true is =
-    fitting-is bound priority Comma mark rest (infix_named 26) (λ operator found. subst (λ (b : Bool). IsInfix b Comma operator) (sym is) (infix_comma operator found))
+    fitting-is bound priority Comma mark rest (infix_named comma_name) (λ operator found. subst (λ (b : Bool). IsInfix b Comma operator) (sym is) (infix_comma operator found))
 comma-is bound priority mark rest false is = tt
 
 infix_kind-is : (bound : Bound) (priority : ℕ) (kind : TokenKind) (mark : Span) (rest : List Token)

@@ -3,6 +3,7 @@ use Rattle.std.proofs.Common.{◌≡◌, ℕ, ◌≤◌, Bool, true, false, ◌=
 use Rattle.std.specs.Bool.{if◌then◌else◌}
 use Rattle.std.proofs.lemmas.Bool.{and_parts}
 use Rattle.merc_base.specs.declared.place.Span.{Span}
+use Rattle.merc_base.specs.Names.{minus_name, minus_name, minus_name}
 use Rattle.merc_tokens.specs.declared.token.Token.{Token}
 use Rattle.merc_tokens.specs.declared.token.TokenKind.{TokenKind}
 use Rattle.merc_tokens.specs.declared.token.TokenKind.TheVariants.{Name, Quoted, Var, Int, Text as TextToken, OpenArgs, Open, Close, OpenList, CloseList, Dot}
@@ -10,7 +11,7 @@ use Rattle.merc_tree.specs.Term.{Term, Terms, Variable, Integer, Text, Applicati
 use Rattle.merc_terms.specs.declared.operators.Operator.{Operator}
 use Rattle.merc_terms.specs.declared.starting.Start.{Start}
 use Rattle.merc_terms.specs.declared.starting.Start.TheVariants.{Variable as VariableStart, Integer as IntegerStart, Text as TextStart, Constant, Application as ApplicationStart, List as ListStart, Parenthesis, Prefix}
-use Rattle.merc_terms.specs.Operators.{prefix_named}
+use Rattle.merc_terms.specs.Operators.{prefix_named, term_most}
 use Rattle.merc_terms.specs.Reading.{token, joined, begins_with, is_integer, goes_on_name, is_left_plain, is_sign, IsName, plain, left_plain, quoted, unquoted, quoted as quoted_behind, alone, behind_operator, IsPrefix, Spells, variable, integer, negative, text, constant, qualified, application, qualified_application, empty_list, list, parenthesis, SpellsArguments, SpellsItems}
 use Rattle.merc_terms.specs.Starting.{Started, named_at, named_before, qualified_at, plain_start, signed_at, signed_start, operator_start, list_start, start_with, start_at}
 use Rattle.merc_terms.specs.Reader.{integer_of}
@@ -26,7 +27,7 @@ Begins commas tokens (ApplicationStart name qualifier span) rest =
 Begins commas tokens (ListStart span) rest =
     (term : Term) (close : Span) (left : List Token) → SpellsItems (joined span close) term close rest left → Spells commas term 0 tokens left
 Begins commas tokens (Parenthesis span) rest =
-    (term : Term) (priority : ℕ) (close : Span) (left : List Token) → Spells true term priority rest (token Close close ∷ left) → priority ≤ 1200
+    (term : Term) (priority : ℕ) (close : Span) (left : List Token) → Spells true term priority rest (token Close close ∷ left) → priority ≤ term_most
     → Spells commas (with_span (joined span close) term) 0 tokens left
 Begins commas tokens (Prefix operator span) rest = (name : ℕ) × IsPrefix name operator rest × (tokens ≡ token (Name name) span ∷ rest)
 
@@ -91,7 +92,7 @@ plain_start-begins commas kind name span (first ∷ rest) named = plain_at-begin
 
 -- a name that may be a sign or a prefix operator
 
-signed_at-begins : (commas : Bool) (name : ℕ) (span : Span) (kind : TokenKind) (last : Span) (rest : List Token) → name ≡ 43
+signed_at-begins : (commas : Bool) (name : ℕ) (span : Span) (kind : TokenKind) (last : Span) (rest : List Token) → name ≡ minus_name
     → WhereBegun commas (token (Name name) span ∷ token kind last ∷ rest) (signed_at span kind last rest)
 signed_at-begins commas name span (Int value) last rest is = rw is (negative commas value span last rest)
 signed_at-begins commas name span kind last rest is = tt
@@ -100,7 +101,7 @@ signed_start-begins : (commas : Bool) (name : ℕ) (span : Span) (rest : List To
     → WhereBegun commas (token (Name name) span ∷ rest) (signed_start span rest)
 signed_start-begins commas name span [] sign = tt
 signed_start-begins commas name span (first ∷ rest) sign =
-    signed_at-begins commas name span first.kind first.span rest (eqb-true name 43 (and_parts (name == 43) (is_integer first.kind) sign).0)
+    signed_at-begins commas name span first.kind first.span rest (eqb-true name minus_name (and_parts (name == minus_name) (is_integer first.kind) sign).0)
 
 operator_start-begins : (commas : Bool) (name : ℕ) (span : Span) (rest : List Token) → is_sign name rest ≡ false
     → WhereBegun commas (token (Name name) span ∷ rest) (operator_start (prefix_named name) name span rest)

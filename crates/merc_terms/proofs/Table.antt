@@ -4,10 +4,11 @@ use Rattle.std.specs.Bool.{if◌then◌else◌}
 use Rattle.std.specs.List.{find, list_all}
 use Rattle.std.proofs.lemmas.Bool.{and_parts}
 use Rattle.std.proofs.lemmas.Option.{same_Some}
+use Rattle.merc_base.specs.Names.{comma_name, minus_name, minus_name, minus_name}
 use Rattle.merc_terms.specs.declared.operators.Operator.{Operator}
 use Rattle.merc_terms.specs.Operators.{operators, infix_named, prefix_named, is_infix, begins_y, ends_y, takes_two, first_most, last_most}
 
-find_holds : (test : Operator → Bool) (rows : List Operator) (row : Operator) → find test rows ≡ Some row → test row ≡ true
+pub find_holds : (test : Operator → Bool) (rows : List Operator) (row : Operator) → find test rows ≡ Some row → test row ≡ true
 find_holds test [] row found = cc
 find_holds test (first ∷ rows) row found = go (test first) refl found (λ same. find_holds test rows row same)
   where
@@ -16,7 +17,7 @@ find_holds test (first ∷ rows) row found = go (test first) refl found (λ same
     go false is same later = later same
 
 -- what holds of each row holds of the one that is found
-find_all : (property test : Operator → Bool) (rows : List Operator) (row : Operator) → list_all property rows ≡ true → find test rows ≡ Some row → property row ≡ true
+pub find_all : (property test : Operator → Bool) (rows : List Operator) (row : Operator) → list_all property rows ≡ true → find test rows ≡ Some row → property row ≡ true
 find_all property test [] row all found = cc
 find_all property test (first ∷ rows) row all found =
     let parts = and_parts (property first) (list_all property rows) all in
@@ -67,22 +68,40 @@ infix_apart name operator found = apart_by operator (find_all is_apart _ operato
 pub prefix_apart : (name : ℕ) (operator : Operator) → prefix_named name ≡ Some operator → IsApart operator
 prefix_apart name operator found = apart_by operator (find_all is_apart _ operators operator all_apart found)
 
+pub infix_name : (name : ℕ) (operator : Operator) → infix_named name ≡ Some operator → operator.name ≡ name
+infix_name name operator found =
+    eqb-true operator.name name (and_parts (operator.name == name) (is_infix operator.fixity) (find_holds (λ row. (row.name == name) && is_infix row.fixity) operators operator found)).0
+
 pub prefix_name : (name : ℕ) (operator : Operator) → prefix_named name ≡ Some operator → operator.name ≡ name
 prefix_name name operator found =
     eqb-true operator.name name (and_parts (operator.name == name) (not (is_infix operator.fixity)) (find_holds (λ row. (row.name == name) && not (is_infix row.fixity)) operators operator found)).0
 
+-- an operator that takes two operands binds tighter than an argument may
+
+abbrev is_quantifier_row : Operator → Bool
+is_quantifier_row operator = not (takes_two operator.fixity) || operator.priority == 950
+
+all_quantifiers : list_all is_quantifier_row operators ≡ true
+unfolding operators
+all_quantifiers = refl
+
+pub quantifier_priority : (name : ℕ) (operator : Operator) → prefix_named name ≡ Some operator → takes_two operator.fixity ≡ true → operator.priority ≡ 950
+quantifier_priority name operator found two =
+    let either = find_all is_quantifier_row _ operators operator all_quantifiers found in
+    eqb-true operator.priority 950 (implied (takes_two operator.fixity) (operator.priority == 950) either two)
+
 -- the comma's row
-pub comma_row : (operator : Operator) → infix_named 26 ≡ Some operator → operator.priority ≡ 1000
+pub comma_row : (operator : Operator) → infix_named comma_name ≡ Some operator → operator.priority ≡ 1000
 unfolding operators
 comma_row operator found = ap (λ (o : Operator). o.priority) (sym (same_Some _ operator found))
 
 -- the sign's name is a prefix operator's
-pub minus_prefix : (name : ℕ) → prefix_named name ≡ None → (name == 43) ≡ false
+pub minus_prefix : (name : ℕ) → prefix_named name ≡ None → (name == minus_name) ≡ false
 unfolding operators
-minus_prefix name none = go (name == 43) refl
+minus_prefix name none = go (name == minus_name) refl
   where
-    go : (b : Bool) → (name == 43) ≡ b → b ≡ false
-    go true is = let named : prefix_named 43 ≡ None = subst (λ (n : ℕ). prefix_named n ≡ None) (eqb-true name 43 is) none in cc
+    go : (b : Bool) → (name == minus_name) ≡ b → b ≡ false
+    go true is = let named : prefix_named minus_name ≡ None = subst (λ (n : ℕ). prefix_named n ≡ None) (eqb-true name minus_name is) none in cc
     go false is = refl
 
 -- the greatest priorities of operands

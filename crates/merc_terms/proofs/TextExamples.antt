@@ -1,5 +1,5 @@
 -- Short texts: what is read of them, and what is wrong with them.
-use Rattle.std.proofs.Common.{◌≡◌, ℕ, true, false, List, [], ◌∷◌, length, refl, arith}
+use Rattle.std.proofs.Common.{◌≡◌, ℕ, ◌+◌, true, false, List, [], ◌∷◌, length, refl, arith}
 use Rattle.std.specs.Prelude.{codes}
 use Rattle.std.specs.Char.{encode_utf8}
 use Rattle.std.specs.List.{IsDistinct}
@@ -53,11 +53,11 @@ no_goal-counterexample names after term distinct reads =
     RefusesGoalText-excludes names [] distinct (refusal_at NoTerm Plain (record { byte = 0; line = 1 })) after term (no_goal-example names) reads
 
 -- a text of one byte too many is no goal, whatever it says
-pub long-example : (names : List (List ℕ)) (text : List ℕ) → length text ≡ 65537 → RefusesGoalText names text (refusal_at LimitPassed (Limit GoalText) (record { byte = 0; line = 1 }))
+pub long-example : (names : List (List ℕ)) (text : List ℕ) → length text ≡ goal_limit + 1 → RefusesGoalText names text (refusal_at LimitPassed (Limit GoalText) (record { byte = 0; line = 1 }))
 unfolding goal_limit
 long-example names text is = long (omega arith)
 
-pub long-counterexample : (names after : List (List ℕ)) (text : List ℕ) (term : Term) → length text ≡ 65537 → ReadsGoal names after text term → ⊥
+pub long-counterexample : (names after : List (List ℕ)) (text : List ℕ) (term : Term) → length text ≡ goal_limit + 1 → ReadsGoal names after text term → ⊥
 unfolding goal_limit
 long-counterexample names after text term is reads = omega (arith, reads.within)
 

@@ -24,7 +24,7 @@ use Rattle.merc_tree.specs.Term.{Term}
 use Rattle.merc_terms.specs.Items.{HasItems}
 use Rattle.merc_terms.specs.Texts.{ReadsItems}
 use Rattle.merc_terms.proofs.Deciding.{are_items, are_items-right}
-use Rattle.merc_terms.proofs.Renumbering.{KeepsFixed, renumbered, renumbered_kind, renumbered_tokens}
+use Rattle.merc_terms.proofs.Renumbering.{KeepsFixed, renumbered, renumbered_kind, renumbered_tokens, constant_count}
 use Rattle.merc_terms.proofs.RenumberedItems.{HasItems-renumbered}
 
 -- a kind of token with numbers for the names
@@ -95,46 +95,46 @@ front_of (text ∷ front) (other ∷ whole) holds =
 
 -- what number a name has in one table whose number in another is this, where the constants come first in both
 abbrev moved : List (List ℕ) → List (List ℕ) → ℕ → ℕ
-moved old added name = if nat_lt name 82 then name else 82 + place_among added (get_or old name [])
+moved old added name = if nat_lt name constant_count then name else constant_count + place_among added (get_or old name [])
 
-moved_below : (old added : List (List ℕ)) (name : ℕ) → name < 82 → moved old added name ≡ name
-moved_below old added name below = ap (λ (b : Bool). if b then name else 82 + place_among added (get_or old name [])) (lt-ltb name 82 below)
+moved_below : (old added : List (List ℕ)) (name : ℕ) → name < constant_count → moved old added name ≡ name
+moved_below old added name below = ap (λ (b : Bool). if b then name else constant_count + place_among added (get_or old name [])) (lt-ltb name constant_count below)
 
-moved_above : (old added : List (List ℕ)) (name : ℕ) → 82 ≤ name → moved old added name ≡ 82 + place_among added (get_or old name [])
-moved_above old added name above = by (nat_lt name 82) refl
+moved_above : (old added : List (List ℕ)) (name : ℕ) → constant_count ≤ name → moved old added name ≡ constant_count + place_among added (get_or old name [])
+moved_above old added name above = by (nat_lt name constant_count) refl
   where
-    by : (b : Bool) → nat_lt name 82 ≡ b → (if b then name else 82 + place_among added (get_or old name [])) ≡ 82 + place_among added (get_or old name [])
-    by true below = let less = ltb-true name 82 below in absurd (omega arith)
+    by : (b : Bool) → nat_lt name constant_count ≡ b → (if b then name else constant_count + place_among added (get_or old name [])) ≡ constant_count + place_among added (get_or old name [])
+    by true below = let less = ltb-true name constant_count below in absurd (omega arith)
     by false high = refl
 
 moved-keeps : (old added : List (List ℕ)) → KeepsFixed (moved old added)
 moved-keeps old added = record {
   low = moved_below old added;
-  high = λ name above. subst (λ (n : ℕ). 82 ≤ n) (sym (moved_above old added name above)) (omega arith);
+  high = λ name above. subst (λ (n : ℕ). constant_count ≤ n) (sym (moved_above old added name above)) (omega arith);
 }
 
 -- a text's place behind the constants
-place_behind : (back : List (List ℕ)) (text : List ℕ) → place_among (fixed_names ++ back) text ≡ cond (nat_eq (place_among fixed_names text) 82) (82 + place_among back text) (place_among fixed_names text)
+place_behind : (back : List (List ℕ)) (text : List ℕ) → place_among (fixed_names ++ back) text ≡ cond (nat_eq (place_among fixed_names text) constant_count) (constant_count + place_among back text) (place_among fixed_names text)
 place_behind back text =
     prefix_len-append (λ other. not (bytes_eq text other)) fixed_names back
     ∙ ap (λ (n : ℕ). cond (nat_eq (place_among fixed_names text) n) (n + place_among back text) (place_among fixed_names text)) length-fixed_names
 
 moved_place : (some added : List (List ℕ)) (text : List ℕ) → IsPlaced (fixed_names ++ some) text
     → place_among (fixed_names ++ added) text ≡ moved (fixed_names ++ some) added (place_among (fixed_names ++ some) text)
-moved_place some added text is = by (nat_eq (place_among fixed_names text) 82) refl
+moved_place some added text is = by (nat_eq (place_among fixed_names text) constant_count) refl
   where
-    by : (b : Bool) → nat_eq (place_among fixed_names text) 82 ≡ b → place_among (fixed_names ++ added) text ≡ moved (fixed_names ++ some) added (place_among (fixed_names ++ some) text)
+    by : (b : Bool) → nat_eq (place_among fixed_names text) constant_count ≡ b → place_among (fixed_names ++ added) text ≡ moved (fixed_names ++ some) added (place_among (fixed_names ++ some) text)
     by true none =
-        let old : place_among (fixed_names ++ some) text ≡ 82 + place_among some text = place_behind some text ∙ ap (λ (b : Bool). cond b (82 + place_among some text) (place_among fixed_names text)) none in
-        let new : place_among (fixed_names ++ added) text ≡ 82 + place_among added text = place_behind added text ∙ ap (λ (b : Bool). cond b (82 + place_among added text) (place_among fixed_names text)) none in
+        let old : place_among (fixed_names ++ some) text ≡ constant_count + place_among some text = place_behind some text ∙ ap (λ (b : Bool). cond b (constant_count + place_among some text) (place_among fixed_names text)) none in
+        let new : place_among (fixed_names ++ added) text ≡ constant_count + place_among added text = place_behind added text ∙ ap (λ (b : Bool). cond b (constant_count + place_among added text) (place_among fixed_names text)) none in
         let there : get_or (fixed_names ++ some) (place_among (fixed_names ++ some) text) [] ≡ text = get_or_from_slice_get (fixed_names ++ some) (place_among (fixed_names ++ some) text) text [] is in
-        new ∙ sym (moved_above (fixed_names ++ some) added (place_among (fixed_names ++ some) text) (omega (arith, old)) ∙ ap (λ (t : List ℕ). 82 + place_among added t) there)
+        new ∙ sym (moved_above (fixed_names ++ some) added (place_among (fixed_names ++ some) text) (omega (arith, old)) ∙ ap (λ (t : List ℕ). constant_count + place_among added t) there)
     by false among =
-        let old : place_among (fixed_names ++ some) text ≡ place_among fixed_names text = place_behind some text ∙ ap (λ (b : Bool). cond b (82 + place_among some text) (place_among fixed_names text)) among in
-        let new : place_among (fixed_names ++ added) text ≡ place_among fixed_names text = place_behind added text ∙ ap (λ (b : Bool). cond b (82 + place_among added text) (place_among fixed_names text)) among in
+        let old : place_among (fixed_names ++ some) text ≡ place_among fixed_names text = place_behind some text ∙ ap (λ (b : Bool). cond b (constant_count + place_among some text) (place_among fixed_names text)) among in
+        let new : place_among (fixed_names ++ added) text ≡ place_among fixed_names text = place_behind added text ∙ ap (λ (b : Bool). cond b (constant_count + place_among added text) (place_among fixed_names text)) among in
         let most = prefix_len-le-length (λ other. not (bytes_eq text other)) fixed_names in
-        let other : place_among fixed_names text ≡ 82 → ⊥ = λ e. (let same = eq-eqb (place_among fixed_names text) 82 e in cc) in
-        let below : place_among (fixed_names ++ some) text < 82 = omega (arith, length-fixed_names) in
+        let other : place_among fixed_names text ≡ constant_count → ⊥ = λ e. (let same = eq-eqb (place_among fixed_names text) constant_count e in cc) in
+        let below : place_among (fixed_names ++ some) text < constant_count = omega (arith, length-fixed_names) in
         new ∙ sym old ∙ sym (moved_below (fixed_names ++ some) added (place_among (fixed_names ++ some) text) below)
 
 -- the tokens of a text

@@ -6,12 +6,12 @@ use Rattle.merc_terms.specs.Operators.{operators}
 use Rattle.merc_terms.specs.Reader.{reading}
 use Rattle.merc_terms.proofs.TextsRead.{is_read}
 
-pub is_read-example : is_read 12 1 (codes ":- type t ---> a." ++ 10 ∷ []) ≡ true
+pub is_read-example : is_read 12 1 (codes ":- type t ---> a.\n") ≡ true
 unfolding fixed_names operators reading
 is_read-example = refl
 
 -- an item without its full stop
-pub is_read-counterexample : is_read 12 1 (codes ":- type t ---> a" ++ 10 ∷ []) ≡ false
+pub is_read-counterexample : is_read 12 1 (codes ":- type t ---> a\n") ≡ false
 unfolding fixed_names operators reading
 is_read-counterexample = refl
 

@@ -3,6 +3,8 @@ use Rattle.std.proofs.Common.{◌≡◌, ℕ, suc, ◌<◌, ◌≤◌, ℤ, pos,
 use Rattle.std.specs.Int.{w64}
 use Rattle.std.specs.Bool.{if◌then◌else◌}
 use Rattle.merc_base.specs.declared.place.Span.{Span}
+use Rattle.merc_terms.specs.Operators.{term_most}
+use Rattle.merc_tokens.specs.Integers.{integer_limit}
 use Rattle.merc_tokens.specs.declared.token.Token.{Token}
 use Rattle.merc_tokens.specs.declared.token.TokenKind.TheVariants.{Stop}
 use Rattle.merc_tree.specs.Term.{Term, Terms, Variable, Integer, Text, Application, none, more, span_of, HasWords, HaveWords}
@@ -20,7 +22,7 @@ pub record IsWhole (built : Built) (tokens : List Token) (read : Read) : Type 0 
   pub term : Term
   pub built_is : read.built ≡ pushed term built
   pub span_is : read.span ≡ span_of term
-  pub within : read.priority ≤ 1200
+  pub within : read.priority ≤ term_most
   pub spelled : Spells true term read.priority tokens read.rest
 
 pub whole_sound : (built : Built) (tokens : List Token) (read : Read) → whole_term built tokens ≡ Some read → IsWhole built tokens read
@@ -37,7 +39,7 @@ end_closes : (commas : Bool) (rest : List Token) → IsEnd rest → begins_with 
 end_closes commas rest nothing = refl
 end_closes commas rest (full_stop stop others) = refl
 
-pub whole_complete : (built : Built) (term : Term) (priority : ℕ) (tokens rest : List Token) → Spells true term priority tokens rest → priority ≤ 1200 → IsEnd rest
+pub whole_complete : (built : Built) (term : Term) (priority : ℕ) (tokens rest : List Token) → Spells true term priority tokens rest → priority ≤ term_most → IsEnd rest
     → whole_term built tokens ≡ Some (record { built = pushed term built; span = span_of term; priority = priority; rest = rest })
 whole_complete built term priority tokens rest spelled within ends =
     settled_term-is (suc (length tokens)) whole_bound built tokens (omega arith)
@@ -53,8 +55,8 @@ enough n bound built tokens less = term-steps n (suc (length tokens)) bound buil
 
 -- the integers of a term fit exactly where it is not great, and then it is built as it is
 
-small : (n : ℕ) → not (nat_lt n 9223372036854775808) ≡ false → nat_lt n 9223372036854775808 ≡ true
-small n fits = go (nat_lt n 9223372036854775808) fits
+small : (n : ℕ) → not (nat_lt n integer_limit) ≡ false → nat_lt n integer_limit ≡ true
+small n fits = go (nat_lt n integer_limit) fits
   where
     go : (b : Bool) → not b ≡ false → b ≡ true
     go true is = refl
@@ -66,9 +68,9 @@ small_integer false value is = cc
 
 integer_fits : (value : ℤ) → is_great_integer value ≡ false → FitsSigned w64 value × (clipped_integer value ≡ value)
 integer_fits (pos n) fits =
-    (record { sfits = ltb-true n 9223372036854775808 (small n fits) }, small_integer (nat_lt n 9223372036854775808) (pos n) (small n fits))
+    (record { sfits = ltb-true n integer_limit (small n fits) }, small_integer (nat_lt n integer_limit) (pos n) (small n fits))
 integer_fits (negsuc n) fits =
-    (record { sfits = ltb-true n 9223372036854775808 (small n fits) }, small_integer (nat_lt n 9223372036854775808) (negsuc n) (small n fits))
+    (record { sfits = ltb-true n integer_limit (small n fits) }, small_integer (nat_lt n integer_limit) (negsuc n) (small n fits))
 
 neither : (a b : Bool) → (a || b) ≡ false → (a ≡ false) × (b ≡ false)
 neither true b is = cc
@@ -91,8 +93,8 @@ mutual
       ((one.0, others.0), ap₂ more one.1 others.1)
 
 words_fit : (value : ℤ) → FitsSigned w64 value → is_great_integer value ≡ false
-words_fit (pos n) fits = ap not (lt-ltb n 9223372036854775808 fits.sfits)
-words_fit (negsuc n) fits = ap not (lt-ltb n 9223372036854775808 fits.sfits)
+words_fit (pos n) fits = ap not (lt-ltb n integer_limit fits.sfits)
+words_fit (negsuc n) fits = ap not (lt-ltb n integer_limit fits.sfits)
 
 mutual
   pub fits_great : (term : Term) → HasWords term → is_great term ≡ false

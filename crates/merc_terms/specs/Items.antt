@@ -10,6 +10,7 @@ use Rattle.merc_base.specs.declared.refusal.Rule.TheVariants.{NoTerm, LimitPasse
 use Rattle.merc_base.specs.declared.refusal.Detail.{Detail}
 use Rattle.merc_base.specs.declared.refusal.Detail.TheVariants.{Plain, Limit}
 use Rattle.merc_base.specs.declared.refusal.LimitName.TheVariants.{Integer as IntegerLimit, Nesting as NestingLimit}
+use Rattle.merc_terms.specs.Operators.{term_most}
 use Rattle.merc_tokens.specs.declared.token.Token.{Token}
 use Rattle.merc_tokens.specs.declared.token.TokenKind.TheVariants.{Stop}
 use Rattle.merc_tree.specs.Term.{Term, HasWords}
@@ -20,7 +21,7 @@ use Rattle.merc_terms.specs.Reading.{token, Spells}
 pub record SpellsItem (term : Term) (tokens rest : List Token) : Type 0 where
   pub priority : ℕ
   pub stop : Span
-  pub within : priority ≤ 1200
+  pub within : priority ≤ term_most
   pub spelled : Spells true term priority tokens (token Stop stop ∷ rest)
 
 -- the end, or a full stop and the end
@@ -32,14 +33,18 @@ pub data Ends : List Token → Type 0 where
 pub record SpellsGoal (term : Term) (tokens : List Token) : Type 0 where
   pub priority : ℕ
   pub rest : List Token
-  pub within : priority ≤ 1200
+  pub within : priority ≤ term_most
   pub spelled : Spells true term priority tokens rest
   pub ends : Ends rest
+
+-- how deep a term may be nested
+abbrev pub nesting_limit : ℕ
+nesting_limit = 256
 
 -- a term keeps the limits on integers and on nesting
 pub record IsAllowed (term : Term) : Type 0 where
   pub words : HasWords term
-  pub nested : nesting term ≤ 256
+  pub nested : nesting term ≤ nesting_limit
 
 -- the tokens are items with these terms
 pub data HasItems : List Token → List Term → Type 0 where
@@ -55,7 +60,7 @@ pub record HasGoal (tokens : List Token) (term : Term) : Type 0 where
 pub data IsWrong (Reads : Term → Type 0) : Rule → Detail → Type 0 where
   unread : ((term : Term) → Reads term → ⊥) → IsWrong Reads NoTerm Plain
   great : (term : Term) → Reads term → (HasWords term → ⊥) → IsWrong Reads LimitPassed (Limit IntegerLimit)
-  nested : (term : Term) → Reads term → HasWords term → 256 < nesting term → IsWrong Reads LimitPassed (Limit NestingLimit)
+  nested : (term : Term) → Reads term → HasWords term → nesting_limit < nesting term → IsWrong Reads LimitPassed (Limit NestingLimit)
 
 -- a refusal with this rule and detail, at this place
 abbrev pub refusal_at : Rule → Detail → Place → Refusal

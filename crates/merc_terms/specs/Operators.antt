@@ -1,57 +1,44 @@
 -- The operator table.
 use Rattle.std.specs.Prelude.{ℕ, ◌-◌, Bool, true, false, ◌==◌, ◌&&◌, not, List, [], ◌∷◌, find, Option, if◌then◌else◌}
+use Rattle.merc_base.specs.Names.{all_name, ampersand_name, arrow_name, at_least_name, at_most_name, colon_colon_name, colon_minus_name, comma_name, div_name, else_name, end_module_name, equal_equal_name, equal_name, equivalent_name, func_name, grammar_arrow_name, greater_name, if_name, implies_name, import_module_name, is_name, less_name, minus_name, mod_name, mode_name, module_name, not_equal_name, not_name, not_provable_name, plus_name, pred_name, rem_name, semicolon_name, slash_slash_name, some_name, star_name, then_name, type_arrow_name, type_name}
 use Rattle.merc_terms.specs.declared.operators.Fixity.{Fixity}
 use Rattle.merc_terms.specs.declared.operators.Fixity.TheVariants.{Xfx, Xfy, Yfx, Fx, Fy, Fxy}
 use Rattle.merc_terms.specs.declared.operators.Operator.{Operator}
 
+-- the greatest priority of a whole term, and of an argument or list item
+abbrev pub term_most : ℕ
+term_most = 1200
+
+abbrev pub argument_most : ℕ
+argument_most = 1199
+
 abbrev row : ℕ → Fixity → ℕ → Operator
 row priority fixity name = record { name = name; priority = priority; fixity = fixity }
 
--- Each row has a priority, a fixity and an operator's name, by its number in every table of names.
+-- Each row has a priority, a fixity and an operator's name.
 unfoldable pub operators : List Operator
 operators =
-    -- :-   (twice)   -->
-    row 1200 Xfx 10 ∷ row 1200 Fx 10 ∷ row 1200 Xfx 11 ∷
-    -- module   end_module   import_module   mode
-    row 1199 Fx 12 ∷ row 1199 Fx 13 ∷ row 1199 Fx 14 ∷ row 1199 Fx 15 ∷
-    -- type
-    row 1180 Fx 16 ∷
-    -- --->
-    row 1179 Xfy 17 ∷
-    -- ::   ==
-    row 1175 Xfx 18 ∷ row 1175 Xfx 19 ∷
-    -- else
-    row 1170 Xfy 20 ∷
-    -- if
-    row 1160 Fx 21 ∷
-    -- then
-    row 1150 Xfx 22 ∷
-    -- ;
-    row 1100 Xfy 23 ∷
-    -- ->
-    row 1050 Xfy 24 ∷
-    -- &
-    row 1025 Xfy 25 ∷
-    -- ,
-    row 1000 Xfy 26 ∷
-    -- some   all
-    row 950 Fxy 27 ∷ row 950 Fxy 28 ∷
-    -- =>   <=>
-    row 920 Xfy 29 ∷ row 920 Xfy 30 ∷
-    -- not   \+
-    row 900 Fy 31 ∷ row 900 Fy 32 ∷
-    -- pred   func
-    row 800 Fx 33 ∷ row 800 Fx 34 ∷
-    -- is
-    row 701 Xfx 35 ∷
-    -- =   \=   <   >   =<   >=
-    row 700 Xfx 36 ∷ row 700 Xfx 37 ∷ row 700 Xfx 38 ∷ row 700 Xfx 39 ∷ row 700 Xfx 40 ∷ row 700 Xfx 41 ∷
-    -- +   -
-    row 500 Yfx 42 ∷ row 500 Yfx 43 ∷
-    -- *   //   div   mod   rem
-    row 400 Yfx 44 ∷ row 400 Yfx 45 ∷ row 400 Yfx 46 ∷ row 400 Xfx 47 ∷ row 400 Xfx 48 ∷
-    -- -
-    row 200 Fx 43 ∷ []
+    row 1200 Xfx colon_minus_name ∷ row 1200 Fx colon_minus_name ∷ row 1200 Xfx grammar_arrow_name ∷
+    row 1199 Fx module_name ∷ row 1199 Fx end_module_name ∷ row 1199 Fx import_module_name ∷ row 1199 Fx mode_name ∷
+    row 1180 Fx type_name ∷
+    row 1179 Xfy type_arrow_name ∷
+    row 1175 Xfx colon_colon_name ∷ row 1175 Xfx equal_equal_name ∷
+    row 1170 Xfy else_name ∷
+    row 1160 Fx if_name ∷
+    row 1150 Xfx then_name ∷
+    row 1100 Xfy semicolon_name ∷
+    row 1050 Xfy arrow_name ∷
+    row 1025 Xfy ampersand_name ∷
+    row 1000 Xfy comma_name ∷
+    row 950 Fxy some_name ∷ row 950 Fxy all_name ∷
+    row 920 Xfy implies_name ∷ row 920 Xfy equivalent_name ∷
+    row 900 Fy not_name ∷ row 900 Fy not_provable_name ∷
+    row 800 Fx pred_name ∷ row 800 Fx func_name ∷
+    row 701 Xfx is_name ∷
+    row 700 Xfx equal_name ∷ row 700 Xfx not_equal_name ∷ row 700 Xfx less_name ∷ row 700 Xfx greater_name ∷ row 700 Xfx at_most_name ∷ row 700 Xfx at_least_name ∷
+    row 500 Yfx plus_name ∷ row 500 Yfx minus_name ∷
+    row 400 Yfx star_name ∷ row 400 Yfx slash_slash_name ∷ row 400 Yfx div_name ∷ row 400 Xfx mod_name ∷ row 400 Xfx rem_name ∷
+    row 200 Fx minus_name ∷ []
 
 abbrev pub is_infix : Fixity → Bool
 is_infix Xfx = true

@@ -15,7 +15,7 @@ use Rattle.merc_terms.specs.declared.built.Built.{Built}
 use Rattle.merc_terms.specs.declared.moving.Progress.{Progress}
 use Rattle.merc_terms.specs.Reading.{token}
 use Rattle.merc_terms.specs.Reader.{pushed}
-use Rattle.merc_terms.specs.Items.{SpellsItem, SpellsGoal, Ends}
+use Rattle.merc_terms.specs.Items.{SpellsItem, SpellsGoal, Ends, nesting_limit}
 
 -- whether a full stop comes first, which is taken then
 abbrev pub TakesStop : List Token → List Token → Bool → Type 0
@@ -39,7 +39,7 @@ ReadsGoal old new false = (term : Term) → SpellsGoal term old.rest.now → ⊥
 
 -- the limit that a term passes, that on integers first
 abbrev pub passed_limit : Bool → Term → Option LimitName
-passed_limit is_great term = if is_great then Some IntegerLimit else (if nat_lt 256 (nesting term) then Some NestingLimit else None)
+passed_limit is_great term = if is_great then Some IntegerLimit else (if nat_lt nesting_limit (nesting term) then Some NestingLimit else None)
 
 -- the limit that the last of the terms passes
 abbrev pub PassesLimit : Built → Option LimitName → Type 0

@@ -2,6 +2,8 @@
 -- number of the tokens serves.
 use Rattle.std.specs.Prelude.{ℕ, zero, suc, ◌+◌, ℤ, pos, negsuc, neg_ℤ, Bool, true, false, ◌&&◌, ◌||◌, not, nat_le, nat_lt, List, [], ◌∷◌, ◌++◌, length, Option, Some, None, if◌then◌else◌}
 use Rattle.merc_base.specs.declared.place.Span.{Span}
+use Rattle.merc_base.specs.Names.{comma_name, nil_name, cons_name}
+use Rattle.merc_tokens.specs.Integers.{integer_limit}
 use Rattle.merc_tokens.specs.declared.token.Token.{Token}
 use Rattle.merc_tokens.specs.declared.token.TokenKind.{TokenKind}
 use Rattle.merc_tokens.specs.declared.token.TokenKind.TheVariants.{Name, Quoted, Var, Int, Text as TextToken, OpenArgs, Open, Close, OpenList, CloseList, Comma, Bar, Dot, Stop}
@@ -16,7 +18,7 @@ use Rattle.merc_terms.specs.declared.frame.Delimiter.TheVariants.{Comma as Comma
 use Rattle.merc_terms.specs.declared.operators.Operator.{Operator}
 use Rattle.merc_terms.specs.declared.starting.Start.{Start}
 use Rattle.merc_terms.specs.declared.starting.Start.TheVariants.{Variable as VariableStart, Integer as IntegerStart, Text as TextStart, Constant, Application as ApplicationStart, List as ListStart, Parenthesis, Prefix}
-use Rattle.merc_terms.specs.Operators.{infix_named, first_most, last_most, takes_two}
+use Rattle.merc_terms.specs.Operators.{infix_named, first_most, last_most, takes_two, term_most, argument_most}
 use Rattle.merc_terms.specs.Reading.{joined, begins_with, is_infix_name}
 use Rattle.merc_terms.specs.Starting.{start_at, Started}
 
@@ -29,7 +31,7 @@ pub record Read : Type 0 where
 
 -- whether an integer, negative or not, has 64 bits
 abbrev pub fits : Bool → ℕ → Bool
-fits negative magnitude = if negative then nat_le magnitude 9223372036854775808 else nat_lt magnitude 9223372036854775808
+fits negative magnitude = if negative then nat_le magnitude integer_limit else nat_lt magnitude integer_limit
 
 abbrev pub integer_of : Bool → ℕ → ℤ
 integer_of negative magnitude = if negative then neg_ℤ (pos magnitude) else pos magnitude
@@ -46,8 +48,8 @@ with_integer negative magnitude span built =
 
 -- an integer that does not fit stands as 0
 abbrev pub clipped_integer : ℤ → ℤ
-clipped_integer (pos n) = if nat_lt n 9223372036854775808 then pos n else pos 0
-clipped_integer (negsuc n) = if nat_lt n 9223372036854775808 then negsuc n else pos 0
+clipped_integer (pos n) = if nat_lt n integer_limit then pos n else pos 0
+clipped_integer (negsuc n) = if nat_lt n integer_limit then negsuc n else pos 0
 
 abbrev mutual
   pub clipped : Term → Term
@@ -61,8 +63,8 @@ abbrev mutual
   clipped_all (more first rest) = more (clipped first) (clipped_all rest)
 
 abbrev pub is_great_integer : ℤ → Bool
-is_great_integer (pos n) = not (nat_lt n 9223372036854775808)
-is_great_integer (negsuc n) = not (nat_lt n 9223372036854775808)
+is_great_integer (pos n) = not (nat_lt n integer_limit)
+is_great_integer (negsuc n) = not (nat_lt n integer_limit)
 
 -- whether an integer of a term does not fit
 abbrev mutual
@@ -87,10 +89,10 @@ with_application name qualifier arity span built = record { terms = applied name
 -- the last terms become a list: so many items and a tail
 abbrev pub with_cells : ℕ → Span → Built → Built
 with_cells zero span built = built
-with_cells (suc n) span built = with_cells n span (with_application 2 None 2 span built)
+with_cells (suc n) span built = with_cells n span (with_application cons_name None 2 span built)
 
 abbrev pub with_list : ℕ → Span → Built → Built
-with_list count span built = with_cells count span (with_term (Application 1 None none span) built)
+with_list count span built = with_cells count span (with_term (Application nil_name None none span) built)
 
 abbrev pub with_enclosed : Span → Built → Built
 with_enclosed span built = record { terms = enclosed span built.terms; is_great = built.is_great }
@@ -98,10 +100,10 @@ with_enclosed span built = record { terms = enclosed span built.terms; is_great 
 -- how far terms are read: a whole one, an argument or list item, and an operand
 
 abbrev pub whole_bound : Bound
-whole_bound = record { max = 1200; commas = true }
+whole_bound = record { max = term_most; commas = true }
 
 abbrev pub argument_bound : Bound
-argument_bound = record { max = 1199; commas = false }
+argument_bound = record { max = argument_most; commas = false }
 
 abbrev pub operand_bound : ℕ → Bound → Bound
 operand_bound max bound = record { max = max; commas = bound.commas }
@@ -124,7 +126,7 @@ fitting bound priority (Some operator) rest =
 
 abbrev pub infix_kind : Bound → ℕ → TokenKind → List Token → Option (Operator × List Token)
 infix_kind bound priority (Name name) rest = fitting bound priority (infix_named name) rest
-infix_kind bound priority Comma rest = if bound.commas then fitting bound priority (infix_named 26) rest else None
+infix_kind bound priority Comma rest = if bound.commas then fitting bound priority (infix_named comma_name) rest else None
 infix_kind bound priority (Quoted name) rest = None
 infix_kind bound priority (Var name) rest = None
 infix_kind bound priority (Int value) rest = None

@@ -1,6 +1,7 @@
 -- What stands where a term must begin: the reader's first look at the tokens.
 use Rattle.std.specs.Prelude.{ℕ, Bool, true, false, List, [], ◌∷◌, Option, Some, None, if◌then◌else◌}
 use Rattle.merc_base.specs.declared.place.Span.{Span}
+use Rattle.merc_base.specs.Names.{nil_name}
 use Rattle.merc_tokens.specs.declared.token.Token.{Token}
 use Rattle.merc_tokens.specs.declared.token.TokenKind.{TokenKind}
 use Rattle.merc_tokens.specs.declared.token.TokenKind.TheVariants.{Name, Quoted, Var, Int, Text, OpenArgs, Open, Close, OpenList, CloseList, Comma, Bar, Dot, Stop}
@@ -123,7 +124,7 @@ is_list_end Stop = false
 -- a list's opening bracket before these tokens
 abbrev pub list_start : Span → List Token → Started
 list_start span [] = Some (ListStart span, [])
-list_start span (first ∷ rest) = if is_list_end first.kind then Some (Constant 1 None (joined span first.span), rest) else Some (ListStart span, first ∷ rest)
+list_start span (first ∷ rest) = if is_list_end first.kind then Some (Constant nil_name None (joined span first.span), rest) else Some (ListStart span, first ∷ rest)
 
 abbrev pub start_with : TokenKind → Span → List Token → Started
 start_with (Name name) span rest = if is_sign name rest then signed_start span rest else operator_start (prefix_named name) name span rest

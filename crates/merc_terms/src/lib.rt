@@ -8,8 +8,6 @@ mod moving;
 mod operators;
 mod reading;
 mod starting;
-#[cfg(test)]
-mod tests;
 mod texts;
 
 pub use items::{read_goal, read_items};

@@ -12,8 +12,8 @@ use std::alloc::Global;
 /// The most bytes that a goal's text may have.
 pub const GOAL_LIMIT: usize = 65_536;
 
-/// The terms of the items that a text is, in order. Names that the text spells are added to the table, in their order,
-/// also where the text is refused.
+/// The terms of the items that a text is, in order. Names that the text spells are added to the table; where it is
+/// refused, the table may hold further names too.
 ///
 /// # Errors
 ///
@@ -29,8 +29,8 @@ pub fn read_text(alloc: Global, text: &[u8], names: &mut Names) -> Result<Terms,
     read_items(alloc, &tokens)
 }
 
-/// The term that a goal's text is. Names that the text spells are added to the table, in their order, also where the
-/// text is refused.
+/// The term that a goal's text is. Names that the text spells are added to the table; where it is refused, the table
+/// may hold further names too.
 ///
 /// # Errors
 ///

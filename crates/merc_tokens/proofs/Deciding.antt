@@ -6,6 +6,7 @@ use Rattle.std.proofs.lemmas.Option.{same_Some}
 use Rattle.std.proofs.Math.Seq.{take-add}
 use Rattle.std.specs.List.{count_by}
 use Rattle.std.specs.Option.{option_map}
+use Rattle.merc_base.specs.Characters.{line_end_code}
 use Rattle.merc_tokens.specs.declared.pieces.Spelling.{Spelling}
 use Rattle.merc_tokens.specs.declared.pieces.Piece.{Piece}
 use Rattle.merc_tokens.specs.declared.pieces.Piece.TheVariants.{Gap, Token, Fault}
@@ -18,7 +19,7 @@ abbrev Rest : Type 0
 Rest = ℕ → ℕ → Bool → List ℕ → Option (List SpelledToken)
 
 abbrev newlines : List ℕ → ℕ
-newlines text = count_by (λ byte. byte == 10) text
+newlines text = count_by (λ byte. byte == line_end_code) text
 
 abbrev spelled : ℕ → ℕ → ℕ → Spelling → SpelledToken
 spelled at past line spelling = record { kind = spelling; span = record { first = at; past = past; line = line } }
@@ -43,7 +44,7 @@ spelled_of pieces text = spelled_from (suc pieces) 0 1 false text
 
 further : (text : List ℕ) (at len : ℕ) → line_at text at + newlines (take len (drop at text)) ≡ line_at text (at + len)
 further text at len =
-    omega (arith, ap newlines (take-add at len text), sum_by-append (λ byte. cond (byte == 10) 1 0) (take at text) (take len (drop at text)))
+    omega (arith, ap newlines (take-add at len text), sum_by-append (λ byte. cond (byte == line_end_code) 1 0) (take at text) (take len (drop at text)))
 
 -- what a bound on the pieces gives is right
 abbrev IsRight : List ℕ → Rest → Type 0

@@ -6,6 +6,7 @@ use Rattle.std.specs.Str.{is_utf8, chars}
 use Rattle.std.specs.Str.Lossy.{utf8_valid_len}
 use Rattle.std.proofs.lemmas.Bool.{false≢true}
 use Rattle.std.proofs.lemmas.Str.{is_utf8-from_IsUtf8}
+use Rattle.merc_base.specs.Characters.{bang_code}
 use Rattle.merc_base.specs.Refusal.{rule_number}
 use Rattle.merc_base.specs.declared.refusal.Rule.{Rule}
 use Rattle.merc_base.specs.declared.refusal.Rule.TheVariants.{BadToken, OutsideProfile}
@@ -32,7 +33,7 @@ bang-least other rule detail (inl (behind_token _ len _ spelling is on)) = absur
 bang-least other rule detail (inr ended) = absurd (ended.utf8 (codes "!", (refl, refl)))
 
 pub bang-example : FirstFault (codes "!") OutsideProfile (record { byte = 0; line = 1 }) (Word Character)
-bang-example = record { fault = inl (here 0 false refl (character 33 [] refl)); line = refl; least = bang-least }
+bang-example = record { fault = inl (here 0 false refl (character bang_code [] refl)); line = refl; least = bang-least }
 
 -- the place and the line are right, and the rule is not
 pub bang_rule-counterexample : FirstFault (codes "!") BadToken (record { byte = 0; line = 1 }) Plain → ⊥
@@ -40,16 +41,16 @@ bang_rule-counterexample first =
     elim (bang-least 0 BadToken Plain first.fault) [ inl less ↦ omega (arith, less) | inr same ↦ omega (arith, same.1) ]
 
 -- a `!` and a byte that is not UTF-8: this byte is a fault too
-pub bang_byte-fault : HasFault (33 ∷ 255 ∷ []) 1 BadToken Plain
+pub bang_byte-fault : HasFault (bang_code ∷ 255 ∷ []) 1 BadToken Plain
 unfolding is_utf8 chars utf8_valid_len encode_utf8
 bang_byte-fault = inr (record {
-  utf8 = λ text. false≢true (is_utf8-from_IsUtf8 (33 ∷ 255 ∷ []) text);
+  utf8 = λ text. false≢true (is_utf8-from_IsUtf8 (bang_code ∷ 255 ∷ []) text);
   longest = refl;
   rule_is = refl;
   detail_is = refl;
 })
 
 -- but the `!` before it comes first
-pub bang_byte-counterexample : FirstFault (33 ∷ 255 ∷ []) BadToken (record { byte = 1; line = 1 }) Plain → ⊥
+pub bang_byte-counterexample : FirstFault (bang_code ∷ 255 ∷ []) BadToken (record { byte = 1; line = 1 }) Plain → ⊥
 bang_byte-counterexample first =
-    elim (first.least 0 OutsideProfile (Word Character) (inl (here 0 false refl (character 33 (255 ∷ []) refl)))) [ inl less ↦ omega (arith, less) | inr same ↦ omega (arith, same.0) ]
+    elim (first.least 0 OutsideProfile (Word Character) (inl (here 0 false refl (character bang_code (255 ∷ []) refl)))) [ inl less ↦ omega (arith, less) | inr same ↦ omega (arith, same.0) ]

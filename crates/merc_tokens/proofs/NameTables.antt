@@ -5,8 +5,7 @@ use Rattle.std.specs.List.{IsDistinct, flat_map}
 use Rattle.std.specs.Option.{option_map}
 use Rattle.std.specs.Str.{bytes_eq}
 use Rattle.merc_base.specs.Texts.{is_among, with_text}
-use Rattle.merc_base.proofs.NameLaws.{names_equal}
-use Rattle.merc_base.proofs.TextTables.{with_text-distinct}
+use Rattle.merc_base.proofs.NameLaws.{fold-distinct, names_equal}
 use Rattle.merc_tokens.specs.declared.token.Token.{Token}
 use Rattle.merc_tokens.specs.declared.token.TokenKind.{TokenKind}
 use Rattle.merc_tokens.specs.declared.token.TokenKind.TheVariants.{Name as NameKind, Quoted as QuotedKind, Var as VarKind, Int as IntKind, Text as TextKind, OpenArgs as OpenArgsKind, Open as OpenKind, Close as CloseKind, OpenList as OpenListKind, CloseList as CloseListKind, Comma as CommaKind, Bar as BarKind, Dot as DotKind, Stop as StopKind}
@@ -28,10 +27,6 @@ fold-grows names (text ∷ texts) =
     let first = with_text-grows names text in
     let others = fold-grows (with_text names text) texts in
     (first.0 ++ others.0, others.1 ∙ ap (λ (front : List (List ℕ)). front ++ others.0) first.1 ∙ append_assoc names first.0 others.0)
-
-fold-distinct : (names texts : List (List ℕ)) → IsDistinct bytes_eq names → IsDistinct bytes_eq (fold with_text names texts)
-fold-distinct names [] distinct = distinct
-fold-distinct names (text ∷ texts) distinct = fold-distinct (with_text names text) texts (with_text-distinct names text distinct)
 
 -- the names that a table holds stand before those of the tokens
 pub with_names-grows : (names : List (List ℕ)) (spelled : List SpelledToken) → (more : List (List ℕ)) × (with_names names spelled ≡ names ++ more)

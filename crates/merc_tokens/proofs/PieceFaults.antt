@@ -19,11 +19,12 @@ use Rattle.merc_tokens.specs.declared.pieces.Piece.TheVariants.{Token, Fault}
 use Rattle.merc_tokens.specs.Bytes.{is_digit, is_digit_of, is_letter, is_graphic, begins_with, class_test, next_is, start_of}
 use Rattle.std.specs.List.{prefix_len}
 use Rattle.std.specs.Option.{option_map}
+use Rattle.merc_base.specs.Characters.{dot_code, double_quote_code, nine_code, quote_code, slash_code, star_code, zero_code}
 use Rattle.merc_tokens.specs.Integers.{based_integer, character_at, character_integer, form_of, integer_at, integer_of}
 use Rattle.merc_tokens.specs.declared.integers.Form.{Form}
 use Rattle.merc_tokens.specs.declared.integers.Form.TheVariants.{Character as CharacterForm, Based, Decimal}
 use Rattle.merc_tokens.specs.Quoted.{quoted}
-use Rattle.merc_tokens.specs.Pieces.{run_of, named, comment_past, comment_piece, begins_fraction, graphic_piece, integer_piece, limited, dot_of, quoted_piece, string_piece, piece_of, first_piece}
+use Rattle.merc_tokens.specs.Pieces.{name_limit, run_of, named, comment_past, comment_piece, begins_fraction, graphic_piece, integer_piece, limited, dot_of, quoted_piece, string_piece, piece_of, first_piece}
 use Rattle.merc_tokens.specs.Faults.{IsFaulty}
 use Rattle.merc_tokens.specs.Faults.IsFaulty.{no_token, open_comment, open_name, open_string, no_character, no_digit, character, suffix, float, great_integer, long_word, long_graphic, long_name}
 
@@ -45,8 +46,8 @@ last_chosen : {X : Type 0} (b : Bool) (x y : X) {z : X} → y ≡ z → cond (b 
 last_chosen true x y is = is
 last_chosen false x y is = is
 
-named-long : (make : List ℕ → Spelling) (name : List ℕ) (len : ℕ) → 255 < length name → named make name len ≡ Fault LimitPassed (Limit NameLimit)
-named-long make name len long = rw (lt-leb (length name) 255 long)
+named-long : (make : List ℕ → Spelling) (name : List ℕ) (len : ℕ) → name_limit < length name → named make name len ≡ Fault LimitPassed (Limit NameLimit)
+named-long make name len long = rw (lt-leb (length name) name_limit long)
 
 -- an integer with a fault behind it or above the limit
 suffix-least : (integer : Integer) (text : List ℕ) → begins_with is_letter (drop integer.past text) ≡ true → integer_piece (Some integer) text ≡ Fault OutsideProfile (Word IntegerSuffix)
@@ -69,14 +70,14 @@ great-least integer text great =
     (λ _. at_most LimitPassed _ refl (omega arith))))
 
 -- a graphic run that is too long is no lone `.`
-next-graphic : (byte : ℕ) (rest : List ℕ) → 255 < length (run_of GraphicClass (byte ∷ rest)) → begins_with is_graphic rest ≡ true
+next-graphic : (byte : ℕ) (rest : List ℕ) → name_limit < length (run_of GraphicClass (byte ∷ rest)) → begins_with is_graphic rest ≡ true
 next-graphic byte [] long = absurd (omega arith)
 next-graphic byte (next ∷ rest) long =
-    both_ways_from (is_graphic next) (λ no. absurd (omega (arith, subst (λ (b : Bool). 255 < length (byte ∷ take (cond b (1 + prefix_len (class_test GraphicClass) rest) 0) (next ∷ rest))) no long)))
+    both_ways_from (is_graphic next) (λ no. absurd (omega (arith, subst (λ (b : Bool). name_limit < length (byte ∷ take (cond b (1 + prefix_len (class_test GraphicClass) rest) 0) (next ∷ rest))) no long)))
 
-graphic-long : (after_name : Bool) (byte : ℕ) (rest : List ℕ) → (byte == 47) && next_is 42 rest ≡ false → 255 < length (run_of GraphicClass (byte ∷ rest)) → graphic_piece after_name byte rest ≡ Fault LimitPassed (Limit NameLimit)
+graphic-long : (after_name : Bool) (byte : ℕ) (rest : List ℕ) → (byte == slash_code) && next_is star_code rest ≡ false → name_limit < length (run_of GraphicClass (byte ∷ rest)) → graphic_piece after_name byte rest ≡ Fault LimitPassed (Limit NameLimit)
 graphic-long after_name byte rest no_comment long =
-    rw (no_comment, next-graphic byte rest long) (last_chosen (byte == 46) _ _ (named-long Name (run_of GraphicClass (byte ∷ rest)) _ long))
+    rw (no_comment, next-graphic byte rest long) (last_chosen (byte == dot_code) _ _ (named-long Name (run_of GraphicClass (byte ∷ rest)) _ long))
 
 pub piece-faulty : (text : List ℕ) (rule : Rule) (detail : Detail) (after_name : Bool) → IsFaulty text rule detail → FaultAtMost rule (first_piece after_name text)
 piece-faulty _ _ _ after_name (no_token byte rest starts) = at_most BadToken Plain (rw starts) (omega arith)
@@ -101,9 +102,9 @@ as_given {text} {rule} {rule'} {detail} {detail'} same faulty =
     let same_detail : detail ≡ detail' = cc in
     subst (λ (d : Detail). IsFaulty text rule' d) same_detail (subst (λ (r : Rule). IsFaulty text r detail) same_rule faulty)
 
-named-faulty : (make : List ℕ → Spelling) (name : List ℕ) (len : ℕ) (rule : Rule) (detail : Detail) → named make name len ≡ Fault rule detail → (255 < length name) × (Fault LimitPassed (Limit NameLimit) ≡ Fault rule detail)
+named-faulty : (make : List ℕ → Spelling) (name : List ℕ) (len : ℕ) (rule : Rule) (detail : Detail) → named make name len ≡ Fault rule detail → (name_limit < length name) × (Fault LimitPassed (Limit NameLimit) ≡ Fault rule detail)
 named-faulty make name len rule detail is =
-    cond_both (leb (length name) 255) (Token (make name) len) (Fault LimitPassed (Limit NameLimit)) (λ piece. piece ≡ Fault rule detail → (255 < length name) × (Fault LimitPassed (Limit NameLimit) ≡ Fault rule detail))
+    cond_both (leb (length name) name_limit) (Token (make name) len) (Fault LimitPassed (Limit NameLimit)) (λ piece. piece ≡ Fault rule detail → (name_limit < length name) × (Fault LimitPassed (Limit NameLimit) ≡ Fault rule detail))
     (λ _ same. absurd (cc))
     (λ no same. (leb-false _ _ no, same))
     is
@@ -160,10 +161,10 @@ is_digit-start byte is =
 digit-ten : (byte : ℕ) → start_of byte ≡ Digit → is_digit_of 10 byte ≡ true
 digit-ten byte starts =
     let digit = is_digit-start byte starts in
-    let parts = both_true (leb 48 byte) (leb byte 57) digit in
-    let low = leb-true 48 byte parts.0 in
-    let high = leb-true byte 57 parts.1 in
-    rw digit (lt-ltb (byte - 48) 10 (omega arith))
+    let parts = both_true (leb zero_code byte) (leb byte nine_code) digit in
+    let low = leb-true zero_code byte parts.0 in
+    let high = leb-true byte nine_code parts.1 in
+    rw digit (lt-ltb (byte - zero_code) 10 (omega arith))
 
 module _ (byte : ℕ) (rest : List ℕ) (rule : Rule) (detail : Detail) where
   limited-faulty : (integer : Integer) (value : Option ℕ) → integer.value ≡ value → start_of byte ≡ Digit → integer_at (byte ∷ rest) ≡ Some integer → limited value integer.past ≡ Fault rule detail → IsFaulty (byte ∷ rest) rule detail
@@ -197,26 +198,26 @@ module _ (byte : ℕ) (rest : List ℕ) (rule : Rule) (detail : Detail) where
       same)
       is
 
-  quoted-faulty : (found : Option (List ℕ × ℕ)) → quoted 39 [] 0 rest ≡ found → start_of byte ≡ Quote → quoted_piece found ≡ Fault rule detail → IsFaulty (byte ∷ rest) rule detail
+  quoted-faulty : (found : Option (List ℕ × ℕ)) → quoted quote_code [] 0 rest ≡ found → start_of byte ≡ Quote → quoted_piece found ≡ Fault rule detail → IsFaulty (byte ∷ rest) rule detail
   quoted-faulty None none starts is = as_given is (open_name byte rest starts none)
   quoted-faulty (Some (name, past)) found starts is =
       let long = named-faulty Quoted name (1 + past) rule detail is in
       as_given long.1 (long_name byte rest name past starts found long.0)
 
-  string-faulty : (found : Option (List ℕ × ℕ)) → quoted 34 [] 0 rest ≡ found → start_of byte ≡ DoubleQuote → string_piece found ≡ Fault rule detail → IsFaulty (byte ∷ rest) rule detail
+  string-faulty : (found : Option (List ℕ × ℕ)) → quoted double_quote_code [] 0 rest ≡ found → start_of byte ≡ DoubleQuote → string_piece found ≡ Fault rule detail → IsFaulty (byte ∷ rest) rule detail
   string-faulty None none starts is = as_given is (open_string byte rest starts none)
   string-faulty (Some found) some starts is = absurd (cc)
 
-  comment-faulty : (found : Option ℕ) → comment_past 0 (drop 1 rest) ≡ found → start_of byte ≡ Graphic → (byte == 47) && next_is 42 rest ≡ true → comment_piece (option_map (λ past. 2 + past) found) ≡ Fault rule detail → IsFaulty (byte ∷ rest) rule detail
+  comment-faulty : (found : Option ℕ) → comment_past 0 (drop 1 rest) ≡ found → start_of byte ≡ Graphic → (byte == slash_code) && next_is star_code rest ≡ true → comment_piece (option_map (λ past. 2 + past) found) ≡ Fault rule detail → IsFaulty (byte ∷ rest) rule detail
   comment-faulty None none starts comment is = as_given is (open_comment byte rest starts comment none)
   comment-faulty (Some past) some starts comment is = absurd (cc)
 
   graphic-faulty : (after_name : Bool) → start_of byte ≡ Graphic → graphic_piece after_name byte rest ≡ Fault rule detail → IsFaulty (byte ∷ rest) rule detail
   graphic-faulty after_name starts is =
       let run = run_of GraphicClass (byte ∷ rest) in
-      cond_both ((byte == 47) && next_is 42 rest) (comment_piece (option_map (λ past. 2 + past) (comment_past 0 (drop 1 rest)))) (cond ((byte == 46) && not (begins_with is_graphic rest)) (Token (dot_of after_name rest) 1) (named Name run (length run))) (λ piece. piece ≡ Fault rule detail → IsFaulty (byte ∷ rest) rule detail)
+      cond_both ((byte == slash_code) && next_is star_code rest) (comment_piece (option_map (λ past. 2 + past) (comment_past 0 (drop 1 rest)))) (cond ((byte == dot_code) && not (begins_with is_graphic rest)) (Token (dot_of after_name rest) 1) (named Name run (length run))) (λ piece. piece ≡ Fault rule detail → IsFaulty (byte ∷ rest) rule detail)
       (λ comment same. comment-faulty _ refl starts comment same)
-      (λ no_comment same. cond_both ((byte == 46) && not (begins_with is_graphic rest)) (Token (dot_of after_name rest) 1) (named Name run (length run)) (λ piece. piece ≡ Fault rule detail → IsFaulty (byte ∷ rest) rule detail)
+      (λ no_comment same. cond_both ((byte == dot_code) && not (begins_with is_graphic rest)) (Token (dot_of after_name rest) 1) (named Name run (length run)) (λ piece. piece ≡ Fault rule detail → IsFaulty (byte ∷ rest) rule detail)
       (λ _ here. absurd (cc))
       (λ _ here. let long = named-faulty Name run (length run) rule detail here in as_given long.1 (long_graphic byte rest starts no_comment long.0))
       same)

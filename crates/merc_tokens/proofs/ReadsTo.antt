@@ -5,6 +5,7 @@ use Rattle.std.proofs.lemmas.List.Sums.{fold-append, sum_by-append}
 use Rattle.std.proofs.Math.Seq.{take-append-add}
 use Rattle.std.specs.Option.{option_map}
 use Rattle.std.specs.List.{count_by, flat_map, slice_get}
+use Rattle.merc_base.specs.Characters.{line_end_code}
 use Rattle.merc_base.specs.Texts.{with_text}
 use Rattle.merc_base.proofs.NameLaws.{slice_get-front}
 use Rattle.merc_tokens.specs.declared.token.Token.{Token}
@@ -17,7 +18,7 @@ use Rattle.merc_tokens.specs.Tokens.{SpelledToken, is_name, line_at, named_text,
 use Rattle.merc_tokens.proofs.SoFar.{ReadSoFar, so_far-none, so_far-gap, so_far-token}
 
 -- the line of a place further on
-line_at-more : (text : List ℕ) (at len : ℕ) → at ≤ length text → line_at text (at + len) ≡ line_at text at + count_by (λ byte. byte == 10) (take len (drop at text))
+line_at-more : (text : List ℕ) (at len : ℕ) → at ≤ length text → line_at text (at + len) ≡ line_at text at + count_by (λ byte. byte == line_end_code) (take len (drop at text))
 line_at-more text at len within =
     let front : length (take at text) ≡ at = length-take-le at text within in
     let parts : take (length (take at text) + len) (take at text ++ drop at text) ≡ take at text ++ take len (drop at text) =
@@ -26,7 +27,7 @@ line_at-more text at len within =
     let taken : take (at + len) text ≡ take at text ++ take len (drop at text) =
     sym (ap (λ (n : ℕ). take (n + len) text) front) ∙ sym (ap (take (length (take at text) + len)) (take-append-drop at text)) ∙ parts
     in
-    omega (arith, ap (count_by (λ byte. byte == 10)) taken, sum_by-append (λ byte. cond (byte == 10) 1 0) (take at text) (take len (drop at text)))
+    omega (arith, ap (count_by (λ byte. byte == line_end_code)) taken, sum_by-append (λ byte. cond (byte == line_end_code) 1 0) (take at text) (take len (drop at text)))
 
 -- a name that is known stays known
 named-grow : (names more : List (List ℕ)) (make : List ℕ → Spelling) (name : ℕ) (found : Option (List ℕ)) (spelling : Spelling) → slice_get names name ≡ found → option_map make found ≡ Some spelling → option_map make (slice_get (names ++ more) name) ≡ Some spelling
@@ -93,7 +94,7 @@ reads-none text names read none = record {
   within = omega arith;
 }
 
-module _ (text : List ℕ) (old names : List (List ℕ)) (read : List Token) (at line len extra : ℕ) (after : Bool) (reads : ReadsTo text old names read at line after) (inside : at + len ≤ length text) (counted : extra ≡ count_by (λ byte. byte == 10) (take len (drop at text))) (few : extra ≤ len) where
+module _ (text : List ℕ) (old names : List (List ℕ)) (read : List Token) (at line len extra : ℕ) (after : Bool) (reads : ReadsTo text old names read at line after) (inside : at + len ≤ length text) (counted : extra ≡ count_by (λ byte. byte == line_end_code) (take len (drop at text))) (few : extra ≤ len) where
   further : line + extra ≡ line_at text (at + len)
   further = omega (arith, reads.on_line, counted, line_at-more text at len reads.within)
 

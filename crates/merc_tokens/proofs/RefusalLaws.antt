@@ -1,6 +1,7 @@
 -- A text is refused in one way.
 use Rattle.std.proofs.Common.{◌≡◌, ℕ, ◌+◌, ◌-◌, inl, inr, Bool, true, false, List, [], ◌∷◌, drop, Option, Some, None, slice_get, refl, sym, ◌∙◌, ap, subst, arith, eqb-true}
 use Rattle.std.specs.Prelude.{◌&&◌, if◌then◌else◌}
+use Rattle.merc_base.specs.Characters.{dot_code}
 use Rattle.merc_base.specs.Refusal.{rule_number}
 use Rattle.merc_base.specs.declared.refusal.Refusal.{Refusal}
 use Rattle.merc_base.specs.declared.refusal.Fault.TheVariants.{Refused}
@@ -80,7 +81,7 @@ first_true false other is = is
 -- a fraction begins with no letter
 fraction-letter : (rest : List ℕ) → begins_fraction rest ≡ true → begins_with is_letter rest ≡ false
 fraction-letter [] is = refl
-fraction-letter (byte ∷ rest) is = ap is_letter (eqb-true byte 46 (first_true _ _ is))
+fraction-letter (byte ∷ rest) is = ap is_letter (eqb-true byte dot_code (first_true _ _ is))
 
 at_start : (rule : Rule) (byte : ℕ) (rest : List ℕ) (start : Start) → start_of byte ≡ start → said rule start (letter_behind (integer_at (byte ∷ rest)) (byte ∷ rest)) ≡ detail_of (byte ∷ rest) rule
 at_start rule byte rest start is = sym (ap (λ (s : Start). said rule s (letter_behind (integer_at (byte ∷ rest)) (byte ∷ rest))) is)

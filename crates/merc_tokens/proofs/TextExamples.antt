@@ -1,20 +1,22 @@
 -- Whole texts: their tokens, and their faults.
-use Rattle.std.proofs.Common.{◌≡◌, ℕ, inl, true, false, List, [], ◌∷◌, ◌++◌, refl, ap, ◌∙◌, Some, None}
+use Rattle.std.proofs.Common.{◌≡◌, ℕ, inl, true, false, List, [], ◌∷◌, ◌++◌, map, refl, ap, ◌∙◌, Some, None}
 use Rattle.std.specs.Prelude.{codes}
+use Rattle.std.proofs.Math.ListN.{replicate}
 use Rattle.std.specs.Char.{encode_utf8}
 use Rattle.std.specs.Str.{is_utf8, chars}
 use Rattle.std.specs.Str.Lossy.{utf8_valid_len}
 use Rattle.std.proofs.lemmas.Bool.{false≢true}
 use Rattle.std.proofs.lemmas.Str.{is_utf8-from_IsUtf8}
+use Rattle.merc_base.specs.Characters.{backquote_code, lower_a_code}
 use Rattle.merc_base.specs.declared.refusal.Rule.TheVariants.{BadToken, OutsideProfile}
 use Rattle.merc_base.specs.declared.refusal.Construct.TheVariants.{Character}
 use Rattle.merc_base.specs.declared.refusal.Detail.TheVariants.{Plain, Word}
 use Rattle.merc_tokens.specs.declared.token.TokenKind.TheVariants.{Name as NameKind}
 use Rattle.merc_tokens.specs.declared.pieces.Spelling.{Spelling}
-use Rattle.merc_tokens.specs.declared.pieces.Spelling.TheVariants.{Name, Int, Var, Dot, Stop}
+use Rattle.merc_tokens.specs.declared.pieces.Spelling.TheVariants.{Name, Quoted, Int, Var, Text, OpenArgs, Open, Close, OpenList, CloseList, Comma, Bar, Dot, Stop}
 use Rattle.merc_tokens.specs.declared.pieces.Piece.TheVariants.{Token}
 use Rattle.merc_tokens.specs.Pieces.{first_piece}
-use Rattle.merc_tokens.specs.Tokens.{SpelledToken, HasTokens, ReadsTokens, named_text, spelling_in, with_names}
+use Rattle.merc_tokens.specs.Tokens.{SpelledToken, HasTokens, ReadsTokens, is_name, named_text, spelling_in, with_names}
 use Rattle.merc_tokens.specs.Tokens.HasTokensFrom.{ends, gap, token}
 use Rattle.merc_tokens.specs.Faults.{HasFault, HasNoTokens, EndsUtf8}
 use Rattle.merc_tokens.specs.Faults.HasFaultFrom.{here, behind_gap, behind_token}
@@ -25,10 +27,10 @@ use Rattle.merc_tokens.proofs.TokenLaws.{HasFault-no_tokens, HasTokens-unique}
 abbrev at : Spelling → ℕ → ℕ → ℕ → SpelledToken
 at spelling first past line = record { kind = spelling; span = record { first = first; past = past; line = line } }
 
-pub lines-example : HasTokens (codes "a." ++ 10 ∷ codes "b") (at (Name (codes "a")) 0 1 1 ∷ at Stop 1 2 1 ∷ at (Name (codes "b")) 3 4 2 ∷ [])
+pub lines-example : HasTokens (codes "a.\nb") (at (Name (codes "a")) 0 1 1 ∷ at Stop 1 2 1 ∷ at (Name (codes "b")) 3 4 2 ∷ [])
 unfolding encode_utf8
 lines-example = record {
-  utf8 = (codes "a." ++ 10 ∷ codes "b", (refl, refl));
+  utf8 = (codes "a.\nb", (refl, refl));
   all = token 0 1 false (Name (codes "a")) _ refl (token 1 1 true Stop _ refl (gap 2 1 false _ refl (token 3 1 false (Name (codes "b")) _ refl (ends 4 true refl))));
 }
 
@@ -37,6 +39,29 @@ unfolding encode_utf8
 qualified-example = record {
   utf8 = (codes "a.b", (refl, refl));
   all = token 0 1 false (Name (codes "a")) _ refl (token 1 1 true Dot _ refl (token 2 1 false (Name (codes "b")) _ refl (ends 3 true refl)));
+}
+
+-- names, quoted or not, are what a parenthesis or a qualifier mark stands directly behind
+pub names-example : map is_name (Name [] ∷ Quoted [] ∷ []) ≡ true ∷ true ∷ []
+names-example = refl
+
+pub no_names-example : map is_name (Var [] ∷ Int 0 ∷ Text [] ∷ OpenArgs ∷ Open ∷ Close ∷ OpenList ∷ CloseList ∷ Comma ∷ Bar ∷ Dot ∷ Stop ∷ [])
+    ≡ replicate 12 false
+no_names-example = refl
+
+pub quoted_arguments-example : HasTokens (codes "'a'(") (at (Quoted (codes "a")) 0 3 1 ∷ at OpenArgs 3 4 1 ∷ [])
+unfolding encode_utf8
+quoted_arguments-example = record {
+  utf8 = (codes "'a'(", (refl, refl));
+  all = token 0 3 false (Quoted (codes "a")) _ refl (token 3 1 true OpenArgs _ refl (ends 4 false refl));
+}
+
+-- `;` is a name too, on both sides of a qualifier mark
+pub semicolons-example : HasTokens (codes "a.;") (at (Name (codes "a")) 0 1 1 ∷ at Dot 1 2 1 ∷ at (Name (codes ";")) 2 3 1 ∷ [])
+unfolding encode_utf8
+semicolons-example = record {
+  utf8 = (codes "a.;", (refl, refl));
+  all = token 0 1 false (Name (codes "a")) _ refl (token 1 1 true Dot _ refl (token 2 1 false (Name (codes ";")) _ refl (ends 3 true refl)));
 }
 
 -- behind a variable there is no qualifier mark
@@ -53,16 +78,16 @@ unfolding encode_utf8
 blanks-example = record { utf8 = (codes " ", (refl, refl)); all = gap 0 1 false [] refl (ends 1 false refl) }
 
 backquote-fault : HasFault (codes "a `") 2 OutsideProfile (Word Character)
-backquote-fault = inl (behind_token 0 1 false (Name (codes "a")) refl (behind_gap 1 1 true refl (here 2 false refl (character 96 [] refl))))
+backquote-fault = inl (behind_token 0 1 false (Name (codes "a")) refl (behind_gap 1 1 true refl (here 2 false refl (character backquote_code [] refl))))
 
 pub backquote-counterexample : HasNoTokens (codes "a `")
 backquote-counterexample tokens has = HasFault-no_tokens _ 2 OutsideProfile (Word Character) tokens backquote-fault has
 
 -- a character of two bytes that is cut short: its first byte
-pub cut_short-example : EndsUtf8 (97 ∷ 195 ∷ []) 1 BadToken Plain
+pub cut_short-example : EndsUtf8 (lower_a_code ∷ 195 ∷ []) 1 BadToken Plain
 unfolding is_utf8 chars utf8_valid_len encode_utf8
 cut_short-example = record {
-  utf8 = λ text. false≢true (is_utf8-from_IsUtf8 (97 ∷ 195 ∷ []) text);
+  utf8 = λ text. false≢true (is_utf8-from_IsUtf8 (lower_a_code ∷ 195 ∷ []) text);
   longest = refl;
   rule_is = refl;
   detail_is = refl;
@@ -74,7 +99,7 @@ unfolding is_utf8 chars encode_utf8
 character-example = refl
 
 -- `0'` and a line end
-pub line_end-example : first_piece false (codes "0'" ++ 10 ∷ codes ".") ≡ Token (Int 10) 3
+pub line_end-example : first_piece false (codes "0'\n.") ≡ Token (Int 10) 3
 unfolding is_utf8 chars encode_utf8
 line_end-example = refl
 

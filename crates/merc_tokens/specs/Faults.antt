@@ -2,6 +2,7 @@
 use Rattle.std.specs.Prelude.{◌≡◌, ℕ, ◌+◌, ◌<◌, ◌≤◌, ◌⊎◌, Bool, true, false, ◌==◌, ◌&&◌, List, [], ◌∷◌, length, drop, Some, None}
 use Rattle.std.specs.Str.{IsUtf8}
 use Rattle.std.specs.Str.Lossy.{utf8_valid_len}
+use Rattle.merc_base.specs.Characters.{double_quote_code, quote_code, slash_code, star_code}
 use Rattle.merc_base.specs.Refusal.{rule_number}
 use Rattle.merc_base.specs.declared.place.Place.{Place}
 use Rattle.merc_base.specs.declared.refusal.Fault.{Fault}
@@ -21,7 +22,7 @@ use Rattle.merc_tokens.specs.declared.pieces.Piece.TheVariants.{Gap, Token as To
 use Rattle.merc_tokens.specs.Bytes.{is_digit_of, is_letter, begins_with, next_is, start_of}
 use Rattle.merc_tokens.specs.Integers.{character_at, form_of, integer_at}
 use Rattle.merc_tokens.specs.Quoted.{quoted}
-use Rattle.merc_tokens.specs.Pieces.{run_of, comment_past, begins_fraction, first_piece}
+use Rattle.merc_tokens.specs.Pieces.{name_limit, run_of, comment_past, begins_fraction, first_piece}
 use Rattle.merc_tokens.specs.Tokens.{SpelledToken, HasTokens, is_name, line_at}
 
 -- What is wrong where this text stands between tokens: one case for each rule
@@ -29,11 +30,11 @@ pub data IsFaulty : List ℕ → Rule → Detail → Type 0 where
   -- a byte that begins nothing
   no_token : (byte : ℕ) (rest : List ℕ) → start_of byte ≡ Other → IsFaulty (byte ∷ rest) BadToken Plain
   -- a `/*` with no `*/` behind it
-  open_comment : (byte : ℕ) (rest : List ℕ) → start_of byte ≡ Graphic → (byte == 47) && next_is 42 rest ≡ true → comment_past 0 (drop 1 rest) ≡ None → IsFaulty (byte ∷ rest) BadToken Plain
+  open_comment : (byte : ℕ) (rest : List ℕ) → start_of byte ≡ Graphic → (byte == slash_code) && next_is star_code rest ≡ true → comment_past 0 (drop 1 rest) ≡ None → IsFaulty (byte ∷ rest) BadToken Plain
   -- a `'` behind which no quoted name ends: its line or the text ends first, or an unknown escape stands in it
-  open_name : (byte : ℕ) (rest : List ℕ) → start_of byte ≡ Quote → quoted 39 [] 0 rest ≡ None → IsFaulty (byte ∷ rest) BadToken Plain
+  open_name : (byte : ℕ) (rest : List ℕ) → start_of byte ≡ Quote → quoted quote_code [] 0 rest ≡ None → IsFaulty (byte ∷ rest) BadToken Plain
   -- a `"` behind which no string ends, for one of the same reasons
-  open_string : (byte : ℕ) (rest : List ℕ) → start_of byte ≡ DoubleQuote → quoted 34 [] 0 rest ≡ None → IsFaulty (byte ∷ rest) BadToken Plain
+  open_string : (byte : ℕ) (rest : List ℕ) → start_of byte ≡ DoubleQuote → quoted double_quote_code [] 0 rest ≡ None → IsFaulty (byte ∷ rest) BadToken Plain
   -- a `0'` with no character but `'`, and no escape of one, directly behind it
   no_character : (byte : ℕ) (rest : List ℕ) → start_of byte ≡ Digit → form_of (byte ∷ rest) ≡ CharacterForm → character_at (drop 1 rest) ≡ None → IsFaulty (byte ∷ rest) BadToken Plain
   -- a `0b`, `0o` or `0x` with no digit of its base directly behind it
@@ -46,12 +47,12 @@ pub data IsFaulty : List ℕ → Rule → Detail → Type 0 where
   float : (byte : ℕ) (rest : List ℕ) (integer : Integer) → start_of byte ≡ Digit → integer_at (byte ∷ rest) ≡ Some integer → integer.is_decimal ≡ true → begins_fraction (drop integer.past (byte ∷ rest)) ≡ true → IsFaulty (byte ∷ rest) OutsideProfile (Word Float)
   -- an integer above the limit
   great_integer : (byte : ℕ) (rest : List ℕ) (integer : Integer) → start_of byte ≡ Digit → integer_at (byte ∷ rest) ≡ Some integer → integer.value ≡ None → IsFaulty (byte ∷ rest) LimitPassed (Limit IntegerLimit)
-  -- a name or a variable of more than 255 bytes
-  long_word : (byte : ℕ) (rest : List ℕ) → (start_of byte ≡ Lower) ⊎ (start_of byte ≡ Upper) → 255 < length (run_of WordClass (byte ∷ rest)) → IsFaulty (byte ∷ rest) LimitPassed (Limit NameLimit)
-  -- a graphic name of more than 255 bytes
-  long_graphic : (byte : ℕ) (rest : List ℕ) → start_of byte ≡ Graphic → (byte == 47) && next_is 42 rest ≡ false → 255 < length (run_of GraphicClass (byte ∷ rest)) → IsFaulty (byte ∷ rest) LimitPassed (Limit NameLimit)
-  -- a quoted name that stands for more than 255 bytes
-  long_name : (byte : ℕ) (rest name : List ℕ) (past : ℕ) → start_of byte ≡ Quote → quoted 39 [] 0 rest ≡ Some (name, past) → 255 < length name → IsFaulty (byte ∷ rest) LimitPassed (Limit NameLimit)
+  -- a name or a variable of too many bytes
+  long_word : (byte : ℕ) (rest : List ℕ) → (start_of byte ≡ Lower) ⊎ (start_of byte ≡ Upper) → name_limit < length (run_of WordClass (byte ∷ rest)) → IsFaulty (byte ∷ rest) LimitPassed (Limit NameLimit)
+  -- a graphic name of too many bytes
+  long_graphic : (byte : ℕ) (rest : List ℕ) → start_of byte ≡ Graphic → (byte == slash_code) && next_is star_code rest ≡ false → name_limit < length (run_of GraphicClass (byte ∷ rest)) → IsFaulty (byte ∷ rest) LimitPassed (Limit NameLimit)
+  -- a quoted name that stands for too many bytes
+  long_name : (byte : ℕ) (rest name : List ℕ) (past : ℕ) → start_of byte ≡ Quote → quoted quote_code [] 0 rest ≡ Some (name, past) → name_limit < length name → IsFaulty (byte ∷ rest) LimitPassed (Limit NameLimit)
 
 -- From a place on, directly before which a name stands or not, a text has a fault at this place: there, or behind a
 -- blank, a comment or a token.

@@ -3,6 +3,7 @@ use Rattle.std.specs.Prelude.{ℕ, ◌+◌, ◌-◌, ◌*◌, false, ◌==◌, n
 use Rattle.std.specs.Option.{option_map}
 use Rattle.std.specs.List.{prefix_len}
 use Rattle.std.specs.Str.{chars, is_utf8, continuation_len}
+use Rattle.merc_base.specs.Characters.{backslash_code, lower_b_code, lower_o_code, lower_x_code, quote_code, underscore_code, zero_code}
 use Rattle.merc_tokens.specs.declared.bytes.Class.TheVariants.{Digits}
 use Rattle.merc_tokens.specs.declared.integers.Form.{Form}
 use Rattle.merc_tokens.specs.declared.integers.Form.TheVariants.{Character, Based, Decimal}
@@ -10,15 +11,19 @@ use Rattle.merc_tokens.specs.declared.integers.Integer.{Integer}
 use Rattle.merc_tokens.specs.Bytes.{is_digit_of, digit_of, is_underscore, class_test, begins_with}
 use Rattle.merc_tokens.specs.Quoted.{is_escape, escaped}
 
+-- the greatest integer
+abbrev pub integer_limit : ℕ
+integer_limit = 9223372036854775808
+
 -- the number, where it is not above the greatest
 abbrev pub within_limit : ℕ → Option ℕ
-within_limit value = if nat_le value 9223372036854775808 then Some value else None
+within_limit value = if nat_le value integer_limit then Some value else None
 
 -- the number that digits of a base spell, with what stands before them; a `_` says nothing
 abbrev pub digits_value : ℕ → ℕ → List ℕ → ℕ
 digits_value base value [] = value
 digits_value base value (byte ∷ rest) =
-    if byte == 95 then digits_value base value rest else digits_value base (base * value + digit_of byte) rest
+    if byte == underscore_code then digits_value base value rest else digits_value base (base * value + digit_of byte) rest
 
 -- how many bytes of a text go on with digits: `_` stands between digits, and not behind the last
 abbrev pub more_digits_len : ℕ → List ℕ → ℕ
@@ -60,21 +65,21 @@ front_escape (byte ∷ rest) = if is_escape byte then Some (escaped byte, 2) els
 abbrev pub character_at : List ℕ → Option (ℕ × ℕ)
 character_at [] = None
 character_at (byte ∷ rest) =
-    if byte == 39 then None else if byte == 92 then front_escape rest else front_character (byte ∷ rest)
+    if byte == quote_code then None else if byte == backslash_code then front_escape rest else front_character (byte ∷ rest)
 
 abbrev pub form_behind_zero : ℕ → Form
 form_behind_zero byte =
-    if byte == 39 then Character
-    else if byte == 98 then Based 2
-    else if byte == 111 then Based 8
-    else if byte == 120 then Based 16
+    if byte == quote_code then Character
+    else if byte == lower_b_code then Based 2
+    else if byte == lower_o_code then Based 8
+    else if byte == lower_x_code then Based 16
     else Decimal
 
 -- the form of an integer, by its first two bytes
 abbrev pub form_of : List ℕ → Form
 form_of [] = Decimal
 form_of (first ∷ []) = Decimal
-form_of (first ∷ second ∷ rest) = if first == 48 then form_behind_zero second else Decimal
+form_of (first ∷ second ∷ rest) = if first == zero_code then form_behind_zero second else Decimal
 
 abbrev pub character_integer : ℕ × ℕ → Integer
 character_integer found = record { value = Some found.0; past = 2 + found.1; is_decimal = false }

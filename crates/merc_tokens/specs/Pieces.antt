@@ -2,6 +2,7 @@
 use Rattle.std.specs.Prelude.{ℕ, ◌+◌, Bool, true, false, ◌==◌, nat_le, ◌≤◌, ◌&&◌, ◌||◌, not, List, [], ◌∷◌, length, take, drop, Option, Some, None, if◌then◌else◌, codes}
 use Rattle.std.specs.Option.{option_map}
 use Rattle.std.specs.List.{prefix_len}
+use Rattle.merc_base.specs.Characters.{dot_code, double_quote_code, percent_code, quote_code, semicolon_code, slash_code, star_code}
 use Rattle.merc_base.specs.declared.refusal.Rule.TheVariants.{BadToken, OutsideProfile, LimitPassed}
 use Rattle.merc_base.specs.declared.refusal.Construct.TheVariants.{Character, Float, IntegerSuffix}
 use Rattle.merc_base.specs.declared.refusal.LimitName.TheVariants.{Name as NameLimit, Integer as IntegerLimit}
@@ -41,14 +42,18 @@ abbrev pub IfFirst : List ℕ → (ℕ → List ℕ → Type 0) → Type 0
 IfFirst [] P = Unit {0}
 IfFirst (byte ∷ rest) P = P byte rest
 
--- a token with a name, which has at most 255 bytes
+-- the bytes that a name has at most
+abbrev pub name_limit : ℕ
+name_limit = 255
+
+-- a token with a name, which is within the limit
 abbrev pub named : (List ℕ → Spelling) → List ℕ → ℕ → Piece
-named make name len = if nat_le (length name) 255 then Token (make name) len else Fault LimitPassed (Limit NameLimit)
+named make name len = if nat_le (length name) name_limit then Token (make name) len else Fault LimitPassed (Limit NameLimit)
 
 -- where a comment ends, behind the first `*/`, and so many bytes stand before the text
 abbrev pub comment_past : ℕ → List ℕ → Option ℕ
 comment_past past [] = None
-comment_past past (byte ∷ rest) = if (byte == 42) && next_is 47 rest then Some (past + 2) else comment_past (past + 1) rest
+comment_past past (byte ∷ rest) = if (byte == star_code) && next_is slash_code rest then Some (past + 2) else comment_past (past + 1) rest
 
 abbrev pub comment_piece : Option ℕ → Piece
 comment_piece None = bad_token
@@ -57,11 +62,11 @@ comment_piece (Some past) = Gap past
 -- a blank, tab, line end, carriage return, `%` or the end of the text stands behind a full stop
 abbrev pub ends_item : List ℕ → Bool
 ends_item [] = true
-ends_item (byte ∷ rest) = is_blank byte || (byte == 37)
+ends_item (byte ∷ rest) = is_blank byte || (byte == percent_code)
 
 -- a name that begins with a letter, `;` or a quote
 abbrev pub begins_name : ℕ → Bool
-begins_name byte = is_lower byte || (byte == 59) || (byte == 39)
+begins_name byte = is_lower byte || (byte == semicolon_code) || (byte == quote_code)
 
 -- a `.` that stands alone, before this text
 abbrev pub dot_of : Bool → List ℕ → Spelling
@@ -73,8 +78,8 @@ dot_of after_name rest =
 -- what begins with a graphic character
 abbrev pub graphic_piece : Bool → ℕ → List ℕ → Piece
 graphic_piece after_name byte rest =
-    if (byte == 47) && next_is 42 rest then comment_piece (option_map (λ past. 2 + past) (comment_past 0 (drop 1 rest)))
-    else if (byte == 46) && not (begins_with is_graphic rest) then Token (dot_of after_name rest) 1
+    if (byte == slash_code) && next_is star_code rest then comment_piece (option_map (λ past. 2 + past) (comment_past 0 (drop 1 rest)))
+    else if (byte == dot_code) && not (begins_with is_graphic rest) then Token (dot_of after_name rest) 1
     else (let run = run_of GraphicClass (byte ∷ rest) in named Name run (length run))
 
 -- what begins with a quote, the text behind which reads so
@@ -89,7 +94,7 @@ string_piece (Some found) = Token (Text found.0) (1 + found.1)
 -- a `.` and a digit
 abbrev pub begins_fraction : List ℕ → Bool
 begins_fraction [] = false
-begins_fraction (byte ∷ rest) = (byte == 46) && begins_with (is_digit_of 10) rest
+begins_fraction (byte ∷ rest) = (byte == dot_code) && begins_with (is_digit_of 10) rest
 
 abbrev pub limited : Option ℕ → ℕ → Piece
 limited None past = Fault LimitPassed (Limit IntegerLimit)
@@ -111,8 +116,8 @@ piece_of Percent after_name byte rest = Gap (1 + prefix_len (class_test Line) re
 piece_of Lower after_name byte rest = let run = run_of WordClass (byte ∷ rest) in named Name run (length run)
 piece_of Upper after_name byte rest = let run = run_of WordClass (byte ∷ rest) in named Var run (length run)
 piece_of Digit after_name byte rest = integer_piece (integer_at (byte ∷ rest)) (byte ∷ rest)
-piece_of Quote after_name byte rest = quoted_piece (quoted 39 [] 0 rest)
-piece_of DoubleQuote after_name byte rest = string_piece (quoted 34 [] 0 rest)
+piece_of Quote after_name byte rest = quoted_piece (quoted quote_code [] 0 rest)
+piece_of DoubleQuote after_name byte rest = string_piece (quoted double_quote_code [] 0 rest)
 piece_of Semicolon after_name byte rest = Token (Name (codes ";")) 1
 piece_of OpenStart after_name byte rest = Token (if after_name then OpenArgs else Open) 1
 piece_of CloseStart after_name byte rest = Token Close 1

@@ -3,6 +3,7 @@ use Rattle.std.specs.Prelude.{◌≡◌, ℕ, ◌+◌, Bool, true, false, ◌==�
 use Rattle.std.specs.Option.{option_map}
 use Rattle.std.specs.List.{count_by, flat_map}
 use Rattle.std.specs.Str.{IsUtf8}
+use Rattle.merc_base.specs.Characters.{line_end_code}
 use Rattle.merc_base.specs.Texts.{with_text}
 use Rattle.merc_base.specs.declared.place.Span.{Span}
 use Rattle.merc_tokens.specs.declared.token.Token.{Token}
@@ -20,7 +21,7 @@ pub record SpelledToken : Type 0 where
 
 -- the line of the byte at a place: lines are counted from 1 and end with a line end
 abbrev pub line_at : List ℕ → ℕ → ℕ
-line_at text at = 1 + count_by (λ byte. byte == 10) (take at text)
+line_at text at = 1 + count_by (λ byte. byte == line_end_code) (take at text)
 
 -- the token of so many bytes at this place
 abbrev pub token_at : List ℕ → ℕ → ℕ → Spelling → SpelledToken

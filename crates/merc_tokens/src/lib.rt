@@ -6,8 +6,6 @@ mod integers;
 mod pieces;
 mod quoting;
 mod reading;
-#[cfg(test)]
-mod tests;
 mod token;
 
 pub use reading::tokens;

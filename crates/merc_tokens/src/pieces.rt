@@ -1,5 +1,6 @@
 //! Pieces of text: blanks, comments and tokens.
 ghost use Rattle.std.specs.Prelude.{◌≡◌, ◌+◌, ◌≤◌, [], length, IfOk, IfSome, option_map};
+ghost use Rattle.merc_base.specs.Characters.{double_quote_code, quote_code};
 ghost use Rattle.merc_tokens.specs.Bytes.{begins_with};
 ghost use Rattle.merc_tokens.specs.Pieces.{run_of, named, comment_past, comment_piece, ends_item, begins_name, dot_of, graphic_piece, begins_fraction, make_of, IfFirst, integer_piece, quoted_piece, string_piece, first_piece, Fits};
 ghost use Rattle.merc_tokens.specs.Quoted.{quoted};
@@ -169,7 +170,7 @@ fn graphic_piece(alloc: Global, after_name: bool, text: &[u8]) -> Result<Piece, 
 
 // What begins with a quote, which this text follows.
 fn quoted_piece(alloc: Global, text: &[u8]) -> Result<Piece, NoMemory>
-    ensures value { IfOk result (λ piece. piece ≡ quoted_piece (quoted 39 [] 0 text.now)) }
+    ensures value { IfOk result (λ piece. piece ≡ quoted_piece (quoted quote_code [] 0 text.now)) }
     ensures fits { IfOk result (λ piece. Fits (1 + length text.now) piece) }
 {
     match quoted(alloc, b'\'', text)? {
@@ -180,7 +181,7 @@ fn quoted_piece(alloc: Global, text: &[u8]) -> Result<Piece, NoMemory>
 
 // What begins with a double quote, which this text follows.
 fn string_piece(alloc: Global, text: &[u8]) -> Result<Piece, NoMemory>
-    ensures value { IfOk result (λ piece. piece ≡ string_piece (quoted 34 [] 0 text.now)) }
+    ensures value { IfOk result (λ piece. piece ≡ string_piece (quoted double_quote_code [] 0 text.now)) }
     ensures fits { IfOk result (λ piece. Fits (1 + length text.now) piece) }
 {
     match quoted(alloc, b'"', text)? {

@@ -3,6 +3,7 @@ ghost use Rattle.std.specs.Prelude.{◌≡◌, ◌+◌, ◌≤◌, ◌==◌, [],
 ghost use Rattle.std.specs.List.{count_by};
 ghost use Rattle.std.specs.Str.{IsUtf8};
 ghost use Rattle.std.specs.Str.Lossy.{utf8_valid_len};
+ghost use Rattle.merc_base.specs.Characters.{line_end_code};
 ghost use Rattle.merc_base.specs.Texts.{with_text};
 ghost use Rattle.merc_tokens.specs.Tokens.{ReadsTokens, is_name, named_text, spelling_in, with_texts};
 ghost use Rattle.merc_tokens.specs.Faults.{RefusesRightly};
@@ -17,7 +18,7 @@ use std::alloc::Global;
 
 // How many line ends stand in a text.
 fn line_ends(text: &[u8]) -> usize
-    ensures value { result ≡ count_by (λ byte. byte == 10) text.now }
+    ensures value { result ≡ count_by (λ byte. byte == line_end_code) text.now }
     ensures bound { result ≤ length text.now }
 {
     text.iter().filter(|byte| **byte == b'\n').count()
@@ -130,7 +131,7 @@ fn read_all(alloc: Global, text: &[u8], names: &mut Names) -> Result<Reading, No
 fn line_ends_in(text: &[u8], len: usize) -> u32
     requires within { len ≤ length text.now }
     requires small { length text.now ≤ 300000000 }
-    ensures value { result ≡ count_by (λ byte. byte == 10) (take len text.now) }
+    ensures value { result ≡ count_by (λ byte. byte == line_end_code) (take len text.now) }
     ensures bound { result ≤ len }
 {
     line_ends(&text[..len]) as u32
@@ -152,7 +153,7 @@ fn first_bad_byte(text: &[u8]) -> Option<usize>
 /// # Errors
 ///
 /// `Refused` says the first fault of a text that has no tokens: the one with the least place, and at one place the one
-/// with the least rule. `NoMemory` says that memory was refused. The names of the tokens that were read by then stay.
+/// with the least rule. `NoMemory` says that memory was refused. The table may hold further names then.
 pub fn tokens(alloc: Global, text: &[u8], names: &mut Names) -> Result<Tokens, Fault>
     requires { length text.now ≤ 300000000 }
     ensures found { IfOk result (λ tokens. ReadsTokens names.old names.new text.now tokens) }

@@ -1,6 +1,6 @@
 -- Worked examples of whole calls: what holds of them, and what does not.
 use Rattle.std.specs.Prelude.{◌≡◌, ◌<◌, ◌≤◌, ◌++◌, ℕ, replicate, List, [], ◌∷◌, length, Some, None, codes, refl}
-use Rattle.std.proofs.Common.{◌∙◌, arith, slice_index, ap, sym, subst, inl, inr}
+use Rattle.std.proofs.Common.{arith, slice_index, ap, sym, subst, inl, inr}
 use Rattle.std.proofs.Math.Utf8.{encode}
 use Rattle.std.proofs.lemmas.List.{length-replicate, append-nil}
 use Rattle.merc_base.specs.Outside.{Files, file_named}
@@ -12,11 +12,14 @@ use Rattle.merc_top.specs.Words.{IsPlainWord, IsRequest, IsNoRequest, usage_line
 use Rattle.merc_top.specs.Loading.{file_limit}
 use Rattle.merc_top.specs.Writing.{PutsFront}
 use Rattle.merc_top.specs.Output.{AreRead, IsOutput, run_of, step_limit, text_of}
-use Rattle.merc_top.specs.Answer.{AreFiles, NamesAbsent, NamesTooLong, Names, BreaksModule, BreaksGoal, Solves, Answers}
-use Rattle.merc_top.specs.Answer.BreaksModule.{module_rule}
-use Rattle.merc_top.specs.Answer.BreaksGoal.{goal_outside}
+use Rattle.merc_top.specs.Statuses.{solved_status, module_status, goal_status, usage_status, unread_status, unwritten_status, too_long_status}
+use Rattle.merc_top.specs.Answer.{AreFiles, NamesAbsent, IsStatusDue, WroteFront, Answers}
+use Rattle.merc_top.proofs.Causes.{NamesTooLong, Names, BreaksModule, BreaksGoal, RunsTo, IsSolved}
+use Rattle.merc_top.proofs.Causes.BreaksModule.{module_rule}
+use Rattle.merc_top.proofs.Causes.BreaksGoal.{goal_outside}
+use Rattle.merc_top.proofs.AnswerLaws.{Answers-front, Answers-goal_refused}
 use Rattle.merc_top.proofs.OutputLaws.{IsOutput-unique}
-use Rattle.merc_top.proofs.Causes.{solved-exactly, module_refused-exactly, goal_refused-exactly, usage-exactly, too_long-exactly, absent-exactly}
+use Rattle.merc_top.proofs.Causes.{solved-exactly, module_refused-exactly, goal_refused-exactly, absent-exactly, status-exactly}
 use Rattle.merc_top.proofs.OutputExamples.{one, goal}
 use Rattle.merc_top.proofs.DueExamples.{bad_token, lone_byte-refused, one_text, first_output, IsDue-module_refused, IsDue-runs}
 use Rattle.merc_top.proofs.WordsExamples.{differ, IsPlainWord-example, IsRequest-example}
@@ -68,24 +71,30 @@ bad_within = omega arith
 abbrev bad_output : List (List ℕ)
 bad_output = codes "bad.m:1: rule 1: bad token\n" ∷ []
 
-pub IsOutput-refused : IsOutput bad_words files bad_output 4
+pub IsOutput-refused : IsOutput bad_words files bad_output module_status
 IsOutput-refused = inr (codes "bad.m", codes "add(2, 3, X)", bad_request, inr (bad_within, IsDue-module_refused (codes "add(2, 3, X)")))
 
-pub IsOutput-refused_no_run : (lines : List (List ℕ)) → IsOutput bad_words files lines 0 → ⊥
-IsOutput-refused_no_run lines due = differ 0 4 (omega arith) (IsOutput-unique bad_words files lines bad_output 0 4 due IsOutput-refused).1
+pub IsOutput-refused_no_run : (lines : List (List ℕ)) → IsOutput bad_words files lines solved_status → ⊥
+IsOutput-refused_no_run lines due = differ solved_status module_status (omega arith) (IsOutput-unique bad_words files lines bad_output solved_status module_status due IsOutput-refused).1
 
-pub IsOutput-absent : IsOutput (words_for (codes "two.m") (codes "add(2, 3, X)")) files [] 7
+pub IsOutput-absent : IsOutput (words_for (codes "two.m") (codes "add(2, 3, X)")) files [] unread_status
 IsOutput-absent = inr (codes "two.m", codes "add(2, 3, X)", two_request, (refl, refl))
 
-pub IsOutput-too_long : (n : ℕ) → file_limit < n → IsOutput first_words ((codes "one.m", replicate n 10) ∷ []) (codes "one.m: longer than 1048576 bytes\n" ∷ []) 10
+pub IsOutput-too_long : (n : ℕ) → file_limit < n → IsOutput first_words ((codes "one.m", replicate n 10) ∷ []) (codes "one.m: longer than 1048576 bytes\n" ∷ []) too_long_status
 IsOutput-too_long n long =
     inr (codes "one.m", codes "add(2, 3, X)", IsRequest-example, inl (subst (λ m. file_limit < m) (sym (length-replicate n 10)) long, refl, refl))
 
 no_words : IsNoRequest []
 no_words file goal request = let spelled : ◌≡◌ {A = List (List ℕ)} [] (codes "solve" ∷ file ∷ goal ∷ []) = request.spelled in cc
 
-pub IsOutput-usage : IsOutput [] files (usage_line ∷ []) 6
+pub IsOutput-usage : IsOutput [] files (usage_line ∷ []) usage_status
 IsOutput-usage = inl (no_words, refl, refl)
+
+pub IsStatusDue-example : IsStatusDue bad_words files module_status
+IsStatusDue-example = (bad_output, IsOutput-refused)
+
+pub IsStatusDue-counterexample : IsStatusDue bad_words files solved_status → ⊥
+IsStatusDue-counterexample due = IsOutput-refused_no_run due.0 due.1
 
 -- ---- files and names
 
@@ -155,10 +164,10 @@ pub BreaksModule-example : BreaksModule bad_words files
 BreaksModule-example = module_rule (255 ∷ []) (codes "add(2, 3, X)") bad_token Names-bad lone_byte-refused
 
 pub BreaksGoal-counterexample : BreaksGoal bad_words files → ⊥
-BreaksGoal-counterexample breaks = differ 4 5 (omega arith) ((goal_refused-exactly bad_words files bad_output 4 IsOutput-refused).1 breaks)
+BreaksGoal-counterexample breaks = differ module_status goal_status (omega arith) ((goal_refused-exactly bad_words files bad_output module_status IsOutput-refused).1 breaks)
 
-pub Solves-counterexample : Solves bad_words files → ⊥
-Solves-counterexample solves = differ 0 4 (omega arith) (sym ((solved-exactly bad_words files bad_output 4 IsOutput-refused).1 solves))
+pub RunsTo-counterexample : RunsTo bad_words files IsSolved → ⊥
+RunsTo-counterexample solves = differ solved_status module_status (omega arith) (sym ((solved-exactly bad_words files bad_output module_status IsOutput-refused).1 solves))
 
 first_answers : 0 < length (answers_of (run_of one goal))
 unfolding run_of run step_limit
@@ -170,8 +179,8 @@ first_end = refl
 
 -- where file and goal are read, and the file is the module that runs
 module _ (names : List (List ℕ)) (items : List Term) (term : Term) (source : source_of names items ≡ Some one) where
-  pub Solves-example : AreRead one_text (codes "add(2, 3, X)") names items term → goal_of names one term ≡ Some goal → Solves first_words files
-  Solves-example read is = record {
+  pub RunsTo-example : AreRead one_text (codes "add(2, 3, X)") names items term → goal_of names one term ≡ Some goal → RunsTo first_words files IsSolved
+  RunsTo-example read is = record {
     text = one_text;
     goal = codes "add(2, 3, X)";
     request = Names-example;
@@ -183,82 +192,68 @@ module _ (names : List (List ℕ)) (items : List Term) (term : Term) (source : s
     source_is = source;
     conjuncts = goal;
     goal_is = is;
-    answers = first_answers;
-    ends = first_end;
+    fits = (first_answers, first_end);
   }
 
-  pub IsOutput-runs : AreRead one_text (codes "add(2, 3, X)") names items term → goal_of names one term ≡ Some goal → IsOutput first_words files first_output 0
+  pub IsOutput-runs : AreRead one_text (codes "add(2, 3, X)") names items term → goal_of names one term ≡ Some goal → IsOutput first_words files first_output solved_status
   IsOutput-runs read is = inr (codes "one.m", codes "add(2, 3, X)", IsRequest-example, inr (one_within, IsDue-runs (codes "add(2, 3, X)") names items term read source is))
 
   pub BreaksModule-counterexample : AreRead one_text (codes "add(2, 3, X)") names items term → goal_of names one term ≡ Some goal → BreaksModule first_words files → ⊥
   BreaksModule-counterexample read is breaks =
-      differ 0 4 (omega arith) ((module_refused-exactly first_words files first_output 0 (IsOutput-runs read is)).1 breaks)
+      differ solved_status module_status (omega arith) ((module_refused-exactly first_words files first_output solved_status (IsOutput-runs read is)).1 breaks)
 
   pub BreaksGoal-example : AreRead one_text (codes "add(2, 3, 5)") names items term → goal_of names one term ≡ None → BreaksGoal closed_words files
   BreaksGoal-example read outside = goal_outside one_text (codes "add(2, 3, 5)") names items term one Names-closed read source outside
 
 -- ---- what one call has done
 
--- the lines that are due for the bad text
-bad_due : (lines : List (List ℕ)) (due : ℕ) → IsOutput bad_words files lines due → text_of lines ≡ text_of bad_output
-bad_due lines due output = ap text_of (IsOutput-unique bad_words files lines bad_output due 4 output IsOutput-refused).0
+not_unread : ◌≡◌ {A = ℕ} module_status unread_status → ⊥
+not_unread same = omega arith
 
-not_seven : ◌≡◌ {A = ℕ} 4 7 → ⊥
-not_seven same = omega arith
-
-pub Answers-example : Answers bad_words (Some files) 3 3 (Some (codes ">")) (Some (codes ">bad.m:1: rule 1: bad token\n")) 2 2 4
+pub Answers-example : Answers bad_words (Some files) 3 3 (Some (codes ">")) (Some (codes ">bad.m:1: rule 1: bad token\n")) 2 2 module_status
 Answers-example = record {
   output = λ _ _ _. (files, refl, bad_output, IsOutput-refused, refl);
-  solved = λ _ _ _. solved-exactly bad_words files bad_output 4 IsOutput-refused;
-  module_refused = λ _ _ _. module_refused-exactly bad_words files bad_output 4 IsOutput-refused;
-  goal_refused = λ _ _ _. goal_refused-exactly bad_words files bad_output 4 IsOutput-refused;
-  usage = λ _ _ _. usage-exactly bad_words files bad_output 4 IsOutput-refused;
-  too_long = λ _ _ _. too_long-exactly bad_words files bad_output 4 IsOutput-refused;
-  unread = λ same. absurd (not_seven same);
+  exact = λ _ _ _. (files, refl, λ due. status-exactly bad_words files bad_output module_status due IsOutput-refused);
+  unread = λ same. absurd (not_unread same);
   read_failed = λ failed. absurd (omega arith);
-  absent = λ absent _. absent-exactly bad_words files bad_output 4 IsOutput-refused absent;
-  nothing_written = λ same. absurd (not_seven same);
+  absent = λ absent _. absent-exactly bad_words files bad_output module_status IsOutput-refused absent;
+  nothing_written = λ same. absurd (not_unread same);
   write_failed = (λ same. absurd (omega arith), λ failed. absurd (omega arith));
   cut_short = λ same. absurd (omega arith);
-  front = λ lines due output. record {
-    front = text_of bad_output;
-    rest = [];
-    whole = append-nil (text_of bad_output) ∙ sym (bad_due lines due output);
-    written = refl;
-  };
+  front = inr (files, refl, bad_output, module_status, IsOutput-refused, record { front = text_of bad_output; rest = []; whole = append-nil (text_of bad_output); written = refl });
 }
 
+-- the file's name alone
+pub bad_front : WroteFront bad_words (Some files) (Some []) (Some (codes "bad.m"))
+bad_front = (files, refl, bad_output, module_status, IsOutput-refused, record { front = codes "bad.m"; rest = codes ":1: rule 1: bad token\n"; whole = refl; written = refl })
+
 -- a write failed behind the file's name
-pub Answers-cut_short : Answers bad_words (Some files) 3 3 (Some []) (Some (codes "bad.m")) 2 3 8
+pub Answers-cut_short : Answers bad_words (Some files) 3 3 (Some []) (Some (codes "bad.m")) 2 3 unwritten_status
 Answers-cut_short = record {
   output = λ _ same _. absurd (omega arith);
-  solved = λ _ same _. absurd (omega arith);
-  module_refused = λ _ same _. absurd (omega arith);
-  goal_refused = λ _ same _. absurd (omega arith);
-  usage = λ _ same _. absurd (omega arith);
-  too_long = λ _ same _. absurd (omega arith);
+  exact = λ _ same _. absurd (omega arith);
   unread = λ same. absurd (omega arith);
   read_failed = λ failed. absurd (omega arith);
-  absent = λ absent _. absurd (not_seven (absent-exactly bad_words files bad_output 4 IsOutput-refused absent));
+  absent = λ absent _. absurd (not_unread (absent-exactly bad_words files bad_output module_status IsOutput-refused absent));
   nothing_written = λ same. absurd (omega arith);
   write_failed = (λ _. omega arith, λ _. refl);
-  cut_short = λ _. (files, refl, bad_output, 4, IsOutput-refused, record { front = codes "bad.m"; rest = codes ":1: rule 1: bad token\n"; whole = refl; written = refl });
-  front = λ lines due output. record { front = codes "bad.m"; rest = codes ":1: rule 1: bad token\n"; whole = sym (bad_due lines due output); written = refl };
+  cut_short = λ _. bad_front;
+  front = inr bad_front;
 }
 
 -- another line was written
 pub Answers-counterexample : (status : ℕ) → Answers bad_words (Some files) 3 3 (Some []) (Some (codes "bad.m:2: rule 1: bad token\n")) 2 2 status → ⊥
 Answers-counterexample status answers =
-    let puts : PutsFront (text_of bad_output) (Some []) (Some (codes "bad.m:2: rule 1: bad token\n")) = answers.front bad_output 4 IsOutput-refused in
+    let puts : PutsFront (text_of bad_output) (Some []) (Some (codes "bad.m:2: rule 1: bad token\n")) = Answers-front bad_words (Some files) 3 3 (Some []) (Some (codes "bad.m:2: rule 1: bad token\n")) 2 2 status answers bad_output module_status IsOutput-refused in
     let written = some_injective (codes "bad.m:2: rule 1: bad token\n") puts.front puts.written in
     let whole : codes "bad.m:2: rule 1: bad token\n" ++ puts.rest ≡ text_of bad_output =
     subst (λ front. front ++ puts.rest ≡ text_of bad_output) (sym written) puts.whole in
     differ 49 50 (omega arith) (sym (ap (λ (text : List ℕ). slice_index text 6) whole))
 
 -- the last line was left, and no write failed
-pub Answers-uncounted : Answers bad_words (Some files) 3 3 (Some []) (Some (codes "bad.m")) 2 2 8 → ⊥
+pub Answers-uncounted : Answers bad_words (Some files) 3 3 (Some []) (Some (codes "bad.m")) 2 2 unwritten_status → ⊥
 Answers-uncounted answers = let failed : 2 < 2 = answers.write_failed.0 refl in omega arith
 
 -- a bad text is the file's fault and not the goal's
-pub Answers-of_the_goal : Answers bad_words (Some files) 3 3 (Some []) (Some (codes "bad.m:1: rule 1: bad token\n")) 2 2 5 → ⊥
-Answers-of_the_goal answers = BreaksGoal-counterexample ((answers.goal_refused refl refl (λ same. absurd (omega arith))).0 refl)
+pub Answers-of_the_goal : Answers bad_words (Some files) 3 3 (Some []) (Some (codes "bad.m:1: rule 1: bad token\n")) 2 2 goal_status → ⊥
+Answers-of_the_goal answers = BreaksGoal-counterexample ((Answers-goal_refused bad_words (Some files) 3 3 (Some []) (Some (codes "bad.m:1: rule 1: bad token\n")) 2 2 goal_status answers refl refl (λ same. absurd (omega arith))).0 refl)

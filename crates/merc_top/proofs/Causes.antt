@@ -1,43 +1,93 @@
 -- Each status that is due has its cause, and each cause its status.
-use Rattle.std.proofs.Common.{◌≡◌, ◌<◌, ◌∙◌, ◌↔◌, ℕ, zero, suc, List, [], ◌∷◌, ap, sym, refl, subst, inl, inr, length, arith, lit<, codes}
+use Rattle.std.proofs.Common.{◌≡◌, ◌<◌, ◌≤◌, ◌↔◌, ℕ, zero, suc, List, [], ◌∷◌, ap, sym, refl, subst, inl, inr, length, arith, lit<, codes}
 use Rattle.std.specs.Prelude.{Option, Some, None}
 use Rattle.merc_base.specs.Outside.{Files, file_named}
 use Rattle.merc_tree.specs.Term.{Term}
-use Rattle.merc_tree.specs.Trace.{RunEnd, RunDone, RunRaised, LimitPassed, answers_of, end_of}
+use Rattle.merc_base.specs.Names.{fixed_names}
+use Rattle.merc_base.specs.declared.refusal.Refusal.{Refusal}
+use Rattle.merc_tree.specs.declared.declarations.Module.{Module}
+use Rattle.merc_check.specs.Checked.{IsAccepted, Refuses, RefusesQuery}
+use Rattle.merc_tree.specs.Trace.{Run, RunEnd, RunDone, RunRaised, LimitPassed, answers_of, end_of}
 use Rattle.merc_first_form.specs.declared.syntax.Conjunct.{Conjunct}
 use Rattle.merc_first_form.specs.declared.syntax.Source.{Source}
 use Rattle.merc_first_form.specs.FlatForm.{variables_of}
 use Rattle.merc_first_form.specs.Reading.{source_of, goal_of}
+use Rattle.merc_top.specs.Loading.{file_limit}
+use Rattle.merc_top.specs.Statuses.{solved_status, unsolved_status, raised_status, limit_status, module_status, goal_status, usage_status, unread_status, too_long_status}
 use Rattle.merc_top.specs.Words.{IsRequest, IsNoRequest, usage_line}
 use Rattle.merc_top.specs.Output.{AreRead, IsDue, IsOutput, FileOutput, run_of, run_lines, run_status, refusal_line, stage_refusal, too_long_line}
 use Rattle.merc_top.specs.Output.IsDue.{module_refused as due_module_refused, goal_refused as due_goal_refused, module_outside as due_module_outside, goal_outside as due_goal_outside, runs as due_runs}
-use Rattle.merc_top.specs.Answer.{Names, NamesAbsent, NamesTooLong, BreaksModule, BreaksGoal, Solves}
-use Rattle.merc_top.specs.Answer.BreaksModule.{module_rule, module_outside}
-use Rattle.merc_top.specs.Answer.BreaksGoal.{goal_rule, goal_outside}
+use Rattle.merc_top.specs.Answer.{IsStatusDue, NamesAbsent}
 use Rattle.merc_top.proofs.OutputLaws.{IsOutput-unique}
 
--- module and goal are accepted, and the status is that of the run
-record Runs (words : List (List ℕ)) (files : Files) (status : ℕ) : Type 0 where
-  text : List ℕ
-  goal : List ℕ
-  request : Names words files text goal
-  names : List (List ℕ)
-  items : List Term
-  term : Term
-  read : AreRead text goal names items term
-  source : Source
-  source_is : source_of names items ≡ Some source
-  conjuncts : List Conjunct
-  goal_is : goal_of names source term ≡ Some conjuncts
-  is : status ≡ run_status (length (answers_of (run_of source conjuncts))) (end_of (run_of source conjuncts))
+-- the words name a file of more bytes than the limit
+pub record NamesTooLong (words : List (List ℕ)) (files : Files) : Type 0 where
+  pub file : List ℕ
+  pub goal : List ℕ
+  pub text : List ℕ
+  pub request : IsRequest words file goal
+  pub content : file_named file files ≡ Some text
+  pub past : file_limit < length text
+
+-- the words name a file with this text, within the limit, and a goal with that text
+pub record Names (words : List (List ℕ)) (files : Files) (text goal : List ℕ) : Type 0 where
+  pub file : List ℕ
+  pub request : IsRequest words file goal
+  pub content : file_named file files ≡ Some text
+  pub within : length text ≤ file_limit
+
+-- the named file breaks a rule; or neither it nor the goal does, and it is not of the form that runs
+pub data BreaksModule (words : List (List ℕ)) (files : Files) : Type 0 where
+  module_rule : (text goal : List ℕ) (refusal : Refusal) → Names words files text goal → Refuses fixed_names text refusal → BreaksModule words files
+  module_outside : (text goal : List ℕ) (names : List (List ℕ)) (items : List Term) (term : Term) → Names words files text goal → AreRead text goal names items term → source_of names items ≡ None → BreaksModule words files
+
+-- the named file is an accepted module and the goal breaks a rule; or it does not, the module is of the form that runs, and the goal is not
+pub data BreaksGoal (words : List (List ℕ)) (files : Files) : Type 0 where
+  goal_rule : (text goal : List ℕ) (names : List (List ℕ)) (items : List Term) (found : Module) (refusal : Refusal) → Names words files text goal → IsAccepted fixed_names names text items found → RefusesQuery names found goal refusal → BreaksGoal words files
+  goal_outside : (text goal : List ℕ) (names : List (List ℕ)) (items : List Term) (term : Term) (source : Source) → Names words files text goal → AreRead text goal names items term → source_of names items ≡ Some source → goal_of names source term ≡ None → BreaksGoal words files
+
+-- module and goal are accepted, and the goal's run is such
+pub record RunsTo (words : List (List ℕ)) (files : Files) (Fits : Run → Type 0) : Type 0 where
+  pub text : List ℕ
+  pub goal : List ℕ
+  pub request : Names words files text goal
+  pub names : List (List ℕ)
+  pub items : List Term
+  pub term : Term
+  pub read : AreRead text goal names items term
+  pub source : Source
+  pub source_is : source_of names items ≡ Some source
+  pub conjuncts : List Conjunct
+  pub goal_is : goal_of names source term ≡ Some conjuncts
+  pub fits : Fits (run_of source conjuncts)
+
+-- this is the status of the run
+abbrev pub HasStatus : ℕ → Run → Type 0
+HasStatus status run = status ≡ run_status (length (answers_of run)) (end_of run)
+
+-- the run has answers and ends with no further one
+abbrev pub IsSolved : Run → Type 0
+IsSolved run = (0 < length (answers_of run)) × (end_of run ≡ RunDone)
+
+-- the run ends with no answer
+abbrev pub IsUnsolved : Run → Type 0
+IsUnsolved run = (length (answers_of run) ≡ 0) × (end_of run ≡ RunDone)
+
+-- the run ends with an exception
+abbrev pub IsRaised : Run → Type 0
+IsRaised run = (text : List ℕ) × (end_of run ≡ RunRaised text)
+
+-- the run passes its step limit
+abbrev pub IsCutAtLimit : Run → Type 0
+IsCutAtLimit run = end_of run ≡ LimitPassed
 
 data Cause (words : List (List ℕ)) (files : Files) (status : ℕ) : Type 0 where
-  usage_cause : (why : IsNoRequest words) (is : status ≡ 6) → Cause words files status
-  absent_cause : (is : status ≡ 7) → Cause words files status
-  too_long_cause : (why : NamesTooLong words files) (is : status ≡ 10) → Cause words files status
-  module_cause : (why : BreaksModule words files) (is : status ≡ 4) → Cause words files status
-  goal_cause : (why : BreaksGoal words files) (is : status ≡ 5) → Cause words files status
-  run_cause : (why : Runs words files status) → Cause words files status
+  usage_cause : (why : IsNoRequest words) (is : status ≡ usage_status) → Cause words files status
+  absent_cause : (is : status ≡ unread_status) → Cause words files status
+  too_long_cause : (why : NamesTooLong words files) (is : status ≡ too_long_status) → Cause words files status
+  module_cause : (why : BreaksModule words files) (is : status ≡ module_status) → Cause words files status
+  goal_cause : (why : BreaksGoal words files) (is : status ≡ goal_status) → Cause words files status
+  run_cause : (why : RunsTo words files (HasStatus status)) → Cause words files status
 
 due-cause : (words : List (List ℕ)) (files : Files) (name text goal : List ℕ) (lines : List (List ℕ)) (status : ℕ)
     → Names words files text goal → IsDue name text goal lines status → Cause words files status
@@ -50,7 +100,7 @@ due-cause words files name text goal _ _ request (due_module_outside names items
 due-cause words files name text goal _ _ request (due_goal_outside names items term source read within outside) =
     goal_cause (goal_outside text goal names items term source request read within outside) refl
 due-cause words files name text goal _ _ request (due_runs names items term source conjuncts lines status read within is due) =
-    run_cause (record { text = text; goal = goal; request = request; names = names; items = items; term = term; read = read; source = source; source_is = within; conjuncts = conjuncts; goal_is = is; is = due.1 })
+    run_cause (record { text = text; goal = goal; request = request; names = names; items = items; term = term; read = read; source = source; source_is = within; conjuncts = conjuncts; goal_is = is; fits = due.1 })
 
 file_output-cause : (words : List (List ℕ)) (files : Files) (file goal : List ℕ) (content : Option (List ℕ)) (lines : List (List ℕ)) (status : ℕ)
     → IsRequest words file goal → file_named file files ≡ content → FileOutput file content goal lines status → Cause words files status
@@ -65,7 +115,7 @@ cause_of words files lines status (inl usage) = usage_cause usage.0 usage.2
 cause_of words files lines status (inr request) =
     file_output-cause words files request.0 request.1 (file_named request.0 files) lines status request.2 refl request.3
 
-run_status-zero : (count : ℕ) (end : RunEnd) → 0 ≡ run_status count end → (0 < count) × (end ≡ RunDone)
+run_status-zero : (count : ℕ) (end : RunEnd) → solved_status ≡ run_status count end → (0 < count) × (end ≡ RunDone)
 run_status-zero zero RunDone is = absurd (omega (arith, is))
 run_status-zero (suc count) RunDone is = (omega arith, refl)
 run_status-zero zero (RunRaised text) is = absurd (omega (arith, is))
@@ -73,11 +123,43 @@ run_status-zero (suc count) (RunRaised text) is = absurd (omega (arith, is))
 run_status-zero zero LimitPassed is = absurd (omega (arith, is))
 run_status-zero (suc count) LimitPassed is = absurd (omega (arith, is))
 
-run_status-solved : (count : ℕ) (end : RunEnd) → 0 < count → end ≡ RunDone → run_status count end ≡ 0
+run_status-solved : (count : ℕ) (end : RunEnd) → 0 < count → end ≡ RunDone → run_status count end ≡ solved_status
 run_status-solved zero end some done = absurd (omega arith)
 run_status-solved (suc count) end some done = ap (λ e. run_status (suc count) e) done
 
-run_status-low : (count : ℕ) (end : RunEnd) → run_status count end < 4
+run_status-one : (count : ℕ) (end : RunEnd) → unsolved_status ≡ run_status count end → (count ≡ 0) × (end ≡ RunDone)
+run_status-one zero RunDone is = (refl, refl)
+run_status-one (suc count) RunDone is = absurd (omega (arith, is))
+run_status-one zero (RunRaised text) is = absurd (omega (arith, is))
+run_status-one (suc count) (RunRaised text) is = absurd (omega (arith, is))
+run_status-one zero LimitPassed is = absurd (omega (arith, is))
+run_status-one (suc count) LimitPassed is = absurd (omega (arith, is))
+
+run_status-two : (count : ℕ) (end : RunEnd) → raised_status ≡ run_status count end → (text : List ℕ) × (end ≡ RunRaised text)
+run_status-two zero RunDone is = absurd (omega (arith, is))
+run_status-two (suc count) RunDone is = absurd (omega (arith, is))
+run_status-two zero (RunRaised text) is = (text, refl)
+run_status-two (suc count) (RunRaised text) is = (text, refl)
+run_status-two zero LimitPassed is = absurd (omega (arith, is))
+run_status-two (suc count) LimitPassed is = absurd (omega (arith, is))
+
+run_status-three : (count : ℕ) (end : RunEnd) → limit_status ≡ run_status count end → end ≡ LimitPassed
+run_status-three zero RunDone is = absurd (omega (arith, is))
+run_status-three (suc count) RunDone is = absurd (omega (arith, is))
+run_status-three zero (RunRaised text) is = absurd (omega (arith, is))
+run_status-three (suc count) (RunRaised text) is = absurd (omega (arith, is))
+run_status-three zero LimitPassed is = refl
+run_status-three (suc count) LimitPassed is = refl
+
+run_status-raised : (count : ℕ) (text : List ℕ) → run_status count (RunRaised text) ≡ raised_status
+run_status-raised zero text = refl
+run_status-raised (suc count) text = refl
+
+run_status-limit : (count : ℕ) → run_status count LimitPassed ≡ limit_status
+run_status-limit zero = refl
+run_status-limit (suc count) = refl
+
+run_status-low : (count : ℕ) (end : RunEnd) → run_status count end < module_status
 run_status-low zero RunDone = lit< tt
 run_status-low (suc count) RunDone = lit< tt
 run_status-low zero (RunRaised text) = lit< tt
@@ -85,37 +167,34 @@ run_status-low (suc count) (RunRaised text) = lit< tt
 run_status-low zero LimitPassed = lit< tt
 run_status-low (suc count) LimitPassed = lit< tt
 
-runs_low : (words : List (List ℕ)) (files : Files) (status : ℕ) → Runs words files status → status < 4
-runs_low words files status runs = subst (λ n. n < 4) (sym runs.is) (run_status-low _ _)
+runs_low : (words : List (List ℕ)) (files : Files) (status : ℕ) → RunsTo words files (HasStatus status) → status < module_status
+runs_low words files status runs = subst (λ n. n < module_status) (sym runs.fits) (run_status-low _ _)
 
-runs_solved : (words : List (List ℕ)) (files : Files) (status : ℕ) → Runs words files status → status ≡ 0 → Solves words files
-runs_solved words files status runs is =
-    let why = run_status-zero _ _ (sym is ∙ runs.is) in
-    record {
-      text = runs.text;
-      goal = runs.goal;
-      request = runs.request;
-      names = runs.names;
-      items = runs.items;
-      term = runs.term;
-      read = runs.read;
-      source = runs.source;
-      source_is = runs.source_is;
-      conjuncts = runs.conjuncts;
-      goal_is = runs.goal_is;
-      answers = why.0;
-      ends = why.1;
-    }
+refit : (words : List (List ℕ)) (files : Files) (P Q : Run → Type 0) → ((run : Run) → P run → Q run) → RunsTo words files P → RunsTo words files Q
+refit words files P Q turns runs = record {
+  text = runs.text;
+  goal = runs.goal;
+  request = runs.request;
+  names = runs.names;
+  items = runs.items;
+  term = runs.term;
+  read = runs.read;
+  source = runs.source;
+  source_is = runs.source_is;
+  conjuncts = runs.conjuncts;
+  goal_is = runs.goal_is;
+  fits = turns (run_of runs.source runs.conjuncts) runs.fits;
+}
 
-solved_by : (words : List (List ℕ)) (files : Files) (status : ℕ) → Cause words files status → status ≡ 0 → Solves words files
-solved_by words files status (usage_cause why is) zero_is = absurd (omega (arith, is, zero_is))
-solved_by words files status (absent_cause is) zero_is = absurd (omega (arith, is, zero_is))
-solved_by words files status (too_long_cause why is) zero_is = absurd (omega (arith, is, zero_is))
-solved_by words files status (module_cause why is) zero_is = absurd (omega (arith, is, zero_is))
-solved_by words files status (goal_cause why is) zero_is = absurd (omega (arith, is, zero_is))
-solved_by words files status (run_cause why) zero_is = runs_solved words files status why zero_is
+run_by : (words : List (List ℕ)) (files : Files) (status : ℕ) → Cause words files status → status < module_status → RunsTo words files (HasStatus status)
+run_by words files status (usage_cause why is) low = absurd (omega (arith, is, low))
+run_by words files status (absent_cause is) low = absurd (omega (arith, is, low))
+run_by words files status (too_long_cause why is) low = absurd (omega (arith, is, low))
+run_by words files status (module_cause why is) low = absurd (omega (arith, is, low))
+run_by words files status (goal_cause why is) low = absurd (omega (arith, is, low))
+run_by words files status (run_cause why) low = why
 
-module_refused_by : (words : List (List ℕ)) (files : Files) (status : ℕ) → Cause words files status → status ≡ 4 → BreaksModule words files
+module_refused_by : (words : List (List ℕ)) (files : Files) (status : ℕ) → Cause words files status → status ≡ module_status → BreaksModule words files
 module_refused_by words files status (usage_cause why is) four = absurd (omega (arith, is, four))
 module_refused_by words files status (absent_cause is) four = absurd (omega (arith, is, four))
 module_refused_by words files status (too_long_cause why is) four = absurd (omega (arith, is, four))
@@ -123,7 +202,7 @@ module_refused_by words files status (module_cause why is) four = why
 module_refused_by words files status (goal_cause why is) four = absurd (omega (arith, is, four))
 module_refused_by words files status (run_cause why) four = absurd (omega (arith, four, runs_low words files status why))
 
-goal_refused_by : (words : List (List ℕ)) (files : Files) (status : ℕ) → Cause words files status → status ≡ 5 → BreaksGoal words files
+goal_refused_by : (words : List (List ℕ)) (files : Files) (status : ℕ) → Cause words files status → status ≡ goal_status → BreaksGoal words files
 goal_refused_by words files status (usage_cause why is) five = absurd (omega (arith, is, five))
 goal_refused_by words files status (absent_cause is) five = absurd (omega (arith, is, five))
 goal_refused_by words files status (too_long_cause why is) five = absurd (omega (arith, is, five))
@@ -131,7 +210,7 @@ goal_refused_by words files status (module_cause why is) five = absurd (omega (a
 goal_refused_by words files status (goal_cause why is) five = why
 goal_refused_by words files status (run_cause why) five = absurd (omega (arith, five, runs_low words files status why))
 
-usage_by : (words : List (List ℕ)) (files : Files) (status : ℕ) → Cause words files status → status ≡ 6 → IsNoRequest words
+usage_by : (words : List (List ℕ)) (files : Files) (status : ℕ) → Cause words files status → status ≡ usage_status → IsNoRequest words
 usage_by words files status (usage_cause why is) six = why
 usage_by words files status (absent_cause is) six = absurd (omega (arith, is, six))
 usage_by words files status (too_long_cause why is) six = absurd (omega (arith, is, six))
@@ -139,7 +218,7 @@ usage_by words files status (module_cause why is) six = absurd (omega (arith, is
 usage_by words files status (goal_cause why is) six = absurd (omega (arith, is, six))
 usage_by words files status (run_cause why) six = absurd (omega (arith, six, runs_low words files status why))
 
-too_long_by : (words : List (List ℕ)) (files : Files) (status : ℕ) → Cause words files status → status ≡ 10 → NamesTooLong words files
+too_long_by : (words : List (List ℕ)) (files : Files) (status : ℕ) → Cause words files status → status ≡ too_long_status → NamesTooLong words files
 too_long_by words files status (usage_cause why is) ten = absurd (omega (arith, is, ten))
 too_long_by words files status (absent_cause is) ten = absurd (omega (arith, is, ten))
 too_long_by words files status (too_long_cause why is) ten = why
@@ -158,29 +237,27 @@ named_output words files text goal lines status request due =
       subst (λ content. FileOutput request.file content goal lines status) (sym request.content) (inr (request.within, due)),
     )
 
-solves_output : (words : List (List ℕ)) (files : Files) → Solves words files → (lines : List (List ℕ)) × IsOutput words files lines 0
-solves_output words files solves =
-    let run = run_of solves.source solves.conjuncts in
-    let lines = run_lines (variables_of [] solves.conjuncts) run in (
+runs_output : (words : List (List ℕ)) (files : Files) (status : ℕ) → RunsTo words files (HasStatus status) → (lines : List (List ℕ)) × IsOutput words files lines status
+runs_output words files status runs =
+    let lines = run_lines (variables_of [] runs.conjuncts) (run_of runs.source runs.conjuncts) in (
       lines,
-      named_output words files solves.text solves.goal lines 0 solves.request
-          (due_runs solves.names solves.items solves.term solves.source solves.conjuncts lines 0 solves.read solves.source_is solves.goal_is
-          (refl, sym (run_status-solved _ _ solves.answers solves.ends))),
+      named_output words files runs.text runs.goal lines status runs.request
+          (due_runs runs.names runs.items runs.term runs.source runs.conjuncts lines status runs.read runs.source_is runs.goal_is (refl, runs.fits)),
     )
 
-breaks_module_output : (words : List (List ℕ)) (files : Files) → BreaksModule words files → (lines : List (List ℕ)) × IsOutput words files lines 4
+breaks_module_output : (words : List (List ℕ)) (files : Files) → BreaksModule words files → (lines : List (List ℕ)) × IsOutput words files lines module_status
 breaks_module_output words files (module_rule text goal refusal request refuses) =
-    (refusal_line request.file refusal ∷ [], named_output words files text goal _ 4 request (due_module_refused refusal refuses))
+    (refusal_line request.file refusal ∷ [], named_output words files text goal _ module_status request (due_module_refused refusal refuses))
 breaks_module_output words files (module_outside text goal names items term request read outside) =
-    (refusal_line request.file stage_refusal ∷ [], named_output words files text goal _ 4 request (due_module_outside names items term read outside))
+    (refusal_line request.file stage_refusal ∷ [], named_output words files text goal _ module_status request (due_module_outside names items term read outside))
 
-breaks_goal_output : (words : List (List ℕ)) (files : Files) → BreaksGoal words files → (lines : List (List ℕ)) × IsOutput words files lines 5
+breaks_goal_output : (words : List (List ℕ)) (files : Files) → BreaksGoal words files → (lines : List (List ℕ)) × IsOutput words files lines goal_status
 breaks_goal_output words files (goal_rule text goal names items found refusal request is refuses) =
-    (refusal_line (codes "goal") refusal ∷ [], named_output words files text goal _ 5 request (due_goal_refused names items found refusal is refuses))
+    (refusal_line (codes "goal") refusal ∷ [], named_output words files text goal _ goal_status request (due_goal_refused names items found refusal is refuses))
 breaks_goal_output words files (goal_outside text goal names items term source request read within outside) =
-    (refusal_line (codes "goal") stage_refusal ∷ [], named_output words files text goal _ 5 request (due_goal_outside names items term source read within outside))
+    (refusal_line (codes "goal") stage_refusal ∷ [], named_output words files text goal _ goal_status request (due_goal_outside names items term source read within outside))
 
-too_long_output : (words : List (List ℕ)) (files : Files) → NamesTooLong words files → (lines : List (List ℕ)) × IsOutput words files lines 10
+too_long_output : (words : List (List ℕ)) (files : Files) → NamesTooLong words files → (lines : List (List ℕ)) × IsOutput words files lines too_long_status
 too_long_output words files names =
     let lines = too_long_line names.file ∷ [] in (
       lines,
@@ -188,49 +265,80 @@ too_long_output words files names =
         names.file,
         names.goal,
         names.request,
-        subst (λ content. FileOutput names.file content names.goal lines 10) (sym names.content) (inl (names.past, refl, refl)),
+        subst (λ content. FileOutput names.file content names.goal lines too_long_status) (sym names.content) (inl (names.past, refl, refl)),
       ),
     )
 
-usage_output : (words : List (List ℕ)) (files : Files) → IsNoRequest words → (lines : List (List ℕ)) × IsOutput words files lines 6
+usage_output : (words : List (List ℕ)) (files : Files) → IsNoRequest words → (lines : List (List ℕ)) × IsOutput words files lines usage_status
 usage_output words files none = (usage_line ∷ [], inl (none, refl, refl))
 
 -- a status that is due is the one that its cause gives
 status_is : (words : List (List ℕ)) (files : Files) (lines : List (List ℕ)) (status due : ℕ) → IsOutput words files lines status
-    → ((lines' : List (List ℕ)) × IsOutput words files lines' due) → status ≡ due
+    → IsStatusDue words files due → status ≡ due
 status_is words files lines status due output other = (IsOutput-unique words files lines other.0 status due output other.1).1
 
-pub solved-exactly : (words : List (List ℕ)) (files : Files) (lines : List (List ℕ)) (status : ℕ) → IsOutput words files lines status → (status ≡ 0) ↔ Solves words files
-solved-exactly words files lines status output = (
-  solved_by words files status (cause_of words files lines status output),
-  λ why. status_is words files lines status 0 output (solves_output words files why),
+runs-exactly : (words : List (List ℕ)) (files : Files) (lines : List (List ℕ)) (status due : ℕ) (Fits : Run → Type 0) → IsOutput words files lines status → due < module_status
+    → ((run : Run) → HasStatus due run → Fits run) → ((run : Run) → Fits run → HasStatus due run) → (status ≡ due) ↔ RunsTo words files Fits
+runs-exactly words files lines status due Fits output low to from = (
+  λ is.
+      refit words files (HasStatus due) Fits to
+      (subst (λ n. RunsTo words files (HasStatus n)) is (run_by words files status (cause_of words files lines status output) (subst (λ n. n < module_status) (sym is) low))),
+  λ why. status_is words files lines status due output (runs_output words files due (refit words files Fits (HasStatus due) from why)),
 )
 
-pub module_refused-exactly : (words : List (List ℕ)) (files : Files) (lines : List (List ℕ)) (status : ℕ) → IsOutput words files lines status → (status ≡ 4) ↔ BreaksModule words files
+-- Status by status, where it is due and so comes without a fault: the run of a goal has solutions,
+pub solved-exactly : (words : List (List ℕ)) (files : Files) (lines : List (List ℕ)) (status : ℕ) → IsOutput words files lines status → (status ≡ solved_status) ↔ RunsTo words files IsSolved
+solved-exactly words files lines status output =
+    runs-exactly words files lines status solved_status IsSolved output (lit< tt) (λ run is. run_status-zero _ _ is) (λ run fits. sym (run_status-solved _ _ fits.0 fits.1))
+
+-- or has none,
+pub unsolved-exactly : (words : List (List ℕ)) (files : Files) (lines : List (List ℕ)) (status : ℕ) → IsOutput words files lines status → (status ≡ unsolved_status) ↔ RunsTo words files IsUnsolved
+unsolved-exactly words files lines status output =
+    runs-exactly words files lines status unsolved_status IsUnsolved output (lit< tt) (λ run is. run_status-one _ _ is)
+    (λ run fits. rw (fits.0, fits.1) refl)
+
+-- or ends with an exception,
+pub raised-exactly : (words : List (List ℕ)) (files : Files) (lines : List (List ℕ)) (status : ℕ) → IsOutput words files lines status → (status ≡ raised_status) ↔ RunsTo words files IsRaised
+raised-exactly words files lines status output =
+    runs-exactly words files lines status raised_status IsRaised output (lit< tt) (λ run is. run_status-two _ _ is)
+    (λ run fits. rw fits.1 (sym (run_status-raised (length (answers_of run)) fits.0)))
+
+-- or passes the step limit;
+pub limit-exactly : (words : List (List ℕ)) (files : Files) (lines : List (List ℕ)) (status : ℕ) → IsOutput words files lines status → (status ≡ limit_status) ↔ RunsTo words files IsCutAtLimit
+limit-exactly words files lines status output =
+    runs-exactly words files lines status limit_status IsCutAtLimit output (lit< tt) (λ run is. run_status-three _ _ is)
+    (λ run fits. rw fits (sym (run_status-limit (length (answers_of run)))))
+
+-- or the module breaks a rule, or the goal, or the words ask for nothing, or the file is too long.
+pub module_refused-exactly : (words : List (List ℕ)) (files : Files) (lines : List (List ℕ)) (status : ℕ) → IsOutput words files lines status → (status ≡ module_status) ↔ BreaksModule words files
 module_refused-exactly words files lines status output = (
   module_refused_by words files status (cause_of words files lines status output),
-  λ why. status_is words files lines status 4 output (breaks_module_output words files why),
+  λ why. status_is words files lines status module_status output (breaks_module_output words files why),
 )
 
-pub goal_refused-exactly : (words : List (List ℕ)) (files : Files) (lines : List (List ℕ)) (status : ℕ) → IsOutput words files lines status → (status ≡ 5) ↔ BreaksGoal words files
+pub goal_refused-exactly : (words : List (List ℕ)) (files : Files) (lines : List (List ℕ)) (status : ℕ) → IsOutput words files lines status → (status ≡ goal_status) ↔ BreaksGoal words files
 goal_refused-exactly words files lines status output = (
   goal_refused_by words files status (cause_of words files lines status output),
-  λ why. status_is words files lines status 5 output (breaks_goal_output words files why),
+  λ why. status_is words files lines status goal_status output (breaks_goal_output words files why),
 )
 
-pub usage-exactly : (words : List (List ℕ)) (files : Files) (lines : List (List ℕ)) (status : ℕ) → IsOutput words files lines status → (status ≡ 6) ↔ IsNoRequest words
+pub usage-exactly : (words : List (List ℕ)) (files : Files) (lines : List (List ℕ)) (status : ℕ) → IsOutput words files lines status → (status ≡ usage_status) ↔ IsNoRequest words
 usage-exactly words files lines status output = (
   usage_by words files status (cause_of words files lines status output),
-  λ why. status_is words files lines status 6 output (usage_output words files why),
+  λ why. status_is words files lines status usage_status output (usage_output words files why),
 )
 
-pub too_long-exactly : (words : List (List ℕ)) (files : Files) (lines : List (List ℕ)) (status : ℕ) → IsOutput words files lines status → (status ≡ 10) ↔ NamesTooLong words files
+pub too_long-exactly : (words : List (List ℕ)) (files : Files) (lines : List (List ℕ)) (status : ℕ) → IsOutput words files lines status → (status ≡ too_long_status) ↔ NamesTooLong words files
 too_long-exactly words files lines status output = (
   too_long_by words files status (cause_of words files lines status output),
-  λ why. status_is words files lines status 10 output (too_long_output words files why),
+  λ why. status_is words files lines status too_long_status output (too_long_output words files why),
 )
 
 pub absent-exactly : (words : List (List ℕ)) (files : Files) (lines : List (List ℕ)) (status : ℕ) → IsOutput words files lines status → NamesAbsent words (Some files) → status ≡ 7
 absent-exactly words files lines status output absent =
-    status_is words files lines status 7 output
-    ([], inr (absent.0, absent.1, absent.2, subst (λ content. FileOutput absent.0 content absent.1 [] 7) (sym absent.3) (refl, refl)))
+    status_is words files lines status unread_status output
+    ([], inr (absent.0, absent.1, absent.2, subst (λ content. FileOutput absent.0 content absent.1 [] unread_status) (sym absent.3) (refl, refl)))
+
+-- a status is the one that is due exactly where it is due
+pub status-exactly : (words : List (List ℕ)) (files : Files) (lines : List (List ℕ)) (status due : ℕ) → IsOutput words files lines status → (status ≡ due) ↔ IsStatusDue words files due
+status-exactly words files lines status due output = (λ is. (lines, subst (λ n. IsOutput words files lines n) is output), λ other. status_is words files lines status due output other)

@@ -1,11 +1,11 @@
 -- Worked examples of what is due for a file and a goal: what holds, and what does not.
-use Rattle.std.specs.Prelude.{◌≡◌, ◌≤◌, ◌++◌, ℕ, suc, zero, false, List, [], ◌∷◌, Some, None, codes, refl}
+use Rattle.std.specs.Prelude.{◌≡◌, ◌≤◌, ◌++◌, ℕ, suc, zero, false, List, [], ◌∷◌, length, Some, None, codes, refl}
 use Rattle.std.proofs.Common.{arith, lit≤, slice_index, ap, sym, inl, inr}
 use Rattle.std.specs.Fmt.{digits}
 use Rattle.std.specs.Str.{IsUtf8, is_utf8, chars}
 use Rattle.std.proofs.lemmas.Bool.{false≢true}
 use Rattle.std.proofs.lemmas.Str.{is_utf8-from_IsUtf8}
-use Rattle.merc_base.specs.Names.{fixed_names}
+use Rattle.merc_base.specs.Names.{fixed_names, colon_minus_name, module_name, import_module_name, comma_name, int_name, list_name, require_name}
 use Rattle.merc_base.specs.Refusal.{rule_number}
 use Rattle.merc_base.specs.declared.place.Span.{Span}
 use Rattle.merc_base.specs.declared.refusal.Refusal.{Refusal}
@@ -29,6 +29,7 @@ use Rattle.merc_check.specs.Checked.Refuses.{no_module}
 use Rattle.merc_check.specs.Checked.RefusesQuery.{no_term}
 use Rattle.merc_check.proofs.CheckedLaws.{Refuses-excludes}
 use Rattle.merc_first_form.specs.Reading.{source_of, goal_of}
+use Rattle.merc_top.specs.Statuses.{solved_status, module_status, goal_status}
 use Rattle.merc_top.specs.Output.{AreRead, IsDue, text_of, refusal_line}
 use Rattle.merc_top.specs.Output.IsDue.{module_refused, goal_refused, module_outside, goal_outside, runs}
 use Rattle.merc_top.proofs.OutputLaws.{IsDue-unique}
@@ -85,27 +86,27 @@ lone_byte-refused_goal : (names : List (List ℕ)) → RefusesGoalText names (25
 unfolding goal_limit
 lone_byte-refused_goal names = bad_goal_tokens bad_token (lit≤ tt) lone_byte
 
-pub IsDue-module_refused : (goal : List ℕ) → IsDue (codes "bad.m") (255 ∷ []) goal (codes "bad.m:1: rule 1: bad token\n" ∷ []) 4
+pub IsDue-module_refused : (goal : List ℕ) → IsDue (codes "bad.m") (255 ∷ []) goal (codes "bad.m:1: rule 1: bad token\n" ∷ []) module_status
 unfolding digits
 IsDue-module_refused goal = module_refused bad_token lone_byte-refused
 
 -- behind a module that is read
 pub IsDue-goal_refused : (names : List (List ℕ)) (items : List Term) (file : List ℕ) (found : Module) → IsAccepted fixed_names names file items found
-    → IsDue (codes "one.m") file (255 ∷ []) (codes "goal:1: rule 1: bad token\n" ∷ []) 5
+    → IsDue (codes "one.m") file (255 ∷ []) (codes "goal:1: rule 1: bad token\n" ∷ []) goal_status
 unfolding digits
 IsDue-goal_refused names items file found is = goal_refused names items found bad_token is (no_term bad_token (lone_byte-refused_goal names))
 
 -- where both break a rule it is the file's
-pub IsDue-file_first : (lines : List (List ℕ)) → IsDue (codes "bad.m") (255 ∷ []) (255 ∷ []) lines 5 → ⊥
+pub IsDue-file_first : (lines : List (List ℕ)) → IsDue (codes "bad.m") (255 ∷ []) (255 ∷ []) lines goal_status → ⊥
 IsDue-file_first lines due =
     let same = IsDue-unique _ _ _ _ _ _ _ due (IsDue-module_refused (255 ∷ [])) in
-    differ 4 5 (omega arith) (sym same.1)
+    differ module_status goal_status (omega arith) (sym same.1)
 
 -- a file that breaks a rule has no run
-pub IsDue-refused_no_run : (name file goal : List ℕ) (refusal : Refusal) (lines : List (List ℕ)) → Refuses fixed_names file refusal → IsDue name file goal lines 0 → ⊥
+pub IsDue-refused_no_run : (name file goal : List ℕ) (refusal : Refusal) (lines : List (List ℕ)) → Refuses fixed_names file refusal → IsDue name file goal lines solved_status → ⊥
 IsDue-refused_no_run name file goal refusal lines refuses due =
-    let same = IsDue-unique name file goal lines (refusal_line name refusal ∷ []) 0 4 due (module_refused refusal refuses) in
-    differ 0 4 (omega arith) same.1
+    let same = IsDue-unique name file goal lines (refusal_line name refusal ∷ []) solved_status module_status due (module_refused refusal refuses) in
+    differ solved_status module_status (omega arith) same.1
 
 -- ---- a module that runs
 
@@ -123,8 +124,8 @@ first_output = codes "X = 5\n" ∷ codes "solutions 1\n" ∷ []
 -- What follows is said of a file that is this module and of a goal that is read behind it.
 module _ (text : List ℕ) (names : List (List ℕ)) (items : List Term) (term : Term) (read : AreRead one_text text names items term) (source : source_of names items ≡ Some one) where
   -- `add(2, 3, X)`
-  pub IsDue-runs : goal_of names one term ≡ Some goal → IsDue (codes "one.m") one_text text first_output 0
-  IsDue-runs is = runs names items term one goal first_output 0 read source is IsRunDue-example
+  pub IsDue-runs : goal_of names one term ≡ Some goal → IsDue (codes "one.m") one_text text first_output solved_status
+  IsDue-runs is = runs names items term one goal first_output solved_status read source is IsRunDue-example
 
   pub IsDue-other_answer : goal_of names one term ≡ Some goal → (status : ℕ) → IsDue (codes "one.m") one_text text (codes "X = 6\n" ∷ codes "solutions 1\n" ∷ []) status → ⊥
   IsDue-other_answer is status due =
@@ -132,15 +133,15 @@ module _ (text : List ℕ) (names : List (List ℕ)) (items : List Term) (term :
       differ 53 54 (omega arith) (sym (ap (λ (texts : List (List ℕ)). slice_index (text_of texts) 4) same.0))
 
   -- a goal that is not of the first form
-  pub IsDue-goal_outside : goal_of names one term ≡ None → IsDue (codes "one.m") one_text text (codes "goal:1: rule 15: outside the profile: stage\n" ∷ []) 5
+  pub IsDue-goal_outside : goal_of names one term ≡ None → IsDue (codes "one.m") one_text text (codes "goal:1: rule 15: outside the profile: stage\n" ∷ []) goal_status
   unfolding digits
   IsDue-goal_outside outside = goal_outside names items term one read source outside
 
   -- is not the file's fault
-  pub IsDue-goal_outside_alone : goal_of names one term ≡ None → (lines : List (List ℕ)) → IsDue (codes "one.m") one_text text lines 4 → ⊥
+  pub IsDue-goal_outside_alone : goal_of names one term ≡ None → (lines : List (List ℕ)) → IsDue (codes "one.m") one_text text lines module_status → ⊥
   IsDue-goal_outside_alone outside lines due =
       let same = IsDue-unique _ _ _ _ _ _ _ due (IsDue-goal_outside outside) in
-      differ 4 5 (omega arith) same.1
+      differ module_status goal_status (omega arith) same.1
 
 -- ---- a module that does not run
 
@@ -163,9 +164,9 @@ rows_names others = fixed_names ++ codes "rows" ∷ others
 -- its items, wherever each term stands
 abbrev rows_items : (ℕ → Span) → List Term
 rows_items span =
-    before (span 0) 10 (before (span 1) 12 (word (span 2) 82))
-    ∷ before (span 3) 10 (before (span 4) 14
-    (between (span 5) 26 (word (span 6) 57) (between (span 7) 26 (word (span 8) 59) (word (span 9) 62))))
+    before (span 0) colon_minus_name (before (span 1) module_name (word (span 2) (length fixed_names)))
+    ∷ before (span 3) colon_minus_name (before (span 4) import_module_name
+    (between (span 5) comma_name (word (span 6) int_name) (between (span 7) comma_name (word (span 8) list_name) (word (span 9) require_name))))
     ∷ []
 
 rows_source : (others : List (List ℕ)) (span : ℕ → Span) → source_of (rows_names others) (rows_items span) ≡ None
@@ -174,14 +175,14 @@ rows_source others span = refl
 
 pub IsDue-module_outside : (others : List (List ℕ)) (span : ℕ → Span) (text : List ℕ) (term : Term)
     → AreRead rows_text text (rows_names others) (rows_items span) term
-    → IsDue (codes "rows.m") rows_text text (codes "rows.m:1: rule 15: outside the profile: stage\n" ∷ []) 4
+    → IsDue (codes "rows.m") rows_text text (codes "rows.m:1: rule 15: outside the profile: stage\n" ∷ []) module_status
 unfolding digits
 IsDue-module_outside others span text term read = module_outside _ _ _ read (rows_source others span)
 
 -- it has no run either, whatever the goal is
 pub IsDue-module_outside_no_run : (others : List (List ℕ)) (span : ℕ → Span) (text : List ℕ) (term : Term)
     → AreRead rows_text text (rows_names others) (rows_items span) term
-    → (lines : List (List ℕ)) → IsDue (codes "rows.m") rows_text text lines 0 → ⊥
+    → (lines : List (List ℕ)) → IsDue (codes "rows.m") rows_text text lines solved_status → ⊥
 IsDue-module_outside_no_run others span text term read lines due =
     let same = IsDue-unique _ _ _ _ _ _ _ due (IsDue-module_outside others span text term read) in
-    differ 0 4 (omega arith) same.1
+    differ solved_status module_status (omega arith) same.1

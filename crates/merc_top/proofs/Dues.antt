@@ -7,6 +7,7 @@ use Rattle.merc_base.specs.Outside.{Files, file_named}
 use Rattle.merc_base.specs.declared.refusal.Refusal.{Refusal}
 use Rattle.merc_tree.specs.Trace.{RunEnd, RunDone, RunRaised, LimitPassed}
 use Rattle.merc_top.specs.Words.{IsRequest, IsNoRequest, usage_line}
+use Rattle.merc_top.specs.Statuses.{usage_status, unread_status, too_long_status}
 use Rattle.merc_top.specs.Loading.{file_limit, IsTooLong}
 use Rattle.merc_top.specs.Output.{IsOutput, IsDue, run_status, refusal_line, too_long_line}
 use Rattle.merc_top.specs.Output.IsDue.{module_refused, goal_refused, module_outside, goal_outside, runs}
@@ -14,13 +15,13 @@ use Rattle.merc_top.specs.Answer.{AreFiles}
 
 -- the status of a text that is due
 abbrev pub IsDueStatus : ℕ → Type 0
-IsDueStatus status = (status < 7) ⊎ (status ≡ 10)
+IsDueStatus status = (status < unread_status) ⊎ (status ≡ too_long_status)
 
 -- what is due over the files that are told
 abbrev pub IsDueOver : List (List ℕ) → Option Files → List (List ℕ) → ℕ → Type 0
 IsDueOver words told lines status = (files : Files) × AreFiles told files × IsOutput words files lines status
 
-run_status-small : (count : ℕ) (end : RunEnd) → run_status count end < 7
+run_status-small : (count : ℕ) (end : RunEnd) → run_status count end < unread_status
 run_status-small zero RunDone = lit< tt
 run_status-small (suc count) RunDone = lit< tt
 run_status-small zero (RunRaised text) = lit< tt
@@ -28,12 +29,12 @@ run_status-small (suc count) (RunRaised text) = lit< tt
 run_status-small zero LimitPassed = lit< tt
 run_status-small (suc count) LimitPassed = lit< tt
 
-due_status-small : (name file goal : List ℕ) (lines : List (List ℕ)) (status : ℕ) → IsDue name file goal lines status → status < 7
+due_status-small : (name file goal : List ℕ) (lines : List (List ℕ)) (status : ℕ) → IsDue name file goal lines status → status < unread_status
 due_status-small name file goal _ _ (module_refused _ _) = lit< tt
 due_status-small name file goal _ _ (goal_refused _ _ _ _ _ _) = lit< tt
 due_status-small name file goal _ _ (module_outside _ _ _ _ _) = lit< tt
 due_status-small name file goal _ _ (goal_outside _ _ _ _ _ _ _) = lit< tt
-due_status-small name file goal _ _ (runs _ _ _ _ _ lines status _ _ _ due) = subst (λ n. n < 7) (sym due.1) (run_status-small _ _)
+due_status-small name file goal _ _ (runs _ _ _ _ _ lines status _ _ _ due) = subst (λ n. n < unread_status) (sym due.1) (run_status-small _ _)
 
 -- the one line of a refusal, by its parts
 pub line_by : (name name' : List ℕ) (refusal refusal' : Refusal) (line : List ℕ) → line ≡ refusal_line name refusal → name ≡ name' → refusal ≡ refusal' → line ∷ [] ≡ refusal_line name' refusal' ∷ []
@@ -60,7 +61,7 @@ some_files None = ([], tt)
 some_files (Some files) = (files, refl)
 
 pub usage-due : (words : List (List ℕ)) (told : Option Files) (lines : List (List ℕ)) (status : ℕ) → IsNoRequest words
-    → lines ≡ usage_line ∷ [] → status ≡ 6 → IsDueStatus status × IsDueOver words told lines status
+    → lines ≡ usage_line ∷ [] → status ≡ usage_status → IsDueStatus status × IsDueOver words told lines status
 usage-due words told lines status none same is =
     let files = some_files told in
     (inl (omega (arith, is)), (files.0, files.1, inl (none, same, is)))
@@ -83,7 +84,7 @@ too_long_content (Some text) long = (text, refl, long)
 
 pub too_long-due : (words : List (List ℕ)) (told : Option Files) (file goal : List ℕ) (lines : List (List ℕ)) (status : ℕ)
     → IsRequest words file goal → IfSome told (λ files. IsTooLong (file_named file files))
-    → lines ≡ too_long_line file ∷ [] → status ≡ 10 → IsDueStatus status × IsDueOver words told lines status
+    → lines ≡ too_long_line file ∷ [] → status ≡ too_long_status → IsDueStatus status × IsDueOver words told lines status
 too_long-due words None file goal lines status request long same is =
     (inr is, ((file, longer) ∷ [], tt, inr (file, goal, request, rw named_alone (inl (longer-past, same, is)))))
 too_long-due words (Some files) file goal lines status request long same is =

@@ -8,6 +8,8 @@ pub mod Dues
 pub mod OutputLaws
 pub mod Causes
 pub mod CallEnds
+pub mod AnswerLaws
+pub mod StatusExamples
 pub mod WordsExamples
 pub mod LoadingExamples
 pub mod WritingExamples

@@ -1,7 +1,7 @@
 -- Worked examples of the lines that are due and of a run's: what holds, and what does not.
 use Rattle.std.specs.Prelude.{◌≡◌, ◌*◌, ℕ, pos, negsuc, List, [], ◌∷◌, length, Some, None, codes, refl}
 use Rattle.std.proofs.Common.{arith, slice_index, ap, sym}
-use Rattle.std.specs.Fmt.{digits}
+use Rattle.std.specs.Fmt.{decimal, digits}
 use Rattle.merc_base.specs.declared.refusal.Rule.TheVariants.{BadToken}
 use Rattle.merc_base.specs.declared.refusal.Detail.TheVariants.{Plain}
 use Rattle.merc_tree.specs.Value.{Int}
@@ -14,6 +14,9 @@ use Rattle.merc_first_form.specs.declared.syntax.Conjunct.TheVariants.{Equation,
 use Rattle.merc_first_form.specs.declared.syntax.Mode.TheVariants.{Input, Output}
 use Rattle.merc_first_form.specs.declared.syntax.Predicate.{Predicate}
 use Rattle.merc_first_form.specs.declared.syntax.Source.{Source}
+use Rattle.merc_first_form.specs.FlatForm.{procedures_of, query_of}
+use Rattle.merc_top.specs.Loading.{file_limit}
+use Rattle.merc_top.specs.Statuses.{solved_status, unsolved_status, raised_status, limit_status}
 use Rattle.merc_top.specs.Output.{line, value_text, binding, bindings, behind_commas, comma_list, solution_line, end_line, run_status, run_lines, text_of, refusal_line, stage_refusal, too_long_line, step_limit, run_of, IsRunDue}
 use Rattle.merc_top.proofs.WordsExamples.{differ}
 
@@ -106,19 +109,19 @@ pub end_line-no_line_end : end_line 1 RunDone ≡ codes "solutions 1" → ⊥
 unfolding digits
 end_line-no_line_end same = differ 11 12 (omega arith) (sym (ap (λ (text : List ℕ). length text) same))
 
-pub run_status-example : run_status 2 RunDone ≡ 0
+pub run_status-example : run_status 2 RunDone ≡ solved_status
 run_status-example = refl
 
-pub run_status-no_solution : run_status 0 RunDone ≡ 1
+pub run_status-no_solution : run_status 0 RunDone ≡ unsolved_status
 run_status-no_solution = refl
 
-pub run_status-raised : run_status 2 (RunRaised (codes "no row")) ≡ 2
+pub run_status-raised : run_status 2 (RunRaised (codes "no row")) ≡ raised_status
 run_status-raised = refl
 
-pub run_status-limit : run_status 2 LimitPassed ≡ 3
+pub run_status-limit : run_status 2 LimitPassed ≡ limit_status
 run_status-limit = refl
 
-pub run_status-counterexample : run_status 0 RunDone ≡ 0 → ⊥
+pub run_status-counterexample : run_status 0 RunDone ≡ solved_status → ⊥
 run_status-counterexample same = cc
 
 -- a step, and one answer
@@ -167,6 +170,11 @@ too_long_line-example = refl
 pub too_long_line-counterexample : too_long_line (codes "rows.m") ≡ codes "rows.m:1: longer than 1048576 bytes\n" → ⊥
 too_long_line-counterexample same = differ 32 49 (omega arith) (ap (λ (text : List ℕ). slice_index text 7) same)
 
+-- the limit as it is printed
+pub too_long_line-limit : decimal file_limit ≡ codes "1048576"
+unfolding digits file_limit
+too_long_line-limit = refl
+
 -- ---- runs
 
 abbrev add : Predicate
@@ -191,11 +199,35 @@ pub run_of-example : run_of one goal ≡ Tick (Answer (Some (Int (pos 5)) ∷ So
 unfolding run_of run step_limit
 run_of-example = refl
 
-pub IsRunDue-example : IsRunDue (codes "X" ∷ []) (run_of one goal) (codes "X = 5\n" ∷ codes "solutions 1\n" ∷ []) 0
+pub IsRunDue-example : IsRunDue (codes "X" ∷ []) (run_of one goal) (codes "X = 5\n" ∷ codes "solutions 1\n" ∷ []) solved_status
 unfolding run_of run step_limit digits
 IsRunDue-example = (refl, refl)
 
 -- a run that brought a solution
-pub IsRunDue-counterexample : IsRunDue (codes "X" ∷ []) (run_of one goal) (codes "X = 5\n" ∷ codes "solutions 1\n" ∷ []) 1 → ⊥
+pub IsRunDue-counterexample : IsRunDue (codes "X" ∷ []) (run_of one goal) (codes "X = 5\n" ∷ codes "solutions 1\n" ∷ []) unsolved_status → ⊥
 unfolding run_of run step_limit
 IsRunDue-counterexample due = let status : ◌≡◌ {A = ℕ} 1 0 = due.1 in cc
+
+-- a run that is cut at the step limit behind a solution
+pub IsRunDue-limit : IsRunDue (codes "Y" ∷ []) (Tick (Answer env (Ends LimitPassed))) (codes "Y = 4\n" ∷ codes "step limit passed\n" ∷ []) limit_status
+unfolding digits
+IsRunDue-limit = (refl, refl)
+
+-- one that ends with an exception behind a solution
+pub IsRunDue-raised : IsRunDue (codes "Y" ∷ []) (Tick (Answer env (Ends (RunRaised (codes "no row"))))) (codes "Y = 4\n" ∷ codes "uncaught exception: no row\n" ∷ []) raised_status
+unfolding digits
+IsRunDue-raised = (refl, refl)
+
+-- one without a solution
+pub IsRunDue-unsolved : IsRunDue (codes "Y" ∷ []) (Tick (Ends RunDone)) (codes "solutions 0\n" ∷ []) unsolved_status
+unfolding digits
+IsRunDue-unsolved = (refl, refl)
+
+-- with no step allowed the first call passes the limit, with one it does not
+pub run-at_limit : run (procedures_of one) (query_of one goal) 0 ≡ Ends LimitPassed
+unfolding run
+run-at_limit = refl
+
+pub run-within_limit : run (procedures_of one) (query_of one goal) 1 ≡ run_of one goal
+unfolding run_of run step_limit
+run-within_limit = refl

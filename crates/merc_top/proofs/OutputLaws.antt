@@ -15,6 +15,7 @@ use Rattle.merc_first_form.specs.declared.syntax.Conjunct.{Conjunct}
 use Rattle.merc_first_form.specs.declared.syntax.Source.{Source}
 use Rattle.merc_first_form.specs.Reading.{source_of, goal_of}
 use Rattle.merc_first_form.specs.FlatForm.{variables_of}
+use Rattle.merc_top.specs.Statuses.{module_status, goal_status}
 use Rattle.merc_top.specs.Words.{IsRequest}
 use Rattle.merc_top.specs.Output.{AreRead, IsDue, IsOutput, FileOutput, IsRunDue, run_of, refusal_line, stage_refusal}
 use Rattle.merc_top.specs.Output.IsDue.{module_refused, goal_refused, module_outside, goal_outside, runs}
@@ -28,12 +29,12 @@ both p q = p ∙ sym q
 
 -- what is due for a module of the first form, and what the goal is in that form
 abbrev GoalDue : Source → Option (List Conjunct) → List (List ℕ) → ℕ → Type 0
-GoalDue source None lines status = (lines ≡ refusal_line (codes "goal") stage_refusal ∷ []) × (status ≡ 5)
+GoalDue source None lines status = (lines ≡ refusal_line (codes "goal") stage_refusal ∷ []) × (status ≡ goal_status)
 GoalDue source (Some conjuncts) lines status = IsRunDue (variables_of [] conjuncts) (run_of source conjuncts) lines status
 
 -- what is due for what the module is in the first form, and the goal over it
 abbrev SourceDue : List ℕ → Option Source → (Source → Option (List Conjunct)) → List (List ℕ) → ℕ → Type 0
-SourceDue name None goal lines status = (lines ≡ refusal_line name stage_refusal ∷ []) × (status ≡ 4)
+SourceDue name None goal lines status = (lines ≡ refusal_line name stage_refusal ∷ []) × (status ≡ module_status)
 SourceDue name (Some source) goal lines status = GoalDue source (goal source) lines status
 
 -- what is due once file and goal are read
@@ -52,8 +53,8 @@ source_due-unique name (Some source) goal lines lines' status status' due also =
 
 -- a text is due because the file breaks a rule, or the goal does, or both are read
 data Cases (name file goal : List ℕ) (lines : List (List ℕ)) (status : ℕ) : Type 0 where
-  broken_module : (refusal : Refusal) → Refuses fixed_names file refusal → lines ≡ refusal_line name refusal ∷ [] → status ≡ 4 → Cases name file goal lines status
-  broken_goal : (names : List (List ℕ)) (items : List Term) (found : Module) (refusal : Refusal) → IsAccepted fixed_names names file items found → RefusesQuery names found goal refusal → lines ≡ refusal_line (codes "goal") refusal ∷ [] → status ≡ 5 → Cases name file goal lines status
+  broken_module : (refusal : Refusal) → Refuses fixed_names file refusal → lines ≡ refusal_line name refusal ∷ [] → status ≡ module_status → Cases name file goal lines status
+  broken_goal : (names : List (List ℕ)) (items : List Term) (found : Module) (refusal : Refusal) → IsAccepted fixed_names names file items found → RefusesQuery names found goal refusal → lines ≡ refusal_line (codes "goal") refusal ∷ [] → status ≡ goal_status → Cases name file goal lines status
   both_read : (names : List (List ℕ)) (items : List Term) (term : Term) → AreRead file goal names items term → ReadDue name names items term lines status → Cases name file goal lines status
 
 cases_of : (name file goal : List ℕ) (lines : List (List ℕ)) (status : ℕ) → IsDue name file goal lines status → Cases name file goal lines status

@@ -1,8 +1,8 @@
 -- Worked examples of the words of a command: what holds, and what does not.
-use Rattle.std.specs.Prelude.{◌≡◌, ◌<◌, ℕ, true, false, List, [], ◌∷◌, codes, refl, take}
+use Rattle.std.specs.Prelude.{◌≡◌, ◌<◌, ℕ, true, false, List, [], ◌∷◌, ◌++◌, codes, refl, take}
 use Rattle.std.proofs.Common.{arith, ap, sym, subst, slice_index}
 use Rattle.std.proofs.Math.Utf8.{encode}
-use Rattle.merc_top.specs.Words.{is_option, IsPlainWord, IsRequest, IsNoRequest, usage_line}
+use Rattle.merc_top.specs.Words.{hyphen, is_option, IsPlainWord, IsRequest, IsNoRequest, usage_line}
 
 -- two bytes of which one is less than the other
 pub differ : (m n : ℕ) → m < n → m ≡ n → ⊥
@@ -61,7 +61,11 @@ IsNoRequest-option file goal request =
 pub IsNoRequest-counterexample : IsNoRequest (codes "solve" ∷ codes "one.m" ∷ codes "add(2, 3, X)" ∷ []) → ⊥
 IsNoRequest-counterexample none = none _ _ IsRequest-example
 
-pub usage_line-example : take 17 usage_line ≡ codes "usage: merc solve"
+pub hyphen-example : codes "-" ≡ hyphen ∷ []
+hyphen-example = refl
+
+-- the whole line, part by part
+pub usage_line-example : usage_line ≡ codes "usage: merc solve FILE GOAL [--workers N] [--steps N] [--max N]" ++ codes " | check FILE | code FILE" ++ codes " | grow N [--workers N]\n"
 unfolding usage_line
 usage_line-example = refl
 

@@ -4,6 +4,7 @@ use Rattle.merc_base.specs.Outside.{Files}
 use Rattle.merc_top.specs.declared.answering.Due.{Due}
 use Rattle.merc_top.specs.declared.answering.Trouble.{Trouble}
 use Rattle.merc_top.specs.declared.answering.Trouble.TheVariants.{Unread, NoMemory}
+use Rattle.merc_top.specs.Statuses.{unread_status, too_long_status}
 use Rattle.merc_top.specs.Output.{IsOutput}
 use Rattle.merc_top.specs.Answer.{AreFiles, NamesAbsent}
 
@@ -11,7 +12,7 @@ use Rattle.merc_top.specs.Answer.{AreFiles, NamesAbsent}
 -- or memory was refused.
 abbrev pub Finds : List (List ℕ) → Option Files → ℕ → ℕ → Result Due Trouble → Type 0
 Finds words told before now (Ok due) =
-    (now ≡ before) × ((due.status < 7) ⊎ (due.status ≡ 10))
+    (now ≡ before) × ((due.status < unread_status) ⊎ (due.status ≡ too_long_status))
     × ((files : Files) × AreFiles told files × IsOutput words files due.lines due.status)
 Finds words told before now (Err Unread) = (before < now) ⊎ ((now ≡ before) × NamesAbsent words told)
 Finds words told before now (Err NoMemory) = now ≡ before

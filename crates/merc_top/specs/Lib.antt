@@ -1,3 +1,4 @@
+pub mod Statuses
 pub mod Outcome
 pub mod Words
 pub mod Loading

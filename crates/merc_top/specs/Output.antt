@@ -19,11 +19,12 @@ use Rattle.merc_first_form.specs.declared.syntax.Conjunct.{Conjunct}
 use Rattle.merc_first_form.specs.declared.syntax.Source.{Source}
 use Rattle.merc_first_form.specs.Reading.{source_of, goal_of}
 use Rattle.merc_first_form.specs.FlatForm.{variables_of, procedures_of, query_of}
+use Rattle.merc_top.specs.Statuses.{solved_status, unsolved_status, raised_status, limit_status, module_status, goal_status, usage_status, unread_status, too_long_status}
 use Rattle.merc_top.specs.Words.{IsRequest, IsNoRequest, usage_line}
 use Rattle.merc_top.specs.Loading.{file_limit}
 
 abbrev pub line_end : List ℕ
-line_end = 10 ∷ []
+line_end = codes "\n"
 
 -- the text of a lone line
 abbrev pub line : List ℕ → List ℕ
@@ -65,10 +66,10 @@ end_line count LimitPassed = line (codes "step limit passed")
 
 -- the status of a run with so many solutions
 abbrev pub run_status : ℕ → RunEnd → ℕ
-run_status zero RunDone = 1
-run_status (suc count) RunDone = 0
-run_status count (RunRaised text) = 2
-run_status count LimitPassed = 3
+run_status zero RunDone = unsolved_status
+run_status (suc count) RunDone = solved_status
+run_status count (RunRaised text) = raised_status
+run_status count LimitPassed = limit_status
 
 -- the lines of a run: its solutions in order, then its end
 abbrev pub run_lines : List (List ℕ) → Run → List (List ℕ)
@@ -112,21 +113,21 @@ pub record AreRead (file goal : List ℕ) (names : List (List ℕ)) (items : Lis
 -- What is due for a file of this name and text, and a goal. What is wrong with the file comes first, then what is wrong with the goal. Where nothing is,
 -- a file outside the form that runs is refused as a whole, and then such a goal. Else it is the run's text.
 pub data IsDue (name file goal : List ℕ) : List (List ℕ) → ℕ → Type 0 where
-  module_refused : (refusal : Refusal) → Refuses fixed_names file refusal → IsDue name file goal (refusal_line name refusal ∷ []) 4
-  goal_refused : (names : List (List ℕ)) (items : List Term) (found : Module) (refusal : Refusal) → IsAccepted fixed_names names file items found → RefusesQuery names found goal refusal → IsDue name file goal (refusal_line (codes "goal") refusal ∷ []) 5
-  module_outside : (names : List (List ℕ)) (items : List Term) (term : Term) → AreRead file goal names items term → source_of names items ≡ None → IsDue name file goal (refusal_line name stage_refusal ∷ []) 4
-  goal_outside : (names : List (List ℕ)) (items : List Term) (term : Term) (source : Source) → AreRead file goal names items term → source_of names items ≡ Some source → goal_of names source term ≡ None → IsDue name file goal (refusal_line (codes "goal") stage_refusal ∷ []) 5
+  module_refused : (refusal : Refusal) → Refuses fixed_names file refusal → IsDue name file goal (refusal_line name refusal ∷ []) module_status
+  goal_refused : (names : List (List ℕ)) (items : List Term) (found : Module) (refusal : Refusal) → IsAccepted fixed_names names file items found → RefusesQuery names found goal refusal → IsDue name file goal (refusal_line (codes "goal") refusal ∷ []) goal_status
+  module_outside : (names : List (List ℕ)) (items : List Term) (term : Term) → AreRead file goal names items term → source_of names items ≡ None → IsDue name file goal (refusal_line name stage_refusal ∷ []) module_status
+  goal_outside : (names : List (List ℕ)) (items : List Term) (term : Term) (source : Source) → AreRead file goal names items term → source_of names items ≡ Some source → goal_of names source term ≡ None → IsDue name file goal (refusal_line (codes "goal") stage_refusal ∷ []) goal_status
   runs : (names : List (List ℕ)) (items : List Term) (term : Term) (source : Source) (conjuncts : List Conjunct) (lines : List (List ℕ)) (status : ℕ) → AreRead file goal names items term → source_of names items ≡ Some source → goal_of names source term ≡ Some conjuncts → IsRunDue (variables_of [] conjuncts) (run_of source conjuncts) lines status → IsDue name file goal lines status
 
 -- the named file: absent, too long, or read
 abbrev pub FileOutput : List ℕ → Option (List ℕ) → List ℕ → List (List ℕ) → ℕ → Type 0
-FileOutput name None goal lines status = (lines ≡ []) × (status ≡ 7)
+FileOutput name None goal lines status = (lines ≡ []) × (status ≡ unread_status)
 FileOutput name (Some file) goal lines status =
-    ((file_limit < length file) × (lines ≡ too_long_line name ∷ []) × (status ≡ 10))
+    ((file_limit < length file) × (lines ≡ too_long_line name ∷ []) × (status ≡ too_long_status))
     ⊎ ((length file ≤ file_limit) × IsDue name file goal lines status)
 
 -- the lines and the status that are due for these words over these files
 abbrev pub IsOutput : List (List ℕ) → Files → List (List ℕ) → ℕ → Type 0
 IsOutput words files lines status =
-    (IsNoRequest words × (lines ≡ usage_line ∷ []) × (status ≡ 6))
+    (IsNoRequest words × (lines ≡ usage_line ∷ []) × (status ≡ usage_status))
     ⊎ ((file : List ℕ) × (goal : List ℕ) × IsRequest words file goal × FileOutput file (file_named file files) goal lines status)

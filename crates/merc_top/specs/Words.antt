@@ -1,11 +1,15 @@
 -- What the words of a command ask for.
 use Rattle.std.specs.Prelude.{◌≡◌, ℕ, Bool, false, ◌==◌, List, [], ◌∷◌, codes, IsUtf8}
 
+-- the character `-`
+abbrev pub hyphen : ℕ
+hyphen = 45
+
 -- A word that begins with `-` and goes on is an option.
 abbrev pub is_option : List ℕ → Bool
 is_option [] = false
 is_option (first ∷ []) = false
-is_option (first ∷ (second ∷ rest)) = first == 45
+is_option (first ∷ (second ∷ rest)) = first == hyphen
 
 -- a word for a file or a goal: UTF-8, and no option
 pub record IsPlainWord (word : List ℕ) : Type 0 where

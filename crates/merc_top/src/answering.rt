@@ -1,7 +1,9 @@
 //! The top call.
 ghost use Rattle.std.specs.Prelude.{◌≡◌, ◌<◌, ◌≤◌, All, ℕ, List, IfOk, IfErr, false, [], ◌∷◌, length};
 ghost use Rattle.merc_top.specs.Loading.{file_limit};
-ghost use Rattle.merc_top.specs.Output.{AreRead, IsDue, IsRunDue, run_of, stage_refusal};
+ghost use Rattle.merc_top.specs.Output.{AreRead, IsDue, IsRunDue, refusal_line, run_of, stage_refusal, too_long_line};
+ghost use Rattle.merc_top.specs.Statuses.{too_long_status, usage_status};
+ghost use Rattle.merc_top.specs.Words.{usage_line};
 ghost use Rattle.merc_top.specs.Outcome.{IsOutcome};
 ghost use Rattle.merc_top.specs.Due.{Finds};
 ghost use Rattle.merc_top.specs.Answer.{Answers};
@@ -11,6 +13,7 @@ ghost use Rattle.merc_tree.specs.Trace.{Run};
 use crate::evaluating::{Outcome, solve};
 use crate::lines::{refusal_line, solution_line, solutions_line, step_limit_line, too_long_line};
 use crate::loading::{LoadFault, load};
+use crate::statuses;
 use crate::words::read_words;
 use crate::writing::{WriteFault, put_lines};
 use merc_base::{
@@ -56,6 +59,28 @@ fn one_line(alloc: Global, status: u8, line: Text) -> Result<Due, NoMemory>
     Ok(Due { status, lines })
 }
 
+// The line of a refusal.
+fn refused(alloc: Global, status: u8, name: &[u8], refusal: &Refusal) -> Result<Due, NoMemory>
+    ensures { IfOk result (λ due. (due.lines ≡ refusal_line name.now refusal.now ∷ []) × (due.status ≡ status)) }
+{
+    one_line(alloc, status, refusal_line(alloc, name, refusal)?)
+}
+
+// What is due for words that ask for nothing that there is.
+#[tactic(auto, unfolding(crate::specs::Words::usage_line))]
+fn usage_due(alloc: Global) -> Result<Due, NoMemory>
+    ensures { IfOk result (λ due. (due.lines ≡ usage_line ∷ []) × (due.status ≡ usage_status)) }
+{
+    one_line(alloc, statuses::USAGE, Text::of(alloc, USAGE)?)
+}
+
+// What is due for a file of this name that is longer than the limit.
+fn too_long_due(alloc: Global, name: &[u8]) -> Result<Due, NoMemory>
+    ensures { IfOk result (λ due. (due.lines ≡ too_long_line name.now ∷ []) × (due.status ≡ too_long_status)) }
+{
+    one_line(alloc, statuses::TOO_LONG, too_long_line(alloc, name)?)
+}
+
 // What is due for a run with this outcome, whose answer variables have these names.
 fn outcome_due(alloc: Global, names: &TextTable, outcome: Outcome) -> Result<Due, NoMemory>
     ensures { IfOk result (λ due. (run : Run) → IsOutcome outcome run → IsRunDue names.now run due.lines due.status) }
@@ -65,10 +90,13 @@ fn outcome_due(alloc: Global, names: &TextTable, outcome: Outcome) -> Result<Due
             let mut lines = Sequence::new(alloc);
             lines.push(solution_line(alloc, names, &environment)?)?;
             lines.push(solutions_line(alloc, 1)?)?;
-            Ok(Due { status: 0, lines })
+            Ok(Due {
+                status: statuses::SOLVED,
+                lines,
+            })
         }
-        Outcome::NoSolution => one_line(alloc, 1, solutions_line(alloc, 0)?),
-        Outcome::LimitPassed => one_line(alloc, 3, step_limit_line(alloc)?),
+        Outcome::NoSolution => one_line(alloc, statuses::UNSOLVED, solutions_line(alloc, 0)?),
+        Outcome::LimitPassed => one_line(alloc, statuses::LIMIT_PASSED, step_limit_line(alloc)?),
     }
 }
 
@@ -91,14 +119,14 @@ fn text_due(alloc: Global, name: &Text, text: &Text, goal: &Text) -> Result<Due,
     let checked = match check(alloc, text, &mut names) {
         Ok(checked) => checked,
         Err(Fault::Refused(refusal)) => {
-            return one_line(alloc, 4, refusal_line(alloc, name.bytes(), &refusal)?);
+            return refused(alloc, statuses::MODULE_REFUSED, name.bytes(), &refusal);
         }
         Err(Fault::NoMemory) => return Err(NoMemory),
     };
     let term = match check_query(alloc, &checked.module, goal, &mut names) {
         Ok(term) => term,
         Err(Fault::Refused(refusal)) => {
-            return one_line(alloc, 5, refusal_line(alloc, b"goal", &refusal)?);
+            return refused(alloc, statuses::GOAL_REFUSED, b"goal", &refusal);
         }
         Err(Fault::NoMemory) => return Err(NoMemory),
     };
@@ -115,16 +143,14 @@ fn read_due(
 ) -> Result<Due, NoMemory>
     ensures { IfOk result (λ due. (file goal : List ℕ) → AreRead file goal names.now items.now term.now → IsDue name.now file goal due.lines due.status) }
 {
+    let stage = stage_refusal();
     let source = match source_of(alloc, items, names)? {
         Some(source) => source,
-        None => {
-            let line = refusal_line(alloc, name.bytes(), &stage_refusal())?;
-            return one_line(alloc, 4, line);
-        }
+        None => return refused(alloc, statuses::MODULE_REFUSED, name.bytes(), &stage),
     };
     match goal_of(alloc, &source, term, names)? {
         Some(goal) => run_due(alloc, &source, &goal),
-        None => one_line(alloc, 5, refusal_line(alloc, b"goal", &stage_refusal())?),
+        None => refused(alloc, statuses::GOAL_REFUSED, b"goal", &stage),
     }
 }
 
@@ -156,15 +182,11 @@ fn find_due<S: Shelf>(alloc: Global, words: &[Text], shelf: &mut S) -> Result<Du
 {
     let request = match read_words(words) {
         Some(request) => request,
-        None => return Ok(one_line(alloc, 6, Text::of(alloc, USAGE)?)?),
+        None => return Ok(usage_due(alloc)?),
     };
     match load(alloc, shelf, request.file) {
         Ok(text) => Ok(text_due(alloc, request.file, &text, request.goal)?),
-        Err(LoadFault::TooLong) => Ok(one_line(
-            alloc,
-            10,
-            too_long_line(alloc, request.file.bytes())?,
-        )?),
+        Err(LoadFault::TooLong) => Ok(too_long_due(alloc, request.file.bytes())?),
         Err(LoadFault::Unread) => Err(Trouble::Unread),
         Err(LoadFault::NoMemory) => Err(Trouble::NoMemory),
     }
@@ -206,9 +228,9 @@ pub fn answer<R: Threads + Wait, S: Shelf, K: Sink, G: Gate + Sync>(
     match find_due(alloc, words, shelf) {
         Ok(due) => match put_lines(sink, due.lines.as_slice()) {
             Ok(()) => due.status,
-            Err(WriteFault) => 8,
+            Err(WriteFault) => statuses::UNWRITTEN,
         },
-        Err(Trouble::Unread) => 7,
-        Err(Trouble::NoMemory) => 9,
+        Err(Trouble::Unread) => statuses::UNREAD,
+        Err(Trouble::NoMemory) => statuses::NO_MEMORY,
     }
 }

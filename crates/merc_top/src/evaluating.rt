@@ -5,7 +5,7 @@ ghost use Rattle.merc_top.specs.Outcome.{IsOutcome};
 ghost use Rattle.merc_top.specs.Machine.{Bodies, Reaches, in_front, meaning, work};
 
 use merc_base::{NoMemory, Sequence};
-use merc_tree::{Goal, Goals, Operator, Predicate, Procedures, Symbol, Var, Vars, Word};
+use merc_tree::{Goal, Goals, Operator, Predicate, Procedures, Symbol, Var, Word};
 use std::alloc::Global;
 use std::mem;
 
@@ -253,57 +253,4 @@ fn bring_back(
         }
     }
     Ok(())
-}
-
-#[cfg(test)]
-mod tests {
-    use super::*;
-    use std::test::Fail;
-
-    // A body of one goal.
-    fn body(alloc: Global, goal: Goal) -> Result<Goals, NoMemory> {
-        let mut goals = Sequence::new(alloc);
-        goals.push(goal)?;
-        Ok(goals)
-    }
-
-    // These two variables.
-    fn pair(alloc: Global, first: usize, second: usize) -> Result<Vars, NoMemory> {
-        let mut variables = Sequence::new(alloc);
-        variables.push(Var::new(first))?;
-        variables.push(Var::new(second))?;
-        Ok(variables)
-    }
-
-    // `double(X, Y) :- Y = X + X.` and `twice(X, Y) :- double(X, Y).`
-    fn procedures(alloc: Global) -> Result<Procedures, NoMemory> {
-        let (input, output) = (Var::new(0), Var::new(1));
-        let mut bodies = Sequence::new(alloc);
-        bodies.push(body(alloc, Goal::Arithmetic(Operator::Add, output, input, input))?)?;
-        bodies.push(body(alloc, Goal::Call(Predicate::new(0), pair(alloc, 0, 1)?))?)?;
-        Ok(bodies)
-    }
-
-    // The value that an outcome has for a variable.
-    fn found(outcome: &Outcome, variable: usize) -> Option<Word> {
-        match outcome {
-            Outcome::Solution(values) => value_at(values.as_slice(), Var::new(variable)),
-            Outcome::NoSolution | Outcome::LimitPassed => None,
-        }
-    }
-
-    #[test]
-    fn calls_through_two_bodies(rt: HostRuntime) -> Result<(), Fail> {
-        let alloc = rt.alloc();
-        let procedures = procedures(alloc)?;
-        let mut goal = body(alloc, Goal::Build(Var::new(0), Symbol::Int(4)))?;
-        goal.push(Goal::Call(Predicate::new(1), pair(alloc, 0, 1)?))?;
-        let outcome = solve(alloc, &procedures, &goal, 2)?;
-        assert_eq!(rt; found(&outcome, 1), Some(Word::int(8)));
-        for limit in [0, 1] {
-            let outcome = solve(alloc, &procedures, &goal, limit)?;
-            assert!(rt; matches!(outcome, Outcome::LimitPassed), "at {limit}");
-        }
-        Ok(())
-    }
 }

@@ -5,6 +5,7 @@ mod answering;
 mod evaluating;
 mod lines;
 mod loading;
+pub mod statuses;
 mod words;
 mod writing;
 

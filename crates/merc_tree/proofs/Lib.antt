@@ -4,3 +4,5 @@ pub mod SameTerms
 pub mod PartLaws
 pub mod TypeLaws
 pub mod PartShapes
+mod WordExamples
+pub mod PlacedParts

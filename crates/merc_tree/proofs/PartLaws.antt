@@ -13,7 +13,7 @@ use Rattle.merc_tree.specs.declared.term.Shape.{Shape}
 use Rattle.merc_tree.specs.declared.term.Shape.TheVariants.{Variable as VariableShape, Integer as IntegerShape, Text as TextShape, Application as ApplicationShape}
 use Rattle.merc_tree.specs.Nodes.{with_root, arity_of, built}
 use Rattle.merc_tree.specs.TermCode.{built-append}
-use Rattle.merc_tree.specs.Parts.{part_of, deepest_part, is_name, goes_on_part, chain_name_of, plain_part, chain_part, joined, part_of_root, with_root_part}
+use Rattle.merc_tree.specs.Parts.{part_of, deepest_part, is_named, goes_on_part, chain_name_of, plain_part, chain_part, joined, part_of_root, with_root_part}
 
 pub greater_max : (a b : ℕ) → greater a b ≡ max a b
 greater_max a b = grind (arith, nat_tests)
@@ -48,7 +48,7 @@ three true false false = refl
 three false true same = refl
 three false false same = refl
 
-if_name : (test : Bool) (name other : ℕ) → is_name name (if test then Some other else None) ≡ (if test then other == name else false)
+if_name : (test : Bool) (name other : ℕ) → is_named name (if test then Some other else None) ≡ (if test then other == name else false)
 if_name true name other = refl
 if_name false name other = refl
 

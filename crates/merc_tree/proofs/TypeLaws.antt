@@ -5,6 +5,7 @@ use Rattle.std.proofs.lemmas.List.{map-append, take-map, drop-map, length-map, l
 use Rattle.std.proofs.lemmas.Option.{slice_get-map}
 use Rattle.std.specs.List.{slice_get}
 use Rattle.std.specs.Option.{option_map}
+use Rattle.merc_base.specs.Names.{int_name, string_name}
 use Rattle.merc_tree.specs.declared.term.Shape.TheVariants.{Application as ApplicationShape}
 use Rattle.merc_tree.specs.declared.types.TypeShape.TheVariants.{Application as TypeApplicationShape}
 use Rattle.merc_tree.specs.Shape.{shape_of, arguments_of}
@@ -39,8 +40,8 @@ kept_shape (Application other qualified arguments span) name qualifier arity sam
 
 -- a name with so many arguments, where it is not `int` or `string` alone
 pub record IsPlain (name arity : ℕ) : Type 0 where
-  pub int : ((arity == 0) && (name == 57)) ≡ false
-  pub text : ((arity == 0) && (name == 58)) ≡ false
+  pub int : ((arity == 0) && (name == int_name)) ≡ false
+  pub text : ((arity == 0) && (name == string_name)) ≡ false
 
 pub plain_named : (name : ℕ) (types : List TypeExpr) → IsPlain name (length types) → TypeApplication name (types_of types) ≡ type_named name types
 plain_named name [] plain = rw (plain.int, plain.text) refl

@@ -73,6 +73,10 @@ entered-not whole = cc
 pub brought_back-example : brought_back (1 ∷ 0 ∷ []) (Some eight ∷ None ∷ Some five ∷ []) env ≡ Some four ∷ Some eight ∷ Some five ∷ []
 brought_back-example = refl
 
+-- an argument without a value does not keep the next from its own
+pub brought_back-next : brought_back (1 ∷ 0 ∷ []) (None ∷ Some eight ∷ []) env ≡ Some eight ∷ None ∷ Some five ∷ []
+brought_back-next = refl
+
 pub brought_back-none : brought_back (1 ∷ 0 ∷ []) [] env ≡ env
 brought_back-none = refl
 
@@ -117,6 +121,22 @@ cut-example = refl
 
 pub cut-at_end : cut 2 two_steps ≡ Answer env (Tick (Answer [] (Tick (Ends (RunRaised (codes "zero"))))))
 cut-at_end = refl
+
+-- a trace that is too deep is a run past its limit
+
+pub cut-too_deep : cut 1 (Tick (Ends TooDeep)) ≡ Tick (Ends LimitPassed)
+cut-too_deep = refl
+
+pub cut-too_deep-not : cut 1 (Ends TooDeep) ≡ Ends RunDone → ⊥
+cut-too_deep-not done = cc
+
+-- no step is too many where the limit is 0, and one is where there is a step
+
+pub cut-none : cut 0 (one_answer env) ≡ Answer env (Ends RunDone)
+cut-none = refl
+
+pub cut-first : cut 0 (Tick (one_answer env)) ≡ Ends LimitPassed
+cut-first = refl
 
 pub cut-not : cut 0 two_steps ≡ Ends LimitPassed → ⊥
 cut-not loses_answer = cc

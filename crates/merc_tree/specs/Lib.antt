@@ -10,8 +10,11 @@ pub mod TermCode
 pub mod TypeTerms
 pub mod TypeShape
 pub mod Postfix
+pub mod PlacedParts
+pub mod PlacedPartsExamples
 pub mod Parts
 pub mod Examples
 pub mod TermExamples
+pub mod TypeExamples
 pub mod NodesExamples
 pub mod PostfixExamples

@@ -1,11 +1,12 @@
 -- How deep a term is nested.
 use Rattle.std.specs.Prelude.{ℕ, ◌+◌, Bool, true, false, ◌==◌, ◌&&◌, nat_le, [], ◌∷◌, Some, None, if◌then◌else◌}
 use Rattle.std.specs.List.{list_any}
+use Rattle.merc_base.specs.Names.{ampersand_name, comma_name, cons_name, else_name, semicolon_name}
 use Rattle.merc_tree.specs.Term.{Term, Terms, Variable, Integer, Text, Application, none, more}
 
 -- the names whose chains to the right count once: `,` `;` `&` `else` and `[|]`, which builds lists
 abbrev pub is_chain : ℕ → Bool
-is_chain name = list_any (λ other. name == other) (26 ∷ 23 ∷ 25 ∷ 20 ∷ 2 ∷ [])
+is_chain name = list_any (λ other. name == other) (comma_name ∷ semicolon_name ∷ ampersand_name ∷ else_name ∷ cons_name ∷ [])
 
 -- whether there are two arguments
 abbrev pub are_two : Terms → Bool

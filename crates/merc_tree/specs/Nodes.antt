@@ -1,5 +1,6 @@
 -- How terms lie in a list of nodes: the arguments of a term one after the other, then its root.
 use Rattle.std.specs.Prelude.{◌≡◌, ℕ, suc, ◌+◌, List, [], ◌∷◌, ◌++◌, length, map}
+use Rattle.merc_base.specs.Names.{nil_name}
 use Rattle.merc_base.specs.declared.place.Span.{Span}
 use Rattle.merc_tree.specs.Term.{Term, Variable, Integer, Text, Application, Terms, none, more, list_of, applied, no_span}
 use Rattle.merc_tree.specs.declared.term.Node.{Node}
@@ -27,7 +28,7 @@ built (node ∷ nodes) terms = built nodes (with_root node.shape node.span terms
 
 -- the first of these terms, or one that is never asked for
 abbrev pub first_of : List Term → Term
-first_of [] = Variable 0 no_span
+first_of [] = Variable nil_name no_span
 first_of (term ∷ terms) = term
 
 -- the term that nodes stand for

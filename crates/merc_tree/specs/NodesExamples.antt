@@ -1,6 +1,7 @@
 -- Worked examples of terms as nodes, which the prover computes, and false statements that it refutes.
 use Rattle.std.specs.Prelude.{◌≡◌, ℕ, pos, List, [], ◌∷◌, Some, None, map, refl}
 use Rattle.std.proofs.Common.{ap}
+use Rattle.merc_base.specs.Names.{comma_name, semicolon_name}
 use Rattle.merc_base.specs.declared.place.Span.{Span}
 use Rattle.merc_tree.specs.Term.{Term, Variable, Integer, Application, none, more}
 use Rattle.merc_tree.specs.declared.term.Node.{Node}
@@ -16,21 +17,29 @@ here = record { first = 3; past = 4; line = 1 }
 abbrev node : Shape → ℕ → Node
 node shape size = record { shape = shape; span = here; size = size }
 
+-- the names `X` and `f`, behind the constants
+
+abbrev x_name : ℕ
+x_name = 90
+
+abbrev f_name : ℕ
+f_name = 92
+
 -- `f(X, 3)`, and `X` before it
 
 abbrev x : Term
-x = Variable 90 here
+x = Variable x_name here
 
 abbrev f : Term
-f = Application 92 None (more x (more (Integer (pos 3) here) none)) here
+f = Application f_name None (more x (more (Integer (pos 3) here) none)) here
 
 abbrev f_nodes : List Node
-f_nodes = node (VariableShape 90) 1 ∷ node (IntegerShape (pos 3)) 1 ∷ node (ApplicationShape 92 None 2) 3 ∷ []
+f_nodes = node (VariableShape x_name) 1 ∷ node (IntegerShape (pos 3)) 1 ∷ node (ApplicationShape f_name None 2) 3 ∷ []
 
 pub nodes_of-example : nodes_of f ≡ f_nodes
 nodes_of-example = refl
 
-pub nodes_of-not : nodes_of f ≡ node (ApplicationShape 92 None 2) 3 ∷ node (VariableShape 90) 1 ∷ node (IntegerShape (pos 3)) 1 ∷ [] → ⊥
+pub nodes_of-not : nodes_of f ≡ node (ApplicationShape f_name None 2) 3 ∷ node (VariableShape x_name) 1 ∷ node (IntegerShape (pos 3)) 1 ∷ [] → ⊥
 nodes_of-not root_first =
     let sizes : ◌≡◌ {A = List ℕ} (1 ∷ 1 ∷ 3 ∷ []) (3 ∷ 1 ∷ 1 ∷ []) = ap (map (λ n. n.size)) root_first in
     cc
@@ -40,7 +49,7 @@ built-example = refl
 
 -- a root that is short of arguments takes those that are there
 
-pub built-short : built (node (ApplicationShape 92 None 2) 1 ∷ []) (x ∷ []) ≡ Application 92 None (more x none) here ∷ []
+pub built-short : built (node (ApplicationShape f_name None 2) 1 ∷ []) (x ∷ []) ≡ Application f_name None (more x none) here ∷ []
 built-short = refl
 
 pub built-not : built f_nodes [] ≡ x ∷ Integer (pos 3) here ∷ f ∷ [] → ⊥
@@ -49,15 +58,15 @@ built-not keeps_arguments = cc
 pub IsTerm-example : IsTerm f_nodes
 IsTerm-example = refl
 
-pub IsTerm-not : IsTerm (node (VariableShape 90) 2 ∷ []) → ⊥
+pub IsTerm-not : IsTerm (node (VariableShape x_name) 2 ∷ []) → ⊥
 IsTerm-not wrong_size =
     let sizes : ◌≡◌ {A = List ℕ} (1 ∷ []) (2 ∷ []) = ap (map (λ n. n.size)) wrong_size in
     cc
 
-pub AreTerms-example : AreTerms (node (VariableShape 90) 1 ∷ f_nodes)
+pub AreTerms-example : AreTerms (node (VariableShape x_name) 1 ∷ f_nodes)
 AreTerms-example = refl
 
-pub AreTerms-not : AreTerms (node (ApplicationShape 92 None 2) 1 ∷ []) → ⊥
+pub AreTerms-not : AreTerms (node (ApplicationShape f_name None 2) 1 ∷ []) → ⊥
 AreTerms-not short =
     let arities : ◌≡◌ {A = List ℕ} (0 ∷ []) (2 ∷ []) = ap (map (λ n. arity_of n.shape)) short in
     cc
@@ -71,18 +80,18 @@ starts_from-not counts_terms = cc
 -- what is kept of terms for their nesting: `X , X`, and a root `,` with `X` and that chain
 
 abbrev chain : Part
-chain = record { nesting = 2; chain = Some 26 }
+chain = record { nesting = 2; chain = Some comma_name }
 
-pub part_of-example : part_of (Application 26 None (more x (more x none)) here) ≡ chain
+pub part_of-example : part_of (Application comma_name None (more x (more x none)) here) ≡ chain
 part_of-example = refl
 
-pub part_of_root-example : part_of_root (ApplicationShape 26 None 2) (part_of x ∷ chain ∷ []) ≡ chain
+pub part_of_root-example : part_of_root (ApplicationShape comma_name None 2) (part_of x ∷ chain ∷ []) ≡ chain
 part_of_root-example = refl
 
-pub part_of_root-left : part_of_root (ApplicationShape 26 None 2) (chain ∷ part_of x ∷ []) ≡ record { nesting = 3; chain = Some 26 }
+pub part_of_root-left : part_of_root (ApplicationShape comma_name None 2) (chain ∷ part_of x ∷ []) ≡ record { nesting = 3; chain = Some comma_name }
 part_of_root-left = refl
 
-pub part_of_root-not : part_of_root (ApplicationShape 23 None 2) (part_of x ∷ chain ∷ []) ≡ record { nesting = 2; chain = Some 23 } → ⊥
+pub part_of_root-not : part_of_root (ApplicationShape semicolon_name None 2) (part_of x ∷ chain ∷ []) ≡ record { nesting = 2; chain = Some semicolon_name } → ⊥
 part_of_root-not any_chain =
     let nestings : ◌≡◌ {A = ℕ} 3 2 = ap (λ p. p.nesting) any_chain in
     cc

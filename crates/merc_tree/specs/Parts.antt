@@ -25,12 +25,12 @@ deepest_part [] = 0
 deepest_part (first ∷ rest) = greater first.nesting (deepest_part rest)
 
 -- whether a term is a chain of this name
-abbrev pub is_name : ℕ → Option ℕ → Bool
-is_name name None = false
-is_name name (Some other) = other == name
+abbrev pub is_named : ℕ → Option ℕ → Bool
+is_named name None = false
+is_named name (Some other) = other == name
 
 abbrev pub goes_on_part : ℕ → Part → Bool
-goes_on_part name part = is_name name part.chain
+goes_on_part name part = is_named name part.chain
 
 -- the name of which a root of this shape with two arguments is a chain
 abbrev pub chain_name_of : Shape → Option ℕ

@@ -1,5 +1,6 @@
 -- What a type is at its root, and types put together.
 use Rattle.std.specs.Prelude.{◌≡◌, ℕ, ◌-◌, ◌==◌, List, [], ◌∷◌, ◌++◌, length, take, drop, if◌then◌else◌}
+use Rattle.merc_base.specs.Names.{int_name, string_name}
 use Rattle.merc_tree.specs.declared.types.TypeShape.{TypeShape}
 use Rattle.merc_tree.specs.declared.types.TypeShape.TheVariants.{Variable as VariableShape, Int as IntShape, Text as TextShape, Application as ApplicationShape}
 use Rattle.merc_tree.specs.Types.{TypeExpr, TypeExprs, TypeVariable, IntType, TextType, TypeApplication, no_types, more_types, types_of, type_list}
@@ -17,9 +18,9 @@ type_arguments_of IntType = []
 type_arguments_of TextType = []
 type_arguments_of (TypeApplication name arguments) = type_list arguments
 
--- the type that a name with these arguments spells: 57 and 58 are the names `int` and `string`
+-- the type that a name with these arguments spells
 abbrev pub type_named : ℕ → List TypeExpr → TypeExpr
-type_named name [] = if name == 57 then IntType else if name == 58 then TextType else TypeApplication name no_types
+type_named name [] = if name == int_name then IntType else if name == string_name then TextType else TypeApplication name no_types
 type_named name (first ∷ rest) = TypeApplication name (types_of (first ∷ rest))
 
 -- The last types of a list, so many, become the arguments of one type.

@@ -2,6 +2,7 @@
 use Rattle.std.specs.Prelude.{◌≡◌, List, map, None, pos, refl}
 use Rattle.std.specs.Coded.{Coded, code_by, coded_list}
 use Rattle.std.proofs.Common.{ap, ◌∙◌}
+use Rattle.merc_base.specs.Names.{string_name}
 use Rattle.merc_tree.specs.Term.{Term, Terms, Variable, Integer, Text, Application, none, more, no_span}
 use Rattle.merc_tree.specs.TermCode.{term_code}
 use Rattle.merc_tree.specs.Types.{TypeExpr, TypeExprs, TypeVariable, IntType, TextType, TypeApplication, no_types, more_types}
@@ -23,7 +24,7 @@ abbrev mutual
   pub term_for : TypeExpr → Term
   term_for (TypeVariable name) = Variable name no_span
   term_for IntType = Integer (pos 0) no_span
-  term_for TextType = Text 0 no_span
+  term_for TextType = Text string_name no_span
   term_for (TypeApplication name arguments) = Application name None (terms_for arguments) no_span
 
   pub terms_for : TypeExprs → Terms

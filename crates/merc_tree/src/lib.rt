@@ -4,8 +4,6 @@
 pub mod declarations;
 pub mod goal;
 pub mod term;
-#[cfg(test)]
-mod tests;
 pub mod types;
 pub mod word;
 

@@ -1,11 +1,12 @@
 //! Terms, as they are read from a text.
-ghost use Rattle.std.specs.Prelude.{◌≡◌, ◌≢◌, ◌≤◌, ◌<◌, ◌-◌, ◌↔◌, [], ◌∷◌, ◌++◌, length, take, slice_get, IfOk, OnOk, OnErr, MatchOption, IsTrue};
+ghost use Rattle.std.specs.Prelude.{◌≡◌, ◌≢◌, ◌≤◌, ◌<◌, ◌-◌, ◌^◌, ◌↔◌, [], ◌∷◌, ◌++◌, length, map, take, slice_get, IfOk, OnOk, OnErr, MatchOption, IsTrue};
 ghost use Rattle.std.specs.List.{slice_index_or, slice_range};
 ghost use Rattle.merc_tree.specs.Nodes.{with_root, arity_of, shapes};
 ghost use Rattle.merc_tree.specs.Term.{Variable, Integer, Text, applied, enclosed, bare, span_of};
 ghost use Rattle.merc_tree.specs.Shape.{shape_of, arguments_of};
 ghost use Rattle.merc_tree.specs.Nesting.{nesting};
 ghost use Rattle.merc_tree.specs.Postfix.{shapes_of};
+ghost use Rattle.merc_tree.specs.PlacedParts.{placed_parts};
 
 mod nesting;
 
@@ -304,7 +305,8 @@ impl<'a> TermRef<'a> {
 
     /// The number of the term's parts, itself among them.
     pub fn part_count(&self) -> usize
-        ensures { result ≡ length (shapes_of self.now) }
+        ensures count { result ≡ length (shapes_of self.now) }
+        ensures small { result < 2 ^ 57 }
     {
         self.nodes.len()
     }
@@ -314,6 +316,13 @@ impl<'a> TermRef<'a> {
         ensures { result ≡ slice_get (shapes_of self.now) index }
     {
         shape_at(self.nodes, index)
+    }
+
+    /// The same with the place of the part.
+    pub fn placed_part(&self, index: usize) -> Option<(Shape, Span)>
+        ensures { result ≡ slice_get (placed_parts self.now) index }
+    {
+        placed_at(self.nodes, index)
     }
 
     /// How deep the term is nested: 1 for a variable, a literal and a plain name, and for an application 1 more than
@@ -353,6 +362,13 @@ fn shape_at(nodes: &[Node], index: usize) -> Option<Shape>
     ensures { result ≡ slice_get (shapes nodes.now) index }
 {
     nodes.get(index).map(|node| node.shape)
+}
+
+// The shape and the place of the node at an index.
+fn placed_at(nodes: &[Node], index: usize) -> Option<(Shape, Span)>
+    ensures { result ≡ slice_get (map (λ node. (node.shape, node.span)) nodes.now) index }
+{
+    nodes.get(index).map(|node| (node.shape, node.span))
 }
 
 // Whether nodes have the same shapes, in order.

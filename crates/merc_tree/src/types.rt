@@ -88,7 +88,7 @@ impl TypeExprs {
         ensures ok { OnOk result (self.new ≡ self.old ++ TextType ∷ []) }
         ensures err { OnErr result (self.new ≡ self.old) }
     {
-        self.terms.push_text(Name::DIVISION_BY_ZERO, NO_SPAN)
+        self.terms.push_text(Name::STRING, NO_SPAN)
     }
 
     /// Makes the last `arity` types the arguments of one type. The names `int` and `string` without arguments are the

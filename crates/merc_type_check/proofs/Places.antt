@@ -6,8 +6,8 @@ use Rattle.std.specs.BTreeMap.{BTreeMap, get}
 use Rattle.std.proofs.lemmas.Bool.Decides.{nat_tests}
 use Rattle.merc_base.specs.declared.memory.NoMemory.{NoMemory}
 use Rattle.merc_tree.specs.Types.{TypeExpr, TypeVariable, IntType, TextType, TypeApplication, types_of}
-use Rattle.merc_type_graph.specs.Solutions.{Entry, Unknown, Own, IntEntry, TextEntry, Applied, Link, Agrees, Solves}
-use Rattle.merc_type_graph.specs.Changes.{AllWithin, Adds, MakesEqual}
+use Rattle.merc_type_graph.specs.Solutions.{Entry, Unknown, Own, IntEntry, TextEntry, WholeEntry, Applied, Link, Agrees, Solves}
+use Rattle.merc_type_graph.specs.Changes.{AllWithin, Adds, MakesEqual, MakesWhole}
 use Rattle.merc_type_check.specs.declared.checker.Checker.{Checker}
 use Rattle.merc_type_check.specs.Progress.{Types, AgreesWith, IsAllowed, meant_entry, Fits, AreThere, AgreeBelow, IsForced, IsLocal, IsSound, Step, Nothing, Stands, AllStand, Takes, Places}
 use Rattle.merc_type_check.proofs.Steps.{grow_nothing}
@@ -54,6 +54,7 @@ agrees_alike count Unknown one other alike here within agrees = tt
 agrees_alike count (Own name) one other alike here within agrees = sym here ∙ agrees
 agrees_alike count IntEntry one other alike here within agrees = sym here ∙ agrees
 agrees_alike count TextEntry one other alike here within agrees = sym here ∙ agrees
+agrees_alike count (WholeEntry whole) one other alike here within agrees = sym here ∙ agrees
 agrees_alike count (Applied name arguments) one other alike here within agrees =
     let same = map_alike count one other alike arguments within in
     sym here ∙ agrees ∙ ap (λ (l : List TypeExpr). TypeApplication name (types_of l)) same
@@ -352,6 +353,47 @@ made_equal true old graph one other sound one_there other_there makes One Other 
     }
 made_equal false old graph one other sound one_there other_there makes One Other stands_one stands_other = λ places types instance fits asked.
     makes places fits.solved (stands_one.meant places types instance fits ∙ asked ∙ sym (stands_other.meant places types instance fits))
+
+-- a place given a type
+pub made_whole : (done : Bool) (old : Checker) (graph : List Entry) (one : ℕ) (whole : TypeExpr) → IsSound old → one < length old.graph
+    → MakesWhole done old.graph graph one whole → (One : Types → Types → TypeExpr) → Stands old one One
+    → Takes done old (record old { graph = graph }) (λ types instance. One types instance ≡ whole)
+made_whole true old graph one whole sound one_there makes One stands_one =
+    let same : length graph ≡ length old.graph = makes.0 in
+    let back : (places types instance : Types) → Fits (record old { graph = graph }) places types instance → Fits old places types instance =
+    λ places types instance fits. record {
+      solved = ((makes.1 places).0 fits.solved).0;
+      variables = fits.variables;
+      instances = fits.instances;
+      allowed = fits.allowed;
+    } in
+    record {
+      sound = record {
+        local = λ first second alike solves.
+            let below : AgreeBelow (length old.graph) first second = λ place less. alike place (omega arith) in
+            let both = (makes.1 first).0 solves in
+            (makes.1 second).1 (sound.local first second below both.0, sym (below one one_there) ∙ both.1);
+        variables = λ n. there_more _ (length old.graph) (length graph) (omega arith) (sound.variables n);
+        instances = λ n. there_more _ (length old.graph) (length graph) (omega arith) (sound.instances n);
+        forced = forced_on old.own old.graph graph old.instance (λ places solves. ((makes.1 places).0 solves).0) sound.forced;
+      };
+      longer = omega arith;
+      same_way = refl;
+      back = λ places types instance fits.
+          let before = back places types instance fits in
+          (before, sym (stands_one.meant places types instance before) ∙ ((makes.1 places).0 fits.solved).1);
+      forth = λ places types instance fits asked. (
+        places,
+        record {
+          solved = (makes.1 places).1 (fits.solved, stands_one.meant places types instance fits ∙ asked);
+          variables = fits.variables;
+          instances = fits.instances;
+          allowed = fits.allowed;
+        },
+      );
+    }
+made_whole false old graph one whole sound one_there makes One stands_one = λ places types instance fits asked.
+    makes places fits.solved (stands_one.meant places types instance fits ∙ asked)
 
 -- the same of a call's whole answer
 pub int_added : (old : Checker) (graph : List Entry) (result : Result ℕ NoMemory) → IsSound old → IfOk result (λ place. place ≡ length old.graph)

@@ -1,5 +1,6 @@
 pub mod Typing
 pub mod Checked
+pub mod Ground
 pub mod TypingExamples
 pub mod Progress
 pub mod Building

@@ -21,6 +21,10 @@ abbrev pub IsAllowed : Bool → Types → Type 0
 IsAllowed true instance = (name : ℕ) → instance name ≡ TypeVariable name
 IsAllowed false instance = Unit {0}
 
+-- a declared type is the same, whatever its type variables are allowed to stand for
+abbrev pub IsFixed : Bool → TypeExpr → Type 0
+IsFixed own declared = (instance : Types) → IsAllowed own instance → replaced instance declared ≡ declared
+
 -- what is known of the type that a type variable stands for
 abbrev pub meant_entry : Bool → ℕ → Entry
 meant_entry true name = Own name

@@ -19,7 +19,7 @@ pub(crate) enum Task<'a> {
     Apply(Name, usize),
 }
 
-impl Checker {
+impl<'a> Checker<'a> {
     /// A place for a declared type, in which type variables are what they stand for.
     pub(crate) fn declared(
         &mut self,
@@ -42,10 +42,10 @@ impl Checker {
     }
 
     // Does one task.
-    fn perform<'a>(
+    fn perform<'b>(
         &mut self,
-        task: Task<'a>,
-        tasks: &mut Vec<Task<'a>>,
+        task: Task<'b>,
+        tasks: &mut Vec<Task<'b>>,
         places: &mut Vec<Place>,
     ) -> Result<(), NoMemory>
         requires sound { IsSound self.old }
@@ -60,10 +60,10 @@ impl Checker {
     }
 
     // Puts the place of a type behind the others, or what is to be done for that.
-    fn visit<'a>(
+    fn visit<'b>(
         &mut self,
-        declared: TypeRef<'a>,
-        tasks: &mut Vec<Task<'a>>,
+        declared: TypeRef<'b>,
+        tasks: &mut Vec<Task<'b>>,
         places: &mut Vec<Place>,
     ) -> Result<(), NoMemory>
         requires { IsSound self.old }

@@ -6,25 +6,26 @@ ghost use Rattle.merc_type_check.specs.Progress.{meant_entry, AllStand, Fits, Is
 
 use merc_base::{Name, NoMemory};
 use merc_goal_tree::Var;
+use merc_tree::TypeRef;
 use merc_type_graph::{Place, TypeGraph};
 use std::alloc::Global;
 use std::collections::BTreeMap;
 
 /// What is known of types: equations between the types at places, and the places of variables and type variables.
 #[derive(Drop)]
-pub(crate) struct Checker {
-    graph: TypeGraph,
+pub(crate) struct Checker<'a> {
+    graph: TypeGraph<'a>,
     // The places of the types of variables that were met.
     variables: BTreeMap<Var, Place>,
     // The places of what the type variables of the declared types in use stand for, where they were met.
     instance: BTreeMap<Name, Place>,
     // Whether these stand for themselves.
-    own: bool,
+    pub(crate) own: bool,
 }
 
-impl Checker {
+impl<'a> Checker<'a> {
     /// Nothing is known. Type variables stand for themselves. It takes no memory.
-    pub(crate) fn new(alloc: Global) -> Checker
+    pub(crate) fn new(alloc: Global) -> Checker<'a>
         ensures sound { IsSound result }
         ensures free { (places types : Types) → Fits result places types TypeVariable }
         ensures own { result.own ≡ true }
@@ -110,6 +111,15 @@ impl Checker {
         self.graph.make_equal(one, other)
     }
 
+    /// Makes the type at a place a declared type, in which type variables stand for themselves. False where it cannot be.
+    pub(crate) fn make_whole(&mut self, place: Place, whole: &TypeRef<'a>) -> Result<bool, NoMemory>
+        requires sound { IsSound self.old }
+        requires there { place < length self.old.graph }
+        ensures { IfOk result (λ done. (Meant : Types → Types → TypeExpr) → Stands self.old place Meant → Takes done self.old self.new (λ types instance. Meant types instance ≡ whole.now)) }
+    {
+        self.graph.make_whole(place, whole)
+    }
+
     /// Whether there are types that solve the equations.
     pub(crate) fn is_solvable(&self, alloc: Global) -> Result<bool, NoMemory>
         ensures { IfOk result (λ solvable. Decides solvable self.now.graph) }
@@ -119,7 +129,7 @@ impl Checker {
 }
 
 // Adds a place of what a type variable stands for: itself, or something unknown.
-fn add_meant(graph: &mut TypeGraph, own: bool, name: Name) -> Result<Place, NoMemory>
+fn add_meant(graph: &mut TypeGraph<'_>, own: bool, name: Name) -> Result<Place, NoMemory>
     ensures place { IfOk result (λ place. place ≡ length graph.old) }
     ensures count { OnOk result (length graph.new ≡ length graph.old + 1) }
     ensures solutions { OnOk result (Adds graph.old graph.new (meant_entry own name)) }

@@ -19,10 +19,10 @@ use std::alloc::Global;
 /// # Errors
 ///
 /// `NoMemory` where memory was refused.
-pub fn is_typed(
+pub fn is_typed<'a>(
     alloc: Global,
-    known: &Known<'_>,
-    arguments: &TypeExprs,
+    known: &Known<'a>,
+    arguments: &'a TypeExprs,
     goal: &NodeRef<'_>,
 ) -> Result<bool, NoMemory>
     ensures { IfOk result (λ typed. Tells typed known.now arguments.now goal.now) }

@@ -1,24 +1,25 @@
 //! What goals ask of the types of their variables.
-ghost use Rattle.std.specs.Prelude.{◌≡◌, List, slice_get, IfOk};
+ghost use Rattle.std.specs.Prelude.{◌≡◌, List, slice_get, IfOk, IsTrue};
 ghost use Rattle.merc_tree.specs.Types.{IntType, TextType, replaced};
-ghost use Rattle.merc_type_check.specs.Progress.{AreHead, GoalTakes, IsSound, Takes};
+ghost use Rattle.merc_type_check.specs.Progress.{AreHead, GoalTakes, IsFixed, IsSound, Takes};
 ghost use Rattle.merc_type_check.specs.Typing.{HasSymbol, HaveTypes, HasConstructor, IsCalled, IsTypedGoal, IsTypedPart};
 ghost use Rattle.merc_base.specs.declared.place.Span.{Span};
 ghost use Rattle.merc_tree.specs.declared.declarations.Module.{Module};
 
 use crate::checker::Checker;
+use crate::ground::is_ground;
 use merc_base::{Name, NoMemory};
 use merc_goal_tree::{Predicate, Root, SimpleGoal, Symbol, Var};
 use merc_known::Known;
 use merc_tree::{Constructor, TypeDef, TypeExprs, TypeRef};
 use std::alloc::Global;
 
-impl Checker {
+impl<'a> Checker<'a> {
     /// Asks for what makes a part of a goal typed. False where that cannot be, here and in the calls below.
     pub(crate) fn take_part(
         &mut self,
         alloc: Global,
-        known: &Known<'_>,
+        known: &Known<'a>,
         part: &Root,
     ) -> Result<bool, NoMemory>
         requires { IsSound self.old }
@@ -34,7 +35,7 @@ impl Checker {
     fn take_goal(
         &mut self,
         alloc: Global,
-        known: &Known<'_>,
+        known: &Known<'a>,
         goal: &SimpleGoal,
     ) -> Result<bool, NoMemory>
         requires { IsSound self.old }
@@ -61,7 +62,7 @@ impl Checker {
     fn take_symbol(
         &mut self,
         alloc: Global,
-        known: &Known<'_>,
+        known: &Known<'a>,
         variable: Var,
         symbol: &Symbol,
         arguments: &[Var],
@@ -88,7 +89,7 @@ impl Checker {
         alloc: Global,
         variable: Var,
         declared: &TypeDef,
-        constructor: &Constructor,
+        constructor: &'a Constructor,
         arguments: &[Var],
     ) -> Result<bool, NoMemory>
         requires { IsSound self.old }
@@ -107,7 +108,7 @@ impl Checker {
     fn take_call(
         &mut self,
         alloc: Global,
-        known: &Known<'_>,
+        known: &Known<'a>,
         predicate: Predicate,
         arguments: &[Var],
     ) -> Result<bool, NoMemory>
@@ -128,7 +129,7 @@ impl Checker {
         &mut self,
         alloc: Global,
         variables: &[Var],
-        declared: &TypeExprs,
+        declared: &'a TypeExprs,
     ) -> Result<bool, NoMemory>
         requires { IsSound self.old }
         ensures { IfOk result (λ done. (known : Module) → Takes done self.old self.new (λ types instance. HaveTypes known types instance variables.now declared.now)) }
@@ -154,7 +155,7 @@ impl Checker {
     pub(crate) fn take_head(
         &mut self,
         alloc: Global,
-        declared: &TypeExprs,
+        declared: &'a TypeExprs,
     ) -> Result<bool, NoMemory>
         requires { IsSound self.old }
         ensures { IfOk result (λ done. Takes done self.old self.new (λ types instance. AreHead declared.now types instance)) }
@@ -178,14 +179,27 @@ impl Checker {
         &mut self,
         alloc: Global,
         variable: Var,
-        declared: &TypeRef<'_>,
+        declared: &TypeRef<'a>,
     ) -> Result<bool, NoMemory>
         requires { IsSound self.old }
         ensures { IfOk result (λ done. Takes done self.old self.new (λ types instance. types variable ≡ replaced instance declared.now)) }
     {
         let place = self.variable(variable)?;
+        if self.is_fixed(alloc, declared)? {
+            return self.make_whole(place, declared);
+        }
         let other = self.declared(alloc, declared)?;
         self.make_equal(place, other)
+    }
+
+    // Whether a declared type is the same, whatever its type variables may stand for.
+    fn is_fixed(&self, alloc: Global, declared: &TypeRef<'_>) -> Result<bool, NoMemory>
+        ensures { IfOk result (λ same. IsTrue same → IsFixed self.now.own declared.now) }
+    {
+        if self.own {
+            return Ok(true);
+        }
+        is_ground(alloc, declared)
     }
 
     // Asks that two variables have one type.

@@ -5,7 +5,6 @@ mod building;
 mod checker;
 mod checking;
 mod goals;
-#[cfg(test)]
-mod tests;
+mod ground;
 
 pub use checking::is_typed;

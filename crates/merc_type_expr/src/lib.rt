@@ -6,7 +6,5 @@ mod occurring;
 mod pairing;
 mod solving;
 pub mod subst;
-#[cfg(test)]
-mod tests;
 
 pub use subst::{Subst, unify};

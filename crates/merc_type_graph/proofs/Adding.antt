@@ -7,7 +7,7 @@ use Rattle.merc_type_graph.specs.Solutions.{Entry, Applied, Agrees, SolvesFrom}
 use Rattle.merc_type_graph.specs.Changes.{Adds, AllWithin}
 use Rattle.merc_type_graph.specs.Cells.{entry_of, entries_of, needs_of, known_at, rank_at, root_mark, roots, blank, IsStored, IsSound}
 use Rattle.merc_type_graph.specs.declared.cell.Known.{Known}
-use Rattle.merc_type_graph.specs.declared.cell.Known.TheVariants.{Nothing, Variable, Int, Text, Named, SameAs}
+use Rattle.merc_type_graph.specs.declared.cell.Known.TheVariants.{Nothing, Variable, Int, Text, Whole, Named, SameAs}
 use Rattle.merc_type_graph.specs.declared.cell.Cell.{Cell}
 use Rattle.merc_type_graph.proofs.Entries.{solves_from-append, append-solves_from}
 
@@ -70,6 +70,7 @@ mark_few Nothing = omega arith
 mark_few (Variable name) = omega arith
 mark_few Int = omega arith
 mark_few Text = omega arith
+mark_few (Whole whole) = omega arith
 mark_few (Named name first count) = omega arith
 mark_few (SameAs place) = omega arith
 
@@ -150,6 +151,7 @@ entry-append arguments added Nothing stored = refl
 entry-append arguments added (Variable name) stored = refl
 entry-append arguments added Int stored = refl
 entry-append arguments added Text stored = refl
+entry-append arguments added (Whole whole) stored = refl
 entry-append arguments added (Named name first count) stored = ap (Applied name) (part-append arguments added first count stored)
 entry-append arguments added (SameAs place) stored = refl
 
@@ -169,6 +171,7 @@ stored_more count more Nothing less stored = tt
 stored_more count more (Variable name) less stored = tt
 stored_more count more Int less stored = tt
 stored_more count more Text less stored = tt
+stored_more count more (Whole whole) less stored = tt
 stored_more count more (Named name first number) less stored = omega arith
 stored_more count more (SameAs place) less stored = tt
 

@@ -3,11 +3,11 @@ use Rattle.std.proofs.Common.{◌≡◌, ℕ, suc, ◌+◌, ◌≤◌, Bool, tru
 use Rattle.std.specs.Prelude.{◌==◌, ◌&&◌, if◌then◌else◌}
 use Rattle.std.proofs.lemmas.Bool.Decides.{nat_tests}
 use Rattle.merc_tree.specs.Types.{TypeExpr, TypeExprs, IntType, TextType, TypeVariable, TypeApplication, types_of, more_types}
-use Rattle.merc_type_graph.specs.Solutions.{Entry, Unknown, Own, IntEntry, TextEntry, Applied, Link, Agrees}
+use Rattle.merc_type_graph.specs.Solutions.{Entry, Unknown, Own, IntEntry, TextEntry, WholeEntry, Applied, Link, Agrees}
 use Rattle.merc_type_graph.specs.Cells.{entry_of, root_mark, IsStored}
-use Rattle.merc_type_graph.specs.Joining.{joined, arguments_of, zipped, AllSame}
+use Rattle.merc_type_graph.specs.Joining.{joined, arguments_of, is_whole, zipped, AllSame}
 use Rattle.merc_type_graph.specs.declared.cell.Known.{Known}
-use Rattle.merc_type_graph.specs.declared.cell.Known.TheVariants.{Nothing, Variable, Int, Text, Named, SameAs}
+use Rattle.merc_type_graph.specs.declared.cell.Known.TheVariants.{Nothing, Variable, Int, Text, Whole, Named, SameAs}
 
 -- a type, at whatever place, agrees with an entry
 abbrev pub Fits : (ℕ → TypeExpr) → TypeExpr → Entry → Type 0
@@ -15,6 +15,7 @@ Fits types type Unknown = Unit {0}
 Fits types type (Own name) = type ≡ TypeVariable name
 Fits types type IntEntry = type ≡ IntType
 Fits types type TextEntry = type ≡ TextType
+Fits types type (WholeEntry whole) = type ≡ whole
 Fits types type (Applied name arguments) = type ≡ TypeApplication name (types_of (map types arguments))
 Fits types type (Link other) = type ≡ types other
 
@@ -23,6 +24,7 @@ fits types place Unknown agrees = tt
 fits types place (Own name) agrees = agrees
 fits types place IntEntry agrees = agrees
 fits types place TextEntry agrees = agrees
+fits types place (WholeEntry whole) agrees = agrees
 fits types place (Applied name arguments) agrees = agrees
 fits types place (Link other) agrees = agrees
 
@@ -31,6 +33,7 @@ agrees_by types place Unknown fit = tt
 agrees_by types place (Own name) fit = fit
 agrees_by types place IntEntry fit = fit
 agrees_by types place TextEntry fit = fit
+agrees_by types place (WholeEntry whole) fit = fit
 agrees_by types place (Applied name arguments) fit = fit
 agrees_by types place (Link other) fit = fit
 
@@ -84,7 +87,7 @@ equal_by m n e = grind (arith, nat_tests)
 differ_by : (m n : ℕ) → (m == n) ≡ false → m ≡ n → ⊥
 differ_by m n e h = absurd (grind (arith, nat_tests))
 
-length_part : (arguments : List ℕ) (first count : ℕ) → first + count ≤ length arguments → length (take count (drop first arguments)) ≡ count
+pub length_part : (arguments : List ℕ) (first count : ℕ) → first + count ≤ length arguments → length (take count (drop first arguments)) ≡ count
 length_part arguments first count within = omega (arith, length-take count (drop first arguments), length-drop first arguments)
 
 types_length : (types : ℕ → TypeExpr) (ones others : List ℕ) → types_of (map types ones) ≡ types_of (map types others) → length ones ≡ length others
@@ -175,54 +178,62 @@ fits_both types arguments (Variable m) (Variable n) both within within' e = let 
 fits_both types arguments (Variable m) Int both within within' e = absurd (cc)
 fits_both types arguments (Variable m) Text both within within' e = absurd (cc)
 fits_both types arguments (Variable m) (Named g t d) both within within' e = absurd (cc)
+fits_both types arguments (Variable m) (Whole u) both within within' e = absurd (cc)
 fits_both types arguments (Variable m) (SameAs q) both within within' e = absurd (cc)
 fits_both types arguments Int Nothing both within within' e = by_one types arguments Int both (cc)
 fits_both types arguments Int (Variable n) both within within' e = absurd (cc)
 fits_both types arguments Int Int both within within' e = by_itself types arguments Int both refl (cc)
 fits_both types arguments Int Text both within within' e = absurd (cc)
 fits_both types arguments Int (Named g t d) both within within' e = absurd (cc)
+fits_both types arguments Int (Whole u) both within within' e = absurd (cc)
 fits_both types arguments Int (SameAs q) both within within' e = absurd (cc)
 fits_both types arguments Text Nothing both within within' e = by_one types arguments Text both (cc)
 fits_both types arguments Text (Variable n) both within within' e = absurd (cc)
 fits_both types arguments Text Int both within within' e = absurd (cc)
 fits_both types arguments Text Text both within within' e = by_itself types arguments Text both refl (cc)
 fits_both types arguments Text (Named g t d) both within within' e = absurd (cc)
+fits_both types arguments Text (Whole u) both within within' e = absurd (cc)
 fits_both types arguments Text (SameAs q) both within within' e = absurd (cc)
 fits_both types arguments (Named f s c) Nothing both within within' e = by_one types arguments (Named f s c) both (cc)
 fits_both types arguments (Named f s c) (Variable n) both within within' e = absurd (cc)
 fits_both types arguments (Named f s c) Int both within within' e = absurd (cc)
 fits_both types arguments (Named f s c) Text both within within' e = absurd (cc)
 fits_both types arguments (Named f s c) (Named g t d) both within within' e = let w = chosen ((f == g) && (c == d)) (Named f s c) both e in by_name types arguments f s c g t d both within within' w.0 w.1
+fits_both types arguments (Named f s c) (Whole u) both within within' e = absurd (cc)
 fits_both types arguments (Named f s c) (SameAs q) both within within' e = absurd (cc)
+fits_both types arguments (Whole w) other both within within' e = absurd (cc)
 fits_both types arguments (SameAs p) other both within within' e = absurd (cc)
 
 -- and no type fits both where they clash
-pub fits_none : (types : ℕ → TypeExpr) (arguments : List ℕ) (one other : Known) → root_mark one ≡ 1 → root_mark other ≡ 1 → IsStored (length arguments) one
+pub fits_none : (types : ℕ → TypeExpr) (arguments : List ℕ) (one other : Known) → root_mark one ≡ 1 → root_mark other ≡ 1 → is_whole one ≡ false → is_whole other ≡ false → IsStored (length arguments) one
     → IsStored (length arguments) other → joined one other ≡ None → (type : TypeExpr) → Fits types type (entry_of arguments one) → Fits types type (entry_of arguments other) → ⊥
-fits_none types arguments Nothing other root root' within within' e type fit fit' = absurd (cc)
-fits_none types arguments (Variable m) Nothing root root' within within' e type fit fit' = absurd (cc)
-fits_none types arguments (Variable m) (Variable n) root root' within within' e type fit fit' = differ_by m n (not_chosen (m == n) (Variable m) e) (variables_same type m n fit fit')
-fits_none types arguments (Variable m) Int root root' within within' e type fit fit' = absurd (cc)
-fits_none types arguments (Variable m) Text root root' within within' e type fit fit' = absurd (cc)
-fits_none types arguments (Variable m) (Named g t d) root root' within within' e type fit fit' = absurd (cc)
-fits_none types arguments (Variable m) (SameAs q) root root' within within' e type fit fit' = absurd (omega arith)
-fits_none types arguments Int Nothing root root' within within' e type fit fit' = absurd (cc)
-fits_none types arguments Int (Variable n) root root' within within' e type fit fit' = absurd (cc)
-fits_none types arguments Int Int root root' within within' e type fit fit' = absurd (cc)
-fits_none types arguments Int Text root root' within within' e type fit fit' = absurd (cc)
-fits_none types arguments Int (Named g t d) root root' within within' e type fit fit' = absurd (cc)
-fits_none types arguments Int (SameAs q) root root' within within' e type fit fit' = absurd (omega arith)
-fits_none types arguments Text Nothing root root' within within' e type fit fit' = absurd (cc)
-fits_none types arguments Text (Variable n) root root' within within' e type fit fit' = absurd (cc)
-fits_none types arguments Text Int root root' within within' e type fit fit' = absurd (cc)
-fits_none types arguments Text Text root root' within within' e type fit fit' = absurd (cc)
-fits_none types arguments Text (Named g t d) root root' within within' e type fit fit' = absurd (cc)
-fits_none types arguments Text (SameAs q) root root' within within' e type fit fit' = absurd (omega arith)
-fits_none types arguments (Named f s c) Nothing root root' within within' e type fit fit' = absurd (cc)
-fits_none types arguments (Named f s c) (Variable n) root root' within within' e type fit fit' = absurd (cc)
-fits_none types arguments (Named f s c) Int root root' within within' e type fit fit' = absurd (cc)
-fits_none types arguments (Named f s c) Text root root' within within' e type fit fit' = absurd (cc)
-fits_none types arguments (Named f s c) (Named g t d) root root' within within' e type fit fit' =
+fits_none types arguments Nothing other root root' partial partial' within within' e type fit fit' = absurd (cc)
+fits_none types arguments (Variable m) Nothing root root' partial partial' within within' e type fit fit' = absurd (cc)
+fits_none types arguments (Variable m) (Variable n) root root' partial partial' within within' e type fit fit' = differ_by m n (not_chosen (m == n) (Variable m) e) (variables_same type m n fit fit')
+fits_none types arguments (Variable m) Int root root' partial partial' within within' e type fit fit' = absurd (cc)
+fits_none types arguments (Variable m) Text root root' partial partial' within within' e type fit fit' = absurd (cc)
+fits_none types arguments (Variable m) (Named g t d) root root' partial partial' within within' e type fit fit' = absurd (cc)
+fits_none types arguments (Variable m) (Whole u) root root' partial partial' within within' e type fit fit' = absurd (cc)
+fits_none types arguments (Variable m) (SameAs q) root root' partial partial' within within' e type fit fit' = absurd (omega arith)
+fits_none types arguments Int Nothing root root' partial partial' within within' e type fit fit' = absurd (cc)
+fits_none types arguments Int (Variable n) root root' partial partial' within within' e type fit fit' = absurd (cc)
+fits_none types arguments Int Int root root' partial partial' within within' e type fit fit' = absurd (cc)
+fits_none types arguments Int Text root root' partial partial' within within' e type fit fit' = absurd (cc)
+fits_none types arguments Int (Named g t d) root root' partial partial' within within' e type fit fit' = absurd (cc)
+fits_none types arguments Int (Whole u) root root' partial partial' within within' e type fit fit' = absurd (cc)
+fits_none types arguments Int (SameAs q) root root' partial partial' within within' e type fit fit' = absurd (omega arith)
+fits_none types arguments Text Nothing root root' partial partial' within within' e type fit fit' = absurd (cc)
+fits_none types arguments Text (Variable n) root root' partial partial' within within' e type fit fit' = absurd (cc)
+fits_none types arguments Text Int root root' partial partial' within within' e type fit fit' = absurd (cc)
+fits_none types arguments Text Text root root' partial partial' within within' e type fit fit' = absurd (cc)
+fits_none types arguments Text (Named g t d) root root' partial partial' within within' e type fit fit' = absurd (cc)
+fits_none types arguments Text (Whole u) root root' partial partial' within within' e type fit fit' = absurd (cc)
+fits_none types arguments Text (SameAs q) root root' partial partial' within within' e type fit fit' = absurd (omega arith)
+fits_none types arguments (Named f s c) Nothing root root' partial partial' within within' e type fit fit' = absurd (cc)
+fits_none types arguments (Named f s c) (Variable n) root root' partial partial' within within' e type fit fit' = absurd (cc)
+fits_none types arguments (Named f s c) Int root root' partial partial' within within' e type fit fit' = absurd (cc)
+fits_none types arguments (Named f s c) Text root root' partial partial' within within' e type fit fit' = absurd (cc)
+fits_none types arguments (Named f s c) (Named g t d) root root' partial partial' within within' e type fit fit' =
     elim (and_false (f == g) (c == d) (not_chosen ((f == g) && (c == d)) (Named f s c) e)) [
       | inl names ↦ differ_by f g names (applications_same_name type f g (types_of (map types (take c (drop s arguments)))) (types_of (map types (take d (drop t arguments)))) fit fit')
       | inr counts ↦ differ_by c d counts
@@ -231,5 +242,7 @@ fits_none types arguments (Named f s c) (Named g t d) root root' within within' 
           (applications_same_arguments type f g (types_of (map types (take c (drop s arguments)))) (types_of (map types (take d (drop t arguments)))) fit fit')
           ∙ length_part arguments t d within')
     ]
-fits_none types arguments (Named f s c) (SameAs q) root root' within within' e type fit fit' = absurd (omega arith)
-fits_none types arguments (SameAs p) other root root' within within' e type fit fit' = absurd (omega arith)
+fits_none types arguments (Named f s c) (Whole u) root root' partial partial' within within' e type fit fit' = absurd (cc)
+fits_none types arguments (Named f s c) (SameAs q) root root' partial partial' within within' e type fit fit' = absurd (omega arith)
+fits_none types arguments (Whole w) other root root' partial partial' within within' e type fit fit' = absurd (cc)
+fits_none types arguments (SameAs p) other root root' partial partial' within within' e type fit fit' = absurd (omega arith)

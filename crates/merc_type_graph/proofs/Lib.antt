@@ -2,6 +2,7 @@ pub mod Adding
 pub mod Attaching
 pub mod Deciding
 pub mod Entries
+mod Fixings
 pub mod Equating
 pub mod Joins
 pub mod Meeting

@@ -1,13 +1,14 @@
 -- Two places made one.
-use Rattle.std.proofs.Common.{◌≡◌, ◌≢◌, ℕ, zero, suc, ◌+◌, ◌*◌, ◌<◌, ◌≤◌, ◌⊎◌, inl, inr, List, [], ◌∷◌, ◌++◌, length, drop, refl, sym, ap, subst, ◌∙◌, arith, Some, None, length-append, length-take, length-drop, append_assoc}
+use Rattle.std.proofs.Common.{◌≡◌, ◌≢◌, ℕ, zero, suc, ◌+◌, ◌*◌, ◌<◌, ◌≤◌, ◌⊎◌, inl, inr, List, [], ◌∷◌, ◌++◌, length, drop, refl, sym, ap, subst, ◌∙◌, arith, Some, None, Bool, true, false, length-append, length-take, length-drop, append_assoc}
 use Rattle.std.specs.Prelude.{slice_get, ◌==◌, ◌&&◌}
 use Rattle.std.proofs.lemmas.List.{append-nil}
 use Rattle.merc_tree.specs.Types.{TypeExpr}
-use Rattle.merc_type_graph.specs.Solutions.{Solves}
+use Rattle.merc_type_graph.specs.Solutions.{Agrees, Solves}
 use Rattle.merc_type_graph.specs.Cells.{entry_of, entries_of, needs_of, known_at, root_mark, roots, IsStored, IsSound, LeadsTo}
-use Rattle.merc_type_graph.specs.Joining.{joined, arguments_of, zipped, AllSame, AllBelow, attached, Meets}
+use Rattle.merc_type_graph.specs.Joining.{joined, arguments_of, zipped, AllSame, AllBelow, attached, IsPartial, Meets, MeetsOrDiffers}
+use Rattle.merc_type_graph.specs.Fixing.{FixesOrDiffers}
 use Rattle.merc_type_graph.specs.declared.cell.Known.{Known}
-use Rattle.merc_type_graph.specs.declared.cell.Known.TheVariants.{Nothing, Variable, Int, Text, Named, SameAs}
+use Rattle.merc_type_graph.specs.declared.cell.Known.TheVariants.{Nothing, Variable, Int, Text, Whole, Named, SameAs}
 use Rattle.merc_type_graph.specs.declared.cell.Cell.{Cell}
 use Rattle.merc_type_graph.proofs.Entries.{solves_at}
 use Rattle.merc_type_graph.proofs.Joins.{fits, fits_at, fits_both, fits_none, chosen, zipped_nil}
@@ -56,12 +57,13 @@ zipped_below bound (one ∷ ones) [] below below' = tt
 zipped_below bound (one ∷ ones) (other ∷ others) below below' =
     (below zero one refl, below' zero other refl, zipped_below bound ones others (λ n p e. below (suc n) p e) (λ n p e. below' (suc n) p e))
 
-argument_need : (arguments : List ℕ) (known : Known) (number place : ℕ) → slice_get (arguments_of arguments known) number ≡ Some place
+pub argument_need : (arguments : List ℕ) (known : Known) (number place : ℕ) → slice_get (arguments_of arguments known) number ≡ Some place
     → slice_get (needs_of (entry_of arguments known)) number ≡ Some place
 argument_need arguments Nothing number place e = e
 argument_need arguments (Variable n) number place e = e
 argument_need arguments Int number place e = e
 argument_need arguments Text number place e = e
+argument_need arguments (Whole w) number place e = absurd (cc)
 argument_need arguments (Named n first count) number place e = e
 argument_need arguments (SameAs to) number place e = absurd (cc)
 
@@ -70,6 +72,7 @@ count_arguments arguments Nothing = omega arith
 count_arguments arguments (Variable n) = omega arith
 count_arguments arguments Int = omega arith
 count_arguments arguments Text = omega arith
+count_arguments arguments (Whole w) = omega arith
 count_arguments arguments (Named n first count) = omega (arith, length-take count (drop first arguments), length-drop first arguments)
 count_arguments arguments (SameAs to) = omega arith
 
@@ -91,45 +94,50 @@ joined_is (Variable m) (Variable n) both e = inl (chosen (m == n) (Variable m) b
 joined_is (Variable m) Int both e = absurd (cc)
 joined_is (Variable m) Text both e = absurd (cc)
 joined_is (Variable m) (Named g t d) both e = absurd (cc)
+joined_is (Variable m) (Whole u) both e = absurd (cc)
 joined_is (Variable m) (SameAs q) both e = absurd (cc)
 joined_is Int Nothing both e = inl (cc)
 joined_is Int (Variable n) both e = absurd (cc)
 joined_is Int Int both e = inl (cc)
 joined_is Int Text both e = absurd (cc)
 joined_is Int (Named g t d) both e = absurd (cc)
+joined_is Int (Whole u) both e = absurd (cc)
 joined_is Int (SameAs q) both e = absurd (cc)
 joined_is Text Nothing both e = inl (cc)
 joined_is Text (Variable n) both e = absurd (cc)
 joined_is Text Int both e = absurd (cc)
 joined_is Text Text both e = inl (cc)
 joined_is Text (Named g t d) both e = absurd (cc)
+joined_is Text (Whole u) both e = absurd (cc)
 joined_is Text (SameAs q) both e = absurd (cc)
 joined_is (Named f s c) Nothing both e = inl (cc)
 joined_is (Named f s c) (Variable n) both e = absurd (cc)
 joined_is (Named f s c) Int both e = absurd (cc)
 joined_is (Named f s c) Text both e = absurd (cc)
 joined_is (Named f s c) (Named g t d) both e = inl (chosen ((f == g) && (c == d)) (Named f s c) both e).1
+joined_is (Named f s c) (Whole u) both e = absurd (cc)
 joined_is (Named f s c) (SameAs q) both e = absurd (cc)
+joined_is (Whole w) other both e = absurd (cc)
 joined_is (SameAs p) other both e = absurd (cc)
 
--- two places, the roots that they lead to, and what is known there
-pub record IsMeeting (arguments : List ℕ) (cells : List Cell) (one other root root' : ℕ) (known known' : Known) : Type 0 where
+-- two roots, and what is known there
+pub record IsMeeting (arguments : List ℕ) (cells : List Cell) (one other : ℕ) (known known' : Known) : Type 0 where
   pub sound : IsSound arguments cells
-  pub leads : LeadsTo cells one root
-  pub leads' : LeadsTo cells other root'
-  pub known_is : known ≡ known_at cells root
-  pub known_is' : known' ≡ known_at cells root'
+  pub first : IsPartial cells one
+  pub second : IsPartial cells other
+  pub known_is : known ≡ known_at cells one
+  pub known_is' : known' ≡ known_at cells other
 
-pub meet_none : (arguments : List ℕ) (cells : List Cell) (one other root root' : ℕ) (known known' : Known) → IsMeeting arguments cells one other root root' known known'
+pub meet_none : (arguments : List ℕ) (cells : List Cell) (one other : ℕ) (known known' : Known) → IsMeeting arguments cells one other known known'
     → joined known known' ≡ None → (types : ℕ → TypeExpr) → Solves (entries_of arguments cells) types → types one ≡ types other → ⊥
-meet_none arguments cells one other root root' known known' m none types solves same =
-    let none_at : joined (known_at cells root) (known_at cells root') ≡ None =
-    ap (λ (k : Known). joined k (known_at cells root')) (sym m.known_is) ∙ ap (joined known) (sym m.known_is') ∙ none in
-    let roots_same : types root' ≡ types root = m.leads'.same arguments types solves ∙ sym same ∙ sym (m.leads.same arguments types solves) in
-    fits_none types arguments (known_at cells root) (known_at cells root') m.leads.is_root m.leads'.is_root (m.sound.stored root) (m.sound.stored root') none_at (types root)
-    (fits types root (entry_of arguments (known_at cells root)) (solves_at arguments cells types solves root))
-    (fits_at types (entry_of arguments (known_at cells root')) (types root') (types root) roots_same
-    (fits types root' (entry_of arguments (known_at cells root')) (solves_at arguments cells types solves root')))
+meet_none arguments cells one other known known' m none types solves same =
+    let none_at : joined (known_at cells one) (known_at cells other) ≡ None =
+    ap (λ (k : Known). joined k (known_at cells other)) (sym m.known_is) ∙ ap (joined known) (sym m.known_is') ∙ none in
+    fits_none types arguments (known_at cells one) (known_at cells other) m.first.is_root m.second.is_root m.first.partial m.second.partial
+    (m.sound.stored one) (m.sound.stored other) none_at (types one)
+    (fits types one (entry_of arguments (known_at cells one)) (solves_at arguments cells types solves one))
+    (fits_at types (entry_of arguments (known_at cells other)) (types other) (types one) (sym same)
+    (fits types other (entry_of arguments (known_at cells other)) (solves_at arguments cells types solves other)))
 
 may_by : (arguments : List ℕ) (cells : List Cell) (at : ℕ) (both : Known) → IsSound arguments cells
     → (child parent : ℕ) → child < length cells → parent < length cells → child ≢ parent → root_mark (known_at cells child) ≡ 1 → root_mark (known_at cells parent) ≡ 1
@@ -147,13 +155,13 @@ may_by arguments cells at both sound child parent child_here parent_here apart c
 }
 
 -- what is known of both is as good as what was known of one of them
-may_attach : (arguments : List ℕ) (cells : List Cell) (one other root root' : ℕ) (known known' both : Known) → IsMeeting arguments cells one other root root' known known'
+may_attach : (arguments : List ℕ) (cells : List Cell) (one other : ℕ) (known known' both : Known) → IsMeeting arguments cells one other known known'
     → (child parent : ℕ) → child < length cells → parent < length cells → child ≢ parent → root_mark (known_at cells child) ≡ 1 → root_mark (known_at cells parent) ≡ 1
     → joined known known' ≡ Some both → MayAttach arguments cells child parent both
-may_attach arguments cells one other root root' known known' both m child parent child_here parent_here apart child_root parent_root some =
+may_attach arguments cells one other known known' both m child parent child_here parent_here apart child_root parent_root some =
     elim (joined_is known known' both some) [
-      | inl e ↦ may_by arguments cells root both m.sound child parent child_here parent_here apart child_root parent_root (sym m.known_is ∙ e) m.leads.is_root
-      | inr e ↦ may_by arguments cells root' both m.sound child parent child_here parent_here apart child_root parent_root (sym m.known_is' ∙ e) m.leads'.is_root
+      | inl e ↦ may_by arguments cells one both m.sound child parent child_here parent_here apart child_root parent_root (sym m.known_is ∙ e) m.first.is_root
+      | inr e ↦ may_by arguments cells other both m.sound child parent child_here parent_here apart child_root parent_root (sym m.known_is' ∙ e) m.second.is_root
     ]
 
 meets_by : (arguments : List ℕ) (cells : List Cell) (one other child parent : ℕ) (both : Known) (pairs added : List (ℕ × ℕ)) → MayAttach arguments cells child parent both
@@ -197,41 +205,94 @@ added_few arguments one other =
     let less = count_zipped (arguments_of arguments one) (arguments_of arguments other) in
     let least = count_arguments arguments one in omega arith
 
-some_at : (arguments : List ℕ) (cells : List Cell) (one other root root' : ℕ) (known known' both : Known) → IsMeeting arguments cells one other root root' known known'
-    → joined known known' ≡ Some both → joined (known_at cells root) (known_at cells root') ≡ Some both
-some_at arguments cells one other root root' known known' both m some =
-    ap (λ (k : Known). joined k (known_at cells root')) (sym m.known_is) ∙ ap (joined known) (sym m.known_is') ∙ some
+some_at : (arguments : List ℕ) (cells : List Cell) (one other : ℕ) (known known' both : Known) → IsMeeting arguments cells one other known known'
+    → joined known known' ≡ Some both → joined (known_at cells one) (known_at cells other) ≡ Some both
+some_at arguments cells one other known known' both m some =
+    ap (λ (k : Known). joined k (known_at cells other)) (sym m.known_is) ∙ ap (joined known) (sym m.known_is') ∙ some
 
 -- either root is attached to the other
-pub meets_first : (arguments : List ℕ) (cells : List Cell) (one other root root' : ℕ) (known known' both : Known) (pairs : List (ℕ × ℕ))
-    → IsMeeting arguments cells one other root root' known known' → root ≢ root' → joined known known' ≡ Some both → AllBelow (length cells) pairs
-    → Meets arguments cells (attached cells root root' both) pairs
-    (pairs ++ zipped (arguments_of arguments (known_at cells root)) (arguments_of arguments (known_at cells root'))) one other
-meets_first arguments cells one other root root' known known' both pairs m apart some below =
-    meets_by arguments cells one other root root' both pairs (zipped (arguments_of arguments (known_at cells root)) (arguments_of arguments (known_at cells root')))
-    (may_attach arguments cells one other root root' known known' both m root root' m.leads.here m.leads'.here apart m.leads.is_root m.leads'.is_root some)
+pub meets_first : (arguments : List ℕ) (cells : List Cell) (one other : ℕ) (known known' both : Known) (pairs : List (ℕ × ℕ))
+    → IsMeeting arguments cells one other known known' → one ≢ other → joined known known' ≡ Some both → AllBelow (length cells) pairs
+    → Meets arguments cells (attached cells one other both) pairs
+    (pairs ++ zipped (arguments_of arguments (known_at cells one)) (arguments_of arguments (known_at cells other))) one other
+meets_first arguments cells one other known known' both pairs m apart some below =
+    meets_by arguments cells one other one other both pairs (zipped (arguments_of arguments (known_at cells one)) (arguments_of arguments (known_at cells other)))
+    (may_attach arguments cells one other known known' both m one other m.first.here m.second.here apart m.first.is_root m.second.is_root some)
     (λ types.
-    let f = fits_both types arguments (known_at cells root) (known_at cells root') both (m.sound.stored root) (m.sound.stored root')
-    (some_at arguments cells one other root root' known known' both m some) in
+    let f = fits_both types arguments (known_at cells one) (known_at cells other) both (m.sound.stored one) (m.sound.stored other)
+    (some_at arguments cells one other known known' both m some) in
     record { apart = f.apart; together = f.together })
-    below (added_below arguments cells root root' m.sound) (added_few arguments (known_at cells root) (known_at cells root'))
-    (λ types solves e. sym (m.leads.same arguments types solves) ∙ e ∙ m.leads'.same arguments types solves)
-    (λ types solves e. m.leads.same arguments types solves ∙ e ∙ sym (m.leads'.same arguments types solves))
+    below (added_below arguments cells one other m.sound) (added_few arguments (known_at cells one) (known_at cells other))
+    (λ types solves e. e) (λ types solves e. e)
 
-pub meets_second : (arguments : List ℕ) (cells : List Cell) (one other root root' : ℕ) (known known' both : Known) (pairs : List (ℕ × ℕ))
-    → IsMeeting arguments cells one other root root' known known' → root ≢ root' → joined known known' ≡ Some both → AllBelow (length cells) pairs
-    → Meets arguments cells (attached cells root' root both) pairs
-    (pairs ++ zipped (arguments_of arguments (known_at cells root)) (arguments_of arguments (known_at cells root'))) one other
-meets_second arguments cells one other root root' known known' both pairs m apart some below =
-    meets_by arguments cells one other root' root both pairs (zipped (arguments_of arguments (known_at cells root)) (arguments_of arguments (known_at cells root')))
-    (may_attach arguments cells one other root root' known known' both m root' root m.leads'.here m.leads.here (λ e. apart (sym e)) m.leads'.is_root m.leads.is_root some)
+pub meets_second : (arguments : List ℕ) (cells : List Cell) (one other : ℕ) (known known' both : Known) (pairs : List (ℕ × ℕ))
+    → IsMeeting arguments cells one other known known' → one ≢ other → joined known known' ≡ Some both → AllBelow (length cells) pairs
+    → Meets arguments cells (attached cells other one both) pairs
+    (pairs ++ zipped (arguments_of arguments (known_at cells one)) (arguments_of arguments (known_at cells other))) one other
+meets_second arguments cells one other known known' both pairs m apart some below =
+    meets_by arguments cells one other other one both pairs (zipped (arguments_of arguments (known_at cells one)) (arguments_of arguments (known_at cells other)))
+    (may_attach arguments cells one other known known' both m other one m.second.here m.first.here (λ e. apart (sym e)) m.second.is_root m.first.is_root some)
     (λ types.
-    let f = fits_both types arguments (known_at cells root) (known_at cells root') both (m.sound.stored root) (m.sound.stored root')
-    (some_at arguments cells one other root root' known known' both m some) in
+    let f = fits_both types arguments (known_at cells one) (known_at cells other) both (m.sound.stored one) (m.sound.stored other)
+    (some_at arguments cells one other known known' both m some) in
     record {
       apart = λ type fit same. let both_fit = f.apart type fit same in (both_fit.1, both_fit.0);
       together = λ type fit fit'. f.together type fit' fit;
     })
-    below (added_below arguments cells root root' m.sound) (added_few arguments (known_at cells root) (known_at cells root'))
-    (λ types solves e. sym (m.leads.same arguments types solves) ∙ sym e ∙ m.leads'.same arguments types solves)
-    (λ types solves e. m.leads'.same arguments types solves ∙ sym e ∙ sym (m.leads.same arguments types solves))
+    below (added_below arguments cells one other m.sound) (added_few arguments (known_at cells one) (known_at cells other))
+    (λ types solves e. sym e) (λ types solves e. sym e)
+
+-- What solves the equations with equal types at two roots does so with equal types at two places that lead to them.
+pub meets_through : (met : Bool) (arguments : List ℕ) (cells new : List Cell) (pairs pairs' : List (ℕ × ℕ)) (one other root root' : ℕ) → LeadsTo cells one root
+    → LeadsTo cells other root' → MeetsOrDiffers met arguments cells new pairs pairs' root root' → MeetsOrDiffers met arguments cells new pairs pairs' one other
+meets_through true arguments cells new pairs pairs' one other root root' leads leads' meets = record {
+  sound = meets.sound;
+  count = meets.count;
+  below = meets.below;
+  equal = λ types. (
+    (λ h.
+        let before = (meets.equal types).0 h in
+        (before.0, before.1, sym (leads.same arguments types before.0) ∙ before.2 ∙ leads'.same arguments types before.0)),
+    (λ h. (meets.equal types).1 (h.0, h.1, leads.same arguments types h.0 ∙ h.2 ∙ sym (leads'.same arguments types h.0))),
+  );
+  less = meets.less;
+}
+meets_through false arguments cells new pairs pairs' one other root root' leads leads' differs = λ types solves same.
+    differs types solves (leads.same arguments types solves ∙ same ∙ sym (leads'.same arguments types solves))
+
+-- one of two places leads to a root that is known as a whole, and the other is given this type
+pub whole_first : (fixed : Bool) (arguments : List ℕ) (cells new : List Cell) (pairs : List (ℕ × ℕ)) (one other root : ℕ) (whole : TypeExpr) → LeadsTo cells one root
+    → known_at cells root ≡ Whole whole → AllBelow (length cells) pairs → FixesOrDiffers fixed arguments cells new other whole
+    → MeetsOrDiffers fixed arguments cells new pairs pairs one other
+whole_first true arguments cells new pairs one other root whole leads is below fixes =
+    let there : (types : ℕ → TypeExpr) → Solves (entries_of arguments cells) types → types one ≡ whole =
+    λ (types : ℕ → TypeExpr) (solves : Solves (entries_of arguments cells) types).
+    sym (leads.same arguments types solves) ∙ subst (λ (k : Known). Agrees types root (entry_of arguments k)) is (solves_at arguments cells types solves root) in
+    record {
+      sound = fixes.sound;
+      count = fixes.count;
+      below = subst (λ (n : ℕ). AllBelow n pairs) (sym fixes.count) below;
+      equal = λ types. (
+        (λ h. let before = (fixes.equal types).0 h.0 in (before.0, h.1, there types before.0 ∙ sym before.1)),
+        (λ h. ((fixes.equal types).1 (h.0, sym h.2 ∙ there types h.0), h.1)),
+      );
+      less = let same : roots new * (length arguments + 1) ≡ roots cells * (length arguments + 1) = ap (λ (n : ℕ). n * (length arguments + 1)) fixes.same_roots in omega arith;
+    }
+whole_first false arguments cells new pairs one other root whole leads is below differs = λ types solves same.
+    let there : types one ≡ whole =
+    sym (leads.same arguments types solves) ∙ subst (λ (k : Known). Agrees types root (entry_of arguments k)) is (solves_at arguments cells types solves root) in
+    differs types solves (sym same ∙ there)
+
+pub meets_swapped : (met : Bool) (arguments : List ℕ) (cells new : List Cell) (pairs pairs' : List (ℕ × ℕ)) (one other : ℕ)
+    → MeetsOrDiffers met arguments cells new pairs pairs' one other → MeetsOrDiffers met arguments cells new pairs pairs' other one
+meets_swapped true arguments cells new pairs pairs' one other meets = record {
+  sound = meets.sound;
+  count = meets.count;
+  below = meets.below;
+  equal = λ types. (
+    (λ h. let before = (meets.equal types).0 h in (before.0, before.1, sym before.2)),
+    (λ h. (meets.equal types).1 (h.0, h.1, sym h.2)),
+  );
+  less = meets.less;
+}
+meets_swapped false arguments cells new pairs pairs' one other differs = λ types solves same. differs types solves (sym same)

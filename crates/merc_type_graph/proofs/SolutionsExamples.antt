@@ -1,7 +1,7 @@
 -- Equations, by example.
 use Rattle.std.specs.Prelude.{◌≡◌, ℕ, true, false, zero, suc, List, [], ◌∷◌, refl}
 use Rattle.merc_tree.specs.Types.{TypeExpr, TypeVariable, IntType, TextType, TypeApplication, no_types, more_types}
-use Rattle.merc_type_graph.specs.Solutions.{Entry, Unknown, Own, IntEntry, TextEntry, Applied, Link, Solves}
+use Rattle.merc_type_graph.specs.Solutions.{Entry, Unknown, Own, IntEntry, TextEntry, WholeEntry, Applied, Link, Solves}
 use Rattle.merc_type_graph.specs.Changes.{Decides, MakesEqual}
 
 -- a list of what stands at place 1, which is `int`

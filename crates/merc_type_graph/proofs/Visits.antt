@@ -6,13 +6,13 @@ use Rattle.std.proofs.lemmas.Bool.Decides.{nat_tests}
 use Rattle.std.proofs.lemmas.Option.{slice_get_within}
 use Rattle.std.proofs.Math.Nat.{mul-le-mul_right}
 use Rattle.merc_tree.specs.Types.{TypeExpr, IntType, TextType, TypeVariable, TypeApplication, types_of}
-use Rattle.merc_type_graph.specs.Solutions.{Entry, Unknown, Own, IntEntry, TextEntry, Applied, Link, Agrees, Solves}
+use Rattle.merc_type_graph.specs.Solutions.{Entry, Unknown, Own, IntEntry, TextEntry, WholeEntry, Applied, Link, Agrees, Solves}
 use Rattle.merc_type_graph.specs.Cells.{entry_of, entries_of, needs_of, known_at, IsSound}
 use Rattle.merc_type_graph.specs.Visiting.{needs_at, mark_at, weight, Passed, IsSettled, IsVisiting, new_mark, news, Advance}
 use Rattle.merc_type_graph.specs.declared.visiting.Mark.{Mark}
 use Rattle.merc_type_graph.specs.declared.visiting.Mark.TheVariants.{New, Open, Done}
 use Rattle.merc_type_graph.specs.declared.cell.Known.{Known}
-use Rattle.merc_type_graph.specs.declared.cell.Known.TheVariants.{Nothing, Variable, Int, Text, Named, SameAs}
+use Rattle.merc_type_graph.specs.declared.cell.Known.TheVariants.{Nothing, Variable, Int, Text, Whole, Named, SameAs}
 use Rattle.merc_type_graph.specs.declared.cell.Cell.{Cell}
 use Rattle.merc_type_graph.proofs.Attaching.{same_or_not}
 use Rattle.merc_type_graph.proofs.Weights.{lighter}
@@ -43,6 +43,7 @@ agrees_alike types types' i Unknown here alike agrees = tt
 agrees_alike types types' i (Own name) here alike agrees = here ∙ agrees
 agrees_alike types types' i IntEntry here alike agrees = here ∙ agrees
 agrees_alike types types' i TextEntry here alike agrees = here ∙ agrees
+agrees_alike types types' i (WholeEntry whole) here alike agrees = here ∙ agrees
 agrees_alike types types' i (Applied name arguments) here alike agrees =
     here ∙ agrees ∙ sym (ap (λ (l : List TypeExpr). TypeApplication name (types_of l)) (map_alike types types' arguments alike))
 agrees_alike types types' i (Link place) here alike agrees = here ∙ agrees ∙ sym (alike zero place refl)
@@ -53,6 +54,7 @@ type_for types Unknown = IntType
 type_for types (Own name) = TypeVariable name
 type_for types IntEntry = IntType
 type_for types TextEntry = TextType
+type_for types (WholeEntry whole) = whole
 type_for types (Applied name arguments) = TypeApplication name (types_of (map types arguments))
 type_for types (Link place) = types place
 
@@ -62,6 +64,7 @@ agrees_new types types' i Unknown here alike = tt
 agrees_new types types' i (Own name) here alike = here
 agrees_new types types' i IntEntry here alike = here
 agrees_new types types' i TextEntry here alike = here
+agrees_new types types' i (WholeEntry whole) here alike = here
 agrees_new types types' i (Applied name arguments) here alike =
     here ∙ sym (ap (λ (l : List TypeExpr). TypeApplication name (types_of l)) (map_alike types types' arguments alike))
 agrees_new types types' i (Link place) here alike = here ∙ sym (alike zero place refl)
@@ -111,6 +114,7 @@ count_needs arguments Nothing = omega arith
 count_needs arguments (Variable name) = omega arith
 count_needs arguments Int = omega arith
 count_needs arguments Text = omega arith
+count_needs arguments (Whole whole) = omega arith
 count_needs arguments (Named name first count) = omega (arith, length-take count (drop first arguments), length-drop first arguments)
 count_needs arguments (SameAs place) = omega arith
 
@@ -120,6 +124,7 @@ next_small arguments Nothing next place e = absurd (cc)
 next_small arguments (Variable name) next place e = absurd (cc)
 next_small arguments Int next place e = absurd (cc)
 next_small arguments Text next place e = absurd (cc)
+next_small arguments (Whole whole) next place e = absurd (cc)
 next_small arguments (Named name first count) next place e =
     let within = slice_get_within (take count (drop first arguments)) next place e in
     inl (omega (arith, length-take count (drop first arguments), length-drop first arguments))

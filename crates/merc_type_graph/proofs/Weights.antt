@@ -7,7 +7,7 @@ use Rattle.merc_type_graph.specs.Solutions.{Agrees, Solves}
 use Rattle.merc_type_graph.specs.Cells.{entry_of, entries_of, needs_of, known_at, rank_at, IsForest, IsSound}
 use Rattle.merc_type_graph.specs.Visiting.{size, sizes, needs_at, weight}
 use Rattle.merc_type_graph.specs.declared.cell.Known.{Known}
-use Rattle.merc_type_graph.specs.declared.cell.Known.TheVariants.{Nothing, Variable, Int, Text, Named, SameAs}
+use Rattle.merc_type_graph.specs.declared.cell.Known.TheVariants.{Nothing, Variable, Int, Text, Whole, Named, SameAs}
 use Rattle.merc_type_graph.specs.declared.cell.Cell.{Cell}
 use Rattle.merc_type_graph.proofs.Entries.{solves_at}
 
@@ -35,6 +35,7 @@ less_known arguments cells types i place number Nothing forest e agrees need = a
 less_known arguments cells types i place number (Variable name) forest e agrees need = absurd (cc)
 less_known arguments cells types i place number Int forest e agrees need = absurd (cc)
 less_known arguments cells types i place number Text forest e agrees need = absurd (cc)
+less_known arguments cells types i place number (Whole whole) forest e agrees need = absurd (cc)
 less_known arguments cells types i place number (Named name first count) forest e agrees need =
     let inner = argument_smaller types (needs_of (entry_of arguments (Named name first count))) number place need in
     let whole : size (types i) ≡ suc (sizes (types_of (map types (needs_of (entry_of arguments (Named name first count)))))) = ap size agrees in

@@ -1,9 +1,9 @@
 -- What a graph keeps for each place, as entries.
 use Rattle.std.specs.Prelude.{◌≡◌, ℕ, ◌+◌, ◌<◌, ◌≤◌, List, [], ◌∷◌, map, length, take, drop, slice_index_or, slice_get, Some}
 use Rattle.merc_tree.specs.Types.{TypeExpr}
-use Rattle.merc_type_graph.specs.Solutions.{Entry, Unknown, Own, IntEntry, TextEntry, Applied, Link, Solves}
+use Rattle.merc_type_graph.specs.Solutions.{Entry, Unknown, Own, IntEntry, TextEntry, WholeEntry, Applied, Link, Solves}
 use Rattle.merc_type_graph.specs.declared.cell.Known.{Known}
-use Rattle.merc_type_graph.specs.declared.cell.Known.TheVariants.{Nothing, Variable, Int, Text, Named, SameAs}
+use Rattle.merc_type_graph.specs.declared.cell.Known.TheVariants.{Nothing, Variable, Int, Text, Whole, Named, SameAs}
 use Rattle.merc_type_graph.specs.declared.cell.Cell.{Cell}
 
 -- what is known, with the arguments of all types in one list, as an entry
@@ -12,6 +12,7 @@ entry_of arguments Nothing = Unknown
 entry_of arguments (Variable name) = Own name
 entry_of arguments Int = IntEntry
 entry_of arguments Text = TextEntry
+entry_of arguments (Whole whole) = WholeEntry whole
 entry_of arguments (Named name first count) = Applied name (take count (drop first arguments))
 entry_of arguments (SameAs place) = Link place
 
@@ -24,6 +25,7 @@ needs_of Unknown = []
 needs_of (Own name) = []
 needs_of IntEntry = []
 needs_of TextEntry = []
+needs_of (WholeEntry whole) = []
 needs_of (Applied name arguments) = arguments
 needs_of (Link place) = place ∷ []
 
@@ -33,6 +35,7 @@ IsStored many Nothing = Unit {0}
 IsStored many (Variable name) = Unit {0}
 IsStored many Int = Unit {0}
 IsStored many Text = Unit {0}
+IsStored many (Whole whole) = Unit {0}
 IsStored many (Named name first count) = first + count ≤ many
 IsStored many (SameAs place) = Unit {0}
 
@@ -51,6 +54,7 @@ root_mark Nothing = 1
 root_mark (Variable name) = 1
 root_mark Int = 1
 root_mark Text = 1
+root_mark (Whole whole) = 1
 root_mark (Named name first count) = 1
 root_mark (SameAs place) = 0
 

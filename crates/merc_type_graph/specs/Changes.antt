@@ -18,6 +18,12 @@ MakesEqual true old new one other =
     (length new ≡ length old) × ((types : ℕ → TypeExpr) → Solves new types ↔ (Solves old types × (types one ≡ types other)))
 MakesEqual false old new one other = (types : ℕ → TypeExpr) → Solves old types → types one ≡ types other → ⊥
 
+-- A place that is given a type: what solved the old equations and has this type there solves the new ones, and nothing else does. Or nothing did.
+abbrev pub MakesWhole : Bool → List Entry → List Entry → ℕ → TypeExpr → Type 0
+MakesWhole true old new place whole =
+    (length new ≡ length old) × ((types : ℕ → TypeExpr) → Solves new types ↔ (Solves old types × (types place ≡ whole)))
+MakesWhole false old new place whole = (types : ℕ → TypeExpr) → Solves old types → types place ≡ whole → ⊥
+
 -- There are types that solve the equations, or there are none.
 abbrev pub Decides : Bool → List Entry → Type 0
 Decides true entries = (types : ℕ → TypeExpr) × Solves entries types

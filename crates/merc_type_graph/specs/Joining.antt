@@ -2,12 +2,28 @@
 use Rattle.std.specs.Prelude.{◌≡◌, ℕ, suc, ◌+◌, ◌*◌, ◌<◌, max, Bool, true, false, ◌&&◌, ◌==◌, ◌↔◌, List, [], ◌∷◌, length, take, drop, slice_set, Option, Some, None, if◌then◌else◌}
 use Rattle.merc_tree.specs.Types.{TypeExpr}
 use Rattle.merc_type_graph.specs.Solutions.{Solves}
-use Rattle.merc_type_graph.specs.Cells.{entries_of, rank_at, roots, IsSound}
+use Rattle.merc_type_graph.specs.Cells.{entries_of, known_at, rank_at, root_mark, roots, IsSound}
 use Rattle.merc_type_graph.specs.declared.cell.Known.{Known}
-use Rattle.merc_type_graph.specs.declared.cell.Known.TheVariants.{Nothing, Variable, Int, Text, Named, SameAs}
+use Rattle.merc_type_graph.specs.declared.cell.Known.TheVariants.{Nothing, Variable, Int, Text, Whole, Named, SameAs}
 use Rattle.merc_type_graph.specs.declared.cell.Cell.{Cell}
 
--- What is known of a type of which both are known, but for the arguments of the second; None where no type is both.
+-- whether a type is known as a whole
+abbrev pub is_whole : Known → Bool
+is_whole Nothing = false
+is_whole (Variable name) = false
+is_whole Int = false
+is_whole Text = false
+is_whole (Whole whole) = true
+is_whole (Named name first count) = false
+is_whole (SameAs place) = false
+
+-- a root that is not known as a whole
+pub record IsPartial (cells : List Cell) (place : ℕ) : Type 0 where
+  pub here : place < length cells
+  pub is_root : root_mark (known_at cells place) ≡ 1
+  pub partial : is_whole (known_at cells place) ≡ false
+
+-- What is known of a type of which both are known, neither as a whole, but for the arguments of the second; None where no type is both.
 abbrev pub joined : Known → Known → Option Known
 joined Nothing other = Some other
 joined (Variable name) Nothing = Some (Variable name)
@@ -22,6 +38,7 @@ joined Text other = None
 joined (Named name first count) Nothing = Some (Named name first count)
 joined (Named name first count) (Named name' first' count') = if (name == name') && (count == count') then Some (Named name first count) else None
 joined (Named name first count) other = None
+joined (Whole whole) other = None
 joined (SameAs place) other = None
 
 -- the arguments of a type
@@ -30,6 +47,7 @@ arguments_of arguments Nothing = []
 arguments_of arguments (Variable name) = []
 arguments_of arguments Int = []
 arguments_of arguments Text = []
+arguments_of arguments (Whole whole) = []
 arguments_of arguments (Named name first count) = take count (drop first arguments)
 arguments_of arguments (SameAs place) = []
 

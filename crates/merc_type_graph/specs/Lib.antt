@@ -1,5 +1,6 @@
 pub mod Cells
 pub mod Changes
+pub mod Fixing
 pub mod Fresh
 pub mod Joining
 pub mod Solutions

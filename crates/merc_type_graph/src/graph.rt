@@ -1,14 +1,16 @@
 //! Graphs of types.
 ghost use Rattle.std.specs.Prelude.{◌≡◌, ◌+◌, ◌<◌, ◌++◌, ◌∷◌, [], length, IfOk, OnOk, OnErr};
 ghost use Rattle.merc_type_graph.specs.Cells.{entries_of, entry_of, needs_of, root_mark, IsSound, IsStored};
-ghost use Rattle.merc_type_graph.specs.Changes.{AllWithin, Adds, Decides, MakesEqual};
+ghost use Rattle.merc_type_graph.specs.Changes.{AllWithin, Adds, Decides, MakesEqual, MakesWhole};
 ghost use Rattle.merc_type_graph.specs.Solutions.{Unknown, Own, IntEntry, TextEntry, Applied};
 
 use crate::Place;
 use crate::cell::{Cell, Known};
+use crate::fixing::fix;
 use crate::joining::equate;
 use crate::visiting::decide;
 use merc_base::{Name, NoMemory};
+use merc_tree::TypeRef;
 use std::alloc::Global;
 use std::marker::Model;
 
@@ -17,17 +19,22 @@ use std::marker::Model;
 /// With n places and arguments in all, adding them and making them equal takes time of the order of n log n, and the
 /// question whether there is a solution takes time of the order of n.
 #[derive(Drop)]
-pub struct TypeGraph {
+pub struct TypeGraph<'a> {
     alloc: Global,
     arguments: Vec<Place>,
-    cells: Vec<Cell>,
+    cells: Vec<Cell<'a>>,
 }
 
-impl Model for TypeGraph {
+impl<'a> Model for TypeGraph<'a> {
     ghost use Rattle.std.specs.Prelude.{List};
     ghost use Rattle.merc_type_graph.specs.Solutions.{Entry};
 
     ghost Value = { List Entry };
+
+    ghost use Rattle.std.specs.Coded.{codes};
+    ghost use Rattle.merc_tree.specs.TypeTerms.{type_code};
+
+    ghost coded = { Prim.hlevel (codes, type_code) };
 
     ghost use Rattle.merc_type_graph.specs.Cells.{entries_of, IsSound};
 
@@ -36,9 +43,9 @@ impl Model for TypeGraph {
     ghost invariant = { λ g. IsSound g.arguments.items g.cells.items };
 }
 
-impl TypeGraph {
+impl<'a> TypeGraph<'a> {
     /// A graph with no places. It takes no memory before one is added.
-    pub fn new(alloc: Global) -> TypeGraph
+    pub fn new(alloc: Global) -> TypeGraph<'a>
         ensures { result ≡ [] }
     {
         TypeGraph {
@@ -118,6 +125,16 @@ impl TypeGraph {
         equate(self.alloc, &self.arguments, &mut self.cells, one, other)
     }
 
+    /// Makes the type at a place a whole type, in which type variables stand for themselves. It takes no more time than
+    /// the whole type and what is known of its parts, and none that hangs on the whole type where nothing is known at the
+    /// place. False where no types that solve the equations have this type there: the graph is of no use then.
+    pub fn make_whole(&mut self, place: Place, whole: &TypeRef<'a>) -> Result<bool, NoMemory>
+        requires { place < length self.old }
+        ensures { IfOk result (λ done. MakesWhole done self.old self.new place whole.now) }
+    {
+        fix(self.alloc, &self.arguments, &mut self.cells, place, whole)
+    }
+
     /// Whether there are types that solve the equations.
     pub fn is_solvable(&self, alloc: Global) -> Result<bool, NoMemory>
         ensures { IfOk result (λ solvable. Decides solvable self.now) }
@@ -127,14 +144,18 @@ impl TypeGraph {
 }
 
 // Adds a place of which this is known.
-fn add(arguments: &[Place], cells: &mut Vec<Cell>, known: Known) -> Result<Place, NoMemory>
+fn add<'a>(
+    arguments: &[Place],
+    cells: &mut Vec<Cell<'a>>,
+    known: Known<'a>,
+) -> Result<Place, NoMemory>
     requires sound { IsSound arguments.now cells.old.items }
     requires stored { IsStored (length arguments.now) known }
     requires root { root_mark known ≡ 1 }
     requires within { AllWithin (length cells.old.items) (needs_of (entry_of arguments.now known)) }
     ensures sound { IsSound arguments.now cells.new.items }
     ensures place { IfOk result (λ place. place ≡ length cells.old.items) }
-    ensures added { OnOk result (entries_of arguments.now cells.new.items ≡ entries_of arguments.now cells.old.items ++ entry_of arguments.now known ∷ []) }
+    ensures added { OnOk result (entries_of arguments.now cells.new.items ≡ entries_of arguments.now cells.old.items ++ entry_of arguments.now known.entry ∷ []) }
     ensures kept { OnErr result (cells.new.items ≡ cells.old.items) }
 {
     let place = Place::at(cells.len());
@@ -145,7 +166,7 @@ fn add(arguments: &[Place], cells: &mut Vec<Cell>, known: Known) -> Result<Place
 // Adds a place of a type's name over the types at these places.
 fn add_application(
     arguments: &mut Vec<Place>,
-    cells: &mut Vec<Cell>,
+    cells: &mut Vec<Cell<'_>>,
     name: Name,
     added: &[Place],
 ) -> Result<Place, NoMemory>

@@ -1,10 +1,11 @@
 //! Places made one, by joining the roots that they lead to.
 ghost use Rattle.std.specs.Prelude.{◌≡◌, ◌≢◌, ◌+◌, ◌<◌, ◌≤◌, ◌++◌, length, IfOk, OnOk};
 ghost use Rattle.merc_type_graph.specs.Cells.{known_at, rank_at, IsSound, IsStored};
-ghost use Rattle.merc_type_graph.specs.Joining.{arguments_of, attached, joined, zipped, AllBelow, Equates, MeetsOrDiffers};
+ghost use Rattle.merc_type_graph.specs.Joining.{arguments_of, attached, joined, zipped, AllBelow, Equates, IsPartial, MeetsOrDiffers};
 
 use crate::Place;
 use crate::cell::{Cell, Known, root_of};
+use crate::fixing::{fix, whole_at};
 use merc_base::NoMemory;
 use std::alloc::Global;
 
@@ -12,7 +13,7 @@ use std::alloc::Global;
 pub(crate) fn equate(
     alloc: Global,
     arguments: &[Place],
-    cells: &mut [Cell],
+    cells: &mut [Cell<'_>],
     one: Place,
     other: Place,
 ) -> Result<bool, NoMemory>
@@ -25,7 +26,7 @@ pub(crate) fn equate(
     let mut pairs = Vec::new(alloc);
     pairs.push((one, other))?;
     while let Some(pair) = pairs.pop() {
-        if !meet(arguments, cells, pair.0, pair.1, &mut pairs)? {
+        if !meet(alloc, arguments, cells, pair.0, pair.1, &mut pairs)? {
             return Ok(false);
         }
     }
@@ -34,8 +35,9 @@ pub(crate) fn equate(
 
 // Makes two places one, and puts the pairs of their arguments on the list. False where they clash.
 fn meet(
+    alloc: Global,
     arguments: &[Place],
-    cells: &mut [Cell],
+    cells: &mut [Cell<'_>],
     one: Place,
     other: Place,
     pairs: &mut Vec<(Place, Place)>,
@@ -47,12 +49,38 @@ fn meet(
     ensures sound { IsSound arguments.now cells.new }
     ensures made { IfOk result (λ met. MeetsOrDiffers met arguments.now cells.old cells.new pairs.old.items pairs.new.items one other) }
 {
-    let one = root_of(cells, one.index());
-    let other = root_of(cells, other.index());
-    if one == other {
+    let first = root_of(cells, one.index());
+    let second = root_of(cells, other.index());
+    if first == second {
         return Ok(true);
     }
-    let both = match joined(cells[one].known, cells[other].known) {
+    if let Some(whole) = whole_at(cells, first) {
+        return fix(alloc, arguments, cells, other, &whole);
+    }
+    if let Some(whole) = whole_at(cells, second) {
+        return fix(alloc, arguments, cells, one, &whole);
+    }
+    join(arguments, cells, first, second, pairs)
+}
+
+// Makes two roots one, and puts the pairs of their arguments on the list. False where they clash.
+fn join(
+    arguments: &[Place],
+    cells: &mut [Cell<'_>],
+    one: usize,
+    other: usize,
+    pairs: &mut Vec<(Place, Place)>,
+) -> Result<bool, NoMemory>
+    requires sound { IsSound arguments.now cells.old }
+    requires one { IsPartial cells.old one }
+    requires other { IsPartial cells.old other }
+    requires apart { one ≢ other }
+    requires pairs { AllBelow (length cells.old) pairs.old.items }
+    ensures sound { IsSound arguments.now cells.new }
+    ensures made { IfOk result (λ met. MeetsOrDiffers met arguments.now cells.old cells.new pairs.old.items pairs.new.items one other) }
+{
+    let shared = &cells[..];
+    let both = match joined(&shared[one].known, &shared[other].known) {
         Some(both) => both,
         None => return Ok(false),
     };
@@ -70,51 +98,61 @@ fn meet(
 }
 
 // What is known of a type of which both are known, None where no type is both.
-fn joined(one: Known, other: Known) -> Option<Known>
-    ensures { result ≡ joined one other }
+fn joined<'a>(one: &Known<'a>, other: &Known<'a>) -> Option<Known<'a>>
+    ensures { result ≡ joined one.now other.now }
 {
     match one {
-        Known::Nothing => Some(other),
+        Known::Nothing => Some(other.copy()),
         Known::Variable(name) => match other {
-            Known::Nothing => Some(one),
-            Known::Variable(other_name) => { if name == other_name { Some(one) } else { None } }
-            _ => None,
-        },
-        Known::Int => match other {
-            Known::Nothing | Known::Int => Some(one),
-            _ => None,
-        },
-        Known::Text => match other {
-            Known::Nothing | Known::Text => Some(one),
-            _ => None,
-        },
-        Known::Named { name, count, .. } => match other {
-            Known::Nothing => Some(one),
-            Known::Named {
-                name: other_name,
-                count: other_count,
-                ..
-            } => {
-                if name == other_name && count == other_count {
-                    Some(one)
+            Known::Nothing => Some(Known::Variable(*name)),
+            Known::Variable(other_name) => {
+                if *name == *other_name {
+                    Some(Known::Variable(*name))
                 } else {
                     None
                 }
             }
             _ => None,
         },
-        Known::SameAs(_) => None,
+        Known::Int => match other {
+            Known::Nothing | Known::Int => Some(Known::Int),
+            _ => None,
+        },
+        Known::Text => match other {
+            Known::Nothing | Known::Text => Some(Known::Text),
+            _ => None,
+        },
+        Known::Named { name, count, .. } => match other {
+            Known::Nothing => Some(one.copy()),
+            Known::Named {
+                name: other_name,
+                count: other_count,
+                ..
+            } => {
+                if *name == *other_name && *count == *other_count {
+                    Some(one.copy())
+                } else {
+                    None
+                }
+            }
+            _ => None,
+        },
+        Known::Whole(_) | Known::SameAs(_) => None,
     }
 }
 
-// The arguments of the type at a place.
-fn arguments_at<'a>(arguments: &'a [Place], cells: &[Cell], place: usize) -> &'a [Place]
+/// The arguments of the type at a place.
+pub(crate) fn arguments_at<'a>(
+    arguments: &'a [Place],
+    cells: &[Cell<'_>],
+    place: usize,
+) -> &'a [Place]
     requires stored { IsStored (length arguments.now) (known_at cells.now place) }
     requires there { place < length cells.now }
     ensures { result.now ≡ arguments_of arguments.now (known_at cells.now place) }
 {
-    match cells[place].known {
-        Known::Named { first, count, .. } => &arguments[first..first + count],
+    match &cells[place].known {
+        Known::Named { first, count, .. } => &arguments[*first..*first + *count],
         _ => &[],
     }
 }
@@ -134,11 +172,11 @@ fn push_pairs(
 }
 
 // Lets one root lead to another, of which this is known now.
-fn attach(cells: &mut [Cell], child: usize, parent: usize, known: Known)
+fn attach<'a>(cells: &mut [Cell<'a>], child: usize, parent: usize, known: Known<'a>)
     requires child { child < length cells.old }
     requires parent { parent < length cells.old }
     requires room { rank_at cells.old child + 1 ≤ length cells.old }
-    ensures { cells.new ≡ attached cells.old child parent known }
+    ensures { cells.new ≡ attached cells.old child parent known.entry }
 {
     let child_rank = cells[child].rank;
     let rank = cells[parent].rank.max(child_rank + 1);

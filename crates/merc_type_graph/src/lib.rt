@@ -2,11 +2,10 @@
 #![tactic(auto)]
 
 mod cell;
+mod fixing;
 pub mod graph;
 mod joining;
 pub mod place;
-#[cfg(test)]
-mod tests;
 mod visiting;
 
 pub use graph::TypeGraph;

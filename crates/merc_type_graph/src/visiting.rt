@@ -22,7 +22,11 @@ pub(crate) enum Mark {
 }
 
 /// Whether there are types that solve the equations. Each place is visited once, after those that it needs.
-pub(crate) fn decide(alloc: Global, arguments: &[Place], cells: &[Cell]) -> Result<bool, NoMemory>
+pub(crate) fn decide(
+    alloc: Global,
+    arguments: &[Place],
+    cells: &[Cell<'_>],
+) -> Result<bool, NoMemory>
     requires { IsSound arguments.now cells.now }
     ensures { IfOk result (λ solvable. Decides solvable (entries_of arguments.now cells.now)) }
 {
@@ -34,7 +38,7 @@ pub(crate) fn decide(alloc: Global, arguments: &[Place], cells: &[Cell]) -> Resu
 fn visit_all(
     alloc: Global,
     arguments: &[Place],
-    cells: &[Cell],
+    cells: &[Cell<'_>],
     marks: &mut [Mark],
 ) -> Result<bool, NoMemory>
     requires sound { IsSound arguments.now cells.now }
@@ -54,7 +58,7 @@ fn visit_all(
 fn visit_once(
     alloc: Global,
     arguments: &[Place],
-    cells: &[Cell],
+    cells: &[Cell<'_>],
     start: usize,
     marks: &mut [Mark],
 ) -> Result<bool, NoMemory>
@@ -74,7 +78,7 @@ fn visit_once(
 fn visit(
     alloc: Global,
     arguments: &[Place],
-    cells: &[Cell],
+    cells: &[Cell<'_>],
     start: usize,
     marks: &mut [Mark],
 ) -> Result<bool, NoMemory>
@@ -99,7 +103,7 @@ fn visit(
 // Looks at the next place that a place needs. False where the visit of that one is what led here.
 fn advance(
     arguments: &[Place],
-    cells: &[Cell],
+    cells: &[Cell<'_>],
     frame: (usize, usize),
     marks: &mut [Mark],
     stack: &mut Vec<(usize, usize)>,
@@ -109,7 +113,7 @@ fn advance(
     ensures { IfOk result (λ fine. Advances fine arguments.now cells.now marks.old marks.new (frame ∷ reverse stack.old.items) (reverse stack.new.items)) }
 {
     let (place, next) = frame;
-    let need = match need_at(cells[place].known, arguments, next) {
+    let need = match need_at(&cells[place].known, arguments, next) {
         Some(need) => need,
         None => {
             marks[place] = Mark::Done;

@@ -1,27 +1,32 @@
 -- What the definitions of Block say of a small block: a pair that holds one list twice.
-use Rattle.std.proofs.Common.{◌≡◌, ◌<◌, pos, [], ◌∷◌, refl, arith}
+use Rattle.std.proofs.Common.{◌≡◌, ℕ, ◌<◌, pos, [], ◌∷◌, refl, arith}
+use Rattle.merc_base.specs.Names.{cons_name, nil_name, some_name}
 use Rattle.merc_value.specs.Value.{Value, Int, Text, Con, none, more}
 use Rattle.merc_value.specs.Block.{BlockData, StandsFor, int, atom, cell, nothing, both, IsBelow, IsWhole, cell_values, value_of, root_values}
 use Rattle.merc_value.specs.declared.word.Word.TheVariants.{Int as IntWord, Text as TextWord, Atom as AtomWord, Cell as CellWord}
 
+-- a name behind the constants
+abbrev pair_name : ℕ
+pair_name = 90
+
 -- `[7]`, and the pair of it with itself
 abbrev pub shared : BlockData
 shared = record {
-  cells = record { symbol = 2; arguments = IntWord (pos 7) ∷ AtomWord 1 ∷ [] } ∷ record { symbol = 90; arguments = CellWord 0 ∷ CellWord 0 ∷ [] } ∷ [];
-  roots = CellWord 1 ∷ TextWord 4 ∷ [];
+  cells = record { symbol = cons_name; arguments = IntWord (pos 7) ∷ AtomWord nil_name ∷ [] } ∷ record { symbol = pair_name; arguments = CellWord 0 ∷ CellWord 0 ∷ [] } ∷ [];
+  roots = CellWord 1 ∷ TextWord some_name ∷ [];
 }
 
 abbrev pub seven : Value
-seven = Con 2 (more (Int (pos 7)) (more (Con 1 none) none))
+seven = Con cons_name (more (Int (pos 7)) (more (Con nil_name none) none))
 
-pub value_of-example : value_of shared.cells (CellWord 1) ≡ Con 90 (more seven (more seven none))
+pub value_of-example : value_of shared.cells (CellWord 1) ≡ Con pair_name (more seven (more seven none))
 unfolding cell_values
 value_of-example = refl
 
 pub StandsFor-example : StandsFor shared.cells (CellWord 0) seven
-StandsFor-example = cell 0 _ _ refl (both _ _ _ _ (int (pos 7)) (both _ _ _ _ (atom 1) nothing))
+StandsFor-example = cell 0 _ _ refl (both _ _ _ _ (int (pos 7)) (both _ _ _ _ (atom nil_name) nothing))
 
-pub root_values-example : root_values shared ≡ Con 90 (more seven (more seven none)) ∷ Text 4 ∷ []
+pub root_values-example : root_values shared ≡ Con pair_name (more seven (more seven none)) ∷ Text some_name ∷ []
 unfolding cell_values
 root_values-example = refl
 

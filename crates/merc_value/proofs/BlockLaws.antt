@@ -2,7 +2,7 @@
 use Rattle.std.proofs.Common.{◌≡◌, ℕ, zero, suc, ◌<◌, ◌≤◌, List, [], ◌∷◌, ◌++◌, length, Some, get_or, refl, sym, ap, subst, ◌∙◌, arith, slice_get}
 use Rattle.std.specs.List.{All}
 use Rattle.merc_value.specs.Value.{Value, Values, Con, none}
-use Rattle.merc_value.specs.Block.{CellData, BlockData, StandsFor, StandForAll, int, text, atom, cell, nothing, both, IsBelow, AreLower, IsWhole, word_value, word_values, cell_values, value_of, with_cell}
+use Rattle.merc_value.specs.Block.{CellData, BlockData, StandsFor, StandForAll, int, text, atom, cell, nothing, both, IsBelow, AreLower, IsWhole, word_value, word_values, cell_values, value_of, with_cell, no_value}
 use Rattle.merc_value.specs.declared.word.Word.{Word}
 use Rattle.merc_value.specs.declared.word.Word.TheVariants.{Int as IntWord, Text as TextWord, Atom as AtomWord, Cell as CellWord}
 use Rattle.merc_value.proofs.Values.{get_or-append_front, get_or-append_last, All-first, All-rest, cell_value_at, cell_values-snoc, length-cell_values}
@@ -13,7 +13,7 @@ mutual
   only_value cells lower _ _ (text name) = refl
   only_value cells lower _ _ (atom symbol) = refl
   only_value cells lower _ _ (cell place at arguments found each) =
-      ap (Con at.symbol) (only_values cells lower at.arguments arguments each) ∙ sym (cell_value_at cells place at (Con 0 none) found (lower place at found))
+      ap (Con at.symbol) (only_values cells lower at.arguments arguments each) ∙ sym (cell_value_at cells place at no_value found (lower place at found))
 
   only_values : (cells : List CellData) → AreLower cells → (words : List Word) (values : Values) → StandForAll cells words values → values ≡ word_values (cell_values cells) words
   only_values cells lower _ _ nothing = refl
@@ -61,7 +61,7 @@ module _ (cells : List CellData) (lower : AreLower cells) where
       at_cell : (bound place : ℕ) (at : CellData) → slice_get cells place ≡ Some at → place ≤ bound
           → ((word : Word) → IsBelow bound word → StandsFor cells word (value_of cells word)) → StandsFor cells (CellWord place) (value_of cells (CellWord place))
       at_cell bound place at found under stands =
-          subst (StandsFor cells (CellWord place)) (sym (cell_value_at cells place at (Con 0 none) found (lower place at found)))
+          subst (StandsFor cells (CellWord place)) (sym (cell_value_at cells place at no_value found (lower place at found)))
           (cell place at _ found (each_stands bound stands at.arguments (all_raised place bound under at.arguments (lower place at found))))
 
 -- A word of a whole block stands for its value ..
@@ -76,7 +76,7 @@ value_kept : (values : List Value) (next : Value) (word : Word) → IsBelow (len
 value_kept values next (IntWord number) below = refl
 value_kept values next (TextWord name) below = refl
 value_kept values next (AtomWord symbol) below = refl
-value_kept values next (CellWord place) below = get_or-append_front values (next ∷ []) place (Con 0 none) below
+value_kept values next (CellWord place) below = get_or-append_front values (next ∷ []) place no_value below
 
 -- Where a cell is put behind the others, each word keeps its value ..
 pub value_of-with_cell : (block : BlockData) (symbol : ℕ) (arguments : List Word) (word : Word) → IsBelow (length block.cells) word
@@ -91,6 +91,6 @@ pub value_of-new_cell : (block : BlockData) (symbol : ℕ) (arguments : List Wor
     → value_of (with_cell block symbol arguments).cells (CellWord (length block.cells)) ≡ Con symbol (word_values (cell_values block.cells) arguments)
 value_of-new_cell block symbol arguments =
     let values = cell_values-snoc block.cells (record { symbol = symbol; arguments = arguments }) in
-    ap (λ (vs : List Value). get_or vs (length block.cells) (Con 0 none)) values
-    ∙ ap (λ (n : ℕ). get_or (cell_values block.cells ++ Con symbol (word_values (cell_values block.cells) arguments) ∷ []) n (Con 0 none)) (sym (length-cell_values block.cells))
-    ∙ get_or-append_last (cell_values block.cells) _ (Con 0 none)
+    ap (λ (vs : List Value). get_or vs (length block.cells) no_value) values
+    ∙ ap (λ (n : ℕ). get_or (cell_values block.cells ++ Con symbol (word_values (cell_values block.cells) arguments) ∷ []) n no_value) (sym (length-cell_values block.cells))
+    ∙ get_or-append_last (cell_values block.cells) _ no_value

@@ -4,8 +4,8 @@ use Rattle.std.specs.Prelude.{IfSome}
 use Rattle.std.specs.List.{All}
 use Rattle.std.proofs.lemmas.Bool.{cases_lt}
 use Rattle.merc_value.specs.Value.{Value, Con, none}
-use Rattle.merc_value.specs.Block.{CellData, AreLower, IsBelow, word_values, cell_values, value_of}
-use Rattle.merc_value.specs.Sharing.{AreShared, KeepsShared, IsWordFor, moved, AreMoved}
+use Rattle.merc_value.specs.Block.{CellData, AreLower, IsBelow, word_values, cell_values, value_of, no_value}
+use Rattle.merc_value.specs.Sharing.{AreShared, KeepsShared, IsWordFor, moved, AreMoved, no_word}
 use Rattle.merc_value.specs.declared.word.Word.{Word}
 use Rattle.merc_value.specs.declared.word.Word.TheVariants.{Int as IntWord, Text as TextWord, Atom as AtomWord, Cell as CellWord}
 use Rattle.merc_value.proofs.Values.{get_or-append_front, get_or-append_last, All-first, All-rest, cell_value_at}
@@ -76,7 +76,7 @@ pub found_word : (cells : List CellData) (place symbol : ℕ) (arguments : List 
     → IsWordFor cells (Con symbol (word_values (cell_values cells) arguments)) (CellWord place)
 found_word cells place symbol arguments shared found = record {
   below = found_within cells place _ found;
-  same = cell_value_at cells place _ (Con 0 none) found (shared.lower place _ found);
+  same = cell_value_at cells place _ no_value found (shared.lower place _ found);
 }
 
 -- words moved
@@ -125,7 +125,7 @@ module _ (cells : List CellData) (shared : AreShared cells) where
       → value_of cells (CellWord p) ≡ value_of cells (CellWord q) → CellWord p ≡ CellWord q
   same_cells bound p q at at' found found' under under' one same =
       let values : Con at.symbol (word_values (cell_values cells) at.arguments) ≡ Con at'.symbol (word_values (cell_values cells) at'.arguments) =
-      sym (cell_value_at cells p at (Con 0 none) found (shared.lower p at found)) ∙ same ∙ cell_value_at cells q at' (Con 0 none) found' (shared.lower q at' found') in
+      sym (cell_value_at cells p at no_value found (shared.lower p at found)) ∙ same ∙ cell_value_at cells q at' no_value found' (shared.lower q at' found') in
       let symbols : at.symbol ≡ at'.symbol = cc in
       let inner : word_values (cell_values cells) at.arguments ≡ word_values (cell_values cells) at'.arguments = cc in
       let arguments : at.arguments ≡ at'.arguments =
@@ -137,7 +137,7 @@ module _ (cells : List CellData) (shared : AreShared cells) where
   atom_apart symbol p at found same = with_arguments at.arguments refl
     where
       value : Con symbol none ≡ Con at.symbol (word_values (cell_values cells) at.arguments)
-      value = same ∙ cell_value_at cells p at (Con 0 none) found (shared.lower p at found)
+      value = same ∙ cell_value_at cells p at no_value found (shared.lower p at found)
 
       with_arguments : (words : List Word) → at.arguments ≡ words → ⊥
       with_arguments [] empty =
@@ -153,14 +153,14 @@ module _ (cells : List CellData) (shared : AreShared cells) where
   one_below bound within (IntWord x) (AtomWord y) below below' same = absurd (cc)
   one_below bound within (IntWord x) (CellWord q) below below' same =
       let found : (at : CellData) × (slice_get cells q ≡ Some at) = found_below cells q (omega (arith, below', within)) in
-      let value = cell_value_at cells q found.0 (Con 0 none) found.1 (shared.lower q found.0 found.1) in
+      let value = cell_value_at cells q found.0 no_value found.1 (shared.lower q found.0 found.1) in
       absurd (cc (value, same))
   one_below bound within (TextWord x) (IntWord y) below below' same = absurd (cc)
   one_below bound within (TextWord x) (TextWord y) below below' same = cc
   one_below bound within (TextWord x) (AtomWord y) below below' same = absurd (cc)
   one_below bound within (TextWord x) (CellWord q) below below' same =
       let found : (at : CellData) × (slice_get cells q ≡ Some at) = found_below cells q (omega (arith, below', within)) in
-      let value = cell_value_at cells q found.0 (Con 0 none) found.1 (shared.lower q found.0 found.1) in
+      let value = cell_value_at cells q found.0 no_value found.1 (shared.lower q found.0 found.1) in
       absurd (cc (value, same))
   one_below bound within (AtomWord x) (IntWord y) below below' same = absurd (cc)
   one_below bound within (AtomWord x) (TextWord y) below below' same = absurd (cc)
@@ -170,11 +170,11 @@ module _ (cells : List CellData) (shared : AreShared cells) where
       absurd (atom_apart x q found.0 found.1 same)
   one_below bound within (CellWord p) (IntWord y) below below' same =
       let found : (at : CellData) × (slice_get cells p ≡ Some at) = found_below cells p (omega (arith, below, within)) in
-      let value = cell_value_at cells p found.0 (Con 0 none) found.1 (shared.lower p found.0 found.1) in
+      let value = cell_value_at cells p found.0 no_value found.1 (shared.lower p found.0 found.1) in
       absurd (cc (value, same))
   one_below bound within (CellWord p) (TextWord y) below below' same =
       let found : (at : CellData) × (slice_get cells p ≡ Some at) = found_below cells p (omega (arith, below, within)) in
-      let value = cell_value_at cells p found.0 (Con 0 none) found.1 (shared.lower p found.0 found.1) in
+      let value = cell_value_at cells p found.0 no_value found.1 (shared.lower p found.0 found.1) in
       absurd (cc (value, same))
   one_below bound within (CellWord p) (AtomWord y) below below' same =
       let found : (at : CellData) × (slice_get cells p ≡ Some at) = found_below cells p (omega (arith, below, within)) in
@@ -219,18 +219,18 @@ pub moved_more : (cells old new : List CellData) (words : List Word) (at : CellD
     → AreMoved cells new (words ++ word ∷ [])
 moved_more cells old new words at word lower are keeps found is place within = by (cases_lt place (length words))
   where
-    by : (place < length words) ⊎ (length words ≤ place) → IsWordFor new (value_of cells (CellWord place)) (get_or (words ++ word ∷ []) place (AtomWord 0))
+    by : (place < length words) ⊎ (length words ≤ place) → IsWordFor new (value_of cells (CellWord place)) (get_or (words ++ word ∷ []) place no_word)
     by (inl before) =
-        subst (λ (w : Word). IsWordFor new (value_of cells (CellWord place)) w) (sym (get_or-append_front words (word ∷ []) place (AtomWord 0) before))
-        (word_kept old new (value_of cells (CellWord place)) (get_or words place (AtomWord 0)) keeps (are place before))
+        subst (λ (w : Word). IsWordFor new (value_of cells (CellWord place)) w) (sym (get_or-append_front words (word ∷ []) place no_word before))
+        (word_kept old new (value_of cells (CellWord place)) (get_or words place no_word) keeps (are place before))
     by (inr behind) =
         let here : length words ≡ place = omega (arith, within, behind, length-append words (word ∷ [])) in
-        let here_word : word ≡ get_or (words ++ word ∷ []) place (AtomWord 0) =
-        sym (get_or-append_last words word (AtomWord 0)) ∙ ap (λ (n : ℕ). get_or (words ++ word ∷ []) n (AtomWord 0)) here in
+        let here_word : word ≡ get_or (words ++ word ∷ []) place no_word =
+        sym (get_or-append_last words word no_word) ∙ ap (λ (n : ℕ). get_or (words ++ word ∷ []) n no_word) here in
         let below = lower (length words) at found in
         let value : Con at.symbol (word_values (cell_values old) (map (moved words) at.arguments)) ≡ value_of cells (CellWord place) =
         ap (Con at.symbol) (all_moved_same cells old words are at.arguments below)
-        ∙ sym (cell_value_at cells (length words) at (Con 0 none) found below)
+        ∙ sym (cell_value_at cells (length words) at no_value found below)
         ∙ ap (λ (n : ℕ). value_of cells (CellWord n)) here in
         subst (λ (w : Word). IsWordFor new (value_of cells (CellWord place)) w) here_word (subst (λ (v : Value). IsWordFor new v word) value is)
 

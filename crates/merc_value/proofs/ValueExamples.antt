@@ -1,12 +1,13 @@
 -- What the definitions of Value say of some values.
 use Rattle.std.proofs.Common.{pos, arith}
 use Rattle.std.proofs.Math.Facts.{sfits_lit}
+use Rattle.merc_base.specs.Names.{bang_name, cons_name, memo_name}
 use Rattle.merc_value.specs.Value.{Int, Text, Con, none, more, IsValue}
 
 -- the greatest integer of 64 bits, beside a text
-pub IsValue-example : IsValue (Con 2 (more (Int (pos 9223372036854775807)) (more (Text 5) none)))
+pub IsValue-example : IsValue (Con cons_name (more (Int (pos 9223372036854775807)) (more (Text bang_name) none)))
 IsValue-example = (sfits_lit tt, (tt, tt))
 
 -- one integer more
-pub IsValue-counterexample : IsValue (Con 7 (more (Int (pos 9223372036854775808)) none)) → ⊥
+pub IsValue-counterexample : IsValue (Con memo_name (more (Int (pos 9223372036854775808)) none)) → ⊥
 IsValue-counterexample fits = let e = fits.0.sfits in omega (arith, e)

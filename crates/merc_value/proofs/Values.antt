@@ -2,7 +2,7 @@
 use Rattle.std.proofs.Common.{◌≡◌, ℕ, zero, suc, ◌+◌, ◌<◌, List, [], ◌∷◌, ◌++◌, length, Some, get_or, refl, sym, ap, subst, ◌∙◌, arith, slice_get, length-append}
 use Rattle.std.specs.List.{All}
 use Rattle.merc_value.specs.Value.{Value, Con, none}
-use Rattle.merc_value.specs.Block.{CellData, IsBelow, word_value, word_values, cell_value, values_behind, cell_values}
+use Rattle.merc_value.specs.Block.{CellData, IsBelow, word_value, word_values, cell_value, values_behind, cell_values, no_value}
 use Rattle.merc_value.specs.declared.word.Word.{Word}
 use Rattle.merc_value.specs.declared.word.Word.TheVariants.{Int as IntWord, Text as TextWord, Atom as AtomWord, Cell as CellWord}
 
@@ -33,7 +33,7 @@ word_kept : (vs : List Value) (cells : List CellData) (word : Word) → IsBelow 
 word_kept vs cells (IntWord number) below = refl
 word_kept vs cells (TextWord name) below = refl
 word_kept vs cells (AtomWord symbol) below = refl
-word_kept vs cells (CellWord place) below = kept vs cells place (Con 0 none) below
+word_kept vs cells (CellWord place) below = kept vs cells place no_value below
 
 words_kept : (vs : List Value) (cells : List CellData) (words : List Word) → All (IsBelow (length vs)) words → word_values (values_behind vs cells) words ≡ word_values vs words
 words_kept vs cells [] below = refl

@@ -5,6 +5,8 @@ use Rattle.std.proofs.lemmas.Result.{IfOk-weaker}
 use Rattle.std.specs.Prelude.{Result, IfOk}
 use Rattle.merc_base.specs.declared.memory.NoMemory.{NoMemory}
 use Rattle.std.specs.List.{All}
+use Rattle.merc_base.specs.Names.{cons_name, nil_name}
+use Rattle.merc_base.specs.Characters.{quote_code}
 use Rattle.merc_value.specs.Value.{Value, Values, Con, none, more}
 use Rattle.merc_value.specs.Block.{CellData, AreLower, IsBelow, word_values, cell_values, value_of}
 use Rattle.merc_value.specs.Text.{text_at, quoted, is_plain, name_text, is_nil, is_cons, symbol_text, value_text, tail_text, list_text, arguments_text}
@@ -78,7 +80,7 @@ takes_two cells text stack new later next piece pushed below below' same some = 
 -- a name's text is never empty
 pub name_some : (text : List ℕ) → 0 < length (name_text text)
 name_some [] = omega arith
-name_some (byte ∷ bytes) = elim (is_plain (byte ∷ bytes)) as (λ b. 0 < length (cond b (byte ∷ bytes) (quoted 39 (byte ∷ bytes)))) [ true ↦ omega arith | false ↦ omega arith ]
+name_some (byte ∷ bytes) = elim (is_plain (byte ∷ bytes)) as (λ b. 0 < length (cond b (byte ∷ bytes) (quoted quote_code (byte ∷ bytes)))) [ true ↦ omega arith | false ↦ omega arith ]
 
 -- a constructor that is no list
 
@@ -170,18 +172,18 @@ argument_below cells place k word lower within found =
 
 -- the shape of a cell with these arguments that is no list
 
-no_nil : (values : List Value) (symbol : ℕ) (words : List Word) → (length words < 1 → eqb symbol 1 ≡ false) → is_nil symbol (word_values values words) ≡ false
+no_nil : (values : List Value) (symbol : ℕ) (words : List Word) → (length words < 1 → eqb symbol nil_name ≡ false) → is_nil symbol (word_values values words) ≡ false
 no_nil values symbol [] other = other (omega arith)
 no_nil values symbol (word ∷ words) other = refl
 
-no_cons : (values : List Value) (symbol : ℕ) (words : List Word) → (length words ≡ 2 → eqb symbol 2 ≡ false) → is_cons symbol (word_values values words) ≡ false
+no_cons : (values : List Value) (symbol : ℕ) (words : List Word) → (length words ≡ 2 → eqb symbol cons_name ≡ false) → is_cons symbol (word_values values words) ≡ false
 no_cons values symbol [] other = refl
 no_cons values symbol (one ∷ []) other = refl
 no_cons values symbol (one ∷ two ∷ []) other = other refl
 no_cons values symbol (one ∷ two ∷ three ∷ words) other = refl
 
 pub applied_shape : (cells : List CellData) (symbol place : ℕ) (words : List Word) → arguments_at cells place ≡ words
-    → (length words < 1 → eqb symbol 1 ≡ false) → (length words ≡ 2 → eqb symbol 2 ≡ false)
+    → (length words < 1 → eqb symbol nil_name ≡ false) → (length words ≡ 2 → eqb symbol cons_name ≡ false)
     → HasShape cells (Con symbol (word_values (cell_values cells) words)) (Applied symbol place)
 applied_shape cells symbol place words at other other' =
     rw at (refl, no_nil (cell_values cells) symbol words other, no_cons (cell_values cells) symbol words other')

@@ -2,6 +2,7 @@
 -- which are words. A word in a cell leads to lower cells alone, so that each word stands for exactly one value.
 use Rattle.std.specs.Prelude.{◌≡◌, ℕ, ◌<◌, List, [], ◌∷◌, ◌++◌, length, map, Some, slice_get, slice_index_or}
 use Rattle.std.specs.List.{All}
+use Rattle.merc_base.specs.Names.{nil_name}
 use Rattle.merc_value.specs.Value.{Value, Values, Int, Text, Con, none, more}
 use Rattle.merc_value.specs.declared.word.Word.{Word}
 use Rattle.merc_value.specs.declared.word.Word.TheVariants.{Int as IntWord, Text as TextWord, Atom as AtomWord, Cell as CellWord}
@@ -58,12 +59,16 @@ with_cell block symbol arguments = record {
 abbrev pub with_root : BlockData → Word → BlockData
 with_root block word = record { cells = block.cells; roots = block.roots ++ word ∷ [] }
 
+-- what a word that leads past the cells would stand for; no word of a block does
+abbrev pub no_value : Value
+no_value = Con nil_name none
+
 -- the value of a word, where these are the values of the cells
 abbrev pub word_value : List Value → Word → Value
 word_value values (IntWord number) = Int number
 word_value values (TextWord name) = Text name
 word_value values (AtomWord symbol) = Con symbol none
-word_value values (CellWord place) = slice_index_or values place (Con 0 none)
+word_value values (CellWord place) = slice_index_or values place no_value
 
 abbrev pub word_values : List Value → List Word → Values
 word_values values [] = none

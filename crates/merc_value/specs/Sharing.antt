@@ -1,5 +1,6 @@
 -- Cells in which each value lies once, so that words are equal where their values are.
 use Rattle.std.specs.Prelude.{◌≡◌, ℕ, ◌<◌, List, [], length, Some, slice_get, slice_index_or}
+use Rattle.merc_base.specs.Names.{nil_name}
 use Rattle.merc_value.specs.Value.{Value}
 use Rattle.merc_value.specs.Block.{CellData, AreLower, IsBelow, value_of}
 use Rattle.merc_value.specs.declared.word.Word.{Word}
@@ -22,13 +23,17 @@ pub record IsWordFor (shared : List CellData) (value : Value) (word : Word) : Ty
   pub below : IsBelow (length shared) word
   pub same : value_of shared word ≡ value
 
+-- the word that would stand in place of a cell that is not there; no word of a block leads to one
+abbrev pub no_word : Word
+no_word = AtomWord nil_name
+
 -- a word, with the word at a cell's place in place of the cell
 abbrev pub moved : List Word → Word → Word
 moved words (IntWord number) = IntWord number
 moved words (TextWord name) = TextWord name
 moved words (AtomWord symbol) = AtomWord symbol
-moved words (CellWord place) = slice_index_or words place (AtomWord 0)
+moved words (CellWord place) = slice_index_or words place no_word
 
 -- each of these words is the one for the value of the cell at its place
 abbrev pub AreMoved : List CellData → List CellData → List Word → Type 0
-AreMoved cells shared words = (place : ℕ) → place < length words → IsWordFor shared (value_of cells (CellWord place)) (slice_index_or words place (AtomWord 0))
+AreMoved cells shared words = (place : ℕ) → place < length words → IsWordFor shared (value_of cells (CellWord place)) (slice_index_or words place no_word)

@@ -4,6 +4,8 @@ use Rattle.std.specs.List.{list_all, flat_map}
 use Rattle.std.specs.Char.{is_ascii_lowercase, is_ascii_alphanumeric}
 use Rattle.std.specs.Fmt.{signed_decimal}
 use Rattle.merc_base.specs.Texts.{is_among}
+use Rattle.merc_base.specs.Characters.{backslash_code, double_quote_code, line_end_code, quote_code, tab_code, underscore_code}
+use Rattle.merc_base.specs.Names.{cons_name, nil_name}
 use Rattle.merc_value.specs.Value.{Value, Values, Int, Text, Con, none, more}
 
 -- the text of a name; a name that the table does not hold has the empty text
@@ -13,9 +15,9 @@ text_at names name = unwrap_or (slice_get names name) []
 -- a byte within quotes: a backslash stands before a quote and a backslash, and in the names of a line end and a tab
 abbrev pub escape : ℕ → ℕ → List ℕ
 escape quote byte =
-    if byte == 10 then codes "\\n"
-    else if byte == 9 then codes "\\t"
-    else if byte == 92 || byte == quote then 92 ∷ byte ∷ []
+    if byte == line_end_code then codes "\\n"
+    else if byte == tab_code then codes "\\t"
+    else if byte == backslash_code || byte == quote then backslash_code ∷ byte ∷ []
     else byte ∷ []
 
 -- a text within quotes
@@ -31,7 +33,7 @@ word_operators =
 
 -- a letter, a digit or `_`
 abbrev pub is_word_byte : ℕ → Bool
-is_word_byte byte = is_ascii_alphanumeric byte || byte == 95
+is_word_byte byte = is_ascii_alphanumeric byte || byte == underscore_code
 
 -- whether a text is a lower-case letter followed by letters, digits and `_`
 abbrev pub is_word : List ℕ → Bool
@@ -44,16 +46,16 @@ is_plain text = is_word text && not (is_among text word_operators)
 
 -- a name, within quotes unless it is plain
 abbrev pub name_text : List ℕ → List ℕ
-name_text text = if is_plain text then text else quoted 39 text
+name_text text = if is_plain text then text else quoted quote_code text
 
 -- whether a constructor with these arguments is the empty list
 abbrev pub is_nil : ℕ → Values → Bool
-is_nil symbol none = symbol == 1
+is_nil symbol none = symbol == nil_name
 is_nil symbol (more first rest) = false
 
 -- whether a constructor with these arguments is a list cell, of a head and a tail
 abbrev pub is_cons : ℕ → Values → Bool
-is_cons symbol (more head (more tail none)) = symbol == 2
+is_cons symbol (more head (more tail none)) = symbol == cons_name
 is_cons symbol none = false
 is_cons symbol (more only none) = false
 is_cons symbol (more first (more second (more third rest))) = false
@@ -66,7 +68,7 @@ abbrev mutual
   -- the text of a value
   pub value_text : List (List ℕ) → Value → List ℕ
   value_text names (Int number) = signed_decimal number
-  value_text names (Text text) = quoted 34 (text_at names text)
+  value_text names (Text text) = quoted double_quote_code (text_at names text)
   value_text names (Con symbol arguments) =
       if is_cons symbol arguments then codes "[" ++ list_text names arguments ++ codes "]"
       else symbol_text names symbol arguments ++ arguments_text names arguments
@@ -74,7 +76,7 @@ abbrev mutual
   -- a list from this tail on, without its closing bracket
   pub tail_text : List (List ℕ) → Value → List ℕ
   tail_text names (Int number) = codes " | " ++ signed_decimal number
-  tail_text names (Text text) = codes " | " ++ quoted 34 (text_at names text)
+  tail_text names (Text text) = codes " | " ++ quoted double_quote_code (text_at names text)
   tail_text names (Con symbol arguments) =
       if is_nil symbol arguments then []
       else if is_cons symbol arguments then codes ", " ++ list_text names arguments

@@ -1,6 +1,8 @@
 -- What the writer of values has still to do, on its stack.
 use Rattle.std.specs.Prelude.{◌≡◌, ℕ, ◌+◌, ◌*◌, ◌<◌, ◌≤◌, false, List, [], ◌∷◌, ◌++◌, length, drop, Option, Some, None, slice_get, codes}
 use Rattle.std.specs.Fmt.{signed_decimal}
+use Rattle.merc_base.specs.Names.{cons_name, nil_name}
+use Rattle.merc_base.specs.Characters.{double_quote_code}
 use Rattle.merc_value.specs.Value.{Value, Values, Int, Text, Con, none, more}
 use Rattle.merc_value.specs.Block.{CellData, IsBelow, word_values, cell_values, value_of}
 use Rattle.merc_value.specs.Text.{text_at, quoted, name_text, is_nil, is_cons, value_text, tail_text, arguments_text, others_text}
@@ -28,8 +30,8 @@ arguments_from cells place first = word_values (cell_values cells) (drop first (
 abbrev pub HasShape : List CellData → Value → Shape → Type 0
 HasShape cells value (IntShape number) = value ≡ Int number
 HasShape cells value (TextShape name) = value ≡ Text name
-HasShape cells value Nil = value ≡ Con 1 none
-HasShape cells value (Pair head tail) = value ≡ Con 2 (more (value_of cells head) (more (value_of cells tail) none))
+HasShape cells value Nil = value ≡ Con nil_name none
+HasShape cells value (Pair head tail) = value ≡ Con cons_name (more (value_of cells head) (more (value_of cells tail) none))
 HasShape cells value (AtomShape symbol) = (value ≡ Con symbol none) × (is_nil symbol none ≡ false)
 HasShape cells value (Applied symbol place) =
     (value ≡ Con symbol (arguments_from cells place 0))
@@ -81,7 +83,7 @@ piece_text names CloseArguments = codes ")"
 piece_text names Comma = codes ", "
 piece_text names Bar = codes " | "
 piece_text names (IntPiece number) = signed_decimal number
-piece_text names (TextPiece name) = quoted 34 (text_at names name)
+piece_text names (TextPiece name) = quoted double_quote_code (text_at names name)
 piece_text names (Symbol name) = name_text (text_at names name)
 
 -- A piece is taken off a text that stands before what is pending. What remains of the text is pending then.

@@ -5,8 +5,6 @@ pub mod block;
 mod quoting;
 mod shape;
 pub mod sharing;
-#[cfg(test)]
-mod tests;
 pub mod word;
 pub mod writing;
 

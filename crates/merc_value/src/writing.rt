@@ -1,5 +1,6 @@
 //! The text of a value.
 ghost use Rattle.std.specs.Prelude.{◌≡◌, ◌++◌, ◌<◌, ◌∷◌, [], length, slice_get, IfOk, IfSome, OnOk, OnErr};
+ghost use Rattle.merc_base.specs.Characters.{close_code};
 ghost use Rattle.merc_value.specs.Block.{AreLower, IsBelow, cell_values, value_of, root_values};
 ghost use Rattle.merc_value.specs.Text.{value_text, tail_text, arguments_text, others_text};
 ghost use Rattle.merc_value.specs.Writing.{arguments_at, arguments_from, todo_text, pending, IsTodoBelow, AreTodosBelow, piece_text, Takes, AppendsFront};
@@ -170,7 +171,7 @@ fn others_piece(
 ) -> Result<Piece, NoMemory>
     requires lower { AreLower cells.now }
     requires within { place < length cells.now }
-    ensures { IfOk result (Takes cells.now (λ names. others_text names (arguments_from cells.now place first) ++ 41 ∷ []) stack.old.items stack.new.items) }
+    ensures { IfOk result (Takes cells.now (λ names. others_text names (arguments_from cells.now place first) ++ close_code ∷ []) stack.old.items stack.new.items) }
 {
     match argument(cells, place, first) {
         None => Ok(Piece::CloseArguments),

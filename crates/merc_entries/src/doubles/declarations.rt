@@ -4,7 +4,6 @@ ghost use Rattle.merc_entries.specs.Entries.{types_of, constructors_of, predicat
 ghost use Rattle.merc_entries.specs.DoubleFaults.{type_keys, at_start};
 ghost use Rattle.merc_item_forms.specs.ItemValue.{item_value};
 ghost use Rattle.merc_entries.specs.EntryValue.{entry_values};
-ghost use Rattle.merc_entries.specs.KeyValue.{key_value};
 ghost use Rattle.merc_entries.specs.KeySets.{keys_at};
 ghost use Rattle.merc_entries.specs.ModeValue.{mode_value};
 ghost use Rattle.merc_entries.specs.FirstPlaces.{declared_value, declared_at};
@@ -12,25 +11,21 @@ ghost use Rattle.merc_entries.specs.FirstPlaces.{declared_value, declared_at};
 use super::again::Declared;
 use super::modes::{Mode, mode_of};
 use crate::entry::Entry;
-use crate::key::Key;
 use crate::key_set::key_of;
-use merc_base::{Name, NoMemory, Place};
+use merc_base::{Key, Name, NoMemory, Place};
 use merc_item_forms::Item;
 use merc_operands::members;
 use std::alloc::Global;
 
 /// The types, with `int` and `string` from the start.
 pub(crate) fn types(alloc: Global, entries: &[Entry<'_>]) -> Result<Vec<Declared<Key>>, NoMemory>
-    ensures { IfOk result (λ types. map (declared_value key_value) types.items ≡ type_keys (entry_values entries.now)) }
+    ensures { IfOk result (λ types. map (declared_value (λ key. key)) types.items ≡ type_keys (entry_values entries.now)) }
 {
     let mut types = Vec::new(alloc);
     types.push(at_start(Name::INT))?;
     types.push(at_start(Name::STRING))?;
     for entry in entries {
-        if let Some(key) = type_of(&entry.item) {
-            let place = entry.place;
-            types.push(Declared { key, place })?;
-        }
+        push_key(entry.place, type_key(&entry.item), &mut types)?;
     }
     Ok(types)
 }
@@ -40,7 +35,7 @@ pub(crate) fn constructors(
     alloc: Global,
     entries: &[Entry<'_>],
 ) -> Result<Vec<Declared<Key>>, NoMemory>
-    ensures { IfOk result (λ constructors. map (declared_value key_value) constructors.items ≡ declared_by constructors_of (entry_values entries.now)) }
+    ensures { IfOk result (λ constructors. map (declared_value (λ key. key)) constructors.items ≡ declared_by constructors_of (entry_values entries.now)) }
 {
     let mut constructors = Vec::new(alloc);
     for entry in entries {
@@ -54,14 +49,11 @@ pub(crate) fn predicates(
     alloc: Global,
     entries: &[Entry<'_>],
 ) -> Result<Vec<Declared<Key>>, NoMemory>
-    ensures { IfOk result (λ predicates. map (declared_value key_value) predicates.items ≡ declared_by predicates_of (entry_values entries.now)) }
+    ensures { IfOk result (λ predicates. map (declared_value (λ key. key)) predicates.items ≡ declared_by predicates_of (entry_values entries.now)) }
 {
     let mut predicates = Vec::new(alloc);
     for entry in entries {
-        if let Some(key) = predicate_of(&entry.item) {
-            let place = entry.place;
-            predicates.push(Declared { key, place })?;
-        }
+        push_key(entry.place, predicate_key(&entry.item), &mut predicates)?;
     }
     Ok(predicates)
 }
@@ -84,12 +76,26 @@ pub(crate) fn modes(alloc: Global, entries: &[Entry<'_>]) -> Result<Vec<Declared
 
 // A type without arguments that is declared before any item.
 fn at_start(name: Name) -> Declared<Key>
-    ensures { declared_value key_value result ≡ at_start (key name 0) }
+    ensures { declared_value (λ key. key) result ≡ at_start (key name 0) }
 {
     Declared {
         key: Key { name, arity: 0 },
         place: Place { byte: 0, line: 1 },
     }
+}
+
+// Puts a key at a place behind the others, where there is one.
+fn push_key(
+    place: Place,
+    key: Option<Key>,
+    declared: &mut Vec<Declared<Key>>,
+) -> Result<(), NoMemory>
+    ensures { OnOk result (map (declared_value (λ key. key)) declared.new.items ≡ map (declared_value (λ key. key)) declared.old.items ++ declared_at place (keys_at key)) }
+{
+    if let Some(key) = key {
+        declared.push(Declared { key, place })?;
+    }
+    Ok(())
 }
 
 // Puts the constructors of an item's type behind the others.
@@ -98,7 +104,7 @@ fn push_constructors(
     entry: &Entry<'_>,
     constructors: &mut Vec<Declared<Key>>,
 ) -> Result<(), NoMemory>
-    ensures { OnOk result (map (declared_value key_value) constructors.new.items ≡ map (declared_value key_value) constructors.old.items ++ declared_at entry.now.place (constructors_of (item_value entry.now.item))) }
+    ensures { OnOk result (map (declared_value (λ key. key)) constructors.new.items ≡ map (declared_value (λ key. key)) constructors.old.items ++ declared_at entry.now.place (constructors_of (item_value entry.now.item))) }
 {
     let root = match &entry.item {
         Item::Type(_, root) => root,
@@ -113,8 +119,8 @@ fn push_constructors(
     Ok(())
 }
 
-// The type that an item declares.
-fn type_of(item: &Item<'_>) -> Option<Key>
+/// The key of the type that an item declares.
+pub fn type_key(item: &Item<'_>) -> Option<Key>
     ensures { keys_at result ≡ types_of (item_value item.now) }
 {
     match item {
@@ -123,8 +129,8 @@ fn type_of(item: &Item<'_>) -> Option<Key>
     }
 }
 
-// The predicate that an item declares.
-fn predicate_of(item: &Item<'_>) -> Option<Key>
+// The key of the predicate that an item declares.
+fn predicate_key(item: &Item<'_>) -> Option<Key>
     ensures { keys_at result ≡ predicates_of (item_value item.now) }
 {
     match item {

@@ -7,10 +7,9 @@ ghost use Rattle.merc_entries.specs.Entries.{is_out, modes_at, key_of, modes_of,
 ghost use Rattle.merc_item_forms.specs.ItemValue.{item_value};
 ghost use Rattle.merc_entries.specs.ModeValue.{mode_value};
 
-use crate::key::Key;
 use crate::key_set::key_of;
 use crate::moded::has_mode;
-use merc_base::{Name, NoMemory};
+use merc_base::{Key, Name, NoMemory};
 use merc_item_forms::{Item, argument_mode};
 use merc_operands::{arguments, plain_name};
 use merc_tree::TermRef;

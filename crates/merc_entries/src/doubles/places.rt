@@ -1,7 +1,8 @@
 //! Earlier and later places.
 ghost use Rattle.std.specs.Prelude.{◌≡◌};
 ghost use Rattle.merc_entries.specs.DoubleFaults.{later};
-ghost use Rattle.merc_entries.specs.FirstPlaces.{both_later, earlier};
+ghost use Rattle.merc_base.specs.FirstPlace.{earlier};
+ghost use Rattle.merc_entries.specs.FirstPlaces.{both_later};
 
 use merc_base::Place;
 

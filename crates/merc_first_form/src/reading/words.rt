@@ -4,7 +4,9 @@ ghost use Rattle.std.specs.List.{list_all};
 ghost use Rattle.std.specs.Option.{option_copied};
 ghost use Rattle.merc_value.specs.Text.{is_word_byte};
 ghost use Rattle.merc_operands.specs.Operands.{plain_name};
-ghost use Rattle.merc_first_form.specs.Reading.{passing, is_capital_word, variable_of, is_name};
+ghost use Rattle.std.proofs.lemmas.Map.Entries.{option_filter};
+ghost use Rattle.merc_tree.specs.Parts.{is_named};
+ghost use Rattle.merc_first_form.specs.Reading.{is_capital_word, variable_of};
 ghost use Rattle.merc_first_form.specs.ReadingParts.{applied_name};
 
 use merc_base::{Name, Names, NoMemory, Text};
@@ -44,7 +46,7 @@ pub(crate) fn applied_name(term: &TermRef<'_>) -> Option<Name>
 
 /// Whether a term is a name alone.
 pub(crate) fn is_name(term: &TermRef<'_>, wanted: Name) -> bool
-    ensures { result ≡ is_name wanted (plain_name term.now) }
+    ensures { result ≡ is_named wanted (plain_name term.now) }
 {
     match plain_name(term) {
         Some(name) => name == wanted,
@@ -77,7 +79,7 @@ fn variable_text<'a>(term: &TermRef<'_>, names: &'a Names) -> Option<&'a [u8]>
 
 // The text that is there, where it is an upper-case letter followed by letters, digits and `_`.
 fn capital_word(text: Option<&[u8]>) -> Option<&[u8]>
-    ensures { option_copied result ≡ passing is_capital_word (option_copied text.entry) }
+    ensures { option_copied result ≡ option_filter is_capital_word (option_copied text.entry) }
 {
     match text {
         Some(text) => {

@@ -13,7 +13,7 @@ returns c =
     c.in_ok-push_arguments.ensures ∙ ap (λ l. l ++ reverse c.arguments.result) c.new-terms.ensures.items ∙ ap reverse c.arguments.ensures in
     IfOk-weaker c.term_variables.result _ _ (λ found is.
     is
-    ∙ ap (λ l. listed (is_blank c.args.names.now) c.in_ok-behind.field-0 l) (ap reverse terms ∙ reverse-reverse (arguments_of c.args.term.now))
-    ∙ ap (λ n. listed (is_blank c.args.names.now) n (arguments_of c.args.term.now)) c.in_ok-behind.ensures
+    ∙ ap (λ l. listed (is_blank c.args.names.now) c.in_ok-number_past.field-0 l) (ap reverse terms ∙ reverse-reverse (arguments_of c.args.term.now))
+    ∙ ap (λ n. listed (is_blank c.args.names.now) n (arguments_of c.args.term.now)) c.in_ok-number_past.ensures
     ∙ listed-terms (is_blank c.args.names.now) (c.args.at + 2) (arguments_of c.args.term.now))
     c.term_variables.ensures

@@ -1,6 +1,7 @@
 -- A text is refused where it is no items, its items are no module, or the clauses of the module are refused.
 use Rattle.std.proofs.lemmas.Result.{err_from_is_err_and}
 use Rattle.merc_items.proofs.ReadingLaws.{reads-rises}
+use Rattle.merc_check.proofs.Growing.{grows_on}
 use Rattle.merc_check.proofs.TextLaws.{no_items-refused, no_module-refused, module-refused, module-accepted}
 use Rattle.merc_check.proofs.texts.check.Goals as goal
 
@@ -31,3 +32,15 @@ pub returns-clause-accepted : goal.returns-clause-accepted
 returns-clause-accepted c =
     module-accepted c.args.names.now c.args.text.now c.bytes.result.now c.bytes.ensures c.read_text.new.names c.in_ok-items.items c.in_ok-items.ensures.found
     c.module_of_items.new.names c.in_ok-module.module c.in_ok-known.known c.in_ok-module.ensures.found c.in_ok-known.ensures c.in_ok-check_clauses.ensures.accepted
+
+pub returns-in_err-module-clause-grows : goal.returns-in_err-module-clause-grows
+returns-in_err-module-clause-grows c = grows_on c.args.names.now c.read_text.new.names c.module_of_items.new.names c.read_text.ensures.grows c.module_of_items.ensures.grows
+
+pub returns-in_err-known-clause-grows : goal.returns-in_err-known-clause-grows
+returns-in_err-known-clause-grows c = grows_on c.args.names.now c.read_text.new.names c.module_of_items.new.names c.read_text.ensures.grows c.module_of_items.ensures.grows
+
+pub returns-in_err-check_clauses-clause-grows : goal.returns-in_err-check_clauses-clause-grows
+returns-in_err-check_clauses-clause-grows c = grows_on c.args.names.now c.read_text.new.names c.module_of_items.new.names c.read_text.ensures.grows c.module_of_items.ensures.grows
+
+pub returns-clause-grows : goal.returns-clause-grows
+returns-clause-grows c = grows_on c.args.names.now c.read_text.new.names c.module_of_items.new.names c.read_text.ensures.grows c.module_of_items.ensures.grows

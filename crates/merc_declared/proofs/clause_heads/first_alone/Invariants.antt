@@ -1,9 +1,9 @@
 use Rattle.std.proofs.Common.{◌≡◌, drop}
-use Rattle.merc_entries.specs.EntryValue.{entry_values}
-use Rattle.merc_declared.specs.PhaseFaults.{first_place}
+use Rattle.merc_entries.specs.EntryValue.{entry_values, place_at}
+use Rattle.merc_base.specs.FirstPlace.{first_place}
 use Rattle.merc_declared.specs.ClauseHeads.{is_alone_here}
 use Rattle.merc_declared.proofs.clause_heads.first_alone.Given as goal
 
 abbrev pub invariant-loop-entry : goal.invariant-loop-entry
 invariant-loop-entry l =
-    first_place (is_alone_here l.own (entry_values l.entries)) (entry_values (drop l.entry-index l.entries)) ≡ first_place (is_alone_here l.own (entry_values l.entries)) (entry_values l.entries)
+    first_place place_at (is_alone_here l.own (entry_values l.entries)) (entry_values (drop l.entry-index l.entries)) ≡ first_place place_at (is_alone_here l.own (entry_values l.entries)) (entry_values l.entries)

@@ -1,9 +1,9 @@
 use Rattle.std.proofs.Common.{◌≡◌, drop}
-use Rattle.merc_entries.specs.EntryValue.{entry_values}
-use Rattle.merc_declared.specs.PhaseFaults.{first_place}
-use Rattle.merc_declared.specs.ModeCounts.{has_many_modes_here}
+use Rattle.merc_entries.specs.EntryValue.{entry_values, place_at}
+use Rattle.merc_base.specs.FirstPlace.{first_place}
+use Rattle.merc_declared.specs.ModeFaults.{has_many_modes_here}
 use Rattle.merc_declared.proofs.mode_counts.first_many.Given as goal
 
 abbrev pub invariant-loop-entry : goal.invariant-loop-entry
 invariant-loop-entry l =
-    first_place (has_many_modes_here (entry_values l.entries)) (entry_values (drop l.entry-index l.entries)) ≡ first_place (has_many_modes_here (entry_values l.entries)) (entry_values l.entries)
+    first_place place_at (has_many_modes_here (entry_values l.entries)) (entry_values (drop l.entry-index l.entries)) ≡ first_place place_at (has_many_modes_here (entry_values l.entries)) (entry_values l.entries)

@@ -2,7 +2,7 @@ use Rattle.std.proofs.Common.{◌≡◌, true, false, ap, sym, ◌∙◌, ◌&&�
 use Rattle.merc_entries.specs.EntryValue.{entry_value, entry_values}
 use Rattle.merc_item_forms.specs.ItemValue.{item_value}
 use Rattle.merc_entries.specs.Entries.{is_own}
-use Rattle.merc_declared.specs.ModeCounts.{lacks_mode_here}
+use Rattle.merc_declared.specs.ModeFaults.{lacks_mode_here}
 use Rattle.merc_declared.proofs.EntryLaws.{first-here, first-later}
 use Rattle.merc_declared.proofs.ModeLaws.{lacks_agrees}
 use Rattle.merc_declared.proofs.mode_counts.first_missing.Goals as goal

@@ -1,9 +1,9 @@
 use Rattle.std.proofs.Common.{◌≡◌, drop}
-use Rattle.merc_entries.specs.EntryValue.{entry_values}
-use Rattle.merc_declared.specs.PhaseFaults.{first_place}
-use Rattle.merc_declared.specs.ModeCounts.{lacks_mode_here}
+use Rattle.merc_entries.specs.EntryValue.{entry_values, place_at}
+use Rattle.merc_base.specs.FirstPlace.{first_place}
+use Rattle.merc_declared.specs.ModeFaults.{lacks_mode_here}
 use Rattle.merc_declared.proofs.mode_counts.first_missing.Given as goal
 
 abbrev pub invariant-loop-entry : goal.invariant-loop-entry
 invariant-loop-entry l =
-    first_place (lacks_mode_here (entry_values l.entries)) (entry_values (drop l.entry-index l.entries)) ≡ first_place (lacks_mode_here (entry_values l.entries)) (entry_values l.entries)
+    first_place place_at (lacks_mode_here (entry_values l.entries)) (entry_values (drop l.entry-index l.entries)) ≡ first_place place_at (lacks_mode_here (entry_values l.entries)) (entry_values l.entries)

@@ -1,14 +1,13 @@
 use Rattle.std.proofs.lemmas.Result.{on_ok_weaker}
 use Rattle.merc_known.specs.Known.{callee_in}
 use Rattle.merc_scopes.specs.Scopes.{is_blank}
-use Rattle.merc_flat_form.proofs.WholeGoals.{alone, whole_goal}
+use Rattle.merc_flat_form.proofs.WholeGoals.{whole_goal}
 use Rattle.merc_flat_form.proofs.flattening.goal_form.Goals as goal
 
 pub returns : goal.returns
 returns c =
     on_ok_weaker c.make_one.result
-    (whole_goal (is_blank c.args.names.now) (callee_in c.args.known.now) c.args.goal.now c.args.scope.now c.bind_over.new.self c.span_of.result c.len-start.result c.args.nodes.now
+    (whole_goal (is_blank c.args.names.now) (callee_in c.args.known.now) c.args.goal.now c.args.scope.now c.in_ok-stack.stack c.span.result c.len-start.result c.args.nodes.now
     c.flatten.new.nodes c.make_one.new.nodes
-    (alone c.args.scope.now c.bind_over.new.self c.enter.new.self c.new-stack.result c.new-stack.ensures c.in_ok-enter.ensures c.in_ok-bind_over.ensures.shown) c.span_of.ensures
-    c.len-start.ensures c.in_ok-flatten.ensures)
+    c.in_ok-stack.ensures c.span.ensures c.len-start.ensures c.in_ok-flatten.ensures)
     c.make_one.ensures

@@ -1,5 +1,5 @@
 use Rattle.std.proofs.Common.{◌≡◌, ◌++◌, drop}
-use Rattle.merc_flat_form.specs.Numbering.{numbered_from}
+use Rattle.merc_goals.specs.Numbers.{numbered_from}
 use Rattle.merc_flat_form.proofs.numbering.number_from.Given as goal
 
 abbrev pub invariant-loop-term : goal.invariant-loop-term

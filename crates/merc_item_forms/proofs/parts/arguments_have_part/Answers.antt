@@ -9,5 +9,5 @@ pub returns : goal.returns
 returns c =
     let shapes = shapes_of c.args.term.now in
     c.any_part.ensures
-    ∙ ap (λ n. list_any (shape_test c.args.test) (take n shapes)) (c.saturating_sub.ensures ∙ ap (λ n. n - 1) c.part_count.ensures)
+    ∙ ap (λ n. list_any (shape_test c.args.test) (take n shapes)) (c.saturating_sub.ensures ∙ ap (λ n. n - 1) c.part_count.ensures.count)
     ∙ arguments-by_shapes c.args.test c.args.term.now

@@ -10,6 +10,6 @@ pub returns : goal.returns
 returns c =
     let shapes = shapes_of c.args.term.now in
     c.any_part.ensures
-    ∙ ap (λ n. list_any (shape_test c.args.test) (take n shapes)) c.part_count.ensures
+    ∙ ap (λ n. list_any (shape_test c.args.test) (take n shapes)) c.part_count.ensures.count
     ∙ ap (list_any (shape_test c.args.test)) (take-length shapes)
     ∙ sym (has_part-by_shapes c.args.test c.args.term.now)

@@ -7,4 +7,4 @@ use Rattle.merc_items.proofs.assembling.push_types.Given as goal
 
 abbrev pub invariant-loop-entry : goal.invariant-loop-entry
 invariant-loop-entry l =
-    l.types ++ flat_map (kept l.part type_defs) (entry_values (drop l.entry-index l.entries)) ≡ l.initial.types ++ flat_map (kept l.part type_defs) (entry_values l.entries)
+    l.types ++ flat_map (kept l.part (type_defs l.names)) (entry_values (drop l.entry-index l.entries)) ≡ l.initial.types ++ flat_map (kept l.part (type_defs l.names)) (entry_values l.entries)

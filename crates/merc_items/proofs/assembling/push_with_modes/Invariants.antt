@@ -7,5 +7,5 @@ use Rattle.merc_items.proofs.assembling.push_with_modes.Given as goal
 
 abbrev pub invariant-loop-entry : goal.invariant-loop-entry
 invariant-loop-entry l =
-    l.preds ++ flat_map (kept l.part (preds_by l.table)) (entry_values (drop l.entry-index l.entries))
-    ≡ l.initial.preds ++ flat_map (kept l.part (preds_by l.table)) (entry_values l.entries)
+    l.preds ++ flat_map (kept l.part (preds_by l.names l.table)) (entry_values (drop l.entry-index l.entries))
+    ≡ l.initial.preds ++ flat_map (kept l.part (preds_by l.names l.table)) (entry_values l.entries)

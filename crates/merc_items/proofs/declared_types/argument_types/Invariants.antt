@@ -5,4 +5,4 @@ use Rattle.merc_items.proofs.declared_types.argument_types.Given as goal
 
 abbrev pub invariant-loop-argument : goal.invariant-loop-argument
 invariant-loop-argument l =
-    l.types ++ map (λ argument. declared_type (argument_type argument)) (drop l.argument-index l.arguments) ≡ map (λ argument. declared_type (argument_type argument)) l.arguments
+    l.types ++ map (λ argument. declared_type l.names (argument_type argument)) (drop l.argument-index l.arguments) ≡ map (λ argument. declared_type l.names (argument_type argument)) l.arguments

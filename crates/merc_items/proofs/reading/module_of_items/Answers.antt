@@ -22,4 +22,4 @@ pub returns-clause-found : goal.returns-clause-found
 returns-clause-found c =
     is_module c.args.names.now c.read_units.new.names c.args.terms.now (items_of c.in_ok-units.units) c.in_ok-units.ensures.read (entry_values c.deref.result.now)
     (ap entry_values c.deref.ensures.value ∙ c.in_ok-entries.ensures) c.in_ok-module_of.field-0 c.in_ok-check_items.ensures.fine
-    (c.in_ok-module_of.ensures ∙ ap (module_of c.args.terms.now) (ap entry_values (c.deref-2.ensures.value ∙ sym c.deref.ensures.value)))
+    (c.in_ok-module_of.ensures ∙ ap (module_of c.read_units.new.names c.args.terms.now) (ap entry_values (c.deref-2.ensures.value ∙ sym c.deref.ensures.value)))

@@ -1,5 +1,5 @@
 use Rattle.std.proofs.Common.{◌≡◌, ◌++◌, map, drop}
-use Rattle.merc_predicates.specs.Groups.{clause_seen}
+use Rattle.merc_predicates.specs.Headed.{clause_seen}
 use Rattle.merc_predicates.specs.Predicates.{clause_forms}
 use Rattle.merc_predicates.proofs.forming.put_clauses.Given as goal
 

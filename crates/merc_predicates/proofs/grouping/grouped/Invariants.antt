@@ -1,6 +1,7 @@
 use Rattle.std.proofs.Common.{◌≡◌, ◌++◌, length, map, drop}
 use Rattle.merc_tree.specs.declared.declarations.PredDecl.{PredDecl}
-use Rattle.merc_predicates.specs.Groups.{clause_seen, headed, kept}
+use Rattle.merc_base.specs.Groups.{kept}
+use Rattle.merc_predicates.specs.Headed.{clause_seen, headed}
 use Rattle.merc_predicates.proofs.grouping.grouped.Given as goal
 
 abbrev pub invariant-loop-clause : goal.invariant-loop-clause

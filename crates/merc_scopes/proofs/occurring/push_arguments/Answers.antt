@@ -1,7 +1,7 @@
 use Rattle.std.proofs.Common.{◌≡◌, ◌+◌, ◌++◌, reverse, ap, ◌∙◌, arith}
 use Rattle.merc_tree.specs.Term.{terms_of}
 use Rattle.merc_goals.specs.Written.{parts, parts_of}
-use Rattle.merc_scopes.specs.Walking.{numbered_from}
+use Rattle.merc_goals.specs.Numbers.{numbered_from}
 use Rattle.merc_scopes.proofs.Walks.{parts-arguments, parts_of-push, push_step}
 use Rattle.merc_scopes.proofs.occurring.push_arguments.Goals as goal
 

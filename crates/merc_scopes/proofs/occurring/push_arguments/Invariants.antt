@@ -2,7 +2,7 @@ use Rattle.std.proofs.Common.{◌≡◌, ◌+◌, ◌++◌, reverse, length}
 use Rattle.merc_tree.specs.Term.{terms_of}
 use Rattle.merc_tree.specs.Shape.{arguments_of}
 use Rattle.merc_goals.specs.Written.{parts_of}
-use Rattle.merc_scopes.specs.Walking.{numbered_from}
+use Rattle.merc_goals.specs.Numbers.{numbered_from}
 use Rattle.merc_scopes.proofs.occurring.push_arguments.Given as goal
 
 abbrev pub invariant-loop-last : goal.invariant-loop-last

@@ -4,7 +4,8 @@ use Rattle.merc_tree.specs.Shape.{arguments_of}
 use Rattle.merc_scopes.specs.declared.occurrence.Occurrence.{Occurrence}
 use Rattle.merc_scopes.specs.Scopes.{is_blank}
 use Rattle.merc_scopes.specs.FirstPlaces.{Lists}
-use Rattle.merc_scopes.specs.Walking.{numbered_from, stacked}
+use Rattle.merc_goals.specs.Numbers.{numbered_from}
+use Rattle.merc_scopes.specs.Walking.{stacked}
 use Rattle.merc_scopes.proofs.Walks.{stacked-arguments}
 use Rattle.merc_scopes.proofs.occurring.variables_of_arguments.Goals as goal
 

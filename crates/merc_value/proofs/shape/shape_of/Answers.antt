@@ -2,7 +2,7 @@
 use Rattle.std.proofs.Common.{◌≡◌, ◌<◌, ◌∙◌, sym, ap, subst, length, arith}
 use Rattle.std.specs.List.{All}
 use Rattle.merc_value.specs.Value.{Value, Con, none}
-use Rattle.merc_value.specs.Block.{CellData, IsBelow, cell_values, word_values, value_of}
+use Rattle.merc_value.specs.Block.{CellData, IsBelow, cell_values, word_values, value_of, no_value}
 use Rattle.merc_value.specs.Writing.{arguments_of, HasShape}
 use Rattle.merc_value.proofs.Values.{cell_value_at}
 use Rattle.merc_value.proofs.BlockLaws.{all_raised}
@@ -20,7 +20,7 @@ returns-in-Cell-clause-shape c =
     let within : c.in-Cell.place < length c.args.cells.now = rw c.in-Cell.is at c.requires.within in
     let found = cell_found c.args.cells.now c.in-Cell.place c.index-cells-place.result within c.index-cells-place.is in
     let items : c.deref.result.now ≡ c.index-cells-place.result.arguments = c.deref.ensures.value ∙ ap (λ (at : CellData). at.arguments) c.cell.view_is in
-    let value = cell_value_at c.args.cells.now c.in-Cell.place c.index-cells-place.result (Con 0 none) found (c.requires.lower c.in-Cell.place c.index-cells-place.result found) in
+    let value = cell_value_at c.args.cells.now c.in-Cell.place c.index-cells-place.result no_value found (c.requires.lower c.in-Cell.place c.index-cells-place.result found) in
     let symbol : c.cell.inside.symbol ≡ c.index-cells-place.result.symbol = ap (λ (at : CellData). at.symbol) c.cell.view_is in
     let shaped = c.cell_shape.ensures.shape c.args.cells.now (ap arguments_of found ∙ sym items) in
     let same : Con c.cell.inside.symbol (word_values (cell_values c.args.cells.now) c.deref.result.now) ≡ value_of c.args.cells.now c.args.word.now = cc (value, items, symbol, c.in-Cell.is) in

@@ -1,6 +1,6 @@
 use Rattle.std.proofs.Common.{◌≡◌, ◌++◌, List, drop}
 use Rattle.std.specs.List.{flat_map}
-use Rattle.merc_entries.specs.Entries.{Key}
+use Rattle.merc_base.specs.declared.groups.Key.{Key}
 use Rattle.merc_entries.specs.EntryValue.{entry_values}
 use Rattle.merc_items.specs.ModuleOf.{modes_in}
 use Rattle.merc_items.specs.DeclaredModes.{kept_modes}

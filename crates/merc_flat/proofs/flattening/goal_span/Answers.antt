@@ -1,6 +1,0 @@
-use Rattle.std.proofs.Common.{length, ap, arith}
-use Rattle.merc_flat.proofs.EntryLaws.{some_entry}
-use Rattle.merc_flat.proofs.flattening.goal_span.Goals as goal
-
-pub unreachable-requires : goal.unreachable-requires
-unreachable-requires c = omega (arith, ap length c.entries.ensures, some_entry c.args.goal.now)

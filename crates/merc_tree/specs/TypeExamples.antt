@@ -1,0 +1,44 @@
+-- Worked examples of types, which the prover computes, and a false statement that it refutes.
+use Rattle.std.specs.Prelude.{◌≡◌, ℕ, List, [], ◌∷◌, refl}
+use Rattle.merc_base.specs.Names.{int_name, list_name, string_name}
+use Rattle.merc_tree.specs.declared.types.TypeShape.TheVariants.{Application as ApplicationShape}
+use Rattle.merc_tree.specs.Types.{TypeExpr, TypeVariable, IntType, TextType, TypeApplication, no_types, more_types, replaced}
+use Rattle.merc_tree.specs.TypeShape.{type_arguments_of, type_named, type_shape_of, types_applied}
+
+-- `int` and `string` alone are the types of integers and texts
+
+pub type_named-int : type_named int_name [] ≡ IntType
+type_named-int = refl
+
+pub type_named-string : type_named string_name [] ≡ TextType
+type_named-string = refl
+
+-- with arguments they are names as any other
+
+pub type_named-int_of : type_named int_name (TextType ∷ []) ≡ TypeApplication int_name (more_types TextType no_types)
+type_named-int_of = refl
+
+pub type_named-list : type_named list_name [] ≡ TypeApplication list_name no_types
+type_named-list = refl
+
+pub type_named-not : type_named string_name [] ≡ TypeApplication string_name no_types → ⊥
+type_named-not as_any_name = cc
+
+-- `list(int)`, the last of two types being its argument
+
+abbrev list_of_int : TypeExpr
+list_of_int = TypeApplication list_name (more_types IntType no_types)
+
+pub types_applied-example : types_applied list_name 1 (TextType ∷ IntType ∷ []) ≡ TextType ∷ list_of_int ∷ []
+types_applied-example = refl
+
+pub type_shape_of-example : type_shape_of list_of_int ≡ ApplicationShape list_name 1
+type_shape_of-example = refl
+
+pub type_arguments_of-example : type_arguments_of list_of_int ≡ IntType ∷ []
+type_arguments_of-example = refl
+
+-- `list(T)` with `int` in place of its variable
+
+pub replaced-example : replaced (λ name. IntType) (TypeApplication list_name (more_types (TypeVariable 90) no_types)) ≡ list_of_int
+replaced-example = refl
