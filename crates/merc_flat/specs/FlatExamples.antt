@@ -9,9 +9,12 @@ use Rattle.merc_tree.specs.Term.{Term, Variable, Integer, Application, none, mor
 use Rattle.merc_tree.specs.declared.declarations.Clause.{Clause}
 use Rattle.merc_goals.specs.Written.{written}
 use Rattle.merc_goals.specs.Faults.{outside_profile, wrong_form}
+use Rattle.merc_goal_tree.specs.Nodes.{Simple, Conjunction, nodes_of}
+use Rattle.merc_goal_tree.specs.declared.goal.SimpleGoal.TheVariants.{Shape, Call}
+use Rattle.merc_goal_tree.specs.declared.goal.Symbol.TheVariants.{Constructor}
 use Rattle.merc_flat.specs.GoalFaults.{limit_passed, unknown_name}
-use Rattle.merc_flat.specs.GoalFaultsExamples.{at, byte_of, c_name, f_name, g_name, p_name, q_name, x_name, example, with_clauses}
-use Rattle.merc_flat.specs.Flat.{clauses_fault, query_fault}
+use Rattle.merc_flat.specs.GoalFaultsExamples.{at, byte_of, c_name, f_name, g_name, p_name, q_name, x_name, y_name, example, with_clauses}
+use Rattle.merc_flat.specs.Flat.{clause_node, clauses_fault, query_fault}
 
 abbrev x : ℕ → Term
 x first = Variable x_name (at first)
@@ -91,6 +94,11 @@ wide_enough = refl
 
 too_wide : clauses_fault [] (with_clauses (sound ∷ wide_at 14 64 ∷ [])) ≡ Some (limit_passed Conjuncts (at 14))
 too_wide = refl
+
+-- the parts of a clause are numbered behind the arguments of its predicate: `p(f(X)) :- p(Y).`
+numbered : clause_node [] example (clause (over p_name (over f_name (x 4) 2) 0) (Some (over p_name (Variable y_name (at 12)) 10)) 0)
+    ≡ Conjunction (nodes_of (Simple (Shape 0 (Constructor f_name 1) (5 ∷ [])) (at 0) ∷ Simple (Call 0 (9 ∷ [])) (at 10) ∷ [])) (at 0)
+numbered = refl
 
 -- goals that are asked
 

@@ -1,7 +1,7 @@
 -- Faults of a few goals, in a module with the type `t` of the constructors `c/0` and `f/1` and the predicate `p/1`. `g` and `q` are unknown.
 use Rattle.std.specs.Prelude.{◌≡◌, ℕ, suc, zero, ◌+◌, List, [], ◌∷◌, Option, Some, None, refl}
 use Rattle.std.proofs.Common.{ap}
-use Rattle.merc_base.specs.Names.{int_name, less_name, plus_name}
+use Rattle.merc_base.specs.Names.{int_name, less_name, minus_name, plus_name}
 use Rattle.merc_base.specs.declared.place.Span.{Span}
 use Rattle.merc_base.specs.declared.refusal.Refusal.{Refusal}
 use Rattle.merc_base.specs.declared.refusal.LimitName.TheVariants.{Variables, Conjuncts}
@@ -11,9 +11,12 @@ use Rattle.merc_tree.specs.declared.declarations.Clause.{Clause}
 use Rattle.merc_tree.specs.declared.declarations.Module.{Module}
 use Rattle.merc_goals.specs.Written.{Written, WrittenGoals, Truth, Equal, Compared, Called, Conjunction, Parallel, Disjunction, Conditional, Negated, Quantified, WrongForm, no_goals, more_goals}
 use Rattle.merc_goals.specs.Faults.{wrong_form}
-use Rattle.merc_goal_tree.specs.declared.goal.SimpleGoal.TheVariants.{True, Call}
-use Rattle.merc_goal_tree.specs.Nodes.{Node, Simple}
-use Rattle.merc_flat.specs.GoalFaults.{form_fault, limit_passed, name_fault, unknown, unknown_in, unknown_name, variable_count}
+use Rattle.merc_goal_tree.specs.declared.goal.SimpleGoal.TheVariants.{True, Same, Shape, Arithmetic, Compare, Raise, Call}
+use Rattle.merc_goal_tree.specs.declared.goal.Symbol.TheVariants.{Constructor}
+use Rattle.merc_goal_tree.specs.declared.goal.Operation.TheVariants.{Add}
+use Rattle.merc_goal_tree.specs.declared.goal.Comparison.TheVariants.{Less}
+use Rattle.merc_goal_tree.specs.Nodes.{Node, Simple, Conjunction as NodeConjunction, Negation as NodeNegation, nodes_of}
+use Rattle.merc_flat.specs.GoalFaults.{form_fault, limit_passed, name_fault, unknown, unknown_in, unknown_name, variable_count, variables_of}
 
 abbrev m_name : ℕ
 m_name = 99
@@ -36,7 +39,7 @@ g_name = 104
 abbrev pub x_name : ℕ
 x_name = 105
 
-abbrev y_name : ℕ
+abbrev pub y_name : ℕ
 y_name = 106
 
 abbrev pub q_name : ℕ
@@ -103,6 +106,30 @@ form_before_variables = refl
 variables : variable_count 2 (Simple (Call 0 (1 ∷ 5 ∷ 7 ∷ 5 ∷ [])) (at 0)) ≡ 4
 variables = refl
 
+-- the first number behind the arguments is another variable's
+variable_behind : variable_count 2 (Simple (Call 0 (2 ∷ [])) (at 0)) ≡ 3
+variable_behind = refl
+
+-- the variables of each goal
+variables_same : variables_of (Same 1 2) ≡ 1 ∷ 2 ∷ []
+variables_same = refl
+
+variables_shape : variables_of (Shape 1 (Constructor f_name 2) (2 ∷ 3 ∷ [])) ≡ 1 ∷ 2 ∷ 3 ∷ []
+variables_shape = refl
+
+variables_arithmetic : variables_of (Arithmetic Add 1 2 3) ≡ 1 ∷ 2 ∷ 3 ∷ []
+variables_arithmetic = refl
+
+variables_compare : variables_of (Compare Less 1 2) ≡ 1 ∷ 2 ∷ []
+variables_compare = refl
+
+variables_raise : variables_of (Raise 1) ≡ 1 ∷ []
+variables_raise = refl
+
+-- in all parts of a goal
+variables_parts : variable_count 0 (NodeConjunction (nodes_of (Simple (Call 0 (1 ∷ [])) (at 0) ∷ NodeNegation (Simple (Same 1 2) (at 0)) (at 0) ∷ [])) (at 0)) ≡ 2
+variables_parts = refl
+
 -- an argument counts though it does not occur
 variables_of_arguments : variable_count 2 truth ≡ 2
 variables_of_arguments = refl
@@ -130,6 +157,17 @@ unknown_arity = refl
 -- `X + Y` is arithmetic, and with a qualifier it is an unknown name
 arithmetic : unknown_in example (applied plus_name None (more (Variable x_name (at 2)) (more (Variable y_name (at 6)) none)) 2) ≡ []
 arithmetic = refl
+
+-- so is `- X`, but not `+(X)`
+negation : unknown_in example (applied minus_name None (more (Variable x_name (at 2)) none) 2) ≡ []
+negation = refl
+
+no_negation : unknown_in example (applied plus_name None (more (Variable x_name (at 2)) none) 2) ≡ at 2 ∷ []
+no_negation = refl
+
+-- an unknown name in an operand
+unknown_operand : unknown_in example (applied plus_name None (more (applied g_name None none 4) (more (Variable y_name (at 6)) none)) 2) ≡ at 4 ∷ []
+unknown_operand = refl
 
 qualified_arithmetic : unknown_in example (applied plus_name (Some int_name) (more (Variable x_name (at 2)) (more (Variable y_name (at 6)) none)) 2) ≡ at 2 ∷ []
 qualified_arithmetic = refl
