@@ -261,6 +261,11 @@ regions = refl
 pub quantified : flat_form (binary comma_name (unary p x) (binary some_name list_x (unary q x))) ≡ Simple (Call p (4 ∷ [])) no_span ∷ Quantified (16 ∷ []) (Simple (Call q (16 ∷ [])) no_span) no_span ∷ []
 quantified = refl
 
+-- `p(X), q(X), some [X] r(X)`: it hides the one around it
+pub quantified-hides : flat_form (binary comma_name (unary p x) (binary comma_name (unary q x) (binary some_name list_x (unary r x))))
+    ≡ Simple (Call p (4 ∷ [])) no_span ∷ Simple (Call q (4 ∷ [])) no_span ∷ Quantified (22 ∷ []) (Simple (Call r (22 ∷ [])) no_span) no_span ∷ []
+quantified-hides = refl
+
 -- `some [X] p(X), q(X)`: it ends with the quantifier
 pub quantified-before : flat_form (binary comma_name (binary some_name list_x (unary p x)) (unary q x)) ≡ Quantified (12 ∷ []) (Simple (Call p (12 ∷ [])) no_span) no_span ∷ simple (Call q (16 ∷ []) ∷ [])
 quantified-before = refl
