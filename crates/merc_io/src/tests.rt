@@ -1,6 +1,6 @@
+//! What no clause can say: what the files of the system hold, and that a reader may give and a writer take less.
 ghost use Rattle.std.specs.Prelude.{None, Some};
 
-//! What no clause can say: what the files of the system hold, and that a reader may give and a writer take less.
 use super::*;
 use merc_base::{Buffer, Fetched, Gate, Shelf, Sink, Text, Wrote};
 use std::io::{ErrorKind, Read, Write};
