@@ -27,7 +27,7 @@ unfolding operators bounded_check
 all_bounded = refl
 
 minus_check : Operator → Bool
-minus_check operator = not (operator.name == 43) || (is_infix operator.fixity || (not (takes_two operator.fixity) && last_most operator == 199))
+minus_check operator = not (operator.name == minus_name) || (is_infix operator.fixity || (not (takes_two operator.fixity) && last_most operator == 199))
 
 all_minus : list_all minus_check operators ≡ true
 unfolding operators minus_check
@@ -66,18 +66,18 @@ prefix_bounded name operator found = bounded_by operator (prefix_checked bounded
 
 -- the prefix operator that may be a sign takes one operand, which binds tighter than each operator
 
-minus_by : (operator : Operator) → operator.name ≡ 43 → is_infix operator.fixity ≡ false → minus_check operator ≡ true → not (takes_two operator.fixity) && last_most operator == 199 ≡ true
+minus_by : (operator : Operator) → operator.name ≡ minus_name → is_infix operator.fixity ≡ false → minus_check operator ≡ true → not (takes_two operator.fixity) && last_most operator == 199 ≡ true
 unfolding minus_check
 minus_by operator minus prefix h =
-    sym (ap (λ (n : ℕ). not (n == 43) || (is_infix operator.fixity || (not (takes_two operator.fixity) && last_most operator == 199))) minus
+    sym (ap (λ (n : ℕ). not (n == minus_name) || (is_infix operator.fixity || (not (takes_two operator.fixity) && last_most operator == 199))) minus
     ∙ ap (λ b. b || (not (takes_two operator.fixity) && last_most operator == 199)) prefix) ∙ h
 
 prefix_fixity : (name : ℕ) (operator : Operator) → prefix_named name ≡ Some operator → is_infix operator.fixity ≡ false
 prefix_fixity name operator found = not-true (is_infix operator.fixity) ((and_parts (operator.name == name) (not (is_infix operator.fixity)) (find_holds (λ o. (o.name == name) && not (is_infix o.fixity)) operators operator found)).1)
 
-pub minus_row : (operator : Operator) → prefix_named 43 ≡ Some operator → (takes_two operator.fixity ≡ false) × (last_most operator ≡ 199)
+pub minus_row : (operator : Operator) → prefix_named minus_name ≡ Some operator → (takes_two operator.fixity ≡ false) × (last_most operator ≡ 199)
 minus_row operator found =
-    let h = minus_by operator (prefix_name 43 operator found) (prefix_fixity 43 operator found) (prefix_checked minus_check all_minus 43 operator found) in (
+    let h = minus_by operator (prefix_name minus_name operator found) (prefix_fixity minus_name operator found) (prefix_checked minus_check all_minus minus_name operator found) in (
       not-true (takes_two operator.fixity) ((and_parts (not (takes_two operator.fixity)) (last_most operator == 199) h).0),
       eqb-true (last_most operator) 199 ((and_parts (not (takes_two operator.fixity)) (last_most operator == 199) h).1),
     )
@@ -178,13 +178,13 @@ prefix_spelled names fixed operator row = (
       ∙ comma_by operator (prefix_fixity operator.name operator row) (prefix_checked comma_check all_commas operator.name operator row)),
 )
 
-minus_known : has_text (slice_get fixed_names 43) ≡ true
+minus_known : has_text (slice_get fixed_names minus_name) ≡ true
 unfolding fixed_names is_small
 minus_known = refl
 
-minus_operator : is_operator 43 ≡ true
+minus_operator : is_operator minus_name ≡ true
 unfolding operators
 minus_operator = refl
 
 pub minus_spelled : (names : List (List ℕ)) → HoldsFixed names → IsSpelled names (Name minus_name)
-minus_spelled names fixed = (known_name names fixed 43 (slice_get fixed_names 43) refl minus_known, inr minus_operator)
+minus_spelled names fixed = (known_name names fixed minus_name (slice_get fixed_names minus_name) refl minus_known, inr minus_operator)

@@ -5,7 +5,7 @@ use Rattle.std.proofs.Math.Seq.{take-append_seam}
 use Rattle.std.proofs.lemmas.Bool.{and_parts, and_left, and_right, or_cases, cases_Bool, eqb-true, ne_eqb, leb-true, not-true, false≢true}
 use Rattle.std.proofs.lemmas.Bool.Decides.{nat_tests}
 use Rattle.merc_base.specs.Characters.{dot_code, semicolon_code, slash_code, star_code}
-use Rattle.merc_base.specs.Names.{HoldsFixed, fixed_names, comma_name}
+use Rattle.merc_base.specs.Names.{HoldsFixed, fixed_names, comma_name, minus_name}
 use Rattle.merc_value.specs.Text.{text_at}
 use Rattle.merc_tokens.specs.declared.bytes.Class.TheVariants.{Graphic as GraphicClass}
 use Rattle.merc_tokens.specs.declared.bytes.Start.TheVariants.{Graphic}
@@ -104,7 +104,7 @@ operator-named : (name : ℕ) (test : Operator → Bool) → name == comma_name 
 operator-named name test other some =
     let row = found-passes (λ (operator : Operator). (operator.name == name) && test operator) (λ (operator : Operator). (operator.name == comma_name) || is_alone_at (slice_get fixed_names operator.name)) operators all_alone some in
     let same = eqb-true row.0.name name (and_parts (row.0.name == name) (test row.0) row.1).0 in
-    let either : (name == comma_name) || is_alone_at (slice_get fixed_names name) ≡ true = subst (λ (n : ℕ). (n == 26) || is_alone_at (slice_get fixed_names n) ≡ true) same row.2 in
+    let either : (name == comma_name) || is_alone_at (slice_get fixed_names name) ≡ true = subst (λ (n : ℕ). (n == comma_name) || is_alone_at (slice_get fixed_names n) ≡ true) same row.2 in
     reads-at name (slice_get fixed_names name) refl (subst (λ (b : Bool). b || is_alone_at (slice_get fixed_names name) ≡ true) other either)
 
 pub operator-reads : (name : ℕ) → is_operator name ≡ true → Reads name
@@ -124,9 +124,9 @@ minus-reads after rest other = let none : prefix_len (class_test GraphicClass) r
 text-fixed : (names : List (List ℕ)) (name : ℕ) (text : List ℕ) → HoldsFixed names → slice_get fixed_names name ≡ Some text → text_at names name ≡ text
 text-fixed names name text fixed is = ap (λ (o : Option (List ℕ)). unwrap_or o []) (fixed.text name text is)
 
-pub minus-fixed : slice_get fixed_names 43 ≡ Some (codes "-")
+pub minus-fixed : slice_get fixed_names minus_name ≡ Some (codes "-")
 unfolding fixed_names
 minus-fixed = refl
 
-pub minus-text : (names : List (List ℕ)) → HoldsFixed names → text_at names 43 ≡ codes "-"
-minus-text names fixed = text-fixed names 43 (codes "-") fixed minus-fixed
+pub minus-text : (names : List (List ℕ)) → HoldsFixed names → text_at names minus_name ≡ codes "-"
+minus-text names fixed = text-fixed names minus_name (codes "-") fixed minus-fixed

@@ -4,7 +4,7 @@ use Rattle.std.specs.Int.{w64}
 use Rattle.std.specs.List.{list_all}
 use Rattle.std.specs.Str.{IsUtf8}
 use Rattle.merc_base.specs.Characters.{underscore_code}
-use Rattle.merc_base.specs.Names.{comma_name}
+use Rattle.merc_base.specs.Names.{comma_name, minus_name}
 use Rattle.merc_tokens.specs.Pieces.{name_limit}
 use Rattle.merc_tokens.specs.Integers.{integer_limit}
 use Rattle.merc_terms.specs.Reading.{is_integer}
@@ -88,7 +88,7 @@ is_name_kind names Stop = false
 
 -- whether a token may stand directly behind another
 abbrev pub touches : List (List ℕ) → TokenKind → TokenKind → Bool
-touches names (Name name) next = (is_plain (text_at names name) && ends_name next) || ((name == 43) && is_integer next)
+touches names (Name name) next = (is_plain (text_at names name) && ends_name next) || ((name == minus_name) && is_integer next)
 touches names (Quoted name) next = ends_name next
 touches names (Var name) next = ends_operand next
 touches names (Int value) next = ends_operand next

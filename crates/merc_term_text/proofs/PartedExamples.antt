@@ -9,24 +9,30 @@ use Rattle.merc_terms.specs.Operators.{operators}
 use Rattle.merc_term_text.specs.Pieces.{Blank, Token}
 use Rattle.merc_term_text.proofs.Parted.{parted, is_operator}
 
+abbrev f_name : ℕ
+f_name = 0
+
+abbrev x_name : ℕ
+x_name = 1
+
 abbrev two_names : List (List ℕ)
 two_names = codes "f" ∷ codes "X" ∷ []
 
 -- `f(X)`
-pub parted-example : parted two_names None (Token (Name 0) ∷ Token OpenArgs ∷ Token (Var 1) ∷ Token Close ∷ []) ≡ true
+pub parted-example : parted two_names None (Token (Name f_name) ∷ Token OpenArgs ∷ Token (Var x_name) ∷ Token Close ∷ []) ≡ true
 unfolding word_operators
 parted-example = refl
 
 -- `X(`: a parenthesis directly behind a variable opens no arguments
-pub parted-counterexample : parted two_names None (Token (Var 1) ∷ Token OpenArgs ∷ []) ≡ false
+pub parted-counterexample : parted two_names None (Token (Var x_name) ∷ Token OpenArgs ∷ []) ≡ false
 parted-counterexample = refl
 
 -- `f.` and the end, or a blank: the mark is a full stop there
-pub qualifier-counterexample : parted two_names None (Token (Name 0) ∷ Token Dot ∷ []) ≡ false
+pub qualifier-counterexample : parted two_names None (Token (Name f_name) ∷ Token Dot ∷ []) ≡ false
 unfolding word_operators
 qualifier-counterexample = refl
 
-pub qualifier_blank-counterexample : parted two_names None (Token (Name 0) ∷ Token Dot ∷ Blank ∷ Token (Name 0) ∷ []) ≡ false
+pub qualifier_blank-counterexample : parted two_names None (Token (Name f_name) ∷ Token Dot ∷ Blank ∷ Token (Name f_name) ∷ []) ≡ false
 unfolding word_operators
 qualifier_blank-counterexample = refl
 

@@ -2,7 +2,7 @@
 use Rattle.std.proofs.Common.{◌≡◌, ℕ, ◌<◌, Bool, true, false, ◌==◌, ◌||◌, ◌&&◌, List, [], ◌∷◌, ◌++◌, Option, Some, None, refl, sym, ◌∙◌, ap, arith, inl, inr}
 use Rattle.std.proofs.lemmas.Bool.{and_parts, or_cases, and_right, or_from, eqb-true, false≢true, agree_below_at}
 use Rattle.merc_base.specs.Characters.{percent_code, quote_code}
-use Rattle.merc_base.specs.Names.{HoldsFixed}
+use Rattle.merc_base.specs.Names.{HoldsFixed, minus_name}
 use Rattle.merc_terms.specs.Reading.{is_integer}
 use Rattle.merc_value.specs.Text.{text_at, is_plain}
 use Rattle.merc_tokens.specs.Bytes.{is_blank, is_lower, is_graphic}
@@ -85,7 +85,7 @@ dot-before names (Some Stop) is = absurd (cc)
 
 pub open-before : (names : List (List ℕ)) (before : Option TokenKind) → allowed names before Open ≡ true → after_name before ≡ false
 open-before names None is = refl
-open-before names (Some (Name name)) is = absurd (neither (is_plain (text_at names name)) (name == 43) is)
+open-before names (Some (Name name)) is = absurd (neither (is_plain (text_at names name)) (name == minus_name) is)
 open-before names (Some (Quoted name)) is = absurd (cc)
 open-before names (Some (Var name)) is = refl
 open-before names (Some (Int value)) is = refl
@@ -156,10 +156,10 @@ name-behind names before (Token next ∷ rest) ends is =
 
 -- what may stand behind a plain name
 pub plain-touches : (names : List (List ℕ)) (name : ℕ) (next : TokenKind) → HoldsFixed names → is_plain (text_at names name) ≡ true → touches names (Name name) next ≡ true → ends_name next ≡ true
-plain-touches names name next fixed is touch = elim (or_cases (is_plain (text_at names name) && ends_name next) ((name == 43) && is_integer next) touch) [
+plain-touches names name next fixed is touch = elim (or_cases (is_plain (text_at names name) && ends_name next) ((name == minus_name) && is_integer next) touch) [
   | inl here ↦ (and_parts (is_plain (text_at names name)) (ends_name next) here).1
   | inr sign ↦ absurd (
-      let same = eqb-true name 43 (and_parts (name == 43) (is_integer next) sign).0 in
+      let same = eqb-true name minus_name (and_parts (name == minus_name) (is_integer next) sign).0 in
       false≢true (ap is_plain (sym (minus-text names fixed)) ∙ ap (λ (n : ℕ). is_plain (text_at names n)) (sym same) ∙ is)
       )
 ]
@@ -168,9 +168,9 @@ plain-touches names name next fixed is touch = elim (or_cases (is_plain (text_at
 pub data EndsSymbol (name : ℕ) : List Piece → Type 0 where
   symbol_end : EndsSymbol name []
   symbol_blank : (rest : List Piece) → EndsSymbol name (Blank ∷ rest)
-  symbol_sign : (value : ℕ) (rest : List Piece) → name ≡ 43 → EndsSymbol name (Token (Int value) ∷ rest)
+  symbol_sign : (value : ℕ) (rest : List Piece) → name ≡ minus_name → EndsSymbol name (Token (Int value) ∷ rest)
 
-only_integer : (name : ℕ) (next : TokenKind) (rest : List Piece) → name ≡ 43 → is_integer next ≡ true → EndsSymbol name (Token next ∷ rest)
+only_integer : (name : ℕ) (next : TokenKind) (rest : List Piece) → name ≡ minus_name → is_integer next ≡ true → EndsSymbol name (Token next ∷ rest)
 only_integer name (Name _) rest same is = absurd (cc)
 only_integer name (Quoted _) rest same is = absurd (cc)
 only_integer name (Var _) rest same is = absurd (cc)
@@ -191,9 +191,9 @@ symbol-behind names name [] symbol is = symbol_end
 symbol-behind names name (Blank ∷ rest) symbol is = symbol_blank rest
 symbol-behind names name (Token next ∷ rest) symbol is =
     let touch = (parted-token names (Some (Name name)) next rest is).0 in
-    elim (or_cases (is_plain (text_at names name) && ends_name next) ((name == 43) && is_integer next) touch) [
+    elim (or_cases (is_plain (text_at names name) && ends_name next) ((name == minus_name) && is_integer next) touch) [
       | inl here ↦ absurd (false≢true (sym symbol ∙ (and_parts (is_plain (text_at names name)) (ends_name next) here).0))
-      | inr sign ↦ let parts = and_parts (name == 43) (is_integer next) sign in only_integer name next rest (eqb-true name 43 parts.0) parts.1
+      | inr sign ↦ let parts = and_parts (name == minus_name) (is_integer next) sign in only_integer name next rest (eqb-true name minus_name parts.0) parts.1
     ]
 
 -- behind a qualifier mark stands a name

@@ -3,7 +3,7 @@ use Rattle.std.proofs.Common.{◌≡◌, ℕ, ◌+◌, ◌≤◌, ◌⊎◌, Boo
 use Rattle.std.specs.List.{AllByRecursion}
 use Rattle.std.proofs.lemmas.Bool.{cases_Bool, false≢true}
 use Rattle.merc_base.specs.Characters.{dot_code, double_quote_code, quote_code, space_code}
-use Rattle.merc_base.specs.Names.{HoldsFixed}
+use Rattle.merc_base.specs.Names.{HoldsFixed, minus_name}
 use Rattle.merc_value.specs.Text.{text_at, is_plain, escape, quoted as written}
 use Rattle.merc_tokens.specs.declared.token.TokenKind.{TokenKind}
 use Rattle.merc_tokens.specs.declared.token.TokenKind.TheVariants.{Name, Quoted, Var, Int, Text as TextToken, OpenArgs, Open, Close, OpenList, CloseList, Comma, Bar, Dot, Stop}
@@ -126,7 +126,7 @@ module _ (names : List (List ℕ)) (fixed : HoldsFixed names) where
       operator-token names after name (space_code ∷ pieces_text names rest) reads.text (fixed.text name reads.text reads.is) (reads.piece after (space_code ∷ pieces_text names rest) (at_blank (pieces_text names rest)))
   symbol-reads after name _ reads (symbol_sign value rest same) others =
       operator-token names after name (decimal value ++ pieces_text names rest) (codes "-")
-      (subst (λ (n : ℕ). slice_get names n ≡ Some (codes "-")) (sym same) (fixed.text 43 (codes "-") minus-fixed))
+      (subst (λ (n : ℕ). slice_get names n ≡ Some (codes "-")) (sym same) (fixed.text minus_name (codes "-") minus-fixed))
       (minus-reads after (decimal value ++ pieces_text names rest) (decimal-no_graphic value (pieces_text names rest) others.0))
 
   name-token : (after : Bool) (name : ℕ) (rest : List Piece) → parted names (Some (Name name)) rest ≡ true → HasName names name → (is_plain (text_at names name) ≡ true) ⊎ (is_operator name ≡ true)

@@ -2,8 +2,9 @@
 use Rattle.std.proofs.Common.{◌≡◌, ℕ, Bool, true, false, ◌==◌, ◌&&◌, List, [], ◌∷◌, Some, None, find, codes, refl, sym, subst, arith}
 use Rattle.std.specs.Char.{encode_utf8}
 use Rattle.std.proofs.lemmas.Bool.{cond_both, eqb-true, and_parts}
-use Rattle.merc_base.specs.Names.{HoldsFixed, fixed_names}
+use Rattle.merc_base.specs.Names.{HoldsFixed, fixed_names, comma_name, cons_name, nil_name}
 use Rattle.merc_base.specs.declared.place.Span.{Span}
+use Rattle.merc_terms.proofs.Table.{infix_name as infix_is_named}
 use Rattle.merc_tokens.specs.declared.token.Token.{Token}
 use Rattle.merc_tokens.specs.declared.token.TokenKind.{TokenKind}
 use Rattle.merc_tree.specs.Term.{Term, Terms, Variable, Integer, Text, Application, none, more, bare, bare_all, with_span, HasWords, HaveWords}
@@ -62,32 +63,18 @@ with_span-writable names span (Text name old) may = may
 with_span-writable names span (Application name None arguments old) may = may
 with_span-writable names span (Application name (Some qualifier) arguments old) may = may
 
--- what is found passes the test
-find-passes : {X : Type 0} (test : X → Bool) (xs : List X) (found : X) → find test xs ≡ Some found → test found ≡ true
-find-passes test [] found is = absurd (cc)
-find-passes test (x ∷ xs) found is =
-    cond_both (test x) (Some x) (find test xs) (λ o. o ≡ Some found → test found ≡ true)
-    (λ passes here. let same : x ≡ found = cc in subst (λ y. test y ≡ true) same passes)
-    (λ _ on. find-passes test xs found on)
-    is
-
-infix-name : (name : ℕ) (operator : Operator) → infix_named name ≡ Some operator → operator.name ≡ name
-infix-name name operator is =
-    let passes = find-passes (λ (row : Operator). (row.name == name) && is_infix row.fixity) operators operator is in
-    eqb-true operator.name name (and_parts (operator.name == name) (is_infix operator.fixity) passes).0
-
 module _ (names : List (List ℕ)) (fixed : HoldsFixed names) where
-  nil-has : HasName names 1
+  nil-has : HasName names nil_name
   unfolding fixed_names encode_utf8
-  nil-has = record { text = codes "[]"; there = fixed.text 1 (codes "[]") refl; utf8 = (codes "[]", (refl, refl)); short = omega arith }
+  nil-has = record { text = codes "[]"; there = fixed.text nil_name (codes "[]") refl; utf8 = (codes "[]", (refl, refl)); short = omega arith }
 
-  cell-has : HasName names 2
+  cell-has : HasName names cons_name
   unfolding fixed_names encode_utf8
-  cell-has = record { text = codes "[|]"; there = fixed.text 2 (codes "[|]") refl; utf8 = (codes "[|]", (refl, refl)); short = omega arith }
+  cell-has = record { text = codes "[|]"; there = fixed.text cons_name (codes "[|]") refl; utf8 = (codes "[|]", (refl, refl)); short = omega arith }
 
-  comma-has : HasName names 26
+  comma-has : HasName names comma_name
   unfolding fixed_names encode_utf8
-  comma-has = record { text = codes ","; there = fixed.text 26 (codes ",") refl; utf8 = (codes ",", (refl, refl)); short = omega arith }
+  comma-has = record { text = codes ","; there = fixed.text comma_name (codes ",") refl; utf8 = (codes ",", (refl, refl)); short = omega arith }
 
   name-has : (kind : TokenKind) (name : ℕ) (rest : List Token) → IsName kind name rest → IsKnown names kind → HasName names name
   name-has _ _ _ (plain name rest other) known = known
@@ -99,8 +86,8 @@ module _ (names : List (List ℕ)) (fixed : HoldsFixed names) where
   qualified-has _ _ (quoted_part name) known = known
 
   infix-has : (commas : Bool) (kind : TokenKind) (operator : Operator) → IsInfix commas kind operator → IsKnown names kind → HasName names operator.name
-  infix-has _ _ _ (infix_name commas name operator is) known = subst (HasName names) (sym (infix-name name operator is)) known
-  infix-has _ _ _ (infix_comma operator is) known = subst (HasName names) (sym (infix-name 26 operator is)) comma-has
+  infix-has _ _ _ (infix_name commas name operator is) known = subst (HasName names) (sym (infix_is_named name operator is)) known
+  infix-has _ _ _ (infix_comma operator is) known = subst (HasName names) (sym (infix_is_named comma_name operator is)) comma-has
 
   mutual
     -- a term that tokens spell can be written, and what stands behind it is known

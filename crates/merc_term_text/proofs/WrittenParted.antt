@@ -84,7 +84,7 @@ module _ (names : List (List ℕ)) where
 
   plain_touches : (name : ℕ) (next : TokenKind) → is_plain (text_at names name) ≡ true → ends_name next ≡ true → touches names (Name name) next ≡ true
   plain_touches name next plain ends =
-      ap (λ b. (b && ends_name next) || (name == 43 && is_integer next)) plain ∙ ap (λ b. b || (name == 43 && is_integer next)) ends
+      ap (λ b. (b && ends_name next) || (name == minus_name && is_integer next)) plain ∙ ap (λ b. b || (name == minus_name && is_integer next)) ends
 
   behind_name : (name : ℕ) (rest : List Piece) → is_plain (text_at names name) ≡ true → parted names (Some (Quoted name)) rest ≡ true → parted names (Some (Name name)) rest ≡ true
   behind_name name [] plain well = refl
@@ -290,7 +290,7 @@ module _ (names : List (List ℕ)) where
   text_well name span writable = barred (Text name span) (λ commas before rest start well. started names before (TextToken name) rest start refl (behind_text names name rest well)) (λ commas. (writable, tt)) refl
 
   sign_touches : (value : ℕ) → touches names (Name minus_name) (Int value) ≡ true
-  sign_touches value = or-true (is_plain (text_at names 43) && false)
+  sign_touches value = or-true (is_plain (text_at names minus_name) && false)
 
   integer_placed : (value : ℤ) → ArePlaced names (integer_pieces value)
   integer_placed (pos n) before rest start well = started names before (Int n) rest start refl (behind_integer names n rest well)

@@ -1,7 +1,7 @@
 -- Tokens of the kinds that a term is written with spell that term.
 use Rattle.std.proofs.Common.{◌≡◌, ℕ, ◌+◌, ◌≤◌, ◌<◌, ◌==◌, ◌&&◌, ◌||◌, not, nat_lt, ℤ, pos, negsuc, neg_ℤ, Bool, true, false, List, [], ◌∷◌, ◌++◌, Option, Some, None, is_some, is_none, cond, refl, ap, sym, ◌∙◌, subst, eqb-true, ltb-false, le-ltb, arith, append_assoc, add-one}
 use Rattle.std.proofs.Math.Bool.{and-false, or-false, or-true}
-use Rattle.merc_base.specs.Names.{HoldsFixed, comma_name, minus_name}
+use Rattle.merc_base.specs.Names.{HoldsFixed, comma_name, minus_name, cons_name}
 use Rattle.merc_base.specs.declared.place.Span.{Span}
 use Rattle.std.proofs.lemmas.Bool.{or_parts, true≢false}
 use Rattle.merc_terms.proofs.Table.{infix_name, prefix_name}
@@ -55,7 +55,7 @@ pub record ReadItems (head tail : Term) (tokens : List TokenOf) (after : List Pi
   pub rest : List TokenOf
   pub spells : (whole : Span) → SpellsItems whole (found whole) close tokens rest
   pub left : kinds rest ≡ kinds_of after
-  pub same : (whole : Span) → bare (found whole) ≡ Application 2 None (more (bare head) (more (bare tail) none)) no_span
+  pub same : (whole : Span) → bare (found whole) ≡ Application cons_name None (more (bare head) (more (bare tail) none)) no_span
 
 -- A part is read where it stands without parentheses, where these may be needed for a chain of commas alone.
 abbrev pub ReadsWhole : Term → ℕ → Bool → (Bool → List Piece) → Type 0
@@ -153,7 +153,7 @@ module _ (names : List (List ℕ)) (term : Term) (bounded : form_priority (part_
             (subst (λ ts. Spells false head priority tokens ts) bar.is head_spells) within
             (subst (λ ts. Spells false read.found read.priority bar.rest ts) close.is read.spells) read.within;
         left = close.left;
-        same = λ all'. ap (λ t. Application 2 None (more (bare head) (more t none)) no_span) read.same;
+        same = λ all'. ap (λ t. Application cons_name None (more (bare head) (more t none)) no_span) read.same;
       }
 
 part_read : (names : List (List ℕ)) (term : Term) → Reads names term → (max : ℕ) (commas : Bool) (tokens : List TokenOf) (after : List Piece)
@@ -271,7 +271,7 @@ operator_by : (commas : Bool) (name' : ℕ) (operator : Operator) → infix_name
     → kinds tokens ≡ kinds_of (cond test (Token Comma ∷ Blank ∷ []) (Blank ∷ Token (Name operator.name) ∷ Blank ∷ []) ++ after) → Operated commas operator tokens after
 operator_by true name' operator row true e chain tokens after same =
     let first = take_token Comma tokens (kinds_of after) same in
-    record { kind = Comma; span = first.span; rest = first.rest; is = first.is; left = first.left; operates = comma operator (ap infix_named (sym (eqb-true operator.name 26 e)) ∙ row) }
+    record { kind = Comma; span = first.span; rest = first.rest; is = first.is; left = first.left; operates = comma operator (ap infix_named (sym (eqb-true operator.name comma_name e)) ∙ row) }
 operator_by false name' operator row true e chain tokens after same = absurd (true≢false chain)
 operator_by commas name' operator row false e chain tokens after same =
     let first = take_token (Name operator.name) tokens (kinds_of after) same in
@@ -342,9 +342,9 @@ module _ (names : List (List ℕ)) (max : ℕ) (commas : Bool) where
 
 -- a prefix operator's name is no sign before its operand
 no_sign : (name' : ℕ) (operator : Operator) → prefix_named name' ≡ Some operator → (tokens : List TokenOf) → (last_most operator < 200 → begins_with is_integer tokens ≡ false)
-    → (test : Bool) → (name' == 43) ≡ test → test && begins_with is_integer tokens ≡ false
+    → (test : Bool) → (name' == minus_name) ≡ test → test && begins_with is_integer tokens ≡ false
 no_sign name' operator row tokens unsigned true e =
-    let minus = minus_row operator (ap prefix_named (sym (eqb-true name' 43 e)) ∙ row) in
+    let minus = minus_row operator (ap prefix_named (sym (eqb-true name' minus_name e)) ∙ row) in
     unsigned (omega (arith, minus.1))
 no_sign name' operator row tokens unsigned false e = refl
 
@@ -363,7 +363,7 @@ module _ (names : List (List ℕ)) (name' : ℕ) (operator : Operator) (operand 
         within = omega arith;
         spells = subst (λ ts. Spells commas (Application operator.name None (more inner.read.found none) (joined first.span (span_of inner.read.found))) operator.priority ts inner.read.rest) (sym first.is)
             (before commas operator.name inner.read.priority operator inner.read.found first.span first.rest inner.read.rest
-            (record { row = row'; not_plain = inner.read.starts; no_sign = no_sign operator.name operator row' first.rest inner.unsigned (operator.name == 43) refl })
+            (record { row = row'; not_plain = inner.read.starts; no_sign = no_sign operator.name operator row' first.rest inner.unsigned (operator.name == minus_name) refl })
             one inner.read.spells inner.read.within);
         left = inner.read.left;
         same = ap (λ (n : ℕ). Application n None (more (bare inner.read.found) none) no_span) named ∙ ap (λ t. Application name' None (more t none) no_span) inner.read.same;
@@ -372,9 +372,9 @@ module _ (names : List (List ℕ)) (name' : ℕ) (operator : Operator) (operand 
       }
 
 no_minus : (operator : Operator) → takes_two operator.fixity ≡ true → prefix_named operator.name ≡ Some operator → (tokens : List TokenOf)
-    → (test : Bool) → (operator.name == 43) ≡ test → test && begins_with is_integer tokens ≡ false
+    → (test : Bool) → (operator.name == minus_name) ≡ test → test && begins_with is_integer tokens ≡ false
 no_minus operator two row tokens true e =
-    let minus = minus_row operator (ap prefix_named (sym (eqb-true operator.name 43 e)) ∙ row) in
+    let minus = minus_row operator (ap prefix_named (sym (eqb-true operator.name minus_name e)) ∙ row) in
     absurd (true≢false (sym two ∙ minus.0))
 no_minus operator two row tokens false e = refl
 
@@ -396,7 +396,7 @@ module _ (names : List (List ℕ)) (name' : ℕ) (operator : Operator) (variable
         within = omega arith;
         spells = subst (λ ts. Spells commas (Application operator.name None (more one.found (more last.found none)) (joined first.span (span_of last.found))) operator.priority ts last.rest) (sym first.is)
             (quantifier commas operator.name one.priority last.priority operator one.found last.found first.span first.rest one.rest last.rest
-            (record { row = row'; not_plain = one.starts; no_sign = no_minus operator two row' first.rest (operator.name == 43) refl })
+            (record { row = row'; not_plain = one.starts; no_sign = no_minus operator two row' first.rest (operator.name == minus_name) refl })
             two one.spells (omega (arith, one.within)) (begins_is is_infix_name one.rest ∙ ap (begins is_infix_name) one.left) last.spells (omega (arith, last.within)));
         left = last.left;
         same = ap (λ (n : ℕ). Application n None (more (bare one.found) (more (bare last.found) none)) no_span) named
@@ -464,11 +464,11 @@ module _ (names : List (List ℕ)) (head tail : Term) (reads_head : Reads names 
         rest = items.rest;
         spells = items.spells;
         left = items.left;
-        same = λ whole. items.same whole ∙ ap (λ t. Application 2 None (more t (more (bare tail) none)) no_span) one.same;
+        same = λ whole. items.same whole ∙ ap (λ t. Application cons_name None (more t (more (bare tail) none)) no_span) one.same;
       }
 
   module _ (name' : ℕ) (span : Span) (cons : name' ≡ 2) where
-    list_bare : Application 2 None (more (bare head) (more (bare tail) none)) no_span ≡ Application name' None (more (bare head) (more (bare tail) none)) no_span
+    list_bare : Application cons_name None (more (bare head) (more (bare tail) none)) no_span ≡ Application name' None (more (bare head) (more (bare tail) none)) no_span
     list_bare = ap (λ (n : ℕ). Application n None (more (bare head) (more (bare tail) none)) no_span) (sym cons)
 
     list_read : ReadsWhole (Application name' None (more head (more tail none)) span) 0 false (λ commas. Token OpenList ∷ (item_pieces (part_of names head ∷ part_of names tail ∷ []) ++ Token CloseList ∷ []))
@@ -489,7 +489,7 @@ module _ (names : List (List ℕ)) (head tail : Term) (reads_head : Reads names 
           rest = items.rest;
           spells = λ whole. item whole first (items.found whole) priority mark.span items.close tokens mark.rest items.rest (subst (λ ts. Spells false first priority tokens ts) mark.is spells) within (items.spells whole);
           left = items.left;
-          same = λ whole. ap (λ t. Application 2 None (more (bare first) (more t none)) no_span) (items.same whole ∙ list_bare);
+          same = λ whole. ap (λ t. Application cons_name None (more (bare first) (more t none)) no_span) (items.same whole ∙ list_bare);
         }
 
 -- names with their arguments
@@ -640,7 +640,7 @@ module _ (names : List (List ℕ)) (fixed : HoldsFixed names) (name' : ℕ) (spa
         rest = close.rest;
         spells = λ whole. last_item whole head priority close.span tokens close.rest (subst (λ ts. Spells false head priority tokens ts) close.is spells) within;
         left = close.left;
-        same = λ whole. ap (λ (n : ℕ). Application 2 None (more (bare head) (more (Application n None none no_span) none)) no_span) (sym nils);
+        same = λ whole. ap (λ (n : ℕ). Application cons_name None (more (bare head) (more (Application n None none no_span) none)) no_span) (sym nils);
       }
 
   plain_tail_none : form_of name' None none ≡ PlainForm → (test : Bool) → (name' == 1) ≡ test → ReadsTail (Application name' None none span) (part_of names (Application name' None none span)).tail
