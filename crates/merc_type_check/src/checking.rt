@@ -22,7 +22,7 @@ use std::alloc::Global;
 pub fn is_typed<'a>(
     alloc: Global,
     known: &Known<'a>,
-    arguments: &'a TypeExprs,
+    arguments: &TypeExprs,
     goal: &NodeRef<'_>,
 ) -> Result<bool, NoMemory>
     ensures { IfOk result (λ typed. Tells typed known.now arguments.now goal.now) }

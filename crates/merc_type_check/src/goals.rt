@@ -155,7 +155,7 @@ impl<'a> Checker<'a> {
     pub(crate) fn take_head(
         &mut self,
         alloc: Global,
-        declared: &'a TypeExprs,
+        declared: &TypeExprs,
     ) -> Result<bool, NoMemory>
         requires { IsSound self.old }
         ensures { IfOk result (λ done. Takes done self.old self.new (λ types instance. AreHead declared.now types instance)) }
@@ -163,7 +163,7 @@ impl<'a> Checker<'a> {
         for index in 0..declared.len() {
             match declared.get(index) {
                 Some(one) => {
-                    let done = self.has_type(alloc, Var::new(index), &one)?;
+                    let done = self.has_built(alloc, Var::new(index), &one)?;
                     if !done {
                         return Ok(false);
                     }
@@ -188,6 +188,21 @@ impl<'a> Checker<'a> {
         if self.is_fixed(alloc, declared)? {
             return self.make_whole(place, declared);
         }
+        let other = self.declared(alloc, declared)?;
+        self.make_equal(place, other)
+    }
+
+    // The same with a place for each part of the declared type.
+    fn has_built(
+        &mut self,
+        alloc: Global,
+        variable: Var,
+        declared: &TypeRef<'_>,
+    ) -> Result<bool, NoMemory>
+        requires { IsSound self.old }
+        ensures { IfOk result (λ done. Takes done self.old self.new (λ types instance. types variable ≡ replaced instance declared.now)) }
+    {
+        let place = self.variable(variable)?;
         let other = self.declared(alloc, declared)?;
         self.make_equal(place, other)
     }
