@@ -8,7 +8,7 @@ use std::alloc::Global;
 
 /// Whether a type has no type variables. With n parts this takes time of the order of n.
 pub(crate) fn is_ground(alloc: Global, declared: &TypeRef<'_>) -> Result<bool, NoMemory>
-    ensures { IfOk result (λ ground. IsTrue ground → IsGround declared.now) }
+    ensures { IfOk result (λ found. IsTrue found → IsGround declared.now) }
 {
     let mut left = Vec::new(alloc);
     left.push(declared.copy())?;
@@ -35,7 +35,7 @@ fn push_arguments<'a>(
     mut arguments: TypeArguments<'a>,
     left: &mut Vec<TypeRef<'a>>,
 ) -> Result<(), NoMemory>
-    ensures ground { OnOk result (AllGround left.new.items → AllGround left.old.items × AllGround arguments.entry) }
+    ensures every { OnOk result (AllGround left.new.items → AllGround left.old.items × AllGround arguments.entry) }
     ensures weight { OnOk result (all_weight left.new.items ≡ all_weight left.old.items + all_weight arguments.entry) }
 {
     while let Some(last) = arguments.take_last() {
