@@ -16,11 +16,11 @@ use Rattle.merc_item_forms.specs.FormFaults.{Rises}
 use Rattle.merc_items.proofs.TokenLengths.{token-long}
 
 -- tokens begin at this byte or behind it, one behind the other
-abbrev StartFrom : ℕ → List Token → Type 0
+abbrev pub StartFrom : ℕ → List Token → Type 0
 StartFrom at [] = Unit {0}
 StartFrom at (first ∷ rest) = (at ≤ first.span.first) × StartFrom (suc first.span.first) rest
 
-earlier : (at from : ℕ) (tokens : List Token) → from ≤ at → StartFrom at tokens → StartFrom from tokens
+pub earlier : (at from : ℕ) (tokens : List Token) → from ≤ at → StartFrom at tokens → StartFrom from tokens
 earlier at from [] le starts = tt
 earlier at from (first ∷ rest) le starts = (omega (arith, starts.0, le), starts.1)
 
@@ -28,7 +28,7 @@ same_span : (names : List (List ℕ)) (found : Token) (kind : Option Spelling) (
 same_span names found None spelled e = cc
 same_span names found (Some kind) spelled e = let e' : record { kind = kind; span = found.span } ≡ spelled = cc in ap (λ (s : SpelledToken). s.span.first) e'
 
-tokens-start : (names : List (List ℕ)) (bytes : List ℕ) (at : ℕ) (after : Bool) (spelled : List SpelledToken) (tokens : List Token) → HasTokensFrom bytes at after spelled → map (with_texts names) tokens ≡ map Some spelled → StartFrom at tokens
+pub tokens-start : (names : List (List ℕ)) (bytes : List ℕ) (at : ℕ) (after : Bool) (spelled : List SpelledToken) (tokens : List Token) → HasTokensFrom bytes at after spelled → map (with_texts names) tokens ≡ map Some spelled → StartFrom at tokens
 tokens-start names bytes at after _ [] has e = tt
 tokens-start names bytes at after _ (first ∷ rest) (ends _ _ ended) e = absurd (cc)
 tokens-start names bytes at after spelled (first ∷ rest) (gap _ len _ _ is on) e =
@@ -40,7 +40,7 @@ tokens-start names bytes at after _ (first ∷ rest) (next_token _ len _ spellin
     let long = token-long after (drop at bytes) spelling len is in
     (omega (arith, place), earlier (at + len) (suc first.span.first) rest (omega (arith, place, long)) (tokens-start names bytes (at + len) (is_name spelling) others rest on tail))
 
-with_span-first : (span : Span) (term : Term) → span_of (with_span span term) ≡ span
+pub with_span-first : (span : Span) (term : Term) → span_of (with_span span term) ≡ span
 with_span-first span (Variable name old) = refl
 with_span-first span (Integer value old) = refl
 with_span-first span (Text name old) = refl
