@@ -5,11 +5,10 @@ use Rattle.merc_base.specs.declared.refusal.Refusal.{Refusal}
 use Rattle.merc_tree.specs.Term.{Term, Application, none}
 use Rattle.merc_tree.specs.declared.declarations.Clause.{Clause}
 use Rattle.merc_tree.specs.declared.declarations.Module.{Module}
-use Rattle.merc_items.specs.Phases.{ComesFirst, earlier_phase, lesser_place, lesser_rule}
 use Rattle.merc_flat.specs.GoalFaults.{unknown_name}
 use Rattle.merc_check.specs.Accepted.{RefusesClauses}
 use Rattle.merc_check.specs.Accepted.RefusesClauses.{fault as clauses_faulty}
-use Rattle.merc_clause_laws.specs.ClauseFaults.{HasNameFault, name}
+use Rattle.merc_clause_laws.specs.ClauseFaults.{ComesFirst, earlier_phase, lesser_place, lesser_rule, HasNameFault, name}
 
 abbrev at : ℕ → Span
 at first = record { first = first; past = first + 1; line = 1 }

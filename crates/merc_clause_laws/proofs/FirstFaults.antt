@@ -14,14 +14,13 @@ use Rattle.merc_goals.specs.Written.{Written}
 use Rattle.merc_goals.specs.Faults.{earlier, first_fault, first_of_both, first_span, outside_forms, outside_profile, widest_parallel, wrong_form, wrong_forms}
 use Rattle.merc_entries.specs.Entries.{entries}
 use Rattle.merc_items.specs.ModuleOf.{clauses_in, unit_items}
-use Rattle.merc_items.specs.Phases.{ComesFirst, earlier_phase, lesser_place, lesser_rule}
 use Rattle.merc_items.specs.ReadModule.{IsModule}
 use Rattle.merc_flat_form.specs.FlatForm.{argument_terms}
 use Rattle.merc_flat.specs.GoalFaults.{comes_first, conjunct_limit, earlier_fault, faults_of_form, first_of_faults, limit_passed, size_faults, unknown, unknown_among, unknown_name, variable_count, variable_limit, width_faults}
 use Rattle.merc_flat.specs.Flat.{arity_of, body_goal, clause_form_fault, clause_name_fault, clause_node, either_fault, fault_among, goal_of}
 use Rattle.merc_check.specs.Accepted.{IsTypedClause, type_mismatch}
 use Rattle.merc_check.specs.Accepted.RefusesClauses.{fault as clauses_faulty, untyped as clause_untyped}
-use Rattle.merc_clause_laws.specs.ClauseFaults.{IsAmong, HasGoalFault, wrong, outside, variables, conjuncts, HasNameFault, name, HasTypeFault, untyped, HasClauseFault, goal, names as names_fault, types, file_clauses, IsFirstClauseFault, TellsFirstFault}
+use Rattle.merc_clause_laws.specs.ClauseFaults.{IsAmong, ComesFirst, earlier_phase, lesser_place, lesser_rule, HasGoalFault, wrong, outside, variables, conjuncts, HasNameFault, name, HasTypeFault, untyped, HasClauseFault, goal, names as names_fault, types, file_clauses, IsFirstClauseFault, TellsFirstFault}
 use Rattle.merc_clause_laws.proofs.TermPlaces.{Within}
 use Rattle.merc_clause_laws.proofs.GoalPlaces.{all_append, GoalLies, written_lies, wrong_within, outside_within, unknown_among-within, unknown_within}
 use Rattle.merc_clause_laws.proofs.ClausePlaces.{BodyLies, ClauseLies, ClausesLie, no_clause, a_clause, read_clauses-lie, module_clauses}

@@ -1,8 +1,11 @@
 -- All faults of the clauses of a module, and the first of them.
-use Rattle.std.specs.Prelude.{◌≡◌, ℕ, ◌<◌, ◌⊎◌, List, [], ◌∷◌, ◌++◌, None}
+use Rattle.std.specs.Prelude.{◌≡◌, ℕ, ◌<◌, ◌≤◌, ◌⊎◌, List, [], ◌∷◌, ◌++◌, None}
 use Rattle.std.specs.List.{flat_map}
+use Rattle.merc_base.specs.Refusal.{rule_number}
+use Rattle.merc_base.specs.declared.place.Place.{Place}
 use Rattle.merc_base.specs.declared.place.Span.{Span}
 use Rattle.merc_base.specs.declared.refusal.Refusal.{Refusal}
+use Rattle.merc_base.specs.declared.refusal.Rule.{Rule}
 use Rattle.merc_base.specs.declared.refusal.LimitName.TheVariants.{Variables, Conjuncts}
 use Rattle.merc_tree.specs.Term.{Term, span_of}
 use Rattle.merc_tree.specs.declared.declarations.Clause.{Clause}
@@ -10,7 +13,6 @@ use Rattle.merc_tree.specs.declared.declarations.Module.{Module}
 use Rattle.merc_goals.specs.Faults.{first_fault, outside_forms, outside_profile, widest_parallel, wrong_form, wrong_forms}
 use Rattle.merc_item_forms.specs.Items.{item_of}
 use Rattle.merc_items.specs.ModuleOf.{clauses_of}
-use Rattle.merc_items.specs.Phases.{ComesFirst}
 use Rattle.merc_items.specs.ReadModule.{IsModule}
 use Rattle.merc_flat_form.specs.FlatForm.{argument_terms}
 use Rattle.merc_flat.specs.GoalFaults.{conjunct_limit, limit_passed, unknown, unknown_among, unknown_name, variable_count, variable_limit}
@@ -21,6 +23,23 @@ use Rattle.merc_check.specs.Accepted.{IsTypedClause, RefusesClauses, type_mismat
 abbrev pub IsAmong : {A : Type 0} → A → List A → Type 0
 IsAmong one [] = ⊥
 IsAmong one (first ∷ rest) = (one ≡ first) ⊎ IsAmong one rest
+
+-- the phases of clauses
+
+abbrev pub forms_phase : ℕ
+forms_phase = 8
+
+abbrev pub names_phase : ℕ
+names_phase = 9
+
+abbrev pub typing_phase : ℕ
+typing_phase = 10
+
+-- Of two faults that of the earlier phase comes first, in one phase that at the lesser byte, and at one byte that of the lesser rule.
+pub data ComesFirst : ℕ → Place → Rule → ℕ → Place → Rule → Type 0 where
+  earlier_phase : (phase phase' : ℕ) (place place' : Place) (rule rule' : Rule) → phase < phase' → ComesFirst phase place rule phase' place' rule'
+  lesser_place : (phase : ℕ) (place place' : Place) (rule rule' : Rule) → place.byte < place'.byte → ComesFirst phase place rule phase place' rule'
+  lesser_rule : (phase : ℕ) (place place' : Place) (rule rule' : Rule) → place.byte ≡ place'.byte → rule_number rule ≤ rule_number rule' → ComesFirst phase place rule phase place' rule'
 
 -- What is wrong with the form of a clause's goal or passes a limit. Variables are counted only where each part has a form.
 pub data HasGoalFault (names : List (List ℕ)) (known : Module) (clause : Clause) : Refusal → Type 0 where
@@ -39,9 +58,9 @@ pub data HasTypeFault (names : List (List ℕ)) (known : Module) (clause : Claus
 
 -- All faults of a clause, each with the number of its phase.
 pub data HasClauseFault (names : List (List ℕ)) (known : Module) (clause : Clause) : ℕ → Refusal → Type 0 where
-  goal : (fault : Refusal) → HasGoalFault names known clause fault → HasClauseFault names known clause 8 fault
-  names : (fault : Refusal) → HasNameFault known clause fault → HasClauseFault names known clause 9 fault
-  types : (fault : Refusal) → HasTypeFault names known clause fault → HasClauseFault names known clause 10 fault
+  goal : (fault : Refusal) → HasGoalFault names known clause fault → HasClauseFault names known clause forms_phase fault
+  names : (fault : Refusal) → HasNameFault known clause fault → HasClauseFault names known clause names_phase fault
+  types : (fault : Refusal) → HasTypeFault names known clause fault → HasClauseFault names known clause typing_phase fault
 
 -- the clauses among the items of a file
 abbrev pub file_clauses : List Term → List Clause
