@@ -1,5 +1,5 @@
 -- Which modules and goals are accepted, as far as the goals of clauses, their names and their types go; and what is wrong with the others.
-use Rattle.std.specs.Prelude.{◌≡◌, ℕ, List, [], ◌∷◌, ◌++◌, length, Option, Some, None, slice_get}
+use Rattle.std.specs.Prelude.{◌≡◌, ℕ, List, [], ◌∷◌, ◌++◌, length, Some, None, slice_get}
 use Rattle.std.specs.List.{AllByRecursion}
 use Rattle.merc_base.specs.declared.place.Span.{Span}
 use Rattle.merc_base.specs.declared.refusal.Refusal.{Refusal}
@@ -7,7 +7,6 @@ use Rattle.merc_base.specs.declared.refusal.Rule.TheVariants.{TypeMismatch}
 use Rattle.merc_base.specs.declared.refusal.Detail.TheVariants.{Plain}
 use Rattle.merc_tree.specs.Term.{Term, Variable, Integer, Text, Application, list_of, span_of}
 use Rattle.merc_tree.specs.Types.{TypeExpr}
-use Rattle.merc_tree.specs.declared.declarations.PredDecl.{PredDecl}
 use Rattle.merc_tree.specs.declared.declarations.Clause.{Clause}
 use Rattle.merc_tree.specs.declared.declarations.Module.{Module}
 use Rattle.merc_goals.specs.Written.{written}
@@ -15,18 +14,15 @@ use Rattle.merc_goals.specs.Faults.{place_of}
 use Rattle.merc_known.specs.declared.callee.Callee.{Callee}
 use Rattle.merc_known.specs.declared.callee.Callee.TheVariants.{Predicate, Error}
 use Rattle.merc_known.specs.Known.{callee_in}
+use Rattle.merc_type_check.specs.Checked.{head_types}
 use Rattle.merc_type_check.specs.Typing.{HasTyping}
 use Rattle.merc_flat.specs.Flat.{clause_node, clauses_fault, query_fault, query_node}
 
 abbrev pub type_mismatch : Span → Refusal
 type_mismatch span = record { rule = TypeMismatch; place = place_of span; detail = Plain }
 
-abbrev pub arguments_of : Option PredDecl → List TypeExpr
-arguments_of None = []
-arguments_of (Some declared) = declared.args
-
 abbrev pub called_arguments : Module → Callee → List TypeExpr
-called_arguments known (Predicate number) = arguments_of (slice_get known.preds number)
+called_arguments known (Predicate number) = head_types (slice_get known.preds number)
 called_arguments known Error = []
 
 -- the declared types of the arguments of the predicate whose head this is

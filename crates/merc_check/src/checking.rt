@@ -4,16 +4,17 @@ ghost use Rattle.std.specs.Option.{option_copied};
 ghost use Rattle.merc_tree.specs.declared.declarations.Clause.{Clause};
 ghost use Rattle.merc_terms.specs.Items.{IsRefusal};
 ghost use Rattle.merc_goal_tree.specs.Nodes.{Node};
-ghost use Rattle.merc_type_check.specs.Checked.{Tells};
-ghost use Rattle.merc_check.specs.Accepted.{AcceptsClauses, AcceptsGoal, RefusesClauses, RefusesGoal, arguments_of, declared_arguments, type_mismatch};
+ghost use Rattle.merc_type_check.specs.Checked.{Tells, head_types};
+ghost use Rattle.merc_type_check.specs.Ground.{IsFlagged};
+ghost use Rattle.merc_check.specs.Accepted.{AcceptsClauses, AcceptsGoal, RefusesClauses, RefusesGoal, declared_arguments, type_mismatch};
 ghost use Rattle.merc_check.specs.Untyped.{FindsUntyped};
 
 use merc_base::{Detail, Fault, Names, NoMemory, Place, Refusal, Rule, Span};
 use merc_flat::{flatten, flatten_query};
 use merc_goal_tree::{NodeRef, Nodes};
 use merc_known::{Callee, Known};
-use merc_tree::{Clause, PredDecl, Shape, TermRef, TypeExprs};
-use merc_type_check::is_typed;
+use merc_tree::{Clause, PredDecl, Shape, TermRef};
+use merc_type_check::{GroundFlags, is_typed};
 use std::alloc::Global;
 
 /// Checks the clauses of a module.
@@ -28,7 +29,8 @@ pub(crate) fn check_clauses(alloc: Global, known: &Known<'_>, names: &Names) -> 
     ensures refused { IfErr result (λ fault. IsRefusal (RefusesClauses names.now known.now) fault) }
 {
     let forms = flatten(alloc, known, names)?;
-    match first_untyped(alloc, known, &forms)? {
+    let flags = GroundFlags::of(alloc, known)?;
+    match first_untyped(alloc, known, &flags, &forms)? {
         Some(span) => Err(Fault::Refused(type_mismatch(span))),
         None => Ok(()),
     }
@@ -53,7 +55,8 @@ pub(crate) fn check_goal(
         Some(form) => form,
         None => unreachable!(),
     };
-    if is_typed(alloc, known, &TypeExprs::new(alloc), &form)? {
+    let flags = GroundFlags::of(alloc, known)?;
+    if is_typed(alloc, known, &flags, None, &form)? {
         Ok(())
     } else {
         Err(Fault::Refused(type_mismatch(goal.span())))
@@ -74,8 +77,14 @@ fn type_mismatch(span: Span) -> Refusal
 }
 
 // The span of the first clause that is not typed, None where all are. The forms are those of the clauses, in order.
-fn first_untyped(alloc: Global, known: &Known<'_>, forms: &Nodes) -> Result<Option<Span>, NoMemory>
-    requires { length forms.now ≡ length known.now.clauses }
+fn first_untyped(
+    alloc: Global,
+    known: &Known<'_>,
+    flags: &GroundFlags,
+    forms: &Nodes,
+) -> Result<Option<Span>, NoMemory>
+    requires flagged { IsFlagged known.now flags.now }
+    requires count { length forms.now ≡ length known.now.clauses }
     ensures { IfOk result (λ found. (form : Clause → Node) → forms.now ≡ map form known.now.clauses → FindsUntyped known.now form found) }
 {
     for (index, clause) in known.module().clauses.as_slice().iter().enumerate() {
@@ -83,7 +92,7 @@ fn first_untyped(alloc: Global, known: &Known<'_>, forms: &Nodes) -> Result<Opti
             Some(form) => form,
             None => unreachable!(),
         };
-        if !is_typed_clause(alloc, known, clause, &form)? {
+        if !is_typed_clause(alloc, known, flags, clause, &form)? {
             return Ok(Some(clause.span));
         }
     }
@@ -94,20 +103,20 @@ fn first_untyped(alloc: Global, known: &Known<'_>, forms: &Nodes) -> Result<Opti
 fn is_typed_clause(
     alloc: Global,
     known: &Known<'_>,
+    flags: &GroundFlags,
     clause: &Clause,
     form: &NodeRef<'_>,
 ) -> Result<bool, NoMemory>
+    requires { IsFlagged known.now flags.now }
     ensures { IfOk result (λ typed. Tells typed known.now (declared_arguments known.now clause.now.head) form.now) }
 {
-    match predicate_of(known, &clause.head.as_ref()) {
-        Some(declared) => is_typed(alloc, known, &declared.args, form),
-        None => is_typed(alloc, known, &TypeExprs::new(alloc), form),
-    }
+    let predicate = predicate_of(known, &clause.head.as_ref());
+    is_typed(alloc, known, flags, predicate, form)
 }
 
 // The predicate whose head this is, None where there is none.
 fn predicate_of<'a>(known: &Known<'a>, head: &TermRef<'_>) -> Option<&'a PredDecl>
-    ensures { arguments_of (option_copied result) ≡ declared_arguments known.now head.now }
+    ensures { head_types (option_copied result) ≡ declared_arguments known.now head.now }
 {
     match head.shape() {
         Shape::Application { name, arity, .. } => match known.callee(name, None, arity) {

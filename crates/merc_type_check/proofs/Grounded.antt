@@ -1,14 +1,41 @@
 -- Types without type variables.
-use Rattle.std.proofs.Common.{◌≡◌, ℕ, ◌+◌, ◌<◌, Bool, true, false, List, [], ◌∷◌, ◌++◌, refl, sym, ap, subst, ◌∙◌, arith}
-use Rattle.std.specs.Prelude.{IsTrue}
+use Rattle.std.proofs.Common.{◌≡◌, ℕ, zero, suc, ◌+◌, ◌<◌, ◌⊎◌, inl, inr, Bool, true, false, Option, Some, None, List, [], ◌∷◌, ◌++◌, length, get_or, refl, sym, ap, subst, ◌∙◌, arith}
+use Rattle.std.specs.Prelude.{slice_get, ◌==◌, ◌&&◌, if◌then◌else◌, IsTrue}
+use Rattle.std.proofs.lemmas.Bool.Decides.{nat_tests}
+use Rattle.merc_base.specs.Groups.{kept, is_key}
+use Rattle.merc_base.specs.declared.groups.Key.{Key}
+use Rattle.merc_base.specs.declared.groups.Groups.{Groups}
+use Rattle.merc_known.specs.Known.{constructor_in}
+use Rattle.merc_tree.specs.declared.declarations.Constructor.{Constructor}
+use Rattle.merc_tree.specs.declared.declarations.TypeDef.{TypeDef}
+use Rattle.merc_tree.specs.declared.declarations.PredDecl.{PredDecl}
+use Rattle.merc_tree.specs.declared.declarations.Module.{Module}
 use Rattle.merc_tree.specs.Types.{TypeExpr, TypeExprs, TypeVariable, IntType, TextType, TypeApplication, no_types, more_types, replaced, replaced_all, type_list}
 use Rattle.merc_tree.specs.TypeShape.{type_arguments_of}
 use Rattle.merc_type_check.specs.Building.{type_weight, types_weight}
-use Rattle.merc_type_check.specs.Ground.{IsGround, AreGround, AllGround, all_weight, is_variable}
+use Rattle.merc_type_check.specs.Ground.{flags_found, IsGround, AreGround, AllGround, AreConstructorFlags, AreFlags, ArePredicateFlags, ConstructorFlags, PredicateFlags, all_weight, is_variable}
 use Rattle.merc_type_check.specs.Progress.{Types, Fits, IsAllowed, IsFixed, Places, Refuses, Stands, Step, Takes}
 use Rattle.merc_type_check.specs.declared.checker.Checker.{Checker}
 use Rattle.merc_type_check.proofs.Asked.{replaced_self}
 use Rattle.merc_type_check.proofs.Steps.{grow_takes}
+
+-- lists
+same_some : {B : Type 0} {a b : B} → Some a ≡ Some b → a ≡ b
+same_some e = cc
+
+last_or_before : {A : Type 0} (xs : List A) (x : A) (i : ℕ)
+    → (slice_get (xs ++ x ∷ []) i ≡ slice_get xs i) ⊎ ((i ≡ length xs) × (slice_get (xs ++ x ∷ []) i ≡ Some x))
+last_or_before [] x zero = inr (refl, refl)
+last_or_before [] x (suc i) = inl refl
+last_or_before (y ∷ ys) x zero = inl refl
+last_or_before (y ∷ ys) x (suc i) = elim (last_or_before ys x i) [ inl e ↦ inl e | inr w ↦ inr (ap suc w.0, w.1) ]
+
+and_true : (a b : Bool) → (a && b) ≡ true → (a ≡ true) × (b ≡ true)
+and_true true b e = (refl, e)
+and_true false b e = absurd (cc)
+
+equal_by : (m n : ℕ) → (m == n) ≡ true → m ≡ n
+equal_by m n e = grind (arith, nat_tests)
 
 -- a type without type variables is the same in each instance
 mutual
@@ -126,5 +153,90 @@ given_whole done first second third place variable declared same placed takes =
     takes_whole done first third (λ types instance. types variable) declared same
     (grow_takes done first second third (λ types instance. types variable ≡ declared) placed.grows (takes (λ types instance. types variable) placed.stands))
 
-pub fixed_on : (own own' : Bool) (declared : TypeExpr) → own' ≡ own → IsFixed own' declared → IsFixed own declared
-fixed_on own own' declared e same = subst (λ (b : Bool). IsFixed b declared) e same
+-- flags
+pub flags_pushed : (flags : List Bool) (types : List TypeExpr) (flag : Bool) (type : TypeExpr) (k : ℕ) → length flags ≡ k → slice_get types k ≡ Some type
+    → (IsTrue flag → IsGround type) → AreFlags flags types → AreFlags (flags ++ flag ∷ []) types
+flags_pushed flags types flag type k count at ground all index other flag_is other_is =
+    elim (last_or_before flags flag index) [
+      | inl e ↦ all index other (sym e ∙ flag_is) other_is
+      | inr w ↦
+          let found : slice_get types index ≡ Some type = ap (slice_get types) (w.0 ∙ count) ∙ at in
+          let same : type ≡ other = same_some (sym found ∙ other_is) in
+          let true_is : flag ≡ true = same_some (sym w.1 ∙ flag_is) in
+          subst IsGround same (ground true_is)
+    ]
+
+pub no_flags : (types : List TypeExpr) → AreFlags [] types
+no_flags types index other e other_is = absurd (cc)
+
+pub predicate_pushed : (preds : List PredDecl) (predicates : List (List Bool)) (flags : List Bool) (declared : PredDecl) (k : ℕ) → length predicates ≡ k
+    → slice_get preds k ≡ Some declared → AreFlags flags declared.args → ArePredicateFlags preds predicates → ArePredicateFlags preds (predicates ++ flags ∷ [])
+predicate_pushed preds predicates flags declared k count at are all number other other_is =
+    elim (last_or_before predicates flags number) [
+      | inl e ↦ all number other (sym e ∙ other_is)
+      | inr w ↦
+          let found : Some declared ≡ slice_get preds number = sym (ap (slice_get preds) (w.0 ∙ count) ∙ at) in
+          let same : flags ≡ other = same_some (sym w.1 ∙ other_is) in
+          subst (PredicateFlags other) found (subst (λ (l : List Bool). AreFlags l declared.args) same are)
+    ]
+
+pub predicate_found : (preds : List PredDecl) (predicates : List (List Bool)) (number : ℕ) (declared : PredDecl) → ArePredicateFlags preds predicates
+    → Some declared ≡ slice_get preds number → AreFlags (flags_found (slice_get predicates number)) declared.args
+predicate_found preds predicates number declared all found = by (slice_get predicates number) refl
+  where
+    by : (o : Option (List Bool)) → slice_get predicates number ≡ o → AreFlags (flags_found o) declared.args
+    by None e = no_flags declared.args
+    by (Some flags) e = subst (PredicateFlags flags) (sym found) (all number flags e)
+
+pub constructor_found : (known : Module) (constructors : Groups (List Bool)) (name arity : ℕ) (declared : TypeDef) (constructor : Constructor)
+    → AreConstructorFlags known constructors → Some (declared, constructor) ≡ constructor_in known.types name arity
+    → AreFlags (flags_found (slice_get (kept constructors name arity) 0)) constructor.args
+constructor_found known constructors name arity declared constructor all found = by (slice_get (kept constructors name arity) 0) refl
+  where
+    by : (o : Option (List Bool)) → slice_get (kept constructors name arity) 0 ≡ o → AreFlags (flags_found o) constructor.args
+    by None e = no_flags constructor.args
+    by (Some flags) e = subst (ConstructorFlags flags) (sym found) (all name arity flags e)
+
+-- one more constructor
+first_of_more : (listed : List (List Bool)) (flags other : List Bool) → slice_get (listed ++ flags ∷ []) 0 ≡ Some other → (slice_get listed 0 ≡ Some other) ⊎ (flags ≡ other)
+first_of_more [] flags other e = inr (cc)
+first_of_more (l ∷ ls) flags other e = inl e
+
+pub constructor_added : (known : Module) (old new : Groups (List Bool)) (name arity : ℕ) (key : Key) (flags : List Bool) (declared : TypeDef) (constructor : Constructor)
+    → key.name ≡ name → key.arity ≡ arity → Some (declared, constructor) ≡ constructor_in known.types name arity → AreFlags flags constructor.args
+    → ((n a : ℕ) → kept new n a ≡ (if is_key n a key then kept old n a ++ flags ∷ [] else kept old n a)) → AreConstructorFlags known old → AreConstructorFlags known new
+constructor_added known old new name arity key flags declared constructor key_name key_arity found are added all n a other other_is =
+    by (is_key n a key) refl (sym (ap (λ (l : List (List Bool)). slice_get l 0) (added n a)) ∙ other_is)
+  where
+    by : (b : Bool) → is_key n a key ≡ b → slice_get (if b then kept old n a ++ flags ∷ [] else kept old n a) 0 ≡ Some other
+        → ConstructorFlags other (constructor_in known.types n a)
+    by false e there = all n a other there
+    by true e there =
+        elim (first_of_more (kept old n a) flags other there) [
+          | inl before ↦ all n a other before
+          | inr same ↦
+              let tests = and_true (key.name == n) (key.arity == a) e in
+              let n_is : name ≡ n = sym key_name ∙ equal_by key.name n tests.0 in
+              let a_is : arity ≡ a = sym key_arity ∙ equal_by key.arity a tests.1 in
+              let at : Some (declared, constructor) ≡ constructor_in known.types n a =
+              found ∙ ap (λ (m : ℕ). constructor_in known.types m arity) n_is ∙ ap (constructor_in known.types n) a_is in
+              subst (ConstructorFlags other) at (subst (λ (l : List Bool). AreFlags l constructor.args) same are)
+        ]
+
+-- a flag of an argument
+pub fixed_by : (own flag : Bool) → (if own then true else flag) ≡ true → (own ≡ true) ⊎ (flag ≡ true)
+fixed_by true flag e = inl refl
+fixed_by false flag e = inr e
+
+pub fixed_at : (own : Bool) (flags : List Bool) (types : List TypeExpr) (index : ℕ) (declared : TypeExpr) → AreFlags flags types → slice_get types index ≡ Some declared
+    → (own ≡ true) ⊎ (get_or flags index false ≡ true) → IsFixed own declared
+fixed_at own flags types index declared are at fixed =
+    elim fixed [
+      | inl e ↦ fixed_own own declared e
+      | inr e ↦ fixed_ground own declared (are index declared (flag_there flags index e) at)
+    ]
+  where
+    flag_there : (fs : List Bool) (i : ℕ) → get_or fs i false ≡ true → slice_get fs i ≡ Some true
+    flag_there [] i e = absurd (cc)
+    flag_there (f ∷ fs) zero e = ap Some e
+    flag_there (f ∷ fs) (suc i) e = flag_there fs i e

@@ -1,10 +1,24 @@
 //! Types without type variables.
 ghost use Rattle.std.specs.Prelude.{◌≡◌, ◌+◌, IfOk, OnOk, IsTrue};
-ghost use Rattle.merc_type_check.specs.Ground.{AllGround, IsGround, all_weight, is_variable};
+ghost use Rattle.merc_type_check.specs.Ground.{AllGround, AreFlags, IsGround, all_weight, is_variable};
 
-use merc_base::NoMemory;
-use merc_tree::{TypeArguments, TypeRef, TypeShape};
+use merc_base::{NoMemory, Sequence};
+use merc_tree::{TypeArguments, TypeExprs, TypeRef, TypeShape};
 use std::alloc::Global;
+
+/// For each of some types whether it has no type variables.
+pub(crate) fn flags_of(alloc: Global, declared: &TypeExprs) -> Result<Sequence<bool>, NoMemory>
+    ensures { IfOk result (λ flags. AreFlags flags declared.now) }
+{
+    let mut flags = Sequence::new(alloc);
+    for index in 0..declared.len() {
+        match declared.get(index) {
+            Some(one) => flags.push(is_ground(alloc, &one)?)?,
+            None => unreachable!(),
+        }
+    }
+    Ok(flags)
+}
 
 /// Whether a type has no type variables. With n parts this takes time of the order of n.
 pub(crate) fn is_ground(alloc: Global, declared: &TypeRef<'_>) -> Result<bool, NoMemory>

@@ -4,7 +4,9 @@
 mod building;
 mod checker;
 mod checking;
+pub mod flags;
 mod goals;
 mod ground;
 
 pub use checking::is_typed;
+pub use flags::GroundFlags;

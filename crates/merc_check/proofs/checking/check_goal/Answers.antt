@@ -4,7 +4,6 @@ use Rattle.std.proofs.lemmas.Option.{same_Some}
 use Rattle.std.proofs.lemmas.Result.{err_from_is_err_and}
 use Rattle.merc_base.specs.declared.refusal.Refusal.{Refusal}
 use Rattle.merc_tree.specs.Term.{Term, span_of}
-use Rattle.merc_tree.specs.Types.{TypeExpr}
 use Rattle.merc_tree.specs.declared.declarations.Module.{Module}
 use Rattle.merc_goals.specs.Written.{written}
 use Rattle.merc_goal_tree.specs.Nodes.{Node}
@@ -16,13 +15,13 @@ use Rattle.merc_check.proofs.Refusals.{IsRefusal-weaker}
 use Rattle.merc_check.proofs.checking.check_goal.Goals as goal
 
 -- a goal whose form is alone in its list, of which the check of types tells that it is not typed
-goal_untyped : (names : List (List ℕ)) (known : Module) (goal : Term) (forms : List Node) (form : Node) (arguments : List TypeExpr) (told : Bool) (refusal : Refusal)
-    → query_fault names known (written 0 goal) ≡ None → forms ≡ query_node names known (written 0 goal) ∷ [] → Some form ≡ slice_get forms 0 → arguments ≡ []
-    → Tells told known arguments form → told ≡ false → refusal ≡ type_mismatch (span_of goal) → RefusesGoal names known goal refusal
-goal_untyped names known goal forms form arguments true refusal none alone only no_arguments tells is refused = cc
-goal_untyped names known goal forms form arguments false refusal none alone only no_arguments tells is refused =
+goal_untyped : (names : List (List ℕ)) (known : Module) (goal : Term) (forms : List Node) (form : Node) (told : Bool) (refusal : Refusal)
+    → query_fault names known (written 0 goal) ≡ None → forms ≡ query_node names known (written 0 goal) ∷ [] → Some form ≡ slice_get forms 0
+    → Tells told known [] form → told ≡ false → refusal ≡ type_mismatch (span_of goal) → RefusesGoal names known goal refusal
+goal_untyped names known goal forms form true refusal none alone only tells is refused = cc
+goal_untyped names known goal forms form false refusal none alone only tells is refused =
     let same : query_node names known (written 0 goal) ≡ form = sym (same_Some _ _ (only ∙ ap (λ (some : List Node). slice_get some 0) alone)) in
-    rw refused (untyped none (rw (same, ← no_arguments) tells))
+    rw refused (untyped none (rw same tells))
 
 pub returns-in_err-query-clause-refused : goal.returns-in_err-query-clause-refused
 returns-in_err-query-clause-refused c =
@@ -33,5 +32,5 @@ returns-in_err-query-clause-refused c =
 
 pub returns-clause-refused : goal.returns-clause-refused
 returns-clause-refused c =
-    goal_untyped c.args.names.now c.args.known.now c.args.goal.now c.in_ok-query.query.form c.in-Some.form c.new.result c.in_ok-is_typed.field-0 c.type_mismatch.result
-    c.in_ok-query.ensures.faultless c.in_ok-query.ensures.form c.in-Some.ensures c.new.ensures c.in_ok-is_typed.ensures c.if-branch.false (c.type_mismatch.ensures ∙ ap type_mismatch c.span.ensures)
+    goal_untyped c.args.names.now c.args.known.now c.args.goal.now c.in_ok-query.query.form c.in-Some.form c.in_ok-is_typed.field-0 c.type_mismatch.result
+    c.in_ok-query.ensures.faultless c.in_ok-query.ensures.form c.in-Some.ensures c.in_ok-is_typed.ensures c.if-branch.false (c.type_mismatch.ensures ∙ ap type_mismatch c.span.ensures)

@@ -1,14 +1,14 @@
 use Rattle.std.proofs.lemmas.Result.{IfOk-weaker}
 use Rattle.merc_tree.specs.Types.{replaced}
 use Rattle.merc_type_check.proofs.Asked.{two_equal}
-use Rattle.merc_type_check.proofs.Grounded.{fixed_on, given_whole}
+use Rattle.merc_type_check.proofs.Grounded.{given_whole}
 use Rattle.merc_type_check.proofs.checker.Checker.has_type.Goals as goal
 
-pub returns-then-branch : goal.returns-then-branch
-returns-then-branch c =
+pub returns-then-fixed : goal.returns-then-fixed
+returns-then-fixed c =
     IfOk-weaker c.make_whole.result _ _
     (λ done takes. given_whole done c.args.self.now c.variable.new.self c.make_whole.new.self c.in_ok-place.place c.args.variable c.args.declared.now
-    (fixed_on c.args.self.now.own c.variable.new.self.own c.args.declared.now c.in_ok-place.ensures.grows.same_way (c.in_ok-is_fixed.ensures c.if-branch.true))
+    (c.requires.fixed c.if-fixed.true)
     c.in_ok-place.ensures takes) c.make_whole.ensures
 
 pub returns : goal.returns

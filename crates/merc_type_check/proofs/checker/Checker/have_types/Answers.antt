@@ -1,14 +1,15 @@
-use Rattle.std.proofs.Common.{◌≡◌, ◌<◌, length, refl, sym, ◌∙◌, arith}
+use Rattle.std.proofs.Common.{◌≡◌, ◌<◌, false, get_or, length, refl, sym, ◌∙◌, arith}
 use Rattle.std.proofs.lemmas.Option.{slice_get_read}
 use Rattle.merc_tree.specs.Types.{replaced}
 use Rattle.merc_type_check.proofs.Asked.{taken, refused, have_step, have_refused, have_all, have_none, some_there}
+use Rattle.merc_type_check.proofs.Grounded.{fixed_at, fixed_by}
 use Rattle.merc_type_check.proofs.checker.Checker.have_types.Goals as goal
 
 pub returns-then-variables-len : goal.returns-then-variables-len
 returns-then-variables-len c = λ known. have_none known c.args.self.now c.args.variables.now c.args.declared.now (λ same. c.if-variables-len.true (same ∙ sym c.len.ensures))
 
-pub has_type-requires : goal.has_type-requires
-has_type-requires c = c.loop-index.invariant.sound
+pub has_type-requires-clause-sound : goal.has_type-requires-clause-sound
+has_type-requires-clause-sound c = c.loop-index.invariant.sound
 
 pub returns-then-not-done : goal.returns-then-not-done
 returns-then-not-done c = λ known.
@@ -43,3 +44,8 @@ returns c = λ known.
     let less = c.loop-index-test.false in
     let same = c.len.ensures in
     have_all known c.args.self.now c.loop-index.self c.args.variables.now c.args.declared.now c.loop-index.index (omega arith) (omega arith) (c.loop-index.invariant.have known)
+
+pub has_type-requires-clause-fixed : goal.has_type-requires-clause-fixed
+has_type-requires-clause-fixed c = λ fixed.
+    fixed_at c.loop-index.self.own c.args.fixed.now c.args.declared.now c.loop-index.index c.in-Some.one c.requires.flags (sym c.in-Some.ensures)
+    (fixed_by c.loop-index.self.own (get_or c.args.fixed.now c.loop-index.index false) (sym c.is_fixed-same.ensures ∙ fixed))

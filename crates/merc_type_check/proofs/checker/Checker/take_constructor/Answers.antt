@@ -11,8 +11,8 @@ returns-then-not-done c = λ known.
     (whole_taken c.in_ok-done.done c.args.self.now c.variable.new.self c.whole.new.self c.make_equal.new.self c.in_ok-place.place c.in_ok-whole.whole c.args.variable
     c.args.declared.now c.in_ok-place.ensures c.in_ok-whole.ensures c.in_ok-done.ensures))
 
-pub have_types-requires : goal.have_types-requires
-have_types-requires c =
+pub have_types-requires-clause-sound : goal.have_types-requires-clause-sound
+have_types-requires-clause-sound c =
     let step = taken c.in_ok-done.done c.args.self.now c.make_equal.new.self (HasWhole c.args.variable c.args.declared.now) c.if-not-done.false
     (whole_taken c.in_ok-done.done c.args.self.now c.variable.new.self c.whole.new.self c.make_equal.new.self c.in_ok-place.place c.in_ok-whole.whole c.args.variable
     c.args.declared.now c.in_ok-place.ensures c.in_ok-whole.ensures c.in_ok-done.ensures) in

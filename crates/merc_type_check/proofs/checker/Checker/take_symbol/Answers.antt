@@ -17,10 +17,10 @@ pub returns-in-Integer : goal.returns-in-Integer
 returns-in-Integer c =
     rw c.in-Integer.is
     (IfOk-weaker c.is_int.result _ _
-    (λ done takes. plain_goal_takes done c.args.self.now c.is_int.new.self (λ types. types c.args.variable ≡ IntType) c.requires takes) c.is_int.ensures)
+    (λ done takes. plain_goal_takes done c.args.self.now c.is_int.new.self (λ types. types c.args.variable ≡ IntType) c.requires.sound takes) c.is_int.ensures)
 
 pub returns-in-Text : goal.returns-in-Text
 returns-in-Text c =
     rw c.in-Text.is
     (IfOk-weaker c.is_text.result _ _
-    (λ done takes. plain_goal_takes done c.args.self.now c.is_text.new.self (λ types. types c.args.variable ≡ TextType) c.requires takes) c.is_text.ensures)
+    (λ done takes. plain_goal_takes done c.args.self.now c.is_text.new.self (λ types. types c.args.variable ≡ TextType) c.requires.sound takes) c.is_text.ensures)
