@@ -1,6 +1,7 @@
 -- Each move keeps the one history of a deque.
 use Rattle.std.proofs.Common.{◌≡◌, ◌≢◌, ℕ, zero, suc, ◌+◌, ◌<◌, ◌≤◌, ◌⊎◌, inl, inr, ⊎_elim, Bool, cond, List, [], ◌∷◌, ◌++◌, length, set, refl, sym, ap, ◌∙◌, subst, arith, append_assoc, append-nil, length-set, length-append, eq-eqb, ne_eqb}
 use Rattle.std.proofs.lemmas.List.Elements.{filter-append}
+use Rattle.std.proofs.lemmas.List.Sums.{sum_by-append}
 use mathlib.Core.Option.{some, some-injective, some-ne-none}
 use lib.ListN.{get_elem?}
 use Rattle.crossbeam_deque.proofs.Lists.{at_set}
@@ -9,7 +10,7 @@ use Rattle.merc_deque.specs.declared.moves.Kind.{Kind}
 use Rattle.merc_deque.specs.declared.moves.Kind.TheVariants.{Pushed, Popped, Stole}
 use Rattle.merc_deque.specs.declared.moves.Move.{Move}
 use Rattle.merc_deque.specs.declared.moves.Known.{Known}
-use Rattle.merc_deque.specs.History.{move, known, newcomer, is_by, moves_of, Leaves, none, pushes, pops, steals, Fits, Kept, Told, Emptied, HeldFew}
+use Rattle.merc_deque.specs.History.{move, known, newcomer, is_by, moves_of, Leaves, none, pushes, pops, steals, Fits, Kept, Told, Emptied, HeldFew, is_push, is_take, weight, NothingIsLost}
 
 module _ {A : Type 0} where
   below : (l : List A) (i : ℕ) (a : A) → get_elem? l i ≡ some a → i < length l
@@ -96,3 +97,15 @@ module _ {T : Type 0} where
         (at_end [] newcomer v j e),
     λ j far. refl,
   )
+
+  pub lost_none : (log : List (Move T)) (sparks : List T) → Leaves log sparks → NothingIsLost log sparks
+  lost_none _ _ none h = refl
+  lost_none _ _ (pushes log sparks by x before) h =
+      let m : List (Move T) = move by Pushed x ∷ [] in
+      omega (arith, lost_none log sparks before h, sum_by-append (weight is_push h) log m, sum_by-append (weight is_take h) log m, sum_by-append h sparks (x ∷ []))
+  lost_none _ _ (pops log sparks by x before) h =
+      let m : List (Move T) = move by Popped x ∷ [] in
+      omega (arith, lost_none log (sparks ++ x ∷ []) before h, sum_by-append (weight is_push h) log m, sum_by-append (weight is_take h) log m, sum_by-append h sparks (x ∷ []))
+  lost_none _ _ (steals log sparks by x before) h =
+      let m : List (Move T) = move by Stole x ∷ [] in
+      omega (arith, lost_none log (x ∷ sparks) before h, sum_by-append (weight is_push h) log m, sum_by-append (weight is_take h) log m, sum_by-append h (x ∷ []) sparks)

@@ -1,5 +1,5 @@
 -- The one history of a deque, which exists in the proofs alone: what each pass has seen of it, and what each call adds.
-use Rattle.std.specs.Prelude.{◌≡◌, ℕ, ◌≤◌, Bool, ◌==◌, List, [], ◌∷◌, ◌++◌, length, filter}
+use Rattle.std.specs.Prelude.{◌≡◌, ℕ, ◌+◌, ◌≤◌, Bool, true, false, ◌==◌, if◌then◌else◌, List, [], ◌∷◌, ◌++◌, length, filter, sum_by}
 use mathlib.Core.Option.{some}
 use lib.ListN.{get_elem?}
 use Rattle.merc_deque.specs.declared.moves.Kind.{Kind}
@@ -72,3 +72,21 @@ module _ {T : Type 0} where
   -- .. left one spark at most
   abbrev pub HeldFew : Known T → Type 0
   HeldFew view = (pass : ℕ) × (log : List (Move T)) × (sparks : List T) × Fits log pass view × Leaves log sparks × (length sparks ≤ 1)
+
+abbrev pub is_push : Kind → Bool
+is_push Pushed = true
+is_push Popped = false
+is_push Stole = false
+
+abbrev pub is_take : Kind → Bool
+is_take Pushed = false
+is_take Popped = true
+is_take Stole = true
+
+module _ {T : Type 0} where
+  abbrev pub weight : (Kind → Bool) → (T → ℕ) → Move T → ℕ
+  weight counts h m = if counts m.kind then h m.spark else 0
+
+  -- what was pushed weighs as much as what was taken and what lies in the deque
+  abbrev pub NothingIsLost : List (Move T) → List T → Type 0
+  NothingIsLost log sparks = (h : T → ℕ) → sum_by (weight is_push h) log ≡ sum_by (weight is_take h) log + sum_by h sparks

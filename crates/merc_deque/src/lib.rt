@@ -2,6 +2,7 @@
 #![tactic(auto)]
 
 pub mod history;
+pub mod laws;
 pub mod making;
 pub mod moves;
 pub mod sparks;
