@@ -177,9 +177,16 @@ end_of found = if found == 0 then Open else (if found == full_bit then Full else
 abbrev pub second : Bool → Stage
 second came = if came then Met else Apart
 
--- the number of a seat's own slot
+-- the numbers of the two slots
+abbrev pub waiter_slot : ℕ
+waiter_slot = 0
+
+abbrev pub value_slot : ℕ
+value_slot = 1
+
+-- a seat's own slot
 abbrev pub own_slot : Bool → ℕ
-own_slot consumer = if consumer then 0 else 1
+own_slot consumer = if consumer then waiter_slot else value_slot
 
 -- a seat of a table that has a cell's word and its two slots
 abbrev pub IsSeated : TableId → TableId → Type 0
@@ -214,12 +221,12 @@ module _ {V W : Type 0} where
   -- the waiter, which is the one that the seat put if the seat is the consumer's
   abbrev pub GotWaiter : (List ℕ → W → Type 0) → Me (Slot V W) (Glance V W) → Me (Slot V W) (Glance V W) → Type 0
   GotWaiter fits m n = (n.0 ≡ glance m.0.name m.0.consumer TookWaiter m.0.end m.0.put)
-      × ((waiter : W) × (n.1 ≡ (0, Waiter waiter) ∷ m.1) × fits m.0.name waiter × (m.0.consumer ≡ true → m.0.put ≡ Waiter waiter))
+      × ((waiter : W) × (n.1 ≡ (waiter_slot, Waiter waiter) ∷ m.1) × fits m.0.name waiter × (m.0.consumer ≡ true → m.0.put ≡ Waiter waiter))
 
   -- the value, which is the one that the seat put if the seat is the producer's
   abbrev pub GotValue : (List ℕ → V → Type 0) → Me (Slot V W) (Glance V W) → Me (Slot V W) (Glance V W) → Type 0
   GotValue fits m n = (n.0 ≡ glance m.0.name m.0.consumer TookBoth m.0.end m.0.put)
-      × ((value : V) × (n.1 ≡ (1, Value value) ∷ m.1) × fits m.0.name value × (m.0.consumer ≡ false → m.0.put ≡ Value value))
+      × ((value : V) × (n.1 ≡ (value_slot, Value value) ∷ m.1) × fits m.0.name value × (m.0.consumer ≡ false → m.0.put ≡ Value value))
 
   -- of the views of both seats: the waiter goes to one of them once both have stepped and to none before, and an end that the consumer found is the producer's
   pub record OneIsHanded (c p : Glance V W) : Type 0 where
