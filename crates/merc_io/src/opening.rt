@@ -58,7 +58,7 @@ pub struct SystemFiles<R: Files + Drop> {
 
 impl<R: Files + Drop> SystemFiles<R> {
     /// The files that this runtime opens.
-    pub fn new(rt: R) -> SystemFiles<R> {
+    pub(crate) fn new(rt: R) -> SystemFiles<R> {
         SystemFiles { rt }
     }
 }

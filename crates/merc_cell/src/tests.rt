@@ -1,0 +1,125 @@
+//! What comes out of many cells at which two threads meet, in whatever order.
+
+use crate::{CellWait, Consumer, Fits, Producer, new_cell};
+use merc_base::NoMemory;
+use std::alloc::Global;
+use std::marker::Brand;
+use std::test::Fail;
+use std::thread;
+
+impl Fits for u64 {
+    ghost fits = { λ name number. Unit {0} };
+}
+
+type Ends = (Vec<Producer<u64, u64>>, Vec<Consumer<u64, u64>>);
+
+// How many waiters and values came out of some cells, and their sums.
+#[derive(Clone, Copy)]
+struct Counts {
+    waiters: u64,
+    waiter_sum: u64,
+    values: u64,
+    value_sum: u64,
+}
+
+impl Counts {
+    fn none() -> Counts {
+        Counts {
+            waiters: 0,
+            waiter_sum: 0,
+            values: 0,
+            value_sum: 0,
+        }
+    }
+
+    fn add(self, waiter: u64, value: Option<u64>) -> Counts {
+        let (values, value) = match value {
+            Some(value) => (1, value),
+            None => (0, 0),
+        };
+        Counts {
+            waiters: self.waiters.wrapping_add(1),
+            waiter_sum: self.waiter_sum.wrapping_add(waiter),
+            values: self.values.wrapping_add(values),
+            value_sum: self.value_sum.wrapping_add(value),
+        }
+    }
+
+    fn with(self, other: Counts) -> Counts {
+        Counts {
+            waiters: self.waiters.wrapping_add(other.waiters),
+            waiter_sum: self.waiter_sum.wrapping_add(other.waiter_sum),
+            values: self.values.wrapping_add(other.values),
+            value_sum: self.value_sum.wrapping_add(other.value_sum),
+        }
+    }
+}
+
+fn cells(alloc: Global, count: usize) -> Result<Ends, NoMemory> {
+    let mut producers = Vec::new(alloc);
+    let mut consumers = Vec::new(alloc);
+    for i in 0..count {
+        let (producer, consumer) = new_cell::<u64, u64, Brand>(alloc)?;
+        producers.push(producer)?;
+        consumers.push(consumer)?;
+    }
+    Ok((producers, consumers))
+}
+
+// Waits at each cell, with its number as the waiter.
+fn wait_all(mut consumers: Vec<Consumer<u64, u64>>) -> Counts {
+    let mut counts = Counts::none();
+    for i in 0..consumers.len() {
+        if let Some(consumer) = consumers.pop() {
+            match consumer.wait(consumers.len() as u64) {
+                CellWait::Ready(waiter, value) => counts = counts.add(waiter, Some(value)),
+                CellWait::Starved(waiter) => counts = counts.add(waiter, None),
+                CellWait::Parked => {}
+            }
+        }
+    }
+    counts
+}
+
+// Signals each cell of an even number, with twice the number as the value, and poisons the others.
+fn end_all(mut producers: Vec<Producer<u64, u64>>) -> Counts {
+    let mut counts = Counts::none();
+    for i in 0..producers.len() {
+        if let Some(producer) = producers.pop() {
+            let number = producers.len() as u64;
+            if number % 2 == 0 {
+                if let Some((waiter, value)) = producer.signal(number.wrapping_mul(2)) {
+                    counts = counts.add(waiter, Some(value));
+                }
+            } else if let Some(waiter) = producer.poison() {
+                counts = counts.add(waiter, None);
+            }
+        }
+    }
+    counts
+}
+
+// No clause speaks of two threads at once, nor of what the producer did before a wait on the same thread.
+#[test]
+fn each_waiter_comes_out_once(rt: HostRuntime) -> Result<(), Fail> {
+    for round in 0..20 {
+        let (producers, consumers) = cells(rt.alloc(), 10_000)?;
+        let (waited, ended) = thread::join(
+            &rt,
+            move || wait_all(consumers),
+            move || end_all(producers),
+        );
+        let all = waited.with(ended);
+        assert_eq!(rt; all.waiters, 10_000);
+        assert_eq!(rt; all.waiter_sum, 49_995_000);
+        assert_eq!(rt; all.values, 5_000);
+        assert_eq!(rt; all.value_sum, 49_990_000);
+    }
+    let (producer, consumer) = new_cell::<u64, u64, Brand>(rt.alloc())?;
+    assert!(rt; producer.poison().is_none());
+    assert!(rt; matches!(consumer.wait(7), CellWait::Starved(7)));
+    let (producer, consumer) = new_cell::<u64, u64, Brand>(rt.alloc())?;
+    assert!(rt; producer.signal(8).is_none());
+    assert!(rt; matches!(consumer.wait(7), CellWait::Ready(7, 8)));
+    Ok(())
+}
