@@ -5,6 +5,7 @@ pub mod Outside
 pub mod Refusal
 pub mod FirstFault
 pub mod FirstPlace
+pub mod Places
 pub mod Texts
 pub mod TextsExamples
 pub mod Characters

@@ -13,7 +13,8 @@ use Rattle.std.proofs.lemmas.List.Folds.{list_any-append}
 use Rattle.merc_base.specs.declared.place.Span.{Span}
 use Rattle.merc_goal_tree.specs.declared.entries.Root.{Root}
 use Rattle.merc_goal_tree.specs.declared.entries.Root.TheVariants.{Simple, Conjunction, Parallel, Disjunction, Conditional, Negation, Quantified}
-use Rattle.merc_flat.specs.GoalFaults.{distinct, part_variables}
+use Rattle.merc_goal_tree.specs.Variables.{distinct}
+use Rattle.merc_flat.specs.GoalFaults.{part_variables}
 use Rattle.merc_flat.specs.Counted.{HasThese, own, root_variables}
 
 -- distinct numbers

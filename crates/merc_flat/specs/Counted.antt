@@ -5,7 +5,7 @@ use Rattle.std.specs.Ordering.{nat_cmp}
 use Rattle.std.specs.BTreeSet.{BTreeSet, btree_set_len, contains}
 use Rattle.merc_goal_tree.specs.declared.entries.Root.{Root}
 use Rattle.merc_goal_tree.specs.declared.entries.Root.TheVariants.{Simple}
-use Rattle.merc_flat.specs.GoalFaults.{distinct, variables_of}
+use Rattle.merc_goal_tree.specs.Variables.{distinct, variables_of}
 
 abbrev pub root_variables : Root → List ℕ
 root_variables (Simple goal) = variables_of goal

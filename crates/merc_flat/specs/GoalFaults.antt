@@ -17,10 +17,9 @@ use Rattle.merc_goals.specs.Written.{Written, WrittenGoals, Equal, Compared, Cal
 use Rattle.merc_goals.specs.Faults.{first_fault, first_span, place_of, widest_parallel}
 use Rattle.merc_goal_tree.specs.declared.entries.Root.{Root}
 use Rattle.merc_goal_tree.specs.declared.entries.Root.TheVariants.{Simple}
-use Rattle.merc_goal_tree.specs.declared.goal.SimpleGoal.{SimpleGoal}
-use Rattle.merc_goal_tree.specs.declared.goal.SimpleGoal.TheVariants.{True, Fail, Same, Shape, Arithmetic, Compare, Raise, Call}
 use Rattle.merc_goal_tree.specs.Nodes.{Node}
 use Rattle.merc_goal_tree.specs.Parts.{parts_of}
+use Rattle.merc_goal_tree.specs.Variables.{variables_of, distinct}
 use Rattle.merc_known.specs.Known.{callee_in, is_callee, is_constructor}
 use Rattle.merc_flat_form.specs.FlatForm.{argument_terms, is_negation, operation_of}
 
@@ -40,24 +39,9 @@ first_of_faults (one ∷ rest) = Some (earlier_fault one (first_of_faults rest))
 
 -- How many variables a goal has.
 
-abbrev pub variables_of : SimpleGoal → List ℕ
-variables_of True = []
-variables_of Fail = []
-variables_of (Same one other) = one ∷ other ∷ []
-variables_of (Shape variable symbol arguments) = variable ∷ arguments
-variables_of (Arithmetic operation result left right) = result ∷ left ∷ right ∷ []
-variables_of (Compare comparison left right) = left ∷ right ∷ []
-variables_of (Raise text) = text ∷ []
-variables_of (Call number arguments) = arguments
-
 abbrev pub part_variables : Root × Span → List ℕ
 part_variables (Simple goal, span) = variables_of goal
 part_variables (other, span) = []
-
--- each number once
-abbrev pub distinct : List ℕ → List ℕ
-distinct [] = []
-distinct (first ∷ rest) = if list_any (λ other. first == other) rest then distinct rest else first ∷ distinct rest
 
 -- the arguments, and the others among the variables of a goal in flat form
 abbrev pub variable_count : ℕ → Node → ℕ

@@ -11,12 +11,9 @@ use Rattle.merc_tree.specs.declared.declarations.Clause.{Clause}
 use Rattle.merc_tree.specs.declared.declarations.Module.{Module}
 use Rattle.merc_goals.specs.Written.{Written, WrittenGoals, Truth, Equal, Compared, Called, Conjunction, Parallel, Disjunction, Conditional, Negated, Quantified, WrongForm, no_goals, more_goals}
 use Rattle.merc_goals.specs.Faults.{wrong_form}
-use Rattle.merc_goal_tree.specs.declared.goal.SimpleGoal.TheVariants.{True, Same, Shape, Arithmetic, Compare, Raise, Call}
-use Rattle.merc_goal_tree.specs.declared.goal.Symbol.TheVariants.{Constructor}
-use Rattle.merc_goal_tree.specs.declared.goal.Operation.TheVariants.{Add}
-use Rattle.merc_goal_tree.specs.declared.goal.Comparison.TheVariants.{Less}
+use Rattle.merc_goal_tree.specs.declared.goal.SimpleGoal.TheVariants.{True, Same, Call}
 use Rattle.merc_goal_tree.specs.Nodes.{Node, Simple, Conjunction as NodeConjunction, Negation as NodeNegation, nodes_of}
-use Rattle.merc_flat.specs.GoalFaults.{form_fault, limit_passed, name_fault, unknown, unknown_in, unknown_name, variable_count, variables_of}
+use Rattle.merc_flat.specs.GoalFaults.{form_fault, limit_passed, name_fault, unknown, unknown_in, unknown_name, variable_count}
 
 abbrev m_name : ℕ
 m_name = 99
@@ -109,22 +106,6 @@ variables = refl
 -- the first number behind the arguments is another variable's
 variable_behind : variable_count 2 (Simple (Call 0 (2 ∷ [])) (at 0)) ≡ 3
 variable_behind = refl
-
--- the variables of each goal
-variables_same : variables_of (Same 1 2) ≡ 1 ∷ 2 ∷ []
-variables_same = refl
-
-variables_shape : variables_of (Shape 1 (Constructor f_name 2) (2 ∷ 3 ∷ [])) ≡ 1 ∷ 2 ∷ 3 ∷ []
-variables_shape = refl
-
-variables_arithmetic : variables_of (Arithmetic Add 1 2 3) ≡ 1 ∷ 2 ∷ 3 ∷ []
-variables_arithmetic = refl
-
-variables_compare : variables_of (Compare Less 1 2) ≡ 1 ∷ 2 ∷ []
-variables_compare = refl
-
-variables_raise : variables_of (Raise 1) ≡ 1 ∷ []
-variables_raise = refl
 
 -- in all parts of a goal
 variables_parts : variable_count 0 (NodeConjunction (nodes_of (Simple (Call 0 (1 ∷ [])) (at 0) ∷ NodeNegation (Simple (Same 1 2) (at 0)) (at 0) ∷ [])) (at 0)) ≡ 2

@@ -1,7 +1,8 @@
 //! How many variables a goal has.
 ghost use Rattle.std.specs.Prelude.{◌≡◌, ◌++◌, ◌∷◌, [], ℕ, List, IfOk, OnOk};
 ghost use Rattle.merc_flat.specs.Counted.{HasThese, own, root_variables};
-ghost use Rattle.merc_flat.specs.GoalFaults.{variable_count, variables_of};
+ghost use Rattle.merc_goal_tree.specs.Variables.{variables_of};
+ghost use Rattle.merc_flat.specs.GoalFaults.{variable_count};
 
 use merc_base::NoMemory;
 use merc_goal_tree::{NodeRef, Root, SimpleGoal, Var};

@@ -6,3 +6,5 @@ pub mod Views
 pub mod Entries
 pub mod EntryCode
 pub mod NodesExamples
+pub mod Variables
+pub mod VariablesExamples

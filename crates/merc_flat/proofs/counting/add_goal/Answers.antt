@@ -1,7 +1,7 @@
 use Rattle.std.proofs.Common.{◌∷◌, [], ◌++◌, ap, sym, ◌∙◌}
 use Rattle.std.proofs.lemmas.Result.{IfOk-weaker}
 use Rattle.merc_flat.specs.Counted.{own}
-use Rattle.merc_flat.specs.GoalFaults.{variables_of}
+use Rattle.merc_goal_tree.specs.Variables.{variables_of}
 use Rattle.merc_flat.proofs.CountLaws.{own-both, same_numbers}
 use Rattle.merc_flat.proofs.counting.add_goal.Goals as goal
 

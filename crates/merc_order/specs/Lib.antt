@@ -1,0 +1,6 @@
+pub mod Bound
+pub mod CallModes
+pub mod Ordered
+pub mod Faults
+pub mod Moves
+pub mod Order

@@ -1,0 +1,2 @@
+//! The order of goals: definitions and laws.
+#![tactic(auto)]
