@@ -1,6 +1,6 @@
 -- Which variables are bound.
-use Rattle.std.specs.Prelude.{ℕ, Bool, false, ◌==◌, ◌||◌, List}
-use Rattle.std.specs.List.{list_all, list_any}
+use Rattle.std.specs.Prelude.{ℕ, Bool, false, not, ◌==◌, ◌||◌, List, [], ◌∷◌}
+use Rattle.std.specs.List.{filter, list_all, list_any}
 
 abbrev pub Bound : Type 0
 Bound = ℕ → Bool
@@ -18,3 +18,8 @@ among variables variable = list_any (λ other. variable == other) variables
 
 abbrev pub are_bound : Bound → List ℕ → Bool
 are_bound bound variables = list_all (λ variable. bound variable) variables
+
+-- these, each where it stands first
+abbrev pub each_once : List ℕ → List ℕ
+each_once [] = []
+each_once (first ∷ rest) = first ∷ filter (λ other. not (other == first)) (each_once rest)

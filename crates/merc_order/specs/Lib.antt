@@ -4,3 +4,4 @@ pub mod Ordered
 pub mod Faults
 pub mod Moves
 pub mod Order
+pub mod OrderExamples

@@ -7,8 +7,8 @@ use Rattle.merc_tree.specs.declared.declarations.ModeDecl.{ModeDecl}
 use Rattle.merc_goal_tree.specs.declared.goal.SimpleGoal.{SimpleGoal}
 use Rattle.merc_goal_tree.specs.declared.goal.SimpleGoal.TheVariants.{True, Fail, Same, Shape, Arithmetic, Compare, Raise, Call}
 use Rattle.merc_goal_tree.specs.Nodes.{Node, Nodes, Simple, Conjunction, Parallel, Disjunction, Conditional, Negation, Quantified, no_nodes, more_nodes, span_of}
-use Rattle.merc_goal_tree.specs.Variables.{variables_of, variables, all_variables, count, distinct}
-use Rattle.merc_order.specs.Bound.{Bound, with, among, are_bound}
+use Rattle.merc_goal_tree.specs.Variables.{variables_of, variables, all_variables, count}
+use Rattle.merc_order.specs.Bound.{Bound, with, among, are_bound, each_once}
 use Rattle.merc_order.specs.CallModes.{taken_from, can_succeed, tested, call_tested}
 use Rattle.merc_order.specs.Faults.{never_ready, binds_outer, unbound_output}
 use Rattle.merc_order.specs.Moves.{Move, settled, beside, each_from}
@@ -107,9 +107,9 @@ module _ (total : ℕ → ℕ) (modes : ℕ → List ModeDecl) where
   abbrev pub agree : Bound → List ℕ → List Arm → Bool
   agree bound inside arms = list_all (λ variable. bound variable || not (differ_on arms variable) || not (outside inside variable)) inside
 
-  -- The outputs of a goal with these variables from what is bound: what it binds that was not bound and occurs outside it.
+  -- The outputs of a goal with these variables from what is bound: what it binds that was not bound and occurs outside it, in the order of the text.
   abbrev pub outputs : Bound → List ℕ → Bound → List ℕ
-  outputs bound inside binds = distinct (filter (λ variable. binds variable && (not (bound variable) && outside inside variable)) inside)
+  outputs bound inside binds = each_once (filter (λ variable. binds variable && (not (bound variable) && outside inside variable)) inside)
 
   abbrev pub outputs_of : Bound → Node → List ℕ
   outputs_of bound goal = outputs bound (variables goal) (binds goal)

@@ -1,0 +1,281 @@
+-- Worked examples of orders, over `f(in, out)`, `p(in)`, `append` with the modes `(in, in, out)` and `(out, out, in)`, `stop(in)`, which is erroneous, and
+-- `either(out)`, whose other mode `either(in)` is a failure. Numbers of bytes tell the goals apart.
+use Rattle.std.specs.Prelude.{◌≡◌, ℕ, ◌+◌, true, false, ◌==◌, ◌||◌, List, [], ◌∷◌, length, pos, refl, if◌then◌else◌}
+use Rattle.merc_base.specs.declared.category.Category.{Category}
+use Rattle.merc_base.specs.declared.category.Category.TheVariants.{Det, Semidet, Multi, Erroneous, Failure as FailureCategory}
+use Rattle.merc_base.specs.declared.place.Span.{Span}
+use Rattle.merc_base.specs.declared.refusal.Refusal.{Refusal}
+use Rattle.merc_base.specs.declared.refusal.Rule.TheVariants.{NeverReady, BindsOuter, UnboundOutput}
+use Rattle.merc_base.specs.declared.refusal.Detail.TheVariants.{Plain, Pair}
+use Rattle.merc_tree.specs.declared.declarations.Arg.{Arg}
+use Rattle.merc_tree.specs.declared.declarations.Arg.TheVariants.{Input, Output}
+use Rattle.merc_tree.specs.declared.declarations.ModeDecl.{ModeDecl}
+use Rattle.merc_goal_tree.specs.declared.goal.Comparison.TheVariants.{Less}
+use Rattle.merc_goal_tree.specs.declared.goal.Operation.TheVariants.{Add}
+use Rattle.merc_goal_tree.specs.declared.goal.SimpleGoal.TheVariants.{True, Fail, Same, Shape, Arithmetic, Compare, Raise, Call}
+use Rattle.merc_goal_tree.specs.declared.goal.Symbol.{Symbol}
+use Rattle.merc_goal_tree.specs.declared.goal.Symbol.TheVariants.{Constructor, Integer}
+use Rattle.merc_goal_tree.specs.Nodes.{Node, Nodes, Simple, Conjunction, Parallel, Disjunction, Conditional, Negation, Quantified, nodes_of}
+use Rattle.merc_goal_tree.specs.Variables.{variables, count}
+use Rattle.merc_order.specs.Bound.{Bound, nothing}
+use Rattle.merc_order.specs.Faults.{never_ready, binds_outer, unbound_output}
+use Rattle.merc_order.specs.Ordered.{Ordered, Ordereds, no_goals, more_goals, put, Truth, Failure, Assign, Test, Build, Split, Computed, Compared, Raised, Called, Sequence, Beside, Choice, Decision, Denial, Within, Outcome, Ready, Stuck}
+use Rattle.merc_order.specs.Order.{from, reached, binds}
+
+abbrev at : ℕ → Span
+at byte = record { first = byte; past = byte + 1; line = 1 }
+
+abbrev mode : List Arg → Category → ModeDecl
+mode args category = record { args = args; category = category; span = at 0 }
+
+abbrev f : ℕ
+f = 0
+
+abbrev p : ℕ
+p = 1
+
+abbrev append : ℕ
+append = 2
+
+abbrev stop : ℕ
+stop = 3
+
+abbrev either : ℕ
+either = 4
+
+abbrev modes : ℕ → List ModeDecl
+modes predicate =
+    if predicate == f then mode (Input ∷ Output ∷ []) Det ∷ []
+    else if predicate == p then mode (Input ∷ []) Semidet ∷ []
+    else if predicate == append then mode (Input ∷ Input ∷ Output ∷ []) Det ∷ mode (Output ∷ Output ∷ Input ∷ []) Multi ∷ []
+    else if predicate == stop then mode (Input ∷ []) Erroneous ∷ []
+    else mode (Output ∷ []) Det ∷ mode (Input ∷ []) FailureCategory ∷ []
+
+-- a goal that is asked for these variables
+abbrev query : List ℕ → Node → Outcome
+query answers goal = from (λ variable. count variable (variables goal) + count variable answers) modes goal nothing
+
+-- the first variables, by their usual names
+
+abbrev x : ℕ
+x = 0
+
+abbrev y : ℕ
+y = 1
+
+abbrev z : ℕ
+z = 2
+
+abbrev one : Symbol
+one = Integer (pos 1)
+
+-- a unification with 1
+abbrev is_one : ℕ → ℕ → Node
+is_one variable byte = Simple (Shape variable one []) (at byte)
+
+abbrev call : ℕ → List ℕ → ℕ → Node
+call predicate arguments byte = Simple (Call predicate arguments) (at byte)
+
+abbrev both : Node → Node → Nodes
+both first second = nodes_of (first ∷ second ∷ [])
+
+abbrev ordereds : List Ordered → Ordereds
+ordereds [] = no_goals
+ordereds (first ∷ rest) = more_goals first (ordereds rest)
+
+abbrev built : ℕ → List ℕ → ℕ → Ordered
+built variable outputs byte = put (Build variable one []) outputs (at byte)
+
+-- `f(X, Y), X = 1`: the second goes first
+delayed : query (x ∷ y ∷ []) (Conjunction (both (call f (x ∷ y ∷ []) 10) (is_one x 20)) (at 10))
+    ≡ Ready (put (Sequence (ordereds (built x (x ∷ []) 20 ∷ put (Called f 0 (x ∷ y ∷ []) (false ∷ false ∷ [])) (y ∷ []) (at 10) ∷ []))) (x ∷ y ∷ []) (at 10))
+delayed = refl
+
+-- not the one that is ready and stands last
+rightmost_first : query (x ∷ y ∷ []) (Conjunction (both (is_one x 10) (is_one y 20)) (at 10))
+    ≡ Ready (put (Sequence (ordereds (built y (y ∷ []) 20 ∷ built x (x ∷ []) 10 ∷ []))) (x ∷ y ∷ []) (at 10)) → ⊥
+rightmost_first wrong = cc
+
+-- `not p(X), X = 1`: the negation is delayed
+negation_delayed : query (x ∷ []) (Conjunction (both (Negation (call p (x ∷ []) 14) (at 10)) (is_one x 20)) (at 10))
+    ≡ Ready (put (Sequence (ordereds (built x (x ∷ []) 20 ∷ put (Denial (put (Called p 0 (x ∷ []) (false ∷ [])) [] (at 14))) [] (at 10) ∷ []))) (x ∷ []) (at 10))
+negation_delayed = refl
+
+-- a variable that only this goal has is none of its outputs
+own_variable : query [] (call f (x ∷ y ∷ []) 10) ≡ Stuck (never_ready (at 10))
+own_variable = refl
+
+no_output : query [] (is_one x 10) ≡ Ready (built x [] 10)
+no_output = refl
+
+-- Unifications of two variables
+
+test : query [] (Conjunction (nodes_of (is_one x 10 ∷ is_one y 20 ∷ Simple (Same x y) (at 30) ∷ [])) (at 10))
+    ≡ Ready (put (Sequence (ordereds (built x (x ∷ []) 10 ∷ built y (y ∷ []) 20 ∷ put (Test x y) [] (at 30) ∷ []))) [] (at 10))
+test = refl
+
+assignment : query (y ∷ []) (Conjunction (both (is_one x 10) (Simple (Same x y) (at 20))) (at 10))
+    ≡ Ready (put (Sequence (ordereds (built x (x ∷ []) 10 ∷ put (Assign y x) (y ∷ []) (at 20) ∷ []))) (y ∷ []) (at 10))
+assignment = refl
+
+assignment_left : query (x ∷ []) (Conjunction (both (is_one y 10) (Simple (Same x y) (at 20))) (at 10))
+    ≡ Ready (put (Sequence (ordereds (built y (y ∷ []) 10 ∷ put (Assign x y) (x ∷ []) (at 20) ∷ []))) (x ∷ []) (at 10))
+assignment_left = refl
+
+-- `X = X`, with X free and with X bound
+free_with_itself : query (x ∷ []) (Simple (Same x x) (at 10)) ≡ Stuck (never_ready (at 10))
+free_with_itself = refl
+
+bound_with_itself : query (x ∷ []) (Conjunction (both (Simple (Same x x) (at 10)) (is_one x 20)) (at 10))
+    ≡ Ready (put (Sequence (ordereds (built x (x ∷ []) 20 ∷ put (Test x x) [] (at 10) ∷ []))) (x ∷ []) (at 10))
+bound_with_itself = refl
+
+-- Splits, constructions and tests
+
+abbrev pair : Symbol
+pair = Constructor 200 2
+
+-- `X = pair(Y, Z)` behind `f(.., X)`: of a split's places those that are bound become tests, a second place of one variable too
+split : from (λ variable. 9) modes (Simple (Shape x pair (y ∷ z ∷ y ∷ [])) (at 10)) (λ variable. (variable == x))
+    ≡ Ready (put (Split x pair (y ∷ z ∷ y ∷ []) (false ∷ false ∷ true ∷ [])) (y ∷ z ∷ []) (at 10))
+split = refl
+
+split_bound : from (λ variable. 9) modes (Simple (Shape x pair (y ∷ z ∷ [])) (at 10)) (λ variable. (variable == x) || (variable == z))
+    ≡ Ready (put (Split x pair (y ∷ z ∷ []) (false ∷ true ∷ [])) (y ∷ []) (at 10))
+split_bound = refl
+
+construction : from (λ variable. 9) modes (Simple (Shape x pair (y ∷ z ∷ [])) (at 10)) (λ variable. (variable == y) || (variable == z))
+    ≡ Ready (put (Build x pair (y ∷ z ∷ [])) (x ∷ []) (at 10))
+construction = refl
+
+-- all arguments have to be bound
+part_built : from (λ variable. 9) modes (Simple (Shape x pair (y ∷ z ∷ [])) (at 10)) (λ variable. (variable == y)) ≡ Stuck (never_ready (at 10))
+part_built = refl
+
+-- `X = Y + Z` with X free, with X bound, and with Z free
+arithmetic : from (λ variable. 9) modes (Simple (Arithmetic Add x y z) (at 10)) (λ variable. (variable == y) || (variable == z))
+    ≡ Ready (put (Computed Add x y z (false ∷ [])) (x ∷ []) (at 10))
+arithmetic = refl
+
+arithmetic_test : from (λ variable. 9) modes (Simple (Arithmetic Add x y z) (at 10)) (λ variable. true)
+    ≡ Ready (put (Computed Add x y z (true ∷ [])) [] (at 10))
+arithmetic_test = refl
+
+arithmetic_free : from (λ variable. 9) modes (Simple (Arithmetic Add x y z) (at 10)) (λ variable. (variable == x) || (variable == y)) ≡ Stuck (never_ready (at 10))
+arithmetic_free = refl
+
+comparison_free : from (λ variable. 9) modes (Simple (Compare Less x y) (at 10)) (λ variable. (variable == x)) ≡ Stuck (never_ready (at 10))
+comparison_free = refl
+
+-- Calls
+
+-- with all three bound: the mode with the most inputs, and a test of its output
+implied_mode : from (λ variable. 9) modes (call append (x ∷ y ∷ z ∷ []) 10) (λ variable. true)
+    ≡ Ready (put (Called append 0 (x ∷ y ∷ z ∷ []) (false ∷ false ∷ true ∷ [])) [] (at 10))
+implied_mode = refl
+
+-- with the last bound: the second mode; a variable at both outputs is a test at the second
+second_mode : from (λ variable. 9) modes (call append (x ∷ x ∷ z ∷ []) 10) (λ variable. (variable == z))
+    ≡ Ready (put (Called append 1 (x ∷ x ∷ z ∷ []) (false ∷ true ∷ false ∷ [])) (x ∷ []) (at 10))
+second_mode = refl
+
+no_mode : from (λ variable. 9) modes (call append (x ∷ y ∷ z ∷ []) 10) (λ variable. (variable == x)) ≡ Stuck (never_ready (at 10))
+no_mode = refl
+
+-- A call's mode is that for which it is ready when it goes: in `append(A, B, C)` behind `C = 1` and `B = 1`, with A bound, B is bound first.
+mode_when_it_goes : from (λ variable. 9) modes (Conjunction (nodes_of (call either (x ∷ []) 10 ∷ is_one x 20 ∷ [])) (at 10)) nothing
+    ≡ Ready (put (Sequence (ordereds (put (Called either 0 (x ∷ []) (false ∷ [])) (x ∷ []) (at 10) ∷ put (Split x one [] []) [] (at 20) ∷ []))) (x ∷ []) (at 10))
+mode_when_it_goes = refl
+
+-- Negations and conditions bind nothing outside
+
+-- `not X = 1`
+binds_outer_variable : query (x ∷ []) (Negation (is_one x 14) (at 10)) ≡ Stuck (binds_outer (at 10))
+binds_outer_variable = refl
+
+binds_own_variable : query [] (Negation (is_one x 14) (at 10)) ≡ Ready (put (Denial (built x [] 14)) [] (at 10))
+binds_own_variable = refl
+
+-- `( X = 1 -> p(X) ; true )` with X in no other place
+condition_binds : query [] (Conditional (is_one x 12) (call p (x ∷ []) 20) (Simple True (at 30)) (at 10))
+    ≡ Ready (put (Decision (built x (x ∷ []) 12) (put (Called p 0 (x ∷ []) (false ∷ [])) [] (at 20)) (put Truth [] (at 30))) [] (at 10))
+condition_binds = refl
+
+-- `( X = 1 -> true ; true )` where X is asked for; the place is the condition's, and what cannot be ordered in the then part is not looked at
+condition_binds_outer : query (x ∷ []) (Conditional (is_one x 12) (call p (y ∷ []) 20) (Simple True (at 30)) (at 10)) ≡ Stuck (binds_outer (at 12))
+condition_binds_outer = refl
+
+-- a quantified variable in the else part occurs outside the condition
+condition_shares : query [] (Conditional (is_one x 12) (Simple True (at 20)) (Conjunction (both (is_one x 30) (call p (x ∷ []) 35)) (at 30)) (at 10)) ≡ Stuck (binds_outer (at 12))
+condition_shares = refl
+
+-- Arms
+
+-- `X = 1 ; Y = 1`
+arms_differ : query (x ∷ y ∷ []) (Disjunction (both (is_one x 10) (is_one y 20)) (at 10)) ≡ Stuck (unbound_output (at 10))
+arms_differ = refl
+
+-- `( X = 1 ; Y = 1, fail )`: the second arm owes nothing
+arm_owes_nothing : query (x ∷ []) (Disjunction (both (is_one x 10) (Conjunction (both (is_one y 20) (Simple Fail (at 30))) (at 20))) (at 10))
+    ≡ Ready (put (Choice (ordereds (built x (x ∷ []) 10 ∷ put (Sequence (ordereds (built y [] 20 ∷ put Failure [] (at 30) ∷ []))) [] (at 20) ∷ []))) (x ∷ []) (at 10))
+arm_owes_nothing = refl
+
+-- `( X = 1 ; Y = 1, error(Y) )`
+arm_raises : reached (λ variable. 9) modes (Conjunction (both (is_one y 20) (Simple (Raise y) (at 30))) (at 20)) ≡ false
+arm_raises = refl
+
+-- The end of a call is out of reach where all its modes are declared `failure` or `erroneous`, not where one is.
+call_stops : reached (λ variable. 9) modes (call stop (x ∷ []) 10) ≡ false
+call_stops = refl
+
+call_may_answer : reached (λ variable. 9) modes (call either (x ∷ []) 10) ≡ true
+call_may_answer = refl
+
+-- a goal behind `fail` must be ready too
+behind_fail : query [] (Conjunction (both (Simple Fail (at 10)) (call p (x ∷ []) 20)) (at 10)) ≡ Stuck (never_ready (at 20))
+behind_fail = refl
+
+-- where no arm's end can be reached, what all bind is bound
+none_reached : binds (λ variable. 9) modes (Disjunction (both (Conjunction (both (is_one x 10) (Simple Fail (at 12))) (at 10)) (Conjunction (nodes_of (is_one x 20 ∷ is_one y 22 ∷ Simple Fail (at 24) ∷ [])) (at 20))) (at 10)) x ≡ true
+none_reached = refl
+
+none_reached_other : binds (λ variable. 9) modes (Disjunction (both (Conjunction (both (is_one x 10) (Simple Fail (at 12))) (at 10)) (Conjunction (nodes_of (is_one x 20 ∷ is_one y 22 ∷ Simple Fail (at 24) ∷ [])) (at 20))) (at 10)) y ≡ false
+none_reached_other = refl
+
+-- the first arm that cannot be ordered tells why
+first_arm : query (x ∷ []) (Disjunction (both (call p (y ∷ []) 10) (call p (z ∷ []) 20)) (at 10)) ≡ Stuck (never_ready (at 10))
+first_arm = refl
+
+-- Parallel conjunctions
+
+abbrev needing : ℕ → ℕ → ℕ → Refusal
+needing number other byte = record { rule = NeverReady; place = record { byte = byte; line = 1 }; detail = Pair number other }
+
+-- `f(Y, X) & Y = 1`
+needs_the_second : query (x ∷ y ∷ []) (Parallel (both (call f (y ∷ x ∷ []) 10) (is_one y 20)) (at 10)) ≡ Stuck (needing 1 2 10)
+needs_the_second = refl
+
+-- `f(Y, X) & f(Z, Y) & Z = 1`: the second is not ready before the first, and behind the third the first is not
+needs_none : query (x ∷ y ∷ z ∷ []) (Parallel (nodes_of (call f (y ∷ x ∷ []) 10 ∷ call f (z ∷ y ∷ []) 20 ∷ is_one z 30 ∷ [])) (at 10)) ≡ Stuck (never_ready (at 10))
+needs_none = refl
+
+-- `true & ( p(X), p(Y) ) & X = 1`: the place is the conjunct's, the text the inner fault's
+inner_fault : query (x ∷ y ∷ []) (Parallel (nodes_of (Simple True (at 10) ∷ Conjunction (both (call p (x ∷ []) 20) (call p (y ∷ []) 25)) (at 19) ∷ is_one x 30 ∷ [])) (at 10)) ≡ Stuck (never_ready (at 19))
+inner_fault = refl
+
+-- `not X = 1 & X = 1`: only where the inner fault is that a goal is never ready is another conjunct looked for
+inner_rule : query (x ∷ []) (Parallel (both (Negation (is_one x 14) (at 10)) (is_one x 20)) (at 10)) ≡ Stuck (binds_outer (at 10))
+inner_rule = refl
+
+-- what an inner parallel conjunction needs is told by its own numbers
+inner_text : query (x ∷ y ∷ []) (Parallel (both (Simple True (at 10)) (Parallel (both (call f (y ∷ x ∷ []) 20) (is_one y 30)) (at 19))) (at 10)) ≡ Stuck (needing 1 2 19)
+inner_text = refl
+
+-- the conjuncts stay in their order
+beside : query (x ∷ y ∷ []) (Parallel (both (is_one x 10) (call f (x ∷ y ∷ []) 20)) (at 10))
+    ≡ Ready (put (Beside (ordereds (built x (x ∷ []) 10 ∷ put (Called f 0 (x ∷ y ∷ []) (false ∷ false ∷ [])) (y ∷ []) (at 20) ∷ []))) (x ∷ y ∷ []) (at 10))
+beside = refl
+
+-- `some [X] X = 1`
+quantified : query [] (Quantified (x ∷ []) (is_one x 15) (at 10)) ≡ Ready (put (Within (x ∷ []) (built x [] 15)) [] (at 10))
+quantified = refl
