@@ -3,7 +3,7 @@ use crate::tally::Tally;
 use merc_base::{Name, Names};
 use std::io;
 
-const CONSTANTS: [(Name, &[u8]); 82] = [
+const CONSTANTS: [(Name, &[u8]); 98] = [
     (Name::DIVISION_BY_ZERO, b"division by zero"),
     (Name::NIL, b"[]"),
     (Name::CONS, b"[|]"),
@@ -86,6 +86,22 @@ const CONSTANTS: [(Name, &[u8]); 82] = [
     (Name::UINT16, b"uint16"),
     (Name::UINT32, b"uint32"),
     (Name::UINT64, b"uint64"),
+    (Name::NO, b"no"),
+    (Name::YES, b"yes"),
+    (Name::APPEND, b"append"),
+    (Name::MEMBER, b"member"),
+    (Name::LENGTH, b"length"),
+    (Name::REVERSE, b"reverse"),
+    (Name::LIST_REVERSE_ONTO, b"list_reverse_onto"),
+    (Name::T, b"T"),
+    (Name::A, b"A"),
+    (Name::M, b"M"),
+    (Name::N, b"N"),
+    (Name::X, b"X"),
+    (Name::XS, b"Xs"),
+    (Name::YS, b"Ys"),
+    (Name::ZS, b"Zs"),
+    (Name::UNDERSCORE, b"_"),
 ];
 
 /// Counts the constants that have their texts as cases that passed, and tells each other one.

@@ -1,6 +1,6 @@
 -- Each constant of specs/Names.antt has its text.
 use Rattle.std.proofs.Common.{◌≡◌, Some, slice_get, codes, refl}
-use Rattle.merc_base.specs.Names.{fixed_names, division_by_zero_name, nil_name, cons_name, braces_name, bang_name, bang_dot_name, bang_colon_name, pragma_name, memo_name, slash_name, colon_minus_name, grammar_arrow_name, module_name, end_module_name, import_module_name, mode_name, type_name, type_arrow_name, colon_colon_name, equal_equal_name, else_name, if_name, then_name, semicolon_name, arrow_name, ampersand_name, comma_name, some_name, all_name, implies_name, equivalent_name, not_name, not_provable_name, pred_name, func_name, is_name, equal_name, not_equal_name, less_name, greater_name, at_most_name, at_least_name, plus_name, minus_name, star_name, slash_slash_name, div_name, mod_name, rem_name, interface_name, implementation_name, true_name, fail_name, false_name, error_name, in_name, out_name, int_name, string_name, list_name, bool_name, maybe_name, require_name, det_name, semidet_name, multi_name, nondet_name, erroneous_name, failure_name, cc_multi_name, cc_nondet_name, char_name, float_name, uint_name, int8_name, int16_name, int32_name, int64_name, uint8_name, uint16_name, uint32_name, uint64_name}
+use Rattle.merc_base.specs.Names.{fixed_names, division_by_zero_name, nil_name, cons_name, braces_name, bang_name, bang_dot_name, bang_colon_name, pragma_name, memo_name, slash_name, colon_minus_name, grammar_arrow_name, module_name, end_module_name, import_module_name, mode_name, type_name, type_arrow_name, colon_colon_name, equal_equal_name, else_name, if_name, then_name, semicolon_name, arrow_name, ampersand_name, comma_name, some_name, all_name, implies_name, equivalent_name, not_name, not_provable_name, pred_name, func_name, is_name, equal_name, not_equal_name, less_name, greater_name, at_most_name, at_least_name, plus_name, minus_name, star_name, slash_slash_name, div_name, mod_name, rem_name, interface_name, implementation_name, true_name, fail_name, false_name, error_name, in_name, out_name, int_name, string_name, list_name, bool_name, maybe_name, require_name, det_name, semidet_name, multi_name, nondet_name, erroneous_name, failure_name, cc_multi_name, cc_nondet_name, char_name, float_name, uint_name, int8_name, int16_name, int32_name, int64_name, uint8_name, uint16_name, uint32_name, uint64_name, no_name, yes_name, append_name, member_name, length_name, reverse_name, list_reverse_onto_name, t_name, a_name, m_name, n_name, x_name, xs_name, ys_name, zs_name, underscore_name}
 
 pub division_by_zero_name-text : slice_get fixed_names division_by_zero_name ≡ Some (codes "division by zero")
 unfolding fixed_names
@@ -329,3 +329,67 @@ uint32_name-text = refl
 pub uint64_name-text : slice_get fixed_names uint64_name ≡ Some (codes "uint64")
 unfolding fixed_names
 uint64_name-text = refl
+
+pub no_name-text : slice_get fixed_names no_name ≡ Some (codes "no")
+unfolding fixed_names
+no_name-text = refl
+
+pub yes_name-text : slice_get fixed_names yes_name ≡ Some (codes "yes")
+unfolding fixed_names
+yes_name-text = refl
+
+pub append_name-text : slice_get fixed_names append_name ≡ Some (codes "append")
+unfolding fixed_names
+append_name-text = refl
+
+pub member_name-text : slice_get fixed_names member_name ≡ Some (codes "member")
+unfolding fixed_names
+member_name-text = refl
+
+pub length_name-text : slice_get fixed_names length_name ≡ Some (codes "length")
+unfolding fixed_names
+length_name-text = refl
+
+pub reverse_name-text : slice_get fixed_names reverse_name ≡ Some (codes "reverse")
+unfolding fixed_names
+reverse_name-text = refl
+
+pub list_reverse_onto_name-text : slice_get fixed_names list_reverse_onto_name ≡ Some (codes "list_reverse_onto")
+unfolding fixed_names
+list_reverse_onto_name-text = refl
+
+pub t_name-text : slice_get fixed_names t_name ≡ Some (codes "T")
+unfolding fixed_names
+t_name-text = refl
+
+pub a_name-text : slice_get fixed_names a_name ≡ Some (codes "A")
+unfolding fixed_names
+a_name-text = refl
+
+pub m_name-text : slice_get fixed_names m_name ≡ Some (codes "M")
+unfolding fixed_names
+m_name-text = refl
+
+pub n_name-text : slice_get fixed_names n_name ≡ Some (codes "N")
+unfolding fixed_names
+n_name-text = refl
+
+pub x_name-text : slice_get fixed_names x_name ≡ Some (codes "X")
+unfolding fixed_names
+x_name-text = refl
+
+pub xs_name-text : slice_get fixed_names xs_name ≡ Some (codes "Xs")
+unfolding fixed_names
+xs_name-text = refl
+
+pub ys_name-text : slice_get fixed_names ys_name ≡ Some (codes "Ys")
+unfolding fixed_names
+ys_name-text = refl
+
+pub zs_name-text : slice_get fixed_names zs_name ≡ Some (codes "Zs")
+unfolding fixed_names
+zs_name-text = refl
+
+pub underscore_name-text : slice_get fixed_names underscore_name ≡ Some (codes "_")
+unfolding fixed_names
+underscore_name-text = refl

@@ -6,7 +6,7 @@ pub fixed_names-nil : slice_get fixed_names 1 ≡ Some (codes "[]")
 unfolding fixed_names
 fixed_names-nil = refl
 
-pub fixed_names-last : slice_get fixed_names 81 ≡ Some (codes "uint64")
+pub fixed_names-last : slice_get fixed_names 97 ≡ Some (codes "_")
 unfolding fixed_names
 fixed_names-last = refl
 

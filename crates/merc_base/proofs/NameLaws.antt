@@ -5,7 +5,7 @@ use Rattle.std.specs.Str.{bytes_eq}
 use Rattle.std.proofs.lemmas.List.Folds.{list_any-append}
 use Rattle.std.proofs.lemmas.Map.Keys.{any_passes_from_place}
 use Rattle.std.proofs.lemmas.Slice.Eq.{bytes_eq-Decides}
-use Rattle.merc_base.specs.Names.{fixed_names, HoldsFixed}
+use Rattle.merc_base.specs.Names.{constant_count, fixed_names, HoldsFixed}
 use Rattle.merc_base.specs.Texts.{is_among, place_among, with_text}
 use Rattle.merc_base.proofs.TextTables.{with_text-present, place_has_text, with_text-distinct, distinct_places}
 
@@ -44,8 +44,8 @@ fixed_names-fold = refl
 pub fixed_names-distinct : IsDistinct bytes_eq fixed_names
 fixed_names-distinct = subst (IsDistinct bytes_eq) fixed_names-fold (fold-distinct [] fixed_names none_distinct)
 
--- There are 82 constants.
-pub length-fixed_names : length fixed_names ≡ 82
+-- The constants are as many as `constant_count` says.
+pub length-fixed_names : length fixed_names ≡ constant_count
 unfolding fixed_names
 length-fixed_names = refl
 
@@ -91,7 +91,7 @@ pub added_distinct : (back after : List (List ℕ)) (text : List ℕ) → after 
 added_distinct back after text added new distinct = subst (IsDistinct bytes_eq) (sym (added_behind back after text added new)) (with_text-distinct (fixed_names ++ back) text distinct)
 
 -- and has its place there behind the constants.
-pub added_known : (back after : List (List ℕ)) (text : List ℕ) (place number : ℕ) → after ≡ with_text back text → place ≡ place_among after text → number ≡ 82 + place
+pub added_known : (back after : List (List ℕ)) (text : List ℕ) (place number : ℕ) → after ≡ with_text back text → place ≡ place_among after text → number ≡ constant_count + place
     → slice_get (fixed_names ++ after) number ≡ Some text
 added_known back after text place number added at is =
     slice_get-back fixed_names after place number (omega (arith, length-fixed_names))

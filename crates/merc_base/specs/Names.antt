@@ -2,7 +2,8 @@
 -- where their texts are.
 use Rattle.std.specs.Prelude.{◌≡◌, ℕ, List, [], ◌∷◌, Some, slice_get, codes}
 
--- the texts of the constants, which every table holds from the start
+-- the texts of the constants, which every table holds from the start: the words of the language, and those of the
+-- library units
 unfoldable pub fixed_names : List (List ℕ)
 fixed_names =
     codes "division by zero" ∷ codes "[]" ∷ codes "[|]" ∷ codes "{}" ∷ codes "!" ∷ codes "!." ∷ codes "!:" ∷
@@ -16,7 +17,10 @@ fixed_names =
     codes "list" ∷ codes "bool" ∷ codes "maybe" ∷ codes "require" ∷ codes "det" ∷ codes "semidet" ∷ codes "multi" ∷
     codes "nondet" ∷ codes "erroneous" ∷ codes "failure" ∷ codes "cc_multi" ∷ codes "cc_nondet" ∷ codes "char" ∷
     codes "float" ∷ codes "uint" ∷ codes "int8" ∷ codes "int16" ∷ codes "int32" ∷ codes "int64" ∷ codes "uint8" ∷
-    codes "uint16" ∷ codes "uint32" ∷ codes "uint64" ∷ []
+    codes "uint16" ∷ codes "uint32" ∷ codes "uint64" ∷
+    codes "no" ∷ codes "yes" ∷ codes "append" ∷ codes "member" ∷ codes "length" ∷ codes "reverse" ∷
+    codes "list_reverse_onto" ∷ codes "T" ∷ codes "A" ∷ codes "M" ∷ codes "N" ∷ codes "X" ∷ codes "Xs" ∷ codes "Ys" ∷
+    codes "Zs" ∷ codes "_" ∷ []
 
 -- The number of each constant.
 abbrev pub division_by_zero_name : ℕ
@@ -264,6 +268,58 @@ uint32_name = 80
 
 abbrev pub uint64_name : ℕ
 uint64_name = 81
+
+abbrev pub no_name : ℕ
+no_name = 82
+
+abbrev pub yes_name : ℕ
+yes_name = 83
+
+abbrev pub append_name : ℕ
+append_name = 84
+
+abbrev pub member_name : ℕ
+member_name = 85
+
+abbrev pub length_name : ℕ
+length_name = 86
+
+abbrev pub reverse_name : ℕ
+reverse_name = 87
+
+abbrev pub list_reverse_onto_name : ℕ
+list_reverse_onto_name = 88
+
+abbrev pub t_name : ℕ
+t_name = 89
+
+abbrev pub a_name : ℕ
+a_name = 90
+
+abbrev pub m_name : ℕ
+m_name = 91
+
+abbrev pub n_name : ℕ
+n_name = 92
+
+abbrev pub x_name : ℕ
+x_name = 93
+
+abbrev pub xs_name : ℕ
+xs_name = 94
+
+abbrev pub ys_name : ℕ
+ys_name = 95
+
+abbrev pub zs_name : ℕ
+zs_name = 96
+
+abbrev pub underscore_name : ℕ
+underscore_name = 97
+
+-- how many constants there are
+abbrev pub constant_count : ℕ
+constant_count = 98
 
 -- each constant has its text
 pub record HoldsFixed (names : List (List ℕ)) : Type 0 where

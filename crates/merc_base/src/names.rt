@@ -192,10 +192,44 @@ impl Name {
     pub const UINT32: Name = Name(80);
     /// `uint64`
     pub const UINT64: Name = Name(81);
+
+    // The words of the library units.
+    /// `no`
+    pub const NO: Name = Name(82);
+    /// `yes`
+    pub const YES: Name = Name(83);
+    /// `append`
+    pub const APPEND: Name = Name(84);
+    /// `member`
+    pub const MEMBER: Name = Name(85);
+    /// `length`
+    pub const LENGTH: Name = Name(86);
+    /// `reverse`
+    pub const REVERSE: Name = Name(87);
+    /// `list_reverse_onto`
+    pub const LIST_REVERSE_ONTO: Name = Name(88);
+    /// `T`
+    pub const T: Name = Name(89);
+    /// `A`
+    pub const A: Name = Name(90);
+    /// `M`
+    pub const M: Name = Name(91);
+    /// `N`
+    pub const N: Name = Name(92);
+    /// `X`
+    pub const X: Name = Name(93);
+    /// `Xs`
+    pub const XS: Name = Name(94);
+    /// `Ys`
+    pub const YS: Name = Name(95);
+    /// `Zs`
+    pub const ZS: Name = Name(96);
+    /// `_`
+    pub const UNDERSCORE: Name = Name(97);
 }
 
 // The constants with their texts, in the order of their numbers.
-const FIXED: [(u64, &[u8]); 82] = [
+const FIXED: [(u64, &[u8]); 98] = [
     (Name::DIVISION_BY_ZERO.0, b"division by zero"),
     (Name::NIL.0, b"[]"),
     (Name::CONS.0, b"[|]"),
@@ -278,6 +312,22 @@ const FIXED: [(u64, &[u8]); 82] = [
     (Name::UINT16.0, b"uint16"),
     (Name::UINT32.0, b"uint32"),
     (Name::UINT64.0, b"uint64"),
+    (Name::NO.0, b"no"),
+    (Name::YES.0, b"yes"),
+    (Name::APPEND.0, b"append"),
+    (Name::MEMBER.0, b"member"),
+    (Name::LENGTH.0, b"length"),
+    (Name::REVERSE.0, b"reverse"),
+    (Name::LIST_REVERSE_ONTO.0, b"list_reverse_onto"),
+    (Name::T.0, b"T"),
+    (Name::A.0, b"A"),
+    (Name::M.0, b"M"),
+    (Name::N.0, b"N"),
+    (Name::X.0, b"X"),
+    (Name::XS.0, b"Xs"),
+    (Name::YS.0, b"Ys"),
+    (Name::ZS.0, b"Zs"),
+    (Name::UNDERSCORE.0, b"_"),
 ];
 
 /// Texts by number, each of them once. It is seen as the list of the texts.

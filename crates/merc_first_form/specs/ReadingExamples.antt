@@ -1,6 +1,6 @@
 -- Worked examples of what terms are in the first form, and for each definition terms that are not of it.
 use Rattle.std.specs.Prelude.{◌≡◌, ℕ, ℤ, pos, negsuc, true, false, List, [], ◌∷◌, ◌++◌, Some, None, codes, refl}
-use Rattle.merc_base.specs.Names.{fixed_names, colon_colon_name, colon_minus_name, comma_name, det_name, equal_name, import_module_name, in_name, int_name, is_name as is_operator, list_name, minus_name, module_name, out_name, plus_name, pred_name, semidet_name, string_name}
+use Rattle.merc_base.specs.Names.{fixed_names, colon_colon_name, colon_minus_name, comma_name, det_name, equal_name, import_module_name, in_name, int_name, is_name as is_operator, list_name, minus_name, module_name, out_name, plus_name, pred_name, semidet_name, string_name, x_name}
 use Rattle.merc_tree.specs.Parts.{is_named}
 use Rattle.merc_value.specs.Text.{word_operators}
 use Rattle.merc_tree.specs.Term.{Term, Variable, Integer, Text, Application, none, terms_of, no_span}
@@ -17,34 +17,31 @@ use Rattle.merc_first_form.specs.declared.syntax.Source.{Source}
 
 -- a table of names, and the number of each behind the constants
 abbrev names : List (List ℕ)
-names = fixed_names ++ codes "X" ∷ codes "Y" ∷ codes "Z" ∷ codes "_Z" ∷ codes "add" ∷ codes "twice" ∷ codes "sums" ∷ codes "a b" ∷ []
-
-abbrev x_name : ℕ
-x_name = 82
+names = fixed_names ++ codes "Y" ∷ codes "Z" ∷ codes "_Z" ∷ codes "add" ∷ codes "twice" ∷ codes "sums" ∷ codes "a b" ∷ []
 
 abbrev y_name : ℕ
-y_name = 83
+y_name = 98
 
 abbrev z_name : ℕ
-z_name = 84
+z_name = 99
 
 abbrev underscore_name : ℕ
-underscore_name = 85
+underscore_name = 100
 
 abbrev add_name : ℕ
-add_name = 86
+add_name = 101
 
 abbrev twice_name : ℕ
-twice_name = 87
+twice_name = 102
 
 abbrev sums_name : ℕ
-sums_name = 88
+sums_name = 103
 
 abbrev a_b_name : ℕ
-a_b_name = 89
+a_b_name = 104
 
 abbrev unknown_name : ℕ
-unknown_name = 90
+unknown_name = 105
 
 abbrev variable : ℕ → Term
 variable name = Variable name no_span
@@ -309,7 +306,7 @@ rule head body = apply colon_minus_name (head ∷ body ∷ [])
 abbrev add_defined : Term
 add_defined = rule call sum
 
-pub head_of-example : head_of names call ≡ Some (codes "add", codes "X" ∷ codes "Y" ∷ codes "Z" ∷ [])
+pub head_of-example : head_of names call ≡ Some (codes "add", codes "Y" ∷ codes "Z" ∷ [])
 unfolding fixed_names
 head_of-example = refl
 
@@ -318,7 +315,7 @@ pub head_of-integer : head_of names (apply add_name (x ∷ y ∷ integer (pos 7)
 unfolding fixed_names
 head_of-integer = refl
 
-pub clause_of-example : clause_of names (item_of add_defined) ≡ Some ((codes "add", codes "X" ∷ codes "Y" ∷ codes "Z" ∷ []), sum_read ∷ [])
+pub clause_of-example : clause_of names (item_of add_defined) ≡ Some ((codes "add", codes "Y" ∷ codes "Z" ∷ []), sum_read ∷ [])
 unfolding fixed_names
 clause_of-example = refl
 
@@ -335,7 +332,7 @@ abbrev add : Predicate
 add = record {
   name = codes "add";
   modes = Input ∷ Input ∷ Output ∷ [];
-  head = codes "X" ∷ codes "Y" ∷ codes "Z" ∷ [];
+  head = codes "Y" ∷ codes "Z" ∷ [];
   body = sum_read ∷ [];
 }
 

@@ -11,22 +11,22 @@ use Rattle.merc_goals.specs.declared.goal.Form.TheVariants.{Conjunction as Conju
 -- Terms stand at one span. The names have numbers behind those of the constants.
 
 abbrev a_name : ℕ
-a_name = 91
+a_name = 111
 
 abbrev b_name : ℕ
-b_name = 92
+b_name = 112
 
 abbrev c_name : ℕ
-c_name = 93
+c_name = 113
 
 abbrev x_name : ℕ
-x_name = 95
+x_name = 115
 
 abbrev y_name : ℕ
-y_name = 96
+y_name = 116
 
 abbrev m_name : ℕ
-m_name = 97
+m_name = 117
 
 abbrev here : Span
 here = record { first = 3; past = 4; line = 1 }

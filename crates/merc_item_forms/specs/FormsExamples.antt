@@ -34,16 +34,16 @@ abbrev pub plain : ℕ → Term
 plain name = apply name []
 
 abbrev pub m : ℕ
-m = 90
+m = 110
 
 abbrev pub other : ℕ
-other = 91
+other = 111
 
 abbrev pub f : ℕ
-f = 92
+f = 112
 
 abbrev pub p : ℕ
-p = 93
+p = 113
 
 -- `other.f`, and `m.f`
 

@@ -10,19 +10,19 @@ use Rattle.merc_scopes.specs.Scopes.{at_of, free, introduced, is_blank, occurren
 -- The names `X`, `Y` and `Z`, `_`, and `a` have numbers behind those of the constants.
 
 abbrev a_name : ℕ
-a_name = 89
+a_name = 109
 
 abbrev blank_name : ℕ
-blank_name = 90
+blank_name = 110
 
 abbrev x_name : ℕ
-x_name = 91
+x_name = 111
 
 abbrev y_name : ℕ
-y_name = 92
+y_name = 112
 
 abbrev z_name : ℕ
-z_name = 93
+z_name = 113
 
 abbrev here : Span
 here = record { first = 3; past = 4; line = 1 }

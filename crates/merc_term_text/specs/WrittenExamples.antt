@@ -1,7 +1,7 @@
 -- Worked examples of how terms are written, which the prover computes, and false statements that it refutes.
 use Rattle.std.specs.Prelude.{◌≡◌, ℕ, pos, negsuc, List, [], ◌∷◌, ◌++◌, Some, None, codes, refl}
 use Rattle.std.specs.Fmt.{digits}
-use Rattle.merc_base.specs.Names.{fixed_names, arrow_name, colon_minus_name, comma_name, cons_name, else_name, if_name, minus_name, mode_name, nil_name, semicolon_name, some_name, then_name}
+use Rattle.merc_base.specs.Names.{fixed_names, arrow_name, colon_minus_name, comma_name, cons_name, else_name, if_name, minus_name, mode_name, nil_name, semicolon_name, some_name, then_name, x_name}
 use Rattle.merc_value.specs.Text.{word_operators}
 use Rattle.merc_tree.specs.Term.{Term, Variable, Integer, Application, none, more, no_span}
 use Rattle.merc_terms.specs.Operators.{operators}
@@ -9,31 +9,28 @@ use Rattle.merc_term_text.specs.Written.{term_text}
 
 -- the constants, and some names behind them
 abbrev names : List (List ℕ)
-names = fixed_names ++ (codes "a" ∷ codes "b" ∷ codes "c" ∷ codes "p" ∷ codes "X" ∷ codes "Y" ∷ codes "Z" ∷ codes "two words" ∷ [])
+names = fixed_names ++ (codes "a" ∷ codes "b" ∷ codes "c" ∷ codes "p" ∷ codes "Y" ∷ codes "Z" ∷ codes "two words" ∷ [])
 
 abbrev a_name : ℕ
-a_name = 82
+a_name = 98
 
 abbrev b_name : ℕ
-b_name = 83
+b_name = 99
 
 abbrev c_name : ℕ
-c_name = 84
+c_name = 100
 
 abbrev p_name : ℕ
-p_name = 85
-
-abbrev x_name : ℕ
-x_name = 86
+p_name = 101
 
 abbrev y_name : ℕ
-y_name = 87
+y_name = 102
 
 abbrev z_name : ℕ
-z_name = 88
+z_name = 103
 
 abbrev two_words_name : ℕ
-two_words_name = 89
+two_words_name = 104
 
 abbrev atom : ℕ → Term
 atom name = Application name None none no_span

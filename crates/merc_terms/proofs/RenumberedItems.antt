@@ -8,7 +8,7 @@ use Rattle.merc_tokens.specs.declared.token.Token.{Token}
 use Rattle.merc_tree.specs.Term.{Term, Terms, Variable, Integer, Text, Application, none, more, HasWords, HaveWords}
 use Rattle.merc_tree.specs.Nesting.{is_chain, are_two, goes_on, greater, nesting, deepest, chain_nesting, end_nesting}
 use Rattle.merc_terms.specs.Items.{SpellsItem, IsAllowed, HasItems, none as no_items, item, nesting_limit}
-use Rattle.merc_terms.proofs.Renumbering.{renumbered, renumbered_all, renumbered_tokens, KeepsFixed, kept, Spells-renumbered, constant_count}
+use Rattle.merc_terms.proofs.Renumbering.{renumbered, renumbered_all, renumbered_tokens, KeepsFixed, kept, Spells-renumbered}
 
 apart : (name other : ℕ) → constant_count ≤ name → other < constant_count → (name == other) ≡ false
 apart name other above below = by (name == other) refl

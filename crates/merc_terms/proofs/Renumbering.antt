@@ -4,7 +4,7 @@ use Rattle.std.proofs.lemmas.Bool.{and_parts}
 use Rattle.std.specs.List.{list_all}
 use Rattle.std.specs.Option.{option_map}
 use Rattle.merc_base.specs.declared.place.Span.{Span}
-use Rattle.merc_base.specs.Names.{comma_name, minus_name, minus_name, minus_name, minus_name}
+use Rattle.merc_base.specs.Names.{constant_count, comma_name, minus_name, minus_name, minus_name, minus_name}
 use Rattle.merc_tokens.specs.declared.token.Token.{Token}
 use Rattle.merc_tokens.specs.declared.token.TokenKind.{TokenKind}
 use Rattle.merc_tokens.specs.declared.token.TokenKind.TheVariants.{Name, Quoted, Var, Int, Text as TextToken, OpenArgs, Open, Close, OpenList, CloseList, Comma, Bar, Dot, Stop}
@@ -13,10 +13,6 @@ use Rattle.merc_terms.specs.declared.operators.Fixity.{Fixity}
 use Rattle.merc_terms.specs.declared.operators.Operator.{Operator}
 use Rattle.merc_terms.specs.Operators.{operators, infix_named, prefix_named, is_infix}
 use Rattle.merc_terms.specs.Reading.{token, joined, cell, nil, begins_with, is_integer, goes_on_name, is_infix_name, leaves_plain, is_left_plain, IsName, plain, left_plain, quoted, IsQualified, unquoted, quoted as quoted_behind, IsOpen, alone, behind_operator, IsPrefix, IsInfix, name as infix_name, comma as infix_comma, Spells, variable, integer, negative, text, constant, qualified, application, qualified_application, empty_list, list, parenthesis, before, quantifier, between, SpellsArguments, last_argument, argument, SpellsItems, last_item, items_tail, item}
-
--- how many constants every table of names holds
-abbrev pub constant_count : ℕ
-constant_count = 82
 
 abbrev pub renumbered_kind : (ℕ → ℕ) → TokenKind → TokenKind
 renumbered_kind f (Name name) = Name (f name)

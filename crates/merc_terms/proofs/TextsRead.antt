@@ -24,7 +24,7 @@ use Rattle.merc_tree.specs.Term.{Term}
 use Rattle.merc_terms.specs.Items.{HasItems}
 use Rattle.merc_terms.specs.Texts.{ReadsItems}
 use Rattle.merc_terms.proofs.Deciding.{are_items, are_items-right}
-use Rattle.merc_terms.proofs.Renumbering.{KeepsFixed, renumbered, renumbered_kind, renumbered_tokens, constant_count}
+use Rattle.merc_terms.proofs.Renumbering.{KeepsFixed, renumbered, renumbered_kind, renumbered_tokens}
 use Rattle.merc_terms.proofs.RenumberedItems.{HasItems-renumbered}
 
 -- a kind of token with numbers for the names

@@ -20,10 +20,10 @@ node shape size = record { shape = shape; span = here; size = size }
 -- the names `X` and `f`, behind the constants
 
 abbrev x_name : ℕ
-x_name = 90
+x_name = 110
 
 abbrev f_name : ℕ
-f_name = 92
+f_name = 112
 
 -- `f(X, 3)`, and `X` before it
 

@@ -10,19 +10,19 @@ use Rattle.merc_tree.specs.Nesting.{nesting}
 -- names of the examples, behind the constants
 
 abbrev x_name : ℕ
-x_name = 90
+x_name = 110
 
 abbrev text_name : ℕ
-text_name = 91
+text_name = 111
 
 abbrev f_name : ℕ
-f_name = 92
+f_name = 112
 
 abbrev qualifier_name : ℕ
-qualifier_name = 93
+qualifier_name = 113
 
 abbrev g_name : ℕ
-g_name = 94
+g_name = 114
 
 -- `X`, `7` and `"a"`
 

@@ -40,5 +40,5 @@ type_arguments_of-example = refl
 
 -- `list(T)` with `int` in place of its variable
 
-pub replaced-example : replaced (λ name. IntType) (TypeApplication list_name (more_types (TypeVariable 90) no_types)) ≡ list_of_int
+pub replaced-example : replaced (λ name. IntType) (TypeApplication list_name (more_types (TypeVariable 110) no_types)) ≡ list_of_int
 replaced-example = refl

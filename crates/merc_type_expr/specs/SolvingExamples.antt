@@ -7,10 +7,10 @@ use Rattle.merc_type_expr.specs.Solving.{occurs, walked, zipped, Differ}
 -- the type variables A and B, behind the constants
 
 abbrev a_name : ℕ
-a_name = 90
+a_name = 110
 
 abbrev b_name : ℕ
-b_name = 91
+b_name = 111
 
 abbrev list_of : TypeExpr → TypeExpr
 list_of type = TypeApplication list_name (more_types type no_types)

@@ -10,13 +10,13 @@ use Rattle.merc_type_expr.specs.Solving.{size}
 -- the type variables A and B, and a name `f`, behind the constants
 
 abbrev a_name : ℕ
-a_name = 90
+a_name = 110
 
 abbrev b_name : ℕ
-b_name = 91
+b_name = 111
 
 abbrev f_name : ℕ
-f_name = 92
+f_name = 112
 
 abbrev list_of : TypeExpr → TypeExpr
 list_of type = TypeApplication list_name (more_types type no_types)

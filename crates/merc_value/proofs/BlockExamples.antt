@@ -7,7 +7,7 @@ use Rattle.merc_value.specs.declared.word.Word.TheVariants.{Int as IntWord, Text
 
 -- a name behind the constants
 abbrev pair_name : ℕ
-pair_name = 90
+pair_name = 110
 
 -- `[7]`, and the pair of it with itself
 abbrev pub shared : BlockData
