@@ -1,5 +1,5 @@
 -- Faults, each a rule with its detail at a place, and the one of them that decides.
-use Rattle.std.specs.Prelude.{◌≡◌, ℕ, ◌≤◌, ◌<◌, ◌⊎◌}
+use Rattle.std.specs.Prelude.{◌≡◌, ℕ, ◌≤◌, ◌<◌, ◌⊎◌, Bool, ◌==◌, ◌&&◌, ◌||◌, nat_le, nat_lt, List, [], ◌∷◌, Option, Some, None, if◌then◌else◌}
 use Rattle.merc_base.specs.Refusal.{rule_number}
 use Rattle.merc_base.specs.declared.place.Place.{Place}
 use Rattle.merc_base.specs.declared.refusal.Rule.{Rule}
@@ -36,3 +36,17 @@ pub record IsFirstOf (HasFault : ℕ → Rule → Detail → Place → Type 0) (
   pub phase : ℕ
   pub earlier : (before : ℕ) → before < phase → HasNone (HasFault before)
   pub decides : IsFirst (HasFault phase) refusal
+
+-- the same as a test: whether of two faults the one comes first
+abbrev pub comes_first : Refusal → Refusal → Bool
+comes_first one other =
+    nat_lt one.place.byte other.place.byte || ((one.place.byte == other.place.byte) && nat_le (rule_number one.rule) (rule_number other.rule))
+
+abbrev pub earlier_fault : Refusal → Option Refusal → Refusal
+earlier_fault one None = one
+earlier_fault one (Some other) = if comes_first one other then one else other
+
+-- the first of some faults, and of those at one place and of one rule the first in the list
+abbrev pub first_of_faults : List Refusal → Option Refusal
+first_of_faults [] = None
+first_of_faults (one ∷ rest) = Some (earlier_fault one (first_of_faults rest))

@@ -1,4 +1,6 @@
 //! Places in a text.
+ghost use Rattle.std.specs.Prelude.{◌≡◌};
+ghost use Rattle.merc_base.specs.Places.{place_of};
 
 /// Bytes of a text that stand side by side.
 #[derive(Clone, Copy, Debug, PartialEq, Eq, PartialOrd, Ord)]
@@ -18,4 +20,16 @@ pub struct Place {
     pub byte: u32,
     /// The line of that byte, from 1.
     pub line: u32,
+}
+
+impl Span {
+    /// The place of the first byte.
+    pub fn start(self) -> Place
+        ensures { result ≡ place_of self }
+    {
+        Place {
+            byte: self.first,
+            line: self.line,
+        }
+    }
 }

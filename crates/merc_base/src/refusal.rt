@@ -1,6 +1,7 @@
 //! Refusals: the rule that a text breaks, the place of it, and the words for both.
 ghost use Rattle.std.specs.Prelude.{◌≡◌, Some};
 ghost use Rattle.std.specs.Fmt.{DisplaysOnOk};
+ghost use Rattle.merc_base.specs.FirstFault.{comes_first};
 ghost use Rattle.merc_base.specs.Refusal.{rule_number, rule_text, construct_word, limit_word, detail_text, refusal_text};
 
 use crate::{Category, NoMemory, Place};
@@ -179,6 +180,17 @@ pub struct Refusal {
     pub rule: Rule,
     pub place: Place,
     pub detail: Detail,
+}
+
+impl Refusal {
+    /// Whether it comes before the other: it stands at the lesser byte, or at the same byte and is of no greater rule.
+    pub fn comes_first(&self, other: &Refusal) -> bool
+        ensures { result ≡ comes_first self.now other.now }
+    {
+        self.place.byte < other.place.byte
+            || (self.place.byte == other.place.byte
+                && self.rule.number() <= other.rule.number())
+    }
 }
 
 /// Writes the rule's number and text, without the place.

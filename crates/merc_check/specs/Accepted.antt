@@ -10,7 +10,7 @@ use Rattle.merc_tree.specs.Types.{TypeExpr}
 use Rattle.merc_tree.specs.declared.declarations.Clause.{Clause}
 use Rattle.merc_tree.specs.declared.declarations.Module.{Module}
 use Rattle.merc_goals.specs.Written.{written}
-use Rattle.merc_goals.specs.Faults.{place_of}
+use Rattle.merc_base.specs.Places.{place_of}
 use Rattle.merc_known.specs.declared.callee.Callee.{Callee}
 use Rattle.merc_known.specs.declared.callee.Callee.TheVariants.{Predicate, Error}
 use Rattle.merc_known.specs.Known.{callee_in}

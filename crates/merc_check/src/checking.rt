@@ -9,7 +9,7 @@ ghost use Rattle.merc_type_check.specs.Ground.{IsFlagged};
 ghost use Rattle.merc_check.specs.Accepted.{AcceptsClauses, AcceptsGoal, RefusesClauses, RefusesGoal, declared_arguments, type_mismatch};
 ghost use Rattle.merc_check.specs.Untyped.{FindsUntyped};
 
-use merc_base::{Detail, Fault, Names, NoMemory, Place, Refusal, Rule, Span};
+use merc_base::{Detail, Fault, Names, NoMemory, Refusal, Rule, Span};
 use merc_flat::{flatten, flatten_query};
 use merc_goal_tree::{NodeRef, Nodes};
 use merc_known::{Callee, Known};
@@ -68,10 +68,7 @@ fn type_mismatch(span: Span) -> Refusal
 {
     Refusal {
         rule: Rule::TypeMismatch,
-        place: Place {
-            byte: span.first,
-            line: span.line,
-        },
+        place: span.start(),
         detail: Detail::Plain,
     }
 }

@@ -16,7 +16,8 @@ use Rattle.merc_entries.specs.Entries.{entries}
 use Rattle.merc_items.specs.ModuleOf.{clauses_in, unit_items}
 use Rattle.merc_items.specs.ReadModule.{IsModule}
 use Rattle.merc_flat_form.specs.FlatForm.{argument_terms}
-use Rattle.merc_flat.specs.GoalFaults.{comes_first, conjunct_limit, earlier_fault, faults_of_form, first_of_faults, limit_passed, size_faults, unknown, unknown_among, unknown_name, variable_count, variable_limit, width_faults}
+use Rattle.merc_base.specs.FirstFault.{comes_first, earlier_fault, first_of_faults}
+use Rattle.merc_flat.specs.GoalFaults.{conjunct_limit, faults_of_form, limit_passed, size_faults, unknown, unknown_among, unknown_name, variable_count, variable_limit, width_faults}
 use Rattle.merc_flat.specs.Flat.{arity_of, body_goal, clause_form_fault, clause_name_fault, clause_node, either_fault, fault_among, goal_of}
 use Rattle.merc_check.specs.Accepted.{IsTypedClause, type_mismatch}
 use Rattle.merc_check.specs.Accepted.RefusesClauses.{fault as clauses_faulty, untyped as clause_untyped}

@@ -5,7 +5,8 @@ use Rattle.merc_base.specs.declared.refusal.Refusal.{Refusal}
 use Rattle.merc_goals.specs.Written.{Written}
 use Rattle.merc_goals.specs.Faults.{first_fault, widest_parallel}
 use Rattle.merc_goal_tree.specs.Nodes.{Node}
-use Rattle.merc_flat.specs.GoalFaults.{faults_of_form, first_of_faults, form_fault, variable_count, variable_limit, conjunct_limit}
+use Rattle.merc_base.specs.FirstFault.{first_of_faults}
+use Rattle.merc_flat.specs.GoalFaults.{faults_of_form, form_fault, variable_count, variable_limit, conjunct_limit}
 use Rattle.merc_flat.specs.Flat.{either_fault}
 use Rattle.merc_flat.specs.SizeFaults.{first_of_two, size_fault, width_fault}
 

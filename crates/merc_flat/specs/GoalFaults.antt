@@ -2,7 +2,8 @@
 use Rattle.std.specs.Prelude.{ℕ, ◌+◌, Bool, ◌==◌, ◌&&◌, ◌||◌, not, nat_le, nat_lt, is_none, List, [], ◌∷◌, ◌++◌, length, Option, Some, None, if◌then◌else◌}
 use Rattle.std.specs.Option.{option_map, option_to_list}
 use Rattle.std.specs.List.{filter, flat_map, list_any}
-use Rattle.merc_base.specs.Refusal.{rule_number}
+use Rattle.merc_base.specs.FirstFault.{first_of_faults}
+use Rattle.merc_base.specs.Places.{place_of}
 use Rattle.merc_base.specs.declared.place.Place.{Place}
 use Rattle.merc_base.specs.declared.place.Span.{Span}
 use Rattle.merc_base.specs.declared.refusal.Refusal.{Refusal}
@@ -14,7 +15,7 @@ use Rattle.merc_tree.specs.Term.{Term, Terms, Variable, Integer, Text, Applicati
 use Rattle.merc_tree.specs.declared.declarations.Clause.{Clause}
 use Rattle.merc_tree.specs.declared.declarations.Module.{Module}
 use Rattle.merc_goals.specs.Written.{Written, WrittenGoals, Equal, Compared, Called, Conjunction, Parallel, Disjunction, Conditional, Negated, Quantified, no_goals, more_goals, written}
-use Rattle.merc_goals.specs.Faults.{first_fault, first_span, place_of, widest_parallel}
+use Rattle.merc_goals.specs.Faults.{first_fault, first_span, widest_parallel}
 use Rattle.merc_goal_tree.specs.declared.entries.Root.{Root}
 use Rattle.merc_goal_tree.specs.declared.entries.Root.TheVariants.{Simple}
 use Rattle.merc_goal_tree.specs.Nodes.{Node}
@@ -22,20 +23,6 @@ use Rattle.merc_goal_tree.specs.Parts.{parts_of}
 use Rattle.merc_goal_tree.specs.Variables.{variables_of, distinct}
 use Rattle.merc_known.specs.Known.{callee_in, is_callee, is_constructor}
 use Rattle.merc_flat_form.specs.FlatForm.{argument_terms, is_negation, operation_of}
-
--- Of two faults that at the lesser byte comes first, and at one byte that of the lesser rule.
-abbrev pub comes_first : Refusal → Refusal → Bool
-comes_first one other =
-    nat_lt one.place.byte other.place.byte || ((one.place.byte == other.place.byte) && nat_le (rule_number one.rule) (rule_number other.rule))
-
-abbrev pub earlier_fault : Refusal → Option Refusal → Refusal
-earlier_fault one None = one
-earlier_fault one (Some other) = if comes_first one other then one else other
-
--- the first of some faults
-abbrev pub first_of_faults : List Refusal → Option Refusal
-first_of_faults [] = None
-first_of_faults (one ∷ rest) = Some (earlier_fault one (first_of_faults rest))
 
 -- How many variables a goal has.
 

@@ -4,7 +4,8 @@ use Rattle.merc_base.specs.declared.place.Span.{Span}
 use Rattle.merc_base.specs.declared.refusal.Refusal.{Refusal}
 use Rattle.merc_base.specs.declared.refusal.LimitName.TheVariants.{Variables, Conjuncts}
 use Rattle.merc_goal_tree.specs.Nodes.{Node}
-use Rattle.merc_flat.specs.GoalFaults.{earlier_fault, limit_passed, variable_count, variable_limit, conjunct_limit}
+use Rattle.merc_base.specs.FirstFault.{earlier_fault}
+use Rattle.merc_flat.specs.GoalFaults.{limit_passed, variable_count, variable_limit, conjunct_limit}
 
 abbrev pub first_of_two : Option Refusal → Option Refusal → Option Refusal
 first_of_two None other = other

@@ -1,13 +1,13 @@
 //! What is wrong with the form of a goal and its size.
 ghost use Rattle.std.specs.Prelude.{◌≡◌, IfOk};
-ghost use Rattle.merc_flat.specs.GoalFaults.{comes_first, form_fault, limit_passed};
+ghost use Rattle.merc_flat.specs.GoalFaults.{form_fault, limit_passed};
 ghost use Rattle.merc_flat.specs.Flat.{either_fault};
 ghost use Rattle.merc_flat.specs.SizeFaults.{first_of_two, size_fault, width_fault};
 
 use crate::counting::variable_count;
 use merc_base::{Detail, LimitName, NoMemory, Refusal, Rule, Span};
 use merc_goal_tree::NodeRef;
-use merc_goals::{WrittenGoal, place_of};
+use merc_goals::WrittenGoal;
 use std::alloc::Global;
 
 /// The most variables of a clause or a goal.
@@ -90,7 +90,7 @@ fn limit_passed(limit: LimitName, span: Span) -> Refusal
 {
     Refusal {
         rule: Rule::LimitPassed,
-        place: place_of(span),
+        place: span.start(),
         detail: Detail::Limit(limit),
     }
 }
@@ -102,14 +102,6 @@ fn first_of_two(one: Option<Refusal>, other: Option<Refusal>) -> Option<Refusal>
     match (one, other) {
         (None, other) => other,
         (Some(one), None) => Some(one),
-        (Some(one), Some(other)) => Some(if comes_first(one, other) { one } else { other }),
+        (Some(one), Some(other)) => Some(if one.comes_first(&other) { one } else { other }),
     }
-}
-
-// Whether a fault is at the lesser byte, or at the same byte of no greater rule.
-fn comes_first(one: Refusal, other: Refusal) -> bool
-    ensures { result ≡ comes_first one other }
-{
-    one.place.byte < other.place.byte
-        || (one.place.byte == other.place.byte && one.rule.number() <= other.rule.number())
 }

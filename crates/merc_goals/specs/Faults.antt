@@ -1,7 +1,7 @@
 -- The parts of a goal that are of no form or outside the profile, and its widest parallel conjunction.
 use Rattle.std.specs.Prelude.{ℕ, nat_le, List, [], ◌∷◌, ◌++◌, length, max, Option, Some, None, if◌then◌else◌}
+use Rattle.merc_base.specs.Places.{place_of}
 use Rattle.merc_base.specs.declared.place.Span.{Span}
-use Rattle.merc_base.specs.declared.place.Place.{Place}
 use Rattle.merc_base.specs.declared.refusal.Refusal.{Refusal}
 use Rattle.merc_base.specs.declared.refusal.Rule.TheVariants.{WrongForm as WrongFormRule, OutsideProfile as OutsideProfileRule}
 use Rattle.merc_base.specs.declared.refusal.Detail.TheVariants.{Plain, Word}
@@ -51,9 +51,6 @@ earlier (Some one) (Some other) = Some (if nat_le one.first other.first then one
 abbrev pub first_span : List Span → Option Span
 first_span [] = None
 first_span (span ∷ rest) = earlier (Some span) (first_span rest)
-
-abbrev pub place_of : Span → Place
-place_of span = record { byte = span.first; line = span.line }
 
 abbrev pub wrong_form : Span → Refusal
 wrong_form span = record { rule = WrongFormRule; place = place_of span; detail = Plain }

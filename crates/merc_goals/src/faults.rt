@@ -1,10 +1,10 @@
 //! What is found in the entries of a goal.
 ghost use Rattle.std.specs.Prelude.{◌≡◌};
-ghost use Rattle.merc_goals.specs.Faults.{earlier, first_of_both, first_span, place_of, wrong_form, outside_profile};
+ghost use Rattle.merc_goals.specs.Faults.{earlier, first_of_both, first_span, wrong_form, outside_profile};
 ghost use Rattle.merc_goals.specs.Found.{wrong_span, outside_span, wrong_spans, outside_spans, width, widest_of};
 
 use crate::goal::{Entry, Form};
-use merc_base::{Construct, Detail, Place, Refusal, Rule, Span};
+use merc_base::{Construct, Detail, Refusal, Rule, Span};
 
 // The first part that is of no form, or outside the profile.
 pub(crate) fn first_fault(entries: &[Entry<'_>]) -> Option<Refusal>
@@ -36,7 +36,7 @@ fn wrong_form(span: Span) -> Refusal
 {
     Refusal {
         rule: Rule::WrongForm,
-        place: place_of(span),
+        place: span.start(),
         detail: Detail::Plain,
     }
 }
@@ -46,18 +46,8 @@ fn outside_profile(span: Span) -> Refusal
 {
     Refusal {
         rule: Rule::OutsideProfile,
-        place: place_of(span),
+        place: span.start(),
         detail: Detail::Word(Construct::Goal),
-    }
-}
-
-/// Where a span begins.
-pub fn place_of(span: Span) -> Place
-    ensures { result ≡ place_of span }
-{
-    Place {
-        byte: span.first,
-        line: span.line,
     }
 }
 

@@ -9,7 +9,7 @@ mod planning;
 mod reading;
 mod roles;
 
-pub use faults::{earlier, place_of};
+pub use faults::earlier;
 pub use goal::{Entry, Form, WrittenGoal};
 pub use numbers::{Numbered, left_of, number_behind, number_past, right_of};
 pub use reading::written_goal;
