@@ -1,0 +1,5 @@
+pub mod MoveLaws
+pub mod SweepLaws
+pub mod Sequence
+pub mod FromLaws
+pub mod Marks

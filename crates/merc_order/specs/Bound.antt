@@ -1,5 +1,5 @@
 -- Which variables are bound.
-use Rattle.std.specs.Prelude.{ℕ, Bool, false, not, ◌==◌, ◌||◌, List, [], ◌∷◌}
+use Rattle.std.specs.Prelude.{◌≡◌, ℕ, Bool, true, false, not, ◌==◌, ◌||◌, List, [], ◌∷◌}
 use Rattle.std.specs.List.{filter, list_all, list_any}
 
 abbrev pub Bound : Type 0
@@ -11,6 +11,10 @@ nothing variable = false
 -- those of both
 abbrev pub with : Bound → Bound → Bound
 with bound more variable = bound variable || more variable
+
+-- all that is bound in the one is bound in the other
+abbrev pub Holds : Bound → Bound → Type 0
+Holds bound more = (variable : ℕ) → bound variable ≡ true → more variable ≡ true
 
 -- a variable is among these
 abbrev pub among : List ℕ → Bound

@@ -3,5 +3,10 @@ pub mod CallModes
 pub mod Ordered
 pub mod Faults
 pub mod Moves
+pub mod Ways
 pub mod Order
+pub mod Laws
 pub mod OrderExamples
+pub mod Spelt
+pub mod Procedures
+pub mod ProceduresExamples

@@ -22,28 +22,28 @@ use Rattle.merc_order.specs.Faults.{never_ready, binds_outer, unbound_output}
 use Rattle.merc_order.specs.Ordered.{Ordered, Ordereds, no_goals, more_goals, put, Truth, Failure, Assign, Test, Build, Split, Computed, Compared, Raised, Called, Sequence, Beside, Choice, Decision, Denial, Within, Outcome, Ready, Stuck}
 use Rattle.merc_order.specs.Order.{from, reached, binds}
 
-abbrev at : ℕ → Span
+abbrev pub at : ℕ → Span
 at byte = record { first = byte; past = byte + 1; line = 1 }
 
-abbrev mode : List Arg → Category → ModeDecl
+abbrev pub mode : List Arg → Category → ModeDecl
 mode args category = record { args = args; category = category; span = at 0 }
 
-abbrev f : ℕ
+abbrev pub f : ℕ
 f = 0
 
-abbrev p : ℕ
+abbrev pub p : ℕ
 p = 1
 
-abbrev append : ℕ
+abbrev pub append : ℕ
 append = 2
 
-abbrev stop : ℕ
+abbrev pub stop : ℕ
 stop = 3
 
-abbrev either : ℕ
+abbrev pub either : ℕ
 either = 4
 
-abbrev modes : ℕ → List ModeDecl
+abbrev pub modes : ℕ → List ModeDecl
 modes predicate =
     if predicate == f then mode (Input ∷ Output ∷ []) Det ∷ []
     else if predicate == p then mode (Input ∷ []) Semidet ∷ []
@@ -52,38 +52,38 @@ modes predicate =
     else mode (Output ∷ []) Det ∷ mode (Input ∷ []) FailureCategory ∷ []
 
 -- a goal that is asked for these variables
-abbrev query : List ℕ → Node → Outcome
+abbrev pub query : List ℕ → Node → Outcome
 query answers goal = from (λ variable. count variable (variables goal) + count variable answers) modes goal nothing
 
 -- the first variables, by their usual names
 
-abbrev x : ℕ
+abbrev pub x : ℕ
 x = 0
 
-abbrev y : ℕ
+abbrev pub y : ℕ
 y = 1
 
-abbrev z : ℕ
+abbrev pub z : ℕ
 z = 2
 
-abbrev one : Symbol
+abbrev pub one : Symbol
 one = Integer (pos 1)
 
 -- a unification with 1
-abbrev is_one : ℕ → ℕ → Node
+abbrev pub is_one : ℕ → ℕ → Node
 is_one variable byte = Simple (Shape variable one []) (at byte)
 
-abbrev call : ℕ → List ℕ → ℕ → Node
+abbrev pub call : ℕ → List ℕ → ℕ → Node
 call predicate arguments byte = Simple (Call predicate arguments) (at byte)
 
-abbrev both : Node → Node → Nodes
+abbrev pub both : Node → Node → Nodes
 both first second = nodes_of (first ∷ second ∷ [])
 
-abbrev ordereds : List Ordered → Ordereds
+abbrev pub ordereds : List Ordered → Ordereds
 ordereds [] = no_goals
 ordereds (first ∷ rest) = more_goals first (ordereds rest)
 
-abbrev built : ℕ → List ℕ → ℕ → Ordered
+abbrev pub built : ℕ → List ℕ → ℕ → Ordered
 built variable outputs byte = put (Build variable one []) outputs (at byte)
 
 -- `f(X, Y), X = 1`: the second goes first
@@ -132,7 +132,7 @@ bound_with_itself = refl
 
 -- Splits, constructions and tests
 
-abbrev pair : Symbol
+abbrev pub pair : Symbol
 pair = Constructor 200 2
 
 -- `X = pair(Y, Z)` behind `f(.., X)`: of a split's places those that are bound become tests, a second place of one variable too
@@ -182,10 +182,20 @@ second_mode = refl
 no_mode : from (λ variable. 9) modes (call append (x ∷ y ∷ z ∷ []) 10) (λ variable. (variable == x)) ≡ Stuck (never_ready (at 10))
 no_mode = refl
 
--- A call's mode is that for which it is ready when it goes: in `append(A, B, C)` behind `C = 1` and `B = 1`, with A bound, B is bound first.
-mode_when_it_goes : from (λ variable. 9) modes (Conjunction (nodes_of (call either (x ∷ []) 10 ∷ is_one x 20 ∷ [])) (at 10)) nothing
-    ≡ Ready (put (Sequence (ordereds (put (Called either 0 (x ∷ []) (false ∷ [])) (x ∷ []) (at 10) ∷ put (Split x one [] []) [] (at 20) ∷ []))) (x ∷ []) (at 10))
+-- A call takes its mode when it goes: `X = 1, Y = 1, append(X, Y, Z)` with Z bound, where `append` is ready from the first.
+mode_when_it_goes : from (λ variable. 9) modes (Conjunction (nodes_of (is_one x 10 ∷ is_one y 20 ∷ call append (x ∷ y ∷ z ∷ []) 30 ∷ [])) (at 10)) (λ variable. (variable == z))
+    ≡ Ready (put (Sequence (ordereds (built x (x ∷ []) 10 ∷ built y (y ∷ []) 20 ∷ put (Called append 0 (x ∷ y ∷ z ∷ []) (false ∷ false ∷ true ∷ [])) [] (at 30) ∷ []))) (x ∷ y ∷ []) (at 10))
 mode_when_it_goes = refl
+
+-- of two modes with as many inputs the first
+first_mode : from (λ variable. 9) modes (call either (x ∷ []) 10) nothing ≡ Ready (put (Called either 0 (x ∷ []) (false ∷ [])) (x ∷ []) (at 10))
+first_mode = refl
+
+abbrev twice_in : ℕ → List ModeDecl
+twice_in predicate = mode (Input ∷ Output ∷ []) Det ∷ mode (Output ∷ Input ∷ []) Det ∷ []
+
+first_of_equal_modes : from (λ variable. 9) twice_in (call f (x ∷ y ∷ []) 10) (λ variable. true) ≡ Ready (put (Called f 0 (x ∷ y ∷ []) (false ∷ true ∷ [])) [] (at 10))
+first_of_equal_modes = refl
 
 -- Negations and conditions bind nothing outside
 

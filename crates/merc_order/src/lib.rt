@@ -1,2 +1,4 @@
 //! The order of goals: definitions and laws.
 #![tactic(auto)]
+
+pub mod laws;
