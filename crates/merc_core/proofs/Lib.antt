@@ -1,1 +1,3 @@
+pub mod Pool
+pub mod Steps
 mod CoreExamples
