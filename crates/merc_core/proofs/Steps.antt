@@ -2,6 +2,7 @@
 use Rattle.std.proofs.Common.{◌≡◌, ℕ, zero, suc, ◌+◌, ◌⊎◌, inl, inr, Bool, true, false, List, [], ◌∷◌, ◌++◌, Some, None, refl, ap, sym, ◌∙◌, subst, arith}
 use Rattle.std.proofs.lemmas.Bool.Decides.{nat_tests}
 use Rattle.std.specs.Prelude.{Option, Result, Ok, Err, slice_get, if◌then◌else◌, nat_eq, nat_lt}
+use Rattle.std.specs.List.{AllByRecursion}
 use Rattle.merc_script.specs.declared.outcome.Outcome.{Outcome}
 use Rattle.merc_script.specs.declared.outcome.Outcome.TheVariants.{NoMemory, Starved}
 use Rattle.merc_script.specs.Script.{Script, Ends, TickThen, WaitThen, SignalThen, ForkThen, Children, Cell, Move}
@@ -14,7 +15,7 @@ use Rattle.merc_core.specs.Rights.{has, has_in}
 use Rattle.merc_core.specs.World.{Branch, Location, Listed, Runs, Holds, AtCell, AtJoin, Spot, spot, Join, World, outcomes_of}
 use Rattle.merc_core.specs.Events.{
   Answer, acts, acts_at, listed, listed_at, in_hand, back_of, front_of, past_tick, past_signal, past_wait, ended, go_behind, run_on, tick_on, forked, fork_on, signalled, signal_on,
-  wait_at, wait_on, finished, end_on, lose_on, resume_on, if_worker, if_runs, if_found, running, if_free, take_up, if_holds, if_held, happens
+  wait_at, wait_on, finished, end_on, lose_on, resume_on, if_worker, if_runs, if_found, running, if_free, take_up, if_holds, if_held, happens, run
 }
 use Rattle.merc_core.proofs.Pool.{Takes, Took, took_first, took_last, chosen, each_way}
 
@@ -211,3 +212,18 @@ step_of w (Wait v) w' is = let b = began w v _ w' is in waits_to w v b.worker b.
 step_of w (End v) w' is = let b = began w v _ w' is in ends_to w v b.worker b.branch b.others w' b.branch.rest b.takes b.went
 step_of w (Resume v) w' is = resumes_to w v w' is
 step_of w (Lost v) w' is = loses_to w v w' (began w v _ w' is)
+
+pub run-refused : (events : List Event) (refused : NotNow) (w' : World) → run events (Err refused) ≡ Ok w' → ⊥
+run-refused [] refused w' is = absurd (cc)
+run-refused (e ∷ es) refused w' is = absurd (cc)
+
+-- What holds of a world and is kept by each event of a list, of which each is of some kind, holds where the list leads to.
+module _ (Allows : Event → Type 0) (Holds : World → Type 0) (keeps : (w : World) (e : Event) (w' : World) → Step w e w' → Allows e → Holds w → Holds w') where
+  keeps-one : (e : Event) (es : List Event) (w w' : World) (answer : Answer) → happens w e ≡ answer → run es answer ≡ Ok w' → Allows e → Holds w
+      → ((u : World) → run es (Ok u) ≡ Ok w' → Holds u → Holds w') → Holds w'
+  keeps-one e es w w' (Err refused) this is allowed holds next = absurd (run-refused es refused w' is)
+  keeps-one e es w w' (Ok u) this is allowed holds next = next u is (keeps w e u (step_of w e u this) allowed holds)
+
+  pub run-keeps : (events : List Event) (w w' : World) → run events (Ok w) ≡ Ok w' → AllByRecursion Allows events → Holds w → Holds w'
+  run-keeps [] w w' is allowed holds = let same : w ≡ w' = cc in subst Holds same holds
+  run-keeps (e ∷ es) w w' is allowed holds = keeps-one e es w w' (happens w e) refl is allowed.0 holds (λ u next now. run-keeps es u w' next allowed.1 now)
