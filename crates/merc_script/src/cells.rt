@@ -100,3 +100,13 @@ pub struct Move {
     /// Whether it is the right to signal the cell; else it is the right to wait for it.
     pub signal: bool,
 }
+
+impl Model for Move {
+    ghost use Rattle.merc_script.specs.Script.{Move as MeantMove};
+
+    ghost Value = { MeantMove };
+
+    ghost view = { λ m. record { cell = m.cell; child = m.child; signal = m.signal } };
+
+    ghost inverse = { λ m. record { cell = m.cell; child = m.child; signal = m.signal } };
+}
