@@ -1,0 +1,4 @@
+pub mod Pool
+pub mod Steps
+pub mod Measure
+mod CoreExamples

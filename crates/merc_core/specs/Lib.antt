@@ -1,0 +1,6 @@
+pub mod Rights
+pub mod World
+pub mod Events
+pub mod WellFormed
+pub mod Ready
+pub mod Laws

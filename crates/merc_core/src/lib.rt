@@ -1,0 +1,8 @@
+//! The core: branches of scripts over workers, one event at a time.
+#![tactic(auto)]
+
+mod branch;
+pub mod event;
+mod lists;
+
+pub use event::{Event, NotNow};
