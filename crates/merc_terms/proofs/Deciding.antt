@@ -63,11 +63,13 @@ within_limits : (built : Built) (term : Term) → built ≡ pushed term built_no
 within_limits built term is keeps =
     let parts = and_parts (not (is_great term)) (not (nat_lt nesting_limit (nesting (clipped term))) && true) (ap keeps_limits (sym is) ∙ keeps) in
     let fits = great_fits term (is_false (is_great term) parts.0) in
-    let shallow = (and_parts (not (nat_lt nesting_limit (nesting (clipped term)))) true parts.1).0 in
-    (record {
-      words = fits.0;
-      nested = subst (λ (t : Term). nesting t ≤ nesting_limit) fits.1 (ltb-false nesting_limit (nesting (clipped term)) (is_false (nat_lt nesting_limit (nesting (clipped term))) shallow));
-    }, ap (λ (b : Built). b.terms) is ∙ ap (λ (t : Term). t ∷ []) fits.1)
+    let shallow = (and_parts (not (nat_lt nesting_limit (nesting (clipped term)))) true parts.1).0 in (
+      record {
+        words = fits.0;
+        nested = subst (λ (t : Term). nesting t ≤ nesting_limit) fits.1 (ltb-false nesting_limit (nesting (clipped term)) (is_false (nat_lt nesting_limit (nesting (clipped term))) shallow));
+      },
+      ap (λ (b : Built). b.terms) is ∙ ap (λ (t : Term). t ∷ []) fits.1,
+    )
 
 -- what is computed of the tokens behind an item is right
 abbrev IsRight : (List Token → Option (List Term)) → Type 0

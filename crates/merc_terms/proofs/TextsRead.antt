@@ -98,10 +98,11 @@ module _ (names : List (List ℕ)) (fixed : HoldsFixed names) where
   tokens_named [] constants = (refl, refl)
   tokens_named (first ∷ rest) constants =
       let parts = and_parts (are_constants (named_text first.kind)) (have_constants rest) constants in
-      let others = tokens_named rest parts.1 in
-      (ap₂ (λ (s : Option SpelledToken) (l : List (Option SpelledToken)). s ∷ l)
-      (ap (option_map (λ (kind : Spelling). record { kind = kind; span = first.span })) (kind_named first.kind parts.0)) others.0,
-      others.1 ∙ sym (known (named_text first.kind) (flat_map (λ token. named_text token.kind) rest) parts.0))
+      let others = tokens_named rest parts.1 in (
+        ap₂ (λ (s : Option SpelledToken) (l : List (Option SpelledToken)). s ∷ l)
+            (ap (option_map (λ (kind : Spelling). record { kind = kind; span = first.span })) (kind_named first.kind parts.0)) others.0,
+        others.1 ∙ sym (known (named_text first.kind) (flat_map (λ token. named_text token.kind) rest) parts.0),
+      )
 
 ascii : (text : List ℕ) → list_all (λ byte. nat_lt byte 128) text ≡ true → IsAscii text
 ascii [] all at = omega arith
