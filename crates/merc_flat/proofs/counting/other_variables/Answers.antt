@@ -1,7 +1,7 @@
 use Rattle.merc_goal_tree.specs.Parts.{parts_of}
 use Rattle.merc_flat.proofs.CountLaws.{no_part, part_added, same_numbers}
-use Rattle.merc_flat.proofs.counting.variable_count.Goals as goal
-use Rattle.merc_flat.proofs.counting.variable_count.Goals.{in-Some+in_ok-add_root, in_default}
+use Rattle.merc_flat.proofs.counting.other_variables.Goals as goal
+use Rattle.merc_flat.proofs.counting.other_variables.Goals.{in-Some+in_ok-add_root, in_default}
 
 pub loop-index-preserved : goal.loop-index-preserved
 loop-index-preserved c =
