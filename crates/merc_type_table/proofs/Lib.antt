@@ -1,0 +1,4 @@
+pub mod Distinct
+pub mod Framed
+pub mod Indexed
+pub mod Made
