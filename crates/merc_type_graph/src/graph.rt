@@ -3,7 +3,7 @@ ghost use Rattle.std.specs.Prelude.{◌≡◌, ◌+◌, ◌<◌, ◌++◌, ◌�
 ghost use Rattle.merc_type_table.specs.Table.{type_at};
 ghost use Rattle.merc_type_graph.specs.Cells.{entries_of, entry_of, needs_of, root_mark, IsSound, IsStored};
 ghost use Rattle.merc_type_graph.specs.Changes.{AllWithin, Adds, Decides, MakesEqual, MakesWhole};
-ghost use Rattle.merc_type_graph.specs.Solutions.{Unknown, Applied};
+ghost use Rattle.merc_type_graph.specs.Solutions.{Unknown, WholeEntry, Applied};
 
 use crate::Place;
 use crate::cell::{Cell, Known};
@@ -68,7 +68,8 @@ impl<'a> TypeGraph<'a> {
         self.cells.len()
     }
 
-    /// Adds a place of which nothing is known. Where memory is refused nothing changes, here and in the call below.
+    /// Adds a place of which nothing is known. Where memory is refused nothing changes, here and in the calls of this
+    /// form below.
     pub fn add_unknown(&mut self) -> Result<Place, NoMemory>
         ensures place { IfOk result (λ place. place ≡ length self.old.entries) }
         ensures count { OnOk result (length self.new.entries ≡ length self.old.entries + 1) }
@@ -77,6 +78,18 @@ impl<'a> TypeGraph<'a> {
         ensures kept { OnErr result (self.new ≡ self.old) }
     {
         add(&self.store, &mut self.cells, Known::Nothing)
+    }
+
+    /// Adds a place of a declared type, in which type variables stand for themselves.
+    pub fn add_whole(&mut self, whole: TypeNumber) -> Result<Place, NoMemory>
+        requires { whole < length self.old.table }
+        ensures place { IfOk result (λ place. place ≡ length self.old.entries) }
+        ensures count { OnOk result (length self.new.entries ≡ length self.old.entries + 1) }
+        ensures solutions { OnOk result (Adds self.old.entries self.new.entries (WholeEntry (type_at self.old.table whole))) }
+        ensures table { self.new.table ≡ self.old.table }
+        ensures kept { OnErr result (self.new ≡ self.old) }
+    {
+        add(&self.store, &mut self.cells, Known::Whole(whole))
     }
 
     /// Adds a place of a type's name over the types at these places.

@@ -1,12 +1,12 @@
 -- Types that nodes make are distinct where the nodes are.
-use Rattle.std.proofs.Common.{◌≡◌, ℕ, zero, suc, ◌+◌, ◌<◌, Bool, true, false, Some, List, [], ◌∷◌, length, refl, sym, ap, subst, ◌∙◌, arith}
+use Rattle.std.proofs.Common.{◌≡◌, ℕ, zero, suc, ◌+◌, ◌<◌, Bool, true, false, Some, List, [], ◌∷◌, map, length, refl, sym, ap, subst, ◌∙◌, arith}
 use Rattle.std.specs.Prelude.{slice_get}
 use Rattle.std.specs.Ordering.{nat_cmp}
 use Rattle.merc_tree.specs.Types.{TypeExpr, TypeExprs, TypeVariable, IntType, TextType, TypeApplication, no_types, more_types}
 use Rattle.merc_type_table.specs.declared.node.TypeNode.{TypeNode}
 use Rattle.merc_type_table.specs.declared.node.TypeNode.TheVariants.{Variable, Int, Text, Name, With}
 use Rattle.merc_type_table.specs.declared.numbering.TypeNumbering.{TypeNumbering}
-use Rattle.merc_type_table.specs.Table.{type_at, types_made, made, with_first, is_application, IsBefore, IsComplete, AreDistinct, IsTable}
+use Rattle.merc_type_table.specs.Table.{type_at, types_made, made, with_first, is_application, is_closed, IsBefore, IsComplete, AreDistinct, IsTable}
 use Rattle.merc_type_table.specs.Numbering.{IsNumbering, compare_pairs, with_pair}
 use Rattle.merc_type_table.proofs.Made.{count_made, made_at, there_in_list}
 
@@ -114,8 +114,8 @@ distinct_below numbering sound (suc bound) i j less i_here j_here same =
     made_same in
     once numbering sound one.0 i j one.1 (other.1 ∙ ap Some (sym nodes_same))
 
-pub is_table : (numbering : TypeNumbering) → IsNumbering numbering → IsTable numbering.nodes.items
-is_table numbering sound =
+pub is_table : (numbering : TypeNumbering) (closed : List Bool) → IsNumbering numbering → closed ≡ map is_closed (types_made numbering.nodes.items) → IsTable numbering.nodes.items closed
+is_table numbering closed sound closed_are =
     let count = count_made numbering.nodes.items in
     record {
       before = sound.before;
@@ -124,4 +124,5 @@ is_table numbering sound =
           distinct_below numbering sound (suc one) one other (omega arith) (omega arith) (omega arith) same;
       int = sound.int;
       text = sound.text;
+      closed_are = closed_are;
     }

@@ -1,3 +1,4 @@
+pub mod Closed
 pub mod Distinct
 pub mod Framed
 pub mod Indexed

@@ -1,5 +1,5 @@
 -- How types are numbered.
-use Rattle.std.specs.Prelude.{◌≡◌, ℕ, ◌↔◌, List, ◌++◌, slice_get, Some}
+use Rattle.std.specs.Prelude.{◌≡◌, ℕ, ◌↔◌, Bool, true, false, ◌&&◌, List, ◌++◌, slice_index_or, slice_get, Some}
 use Rattle.std.proofs.Common.{Ordering}
 use Rattle.std.specs.Ordering.{nat_cmp, ordering_then}
 use Rattle.std.specs.BTreeMap.{BTreeMap, get}
@@ -46,3 +46,11 @@ pub record Numbers (old new : TypeNumbering) (number : ℕ) (type : TypeExpr) : 
   pub sound : IsNumbering new
   pub extends : Extends (types_made old.nodes.items) (types_made new.nodes.items)
   pub here : slice_get (types_made new.nodes.items) number ≡ Some type
+
+-- whether a node's type has no type variables, by those that it is over
+abbrev pub closed_node : List Bool → TypeNode → Bool
+closed_node closed (Variable name) = false
+closed_node closed Int = true
+closed_node closed Text = true
+closed_node closed (Name name) = true
+closed_node closed (With first rest) = slice_index_or closed first false && slice_index_or closed rest false

@@ -1,7 +1,7 @@
 -- Types by numbers, each over types that stand before it.
-use Rattle.std.specs.Prelude.{◌≡◌, ℕ, ◌<◌, Bool, true, false, List, [], ◌∷◌, ◌++◌, length, slice_index_or, slice_get, Some}
+use Rattle.std.specs.Prelude.{◌≡◌, ℕ, ◌<◌, Bool, true, false, ◌&&◌, List, [], ◌∷◌, ◌++◌, map, length, slice_index_or, slice_get, Some}
 use Rattle.std.proofs.Common.{refl}
-use Rattle.merc_tree.specs.Types.{TypeExpr, TypeVariable, IntType, TextType, TypeApplication, no_types, more_types}
+use Rattle.merc_tree.specs.Types.{TypeExpr, TypeExprs, TypeVariable, IntType, TextType, TypeApplication, no_types, more_types}
 use Rattle.merc_type_table.specs.declared.node.TypeNode.{TypeNode}
 use Rattle.merc_type_table.specs.declared.node.TypeNode.TheVariants.{Variable, Int, Text, Name, With}
 
@@ -68,10 +68,29 @@ IsComplete types (With first rest) = is_application (type_at types rest) ≡ tru
 abbrev pub AreDistinct : List TypeExpr → Type 0
 AreDistinct types = (one other : ℕ) → one < length types → other < length types → type_at types one ≡ type_at types other → one ≡ other
 
--- nodes of which each is over nodes before it, and no two make one type
-pub record IsTable (nodes : List TypeNode) : Type 0 where
+-- whether a type has no type variables
+abbrev mutual
+  pub is_closed : TypeExpr → Bool
+  is_closed (TypeVariable name) = false
+  is_closed IntType = true
+  is_closed TextType = true
+  is_closed (TypeApplication name arguments) = are_closed arguments
+
+  pub are_closed : TypeExprs → Bool
+  are_closed no_types = true
+  are_closed (more_types first rest) = is_closed first && are_closed rest
+
+is_closed-yes : is_closed (TypeApplication 7 (more_types IntType (more_types TextType no_types))) ≡ true
+is_closed-yes = refl
+
+is_closed-not : is_closed (TypeApplication 7 (more_types IntType (more_types (TypeVariable 8) no_types))) ≡ false
+is_closed-not = refl
+
+-- nodes of which each is over nodes before it, and of which no two make one type, and whether the types have no type variables
+pub record IsTable (nodes : List TypeNode) (closed : List Bool) : Type 0 where
   pub before : (number : ℕ) (node : TypeNode) → slice_get nodes number ≡ Some node → IsBefore number node
   pub complete : (number : ℕ) (node : TypeNode) → slice_get nodes number ≡ Some node → IsComplete (types_made nodes) node
   pub distinct : AreDistinct (types_made nodes)
   pub int : slice_get nodes 0 ≡ Some Int
   pub text : slice_get nodes 1 ≡ Some Text
+  pub closed_are : closed ≡ map is_closed (types_made nodes)

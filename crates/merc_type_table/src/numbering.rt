@@ -1,8 +1,9 @@
 //! The numbering of declared types.
-ghost use Rattle.std.specs.Prelude.{◌≡◌, ◌∷◌, [], ◌++◌, length, IfOk, OnOk};
-ghost use Rattle.merc_type_table.specs.Table.{types_made, IsBefore, IsComplete};
+ghost use Rattle.std.specs.Prelude.{◌≡◌, ℕ, ◌∷◌, [], ◌++◌, map, length, slice_get, IfOk, OnOk, Some};
+ghost use Rattle.merc_type_table.specs.Table.{is_closed, types_made, IsBefore, IsComplete};
 ghost use Rattle.merc_type_table.specs.Frames.{Begins};
-ghost use Rattle.merc_type_table.specs.Numbering.{Adds, IsNumbering, Numbers};
+ghost use Rattle.merc_type_table.specs.Numbering.{closed_node, Adds, IsNumbering, Numbers};
+ghost use Rattle.merc_type_table.specs.declared.node.TypeNode.{TypeNode as NodeValue};
 ghost use Rattle.merc_type_table.specs.declared.node.TypeNode.TheVariants.{Variable as VariableNode, Name as NameNode, With as WithNode};
 
 use crate::node::Pair;
@@ -78,11 +79,15 @@ impl TypeNumbering {
     }
 
     /// The types with their numbers. Nothing can be added to them.
-    pub fn into_table(self) -> TypeTable
+    pub fn into_table(self, alloc: Global) -> Result<TypeTable, NoMemory>
         requires { IsNumbering self }
-        ensures { result ≡ types_made self.nodes.items }
+        ensures { IfOk result (λ table. table ≡ types_made self.nodes.items) }
     {
-        TypeTable { nodes: self.nodes }
+        let closed = closed_flags(alloc, &self.nodes)?;
+        Ok(TypeTable {
+            nodes: self.nodes,
+            closed,
+        })
     }
 
     // A type without its arguments, which are left to be added.
@@ -148,6 +153,32 @@ impl TypeNumbering {
                 Ok(number)
             }
         }
+    }
+}
+
+// For each type whether it has no type variables.
+fn closed_flags(alloc: Global, nodes: &[TypeNode]) -> Result<Vec<bool>, NoMemory>
+    requires before { (number : ℕ) (node : NodeValue) → slice_get nodes.now number ≡ Some node → IsBefore number node }
+    requires complete { (number : ℕ) (node : NodeValue) → slice_get nodes.now number ≡ Some node → IsComplete (types_made nodes.now) node }
+    ensures { IfOk result (λ closed. closed.items ≡ map is_closed (types_made nodes.now)) }
+{
+    let mut closed = Vec::new(alloc);
+    for node in nodes {
+        let flag = is_closed_node(&closed, node);
+        closed.push(flag)?;
+    }
+    Ok(closed)
+}
+
+// Whether a type has no type variables, where this is known of those that it is over.
+fn is_closed_node(closed: &[bool], node: &TypeNode) -> bool
+    requires { IsBefore (length closed.now) node.now }
+    ensures { result ≡ closed_node closed.now node.now }
+{
+    match node {
+        TypeNode::Variable(_) => false,
+        TypeNode::Int | TypeNode::Text | TypeNode::Name(_) => true,
+        TypeNode::With { first, rest } => closed[first.index()] && closed[rest.index()],
     }
 }
 

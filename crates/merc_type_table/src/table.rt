@@ -1,7 +1,7 @@
 //! Tables of types.
 ghost use Rattle.std.specs.Prelude.{◌≡◌, ◌<◌, ◌↔◌, length, slice_get, IsTrue, Some};
 ghost use Rattle.merc_tree.specs.Types.{IntType, TextType};
-ghost use Rattle.merc_type_table.specs.Table.{made, type_at, IsBefore, IsComplete};
+ghost use Rattle.merc_type_table.specs.Table.{is_closed, made, type_at, IsBefore, IsComplete};
 
 use crate::{TypeNode, TypeNumber};
 use std::marker::Model;
@@ -10,6 +10,8 @@ use std::marker::Model;
 #[derive(Drop)]
 pub struct TypeTable {
     pub(crate) nodes: Vec<TypeNode>,
+    // Whether the types have no type variables.
+    pub(crate) closed: Vec<bool>,
 }
 
 impl Model for TypeTable {
@@ -27,7 +29,7 @@ impl Model for TypeTable {
 
     ghost view = { λ t. types_made t.nodes.items };
 
-    ghost invariant = { λ t. IsTable t.nodes.items };
+    ghost invariant = { λ t. IsTable t.nodes.items t.closed.items };
 }
 
 impl TypeTable {
@@ -49,6 +51,14 @@ impl TypeTable {
     {
         let _ = &self.nodes;
         one == other
+    }
+
+    /// Whether the type at a number has no type variables.
+    pub fn is_closed(&self, number: TypeNumber) -> bool
+        requires { number < length self.now }
+        ensures { result ≡ is_closed (type_at self.now number) }
+    {
+        self.closed[number.index()]
     }
 
     /// The number of the type `int`.
