@@ -1,2 +1,9 @@
 pub mod Nodes
+pub mod Roots
+pub mod RootLaws
+pub mod Labels
+pub mod Induction
+pub mod LabelCode
+pub mod Views
+pub mod Entries
 pub mod Variables
