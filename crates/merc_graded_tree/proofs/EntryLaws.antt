@@ -4,7 +4,7 @@ use Rattle.std.proofs.lemmas.List.{length-append, length-drop, length-map, map-a
 use Rattle.merc_graded_tree.specs.declared.entries.Entry.{Entry}
 use Rattle.merc_graded_tree.specs.declared.entries.Label.{Label}
 use Rattle.merc_graded_tree.specs.Nodes.{Node, node, Goal, Basic, Conjunction, Disjunction, Switch, Conditional, Negation, Quantified, Nodes, no_nodes, more_nodes, Arms, no_arms, more_arms, list_of}
-use Rattle.merc_graded_tree.specs.Roots.{bodies_of, root_of, goals_in, goals_of, label_of, arity_of, goal_at, joining, labelled, last_joined}
+use Rattle.merc_graded_tree.specs.Roots.{bodies_of, goals_in, goals_of, label_of, arity_of, goal_at, joining, labelled, last_joined}
 use Rattle.merc_graded_tree.specs.Labels.{labels_of, all_labels, built}
 use Rattle.merc_graded_tree.specs.Induction.{of_all}
 use Rattle.merc_graded_tree.specs.LabelCode.{labels_are, built-all_labels}

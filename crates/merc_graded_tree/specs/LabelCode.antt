@@ -64,10 +64,6 @@ builds_one whole inner before =
 pub built-all_labels : (goals before : List Node) → built (all_labels goals) before ≡ before ++ goals
 built-all_labels goals = of_all Builds builds_none builds_more builds_one goals
 
--- goals with the same labels are the same
-pub all_labels-one : (goals others : List Node) → all_labels goals ≡ all_labels others → goals ≡ others
-all_labels-one goals others same = sym (built-all_labels goals []) ∙ ap (λ l. built l []) same ∙ built-all_labels others []
-
 -- the goal that labels stand for
 abbrev labelled_goal : List Label → Node
 labelled_goal labels = goal_at (built labels []) 0

@@ -5,5 +5,8 @@ pub mod Labels
 pub mod Induction
 pub mod LabelCode
 pub mod Views
+pub mod NodesExamples
 pub mod Entries
+pub mod EntriesExamples
 pub mod Variables
+pub mod VariablesExamples

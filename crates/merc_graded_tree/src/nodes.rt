@@ -64,7 +64,13 @@ impl Nodes {
     }
 
     /// Makes the last `count` goals one conjunction that runs in this way, without a category.
-    pub fn conjoin(&mut self, running: Running, count: usize, outputs: Vars, span: Span) -> Result<(), NoMemory>
+    pub fn conjoin(
+        &mut self,
+        running: Running,
+        count: usize,
+        outputs: Vars,
+        span: Span,
+    ) -> Result<(), NoMemory>
         requires { count ≤ length self.old }
         ensures ok { OnOk result (self.new ≡ joined (Root.Conjunction running count) outputs span self.old) }
         ensures err { OnErr result (self.new ≡ self.old) }
@@ -83,7 +89,13 @@ impl Nodes {
 
     /// Makes the last goals, as many as there are symbols, the arms of one switch on the variable, without a category.
     /// The first of them is the arm of the first symbol, and so on.
-    pub fn switch(&mut self, variable: Var, symbols: Sequence<Symbol>, outputs: Vars, span: Span) -> Result<(), NoMemory>
+    pub fn switch(
+        &mut self,
+        variable: Var,
+        symbols: Sequence<Symbol>,
+        outputs: Vars,
+        span: Span,
+    ) -> Result<(), NoMemory>
         requires { length symbols ≤ length self.old }
         ensures ok { OnOk result (self.new ≡ joined (Root.Switch variable symbols) outputs span self.old) }
         ensures err { OnErr result (self.new ≡ self.old) }

@@ -1,4 +1,4 @@
-use Rattle.std.proofs.Common.{[], length, ap, ◌∙◌}
+use Rattle.std.proofs.Common.{length, ap, ◌∙◌}
 use Rattle.merc_graded_tree.specs.Entries.{nodes_from}
 use Rattle.merc_graded_tree.proofs.EntryLaws.{length-starts_from}
 use Rattle.merc_graded_tree.proofs.nodes.Nodes.len.Goals as goal
