@@ -1,15 +1,17 @@
 -- Worked examples of ordered goals: what they are at their roots, their parts, goals that become one, and what is seen of one.
 use Rattle.std.specs.Prelude.{◌≡◌, ℕ, List, [], ◌∷◌, map, refl, Some, None}
 use Rattle.std.proofs.Common.{ap}
+use Rattle.std.specs.Borrow.{Bor}
 use Rattle.merc_base.specs.declared.category.Category.TheVariants.{Det}
 use Rattle.merc_base.specs.declared.place.Span.{Span}
 use Rattle.merc_goal_tree.specs.declared.goal.Symbol.{Symbol}
 use Rattle.merc_goal_tree.specs.declared.goal.Symbol.TheVariants.{Constructor, Text}
+use Rattle.merc_graded_tree.specs.declared.basic.BasicGoal.{BasicGoal}
 use Rattle.merc_graded_tree.specs.declared.basic.BasicGoal.TheVariants.{Call}
 use Rattle.merc_graded_tree.specs.declared.entries.Root.{Root}
 use Rattle.merc_graded_tree.specs.declared.entries.Root.TheVariants.{Conjunction as ConjunctionRoot, Disjunction as DisjunctionRoot, Switch as SwitchRoot, Conditional as ConditionalRoot, Negation as NegationRoot, Quantified as QuantifiedRoot}
 use Rattle.merc_graded_tree.specs.declared.entries.Running.TheVariants.{Sequential, Parallel}
-use Rattle.merc_graded_tree.specs.declared.node_ref.NodeView.TheVariants.{Conjunction as ConjunctionView, Disjunction as DisjunctionView, Conditional as ConditionalView, Negation as NegationView}
+use Rattle.merc_graded_tree.specs.declared.node_ref.NodeView.TheVariants.{Basic as BasicView, Quantified as QuantifiedView, Switch as SwitchView, Conjunction as ConjunctionView, Disjunction as DisjunctionView, Conditional as ConditionalView, Negation as NegationView}
 use Rattle.merc_graded_tree.specs.Nodes.{Node, node, Goal, Basic, Conjunction, Disjunction, Switch, Conditional, Negation, Quantified, no_nodes, more_nodes, Arms, no_arms, more_arms, goal_of, outputs_of, category_of, span_of}
 use Rattle.merc_graded_tree.specs.Roots.{symbols_of, bodies_of, arms_of, root_of, goals_of, label_of, arity_of, goal_at, joining, labelled, last_joined, joined}
 use Rattle.merc_graded_tree.specs.Labels.{labels_of, all_labels, built}
@@ -223,6 +225,15 @@ viewed-example = refl
 
 viewed-disjunction : viewed (DisjunctionView (both ∷ not_c ∷ [])) ≡ goal_of choice
 viewed-disjunction = refl
+
+viewed-basic : (goal : Bor BasicGoal) → goal.now ≡ Call (record { predicate = 0; mode = 0 }) [] → viewed (BasicView goal) ≡ goal_of a
+viewed-basic goal same = ap Basic same
+
+viewed-switch : (symbols : Bor (List Symbol)) → symbols.now ≡ red ∷ text ∷ [] → viewed (SwitchView 7 symbols (a ∷ b ∷ [])) ≡ goal_of switch
+viewed-switch symbols same = ap (λ l. Switch 7 (arms_of l (a ∷ b ∷ []))) same
+
+viewed-quantified : (own : Bor (List ℕ)) → own.now ≡ 8 ∷ [] → viewed (QuantifiedView own c) ≡ Quantified (8 ∷ []) c
+viewed-quantified own same = ap (λ l. Quantified l c) same
 
 viewed-conditional : viewed (ConditionalView c a b) ≡ Conditional c a b
 viewed-conditional = refl
