@@ -143,17 +143,17 @@ module _ (goals : List Node) (entries : List Entry) (starts : List ℕ) (are : a
     abbrev last_goals : List Node
     last_goals = drop (length goals - arity_of label.root) goals
 
-    abbrev root_entry : Entry
-    root_entry = record { label = label; size = length entries - get_or starts kept (length entries) + 1 }
+    abbrev start_of_last : ℕ
+    start_of_last = get_or starts kept (length entries)
 
-    pub entries_behind : entries ++ root_entry ∷ [] ≡ all_entries (last_joined label goals)
+    entries_behind : entries ++ record { label = label; size = length entries - start_of_last + 1 } ∷ [] ≡ all_entries (last_joined label goals)
     entries_behind =
         let front = take (length goals - arity_of label.root) goals in
         let made = labelled label last_goals in
         let parts : entries ≡ all_entries front ++ all_entries last_goals = front_and_back (length goals - arity_of label.root) in
-        let at : get_or starts kept (length entries) ≡ length (all_entries front) =
+        let at : start_of_last ≡ length (all_entries front) =
         ap (λ k. get_or starts k (length entries)) kept_is ∙ start_is (length goals - arity_of label.root) (omega arith) in
-        let size : length entries - get_or starts kept (length entries) + 1 ≡ suc (length (all_entries last_goals)) =
+        let size : length entries - start_of_last + 1 ≡ suc (length (all_entries last_goals)) =
         omega (arith, at, ap length parts, length-append (all_entries front) (all_entries last_goals)) in
         let count : arity_of label.root ≡ length last_goals = omega (arith, length-drop (length goals - arity_of label.root) goals) in
         ap (λ n. entries ++ record { label = label; size = n } ∷ []) size
@@ -162,11 +162,27 @@ module _ (goals : List Node) (entries : List Entry) (starts : List ℕ) (are : a
         ∙ ap (λ l. all_entries front ++ l) (sym (entries_joined label last_goals count) ∙ sym (append-nil (entries_of made)))
         ∙ sym (all_entries-append front (made ∷ []))
 
-    pub starts_behind : take kept starts ++ get_or starts kept (length entries) ∷ [] ≡ starts_from 0 (last_joined label goals)
+    starts_behind : take kept starts ++ start_of_last ∷ [] ≡ starts_from 0 (last_joined label goals)
     starts_behind =
         let before = length goals - arity_of label.root in
-        let at : get_or starts kept (length entries) ≡ 0 + length (all_entries (take before goals)) =
+        let at : start_of_last ≡ 0 + length (all_entries (take before goals)) =
         ap (λ k. get_or starts k (length entries)) kept_is ∙ start_is before (omega arith) ∙ omega arith in
         ap (λ n. take kept starts ++ n ∷ []) at
         ∙ ap (λ l. l ++ (0 + length (all_entries (take before goals))) ∷ []) (ap (λ k. take k starts) kept_is ∙ ap (take before) start ∙ starts_from-take before 0 goals)
         ∙ sym (starts_from-last 0 (take before goals) (labelled label last_goals))
+
+    pub record Behind (new_entries : List Entry) (new_starts : List ℕ) : Type 0 where
+      pub nodes : nodes_from new_entries ≡ last_joined label goals
+      pub are_nodes : AreNodes new_entries
+      pub starts_are : new_starts ≡ starts_from 0 (nodes_from new_entries)
+
+    pub behind : (new_entries : List Entry) (new_starts : List ℕ) → new_entries ≡ entries ++ record { label = label; size = length entries - start_of_last + 1 } ∷ []
+        → new_starts ≡ take kept starts ++ start_of_last ∷ [] → Behind new_entries new_starts
+    behind new_entries new_starts same_entries same_starts =
+        let made : new_entries ≡ all_entries (last_joined label goals) = same_entries ∙ entries_behind in
+        let nodes = nodes_are new_entries (last_joined label goals) made in
+        record {
+          nodes = nodes;
+          are_nodes = AreNodes_from new_entries (last_joined label goals) made;
+          starts_are = same_starts ∙ starts_behind ∙ ap (starts_from 0) (sym nodes);
+        }

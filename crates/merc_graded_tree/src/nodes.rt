@@ -1,5 +1,5 @@
 //! Goals in the order in which they go, as they are built.
-ghost use Rattle.std.specs.Prelude.{◌≡◌, ◌≤◌, ◌<◌, [], ◌∷◌, ◌++◌, length, slice_get, None, OnOk, OnErr};
+ghost use Rattle.std.specs.Prelude.{◌≡◌, ◌≤◌, ◌<◌, [], ◌∷◌, ◌++◌, length, take, slice_get, None, OnOk, OnErr};
 ghost use Rattle.merc_graded_tree.specs.Nodes.{node, Basic};
 ghost use Rattle.merc_graded_tree.specs.Roots.{arity_of, joined};
 
@@ -159,10 +159,33 @@ impl Nodes {
             category: None,
             span,
         };
-        self.starts.reserve(1)?;
-        self.entries.push(Entry { label, size })?;
-        self.starts.truncate(kept);
-        self.starts.push(start).unwrap();
+        put_entry(
+            &mut self.entries,
+            &mut self.starts,
+            Entry { label, size },
+            kept,
+            start,
+        )?;
         Ok(())
     }
+}
+
+// Puts an entry behind the others, and where its goal starts behind the first `kept` starts. Where memory is refused
+// nothing changes.
+fn put_entry(
+    entries: &mut Vec<Entry>,
+    starts: &mut Vec<usize>,
+    entry: Entry,
+    kept: usize,
+    start: usize,
+) -> Result<(), NoMemory>
+    ensures entries { OnOk result (entries.new.items ≡ entries.old.items ++ entry ∷ []) }
+    ensures starts { OnOk result (starts.new.items ≡ take kept starts.old.items ++ start ∷ []) }
+    ensures err { OnErr result ((entries.new.items ≡ entries.old.items) × (starts.new.items ≡ starts.old.items)) }
+{
+    starts.reserve(1)?;
+    entries.push(entry)?;
+    starts.truncate(kept);
+    starts.push(start).unwrap();
+    Ok(())
 }
