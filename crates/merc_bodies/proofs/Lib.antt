@@ -1,0 +1,3 @@
+pub mod PartVariables
+pub mod Rebuilds
+pub mod Rising

@@ -1,0 +1,5 @@
+pub mod Renamed
+pub mod Bodies
+pub mod BodiesExamples
+pub mod Numbers
+pub mod Rebuilding
