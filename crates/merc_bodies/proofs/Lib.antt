@@ -1,3 +1,6 @@
+pub mod InHand
+pub mod Parts
 pub mod PartVariables
+pub mod Places
 pub mod Rebuilds
 pub mod Rising

@@ -1,5 +1,6 @@
 -- The variables of a goal are those of its parts.
-use Rattle.std.proofs.Common.{◌≡◌, ℕ, List, [], ◌∷◌, ◌++◌, refl, ap, sym, ◌∙◌}
+use Rattle.std.proofs.Common.{◌≡◌, ℕ, Bool, true, false, cond, List, [], ◌∷◌, ◌++◌, refl, ap, sym, ◌∙◌}
+use Rattle.std.specs.Prelude.{nat_le}
 use Rattle.std.specs.List.{flat_map}
 use Rattle.std.proofs.lemmas.List.{append-nil, append_assoc}
 use Rattle.merc_base.specs.declared.place.Span.{Span}
@@ -7,7 +8,7 @@ use Rattle.merc_goal_tree.specs.declared.entries.Root.{Root}
 use Rattle.merc_goal_tree.specs.Nodes.{Node, Nodes, Simple, Conjunction, Parallel, Disjunction, Conditional, Negation, Quantified, no_nodes, more_nodes}
 use Rattle.merc_goal_tree.specs.Parts.{parts_of, all_parts}
 use Rattle.merc_goal_tree.specs.Variables.{variables_of, variables, all_variables}
-use Rattle.merc_bodies.specs.Numbers.{part_variables}
+use Rattle.merc_bodies.specs.Occurrences.{own_in, part_variables}
 
 pub parts_both : (one other : List (Root × Span)) → flat_map part_variables (one ++ other) ≡ flat_map part_variables one ++ flat_map part_variables other
 parts_both [] other = refl
@@ -40,3 +41,21 @@ mutual
       parts_both (parts_of first) (all_parts rest)
       ∙ ap (λ l. l ++ flat_map part_variables (all_parts rest)) (variables_are first)
       ∙ ap (λ l. variables first ++ l) (all_variables_are rest)
+
+filter-append : (arity : ℕ) (one other : List ℕ) → own_in arity (one ++ other) ≡ own_in arity one ++ own_in arity other
+filter-append arity [] other = refl
+filter-append arity (first ∷ rest) other = kept (nat_le arity first) first _ _ _ (filter-append arity rest other)
+  where
+    kept : (keeps : Bool) (first : ℕ) (whole one other : List ℕ) → whole ≡ one ++ other → cond keeps (first ∷ whole) whole ≡ cond keeps (first ∷ one) one ++ other
+    kept true first whole one other is = ap (λ l. first ∷ l) is
+    kept false first whole one other is = is
+
+-- the next part's variables put behind those that are found
+pub one_more : (arity : ℕ) (part : Root × Span) (left parts : List (Root × Span)) (before now whole : List ℕ) → left ≡ part ∷ parts
+    → now ≡ before ++ own_in arity (part_variables part) → before ++ own_in arity (flat_map part_variables left) ≡ whole → now ++ own_in arity (flat_map part_variables parts) ≡ whole
+one_more arity part left parts before now whole next put is =
+    ap (λ l. l ++ own_in arity (flat_map part_variables parts)) put
+    ∙ append_assoc before (own_in arity (part_variables part)) (own_in arity (flat_map part_variables parts))
+    ∙ ap (λ l. before ++ l) (sym (filter-append arity (part_variables part) (flat_map part_variables parts)))
+    ∙ ap (λ l. before ++ own_in arity (flat_map part_variables l)) (sym next)
+    ∙ is

@@ -1,6 +1,7 @@
 -- A goal's parts with new variables, put one behind the other, are the goal with these variables.
-use Rattle.std.proofs.Common.{◌≡◌, ℕ, suc, ◌+◌, ◌-◌, ◌≤◌, List, [], ◌∷◌, ◌++◌, length, map, refl, ap, sym, ◌∙◌, subst, arith}
-use Rattle.std.proofs.lemmas.List.{append-nil, append_assoc, length-append}
+use Rattle.std.proofs.Common.{◌≡◌, ℕ, suc, ◌+◌, ◌-◌, ◌≤◌, List, [], ◌∷◌, ◌++◌, length, take, map, refl, ap, sym, ◌∙◌, subst, arith}
+use Rattle.std.proofs.lemmas.List.{append-nil, append_assoc, length-append, length-take}
+use Rattle.std.proofs.Math.Nat.{min-eq_left}
 use Rattle.merc_base.specs.declared.place.Span.{Span}
 use Rattle.merc_goal_tree.specs.declared.entries.Root.{Root}
 use Rattle.merc_goal_tree.specs.Nodes.{Node, Nodes, Simple, Conjunction, Parallel, Disjunction, Conditional, Negation, Quantified, no_nodes, more_nodes, list_of, nodes_of, span_of}
@@ -90,7 +91,7 @@ mutual
   are_found (Conditional condition then_part else_part span) rest count found =
       subst (λ l. AreFound l count)
         (sym (append_assoc (parts_of condition ++ parts_of then_part ++ parts_of else_part) _ rest ∙ append_assoc (parts_of condition ++ parts_of then_part) (parts_of else_part) _ ∙ append_assoc (parts_of condition) (parts_of then_part) _))
-        (are_found condition _ count (are_found then_part _ (count + 1) (are_found else_part _ (count + 1 + 1) (omega arith, found_at 3 count rest found))))
+        (are_found condition _ count (are_found then_part _ (count + 1) (are_found else_part _ (count + 1 + 1) (omega arith, subst (λ n. AreFound rest (n + 1)) (omega arith) found))))
   are_found (Negation goal span) rest count found =
       subst (λ l. AreFound l count) (sym (append_assoc (parts_of goal) _ rest)) (are_found goal _ count (omega arith, found_at 1 count rest found))
   are_found (Quantified own goal span) rest count found =
@@ -101,3 +102,37 @@ mutual
   all_found (more_nodes first others) rest count found =
       subst (λ l. AreFound l count) (sym (append_assoc (parts_of first) (all_parts others) rest))
         (are_found first (all_parts others ++ rest) count (all_found others rest (count + 1) (subst (λ n. AreFound rest n) (omega arith) found)))
+
+-- one part after the other
+
+joined_length : (root : Root) (span : Span) (goals : List Node) → length (joined root span goals) ≡ length goals - arity_of root + 1
+joined_length root span goals =
+    length-append (take (length goals - arity_of root) goals) _
+    ∙ ap (λ n. n + 1) (length-take (length goals - arity_of root) goals ∙ min-eq_left (omega arith))
+
+module _ (new : ℕ → ℕ) where
+  arity_same : (root : Root) → arity_of (renamed_root new root) ≡ arity_of root
+  arity_same (Root.Simple goal) = refl
+  arity_same (Root.Conjunction count) = refl
+  arity_same (Root.Parallel count) = refl
+  arity_same (Root.Disjunction count) = refl
+  arity_same Root.Conditional = refl
+  arity_same Root.Negation = refl
+  arity_same (Root.Quantified own) = refl
+
+  pub next_found : (left : List (Root × Span)) (part : Root × Span) (count : ℕ) (rest : List (Root × Span)) → left ≡ part ∷ rest → AreFound left count → arity_of part.0 ≤ count
+  next_found left part count rest is found = (subst (λ l. AreFound l count) is found).0
+
+  pub rest_found : (left : List (Root × Span)) (part : Root × Span) (rest : List (Root × Span)) (goals now : List Node) → left ≡ part ∷ rest
+      → now ≡ joined (renamed_root new part.0) part.1 goals → AreFound left (length goals) → AreFound rest (length now)
+  rest_found left part rest goals now is put found =
+      subst (AreFound rest)
+        (sym (ap length put ∙ joined_length (renamed_root new part.0) part.1 goals ∙ ap (λ n. length goals - n + 1) (arity_same part.0)))
+        (subst (λ l. AreFound l (length goals)) is found).1
+
+  pub rest_rebuilt : (left : List (Root × Span)) (part : Root × Span) (rest : List (Root × Span)) (goals now whole : List Node) → left ≡ part ∷ rest
+      → now ≡ joined (renamed_root new part.0) part.1 goals → rebuilt new left goals ≡ whole → rebuilt new rest now ≡ whole
+  rest_rebuilt left part rest goals now whole is put same = ap (rebuilt new rest) put ∙ ap (λ l. rebuilt new l goals) (sym is) ∙ same
+
+pub all_found_at : (goal : Node) (count : ℕ) → AreFound (parts_of goal) count
+all_found_at goal count = subst (λ l. AreFound l count) (append-nil (parts_of goal)) (are_found goal [] count tt)

@@ -1,5 +1,7 @@
 pub mod Renamed
 pub mod Bodies
 pub mod BodiesExamples
-pub mod Numbers
+pub mod Occurrences
+pub mod Numbering
 pub mod Rebuilding
+pub mod Grouping

@@ -5,12 +5,7 @@ use Rattle.merc_goal_tree.specs.declared.entries.Root.{Root}
 use Rattle.merc_goal_tree.specs.declared.entries.Root.TheVariants.{Simple, Conjunction, Parallel, Disjunction, Conditional, Negation, Quantified}
 use Rattle.merc_goal_tree.specs.Nodes.{Node}
 use Rattle.merc_goal_tree.specs.Roots.{arity_of, joined}
-use Rattle.merc_bodies.specs.Bodies.{numbered}
 use Rattle.merc_bodies.specs.Renamed.{renamed_goal}
-use Rattle.merc_bodies.specs.declared.numbering.Numbering.{Numbering}
-
-abbrev pub new_number : Numbering → ℕ → ℕ
-new_number numbering variable = numbered numbering.arity numbering.at numbering.own.items variable
 
 abbrev pub renamed_root : (ℕ → ℕ) → Root → Root
 renamed_root new (Simple goal) = Simple (renamed_goal new goal)

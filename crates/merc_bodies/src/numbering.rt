@@ -1,45 +1,73 @@
 //! New numbers for the variables of clauses.
-ghost use Rattle.std.specs.Prelude.{◌≡◌, ◌++◌, ◌∷◌, [], ◌==◌, IfOk, OnOk};
+ghost use Rattle.std.specs.Prelude.{◌≡◌, ◌++◌, ◌==◌, ◌≤◌, length, IfOk, OnOk};
 ghost use Rattle.std.specs.List.{position_or_len};
 ghost use Rattle.std.specs.List.Sorted.{IsStrictlyIncreasing};
-ghost use Rattle.merc_goal_tree.specs.Variables.{variables_of};
-ghost use Rattle.merc_bodies.specs.Bodies.{numbered, own_variables};
-ghost use Rattle.merc_bodies.specs.Numbers.{own_among, own_in, root_variables};
+ghost use Rattle.merc_bodies.specs.Bodies.{own_variables};
+ghost use Rattle.merc_bodies.specs.Numbering.{new_number, IsInHand, GoesOn};
 
+use crate::occurrences::occurrences;
 use merc_base::NoMemory;
-use merc_goal_tree::{NodeRef, Root, SimpleGoal, Var};
+use merc_goal_tree::{NodeRef, Var};
 use std::alloc::Global;
 
-/// The new numbers of the variables of a clause. Its arguments keep theirs.
+/// The new numbers of the variables of a predicate's clauses, one clause after the other.
 #[derive(Drop)]
 pub(crate) struct Numbering {
-    pub(crate) arity: usize,
-    // The new number of the first variable that is no argument.
-    pub(crate) at: usize,
-    // The variables that are no arguments, in the order of their numbers.
-    pub(crate) own: Vec<Var>,
+    arity: usize,
+    // Where the own variables of the clause in hand start.
+    at: usize,
+    // The variables by their new numbers: the predicate's arguments, and behind them the own variables of each clause, in
+    // the order of their numbers there.
+    variables: Vec<Var>,
 }
 
 impl Numbering {
-    /// The new number of a variable.
-    pub(crate) fn of(&self, variable: Var) -> Result<Var, NoMemory>
-        requires { IsStrictlyIncreasing self.now.own.items }
-        ensures { IfOk result (λ new. new ≡ numbered self.now.arity self.now.at self.now.own.items variable) }
+    /// For a predicate of so many arguments, before its first clause.
+    pub(crate) fn new(alloc: Global, arity: usize) -> Result<Numbering, NoMemory>
+        ensures arity { IfOk result (λ numbering. numbering.arity ≡ arity) }
+        ensures arguments { IfOk result (λ numbering. length numbering.variables.items ≡ arity) }
+    {
+        let mut variables = Vec::new(alloc);
+        for number in 0..arity {
+            variables.push(Var::new(number))?;
+        }
+        Ok(Numbering {
+            arity,
+            at: arity,
+            variables,
+        })
+    }
+
+    /// Takes a clause of this flat form in hand, whose own variables have the next numbers.
+    ///
+    /// With n occurrences of variables this takes time of the order of n log n.
+    pub(crate) fn take(&mut self, alloc: Global, form: &NodeRef<'_>) -> Result<(), NoMemory>
+        ensures goes_on { OnOk result (GoesOn self.old form.now self.new) }
+        ensures in_hand { OnOk result (IsInHand self.new) }
+    {
+        let own = own_variables(alloc, self.arity, form)?;
+        self.at = self.variables.len();
+        self.variables.extend_from_slice(&own)?;
+        Ok(())
+    }
+
+    /// The new number of a variable of the clause in hand.
+    pub(crate) fn of(&self, variable: Var) -> Var
+        requires { IsInHand self.now }
+        ensures { result ≡ new_number self.now variable }
     {
         if variable.number() < self.arity {
-            return Ok(variable);
+            return variable;
         }
-        match self.at.checked_add(place_of(&self.own, variable)) {
-            Some(number) => Ok(Var::new(number)),
-            None => Err(NoMemory),
-        }
+        Var::new(self.at + place_of(&self.variables[self.at..], variable))
     }
 }
 
 // The place of a variable among others, or their number where it is none of them.
 fn place_of(own: &[Var], variable: Var) -> usize
     requires { IsStrictlyIncreasing own.now }
-    ensures { result ≡ position_or_len (λ other. other == variable) own.now }
+    ensures place { result ≡ position_or_len (λ other. other == variable) own.now }
+    ensures within { result ≤ length own.now }
 {
     match own.binary_search(&variable) {
         Ok(place) => place,
@@ -47,82 +75,12 @@ fn place_of(own: &[Var], variable: Var) -> usize
     }
 }
 
-/// The variables of a clause's flat form that are no arguments, each once, in the order of their numbers.
-///
-/// With n occurrences of variables this takes time of the order of n log n.
-///
-/// # Errors
-///
-/// `NoMemory` where memory was refused; here and in the calls below.
-pub(crate) fn own_variables(
-    alloc: Global,
-    arity: usize,
-    form: &NodeRef<'_>,
-) -> Result<Vec<Var>, NoMemory>
-    ensures variables { IfOk result (λ own. own.items ≡ own_variables arity form.now) }
-    ensures rising { IfOk result (λ own. IsStrictlyIncreasing own.items) }
+// The variables of a clause's flat form that are no arguments, each once, in the order of their numbers.
+fn own_variables(alloc: Global, arity: usize, form: &NodeRef<'_>) -> Result<Vec<Var>, NoMemory>
+    ensures { IfOk result (λ own. own.items ≡ own_variables arity form.now) }
 {
     let mut own = occurrences(alloc, arity, form)?;
     own.sort()?;
     own.dedup();
     Ok(own)
-}
-
-// The variables that are no arguments, each as often as it occurs.
-fn occurrences(alloc: Global, arity: usize, form: &NodeRef<'_>) -> Result<Vec<Var>, NoMemory>
-    ensures { IfOk result (λ own. own.items ≡ own_among arity form.now) }
-{
-    let mut own = Vec::new(alloc);
-    for index in 0..form.part_count() {
-        if let Some((root, _)) = form.part(index) {
-            add_root(&mut own, arity, root)?;
-        }
-    }
-    Ok(own)
-}
-
-fn add_root(own: &mut Vec<Var>, arity: usize, root: &Root) -> Result<(), NoMemory>
-    ensures { OnOk result (own.new.items ≡ own.old.items ++ own_in arity (root_variables root.now)) }
-{
-    match root {
-        Root::Simple(goal) => add_goal(own, arity, goal),
-        _ => Ok(()),
-    }
-}
-
-fn add_goal(own: &mut Vec<Var>, arity: usize, goal: &SimpleGoal) -> Result<(), NoMemory>
-    ensures { OnOk result (own.new.items ≡ own.old.items ++ own_in arity (variables_of goal.now)) }
-{
-    match goal {
-        SimpleGoal::True | SimpleGoal::Fail => Ok(()),
-        SimpleGoal::Same(one, other) => add_variables(own, arity, &[*one, *other]),
-        SimpleGoal::Shape(variable, _, arguments) => {
-            add_variable(own, arity, *variable)?;
-            add_variables(own, arity, arguments.as_slice())
-        }
-        SimpleGoal::Arithmetic(_, result, left, right) => {
-            add_variables(own, arity, &[*result, *left, *right])
-        }
-        SimpleGoal::Compare(_, left, right) => add_variables(own, arity, &[*left, *right]),
-        SimpleGoal::Raise(text) => add_variable(own, arity, *text),
-        SimpleGoal::Call(_, arguments) => add_variables(own, arity, arguments.as_slice()),
-    }
-}
-
-fn add_variables(own: &mut Vec<Var>, arity: usize, variables: &[Var]) -> Result<(), NoMemory>
-    ensures { OnOk result (own.new.items ≡ own.old.items ++ own_in arity variables.now) }
-{
-    for variable in variables {
-        add_variable(own, arity, *variable)?;
-    }
-    Ok(())
-}
-
-fn add_variable(own: &mut Vec<Var>, arity: usize, variable: Var) -> Result<(), NoMemory>
-    ensures { OnOk result (own.new.items ≡ own.old.items ++ own_in arity (variable ∷ [])) }
-{
-    if arity <= variable.number() {
-        own.push(variable)?;
-    }
-    Ok(())
 }

@@ -1,9 +1,9 @@
 //! Goals with new variables.
 ghost use Rattle.std.specs.Prelude.{◌≡◌, ◌∷◌, [], ◌++◌, ◌≤◌, length, map, IfOk, OnOk};
-ghost use Rattle.std.specs.List.Sorted.{IsStrictlyIncreasing};
+ghost use Rattle.merc_bodies.specs.Numbering.{new_number, IsInHand};
 ghost use Rattle.merc_goal_tree.specs.Roots.{arity_of, joined};
 ghost use Rattle.merc_bodies.specs.Renamed.{renamed, renamed_goal};
-ghost use Rattle.merc_bodies.specs.Rebuilding.{new_number, renamed_root};
+ghost use Rattle.merc_bodies.specs.Rebuilding.{renamed_root};
 
 use crate::numbering::Numbering;
 use merc_base::{NoMemory, Sequence, Span};
@@ -17,7 +17,7 @@ pub(crate) fn push_renamed(
     form: &NodeRef<'_>,
     nodes: &mut Nodes,
 ) -> Result<(), NoMemory>
-    requires { IsStrictlyIncreasing numbering.now.own.items }
+    requires { IsInHand numbering.now }
     ensures { OnOk result (nodes.new ≡ nodes.old ++ renamed (new_number numbering.now) form.now ∷ []) }
 {
     for index in 0..form.part_count() {
@@ -37,7 +37,7 @@ fn push_part(
     span: Span,
     nodes: &mut Nodes,
 ) -> Result<(), NoMemory>
-    requires rising { IsStrictlyIncreasing numbering.now.own.items }
+    requires in_hand { IsInHand numbering.now }
     requires there { arity_of root.now ≤ length nodes.old }
     ensures { OnOk result (nodes.new ≡ joined (renamed_root (new_number numbering.now) root.now) span nodes.old) }
 {
@@ -60,28 +60,28 @@ fn new_goal(
     numbering: &Numbering,
     goal: &SimpleGoal,
 ) -> Result<SimpleGoal, NoMemory>
-    requires { IsStrictlyIncreasing numbering.now.own.items }
+    requires { IsInHand numbering.now }
     ensures { IfOk result (λ new. new ≡ renamed_goal (new_number numbering.now) goal.now) }
 {
     Ok(match goal {
         SimpleGoal::True => SimpleGoal::True,
         SimpleGoal::Fail => SimpleGoal::Fail,
-        SimpleGoal::Same(one, other) => SimpleGoal::Same(numbering.of(*one)?, numbering.of(*other)?),
+        SimpleGoal::Same(one, other) => SimpleGoal::Same(numbering.of(*one), numbering.of(*other)),
         SimpleGoal::Shape(variable, symbol, arguments) => SimpleGoal::Shape(
-            numbering.of(*variable)?,
+            numbering.of(*variable),
             *symbol,
             new_variables(alloc, numbering, arguments.as_slice())?,
         ),
         SimpleGoal::Arithmetic(operation, result, left, right) => SimpleGoal::Arithmetic(
             *operation,
-            numbering.of(*result)?,
-            numbering.of(*left)?,
-            numbering.of(*right)?,
+            numbering.of(*result),
+            numbering.of(*left),
+            numbering.of(*right),
         ),
         SimpleGoal::Compare(comparison, left, right) => {
-            SimpleGoal::Compare(*comparison, numbering.of(*left)?, numbering.of(*right)?)
+            SimpleGoal::Compare(*comparison, numbering.of(*left), numbering.of(*right))
         }
-        SimpleGoal::Raise(text) => SimpleGoal::Raise(numbering.of(*text)?),
+        SimpleGoal::Raise(text) => SimpleGoal::Raise(numbering.of(*text)),
         SimpleGoal::Call(predicate, arguments) => SimpleGoal::Call(
             *predicate,
             new_variables(alloc, numbering, arguments.as_slice())?,
@@ -89,18 +89,18 @@ fn new_goal(
     })
 }
 
-// The new numbers of variables.
-fn new_variables(
+/// The new numbers of variables.
+pub(crate) fn new_variables(
     alloc: Global,
     numbering: &Numbering,
     variables: &[Var],
 ) -> Result<Vars, NoMemory>
-    requires { IsStrictlyIncreasing numbering.now.own.items }
+    requires { IsInHand numbering.now }
     ensures { IfOk result (λ new. new ≡ map (new_number numbering.now) variables.now) }
 {
     let mut new = Sequence::new(alloc);
     for variable in variables {
-        new.push(numbering.of(*variable)?)?;
+        new.push(numbering.of(*variable))?;
     }
     Ok(new)
 }

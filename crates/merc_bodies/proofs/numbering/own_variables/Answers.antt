@@ -1,7 +1,11 @@
+use Rattle.std.proofs.Common.{ap, sym, ◌∙◌}
+use Rattle.std.proofs.lemmas.List.Filters.{dedup_is}
+use Rattle.merc_bodies.specs.Bodies.{rising}
+use Rattle.merc_bodies.proofs.Rising.{sorted_once}
 use Rattle.merc_bodies.proofs.numbering.own_variables.Goals as goal
 
-pub returns-clause-variables : goal.returns-clause-variables
-returns-clause-variables c = let e = c.in_ok-sort.ensures in let f = c.dedup.ensures in ?
-
-pub returns-clause-rising : goal.returns-clause-rising
-returns-clause-rising c = ?
+pub returns : goal.returns
+returns c =
+    dedup_is _ _ _ c.dedup.ensures.filtered
+    ∙ sorted_once c.in_ok-own.own.items c.sort.new.self.items c.in_ok-sort.ensures.permutation c.in_ok-sort.ensures.sorted
+    ∙ ap rising c.in_ok-own.ensures

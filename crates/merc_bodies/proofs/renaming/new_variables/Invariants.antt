@@ -1,5 +1,5 @@
 use Rattle.std.proofs.Common.{◌≡◌, ◌++◌, drop, map}
-use Rattle.merc_bodies.specs.Rebuilding.{new_number}
+use Rattle.merc_bodies.specs.Numbering.{new_number}
 use Rattle.merc_bodies.proofs.renaming.new_variables.Given as goal
 
 abbrev pub invariant-loop-variable : goal.invariant-loop-variable

@@ -1,7 +1,8 @@
 use Rattle.std.proofs.Common.{◌≡◌, ◌∷◌, [], ◌++◌, drop, length}
 use Rattle.merc_goal_tree.specs.Parts.{parts_of}
 use Rattle.merc_bodies.specs.Renamed.{renamed}
-use Rattle.merc_bodies.specs.Rebuilding.{new_number, rebuilt, AreFound}
+use Rattle.merc_bodies.specs.Rebuilding.{rebuilt, AreFound}
+use Rattle.merc_bodies.specs.Numbering.{new_number}
 use Rattle.merc_bodies.proofs.renaming.push_renamed.Given as goal
 
 abbrev pub invariant-loop-index : goal.invariant-loop-index
