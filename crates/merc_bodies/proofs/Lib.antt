@@ -1,4 +1,6 @@
 pub mod InHand
+pub mod OneGoal
+pub mod Pairs
 pub mod Parts
 pub mod PartVariables
 pub mod Places

@@ -1,8 +1,9 @@
 -- The variables of a goal are those of its parts.
-use Rattle.std.proofs.Common.{◌≡◌, ℕ, Bool, true, false, cond, List, [], ◌∷◌, ◌++◌, refl, ap, sym, ◌∙◌}
+use Rattle.std.proofs.Common.{◌≡◌, ℕ, List, [], ◌∷◌, ◌++◌, refl, ap, sym, ◌∙◌}
 use Rattle.std.specs.Prelude.{nat_le}
 use Rattle.std.specs.List.{flat_map}
 use Rattle.std.proofs.lemmas.List.{append-nil, append_assoc}
+use Rattle.std.proofs.lemmas.List.Elements.{filter-append}
 use Rattle.merc_base.specs.declared.place.Span.{Span}
 use Rattle.merc_goal_tree.specs.declared.entries.Root.{Root}
 use Rattle.merc_goal_tree.specs.Nodes.{Node, Nodes, Simple, Conjunction, Parallel, Disjunction, Conditional, Negation, Quantified, no_nodes, more_nodes}
@@ -26,12 +27,12 @@ mutual
   variables_are (Disjunction goals span) = joined (all_parts goals) (all_variables goals) _ refl (all_variables_are goals)
   variables_are (Conditional condition then_part else_part span) =
       joined (parts_of condition ++ parts_of then_part ++ parts_of else_part) _ _ refl
-        (parts_both (parts_of condition ++ parts_of then_part) (parts_of else_part)
-        ∙ ap (λ l. l ++ flat_map part_variables (parts_of else_part)) (parts_both (parts_of condition) (parts_of then_part))
-        ∙ ap (λ l. (flat_map part_variables (parts_of condition) ++ flat_map part_variables (parts_of then_part)) ++ l) (variables_are else_part)
-        ∙ ap (λ l. (flat_map part_variables (parts_of condition) ++ l) ++ variables else_part) (variables_are then_part)
-        ∙ ap (λ l. (l ++ variables then_part) ++ variables else_part) (variables_are condition)
-        ∙ append_assoc (variables condition) (variables then_part) (variables else_part))
+      (parts_both (parts_of condition ++ parts_of then_part) (parts_of else_part)
+      ∙ ap (λ l. l ++ flat_map part_variables (parts_of else_part)) (parts_both (parts_of condition) (parts_of then_part))
+      ∙ ap (λ l. (flat_map part_variables (parts_of condition) ++ flat_map part_variables (parts_of then_part)) ++ l) (variables_are else_part)
+      ∙ ap (λ l. (flat_map part_variables (parts_of condition) ++ l) ++ variables else_part) (variables_are then_part)
+      ∙ ap (λ l. (l ++ variables then_part) ++ variables else_part) (variables_are condition)
+      ∙ append_assoc (variables condition) (variables then_part) (variables else_part))
   variables_are (Negation goal span) = joined (parts_of goal) (variables goal) _ refl (variables_are goal)
   variables_are (Quantified own goal span) = joined (parts_of goal) (variables goal) _ refl (variables_are goal)
 
@@ -42,20 +43,12 @@ mutual
       ∙ ap (λ l. l ++ flat_map part_variables (all_parts rest)) (variables_are first)
       ∙ ap (λ l. variables first ++ l) (all_variables_are rest)
 
-filter-append : (arity : ℕ) (one other : List ℕ) → own_in arity (one ++ other) ≡ own_in arity one ++ own_in arity other
-filter-append arity [] other = refl
-filter-append arity (first ∷ rest) other = kept (nat_le arity first) first _ _ _ (filter-append arity rest other)
-  where
-    kept : (keeps : Bool) (first : ℕ) (whole one other : List ℕ) → whole ≡ one ++ other → cond keeps (first ∷ whole) whole ≡ cond keeps (first ∷ one) one ++ other
-    kept true first whole one other is = ap (λ l. first ∷ l) is
-    kept false first whole one other is = is
-
 -- the next part's variables put behind those that are found
 pub one_more : (arity : ℕ) (part : Root × Span) (left parts : List (Root × Span)) (before now whole : List ℕ) → left ≡ part ∷ parts
     → now ≡ before ++ own_in arity (part_variables part) → before ++ own_in arity (flat_map part_variables left) ≡ whole → now ++ own_in arity (flat_map part_variables parts) ≡ whole
 one_more arity part left parts before now whole next put is =
     ap (λ l. l ++ own_in arity (flat_map part_variables parts)) put
     ∙ append_assoc before (own_in arity (part_variables part)) (own_in arity (flat_map part_variables parts))
-    ∙ ap (λ l. before ++ l) (sym (filter-append arity (part_variables part) (flat_map part_variables parts)))
+    ∙ ap (λ l. before ++ l) (sym (filter-append (λ variable. nat_le arity variable) (part_variables part) (flat_map part_variables parts)))
     ∙ ap (λ l. before ++ own_in arity (flat_map part_variables l)) (sym next)
     ∙ is

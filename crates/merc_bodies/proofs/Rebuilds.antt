@@ -1,12 +1,12 @@
 -- A goal's parts with new variables, put one behind the other, are the goal with these variables.
-use Rattle.std.proofs.Common.{◌≡◌, ℕ, suc, ◌+◌, ◌-◌, ◌≤◌, List, [], ◌∷◌, ◌++◌, length, take, map, refl, ap, sym, ◌∙◌, subst, arith}
+use Rattle.std.proofs.Common.{◌≡◌, ℕ, suc, ◌+◌, ◌-◌, ◌≤◌, List, [], ◌∷◌, ◌++◌, length, take, refl, ap, sym, ◌∙◌, subst, arith}
 use Rattle.std.proofs.lemmas.List.{append-nil, append_assoc, length-append, length-take}
 use Rattle.std.proofs.Math.Nat.{min-eq_left}
 use Rattle.merc_base.specs.declared.place.Span.{Span}
 use Rattle.merc_goal_tree.specs.declared.entries.Root.{Root}
-use Rattle.merc_goal_tree.specs.Nodes.{Node, Nodes, Simple, Conjunction, Parallel, Disjunction, Conditional, Negation, Quantified, no_nodes, more_nodes, list_of, nodes_of, span_of}
+use Rattle.merc_goal_tree.specs.Nodes.{Node, Nodes, Simple, Conjunction, Parallel, Disjunction, Conditional, Negation, Quantified, no_nodes, more_nodes, list_of, span_of}
 use Rattle.merc_goal_tree.specs.Parts.{parts_of, all_parts}
-use Rattle.merc_goal_tree.specs.Roots.{arity_of, goals_of, joined, joining, root_of}
+use Rattle.merc_goal_tree.specs.Roots.{arity_of, goals_of, joined, root_of}
 use Rattle.merc_goal_tree.specs.RootLaws.{rejoined}
 use Rattle.merc_bodies.specs.Renamed.{renamed, all_renamed}
 use Rattle.merc_bodies.specs.Rebuilding.{renamed_root, rebuilt, AreFound}
@@ -56,13 +56,13 @@ module _ (new : ℕ → ℕ) where
     rebuilds (Disjunction all span) goals = at_root (Disjunction all span) (all_parts all) goals (all_rebuild all goals)
     rebuilds (Conditional condition then_part else_part span) goals =
         at_root (Conditional condition then_part else_part span) (parts_of condition ++ parts_of then_part ++ parts_of else_part) goals
-          (rebuilt_both (parts_of condition ++ parts_of then_part) (parts_of else_part) goals
-          ∙ ap (rebuilt new (parts_of else_part)) (rebuilt_both (parts_of condition) (parts_of then_part) goals)
-          ∙ ap (λ l. rebuilt new (parts_of else_part) (rebuilt new (parts_of then_part) l)) (rebuilds condition goals)
-          ∙ ap (rebuilt new (parts_of else_part)) (rebuilds then_part (goals ++ renamed new condition ∷ []))
-          ∙ rebuilds else_part ((goals ++ renamed new condition ∷ []) ++ renamed new then_part ∷ [])
-          ∙ append_assoc (goals ++ renamed new condition ∷ []) (renamed new then_part ∷ []) (renamed new else_part ∷ [])
-          ∙ append_assoc goals (renamed new condition ∷ []) (renamed new then_part ∷ renamed new else_part ∷ []))
+        (rebuilt_both (parts_of condition ++ parts_of then_part) (parts_of else_part) goals
+        ∙ ap (rebuilt new (parts_of else_part)) (rebuilt_both (parts_of condition) (parts_of then_part) goals)
+        ∙ ap (λ l. rebuilt new (parts_of else_part) (rebuilt new (parts_of then_part) l)) (rebuilds condition goals)
+        ∙ ap (rebuilt new (parts_of else_part)) (rebuilds then_part (goals ++ renamed new condition ∷ []))
+        ∙ rebuilds else_part ((goals ++ renamed new condition ∷ []) ++ renamed new then_part ∷ [])
+        ∙ append_assoc (goals ++ renamed new condition ∷ []) (renamed new then_part ∷ []) (renamed new else_part ∷ [])
+        ∙ append_assoc goals (renamed new condition ∷ []) (renamed new then_part ∷ renamed new else_part ∷ []))
     rebuilds (Negation goal span) goals = at_root (Negation goal span) (parts_of goal) goals (rebuilds goal goals)
     rebuilds (Quantified own goal span) goals = at_root (Quantified own goal span) (parts_of goal) goals (rebuilds goal goals)
 
@@ -90,8 +90,8 @@ mutual
       subst (λ l. AreFound l count) (sym (append_assoc (all_parts all) _ rest)) (all_found all _ count (omega arith, found_at (length (list_of all)) count rest found))
   are_found (Conditional condition then_part else_part span) rest count found =
       subst (λ l. AreFound l count)
-        (sym (append_assoc (parts_of condition ++ parts_of then_part ++ parts_of else_part) _ rest ∙ append_assoc (parts_of condition ++ parts_of then_part) (parts_of else_part) _ ∙ append_assoc (parts_of condition) (parts_of then_part) _))
-        (are_found condition _ count (are_found then_part _ (count + 1) (are_found else_part _ (count + 1 + 1) (omega arith, subst (λ n. AreFound rest (n + 1)) (omega arith) found))))
+      (sym (append_assoc (parts_of condition ++ parts_of then_part ++ parts_of else_part) _ rest ∙ append_assoc (parts_of condition ++ parts_of then_part) (parts_of else_part) _ ∙ append_assoc (parts_of condition) (parts_of then_part) _))
+      (are_found condition _ count (are_found then_part _ (count + 1) (are_found else_part _ (count + 1 + 1) (omega arith, subst (λ n. AreFound rest (n + 1)) (omega arith) found))))
   are_found (Negation goal span) rest count found =
       subst (λ l. AreFound l count) (sym (append_assoc (parts_of goal) _ rest)) (are_found goal _ count (omega arith, found_at 1 count rest found))
   are_found (Quantified own goal span) rest count found =
@@ -101,7 +101,7 @@ mutual
   all_found no_nodes rest count found = subst (λ n. AreFound rest n) (omega arith) found
   all_found (more_nodes first others) rest count found =
       subst (λ l. AreFound l count) (sym (append_assoc (parts_of first) (all_parts others) rest))
-        (are_found first (all_parts others ++ rest) count (all_found others rest (count + 1) (subst (λ n. AreFound rest n) (omega arith) found)))
+      (are_found first (all_parts others ++ rest) count (all_found others rest (count + 1) (subst (λ n. AreFound rest n) (omega arith) found)))
 
 -- one part after the other
 
@@ -127,8 +127,8 @@ module _ (new : ℕ → ℕ) where
       → now ≡ joined (renamed_root new part.0) part.1 goals → AreFound left (length goals) → AreFound rest (length now)
   rest_found left part rest goals now is put found =
       subst (AreFound rest)
-        (sym (ap length put ∙ joined_length (renamed_root new part.0) part.1 goals ∙ ap (λ n. length goals - n + 1) (arity_same part.0)))
-        (subst (λ l. AreFound l (length goals)) is found).1
+      (sym (ap length put ∙ joined_length (renamed_root new part.0) part.1 goals ∙ ap (λ n. length goals - n + 1) (arity_same part.0)))
+      (subst (λ l. AreFound l (length goals)) is found).1
 
   pub rest_rebuilt : (left : List (Root × Span)) (part : Root × Span) (rest : List (Root × Span)) (goals now whole : List Node) → left ≡ part ∷ rest
       → now ≡ joined (renamed_root new part.0) part.1 goals → rebuilt new left goals ≡ whole → rebuilt new rest now ≡ whole

@@ -1,5 +1,5 @@
 -- Rising lists: two with the same numbers are the same.
-use Rattle.std.proofs.Common.{◌≡◌, ℕ, ◌<◌, ◌||◌, Bool, true, false, cond, List, [], ◌∷◌, refl, ap, sym, ◌∙◌, subst, arith, inl, inr, ⊎_elim}
+use Rattle.std.proofs.Common.{◌≡◌, ℕ, ◌<◌, ◌||◌, Bool, true, false, cond, List, [], ◌∷◌, refl, ap, sym, ◌∙◌, subst, arith, ⊎_elim}
 use Rattle.std.specs.Prelude.{◌==◌, nat_lt, if◌then◌else◌}
 use Rattle.std.specs.List.{list_any, dedup, dedup_from, AllByRecursion}
 use Rattle.std.specs.List.Sorted.{IsStrictlySortedBy, IsStrictlyIncreasing, IsPermutation, IsSorted}
@@ -103,24 +103,24 @@ same_rising [] (first ∷ rest) rises also same = let is = same first in let the
 same_rising (first ∷ rest) [] rises also same = let is = same first in let there = first_has first rest in cc
 same_rising (first ∷ rest) (start ∷ others) rises also same =
     ⊎_elim
-      (λ (is : first ≡ start).
-        let tails : rest ≡ others =
-          same_rising rest others rises.1 also.1 (λ number. rest_has (number == first) (has number rest) (has number others)
-            (same number ∙ ap (λ n. (number == n) || has number others) (sym is))
-            (λ here. subst (λ n. has n rest ≡ false) (sym (eqb-true number first here)) (below-has first rest rises.0))
-            (λ here. subst (λ n. has n others ≡ false) (sym (eqb-true number first here ∙ is)) (below-has start others also.0)))
-        in cc)
-      (λ apart. ⊎_elim
-        (λ (less : first < start).
-          let there = first_has first rest in
-          let none = below-has first (start ∷ others) (less, below-less first start others less also.0) in
-          let is = same first in absurd cc)
-        (λ (less : start < first).
-          let there = first_has start others in
-          let none = below-has start (first ∷ rest) (less, below-less start first rest less rises.0) in
-          let is = same start in absurd cc)
-        apart)
-      (cases_order first start)
+    (λ (is : first ≡ start).
+    let tails : rest ≡ others =
+    same_rising rest others rises.1 also.1 (λ number. rest_has (number == first) (has number rest) (has number others)
+    (same number ∙ ap (λ n. (number == n) || has number others) (sym is))
+    (λ here. subst (λ n. has n rest ≡ false) (sym (eqb-true number first here)) (below-has first rest rises.0))
+    (λ here. subst (λ n. has n others ≡ false) (sym (eqb-true number first here ∙ is)) (below-has start others also.0)))
+    in cc)
+    (λ apart. ⊎_elim
+    (λ (less : first < start).
+    let there = first_has first rest in
+    let none = below-has first (start ∷ others) (less, below-less first start others less also.0) in
+    let is = same first in absurd cc)
+    (λ (less : start < first).
+    let there = first_has start others in
+    let none = below-has start (first ∷ rest) (less, below-less start first rest less rises.0) in
+    let is = same start in absurd cc)
+    apart)
+    (cases_order first start)
 
 -- as the library says it
 
@@ -164,6 +164,6 @@ has-dedup number (first ∷ rest) = has-dedup_from number first rest
 pub sorted_once : (found sorted : List ℕ) → IsPermutation found sorted → IsSorted nat_cmp sorted → dedup eqb sorted ≡ rising found
 sorted_once found sorted moved rises =
     same_rising (dedup eqb sorted) (rising found)
-      (rises_sorted (dedup eqb sorted) (sorted_from_strictly_increasing (dedup eqb sorted) (IsStrictlyIncreasing-dedup sorted rises)))
-      (rises-rising found)
-      (λ number. has-dedup number sorted ∙ sym (list_any-IsPermutation (λ other. number == other) found sorted moved) ∙ sym (has-rising number found))
+    (rises_sorted (dedup eqb sorted) (sorted_from_strictly_increasing (dedup eqb sorted) (IsStrictlyIncreasing-dedup sorted rises)))
+    (rises-rising found)
+    (λ number. has-dedup number sorted ∙ sym (list_any-IsPermutation (λ other. number == other) found sorted moved) ∙ sym (has-rising number found))

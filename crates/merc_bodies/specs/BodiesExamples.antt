@@ -1,5 +1,5 @@
 -- The predicates p/1, with two clauses, and q/1, with none.
-use Rattle.std.specs.Prelude.{◌≡◌, ℕ, ◌+◌, ◌==◌, List, [], ◌∷◌, None, refl, if◌then◌else◌}
+use Rattle.std.specs.Prelude.{◌≡◌, ℕ, ◌+◌, ◌==◌, [], ◌∷◌, None, refl, if◌then◌else◌}
 use Rattle.merc_base.specs.declared.place.Span.{Span}
 use Rattle.merc_tree.specs.Term.{Term, Variable, Application, none, more, no_span}
 use Rattle.merc_tree.specs.Types.{IntType}

@@ -26,11 +26,7 @@ pub struct Asked {
 /// # Errors
 ///
 /// `NoMemory` where memory was refused.
-pub fn asked_body(
-    alloc: Global,
-    form: &NodeRef<'_>,
-    answers: &[Var],
-) -> Result<Asked, NoMemory>
+pub fn asked_body(alloc: Global, form: &NodeRef<'_>, answers: &[Var]) -> Result<Asked, NoMemory>
     ensures goal { IfOk result (λ asked. asked.goal ≡ asked_body form.now) }
     ensures answers { IfOk result (λ asked. asked.answers ≡ map (numbered 0 0 (own_variables 0 form.now)) answers.now) }
 {

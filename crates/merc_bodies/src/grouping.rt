@@ -43,7 +43,7 @@ fn add_clause<'a>(
     form: Option<NodeRef<'a>>,
     groups: &mut Groups<Formed<'a>>,
 ) -> Result<(), NoMemory>
-    ensures { OnOk result ((declared : PredDecl) → map formed_seen (kept groups.new declared.name (length declared.args)) ≡ map formed_seen (kept groups.old declared.name (length declared.args)) ++ headed declared (paired_with clause.now form)) }
+    ensures { OnOk result ((declared : PredDecl) → map formed_seen (kept groups.new declared.name (length declared.args)) ≡ map formed_seen (kept groups.old declared.name (length declared.args)) ++ headed declared (paired_with clause.now form.entry)) }
 {
     let Some(form) = form else {
         return Ok(());

@@ -55,11 +55,7 @@ fn push_part(
 }
 
 // A goal that holds no others with new variables.
-fn new_goal(
-    alloc: Global,
-    numbering: &Numbering,
-    goal: &SimpleGoal,
-) -> Result<SimpleGoal, NoMemory>
+fn new_goal(alloc: Global, numbering: &Numbering, goal: &SimpleGoal) -> Result<SimpleGoal, NoMemory>
     requires { IsInHand numbering.now }
     ensures { IfOk result (λ new. new ≡ renamed_goal (new_number numbering.now) goal.now) }
 {

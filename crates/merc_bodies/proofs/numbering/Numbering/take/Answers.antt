@@ -1,4 +1,4 @@
-use Rattle.std.proofs.Common.{◌++◌, ap, refl, ◌∙◌}
+use Rattle.std.proofs.Common.{◌++◌, ap, refl, rules, ◌∙◌}
 use Rattle.merc_bodies.proofs.InHand.{in_hand}
 use Rattle.merc_bodies.proofs.numbering.Numbering.take.Goals as goal
 
