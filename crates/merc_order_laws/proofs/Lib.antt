@@ -1,0 +1,4 @@
+pub mod Facts
+pub mod Groups
+pub mod Fewer
+pub mod Ordering

@@ -1,0 +1,5 @@
+pub mod Bindings
+pub mod OrderedVariables
+pub mod GoodOrdered
+pub mod GoodOrderedExamples
+pub mod Laws
