@@ -44,7 +44,7 @@ stuck_not f o h = absurd cc
 one_stuck_not : {A : Type 0} (f : Refusal) (o : Ordereds) → OneStuck f ≡ AllReady o → A
 one_stuck_not f o h = absurd cc
 
-if_ready_is : (x : Outcome) (f : Ordered → Outcome) (o : Ordered) → if_ready x f ≡ Ready o → (g : Ordered) × (x ≡ Ready g) × (f g ≡ Ready o)
+pub if_ready_is : (x : Outcome) (f : Ordered → Outcome) (o : Ordered) → if_ready x f ≡ Ready o → (g : Ordered) × (x ≡ Ready g) × (f g ≡ Ready o)
 if_ready_is (Ready g) f o h = (g, refl, h)
 if_ready_is (Stuck x) f o h = stuck_not x o h
 
@@ -69,7 +69,7 @@ none_found : (x : Outcome) (os : Ordereds) → fault_in x ≡ AllReady os → is
 none_found (Ready g) os h = refl
 none_found (Stuck x) os h = one_stuck_not x os h
 
-if_is : (b : Bool) (g o : Ordered) (f : Refusal) → (if b then Ready g else Stuck f) ≡ Ready o → (b ≡ true) × (g ≡ o)
+pub if_is : (b : Bool) (g o : Ordered) (f : Refusal) → (if b then Ready g else Stuck f) ≡ Ready o → (b ≡ true) × (g ≡ o)
 if_is true g o f h = (refl, ready_is g o h)
 if_is false g o f h = stuck_not f o h
 
@@ -110,7 +110,7 @@ module _ (total : ℕ → ℕ) (modes : ℕ → List ModeDecl) where
     pub behind : (out b : Variables) → Outer total out inside → (v : ℕ) → out v ≡ true → bound v ≡ b v → bound_behind b os v ≡ (bound v || binding v)
 
   -- behind one goal
-  behind_one : (bound : Variables) (inside : List ℕ) (binding : Variables) (reach : Bool) (o : Ordered) → Fits bound inside binding reach o → (out b : Variables) → Outer total out inside
+  pub behind_one : (bound : Variables) (inside : List ℕ) (binding : Variables) (reach : Bool) (o : Ordered) → Fits bound inside binding reach o → (out b : Variables) → Outer total out inside
       → (v : ℕ) → out v ≡ true → bound v ≡ b v → (b v || among (ordered_outputs o) v) ≡ (bound v || binding v)
   behind_one bound inside binding reach o f out b u v i e = ap (λ (k : Bool). b v || k) (f.outs v) ∙ behind_node total modes bound out b inside binding u f.within v i e
 
@@ -344,7 +344,7 @@ module _ (total : ℕ → ℕ) (modes : ℕ → List ModeDecl) where
   }
 
   -- of a goal that binds nothing outside it
-  list_all_in : (p : ℕ → Bool) (xs : List ℕ) (v : ℕ) → list_all p xs ≡ true → among xs v ≡ true → p v ≡ true
+  pub list_all_in : (p : ℕ → Bool) (xs : List ℕ) (v : ℕ) → list_all p xs ≡ true → among xs v ≡ true → p v ≡ true
   list_all_in p [] v h k = clash k refl
   list_all_in p (x ∷ xs) v h k = elim (or_cases (v == x) (among xs v) k) as (λ _. p v ≡ true) [
     | inl j ↦ subst (λ (z : ℕ). p z ≡ true) (sym ((Decides-eqb v x).0 j)) (and_left (p x) (list_all p xs) h)
