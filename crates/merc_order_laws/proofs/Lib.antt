@@ -1,0 +1,9 @@
+pub mod Facts
+pub mod Groups
+pub mod Fewer
+pub mod Ordering
+pub mod Replacing
+pub mod Grouping
+pub mod SpeltVariables
+pub mod SpeltGood
+pub mod Bodies

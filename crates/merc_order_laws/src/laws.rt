@@ -1,0 +1,53 @@
+//! What the parts of ordered goals keep to.
+ghost use Rattle.merc_order_laws.specs.Laws.{
+  OrderedIsGood,
+  ProcedureBindsHeads,
+  ProcedureIsGood,
+  QueryBindsAnswers,
+  QueryIsGood,
+  SpeltEnds,
+  SpeltIsGood,
+  SpeltOutputs,
+  SpeltVariables,
+};
+
+/// The ordered form of a goal is good: inputs are bound where each goal stands, what it writes is free there, its outputs
+/// are what it leaves bound of all that occurs outside it, negations and conditions bind nothing outside, and arms bind
+/// the same.
+///
+/// That each call has as many arguments as each mode of its predicate has places comes from the types of the goal. What
+/// occurs outside is what is counted: in a body, its head variables or answer variables, where `total` counts each of
+/// these once more.
+pub fn ordered_is_good()
+    ensures { OrderedIsGood }
+{}
+
+/// A good goal is good with its fresh variables and tests written out. It has the same outputs, its end can be reached
+/// where it could before, and of the variables in front of the fresh ones the same occur in it.
+///
+/// The fresh variables are behind all others where they begin at the first fresh variable of a body.
+pub fn spelt_is_good()
+    ensures good { SpeltIsGood }
+    ensures outputs { SpeltOutputs }
+    ensures ends { SpeltEnds }
+    ensures variables { SpeltVariables }
+{}
+
+/// A predicate's body in a mode is good where its head variables occur outside it and the mode's inputs are bound, and
+/// each head variable is bound at its end, or the end cannot be reached.
+///
+/// That each call has as many arguments as each mode of its predicate has places comes from the types of the body, that
+/// the mode has as many as the predicate from their declarations.
+pub fn procedure_is_good()
+    ensures good { ProcedureIsGood }
+    ensures binds_heads { ProcedureBindsHeads }
+{}
+
+/// A goal that is asked is good where its answer variables occur outside it and nothing is bound, and each answer variable
+/// is bound at its end, or the end cannot be reached.
+///
+/// That each call has as many arguments as each mode of its predicate has places comes from the types of the goal.
+pub fn query_is_good()
+    ensures good { QueryIsGood }
+    ensures binds_answers { QueryBindsAnswers }
+{}

@@ -1,0 +1,4 @@
+//! Laws of ordered goals: what their parts keep to.
+#![tactic(auto)]
+
+pub mod laws;
