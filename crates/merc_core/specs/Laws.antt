@@ -15,3 +15,8 @@ LeadsTo root workers events w = run events (Ok (start root workers)) ≡ Ok w
 abbrev pub end_at : ℕ → ℕ → Children → Option Outcome
 end_at from child NoChild = None
 end_at from child (Child first more) = if nat_eq child from then Some (end_of first) else end_at (suc from) child more
+
+-- it is the end of that child of a join
+abbrev pub EndIn : ℕ → Outcome → Option Join → Type 0
+EndIn child o None = ⊥
+EndIn child o (Some join) = end_at 1 child join.children ≡ Some o
