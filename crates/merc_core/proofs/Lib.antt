@@ -3,4 +3,5 @@ pub mod Steps
 pub mod Measure
 pub mod Truth
 pub mod TruthSteps
+pub mod Losses
 mod CoreExamples

@@ -10,13 +10,51 @@ use Rattle.merc_core.specs.declared.event.Event.{Event}
 use Rattle.merc_core.specs.declared.event.NotNow.{NotNow}
 use Rattle.merc_core.specs.World.{Branch, Location, Listed, Runs, Holds, AtCell, AtJoin, Spot, spot, Join, World, start, outcomes_of}
 use Rattle.merc_core.specs.Events.{
-  parked, parked_at, awaits, awaits_at, past_tick, past_signal, past_wait, ended, go_behind, spawned, listed_backwards, placed, parent_behind, woken, wake, unchanged, poison, hold, hold_one, hold_if,
-  forked, signalled, finished, stored_with, Answer, happens, run
+  parked,
+  parked_at,
+  awaits,
+  awaits_at,
+  past_tick,
+  past_signal,
+  past_wait,
+  ended,
+  go_behind,
+  spawned,
+  listed_backwards,
+  placed,
+  parent_behind,
+  woken,
+  wake,
+  unchanged,
+  poison,
+  hold,
+  hold_one,
+  hold_if,
+  forked,
+  signalled,
+  finished,
+  stored_with,
+  Answer,
+  happens,
+  run,
 }
 use Rattle.merc_core.specs.Laws.{LeadsTo}
 use Rattle.merc_core.proofs.Pool.{Takes, here, there, each_way}
 use Rattle.merc_core.proofs.Steps.{
-  with_rest, put_back, Step, ticked, forks, signals, passes, starves, parks, finishes, takes_up, resumes, step_of, run-refused
+  with_rest,
+  put_back,
+  Step,
+  ticked,
+  forks,
+  signals,
+  passes,
+  starves,
+  parks,
+  finishes,
+  takes_up,
+  resumes,
+  step_of,
+  run-refused,
 }
 
 -- sums over spots

@@ -43,16 +43,16 @@ pub first-found : {A : Type 0} (test : A → Bool) (from place : ℕ) (xs : List
 first-found test from place [] is = absurd (cc)
 first-found test from place (x ∷ xs) is =
     elim (chosen (test x) (Some from) (first_from (from + 1) test xs) (Some place) is) [
-      inl p ↦ found_here xs x p.0 p.1
-    | inr p ↦ found_later x (first-found test (from + 1) place xs p.1)
+      | inl p ↦ found_here xs x p.0 p.1
+      | inr p ↦ found_later x (first-found test (from + 1) place xs p.1)
     ]
 
 pub last-found : {A : Type 0} (test : A → Bool) (from place : ℕ) (found : Option ℕ) (xs : List A) → last_from from found test xs ≡ Some place → (found ≡ Some place) ⊎ Found test xs from place
 last-found test from place found [] is = inl is
 last-found test from place found (x ∷ xs) is =
     elim (last-found test (from + 1) place (if test x then Some from else found) xs is) [
-      inl e ↦ elim (chosen (test x) (Some from) found (Some place) e) [ inl p ↦ inr (found_here xs x p.0 p.1) | inr p ↦ inl p.1 ]
-    | inr later ↦ inr (found_later x later)
+      | inl e ↦ elim (chosen (test x) (Some from) found (Some place) e) [ inl p ↦ inr (found_here xs x p.0 p.1) | inr p ↦ inl p.1 ]
+      | inr later ↦ inr (found_later x later)
     ]
 
 -- what is taken, and the test that it passes

@@ -14,8 +14,41 @@ use Rattle.merc_core.specs.declared.event.NotNow.TheVariants.{NoWorker, SameWork
 use Rattle.merc_core.specs.Rights.{has, has_in}
 use Rattle.merc_core.specs.World.{Branch, Location, Listed, Runs, Holds, AtCell, AtJoin, Spot, spot, Join, World, outcomes_of}
 use Rattle.merc_core.specs.Events.{
-  Answer, acts, acts_at, listed, listed_at, in_hand, back_of, front_of, past_tick, past_signal, past_wait, ended, go_behind, run_on, tick_on, forked, fork_on, signalled, signal_on,
-  wait_at, wait_on, finished, end_on, lose_on, resume_on, if_worker, if_runs, if_found, running, if_free, take_up, if_holds, if_held, happens, run
+  Answer,
+  acts,
+  acts_at,
+  listed,
+  listed_at,
+  in_hand,
+  back_of,
+  front_of,
+  past_tick,
+  past_signal,
+  past_wait,
+  ended,
+  go_behind,
+  run_on,
+  tick_on,
+  forked,
+  fork_on,
+  signalled,
+  signal_on,
+  wait_at,
+  wait_on,
+  finished,
+  end_on,
+  lose_on,
+  resume_on,
+  if_worker,
+  if_runs,
+  if_found,
+  running,
+  if_free,
+  take_up,
+  if_holds,
+  if_held,
+  happens,
+  run,
 }
 use Rattle.merc_core.proofs.Pool.{Takes, Took, took_first, took_last, chosen, each_way}
 
@@ -91,8 +124,8 @@ began_at w v go w' worker (AtJoin join) b others takes acting went = absurd (cc)
 began : (w : World) (v : ℕ) (go : Branch → List Spot → Answer) (w' : World) → running w v go ≡ Ok w' → Began w v go w'
 began w v go w' is =
     elim (chosen (nat_lt v w.workers) (if_found (in_hand v w.pool) go) (Err NoWorker) (Ok w') is) [
-      inl p ↦ found_one (in_hand v w.pool) refl p.0 p.1
-    | inr p ↦ absurd (cc)
+      | inl p ↦ found_one (in_hand v w.pool) refl p.0 p.1
+      | inr p ↦ absurd (cc)
     ]
   where
     found_one : (q : Option (Spot × List Spot)) → in_hand v w.pool ≡ q → nat_lt v w.workers ≡ true → if_found q go ≡ Ok w' → Began w v go w'
@@ -149,8 +182,8 @@ is_free (Some p) answer w' is = absurd (cc)
 pops_to : (w : World) (v : ℕ) (w' : World) → happens w (Pop v) ≡ Ok w' → Step w (Pop v) w'
 pops_to w v w' is =
     elim (chosen (nat_lt v w.workers) (if_free (in_hand v w.pool) (take_up w v (back_of v w.pool))) (Err NoWorker) (Ok w') is) [
-      inl p ↦ takes_up_to w (Pop v) v v w' p.0 (pops v) (back_of v w.pool) (λ q e. took_last (listed v) w.pool q e) (is_free (in_hand v w.pool) _ w' p.1)
-    | inr p ↦ absurd (cc)
+      | inl p ↦ takes_up_to w (Pop v) v v w' p.0 (pops v) (back_of v w.pool) (λ q e. took_last (listed v) w.pool q e) (is_free (in_hand v w.pool) _ w' p.1)
+      | inr p ↦ absurd (cc)
     ]
 
 module _ (w : World) (v u : ℕ) where
@@ -163,14 +196,14 @@ module _ (w : World) (v u : ℕ) where
 steals_to : (w : World) (v u : ℕ) (w' : World) → happens w (Steal v u) ≡ Ok w' → Step w (Steal v u) w'
 steals_to w v u w' is =
     elim (chosen (nat_lt v w.workers) (if_worker w u (stolen_if_free w v u)) (Err NoWorker) (Ok w') is) [
-      inl p ↦ elim (chosen (nat_lt u w.workers) (stolen_if_free w v u) (Err NoWorker) (Ok w') p.1) [
-          inl q ↦ elim (chosen (nat_eq v u) (Err SameWorker) (take_up w v (front_of u w.pool)) (Ok w') (is_free (in_hand v w.pool) (stolen w v u) w' q.1)) [
-              inl r ↦ absurd (cc)
-            | inr r ↦ takes_up_to w (Steal v u) v u w' p.0 (steals v u) (front_of u w.pool) (λ t e. took_first (listed u) w.pool t e) r.1
-            ]
-        | inr q ↦ absurd (cc)
+      | inl p ↦ elim (chosen (nat_lt u w.workers) (stolen_if_free w v u) (Err NoWorker) (Ok w') p.1) [
+        | inl q ↦ elim (chosen (nat_eq v u) (Err SameWorker) (take_up w v (front_of u w.pool)) (Ok w') (is_free (in_hand v w.pool) (stolen w v u) w' q.1)) [
+          | inl r ↦ absurd (cc)
+          | inr r ↦ takes_up_to w (Steal v u) v u w' p.0 (steals v u) (front_of u w.pool) (λ t e. took_first (listed u) w.pool t e) r.1
         ]
-    | inr p ↦ absurd (cc)
+        | inr q ↦ absurd (cc)
+      ]
+      | inr p ↦ absurd (cc)
     ]
 
 resume_cases : (w : World) (v u : ℕ) (w' : World) → nat_lt v w.workers ≡ true → u ≡ v → (number : ℕ) (b : Branch) (others : List Spot) → Takes w.pool (spot (Holds u number) b) others
@@ -194,8 +227,8 @@ resumes_at w v w' worker (AtJoin join) b others takes acting is = absurd (cc)
 resumes_to : (w : World) (v : ℕ) (w' : World) → happens w (Resume v) ≡ Ok w' → Step w (Resume v) w'
 resumes_to w v w' is =
     elim (chosen (nat_lt v w.workers) (if_held w v (in_hand v w.pool)) (Err NoWorker) (Ok w') is) [
-      inl p ↦ found_one (in_hand v w.pool) refl p.0 p.1
-    | inr p ↦ absurd (cc)
+      | inl p ↦ found_one (in_hand v w.pool) refl p.0 p.1
+      | inr p ↦ absurd (cc)
     ]
   where
     found_one : (q : Option (Spot × List Spot)) → in_hand v w.pool ≡ q → nat_lt v w.workers ≡ true → if_held w v q ≡ Ok w' → Step w (Resume v) w'

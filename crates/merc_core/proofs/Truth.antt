@@ -11,15 +11,7 @@ use Rattle.merc_script.specs.Joining.{joined, walk, lacks_memory, later}
 use Rattle.merc_core.specs.Rights.{signals_at, waits_at}
 use Rattle.merc_core.specs.World.{Branch, Location, Listed, Runs, Holds, AtCell, AtJoin, Spot, spot, Join, Stored, World, outermost, start, stored_at, with_first, gathered, outcome}
 use Rattle.merc_core.specs.WellFormed.{Formed, FormedAll, Follows, gain}
-use Rattle.merc_core.specs.Laws.{end_at, EndIn}
-
--- an end that a branch can have because of what another one lacks
-abbrev pub IsCutEnd : Outcome → Type 0
-IsCutEnd (Fine n) = ⊥
-IsCutEnd (Raise e n) = ⊥
-IsCutEnd Limit = ⊥
-IsCutEnd Starved = Unit {0}
-IsCutEnd NoMemory = Unit {0}
+use Rattle.merc_core.specs.Laws.{end_at, EndIn, IsCutEnd}
 
 -- outcomes of a join's children from this child on, each of which is its script's end or excused
 abbrev pub Near : (ℕ → ℕ → Outcome → Type 0) → ℕ → ℕ → List Outcome → Children → Type 0
@@ -86,5 +78,5 @@ module _ {V : Type 0} (value : ℕ → Option V) (Excused : ℕ → ℕ → Outc
     full_known = tt;
     poison_known = tt;
     ends_stored = tt;
-    outermost_is = refl
+    outermost_is = refl;
   }

@@ -12,16 +12,52 @@ use Rattle.merc_core.specs.declared.event.Event.{Event}
 use Rattle.merc_core.specs.declared.event.Event.TheVariants.{Tick, Fork, Pop, Steal, Signal, Wait, End, Resume, Lost}
 use Rattle.merc_core.specs.World.{Branch, Location, Listed, Runs, Holds, AtCell, AtJoin, Spot, spot, Join, Parent, Stored, World, outermost, start, stored_at, with_first, gathered, outcomes_of}
 use Rattle.merc_core.specs.Events.{
-  parked, parked_at, awaits, awaits_at, past_tick, past_signal, past_wait, ended, go_behind, spawned, listed_backwards, placed, parent_behind, woken, wake, unchanged, poison, hold, hold_one, hold_if,
-  forked, signalled, finished, stored_with
+  parked,
+  parked_at,
+  awaits,
+  awaits_at,
+  past_tick,
+  past_signal,
+  past_wait,
+  ended,
+  go_behind,
+  spawned,
+  listed_backwards,
+  placed,
+  parent_behind,
+  woken,
+  wake,
+  unchanged,
+  poison,
+  hold,
+  hold_one,
+  hold_if,
+  forked,
+  signalled,
+  finished,
+  stored_with,
 }
 use Rattle.merc_core.specs.WellFormed.{Formed, FormedAll, Follows, gain}
-use Rattle.merc_core.specs.Laws.{end_at, EndIn}
+use Rattle.merc_core.specs.Laws.{end_at, EndIn, IsCutEnd}
 use Rattle.merc_core.proofs.Pool.{Takes, chosen, each_way, each-append, each-filter, each-mapped, each-changed, each-weaker, takes-one, takes-others}
 use Rattle.merc_core.proofs.Steps.{
-  with_rest, put_back, Step, ticked, forks, signals as signals_it, passes, starves, parks, finishes, takes_up, resumes, Finishes, ends as ends_it, loses
+  with_rest,
+  put_back,
+  Step,
+  ticked,
+  forks,
+  signals as signals_it,
+  passes,
+  starves,
+  parks,
+  finishes,
+  takes_up,
+  resumes,
+  Finishes,
+  ends as ends_it,
+  loses,
 }
-use Rattle.merc_core.proofs.Truth.{IsCutEnd, Near, Excuses, Honest, IsCut, BehindIn, StateAt, Good, StoredOk, MayPoison, Truth}
+use Rattle.merc_core.proofs.Truth.{Near, Excuses, Honest, IsCut, BehindIn, StateAt, Good, StoredOk, MayPoison, Truth}
 
 -- joins are only added to
 
@@ -50,8 +86,8 @@ pub end-above : (from child : ℕ) (all : Children) (o : Outcome) → end_at fro
 end-above from child NoChild o is = absurd (cc)
 end-above from child (Child first others) o is =
     elim (chosen (nat_eq child from) (Some (end_of first)) (end_at (suc from) child others) (Some o) is) [
-      inl p ↦ let e = test_same child from p.0 in omega arith
-    | inr p ↦ let k = end-above (suc from) child others o p.1 in omega arith
+      | inl p ↦ let e = test_same child from p.0 in omega arith
+      | inr p ↦ let k = end-above (suc from) child others o p.1 in omega arith
     ]
 
 not_same : (a b : ℕ) → a < b → nat_eq b a ≡ false
@@ -73,9 +109,9 @@ either_true false b is = inr is
 pub has-holds : (Is : ℕ → Type 0) (cell : ℕ) (cells : List ℕ) → AllByRecursion Is cells → has cell cells ≡ true → Is cell
 has-holds Is cell [] all is = absurd (cc)
 has-holds Is cell (one ∷ cells) all is = elim (either_true (nat_eq one cell) (has cell cells) is) [
-    inl here ↦ subst Is (test_same one cell here) all.0
+  | inl here ↦ subst Is (test_same one cell here) all.0
   | inr later ↦ has-holds Is cell cells all.1 later
-  ]
+]
 
 module _ {V : Type 0} (value : ℕ → Option V) (Excused : ℕ → ℕ → Outcome → Type 0) (Spoiled : ℕ → Type 0) (law : Excuses Excused Spoiled) where
   abbrev Honestly : List Join → ℕ → ℕ → ℕ → List ℕ → List ℕ → Script → Type 0
@@ -187,9 +223,10 @@ module _ {V : Type 0} (value : ℕ → Option V) (Excused : ℕ → ℕ → Outc
   spawns : (joins : List Join) (j : ℕ) (b : Branch) (cells : List Cell) (moves : List Move) (k t : ℕ) (all : Children) → FormedAll value cells moves k all
       → ((child : ℕ) (o : Outcome) → end_at k child all ≡ Some o → EndIn child o (slice_get joins j)) → AllByRecursion (Fresh joins) (spawned j b cells moves k t all)
   spawns joins j b cells moves k t NoChild formed leads = tt
-  spawns joins j b cells moves k t (Child first others) formed leads =
-      (record { formed = formed.0; goal = leads k (end_of first) (end-here k first others) },
-       spawns joins j b cells moves (suc k) (t + size first) others formed.1 (λ child o is. leads child o (end-later k child first others o is)))
+  spawns joins j b cells moves k t (Child first others) formed leads = (
+    record { formed = formed.0; goal = leads k (end_of first) (end-here k first others) },
+    spawns joins j b cells moves (suc k) (t + size first) others formed.1 (λ child o is. leads child o (end-later k child first others o is)),
+  )
 
   backwards : (joins : List Join) (v : ℕ) (bs : List Branch) → AllByRecursion (Fresh joins) bs → AllByRecursion (Right joins) (listed_backwards v bs)
   backwards joins v [] all = tt
@@ -201,12 +238,12 @@ module _ {V : Type 0} (value : ℕ → Option V) (Excused : ℕ → ℕ → Outc
 
   -- the outcomes that a join has gathered
 
-  stored-near : (joins : List Join) (j k : ℕ) (ss : List Stored) (o : Outcome) → AllByRecursion (Stores joins) ss → stored_at j k ss ≡ Some o → EndIn k o (slice_get joins j) ⊎ Excused j k o
+  pub stored-near : (joins : List Join) (j k : ℕ) (ss : List Stored) (o : Outcome) → AllByRecursion (Stores joins) ss → stored_at j k ss ≡ Some o → EndIn k o (slice_get joins j) ⊎ Excused j k o
   stored-near joins j k [] o all is = absurd (cc)
   stored-near joins j k (s ∷ ss) o all is =
       elim (chosen (nat_eq s.join j && nat_eq s.child k) (Some s.outcome) (stored_at j k ss) (Some o) is) [
-        inl p ↦ stored-here joins j k s o all.0 p.0 p.1
-      | inr p ↦ stored-near joins j k ss o all.1 p.1
+        | inl p ↦ stored-here joins j k s o all.0 p.0 p.1
+        | inr p ↦ stored-near joins j k ss o all.1 p.1
       ]
     where
       stored-here : (joins' : List Join) (j' k' : ℕ) (s' : Stored) (o' : Outcome) → Stores joins' s' → (nat_eq s'.join j' && nat_eq s'.child k') ≡ true → Some s'.outcome ≡ Some o' → EndIn k' o' (slice_get joins' j') ⊎ Excused j' k' o'
@@ -215,8 +252,8 @@ module _ {V : Type 0} (value : ℕ → Option V) (Excused : ℕ → ℕ → Outc
           let child : s'.child ≡ k' = grind (arith, nat_tests, passing) in
           let same : s'.outcome ≡ o' = cc in
           subst (λ (x : Outcome). EndIn k' x (slice_get joins' j') ⊎ Excused j' k' x) same
-            (subst (λ (x : ℕ). EndIn x s'.outcome (slice_get joins' j') ⊎ Excused j' x s'.outcome) child
-              (subst (λ (x : ℕ). EndIn s'.child s'.outcome (slice_get joins' x) ⊎ Excused x s'.child s'.outcome) join stores))
+          (subst (λ (x : ℕ). EndIn x s'.outcome (slice_get joins' j') ⊎ Excused j' x s'.outcome) child
+          (subst (λ (x : ℕ). EndIn s'.child s'.outcome (slice_get joins' x) ⊎ Excused x s'.child s'.outcome) join stores))
 
   near-more : (joins : List Join) (j k : ℕ) (join : Join) (first : Script) (others : Children) (ss : List Stored) (os : List Outcome) (one : Option Outcome) (rest : Option (List Outcome))
       → stored_at j k ss ≡ one → gathered ss j (suc k) others ≡ rest → with_first one rest ≡ Some os
@@ -233,11 +270,11 @@ module _ {V : Type 0} (value : ℕ → Option V) (Excused : ℕ → ℕ → Outc
   gathered-near joins j join ss at stores k NoChild os leads is = let none : [] ≡ os = cc in subst (λ (x : List Outcome). Near Excused j k x NoChild) none tt
   gathered-near joins j join ss at stores k (Child first others) os leads is =
       near-more joins j k join first others ss os (stored_at j k ss) (gathered ss j (suc k) others) refl refl is
-        (λ o stored. elim (stored-near joins j k ss o stores stored) [
-            inl end ↦ inl (let mine = leads k (end_of first) (end-here k first others) in let its : end_at 1 k join.children ≡ Some o = subst (EndIn k o) at end in cc)
-          | inr excused ↦ inr excused
-          ])
-        (λ more later. gathered-near joins j join ss at stores (suc k) others more (λ child o end. leads child o (end-later k child first others o end)) later)
+      (λ o stored. elim (stored-near joins j k ss o stores stored) [
+        | inl end ↦ inl (let mine = leads k (end_of first) (end-here k first others) in let its : end_at 1 k join.children ≡ Some o = subst (EndIn k o) at end in cc)
+        | inr excused ↦ inr excused
+      ])
+      (λ more later. gathered-near joins j join ss at stores (suc k) others more (λ child o end. leads child o (end-later k child first others o end)) later)
 
   -- a parent goes on
 
@@ -261,16 +298,16 @@ module _ {V : Type 0} (value : ℕ → Option V) (Excused : ℕ → ℕ → Outc
 
   has-memory : (limit steps : ℕ) (all : List Outcome) (s : Script) → Follows steps (joined limit all) s → lacks_memory all ≡ false
   has-memory limit steps all s follows = elim (each_way (lacks_memory all)) [
-      inl lacks ↦ absurd (subst (λ (b : Bool). Follows steps (if b then NoMemory else walk limit 0 all) s) lacks follows)
+    | inl lacks ↦ absurd (subst (λ (b : Bool). Follows steps (if b then NoMemory else walk limit 0 all) s) lacks follows)
     | inr has ↦ has
-    ]
+  ]
 
   resume-state : (joins : List Join) (v j : ℕ) (b : Branch) (join : Join) (os : List Outcome) → Near Excused j 1 os join.children → Behind joins b b.rest (Some join)
       → Right joins (spot (Runs v) (go_behind (joined join.limit os) b))
   resume-state joins v j b join os near behind =
       elim (law.joins j b.join b.child join.limit os join.children near (has-memory join.limit b.steps (ends join.children) b.rest behind.0)) [
-        inl same ↦ subst (λ (o : Outcome). Right joins (spot (Runs v) (go_behind o b))) (sym same) (inl (goes-on joins b b.rest (joined join.limit (ends join.children)) behind.0 behind.1))
-      | inr excused ↦ cut-off joins v b (joined join.limit os) (law.only b.join b.child (joined join.limit os) excused) excused
+        | inl same ↦ subst (λ (o : Outcome). Right joins (spot (Runs v) (go_behind o b))) (sym same) (inl (goes-on joins b b.rest (joined join.limit (ends join.children)) behind.0 behind.1))
+        | inr excused ↦ cut-off joins v b (joined join.limit os) (law.only b.join b.child (joined join.limit os) excused) excused
       ]
 
   -- an end
@@ -332,7 +369,7 @@ module _ {V : Type 0} (value : ℕ → Option V) (Excused : ℕ → ℕ → Outc
       let goes = parent_behind b cells moves children rest in
       let behind : Behind joins goes rest (Some new) = (honest.formed.2, record { formed = honest.formed.3; goal = (honest-grown w.joins (new ∷ []) b.join b.child b.steps b.signals b.waits (ForkThen limit cells moves children rest) honest).goal }) in
       let kids : AllByRecursion (Fresh joins) (spawned (length w.joins) b cells moves 1 (suc b.at) children)
-          = spawns joins (length w.joins) b cells moves 1 (suc b.at) children honest.formed.1 (λ child o end. subst (EndIn child o) (sym is) end) in
+      = spawns joins (length w.joins) b cells moves 1 (suc b.at) children honest.formed.1 (λ child o end. subst (EndIn child o) (sym is) end) in
       record {
         spots = each-append (Right joins) others (spot (AtJoin (length w.joins)) goes ∷ placed v (spawned (length w.joins) b cells moves 1 (suc b.at) children))
             (each-weaker (Right w.joins) (Right joins) (λ x good. state-grown w.joins (new ∷ []) x.location x.branch x.branch.rest good) others (takes-others (Right w.joins) takes truth.spots))
@@ -340,7 +377,7 @@ module _ {V : Type 0} (value : ℕ → Option V) (Excused : ℕ → ℕ → Outc
         full_known = truth.full_known;
         poison_known = truth.poison_known;
         ends_stored = each-weaker (Stores w.joins) (Stores joins) (λ s stores. stored-grown w.joins (new ∷ []) s stores) w.stored truth.ends_stored;
-        outermost_is = get-front w.joins (new ∷ []) 0 (outermost root) truth.outermost_is
+        outermost_is = get-front w.joins (new ∷ []) 0 (outermost root) truth.outermost_is;
       }
 
   signalled-truth : (root : Script) (w : World) (v : ℕ) (b : Branch) (cell : ℕ) (rest : Script) (others : List Spot)
@@ -353,7 +390,7 @@ module _ {V : Type 0} (value : ℕ → Option V) (Excused : ℕ → ℕ → Outc
     full_known = each-append (λ c. value c ≡ None → ⊥) w.full (cell ∷ []) truth.full_known (honest.formed.1, tt);
     poison_known = truth.poison_known;
     ends_stored = truth.ends_stored;
-    outermost_is = truth.outermost_is
+    outermost_is = truth.outermost_is;
   }
 
   finished-truth : (root : Script) (w : World) {x : Spot} (v : ℕ) (b : Branch) (o : Outcome) (others : List Spot) → Takes w.pool x others
@@ -364,7 +401,7 @@ module _ {V : Type 0} (value : ℕ → Option V) (Excused : ℕ → ℕ → Outc
     full_known = truth.full_known;
     poison_known = each-append (AllByRecursion Poisons) w.poisoned (b.signals ∷ []) truth.poison_known (may, tt);
     ends_stored = each-append (Stores w.joins) w.stored (record { join = b.join; child = b.child; outcome = o } ∷ []) truth.ends_stored (stores, tt);
-    outermost_is = truth.outermost_is
+    outermost_is = truth.outermost_is;
   }
 
   spoils-all : (join child : ℕ) (o : Outcome) → Excused join child o → (cells : List ℕ) → AllByRecursion Poisons cells
@@ -393,9 +430,9 @@ module _ {V : Type 0} (value : ℕ → Option V) (Excused : ℕ → ℕ → Outc
   poisoned-one : (cell : ℕ) (lists : List (List ℕ)) → AllByRecursion (AllByRecursion Poisons) lists → has_in cell lists ≡ true → Poisons cell
   poisoned-one cell [] all is = absurd (cc)
   poisoned-one cell (list ∷ lists) all is = elim (either_true (has cell list) (has_in cell lists) is) [
-      inl here ↦ has-holds Poisons cell list all.0 here
+    | inl here ↦ has-holds Poisons cell list all.0 here
     | inr later ↦ poisoned-one cell lists all.1 later
-    ]
+  ]
 
   pub truth-step : (root : Script) (w : World) (e : Event) (w' : World) → Step w e w' → MayLose e → True root w → True root w'
   truth-step root w _ _ (ticked v b rest others worker takes) may truth = true-back root w (Runs v) (past_tick b rest) others takes
@@ -413,4 +450,4 @@ module _ {V : Type 0} (value : ℕ → Option V) (Excused : ℕ → ℕ → Outc
   truth-step root w _ _ (takes_up e v u b others worker takes-up takes) may truth = true-back root w (Runs v) b others takes (λ state. state) truth
   truth-step root w _ _ (resumes v b number join os others worker takes is all) may truth = true-back root w (Runs v) (go_behind (joined join.limit os) b) others takes
       (λ state. resume-state w.joins v number b join os (gathered-near w.joins number join w.stored is truth.ends_stored 1 join.children os (λ child o end. end) all)
-        (subst (Behind w.joins b b.rest) is state)) truth
+      (subst (Behind w.joins b b.rest) is state)) truth

@@ -2,5 +2,6 @@
 #![tactic(auto)]
 
 pub mod event;
+pub mod laws;
 
 pub use event::{Event, NotNow};

@@ -1,0 +1,19 @@
+//! What holds of the core after every list of events that it accepts.
+ghost use Rattle.merc_core.specs.Laws.{AlwaysEnds, EveryInterleaving, EveryLoss};
+
+/// Each outcome that is stored is the end of that child's script, each full cell has its script's value, and the
+/// outcome of the whole is the end of the root's script: for every well-formed script, every number of workers and
+/// however their events fall.
+pub fn every_interleaving()
+    ensures { EveryInterleaving }
+{}
+
+/// The same where branches may end for want of memory: an outcome may then be `NoMemory` or `Starved` instead.
+pub fn every_loss()
+    ensures { EveryLoss }
+{}
+
+/// No list of accepted events is as long as twice the script's size.
+pub fn always_ends()
+    ensures { AlwaysEnds }
+{}
