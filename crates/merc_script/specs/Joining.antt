@@ -1,5 +1,5 @@
 -- How the outcomes of a fork's children are joined to one.
-use Rattle.std.specs.Prelude.{ℕ, ◌+◌, Bool, true, false, List, [], ◌∷◌, if◌then◌else◌, nat_le}
+use Rattle.std.specs.Prelude.{ℕ, ◌+◌, ◌≤◌, Bool, true, false, List, [], ◌∷◌, if◌then◌else◌, nat_le}
 use Rattle.merc_script.specs.declared.outcome.Outcome.{Outcome}
 use Rattle.merc_script.specs.declared.outcome.Outcome.TheVariants.{Ok as Fine, Raise, Limit, Starved, NoMemory}
 
@@ -33,3 +33,15 @@ later before (Fine steps) = Fine steps
 later before Limit = Limit
 later before Starved = Starved
 later before NoMemory = NoMemory
+
+-- the most steps that an outcome counts
+abbrev pub most_steps : ℕ
+most_steps = 1000000000
+
+-- an outcome counts no more steps than that
+abbrev pub HasFewSteps : Outcome → Type 0
+HasFewSteps (Fine steps) = steps ≤ most_steps
+HasFewSteps (Raise text steps) = steps ≤ most_steps
+HasFewSteps Limit = Unit {0}
+HasFewSteps Starved = Unit {0}
+HasFewSteps NoMemory = Unit {0}

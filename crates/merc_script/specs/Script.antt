@@ -1,7 +1,8 @@
 -- Scripts: items in order, and an end. What is left of a script behind an item is a script again.
-use Rattle.std.specs.Prelude.{ℕ, suc, ◌+◌, Bool, List, [], ◌∷◌, Option}
+use Rattle.std.specs.Prelude.{ℕ, suc, ◌+◌, List, [], ◌∷◌, Option}
 use Rattle.merc_value.specs.Value.{Value}
 use Rattle.merc_script.specs.declared.outcome.Outcome.{Outcome}
+pub use Rattle.merc_script.specs.declared.cells.Move.{Move}
 
 -- A cell of a fork: the child that may signal it, and the child that may wait for it, 0 for the parent behind the fork.
 -- Its value is there exactly where a script signals it.
@@ -10,12 +11,6 @@ pub record Cell : Type 0 where
   pub producer : ℕ
   pub consumer : ℕ
   pub value : Option Value
-
--- a right that a fork moves from the parent into a child: to signal the cell, or else to wait for it
-pub record Move : Type 0 where
-  pub cell : ℕ
-  pub child : ℕ
-  pub signal : Bool
 
 -- a script ends, or has an item and then goes on
 mutual
