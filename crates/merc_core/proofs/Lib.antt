@@ -4,4 +4,5 @@ pub mod Measure
 pub mod Truth
 pub mod TruthSteps
 pub mod Losses
+pub mod Live
 mod CoreExamples

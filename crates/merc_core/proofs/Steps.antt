@@ -5,7 +5,8 @@ use Rattle.std.specs.Prelude.{Option, Result, Ok, Err, slice_get, if◌then◌el
 use Rattle.std.specs.List.{AllByRecursion}
 use Rattle.merc_script.specs.declared.outcome.Outcome.{Outcome}
 use Rattle.merc_script.specs.declared.outcome.Outcome.TheVariants.{NoMemory, Starved}
-use Rattle.merc_script.specs.Script.{Script, Ends, TickThen, WaitThen, SignalThen, ForkThen, Children, Cell, Move}
+use Rattle.merc_script.specs.declared.cells.Move.{Move}
+use Rattle.merc_script.specs.Script.{Script, Ends, TickThen, WaitThen, SignalThen, ForkThen, Children, Cell}
 use Rattle.merc_script.specs.Joining.{joined}
 use Rattle.merc_core.specs.declared.event.Event.{Event}
 use Rattle.merc_core.specs.declared.event.Event.TheVariants.{Tick, Fork, Pop, Steal, Signal, Wait, End, Resume, Lost}

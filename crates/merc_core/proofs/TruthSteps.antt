@@ -5,7 +5,8 @@ use Rattle.std.specs.Prelude.{Option, slice_get, if◌then◌else◌, nat_eq, na
 use Rattle.std.specs.List.{AllByRecursion}
 use Rattle.merc_script.specs.declared.outcome.Outcome.{Outcome}
 use Rattle.merc_script.specs.declared.outcome.Outcome.TheVariants.{Ok as Fine, Raise, Limit, Starved, NoMemory}
-use Rattle.merc_script.specs.Script.{Script, Ends, TickThen, WaitThen, SignalThen, ForkThen, Children, NoChild, Child, Cell, Move, end_of, ends, size, sizes}
+use Rattle.merc_script.specs.declared.cells.Move.{Move}
+use Rattle.merc_script.specs.Script.{Script, Ends, TickThen, WaitThen, SignalThen, ForkThen, Children, NoChild, Child, Cell, end_of, ends, size, sizes}
 use Rattle.merc_script.specs.Joining.{joined, walk, lacks_memory, later}
 use Rattle.merc_core.specs.Rights.{has, has_in, signals_at, waits_at}
 use Rattle.merc_core.specs.declared.event.Event.{Event}
