@@ -5,4 +5,5 @@ pub mod Truth
 pub mod TruthSteps
 pub mod Losses
 pub mod Live
+pub mod Progress
 mod CoreExamples
