@@ -5,5 +5,8 @@ pub mod Truth
 pub mod TruthSteps
 pub mod Losses
 pub mod Live
+pub mod Anys
 pub mod Progress
+pub mod Times
+pub mod ForkTimes
 mod CoreExamples

@@ -27,7 +27,7 @@ abbrev mutual
   TimedAll due at NoChild = Unit {0}
   TimedAll due at (Child first others) = Timed due at first × TimedAll due (at + size first) others
 
-abbrev pub AnyOf : (Spot → Type 0) → List Spot → Type 0
+abbrev pub AnyOf : {A : Type 0} → (A → Type 0) → List A → Type 0
 AnyOf Is [] = ⊥
 AnyOf Is (x ∷ xs) = Is x ⊎ AnyOf Is xs
 

@@ -15,9 +15,10 @@ use Rattle.merc_core.specs.Events.{
 }
 use Rattle.merc_core.specs.Ready.{event_at, acting_at, acting, listed_for, waiting, or_else, unless_done, ready}
 use Rattle.merc_core.specs.Laws.{GoesOn}
-use Rattle.merc_core.proofs.Pool.{chosen, each_way, last-found, each-always}
+use Rattle.merc_core.proofs.Pool.{chosen, each_way, last-found, each-always, each-both}
 use Rattle.merc_core.proofs.Steps.{put_back}
 use Rattle.merc_core.proofs.TruthSteps.{is_same, test_same, has-holds, either_true}
+use Rattle.merc_core.proofs.Anys.{any-weaker, any-with}
 use Rattle.merc_core.proofs.Live.{
   AnyOf, Owes, InPlace, Served, is_full, is_poisoned, is_owed, needs, InRange, BeforeIn, BehindIt, Timely, OnTime, IsServed, StuckAt, Stuck, Placed, Live
 }
@@ -183,22 +184,6 @@ missing-from ss number from NoChild is = absurd (cc)
 missing-from ss number from (Child first others) is =
     missing-or ss number from first others (stored_at number from ss) (gathered ss number (suc from) others) refl refl is (λ none. missing-from ss number (suc from) others none)
 
--- one of them, with what holds of each
-
-pub any-weaker : (Is Each Also : Spot → Type 0) → ((x : Spot) → Is x → Each x → Also x) → (pool : List Spot) → AnyOf Is pool → AllByRecursion Each pool → AnyOf Also pool
-any-weaker Is Each Also weaker [] any all = any
-any-weaker Is Each Also weaker (x ∷ pool) (inl here) all = inl (weaker x here all.0)
-any-weaker Is Each Also weaker (x ∷ pool) (inr later) all = inr (any-weaker Is Each Also weaker pool later all.1)
-
-pub any-with : (Is Each : Spot → Type 0) (So : Type 0) → ((x : Spot) → Is x → Each x → So) → (pool : List Spot) → AnyOf Is pool → AllByRecursion Each pool → So
-any-with Is Each So so [] any all = absurd any
-any-with Is Each So so (x ∷ pool) (inl here) all = so x here all.0
-any-with Is Each So so (x ∷ pool) (inr later) all = any-with Is Each So so pool later all.1
-
-each-and : (One Other : Spot → Type 0) (pool : List Spot) → AllByRecursion One pool → AllByRecursion Other pool → AllByRecursion (λ x. One x × Other x) pool
-each-and One Other [] one other = tt
-each-and One Other (x ∷ pool) one other = ((one.0, other.0), each-and One Other pool one.1 other.1)
-
 module _ (due : ℕ → ℕ) (root : Script) (w : World) (live : Live due root w) where
   acts-ok : (x : Spot) (v : ℕ) (e : Event) (others : List Spot) → Acting x v e → in_hand v w.pool ≡ Some (x, others) → OnTime due w.workers w.joins x → Stuck w.full w.poisoned w.joins w.stored x → Accepted w e
   acts-ok _ _ _ others (runs_it v b) hand time stuck = runs-ok w v b b.rest others time.in_range hand
@@ -307,7 +292,7 @@ module _ (due : ℕ → ℕ) (root : Script) (w : World) (live : Live due root w
         (λ x less is. no-branch parked at (any-weaker (λ y. y.branch.at < x.branch.at) (λ y. Unit {0}) (λ y. y.branch.at < at) (λ y less' _. omega arith) w.pool
           (before-parked x.location x.branch is.0 is.1.0 is.1.1.0 is.1.1.1) (each-always (λ y. Unit {0}) (λ y. tt) w.pool)))
         w.pool before
-        (each-and _ _ w.pool parked (each-and _ _ w.pool live.on_time (each-and _ _ w.pool live.served live.stuck)))
+        (each-both _ _ w.pool parked (each-both _ _ w.pool live.on_time (each-both _ _ w.pool live.served live.stuck)))
 
   -- the root's branch, or one that comes before it
   some-branch : outcome w ≡ None → Before (suc (size root))
