@@ -9,4 +9,6 @@ pub mod Anys
 pub mod Progress
 pub mod Times
 pub mod ForkTimes
+pub mod Serving
+pub mod ForkServing
 mod CoreExamples
