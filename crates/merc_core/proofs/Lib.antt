@@ -11,4 +11,5 @@ pub mod Times
 pub mod ForkTimes
 pub mod Serving
 pub mod ForkServing
+pub mod Parking
 mod CoreExamples
