@@ -12,4 +12,5 @@ pub mod ForkTimes
 pub mod Serving
 pub mod ForkServing
 pub mod Parking
+pub mod LiveSteps
 mod CoreExamples
