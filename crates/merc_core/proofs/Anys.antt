@@ -64,9 +64,9 @@ any-split Is test change keeps (x ∷ xs) (inr later) = either-list Is (test x) 
 pub any-moved : {A : Type 0} (Is : A → Type 0) (test : A → Bool) (change : A → A) → ((x : A) → Is x → Is (change x)) → (xs : List A) → AnyOf Is xs
     → AnyOf Is (filter (λ x. not (test x)) xs ++ map change (filter test xs))
 any-moved Is test change keeps xs any = elim (any-split Is test change keeps xs any) [
-    inl stay ↦ any-front Is (filter (λ x. not (test x)) xs) (map change (filter test xs)) stay
+  | inl stay ↦ any-front Is (filter (λ x. not (test x)) xs) (map change (filter test xs)) stay
   | inr go ↦ any-back Is (filter (λ x. not (test x)) xs) (map change (filter test xs)) go
-  ]
+]
 
 -- what does not depend on where a branch is and on what is left of its script is kept by waking, poisoning and holding
 module _ (Is : Spot → Type 0) (keeps : (location : Location) (rest : Script) (x : Spot) → Is x → Is (spot location (record x.branch { rest = rest }))) where
@@ -122,9 +122,9 @@ has-back c xs ys is = rw (has-append c xs ys) (or-right (has c xs) (has c ys) is
 pub has-in-front : (c : ℕ) (xs ys : List (List ℕ)) → has_in c xs ≡ true → has_in c (xs ++ ys) ≡ true
 has-in-front c [] ys is = absurd (cc)
 has-in-front c (x ∷ xs) ys is = elim (either_true (has c x) (has_in c xs) is) [
-    inl one ↦ or-left (has c x) (has_in c (xs ++ ys)) one
+  | inl one ↦ or-left (has c x) (has_in c (xs ++ ys)) one
   | inr later ↦ or-right (has c x) (has_in c (xs ++ ys)) (has-in-front c xs ys later)
-  ]
+]
 
 pub has-in-last : (c : ℕ) (xs : List (List ℕ)) (last : List ℕ) → has c last ≡ true → has_in c (xs ++ (last ∷ [])) ≡ true
 has-in-last c [] last is = or-left (has c last) false is
@@ -134,12 +134,13 @@ has-in-last c (x ∷ xs) last is = or-right (has c x) (has_in c (xs ++ (last ∷
 pub has-without : (c : ℕ) (gone xs : List ℕ) → has c xs ≡ true → has c gone ≡ false → has c (without gone xs) ≡ true
 has-without c gone [] is none = absurd (cc)
 has-without c gone (x ∷ xs) is none = elim (either_true (nat_eq x c) (has c xs) is) [
-    inl one ↦ kept (test_same x c one)
+  | inl one ↦ kept (test_same x c one)
   | inr later ↦ after (has x gone) (has-without c gone xs later none)
-  ]
+]
   where
     kept : x ≡ c → has c (if not (has x gone) then x ∷ without gone xs else without gone xs) ≡ true
     kept same = rw (same, none, is_same c) refl
+
     after : (b : Bool) → has c (without gone xs) ≡ true → has c (if not b then x ∷ without gone xs else without gone xs) ≡ true
     after true there' = there'
     after false there' = or-right (nat_eq x c) (has c (without gone xs)) there'
@@ -157,12 +158,12 @@ among number test x (y ∷ xs) (inr later) passes = after (test y) (among number
 pub from-among : {A : Type 0} (number : A → ℕ) (test : A → Bool) (c : ℕ) (xs : List A) → has c (map number (filter test xs)) ≡ true → AnyOf (λ x. (number x ≡ c) × (test x ≡ true)) xs
 from-among number test c [] is = absurd (cc)
 from-among number test c (x ∷ xs) is = elim (each_way (test x)) [
-    inl passes ↦ elim (either_true (nat_eq (number x) c) (has c (map number (filter test xs))) (rw passes at is)) [
-        inl one ↦ inl (test_same (number x) c one, passes)
-      | inr later ↦ inr (from-among number test c xs later)
-      ]
-  | inr fails ↦ inr (from-among number test c xs (rw fails at is))
+  | inl passes ↦ elim (either_true (nat_eq (number x) c) (has c (map number (filter test xs))) (rw passes at is)) [
+    | inl one ↦ inl (test_same (number x) c one, passes)
+    | inr later ↦ inr (from-among number test c xs later)
   ]
+  | inr fails ↦ inr (from-among number test c xs (rw fails at is))
+]
 
 -- each is one of them
 in-more : {A : Type 0} (x : A) (all some : List A) → AllByRecursion (λ y. AnyOf (λ z. z ≡ y) all) some → AllByRecursion (λ y. AnyOf (λ z. z ≡ y) (x ∷ all)) some

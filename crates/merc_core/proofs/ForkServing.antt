@@ -26,7 +26,7 @@ kid number parent cells moves child at rest = record {
   steps = 0;
   signals = signals_at child cells moves;
   waits = waits_at child cells moves;
-  rest = rest
+  rest = rest;
 }
 
 -- each child has one
@@ -34,14 +34,13 @@ pub kid-any : (Is : Branch → Type 0) (number : ℕ) (b : Branch) (cells : List
     → ((at' : ℕ) (rest : Script) → Is (kid number b cells moves child at' rest)) → AnyOf Is (spawned number b cells moves from at more)
 kid-any Is number b cells moves child from at NoChild low high is = absurd (omega arith)
 kid-any Is number b cells moves child from at (Child first others) low high is = elim (each_way (nat_eq child from)) [
-    inl same ↦ inl (subst (λ (k : ℕ). Is (kid number b cells moves k at first)) (test_same child from same) (is at first))
+  | inl same ↦ inl (subst (λ (k : ℕ). Is (kid number b cells moves k at first)) (test_same child from same) (is at first))
   | inr other ↦ inr (kid-any Is number b cells moves child (suc from) (at + size first) others (grind (arith, nat_tests, low, other)) (omega arith) is)
-  ]
+]
 
 module _ (full : List ℕ) (poisoned : List (List ℕ)) (pool : List Spot) (v number : ℕ) (b : Branch) (limit : ℕ) (cells : List Cell) (moves : List Move) (all : Children) (rest : Script) (others : List Spot)
     (takes : Takes pool (spot (Runs v) (record b { rest = ForkThen limit cells moves all rest })) others)
     (each_cell : AllByRecursion (CellFits (count all)) cells) (each_move : AllByRecursion (MoveFits (count all) b.signals b.waits) moves) where
-
   abbrev kids : List Branch
   kids = spawned number b cells moves 1 (suc b.at) all
 
@@ -51,28 +50,28 @@ module _ (full : List ℕ) (poisoned : List (List ℕ)) (pool : List Spot) (v nu
   owed-by-child : (cell child : ℕ) → 1 ≤ child → child ≤ count all → has cell (signals_at child cells moves) ≡ true → AnyOf (Owes cell) (others ++ new)
   owed-by-child cell child one last is =
       any-back (Owes cell) others new (inr (any-placed (Owes cell) v kids
-        (kid-any (λ k. (location : Location) → Owes cell (spot location k)) number b cells moves child 1 (suc b.at) all one (omega arith) (λ at' rest' location. is))))
+      (kid-any (λ k. (location : Location) → Owes cell (spot location k)) number b cells moves child 1 (suc b.at) all one (omega arith) (λ at' rest' location. is))))
 
   moved-owed : (cell : ℕ) → has cell (moved true moves) ≡ true → AnyOf (Owes cell) (others ++ new)
   moved-owed cell is =
       any-with (λ m. (m.cell ≡ cell) × (is_kind true m ≡ true)) (λ m. AnyOf (λ y. y ≡ m) moves × MoveFits (count all) b.signals b.waits m) (AnyOf (Owes cell) (others ++ new))
-        (λ m which fits. owed-by-child cell m.child fits.1.from_one fits.1.to_last
-          (has-back cell (made_by m.child cells) (moved_to m.child true moves)
-            (subst (λ (c : ℕ). has c (moved_to m.child true moves) ≡ true) which.0
-              (among (λ one. one.cell) (λ one. nat_eq one.child m.child && is_kind true one) m moves fits.0 (rw (is_same m.child, which.1) refl)))))
-        moves (from-among (λ one. one.cell) (is_kind true) cell moves is)
-        (each-both (λ m. AnyOf (λ y. y ≡ m) moves) (MoveFits (count all) b.signals b.waits) moves (each-in moves) each_move)
+      (λ m which fits. owed-by-child cell m.child fits.1.from_one fits.1.to_last
+      (has-back cell (made_by m.child cells) (moved_to m.child true moves)
+      (subst (λ (c : ℕ). has c (moved_to m.child true moves) ≡ true) which.0
+      (among (λ one. one.cell) (λ one. nat_eq one.child m.child && is_kind true one) m moves fits.0 (rw (is_same m.child, which.1) refl)))))
+      moves (from-among (λ one. one.cell) (is_kind true) cell moves is)
+      (each-both (λ m. AnyOf (λ y. y ≡ m) moves) (MoveFits (count all) b.signals b.waits) moves (each-in moves) each_move)
 
   fork-serves : Serves full poisoned pool full poisoned (others ++ new)
   fork-serves c (is_full is) = is_full is
   fork-serves c (is_poisoned is) = is_poisoned is
   fork-serves c (is_owed is) = elim (any-takes (Owes c) takes is) [
-      inl mine ↦ elim (each_way (has c (moved true moves))) [
-          inl gone ↦ is_owed (moved-owed c gone)
-        | inr kept ↦ is_owed (any-back (Owes c) others new (inl (has-without c (moved true moves) b.signals mine kept)))
-        ]
-    | inr its ↦ is_owed (any-front (Owes c) others new its)
+    | inl mine ↦ elim (each_way (has c (moved true moves))) [
+      | inl gone ↦ is_owed (moved-owed c gone)
+      | inr kept ↦ is_owed (any-back (Owes c) others new (inl (has-without c (moved true moves) b.signals mine kept)))
     ]
+    | inr its ↦ is_owed (any-front (Owes c) others new its)
+  ]
 
   abbrev After : ℕ → Type 0
   After = Served full poisoned (others ++ new)
@@ -81,8 +80,8 @@ module _ (full : List ℕ) (poisoned : List (List ℕ)) (pool : List Spot) (v nu
   used-served : (child : ℕ) → AllByRecursion After (used_by child cells)
   used-served child = each-changed (λ one. AnyOf (λ y. y ≡ one) cells × CellFits (count all) one) After (λ one. nat_eq one.consumer child) (λ one. one.cell)
       (λ one is fits. is_owed (owed-by-child one.cell one.producer fits.1.from_one fits.1.to_last
-        (has-front one.cell (made_by one.producer cells) (moved_to one.producer true moves)
-          (among (λ c. c.cell) (λ c. nat_eq c.producer one.producer) one cells fits.0 (is_same one.producer)))))
+      (has-front one.cell (made_by one.producer cells) (moved_to one.producer true moves)
+      (among (λ c. c.cell) (λ c. nat_eq c.producer one.producer) one cells fits.0 (is_same one.producer)))))
       cells (each-both (λ one. AnyOf (λ y. y ≡ one) cells) (CellFits (count all)) cells (each-in cells) each_cell)
 
   not-true : (at : Bool) → not at ≡ true → at ≡ false
@@ -127,6 +126,7 @@ module _ (full : List ℕ) (poisoned : List (List ℕ)) (pool : List Spot) (v nu
 
     pub fork-served : AllByRecursion Is (others ++ new)
     fork-served = each-append Is others new
-        (each-weaker (IsServed full poisoned pool) Is (still-served full poisoned pool full poisoned (others ++ new) fork-serves) others (takes-others (IsServed full poisoned pool) takes served))
-        (each-append After (used_by 0 cells) (without (moved false moves) b.waits) (used-served 0) (each-filter After (λ one. not (has one (moved false moves))) b.waits mine-served),
-         placed-served kids (kids-served 1 (suc b.at) all))
+        (each-weaker (IsServed full poisoned pool) Is (still-served full poisoned pool full poisoned (others ++ new) fork-serves) others (takes-others (IsServed full poisoned pool) takes served)) (
+          each-append After (used_by 0 cells) (without (moved false moves) b.waits) (used-served 0) (each-filter After (λ one. not (has one (moved false moves))) b.waits mine-served),
+          placed-served kids (kids-served 1 (suc b.at) all),
+        )

@@ -43,13 +43,13 @@ part-all base all = record { starts = omega arith; one = omega arith; whole = re
 earlier-next : (base at from : ℕ) (all others : Children) (first : Script) → Part base all at from (Child first others) → (child : ℕ) → 1 ≤ child → child < suc from → behind_child base 1 child all ≤ at + size first
 earlier-next base at from all others first part child one less =
     elim (each_way (nat_eq child from)) [
-      inl same ↦
-        let e : child ≡ from = test_same child from same in
-        let k = part.later child (omega arith) in
-        let m = behind-here at from first others in
-        let n : behind_child at from child (Child first others) ≡ at + size first = subst (λ (c : ℕ). behind_child at from c (Child first others) ≡ at + size first) (sym e) m in
-        omega arith
-    | inr other ↦ let k = part.earlier child one (grind (arith, nat_tests, less, other)) in omega arith
+      | inl same ↦
+          let e : child ≡ from = test_same child from same in
+          let k = part.later child (omega arith) in
+          let m = behind-here at from first others in
+          let n : behind_child at from child (Child first others) ≡ at + size first = subst (λ (c : ℕ). behind_child at from c (Child first others) ≡ at + size first) (sym e) m in
+          omega arith
+      | inr other ↦ let k = part.earlier child one (grind (arith, nat_tests, less, other)) in omega arith
     ]
 
 part-next : (base at from : ℕ) (all others : Children) (first : Script) → Part base all at from (Child first others) → Part base all (at + size first) (suc from) others
@@ -58,7 +58,7 @@ part-next base at from all others first part = record {
   one = omega arith;
   whole = let k = part.whole in omega arith;
   later = λ child less. part.later child (omega arith) ∙ behind-later at from child first others (omega arith);
-  earlier = earlier-next base at from all others first part
+  earlier = earlier-next base at from all others first part;
 }
 
 module _ (due : ℕ → ℕ) (workers : ℕ) (b : Branch) (limit : ℕ) (cells : List Cell) (moves : List Move) (all : Children) (rest : Script) where
@@ -83,8 +83,8 @@ module _ (due : ℕ → ℕ) (workers : ℕ) (b : Branch) (limit : ℕ) (cells :
         before one is fact =
             let same = test_same one.consumer from is in
             elim fact.1.right [
-              inl none ↦ absurd (let k = part.one in omega arith)
-            | inr right ↦ let k = part.earlier one.producer fact.1.from_one (let k = right.0 in omega arith) in let m = fact.0 in omega arith
+              | inl none ↦ absurd (let k = part.one in omega arith)
+              | inr right ↦ let k = part.earlier one.producer fact.1.from_one (let k = right.0 in omega arith) in let m = fact.0 in omega arith
             ]
 
     moved-wait : (one : Move) → is_kind false one ≡ true → MoveFits (count all) b.signals b.waits one → has one.cell b.waits ≡ true
@@ -104,8 +104,8 @@ module _ (due : ℕ → ℕ) (workers : ℕ) (b : Branch) (limit : ℕ) (cells :
     moved-before : (at from : ℕ) (more : Children) → Part base all at from more → AllByRecursion (λ cell. due cell ≤ at) (moved_to from false moves)
     moved-before at from more part = each-changed (MoveFits (count all) b.signals b.waits) (λ cell. due cell ≤ at) (λ one. nat_eq one.child from && is_kind false one) (λ one. one.cell)
         (λ one is fits.
-          let k = has-holds (λ cell. due cell ≤ b.at) one.cell b.waits forking.needs_before (moved-wait one (both-true (nat_eq one.child from) (is_kind false one) is).1 fits) in
-          let m = part.starts in omega arith)
+        let k = has-holds (λ cell. due cell ≤ b.at) one.cell b.waits forking.needs_before (moved-wait one (both-true (nat_eq one.child from) (is_kind false one) is).1 fits) in
+        let m = part.starts in omega arith)
         moves forking.each_move
 
     made-behind : (at from : ℕ) (first : Script) (others : Children) → Part base all at from (Child first others) → AllByRecursion (λ cell. at + size first ≤ due cell) (made_by from cells)
@@ -122,8 +122,8 @@ module _ (due : ℕ → ℕ) (workers : ℕ) (b : Branch) (limit : ℕ) (cells :
     moved-behind : (at from : ℕ) (first : Script) (others : Children) → Part base all at from (Child first others) → AllByRecursion (λ cell. at + size first ≤ due cell) (moved_to from true moves)
     moved-behind at from first others part = each-changed (MoveFits (count all) b.signals b.waits) (λ cell. at + size first ≤ due cell) (λ one. nat_eq one.child from && is_kind true one) (λ one. one.cell)
         (λ one is fits.
-          let k = has-holds (λ cell. b.at + size (ForkThen limit cells moves all rest) ≤ due cell) one.cell b.signals forking.owes_behind (moved-signal one (both-true (nat_eq one.child from) (is_kind true one) is).1 fits) in
-          let m = part.whole in omega arith)
+        let k = has-holds (λ cell. b.at + size (ForkThen limit cells moves all rest) ≤ due cell) one.cell b.signals forking.owes_behind (moved-signal one (both-true (nat_eq one.child from) (is_kind true one) is).1 fits) in
+        let m = part.whole in omega arith)
         moves forking.each_move
 
     module _ (joins : List Join) (number : ℕ) (new : Join) (is : slice_get joins number ≡ Some new) (behind-is : new.behind ≡ base + sizes all) (v : ℕ) (worker : nat_lt v workers ≡ true) where
@@ -142,9 +142,10 @@ module _ (due : ℕ → ℕ) (workers : ℕ) (b : Branch) (limit : ℕ) (cells :
           owes_behind = each-append (λ cell. at + size first ≤ due cell) (made_by from cells) (moved_to from true moves) (made-behind at from first others part) (moved-behind at from first others part);
           ends_before = before-new (at + size first) (let m = part.whole in omega arith);
           begins = tt;
-          timed = timed.0
+          timed = timed.0;
         },
-        kids-time (at + size first) (suc from) others (part-next base at from all others first part) timed.1)
+        kids-time (at + size first) (suc from) others (part-next base at from all others first part) timed.1,
+      )
 
       listed-kid : (kid : Branch) → Kid kid → OnTime due workers joins (spot (Listed v) kid)
       listed-kid kid time = record { in_range = time.in_range; needs_before = time.needs_before; owes_behind = time.owes_behind; ends_before = time.ends_before; begins = tt; timed = time.timed }
@@ -176,5 +177,5 @@ module _ (due : ℕ → ℕ) (workers : ℕ) (b : Branch) (limit : ℕ) (cells :
             (each-weaker (λ cell. b.at + size (ForkThen limit cells moves all rest) ≤ due cell) (λ cell. base + sizes all + size rest ≤ due cell) (λ cell less. omega arith) b.signals forking.owes_behind);
         ends_before = before-less (b.at + size (ForkThen limit cells moves all rest)) (base + sizes all + size rest) (slice_get joins b.join) (omega arith) before;
         begins = rw is (omega arith);
-        timed = timed
+        timed = timed;
       }

@@ -13,4 +13,5 @@ pub mod Serving
 pub mod ForkServing
 pub mod Parking
 pub mod LiveSteps
+pub mod Dues
 mod CoreExamples

@@ -164,7 +164,7 @@ kept-may (End v) kept value = tt
 kept-may (Resume v) kept value = tt
 kept-may (Lost v) kept value = absurd kept
 
-lost-may : (value : ℕ → Option Value) (e : Event) → MayLose value (Excused (Unit {0})) (Spoiled (Unit {0})) (excuses (Unit {0})) e
+pub lost-may : (value : ℕ → Option Value) (e : Event) → MayLose value (Excused (Unit {0})) (Spoiled (Unit {0})) (excuses (Unit {0})) e
 lost-may value (Tick v) = tt
 lost-may value (Fork v) = tt
 lost-may value (Pop v) = tt

@@ -65,7 +65,7 @@ NotIn cells (AtJoin number) = Unit {0}
 none-left : (cell v : ℕ) (change : Branch → Branch) (xs : List Spot) → AllByRecursion (At (NotAt cell)) (wake cell v change xs)
 none-left cell v change xs = each-append (At (NotAt cell)) (filter (λ x. not (parked cell x)) xs) (map (woken v change) (filter (parked cell) xs))
     (each-weaker (λ x. (not (parked cell x) ≡ true) × Unit {0}) (At (NotAt cell)) (λ x is. not-true (parked cell x) is.0) (filter (λ x. not (parked cell x)) xs)
-      (each-passing (λ x. Unit {0}) (λ x. not (parked cell x)) xs (any-all xs)))
+    (each-passing (λ x. Unit {0}) (λ x. not (parked cell x)) xs (any-all xs)))
     (each-changed (λ x. Unit {0}) (At (NotAt cell)) (parked cell) (woken v change) (λ x is was. refl) xs (any-all xs))
   where
     any-all : (ys : List Spot) → AllByRecursion (λ x. Unit {0}) ys
@@ -95,26 +95,26 @@ poison-leaves-none [] v xs = each-weaker-all xs
 poison-leaves-none (cell ∷ cells) v xs =
     let after = wake cell v (ended Starved) xs in
     each-weaker (λ x. NotAt cell x.location × NotIn cells x.location) (At (NotIn (cell ∷ cells))) (λ x both. not-in cell cells x.location both.0 both.1) (poison cells v after)
-      (each-both (At (NotAt cell)) (At (NotIn cells)) (poison cells v after) (poison-keeps (NotAt cell) cells v after refl (none-left cell v (ended Starved) xs)) (poison-leaves-none cells v after))
+    (each-both (At (NotAt cell)) (At (NotIn cells)) (poison cells v after) (poison-keeps (NotAt cell) cells v after refl (none-left cell v (ended Starved) xs)) (poison-leaves-none cells v after))
 
 -- stored outcomes are only added to
 
 stored-more : (j k : ℕ) (ss : List Stored) (s : Stored) (o : Outcome) → stored_at j k ss ≡ Some o → stored_at j k (ss ++ (s ∷ [])) ≡ Some o
 stored-more j k [] s o is = absurd (cc)
 stored-more j k (x ∷ ss) s o is = elim (chosen (nat_eq x.join j && nat_eq x.child k) (Some x.outcome) (stored_at j k ss) (Some o) is) [
-    inl now ↦ rw now.0 now.1
+  | inl now ↦ rw now.0 now.1
   | inr later ↦ rw later.0 (stored-more j k ss s o later.1)
-  ]
+]
 
 pub stored-less : (j k : ℕ) (ss : List Stored) (s : Stored) → stored_at j k (ss ++ (s ∷ [])) ≡ None → (stored_at j k ss ≡ None) × ((nat_eq s.join j && nat_eq s.child k) ≡ false)
 stored-less j k [] s is = elim (chosen (nat_eq s.join j && nat_eq s.child k) (Some s.outcome) None None is) [
-    inl now ↦ absurd (let e = now.1 in cc)
+  | inl now ↦ absurd (let e = now.1 in cc)
   | inr later ↦ (refl, later.0)
-  ]
+]
 stored-less j k (x ∷ ss) s is = elim (chosen (nat_eq x.join j && nat_eq x.child k) (Some x.outcome) (stored_at j k (ss ++ (s ∷ []))) None is) [
-    inl now ↦ absurd (let e = now.1 in cc)
+  | inl now ↦ absurd (let e = now.1 in cc)
   | inr later ↦ let less = stored-less j k ss s later.1 in (rw later.0 less.0, less.1)
-  ]
+]
 
 stored-other : (j k : ℕ) (ss : List Stored) (s : Stored) → nat_eq s.join j ≡ false → stored_at j k (ss ++ (s ∷ [])) ≡ stored_at j k ss
 stored-other j k [] s other = rw other refl
@@ -153,7 +153,7 @@ module _ (full : List ℕ) (poisoned : List (List ℕ)) (joins : List Join) (sto
   pub signal-stuck : (cell v : ℕ) (xs : List Spot) → AllByRecursion (Stuck full poisoned joins stored) xs → AllByRecursion (Stuck (full ++ (cell ∷ [])) poisoned joins stored) (wake cell v unchanged xs)
   signal-stuck cell v xs all =
       each-weaker (λ x. NotAt cell x.location × Is x.location) (Stuck (full ++ (cell ∷ [])) poisoned joins stored) (λ x both. signal-stays cell x.location both.0 both.1) (wake cell v unchanged xs)
-        (each-both (At (NotAt cell)) (At Is) (wake cell v unchanged xs) (none-left cell v unchanged xs) (wake-keeps Is cell v unchanged xs tt all))
+      (each-both (At (NotAt cell)) (At Is) (wake cell v unchanged xs) (none-left cell v unchanged xs) (wake-keeps Is cell v unchanged xs tt all))
 
   -- a branch ends, and its cells are poisoned
   poison-stays : (cells : List ℕ) (location : Location) → NotIn cells location → Is location → StuckAt full (poisoned ++ (cells ∷ [])) joins stored location
@@ -166,7 +166,7 @@ module _ (full : List ℕ) (poisoned : List (List ℕ)) (joins : List Join) (sto
   pub poison-stuck : (cells : List ℕ) (v : ℕ) (xs : List Spot) → AllByRecursion (Stuck full poisoned joins stored) xs → AllByRecursion (Stuck full (poisoned ++ (cells ∷ [])) joins stored) (poison cells v xs)
   poison-stuck cells v xs all =
       each-weaker (λ x. NotIn cells x.location × Is x.location) (Stuck full (poisoned ++ (cells ∷ [])) joins stored) (λ x both. poison-stays cells x.location both.0 both.1) (poison cells v xs)
-        (each-both (At (NotIn cells)) (At Is) (poison cells v xs) (poison-leaves-none cells v xs) (poison-keeps Is cells v xs tt all))
+      (each-both (At (NotIn cells)) (At Is) (poison cells v xs) (poison-leaves-none cells v xs) (poison-keeps Is cells v xs tt all))
 
   -- its outcome is stored, and the join may be done
   abbrev After : Stored → Location → Type 0
@@ -240,5 +240,5 @@ module _ (full : List ℕ) (poisoned : List (List ℕ)) (joins : List Join) (sto
       → AllByRecursion (Stuck full poisoned (joins ++ (new ∷ [])) stored) (others ++ (spot (AtJoin (length joins)) parent ∷ placed v kids))
   fork-stuck v new parent kids others some numbered all =
       each-append (Stuck full poisoned (joins ++ (new ∷ [])) stored) others (spot (AtJoin (length joins)) parent ∷ placed v kids)
-        (each-weaker (Stuck full poisoned joins stored) (Stuck full poisoned (joins ++ (new ∷ [])) stored) (λ x stuck. joins-stay new x.location stuck) others all)
-        ((new, get-last joins new, none-gathered (length joins) new.children stored some numbered), placed-stuck (joins ++ (new ∷ [])) v kids)
+      (each-weaker (Stuck full poisoned joins stored) (Stuck full poisoned (joins ++ (new ∷ [])) stored) (λ x stuck. joins-stay new x.location stuck) others all)
+      ((new, get-last joins new, none-gathered (length joins) new.children stored some numbered), placed-stuck (joins ++ (new ∷ [])) v kids)

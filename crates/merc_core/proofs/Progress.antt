@@ -11,7 +11,32 @@ use Rattle.merc_core.specs.declared.event.Event.TheVariants.{Tick, Fork, Pop, Si
 use Rattle.merc_core.specs.Rights.{has, has_in}
 use Rattle.merc_core.specs.World.{Branch, Location, Listed, Runs, Holds, AtCell, AtJoin, Spot, spot, Join, Stored, World, outcome, outermost, stored_at, with_first, gathered, outcomes_of}
 use Rattle.merc_core.specs.Events.{
-  Answer, first_from, last_from, beside, taken, acts, acts_at, listed, listed_at, in_hand, back_of, run_on, tick_on, fork_on, signal_on, wait_at, wait_on, end_on, go_behind, resume_on, if_found, running, if_free, take_up, if_held, happens
+  Answer,
+  first_from,
+  last_from,
+  beside,
+  taken,
+  acts,
+  acts_at,
+  listed,
+  listed_at,
+  in_hand,
+  back_of,
+  run_on,
+  tick_on,
+  fork_on,
+  signal_on,
+  wait_at,
+  wait_on,
+  end_on,
+  go_behind,
+  resume_on,
+  if_found,
+  running,
+  if_free,
+  take_up,
+  if_held,
+  happens,
 }
 use Rattle.merc_core.specs.Ready.{event_at, acting_at, acting, listed_for, waiting, or_else, unless_done, ready}
 use Rattle.merc_core.specs.Laws.{GoesOn}
@@ -20,7 +45,24 @@ use Rattle.merc_core.proofs.Steps.{put_back}
 use Rattle.merc_core.proofs.TruthSteps.{is_same, test_same, has-holds, either_true}
 use Rattle.merc_core.proofs.Anys.{any-weaker, any-with}
 use Rattle.merc_core.proofs.Live.{
-  AnyOf, Owes, InPlace, Served, is_full, is_poisoned, is_owed, needs, InRange, BeforeIn, BehindIt, Timely, OnTime, IsServed, StuckAt, Stuck, Placed, Live
+  AnyOf,
+  Owes,
+  InPlace,
+  Served,
+  is_full,
+  is_poisoned,
+  is_owed,
+  needs,
+  InRange,
+  BeforeIn,
+  BehindIt,
+  Timely,
+  OnTime,
+  IsServed,
+  StuckAt,
+  Stuck,
+  Placed,
+  Live,
 }
 
 -- finding
@@ -71,7 +113,7 @@ acting-later from x pool e none found = record {
   one = found.one;
   first = rw (none found.worker) (found.first ∙ ap Some (omega arith));
   stands = found.stands;
-  acting_so = found.acting_so
+  acting_so = found.acting_so;
 }
 
 acting-at : (from : ℕ) (location : Location) (b : Branch) (pool : List Spot) (e : Event) → acting_at location b.rest (acting pool) ≡ Some e
@@ -193,8 +235,8 @@ module _ (due : ℕ → ℕ) (root : Script) (w : World) (live : Live due root w
   acting-ok e is =
       let found = acting-first 0 w.pool e is in
       acts-ok found.one found.worker e (remove w.pool found.index) found.acting_so (hand-is w e found)
-        (each-at (OnTime due w.workers w.joins) w.pool found.index found.one live.on_time found.stands)
-        (each-at (Stuck w.full w.poisoned w.joins w.stored) w.pool found.index found.one live.stuck found.stands)
+      (each-at (OnTime due w.workers w.joins) w.pool found.index found.one live.on_time found.stands)
+      (each-at (Stuck w.full w.poisoned w.joins w.stored) w.pool found.index found.one live.stuck found.stands)
 
   listed-worker : (v : ℕ) (location : Location) (b : Branch) → listed_at v location ≡ true → InRange w.workers location → nat_lt v w.workers ≡ true
   listed-worker v (Listed u) b is range = subst (λ (k : ℕ). nat_lt k w.workers ≡ true) (test_same u v is) range
@@ -216,12 +258,12 @@ module _ (due : ℕ → ℕ) (root : Script) (w : World) (live : Live due root w
       let found = find-some (listed v) 0 None w.pool any in
       let free : in_hand v w.pool ≡ None = rw (find-none (acts v) 0 w.pool (none-act v w.pool none)) in
       elim (last-found (listed v) 0 found.one None w.pool found.is) [
-        inl nothing ↦ absurd (cc)
-      | inr at ↦
-          let place : found.one ≡ at.index = let e = at.is in omega arith in
-          let stands : slice_get w.pool found.one ≡ Some at.one = rw place at.stands in
-          let back : back_of v w.pool ≡ Some (at.one, remove w.pool found.one) = rw (found.is, stands) in
-          record { next = put_back w (Runs v) at.one.branch (remove w.pool found.one); is = rw (worker, free, back) }
+        | inl nothing ↦ absurd (cc)
+        | inr at ↦
+            let place : found.one ≡ at.index = let e = at.is in omega arith in
+            let stands : slice_get w.pool found.one ≡ Some at.one = rw place at.stands in
+            let back : back_of v w.pool ≡ Some (at.one, remove w.pool found.one) = rw (found.is, stands) in
+            record { next = put_back w (Runs v) at.one.branch (remove w.pool found.one); is = rw (worker, free, back) }
       ]
 
   waiting-ok : (e : Event) → acting w.pool ≡ None → waiting w.pool ≡ Some e → Accepted w e
@@ -263,8 +305,8 @@ module _ (due : ℕ → ℕ) (root : Script) (w : World) (live : Live due root w
   before-served cell at (is_poisoned poisoned) not-full not-poisoned before = absurd (cc)
   before-served cell at (is_owed owed) not-full not-poisoned before =
       any-weaker (Owes cell) (OnTime due w.workers w.joins) (λ y. y.branch.at < at)
-        (λ y owes time. let behind = has-holds (λ c. y.branch.at + size y.branch.rest ≤ due c) cell y.branch.signals time.owes_behind owes in let some = size-some y.branch.rest in omega arith)
-        w.pool owed live.on_time
+      (λ y owes time. let behind = has-holds (λ c. y.branch.at + size y.branch.rest ≤ due c) cell y.branch.signals time.owes_behind owes in let some = size-some y.branch.rest in omega arith)
+      w.pool owed live.on_time
 
   ends-in : (number at : ℕ) (join : Option Join) (y : Spot) → BehindIt at join → BeforeIn (y.branch.at + size y.branch.rest) join → y.branch.at < at
   ends-in number at None y behind before = absurd behind
@@ -278,7 +320,7 @@ module _ (due : ℕ → ℕ) (root : Script) (w : World) (live : Live due root w
   before-join number at join is none behind =
       let missing = missing-from w.stored number 1 join.children none in
       any-weaker (InPlace number missing.child) (OnTime due w.workers w.joins) (λ y. y.branch.at < at) (λ y in-place' time. in-place number missing.child at y behind in-place' time)
-        w.pool (live.placed number missing.child join is missing.from_here (let k = missing.to_last in omega arith) missing.none) live.on_time
+      w.pool (live.placed number missing.child join is missing.from_here (let k = missing.to_last in omega arith) missing.none) live.on_time
 
   before-parked : (location : Location) (b : Branch) → Parks location → OnTime due w.workers w.joins (spot location b) → IsServed w.full w.poisoned w.pool (spot location b)
       → Stuck w.full w.poisoned w.joins w.stored (spot location b) → Before b.at
@@ -289,10 +331,10 @@ module _ (due : ℕ → ℕ) (root : Script) (w : World) (live : Live due root w
   no-branch parked zero before = any-with (λ y. y.branch.at < 0) (λ x. Parks x.location) ⊥ (λ x less parks. absurd (omega arith)) w.pool before parked
   no-branch parked (suc at) before =
       any-with (λ y. y.branch.at < suc at) (λ x. Parks x.location × (OnTime due w.workers w.joins x × (IsServed w.full w.poisoned w.pool x × Stuck w.full w.poisoned w.joins w.stored x))) ⊥
-        (λ x less is. no-branch parked at (any-weaker (λ y. y.branch.at < x.branch.at) (λ y. Unit {0}) (λ y. y.branch.at < at) (λ y less' _. omega arith) w.pool
-          (before-parked x.location x.branch is.0 is.1.0 is.1.1.0 is.1.1.1) (each-always (λ y. Unit {0}) (λ y. tt) w.pool)))
-        w.pool before
-        (each-both _ _ w.pool parked (each-both _ _ w.pool live.on_time (each-both _ _ w.pool live.served live.stuck)))
+      (λ x less is. no-branch parked at (any-weaker (λ y. y.branch.at < x.branch.at) (λ y. Unit {0}) (λ y. y.branch.at < at) (λ y less' _. omega arith) w.pool
+      (before-parked x.location x.branch is.0 is.1.0 is.1.1.0 is.1.1.1) (each-always (λ y. Unit {0}) (λ y. tt) w.pool)))
+      w.pool before
+      (each-both _ _ w.pool parked (each-both _ _ w.pool live.on_time (each-both _ _ w.pool live.served live.stuck)))
 
   -- the root's branch, or one that comes before it
   some-branch : outcome w ≡ None → Before (suc (size root))

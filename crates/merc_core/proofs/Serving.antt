@@ -14,8 +14,27 @@ use Rattle.merc_core.specs.WellFormed.{CellFits, MoveFits, held_of}
 use Rattle.merc_core.proofs.Pool.{Takes, chosen, each_way, each-append, each-filter, each-mapped, each-changed, each-weaker, each-both, each-always, takes-one, takes-others}
 use Rattle.merc_core.proofs.TruthSteps.{either_true, is_same, test_same}
 use Rattle.merc_core.proofs.Anys.{
-  any-weaker, any-with, any-front, any-back, any-takes, any-put, any-wake, any-poison, any-hold, any-placed, has-append, or-left, or-right, has-front, has-back, has-in-front, has-in-last, has-without,
-  among, from-among, each-in
+  any-weaker,
+  any-with,
+  any-front,
+  any-back,
+  any-takes,
+  any-put,
+  any-wake,
+  any-poison,
+  any-hold,
+  any-placed,
+  has-append,
+  or-left,
+  or-right,
+  has-front,
+  has-back,
+  has-in-front,
+  has-in-last,
+  has-without,
+  among,
+  from-among,
+  each-in,
 }
 use Rattle.merc_core.proofs.Live.{AnyOf, Owes, InPlace, Served, is_full, is_poisoned, is_owed, needs, IsServed}
 
@@ -70,8 +89,8 @@ module _ (full : List ℕ) (poisoned : List (List ℕ)) (pool : List Spot) where
   poison-served [] v xs all = all
   poison-served (cell ∷ cells) v xs all = poison-served cells v (wake cell v (ended Starved) xs)
       (each-append Is (filter (λ x. not (parked cell x)) xs) (map (woken v (ended Starved)) (filter (parked cell) xs))
-        (each-filter Is (λ x. not (parked cell x)) xs all)
-        (each-changed Is Is (parked cell) (woken v (ended Starved)) (λ x is served. moved-served full poisoned pool full poisoned pool same-served x (Listed v) (ended Starved x.branch) refl served) xs all))
+      (each-filter Is (λ x. not (parked cell x)) xs all)
+      (each-changed Is Is (parked cell) (woken v (ended Starved)) (λ x is served. moved-served full poisoned pool full poisoned pool same-served x (Listed v) (ended Starved x.branch) refl served) xs all))
 
   held-served : (v number : ℕ) (x : Spot) (at : Bool) → Is x → Is (if at then spot (Holds v number) x.branch else x)
   held-served v number x true served = moved-served full poisoned pool full poisoned pool same-served x (Holds v number) x.branch refl served
@@ -89,8 +108,8 @@ back-served full poisoned pool x others to b takes same fewer all =
     let pool' : List Spot = others ++ (spot to b ∷ []) in
     let serves : Serves full poisoned pool full poisoned pool' = serves-as full poisoned pool pool' (λ cell any. any-put (Owes cell) (spot to b) takes (λ owes. rw same owes) any) in
     each-append (IsServed full poisoned pool') others (spot to b ∷ [])
-      (each-weaker (IsServed full poisoned pool) (IsServed full poisoned pool') (still-served full poisoned pool full poisoned pool' serves) others (takes-others (IsServed full poisoned pool) takes all))
-      (fewer (Served full poisoned pool') (still-served full poisoned pool full poisoned pool' serves x (takes-one (IsServed full poisoned pool) takes all)), tt)
+    (each-weaker (IsServed full poisoned pool) (IsServed full poisoned pool') (still-served full poisoned pool full poisoned pool' serves) others (takes-others (IsServed full poisoned pool) takes all))
+    (fewer (Served full poisoned pool') (still-served full poisoned pool full poisoned pool' serves x (takes-one (IsServed full poisoned pool) takes all)), tt)
 
 -- a signal
 signal-serves : (full : List ℕ) (poisoned : List (List ℕ)) (pool : List Spot) (v cell : ℕ) (b : Branch) (rest rest' : Script) (others : List Spot) → Takes pool (spot (Runs v) (record b { rest = rest' })) others
@@ -98,12 +117,12 @@ signal-serves : (full : List ℕ) (poisoned : List (List ℕ)) (pool : List Spot
 signal-serves full poisoned pool v cell b rest rest' others takes c (is_full is) = is_full (has-front c full (cell ∷ []) is)
 signal-serves full poisoned pool v cell b rest rest' others takes c (is_poisoned is) = is_poisoned is
 signal-serves full poisoned pool v cell b rest rest' others takes c (is_owed is) = elim (any-takes (Owes c) takes is) [
-    inl mine ↦ elim (each_way (nat_eq cell c)) [
-        inl same ↦ is_full (has-back c full (cell ∷ []) (rw same refl))
-      | inr other ↦ is_owed (any-back (Owes c) (wake cell v unchanged others) (spot (Runs v) (past_signal cell b rest) ∷ []) (inl (has-without c (cell ∷ []) b.signals mine (rw other refl))))
-      ]
-  | inr its ↦ is_owed (any-front (Owes c) (wake cell v unchanged others) (spot (Runs v) (past_signal cell b rest) ∷ []) (any-wake (Owes c) (owes-keeps c) cell v others its))
+  | inl mine ↦ elim (each_way (nat_eq cell c)) [
+    | inl same ↦ is_full (has-back c full (cell ∷ []) (rw same refl))
+    | inr other ↦ is_owed (any-back (Owes c) (wake cell v unchanged others) (spot (Runs v) (past_signal cell b rest) ∷ []) (inl (has-without c (cell ∷ []) b.signals mine (rw other refl))))
   ]
+  | inr its ↦ is_owed (any-front (Owes c) (wake cell v unchanged others) (spot (Runs v) (past_signal cell b rest) ∷ []) (any-wake (Owes c) (owes-keeps c) cell v others its))
+]
 
 pub signal-served : (full : List ℕ) (poisoned : List (List ℕ)) (pool : List Spot) (v cell : ℕ) (b : Branch) (rest rest' : Script) (others : List Spot) → Takes pool (spot (Runs v) (record b { rest = rest' })) others
     → AllByRecursion (IsServed full poisoned pool) pool
@@ -113,8 +132,8 @@ signal-served full poisoned pool v cell b rest rest' others takes all =
     let pool' = wake cell v unchanged others ++ (spot (Runs v) (past_signal cell b rest) ∷ []) in
     let serves = signal-serves full poisoned pool v cell b rest rest' others takes in
     each-append (IsServed full' poisoned pool') (wake cell v unchanged others) (spot (Runs v) (past_signal cell b rest) ∷ [])
-      (wakes-served full poisoned pool full' poisoned pool' serves cell v others (takes-others (IsServed full poisoned pool) takes all))
-      (still-served full poisoned pool full' poisoned pool' serves (spot (Runs v) (record b { rest = rest' })) (takes-one (IsServed full poisoned pool) takes all), tt)
+    (wakes-served full poisoned pool full' poisoned pool' serves cell v others (takes-others (IsServed full poisoned pool) takes all))
+    (still-served full poisoned pool full' poisoned pool' serves (spot (Runs v) (record b { rest = rest' })) (takes-one (IsServed full poisoned pool) takes all), tt)
 
 -- an end
 end-serves : (full : List ℕ) (poisoned : List (List ℕ)) (pool : List Spot) (v : ℕ) (b : Branch) (others : List Spot) (number : ℕ) (outcomes : Option (List Outcome)) → Takes pool (spot (Runs v) b) others
@@ -122,9 +141,9 @@ end-serves : (full : List ℕ) (poisoned : List (List ℕ)) (pool : List Spot) (
 end-serves full poisoned pool v b others number outcomes takes c (is_full is) = is_full is
 end-serves full poisoned pool v b others number outcomes takes c (is_poisoned is) = is_poisoned (has-in-front c poisoned (b.signals ∷ []) is)
 end-serves full poisoned pool v b others number outcomes takes c (is_owed is) = elim (any-takes (Owes c) takes is) [
-    inl mine ↦ is_poisoned (has-in-last c poisoned b.signals mine)
+  | inl mine ↦ is_poisoned (has-in-last c poisoned b.signals mine)
   | inr its ↦ is_owed (any-hold (Owes c) (owes-keeps c) v number (poison b.signals v others) outcomes (any-poison (Owes c) (owes-keeps c) b.signals v others its))
-  ]
+]
 
 pub end-served : (full : List ℕ) (poisoned : List (List ℕ)) (pool : List Spot) (v : ℕ) (b : Branch) (others : List Spot) (number : ℕ) (outcomes : Option (List Outcome)) → Takes pool (spot (Runs v) b) others
     → AllByRecursion (IsServed full poisoned pool) pool
@@ -133,6 +152,6 @@ end-served full poisoned pool v b others number outcomes takes all =
     let poisoned' = poisoned ++ (b.signals ∷ []) in
     let pool' = hold_if v number (poison b.signals v others) outcomes in
     hold-served full poisoned' pool' v number (poison b.signals v others) outcomes
-      (poison-served full poisoned' pool' b.signals v others
-        (each-weaker (IsServed full poisoned pool) (IsServed full poisoned' pool') (still-served full poisoned pool full poisoned' pool' (end-serves full poisoned pool v b others number outcomes takes)) others
-          (takes-others (IsServed full poisoned pool) takes all)))
+    (poison-served full poisoned' pool' b.signals v others
+    (each-weaker (IsServed full poisoned pool) (IsServed full poisoned' pool') (still-served full poisoned pool full poisoned' pool' (end-serves full poisoned pool v b others number outcomes takes)) others
+    (takes-others (IsServed full poisoned pool) takes all)))

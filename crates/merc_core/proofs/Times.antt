@@ -10,7 +10,26 @@ use Rattle.merc_script.specs.Script.{Script, Ends, TickThen, WaitThen, SignalThe
 use Rattle.merc_core.specs.Rights.{has, without, numbers_of, made_by, used_by, cells_moved, is_kind, moved, moved_to, signals_at, waits_at, signals_behind, waits_behind}
 use Rattle.merc_core.specs.World.{Branch, Location, Listed, Runs, Holds, AtCell, AtJoin, Spot, spot, Join, Parent, World, outermost}
 use Rattle.merc_core.specs.Events.{
-  parked, parked_at, awaits, awaits_at, past_tick, past_signal, past_wait, ended, go_behind, spawned, listed_backwards, placed, parent_behind, woken, wake, unchanged, poison, hold, hold_one, hold_if
+  parked,
+  parked_at,
+  awaits,
+  awaits_at,
+  past_tick,
+  past_signal,
+  past_wait,
+  ended,
+  go_behind,
+  spawned,
+  listed_backwards,
+  placed,
+  parent_behind,
+  woken,
+  wake,
+  unchanged,
+  poison,
+  hold,
+  hold_one,
+  hold_if,
 }
 use Rattle.merc_core.specs.WellFormed.{CellFits, MoveFits, held_of}
 use Rattle.merc_core.proofs.Pool.{chosen, each_way, each-append, each-filter, each-mapped, each-changed, each-passing, each-weaker}
@@ -43,7 +62,7 @@ module _ (due : ℕ → ℕ) (workers : ℕ) where
     owes_behind = time.owes_behind;
     ends_before = grown (BeforeIn (x.branch.at + size x.branch.rest)) (λ none. none) joins more x.branch.join time.ends_before;
     begins = begins-grown joins more x.branch.at x.location time.begins;
-    timed = time.timed
+    timed = time.timed;
   }
 
   -- a script that ends early
@@ -56,7 +75,7 @@ module _ (due : ℕ → ℕ) (workers : ℕ) where
         owes_behind = each-weaker (λ cell. at + size rest ≤ due cell) (λ cell. at + 1 ≤ due cell) (λ cell less. omega arith) owed time.owes_behind;
         ends_before = before-less (at + size rest) (at + 1) (slice_get joins join) (omega arith) time.ends_before;
         begins = time.begins;
-        timed = tt
+        timed = tt;
       }
 
   -- a branch that may be listed, run or held
@@ -68,7 +87,7 @@ module _ (due : ℕ → ℕ) (workers : ℕ) where
     owes_behind = time.owes_behind;
     ends_before = time.ends_before;
     begins = begins;
-    timed = time.timed
+    timed = time.timed;
   }
     where
       its-waits : (location : Location) → AllByRecursion (λ cell. due cell ≤ at) (needs location waits) → AllByRecursion (λ cell. due cell ≤ at) waits
@@ -89,7 +108,7 @@ module _ (due : ℕ → ℕ) (workers : ℕ) where
     owes_behind = fewer (λ cell. suc at + size rest ≤ due cell) (each-weaker (λ cell. at + size item ≤ due cell) (λ cell. suc at + size rest ≤ due cell) (λ cell less. omega arith) owed time.owes_behind);
     ends_before = before-less (at + size item) (suc at + size rest) (slice_get joins join) (omega arith) time.ends_before;
     begins = begins;
-    timed = timed time.timed
+    timed = timed time.timed;
   }
 
   -- waking
@@ -106,7 +125,7 @@ module _ (due : ℕ → ℕ) (workers : ℕ) where
   starves-time joins v cell xs worker all = each-append (Timeous joins) (filter (λ x. not (parked cell x)) xs) (map (woken v (ended Starved)) (filter (parked cell) xs))
       (each-filter (Timeous joins) (λ x. not (parked cell x)) xs all)
       (each-changed (Timeous joins) (Timeous joins) (parked cell) (woken v (ended Starved))
-        (λ x is time. time-ended joins (Listed v) x.branch.join x.branch.at x.branch.signals x.branch.waits x.branch.rest Starved (woken-time joins v cell x.location x.branch worker is time)) xs all)
+      (λ x is time. time-ended joins (Listed v) x.branch.join x.branch.at x.branch.signals x.branch.waits x.branch.rest Starved (woken-time joins v cell x.location x.branch worker is time)) xs all)
 
   pub poisons-time : (joins : List Join) (v : ℕ) (cells : List ℕ) (xs : List Spot) → nat_lt v workers ≡ true → AllByRecursion (Timeous joins) xs → AllByRecursion (Timeous joins) (poison cells v xs)
   poisons-time joins v [] xs worker all = all

@@ -1,5 +1,5 @@
 //! What holds of the core after every list of events that it accepts.
-ghost use Rattle.merc_core.specs.Laws.{AlwaysEnds, EveryInterleaving, EveryLoss};
+ghost use Rattle.merc_core.specs.Laws.{AlwaysEnds, EveryInterleaving, EveryLoss, NeverStuck};
 
 /// Each outcome that is stored is the end of that child's script, each full cell has its script's value, and the
 /// outcome of the whole is the end of the root's script: for every well-formed script, every number of workers and
@@ -16,4 +16,10 @@ pub fn every_loss()
 /// No list of accepted events is as long as twice the script's size.
 pub fn always_ends()
     ensures { AlwaysEnds }
+{}
+
+/// As long as the outermost join is not done there is an event that is accepted, for every well-formed script and one
+/// worker or more.
+pub fn never_stuck()
+    ensures { NeverStuck }
 {}
