@@ -3,6 +3,7 @@ pub mod Steps
 pub mod Measure
 pub mod Truth
 pub mod TruthSteps
+pub mod Names
 pub mod Losses
 pub mod Live
 pub mod Anys

@@ -11,10 +11,11 @@ use Rattle.merc_core.specs.declared.event.Event.{Event}
 use Rattle.merc_core.specs.declared.event.Event.TheVariants.{Tick, Fork, Pop, Steal, Signal, Wait, End, Resume, Lost}
 use Rattle.merc_core.specs.World.{World, Stored, start, outcome, outermost, stored_at}
 use Rattle.merc_core.specs.WellFormed.{WellFormed, value_in, cells_of}
-use Rattle.merc_core.specs.Laws.{LeadsTo, EndIn, IsCutEnd, IsKept, IsTrueTo, IsNearlyTrueTo, EveryInterleaving, EveryLoss}
+use Rattle.merc_core.specs.Laws.{LeadsTo, IsCutEnd, IsItsEnd, IsKept, IsTrueTo, IsNearlyTrueTo, EveryInterleaving, EveryLoss}
 use Rattle.merc_core.proofs.Pool.{each-weaker, each-always, each_way}
 use Rattle.merc_core.proofs.Steps.{run-keeps}
-use Rattle.merc_core.proofs.Truth.{Near, Excuses, StoredOk, Truth, truth-start}
+use Rattle.merc_core.proofs.Truth.{EndIn, Near, Excuses, StoredOk, Truth, truth-start}
+use Rattle.merc_core.proofs.Names.{all_stand, its-end}
 use Rattle.merc_core.proofs.TruthSteps.{truth-step, MayLose, stored-near}
 
 abbrev not_fine : Outcome → Bool
@@ -191,7 +192,7 @@ pub every_interleaving : EveryInterleaving
 every_interleaving root workers events w well kept leads =
     let truth = truth-kept root workers events w well kept leads in
     record {
-      each_end = each-weaker (StoredOk (value root) (Excused ⊥) (Spoiled ⊥) w.joins) (λ one. EndIn one.child one.outcome (slice_get w.joins one.join)) (λ one stores. elim stores [ inl end ↦ end | inr lost ↦ absurd lost.0 ]) w.stored truth.ends_stored;
+      each_end = each-weaker (StoredOk (value root) (Excused ⊥) (Spoiled ⊥) w.joins) (IsItsEnd root w.joins) (λ one stores. elim stores [ inl end ↦ its-end root w (all_stand root workers events w leads) one end | inr lost ↦ absurd lost.0 ]) w.stored truth.ends_stored;
       each_value = truth.full_known;
       whole = λ o is. elim (whole-near root ⊥ w truth o is) [ inl same ↦ same | inr lost ↦ absurd lost.0 ];
     }
@@ -200,8 +201,8 @@ pub every_loss : EveryLoss
 every_loss root workers events w well leads =
     let truth = truth-lost root workers events w well leads in
     record {
-      each_end = each-weaker (StoredOk (value root) (Excused (Unit {0})) (Spoiled (Unit {0})) w.joins) (λ one. EndIn one.child one.outcome (slice_get w.joins one.join) ⊎ IsCutEnd one.outcome)
-          (λ one stores. elim stores [ inl end ↦ inl end | inr lost ↦ inr lost.1 ]) w.stored truth.ends_stored;
+      each_end = each-weaker (StoredOk (value root) (Excused (Unit {0})) (Spoiled (Unit {0})) w.joins) (λ one. IsItsEnd root w.joins one ⊎ IsCutEnd one.outcome)
+          (λ one stores. elim stores [ inl end ↦ inl (its-end root w (all_stand root workers events w leads) one end) | inr lost ↦ inr lost.1 ]) w.stored truth.ends_stored;
       each_value = truth.full_known;
       whole = λ o is. elim (whole-near root (Unit {0}) w truth o is) [ inl same ↦ inl same | inr lost ↦ inr lost.1 ];
     }

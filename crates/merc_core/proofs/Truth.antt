@@ -12,7 +12,17 @@ use Rattle.merc_script.specs.Joining.{joined, walk, lacks_memory, later}
 use Rattle.merc_core.specs.Rights.{signals_at, waits_at}
 use Rattle.merc_core.specs.World.{Branch, Location, Listed, Runs, Holds, AtCell, AtJoin, Spot, spot, Join, Stored, World, outermost, start, stored_at, with_first, gathered, outcome}
 use Rattle.merc_core.specs.WellFormed.{Formed, FormedAll, Follows, gain}
-use Rattle.merc_core.specs.Laws.{end_at, EndIn, IsCutEnd}
+use Rattle.merc_core.specs.Laws.{IsCutEnd}
+
+-- the end of a child, where the children are numbered from this number on
+abbrev pub end_at : ℕ → ℕ → Children → Option Outcome
+end_at from child NoChild = None
+end_at from child (Child first more) = if nat_eq child from then Some (end_of first) else end_at (suc from) child more
+
+-- it is the end of that child of a join
+abbrev pub EndIn : ℕ → Outcome → Option Join → Type 0
+EndIn child o None = ⊥
+EndIn child o (Some join) = end_at 1 child join.children ≡ Some o
 
 -- outcomes of a join's children from this child on, each of which is its script's end or excused
 abbrev pub Near : (ℕ → ℕ → Outcome → Type 0) → ℕ → ℕ → List Outcome → Children → Type 0

@@ -39,7 +39,7 @@ use Rattle.merc_core.specs.Events.{
   stored_with,
 }
 use Rattle.merc_core.specs.WellFormed.{Formed, FormedAll, Follows, gain}
-use Rattle.merc_core.specs.Laws.{end_at, EndIn, IsCutEnd}
+use Rattle.merc_core.specs.Laws.{IsCutEnd}
 use Rattle.merc_core.proofs.Pool.{Takes, chosen, each_way, each-append, each-filter, each-mapped, each-changed, each-weaker, takes-one, takes-others}
 use Rattle.merc_core.proofs.Steps.{
   with_rest,
@@ -58,7 +58,7 @@ use Rattle.merc_core.proofs.Steps.{
   ends as ends_it,
   loses,
 }
-use Rattle.merc_core.proofs.Truth.{Near, Excuses, Honest, IsCut, BehindIn, StateAt, Good, StoredOk, MayPoison, Truth}
+use Rattle.merc_core.proofs.Truth.{end_at, EndIn, Near, Excuses, Honest, IsCut, BehindIn, StateAt, Good, StoredOk, MayPoison, Truth}
 
 -- joins are only added to
 

@@ -1,12 +1,14 @@
 -- What holds of every list of events.
-use Rattle.std.specs.Prelude.{◌≡◌, ◌≢◌, ℕ, zero, suc, ◌+◌, ◌*◌, ◌≤◌, ◌<◌, ◌⊎◌, Bool, true, false, List, [], ◌∷◌, length, Option, Some, None, Result, Ok, Err, if◌then◌else◌, nat_eq, slice_get}
+use Rattle.std.specs.Prelude.{◌≡◌, ◌≢◌, ℕ, zero, suc, ◌+◌, ◌*◌, ◌≤◌, ◌<◌, ◌⊎◌, Bool, true, false, List, [], ◌∷◌, ◌++◌, length, Option, Some, None, Result, Ok, Err, if◌then◌else◌, nat_eq, slice_get}
 use Rattle.std.specs.List.{AllByRecursion}
 use Rattle.merc_script.specs.declared.outcome.Outcome.{Outcome}
 use Rattle.merc_script.specs.declared.outcome.Outcome.TheVariants.{Ok as Fine, Raise, Limit, Starved, NoMemory}
-use Rattle.merc_script.specs.Script.{Script, Children, NoChild, Child, end_of, size}
+use Rattle.merc_script.specs.declared.cells.Move.{Move}
+use Rattle.merc_script.specs.Script.{Script, Ends, ForkThen, Children, NoChild, Child, Cell, end_of, size}
+use Rattle.merc_script.specs.Places.{Name, left_of, script_named}
 use Rattle.merc_core.specs.declared.event.Event.{Event}
 use Rattle.merc_core.specs.declared.event.Event.TheVariants.{Tick, Fork, Pop, Steal, Signal, Wait, End, Resume, Lost}
-use Rattle.merc_core.specs.World.{World, Join, Stored, start, outcome}
+use Rattle.merc_core.specs.World.{Branch, Parent, Join, Stored, World, start, outcome}
 use Rattle.merc_core.specs.Events.{Answer, happens, run}
 use Rattle.merc_core.specs.WellFormed.{WellFormed, value_in, cells_of}
 
@@ -14,15 +16,58 @@ use Rattle.merc_core.specs.WellFormed.{WellFormed, value_in, cells_of}
 abbrev pub LeadsTo : Script → ℕ → List Event → World → Type 0
 LeadsTo root workers events w = run events (Ok (start root workers)) ≡ Ok w
 
--- the end of a child, where the children are numbered from this number on
-abbrev pub end_at : ℕ → ℕ → Children → Option Outcome
-end_at from child NoChild = None
-end_at from child (Child first more) = if nat_eq child from then Some (end_of first) else end_at (suc from) child more
+-- Where branches and joins stand in the root script
 
--- it is the end of that child of a join
-abbrev pub EndIn : ℕ → Outcome → Option Join → Type 0
-EndIn child o None = ⊥
-EndIn child o (Some join) = end_at 1 child join.children ≡ Some o
+-- the name of a child's script, whose join has this parent; the outermost join's child has the root's script
+abbrev pub child_name : ℕ → Option Parent → Name
+child_name child None = []
+child_name child (Some parent) = parent.name ++ ((parent.passed, child) ∷ [])
+
+-- What is left of the script at a branch's name, without the items that it has passed, is what it carries, or it carries an end that it was given early.
+abbrev pub Carries : Script → Branch → Type 0
+Carries root b = (left_of (record { root = root; name = b.name; passed = b.passed }) ≡ Some b.rest) ⊎ (end : Outcome) × (b.rest ≡ Ends end)
+
+-- its name is that of a child of its join
+abbrev pub IsNamedIn : Branch → Option Join → Type 0
+IsNamedIn b None = ⊥
+IsNamedIn b (Some join) = b.name ≡ child_name b.child join.parent
+
+pub record Stands (root : Script) (joins : List Join) (b : Branch) : Type 0 where
+  pub carries : Carries root b
+  pub named : IsNamedIn b (slice_get joins b.join)
+
+-- A join has the limit and the children of the Fork at its parent's place.
+pub record IsOfFork (root : Script) (parent : Parent) (limit : ℕ) (children : Children) : Type 0 where
+  pub cells : List Cell
+  pub moves : List Move
+  pub rest : Script
+  pub is : left_of (record { root = root; name = parent.name; passed = parent.passed }) ≡ Some (ForkThen limit cells moves children rest)
+
+abbrev pub IsMadeBy : Script → ℕ → Children → Option Parent → Type 0
+IsMadeBy root limit children None = children ≡ Child root NoChild
+IsMadeBy root limit children (Some parent) = IsOfFork root parent limit children
+
+pub record AllStand (root : Script) (w : World) : Type 0 where
+  pub each_branch : AllByRecursion (λ one. Stands root w.joins one.branch) w.pool
+  pub each_join : AllByRecursion (λ join. IsMadeBy root join.limit join.children join.parent) w.joins
+
+abbrev pub EachStands : Type 0
+EachStands = (root : Script) (workers : ℕ) (events : List Event) (w : World) → LeadsTo root workers events w → AllStand root w
+
+-- Outcomes and values
+
+-- the script of a child of a join
+abbrev pub child_script : Script → ℕ → Option Join → Option Script
+child_script root child None = None
+child_script root child (Some join) = script_named (child_name child join.parent) (Some root)
+
+abbrev pub IsEndOf : Outcome → Option Script → Type 0
+IsEndOf o None = ⊥
+IsEndOf o (Some script) = o ≡ end_of script
+
+-- a stored outcome is the end of that child's script
+abbrev pub IsItsEnd : Script → List Join → Stored → Type 0
+IsItsEnd root joins one = IsEndOf one.outcome (child_script root one.child (slice_get joins one.join))
 
 -- no event ends a branch for want of memory
 abbrev pub IsKept : Event → Type 0
@@ -38,7 +83,7 @@ IsKept (Lost worker) = ⊥
 
 -- Each stored outcome is the end of that child's script, each full cell has a value in the root's script, and the outcome of the whole is the root's end.
 pub record IsTrueTo (root : Script) (w : World) : Type 0 where
-  pub each_end : AllByRecursion (λ one. EndIn one.child one.outcome (slice_get w.joins one.join)) w.stored
+  pub each_end : AllByRecursion (IsItsEnd root w.joins) w.stored
   pub each_value : AllByRecursion (λ cell. value_in (cells_of root) cell ≢ None) w.full
   pub whole : (o : Outcome) → outcome w ≡ Some o → o ≡ end_of root
 
@@ -56,7 +101,7 @@ IsCutEnd NoMemory = Unit {0}
 
 -- The same where branches may end for want of memory: a stored outcome may then be NoMemory or Starved instead.
 pub record IsNearlyTrueTo (root : Script) (w : World) : Type 0 where
-  pub each_end : AllByRecursion (λ one. EndIn one.child one.outcome (slice_get w.joins one.join) ⊎ IsCutEnd one.outcome) w.stored
+  pub each_end : AllByRecursion (λ one. IsItsEnd root w.joins one ⊎ IsCutEnd one.outcome) w.stored
   pub each_value : AllByRecursion (λ cell. value_in (cells_of root) cell ≢ None) w.full
   pub whole : (o : Outcome) → outcome w ≡ Some o → (o ≡ end_of root) ⊎ IsCutEnd o
 

@@ -1,5 +1,5 @@
 //! What holds of the core after every list of events that it accepts.
-ghost use Rattle.merc_core.specs.Laws.{AlwaysEnds, EveryInterleaving, EveryLoss, NeverStuck};
+ghost use Rattle.merc_core.specs.Laws.{AlwaysEnds, EachStands, EveryInterleaving, EveryLoss, NeverStuck};
 
 /// Each outcome that is stored is the end of that child's script, each full cell has its script's value, and the
 /// outcome of the whole is the end of the root's script: for every well-formed script, every number of workers and
@@ -22,4 +22,11 @@ pub fn always_ends()
 /// worker or more.
 pub fn never_stuck()
     ensures { NeverStuck }
+{}
+
+/// What is left of the script at a branch's name, without the items that it has passed, is what it carries, or it
+/// carries an end that it was given early. And each join has the limit and the children of the Fork at its parent's
+/// place. This holds of every script.
+pub fn each_stands()
+    ensures { EachStands }
 {}
