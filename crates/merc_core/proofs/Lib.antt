@@ -15,4 +15,5 @@ pub mod ForkServing
 pub mod Parking
 pub mod LiveSteps
 pub mod Dues
+pub mod Hands
 mod CoreExamples

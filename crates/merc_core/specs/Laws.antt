@@ -8,8 +8,8 @@ use Rattle.merc_script.specs.Script.{Script, Ends, ForkThen, Children, NoChild, 
 use Rattle.merc_script.specs.Places.{Name, left_of, script_named}
 use Rattle.merc_core.specs.declared.event.Event.{Event}
 use Rattle.merc_core.specs.declared.event.Event.TheVariants.{Tick, Fork, Pop, Steal, Signal, Wait, End, Resume, Lost}
-use Rattle.merc_core.specs.World.{Branch, Parent, Join, Stored, World, start, outcome}
-use Rattle.merc_core.specs.Events.{Answer, happens, run}
+use Rattle.merc_core.specs.World.{Branch, Spot, Parent, Join, Stored, World, start, outcome}
+use Rattle.merc_core.specs.Events.{Answer, worker_of, in_hand, happens, run}
 use Rattle.merc_core.specs.WellFormed.{WellFormed, value_in, cells_of}
 
 -- this list of events is accepted, and leads to a world
@@ -121,3 +121,17 @@ pub record GoesOn (w : World) : Type 0 where
 -- As long as the outermost join is not done there is one.
 abbrev pub NeverStuck : Type 0
 NeverStuck = (root : Script) (workers : ℕ) (events : List Event) (w : World) → WellFormed root → 1 ≤ workers → LeadsTo root workers events w → outcome w ≡ None → GoesOn w
+
+-- What a worker runs
+
+abbrev pub spot_of : Option (Spot × List Spot) → Option Spot
+spot_of None = None
+spot_of (Some found) = Some found.0
+
+-- the branch that a worker runs or holds
+abbrev pub hand_of : ℕ → World → Option Spot
+hand_of worker w = spot_of (in_hand worker w.pool)
+
+-- Only a worker's own events change what it runs or holds.
+abbrev pub OwnEventsAlone : Type 0
+OwnEventsAlone = (w : World) (event : Event) (next : World) (worker : ℕ) → happens w event ≡ Ok next → (worker_of event ≡ worker → ⊥) → hand_of worker next ≡ hand_of worker w

@@ -1,5 +1,5 @@
 //! What holds of the core after every list of events that it accepts.
-ghost use Rattle.merc_core.specs.Laws.{AlwaysEnds, EachStands, EveryInterleaving, EveryLoss, NeverStuck};
+ghost use Rattle.merc_core.specs.Laws.{AlwaysEnds, EachStands, EveryInterleaving, EveryLoss, NeverStuck, OwnEventsAlone};
 
 /// Each outcome that is stored is the end of that child's script, each full cell has its script's value, and the
 /// outcome of the whole is the end of the root's script: for every well-formed script, every number of workers and
@@ -29,4 +29,9 @@ pub fn never_stuck()
 /// place. This holds of every script.
 pub fn each_stands()
     ensures { EachStands }
+{}
+
+/// An event of another worker changes nothing of what a worker runs or holds.
+pub fn own_events_alone()
+    ensures { OwnEventsAlone }
 {}
