@@ -165,7 +165,7 @@ step-hand w _ _ v (parks u b cell rest others worker takes full poisoned) apart 
 step-hand w _ _ v (finishes e u b o others worker takes how) apart =
     let other = other-worker u v (λ same. apart (finish-worker e u b.rest o how ∙ same)) in
     hold-hand v u other b.join (poison b.signals u others) (outcomes_of (stored_with w b o) b.join (slice_get w.joins b.join)) ∙ (poison-hand v u other b.signals others ∙ sym (find-takes (acts v) takes other))
-step-hand w _ _ v (takes_up e u from b others worker takes-up takes) apart =
+step-hand w _ _ v (takes_up e u from b others worker takes-up free takes) apart =
     let other = other-worker u v (λ same. apart (takes-worker e u takes-up ∙ same)) in back-hand v u other w (spot (Listed from) b) (Runs u) b others takes refl other
 step-hand w _ _ v (resumes u b number join os others worker takes is all) apart =
     let other = other-worker u v apart in back-hand v u other w (spot (Holds u number) b) (Runs u) (go_behind (joined join.limit os) b) others takes other other

@@ -16,4 +16,5 @@ pub mod Parking
 pub mod LiveSteps
 pub mod Dues
 pub mod Hands
+pub mod Single
 mod CoreExamples

@@ -233,7 +233,7 @@ module _ (due : ℕ → ℕ) (root : Script) where
         (λ Is all. (has-holds Is cell b.waits all formed.0, each-filter Is _ b.waits all)) time)
         refl (λ Is all. (has-holds Is cell b.waits all formed.0, each-filter Is _ b.waits all)) (full, poisoned) refl refl live
     live-step w _ _ (finishes e v b o others worker takes how) truth live = finish-live w v b o others worker takes live
-    live-step w _ _ (takes_up e v u b others worker takes-up takes) truth live =
+    live-step w _ _ (takes_up e v u b others worker takes-up free takes) truth live =
         live-back w (spot (Listed u) b) (Runs v) b others takes
         (λ time. time-acts due w.workers w.joins (Runs v) b.join b.at b.signals b.waits b.rest (Listed u) worker refl tt time)
         refl (λ Is all. all) tt refl refl live

@@ -227,7 +227,7 @@ event-less {w} (finishes e v b o others worker takes how) =
     let h = hold_load v b.join (poison b.signals v others) (outcomes_of (stored_with w b o) b.join (slice_get w.joins b.join)) in
     let some = weight-some b.rest in
     omega arith
-event-less {w} (takes_up e v u b others worker takes-up takes) = back_load w (Runs v) b others takes (omega arith)
+event-less {w} (takes_up e v u b others worker takes-up free takes) = back_load w (Runs v) b others takes (omega arith)
 event-less {w} (resumes v b number join outcomes others worker takes is all) =
     let less = behind_load (joined join.limit outcomes) b in back_load w (Runs v) (go_behind (joined join.limit outcomes) b) others takes (omega arith)
 

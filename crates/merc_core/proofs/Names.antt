@@ -211,7 +211,7 @@ module _ (root : Script) where
     each_branch = hold-stands w.joins v b.join (poison b.signals v others) (outcomes_of (stored_with w b o) b.join (slice_get w.joins b.join)) (poison-stands w.joins b.signals v others (takes-others (Right w.joins) takes all.each_branch));
     each_join = all.each_join;
   }
-  stand-step w _ _ (takes_up e v u b others worker takes-up takes) may all = back-stands w (Runs v) b others takes (λ stands. stands) all
+  stand-step w _ _ (takes_up e v u b others worker takes-up free takes) may all = back-stands w (Runs v) b others takes (λ stands. stands) all
   stand-step w _ _ (resumes v b number join os others worker takes is every) may all = back-stands w (Runs v) (go_behind (joined join.limit os) b) others takes (λ stands. stands-behind w.joins b (joined join.limit os) stands) all
 
   pub all_stand : (workers : ℕ) (events : List Event) (w : World) → LeadsTo root workers events w → All w

@@ -448,7 +448,7 @@ module _ {V : Type 0} (value : ℕ → Option V) (Excused : ℕ → ℕ → Outc
   truth-step root w _ _ (parks v b cell rest others worker takes full poisoned) may truth = true-back root w (AtCell cell) (past_wait cell b rest) others takes
       (λ state. wait-states w.joins b cell rest state) truth
   truth-step root w _ _ (finishes e v b o others worker takes how) may truth = finishes-truth root w e v b b.rest o others takes how may truth
-  truth-step root w _ _ (takes_up e v u b others worker takes-up takes) may truth = true-back root w (Runs v) b others takes (λ state. state) truth
+  truth-step root w _ _ (takes_up e v u b others worker takes-up free takes) may truth = true-back root w (Runs v) b others takes (λ state. state) truth
   truth-step root w _ _ (resumes v b number join os others worker takes is all) may truth = true-back root w (Runs v) (go_behind (joined join.limit os) b) others takes
       (λ state. resume-state w.joins v number b join os (gathered-near w.joins number join w.stored is truth.ends_stored 1 join.children os (λ child o end. end) all)
       (subst (Behind w.joins b b.rest) is state)) truth
