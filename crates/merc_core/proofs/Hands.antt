@@ -10,13 +10,60 @@ use Rattle.merc_script.specs.Joining.{joined}
 use Rattle.merc_core.specs.declared.event.Event.{Event}
 use Rattle.merc_core.specs.World.{Branch, Location, Listed, Runs, Holds, AtCell, AtJoin, Spot, spot, World, outcomes_of}
 use Rattle.merc_core.specs.Events.{
-  worker_of, acts, acts_at, parked, parked_at, awaits, awaits_at, first_from, beside, taken, in_hand, past_tick, past_signal, past_wait, ended, go_behind, spawned, listed_backwards, placed, parent_behind, woken, wake, unchanged, poison,
-  hold_one, hold_if, forked, signalled, finished, stored_with, happens
+  worker_of,
+  acts,
+  acts_at,
+  parked,
+  parked_at,
+  awaits,
+  awaits_at,
+  first_from,
+  beside,
+  taken,
+  in_hand,
+  past_tick,
+  past_signal,
+  past_wait,
+  ended,
+  go_behind,
+  spawned,
+  listed_backwards,
+  placed,
+  parent_behind,
+  woken,
+  wake,
+  unchanged,
+  poison,
+  hold_one,
+  hold_if,
+  forked,
+  signalled,
+  finished,
+  stored_with,
+  happens,
 }
 use Rattle.merc_core.specs.Laws.{spot_of, hand_of, OwnEventsAlone}
 use Rattle.merc_core.proofs.Pool.{Takes, here, there, chosen, each_way, Found, first-found}
 use Rattle.merc_core.proofs.Steps.{
-  with_rest, put_back, TakesUp, pops, steals, Finishes, ends as ends_it, loses, Step, ticked, forks, signals as signals_it, passes, starves, parks, finishes, takes_up, resumes, step_of
+  with_rest,
+  put_back,
+  TakesUp,
+  pops,
+  steals,
+  Finishes,
+  ends as ends_it,
+  loses,
+  Step,
+  ticked,
+  forks,
+  signals as signals_it,
+  passes,
+  starves,
+  parks,
+  finishes,
+  takes_up,
+  resumes,
+  step_of,
 }
 use Rattle.merc_core.proofs.TruthSteps.{is_same, test_same}
 
@@ -38,9 +85,9 @@ module _ (test : Spot → Bool) where
   find-filter : (other : Spot → Bool) → ((x : Spot) → other x ≡ true → test x ≡ false) → (xs : List Spot) → find test (filter (λ x. not (other x)) xs) ≡ find test xs
   find-filter other apart [] = refl
   find-filter other apart (x ∷ xs) = elim (each_way (other x)) [
-      inl is ↦ rw (is, apart x is) (find-filter other apart xs)
+    | inl is ↦ rw (is, apart x is) (find-filter other apart xs)
     | inr isnt ↦ rw isnt (ap (λ (r : Option Spot). if test x then Some x else r) (find-filter other apart xs))
-    ]
+  ]
 
   find-none : (change : Spot → Spot) → ((x : Spot) → test (change x) ≡ false) → (xs : List Spot) → find test (map change xs) ≡ None
   find-none change none [] = refl
@@ -49,31 +96,31 @@ module _ (test : Spot → Bool) where
   find-mapped : (change : Spot → Spot) → ((x : Spot) → (change x ≡ x) ⊎ ((test x ≡ false) × (test (change x) ≡ false))) → (xs : List Spot) → find test (map change xs) ≡ find test xs
   find-mapped change keeps [] = refl
   find-mapped change keeps (x ∷ xs) = elim (keeps x) [
-      inl same ↦ rw (same, find-mapped change keeps xs) refl
+    | inl same ↦ rw (same, find-mapped change keeps xs) refl
     | inr neither ↦ rw (neither.0, neither.1) (find-mapped change keeps xs)
-    ]
+  ]
 
   -- as a place it is the same
   find-first : (from : ℕ) (xs : List Spot) → find test xs ≡ None → first_from from test xs ≡ None
   find-first from [] none = refl
   find-first from (x ∷ xs) none = elim (chosen (test x) (Some x) (find test xs) None none) [
-      inl now ↦ absurd (let e = now.1 in cc)
+    | inl now ↦ absurd (let e = now.1 in cc)
     | inr later ↦ rw later.0 (find-first (from + 1) xs later.1)
-    ]
+  ]
 
   find-there : (xs : List Spot) (place : ℕ) (from : ℕ) → first_from from test xs ≡ Some place → (i : ℕ) × (place ≡ from + i) × (slice_get xs i ≡ find test xs)
   find-there [] place from is = absurd (cc)
   find-there (x ∷ xs) place from is = elim (chosen (test x) (Some from) (first_from (from + 1) test xs) (Some place) is) [
-      inl now ↦ (zero, (let e : from ≡ place = let s = now.1 in cc in omega arith), rw now.0 refl)
+    | inl now ↦ (zero, (let e : from ≡ place = let s = now.1 in cc in omega arith), rw now.0 refl)
     | inr later ↦ let found = find-there xs place (from + 1) later.1 in (suc found.0, (let e = found.1 in omega arith), rw later.0 found.2)
-    ]
+  ]
 
   first-none : (from : ℕ) (xs : List Spot) → first_from from test xs ≡ None → find test xs ≡ None
   first-none from [] none = refl
   first-none from (x ∷ xs) none = elim (chosen (test x) (Some from) (first_from (from + 1) test xs) None none) [
-      inl now ↦ absurd (let e = now.1 in cc)
+    | inl now ↦ absurd (let e = now.1 in cc)
     | inr later ↦ rw later.0 (first-none (from + 1) xs later.1)
-    ]
+  ]
 
   from-place : (xs : List Spot) (place : Option ℕ) → first_from 0 test xs ≡ place → spot_of (taken xs place) ≡ find test xs
   from-place xs None none = sym (first-none 0 xs none)
@@ -151,7 +198,7 @@ step-hand w _ _ v (ticked u b rest others worker takes) apart =
 step-hand w _ _ v (forks u b limit cells moves children rest others worker takes) apart =
     let other = other-worker u v apart in
     find-append (acts v) others (spot (AtJoin (length w.joins)) (parent_behind b cells moves children rest) ∷ placed u (spawned (length w.joins) b cells moves 1 (suc b.at) children))
-      (placed-hand v u other (spawned (length w.joins) b cells moves 1 (suc b.at) children))
+    (placed-hand v u other (spawned (length w.joins) b cells moves 1 (suc b.at) children))
     ∙ sym (find-takes (acts v) takes other)
 step-hand w _ _ v (signals_it u b cell rest others worker takes) apart =
     let other = other-worker u v apart in

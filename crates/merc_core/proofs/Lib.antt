@@ -17,4 +17,5 @@ pub mod LiveSteps
 pub mod Dues
 pub mod Hands
 pub mod Single
+pub mod Histories
 mod CoreExamples

@@ -11,13 +11,50 @@ use Rattle.merc_script.specs.Joining.{joined}
 use Rattle.merc_core.specs.declared.event.Event.{Event}
 use Rattle.merc_core.specs.World.{Branch, Location, Listed, Runs, Holds, AtCell, AtJoin, Spot, spot, Join, World, start, outcomes_of}
 use Rattle.merc_core.specs.Events.{
-  acts, acts_at, parked, parked_at, awaits, awaits_at, in_hand, past_tick, past_signal, past_wait, ended, go_behind, spawned, listed_backwards, placed, parent_behind, woken, wake, unchanged, poison, hold, hold_one, hold_if,
-  forked, signalled, finished, stored_with
+  acts,
+  acts_at,
+  parked,
+  parked_at,
+  awaits,
+  awaits_at,
+  in_hand,
+  past_tick,
+  past_signal,
+  past_wait,
+  ended,
+  go_behind,
+  spawned,
+  listed_backwards,
+  placed,
+  parent_behind,
+  woken,
+  wake,
+  unchanged,
+  poison,
+  hold,
+  hold_one,
+  hold_if,
+  forked,
+  signalled,
+  finished,
+  stored_with,
 }
 use Rattle.merc_core.specs.Laws.{LeadsTo, spot_of}
 use Rattle.merc_core.proofs.Pool.{Takes, here, there, chosen, each_way, each-always}
 use Rattle.merc_core.proofs.Steps.{
-  with_rest, put_back, Step, ticked, forks, signals as signals_it, passes, starves, parks, finishes, takes_up, resumes, run-keeps
+  with_rest,
+  put_back,
+  Step,
+  ticked,
+  forks,
+  signals as signals_it,
+  passes,
+  starves,
+  parks,
+  finishes,
+  takes_up,
+  resumes,
+  run-keeps,
 }
 use Rattle.merc_core.proofs.TruthSteps.{is_same, test_same}
 use Rattle.merc_core.proofs.Measure.{total, total-takes, total-append, total-back, total-changed, total-mapped}
@@ -125,9 +162,9 @@ hold-parent k u number xs (Some outcomes) = total-mapped (parent_of k) (hold_one
 none-total : (v : ℕ) (xs : List Spot) → find (acts v) xs ≡ None → total (acting v) xs ≡ 0
 none-total v [] none = refl
 none-total v (x ∷ xs) none = elim (chosen (acts v x) (Some x) (find (acts v) xs) None none) [
-    inl now ↦ absurd (let e = now.1 in cc)
+  | inl now ↦ absurd (let e = now.1 in cc)
   | inr later ↦ let k = none-total v xs later.1 in rw later.0 (omega arith)
-  ]
+]
 
 free-total : (v : ℕ) (w : World) → in_hand v w.pool ≡ None → total (acting v) w.pool ≡ 0
 free-total v w free = none-total v w.pool (sym (hand-found (acts v) w.pool) ∙ ap spot_of free)
@@ -138,7 +175,7 @@ back-single : (w : World) (x : Spot) (to : Location) (b : Branch) (others : List
 back-single w x to b others takes hand parent single = record {
   one_hand = λ v. let t = total-takes (acting v) takes in let k = total-back (acting v) others (spot to b) in let less = hand v in let one = single.one_hand v in omega arith;
   one_parent = λ number. let t = total-takes (parent_of number) takes in let k = total-back (parent_of number) others (spot to b) in let less = parent number in let one = single.one_parent number in omega arith;
-  fresh = λ number more. let t = total-takes (parent_of number) takes in let k = total-back (parent_of number) others (spot to b) in let less = parent number in let none = single.fresh number more in omega arith
+  fresh = λ number more. let t = total-takes (parent_of number) takes in let k = total-back (parent_of number) others (spot to b) in let less = parent number in let none = single.fresh number more in omega arith;
 }
 
 no-parent : (number : ℕ) (x : Spot) → 0 ≤ parent_of number x
@@ -151,23 +188,23 @@ up-hand v u pool others false is free less one = omega arith
 up-single : (w : World) (u from : ℕ) (b : Branch) (others : List Spot) → in_hand u w.pool ≡ None → Takes w.pool (spot (Listed from) b) others → Single w → Single (put_back w (Runs u) b others)
 up-single w u from b others free takes single = record {
   one_hand = λ v.
-    let t = total-takes (acting v) takes in let k = total-back (acting v) others (spot (Runs u) b) in
-    let most = up-hand v u w.pool others (nat_eq u v) refl (free-total u w free) (omega arith) (single.one_hand v) in omega arith;
+      let t = total-takes (acting v) takes in let k = total-back (acting v) others (spot (Runs u) b) in
+      let most = up-hand v u w.pool others (nat_eq u v) refl (free-total u w free) (omega arith) (single.one_hand v) in omega arith;
   one_parent = λ number. let t = total-takes (parent_of number) takes in let k = total-back (parent_of number) others (spot (Runs u) b) in let one = single.one_parent number in omega arith;
-  fresh = λ number more. let t = total-takes (parent_of number) takes in let k = total-back (parent_of number) others (spot (Runs u) b) in let none = single.fresh number more in omega arith
+  fresh = λ number more. let t = total-takes (parent_of number) takes in let k = total-back (parent_of number) others (spot (Runs u) b) in let none = single.fresh number more in omega arith;
 }
 
 signal-single : (w : World) (u cell : ℕ) (b : Branch) (rest : Script) (others : List Spot) → Takes w.pool (spot (Runs u) (with_rest b (SignalThen cell rest))) others → Single w → Single (signalled w u b others cell rest)
 signal-single w u cell b rest others takes single = record {
   one_hand = λ v.
-    let t = total-takes (acting v) takes in let k = total-back (acting v) (wake cell u unchanged others) (spot (Runs u) (past_signal cell b rest)) in
-    let m = wake-total (acting_at v) (λ n. refl) cell u unchanged others in let one = single.one_hand v in omega arith;
+      let t = total-takes (acting v) takes in let k = total-back (acting v) (wake cell u unchanged others) (spot (Runs u) (past_signal cell b rest)) in
+      let m = wake-total (acting_at v) (λ n. refl) cell u unchanged others in let one = single.one_hand v in omega arith;
   one_parent = λ number.
-    let t = total-takes (parent_of number) takes in let k = total-back (parent_of number) (wake cell u unchanged others) (spot (Runs u) (past_signal cell b rest)) in
-    let m = wake-total (parent_at number) (λ n. refl) cell u unchanged others in let one = single.one_parent number in omega arith;
+      let t = total-takes (parent_of number) takes in let k = total-back (parent_of number) (wake cell u unchanged others) (spot (Runs u) (past_signal cell b rest)) in
+      let m = wake-total (parent_at number) (λ n. refl) cell u unchanged others in let one = single.one_parent number in omega arith;
   fresh = λ number more.
-    let t = total-takes (parent_of number) takes in let k = total-back (parent_of number) (wake cell u unchanged others) (spot (Runs u) (past_signal cell b rest)) in
-    let m = wake-total (parent_at number) (λ n. refl) cell u unchanged others in let none = single.fresh number more in omega arith
+      let t = total-takes (parent_of number) takes in let k = total-back (parent_of number) (wake cell u unchanged others) (spot (Runs u) (past_signal cell b rest)) in
+      let m = wake-total (parent_at number) (λ n. refl) cell u unchanged others in let none = single.fresh number more in omega arith;
 }
 
 finish-single : (w : World) (u : ℕ) (b : Branch) (o : Outcome) (others : List Spot) → Takes w.pool (spot (Runs u) b) others → Single w → Single (finished w u b others o)
@@ -176,24 +213,24 @@ finish-single w u b o others takes single =
     let outcomes = outcomes_of (stored_with w b o) b.join (slice_get w.joins b.join) in
     record {
       one_hand = λ v.
-        let t = total-takes (acting v) takes in
-        let p = poison-total (acting_at v) (λ n. refl) b.signals u others in
-        let one = single.one_hand v in
-        elim (each_way (nat_eq u v)) [
-          inl same ↦
-            let mine : acting v (spot (Runs u) b) ≡ 1 = rw same refl in
-            let h = hold-one v u b.join after outcomes in
-            let q = poison-total (parent_at b.join) (λ n. refl) b.signals u others in
-            let r = total-takes (parent_of b.join) takes in
-            let most = single.one_parent b.join in omega arith
-        | inr other ↦ let h = hold-other v u b.join after outcomes other in omega arith
-        ];
+          let t = total-takes (acting v) takes in
+          let p = poison-total (acting_at v) (λ n. refl) b.signals u others in
+          let one = single.one_hand v in
+          elim (each_way (nat_eq u v)) [
+            | inl same ↦
+                let mine : acting v (spot (Runs u) b) ≡ 1 = rw same refl in
+                let h = hold-one v u b.join after outcomes in
+                let q = poison-total (parent_at b.join) (λ n. refl) b.signals u others in
+                let r = total-takes (parent_of b.join) takes in
+                let most = single.one_parent b.join in omega arith
+            | inr other ↦ let h = hold-other v u b.join after outcomes other in omega arith
+          ];
       one_parent = λ number.
-        let t = total-takes (parent_of number) takes in let p = poison-total (parent_at number) (λ n. refl) b.signals u others in
-        let h = hold-parent number u b.join after outcomes in let one = single.one_parent number in omega arith;
+          let t = total-takes (parent_of number) takes in let p = poison-total (parent_at number) (λ n. refl) b.signals u others in
+          let h = hold-parent number u b.join after outcomes in let one = single.one_parent number in omega arith;
       fresh = λ number more.
-        let t = total-takes (parent_of number) takes in let p = poison-total (parent_at number) (λ n. refl) b.signals u others in
-        let h = hold-parent number u b.join after outcomes in let none = single.fresh number more in omega arith
+          let t = total-takes (parent_of number) takes in let p = poison-total (parent_at number) (λ n. refl) b.signals u others in
+          let h = hold-parent number u b.join after outcomes in let none = single.fresh number more in omega arith;
     }
 
 fork-parent : (number k : ℕ) (at : Bool) (sum : ℕ) → nat_eq number k ≡ at → (number ≤ k → sum ≡ 0) → sum ≤ 1 → one_if at + sum ≤ 1
@@ -215,17 +252,17 @@ fork-single w u b limit cells moves children rest others takes single =
     let new : Join = record { limit = limit; children = children; behind = suc b.at + sizes children; parent = Some (record { join = b.join; child = b.child; name = b.name; passed = b.passed }) } in
     record {
       one_hand = λ v.
-        let t = total-takes (acting v) takes in let k = total-append (acting v) others (mine ∷ placed u kids) in let p = placed-total (acting_at v) (λ n. refl) u kids in
-        let one = single.one_hand v in omega arith;
+          let t = total-takes (acting v) takes in let k = total-append (acting v) others (mine ∷ placed u kids) in let p = placed-total (acting_at v) (λ n. refl) u kids in
+          let one = single.one_hand v in omega arith;
       one_parent = λ n.
-        let t = total-takes (parent_of n) takes in let k = total-append (parent_of n) others (mine ∷ placed u kids) in let p = placed-total (parent_at n) (λ m. refl) u kids in
-        let one = single.one_parent n in
-        let most = fork-parent number n (nat_eq number n) (total (parent_of n) others) refl (λ more. let none = single.fresh n more in omega arith) (omega arith) in omega arith;
+          let t = total-takes (parent_of n) takes in let k = total-append (parent_of n) others (mine ∷ placed u kids) in let p = placed-total (parent_at n) (λ m. refl) u kids in
+          let one = single.one_parent n in
+          let most = fork-parent number n (nat_eq number n) (total (parent_of n) others) refl (λ more. let none = single.fresh n more in omega arith) (omega arith) in omega arith;
       fresh = λ n more.
-        let t = total-takes (parent_of n) takes in let k = total-append (parent_of n) others (mine ∷ placed u kids) in let p = placed-total (parent_at n) (λ m. refl) u kids in
-        let l = more-joins w.joins new n more in
-        let none = single.fresh n (omega arith) in
-        let apart : parent_of n mine ≡ 0 = rw (fork-fresh number n (omega arith)) refl in omega arith
+          let t = total-takes (parent_of n) takes in let k = total-append (parent_of n) others (mine ∷ placed u kids) in let p = placed-total (parent_at n) (λ m. refl) u kids in
+          let l = more-joins w.joins new n more in
+          let none = single.fresh n (omega arith) in
+          let apart : parent_of n mine ≡ 0 = rw (fork-fresh number n (omega arith)) refl in omega arith;
     }
 
 pub single-step : (w : World) (e : Event) (w' : World) → Step w e w' → Unit {0} → Single w → Single w'
@@ -243,7 +280,7 @@ pub single-start : (root : Script) (workers : ℕ) → Single (start root worker
 single-start root workers = record {
   one_hand = λ v. let k = one-most (nat_eq 0 v) in omega arith;
   one_parent = λ number. omega arith;
-  fresh = λ number more. refl
+  fresh = λ number more. refl;
 }
 
 pub single-after : (root : Script) (workers : ℕ) (events : List Event) (w : World) → LeadsTo root workers events w → Single w

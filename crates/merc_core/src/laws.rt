@@ -1,4 +1,5 @@
 //! What holds of the core after every list of events that it accepts.
+ghost use Rattle.merc_core.specs.History.{HistoriesAreRuns};
 ghost use Rattle.merc_core.specs.Laws.{AlwaysEnds, EachStands, EveryInterleaving, EveryLoss, NeverStuck, OwnEventsAlone};
 
 /// Each outcome that is stored is the end of that child's script, each full cell has its script's value, and the
@@ -34,4 +35,10 @@ pub fn each_stands()
 /// An event of another worker changes nothing of what a worker runs or holds.
 pub fn own_events_alone()
     ensures { OwnEventsAlone }
+{}
+
+/// A history has no Ticks: those of a branch stand directly before its next other step. Where it leads, a list of
+/// events leads that is the same but for its Ticks.
+pub fn histories_are_runs()
+    ensures { HistoriesAreRuns }
 {}
