@@ -19,3 +19,5 @@ pub mod Hands
 pub mod Single
 pub mod Histories
 mod CoreExamples
+mod WellFormedExamples
+mod HistoryExamples
