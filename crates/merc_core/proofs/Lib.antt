@@ -5,6 +5,7 @@ pub mod Truth
 pub mod TruthSteps
 pub mod Names
 pub mod Losses
+pub mod Carrying
 pub mod Live
 pub mod Anys
 pub mod Progress

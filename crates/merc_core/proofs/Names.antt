@@ -66,7 +66,7 @@ next-behind (suc passed) (WaitThen cell rest) item is = next-behind passed rest 
 next-behind (suc passed) (SignalThen cell rest) item is = next-behind passed rest item is
 next-behind (suc passed) (ForkThen limit cells moves children rest) item is = next-behind passed rest item is
 
-next-in : (passed : ℕ) (s : Option Script) (item : Script) → left_in passed s ≡ Some item → left_in (suc passed) s ≡ left_behind 1 item
+pub next-in : (passed : ℕ) (s : Option Script) (item : Script) → left_in passed s ≡ Some item → left_in (suc passed) s ≡ left_behind 1 item
 next-in passed None item is = absurd (cc)
 next-in passed (Some s) item is = next-behind passed s item is
 
@@ -126,14 +126,26 @@ module _ (root : Script) where
   hold-stands joins v number xs None all = all
   hold-stands joins v number xs (Some outcomes) all = each-mapped (Right joins) (Right joins) (hold_one v number) (λ x stands. held-stands joins v number x (awaits number x) stands) xs all
 
+  -- the children of a Fork begin at the beginnings of its scripts
+  module _ (b : Branch) (limit : ℕ) (cells : List Cell) (moves : List Move) (all : Children) (rest : Script) (at : At b.name b.passed ≡ Some (ForkThen limit cells moves all rest)) where
+    child-left : (child : ℕ) (s : Script) → child_at child all ≡ Some s → At (b.name ++ ((b.passed, child) ∷ [])) 0 ≡ Some s
+    child-left child s there' =
+        let named : script_named (b.name ++ ((b.passed, child) ∷ [])) (Some root) ≡ Some s = named-last b.name b.passed child (Some root) ∙ ap (child_of child) at ∙ there' in
+        ap (left_in 0) named
+
+    kids-left-from : (number from t : ℕ) (more : Children) → ((i : ℕ) → child_at (from + i) all ≡ child_at (suc i) more) → AllByRecursion (λ kid'. At kid'.name kid'.passed ≡ Some kid'.rest) (spawned number b cells moves from t more)
+    kids-left-from number from t NoChild leads = tt
+    kids-left-from number from t (Child first others) leads = (
+      child-left from first (let e : from ≡ from + 0 = omega arith in ap (λ (k : ℕ). child_at k all) e ∙ leads 0),
+      kids-left-from number (suc from) (t + size first) others (λ i. let e : suc from + i ≡ from + suc i = omega arith in ap (λ (k : ℕ). child_at k all) e ∙ leads (suc i)),
+    )
+
+    pub kids-left : (number : ℕ) → AllByRecursion (λ kid'. At kid'.name kid'.passed ≡ Some kid'.rest) (spawned number b cells moves 1 (suc b.at) all)
+    kids-left number = kids-left-from number 1 (suc b.at) all (λ i. let e : 1 + i ≡ suc i = omega arith in ap (λ (k : ℕ). child_at k all) e)
+
   -- the children of a Fork
   module _ (joins : List Join) (number : ℕ) (new : Join) (is : slice_get joins number ≡ Some new) (b : Branch) (limit : ℕ) (cells : List Cell) (moves : List Move) (all : Children) (rest : Script)
       (at : At b.name b.passed ≡ Some (ForkThen limit cells moves all rest)) (parent-is : new.parent ≡ Some (record { join = b.join; child = b.child; name = b.name; passed = b.passed })) where
-    child-stands : (child : ℕ) (s : Script) → child_at child all ≡ Some s → At (b.name ++ ((b.passed, child) ∷ [])) 0 ≡ Some s
-    child-stands child s there =
-        let named : script_named (b.name ++ ((b.passed, child) ∷ [])) (Some root) ≡ Some s = named-last b.name b.passed child (Some root) ∙ ap (child_of child) at ∙ there in
-        ap (left_in 0) named
-
     name-in : (kid : Branch) → kid.join ≡ number → kid.name ≡ b.name ++ ((b.passed, kid.child) ∷ []) → IsNamedIn kid (slice_get joins kid.join)
     name-in kid join name =
         let there : slice_get joins kid.join ≡ Some new = ap (slice_get joins) join ∙ is in
@@ -143,7 +155,7 @@ module _ (root : Script) where
     kids-stand from t NoChild leads = tt
     kids-stand from t (Child first others) leads = (
       record {
-        carries = inl (child-stands from first (let e : from ≡ from + 0 = omega arith in ap (λ (k : ℕ). child_at k all) e ∙ leads 0));
+        carries = inl (child-left b limit cells moves all rest at from first (let e : from ≡ from + 0 = omega arith in ap (λ (k : ℕ). child_at k all) e ∙ leads 0));
         named = name-in (kid number b cells moves from t first) refl refl;
       },
       kids-stand (suc from) (t + size first) others (λ i. let e : suc from + i ≡ from + suc i = omega arith in ap (λ (k : ℕ). child_at k all) e ∙ leads (suc i)),

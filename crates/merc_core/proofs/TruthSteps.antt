@@ -265,7 +265,7 @@ module _ {V : Type 0} (value : ℕ → Option V) (Excused : ℕ → ℕ → Outc
   near-more joins j k join first others ss os (Some o) (Some more) e f is here later =
       let same : (o ∷ more) ≡ os = cc in subst (λ (x : List Outcome). Near Excused j k x (Child first others)) same (here o e, later more f)
 
-  gathered-near : (joins : List Join) (j : ℕ) (join : Join) (ss : List Stored) → slice_get joins j ≡ Some join → AllByRecursion (Stores joins) ss
+  pub gathered-near : (joins : List Join) (j : ℕ) (join : Join) (ss : List Stored) → slice_get joins j ≡ Some join → AllByRecursion (Stores joins) ss
       → (k : ℕ) (all : Children) (os : List Outcome) → ((child : ℕ) (o : Outcome) → end_at k child all ≡ Some o → end_at 1 child join.children ≡ Some o)
       → gathered ss j k all ≡ Some os → Near Excused j k os all
   gathered-near joins j join ss at stores k NoChild os leads is = let none : [] ≡ os = cc in subst (λ (x : List Outcome). Near Excused j k x NoChild) none tt
@@ -297,7 +297,7 @@ module _ {V : Type 0} (value : ℕ → Option V) (Excused : ℕ → ℕ → Outc
   cut-off joins v b Starved only excused = inr (record { end = Starved; is = refl; excused = excused })
   cut-off joins v b NoMemory only excused = inr (record { end = NoMemory; is = refl; excused = excused })
 
-  has-memory : (limit steps : ℕ) (all : List Outcome) (s : Script) → Follows steps (joined limit all) s → lacks_memory all ≡ false
+  pub has-memory : (limit steps : ℕ) (all : List Outcome) (s : Script) → Follows steps (joined limit all) s → lacks_memory all ≡ false
   has-memory limit steps all s follows = elim (each_way (lacks_memory all)) [
     | inl lacks ↦ absurd (subst (λ (b : Bool). Follows steps (if b then NoMemory else walk limit 0 all) s) lacks follows)
     | inr has ↦ has

@@ -122,6 +122,13 @@ pub record GoesOn (w : World) : Type 0 where
 abbrev pub NeverStuck : Type 0
 NeverStuck = (root : Script) (workers : ℕ) (events : List Event) (w : World) → WellFormed root → 1 ≤ workers → LeadsTo root workers events w → outcome w ≡ None → GoesOn w
 
+-- What a branch carries is what is left at its name, or an end that it was given early, and this is Starved or NoMemory.
+abbrev pub CarriesIts : Script → Branch → Type 0
+CarriesIts root b = (left_of (record { root = root; name = b.name; passed = b.passed }) ≡ Some b.rest) ⊎ (end : Outcome) × (b.rest ≡ Ends end) × IsCutEnd end
+
+abbrev pub EachCarries : Type 0
+EachCarries = (root : Script) (workers : ℕ) (events : List Event) (w : World) → WellFormed root → LeadsTo root workers events w → AllByRecursion (λ one. CarriesIts root one.branch) w.pool
+
 -- What a worker runs
 
 abbrev pub spot_of : Option (Spot × List Spot) → Option Spot

@@ -1,6 +1,6 @@
 //! What holds of the core after every list of events that it accepts.
 ghost use Rattle.merc_core.specs.History.{HistoriesAreRuns};
-ghost use Rattle.merc_core.specs.Laws.{AlwaysEnds, EachStands, EveryInterleaving, EveryLoss, NeverStuck, OwnEventsAlone};
+ghost use Rattle.merc_core.specs.Laws.{AlwaysEnds, EachCarries, EachStands, EveryInterleaving, EveryLoss, NeverStuck, OwnEventsAlone};
 
 /// Each outcome that is stored is the end of that child's script, each full cell has its script's value, and the
 /// outcome of the whole is the end of the root's script: for every well-formed script, every number of workers and
@@ -41,4 +41,10 @@ pub fn own_events_alone()
 /// events leads that is the same but for its Ticks.
 pub fn histories_are_runs()
     ensures { HistoriesAreRuns }
+{}
+
+/// In a well-formed script a branch carries what is left at its name, but for an end that it was given early, and this
+/// is `Starved` or `NoMemory`.
+pub fn each_carries()
+    ensures { EachCarries }
 {}
