@@ -39,7 +39,7 @@ use Rattle.merc_core.specs.Events.{
   finished,
   stored_with,
 }
-use Rattle.merc_core.specs.Laws.{LeadsTo, spot_of}
+use Rattle.merc_core.specs.Laws.{LeadsTo, spot_of, is_parent_at, is_parent, AreSingle, EachSingle}
 use Rattle.merc_core.proofs.Pool.{Takes, here, there, chosen, each_way, each-always}
 use Rattle.merc_core.proofs.Steps.{
   with_rest,
@@ -68,16 +68,8 @@ one_if false = 0
 abbrev pub acting : ℕ → Spot → ℕ
 acting v x = one_if (acts v x)
 
--- it is the parent of a join
-abbrev is_parent : ℕ → Location → Bool
-is_parent number (AtJoin other) = nat_eq other number
-is_parent number (Holds v other) = nat_eq other number
-is_parent number (Listed v) = false
-is_parent number (Runs v) = false
-is_parent number (AtCell cell) = false
-
 abbrev pub parent_of : ℕ → Spot → ℕ
-parent_of number x = one_if (is_parent number x.location)
+parent_of number x = one_if (is_parent_at number x.location)
 
 pub record Single (w : World) : Type 0 where
   pub one_hand : (v : ℕ) → total (acting v) w.pool ≤ 1
@@ -108,7 +100,7 @@ abbrev acting_at : ℕ → Location → ℕ
 acting_at v location = one_if (acts_at v location)
 
 abbrev parent_at : ℕ → Location → ℕ
-parent_at number location = one_if (is_parent number location)
+parent_at number location = one_if (is_parent_at number location)
 
 -- holding moves the parents of a join into a hand
 
@@ -285,3 +277,20 @@ single-start root workers = record {
 
 pub single-after : (root : Script) (workers : ℕ) (events : List Event) (w : World) → LeadsTo root workers events w → Single w
 single-after root workers events w leads = run-keeps (λ e. Unit {0}) Single single-step events (start root workers) w leads (each-always (λ e. Unit {0}) (λ e. tt) events) (single-start root workers)
+
+-- as numbers of those that pass a test
+total-passing : (test : Spot → Bool) (xs : List Spot) → total (λ x. one_if (test x)) xs ≡ length (filter test xs)
+total-passing test [] = refl
+total-passing test (x ∷ xs) = by-test (test x) (total-passing test xs)
+  where
+    by-test : (at : Bool) → total (λ y. one_if (test y)) xs ≡ length (filter test xs) → one_if at + total (λ y. one_if (test y)) xs ≡ length (if at then x ∷ filter test xs else filter test xs)
+    by-test true same = omega arith
+    by-test false same = omega arith
+
+pub each_single : EachSingle
+each_single root workers events w leads =
+    let single = single-after root workers events w leads in
+    record {
+      one_hand = λ worker. let same = total-passing (acts worker) w.pool in let one = single.one_hand worker in omega arith;
+      one_parent = λ number. let same = total-passing (is_parent number) w.pool in let one = single.one_parent number in omega arith
+    }

@@ -1,5 +1,5 @@
 -- What holds of every list of events.
-use Rattle.std.specs.Prelude.{◌≡◌, ◌≢◌, ℕ, zero, suc, ◌+◌, ◌*◌, ◌≤◌, ◌<◌, ◌⊎◌, Bool, true, false, List, [], ◌∷◌, ◌++◌, length, Option, Some, None, Result, Ok, Err, if◌then◌else◌, nat_eq, slice_get}
+use Rattle.std.specs.Prelude.{◌≡◌, ◌≢◌, ℕ, zero, suc, ◌+◌, ◌*◌, ◌≤◌, ◌<◌, ◌⊎◌, Bool, true, false, List, [], ◌∷◌, ◌++◌, length, Option, Some, None, Result, Ok, Err, if◌then◌else◌, nat_eq, slice_get, filter}
 use Rattle.std.specs.List.{AllByRecursion}
 use Rattle.merc_script.specs.declared.outcome.Outcome.{Outcome}
 use Rattle.merc_script.specs.declared.outcome.Outcome.TheVariants.{Ok as Fine, Raise, Limit, Starved, NoMemory}
@@ -8,8 +8,8 @@ use Rattle.merc_script.specs.Script.{Script, Ends, ForkThen, Children, NoChild, 
 use Rattle.merc_script.specs.Places.{Name, left_of, script_named}
 use Rattle.merc_core.specs.declared.event.Event.{Event}
 use Rattle.merc_core.specs.declared.event.Event.TheVariants.{Tick, Fork, Pop, Steal, Signal, Wait, End, Resume, Lost}
-use Rattle.merc_core.specs.World.{Branch, Spot, Parent, Join, Stored, World, start, outcome}
-use Rattle.merc_core.specs.Events.{Answer, worker_of, in_hand, happens, run}
+use Rattle.merc_core.specs.World.{Branch, Location, Listed, Runs, Holds, AtCell, AtJoin, Spot, Parent, Join, Stored, World, start, outcome}
+use Rattle.merc_core.specs.Events.{Answer, worker_of, acts, in_hand, happens, run}
 use Rattle.merc_core.specs.WellFormed.{WellFormed, value_in, cells_of}
 
 -- this list of events is accepted, and leads to a world
@@ -138,6 +138,25 @@ spot_of (Some found) = Some found.0
 -- the branch that a worker runs or holds
 abbrev pub hand_of : ℕ → World → Option Spot
 hand_of worker w = spot_of (in_hand worker w.pool)
+
+-- it is the parent of a join, parked there or held
+abbrev pub is_parent_at : ℕ → Location → Bool
+is_parent_at number (AtJoin other) = nat_eq other number
+is_parent_at number (Holds worker other) = nat_eq other number
+is_parent_at number (Listed worker) = false
+is_parent_at number (Runs worker) = false
+is_parent_at number (AtCell cell) = false
+
+abbrev pub is_parent : ℕ → Spot → Bool
+is_parent number one = is_parent_at number one.location
+
+-- A worker runs or holds one branch at most, and a join has one parent at most.
+pub record AreSingle (w : World) : Type 0 where
+  pub one_hand : (worker : ℕ) → length (filter (acts worker) w.pool) ≤ 1
+  pub one_parent : (number : ℕ) → length (filter (is_parent number) w.pool) ≤ 1
+
+abbrev pub EachSingle : Type 0
+EachSingle = (root : Script) (workers : ℕ) (events : List Event) (w : World) → LeadsTo root workers events w → AreSingle w
 
 -- Only a worker's own events change what it runs or holds.
 abbrev pub OwnEventsAlone : Type 0
