@@ -4,3 +4,4 @@ pub mod Events
 pub mod WellFormed
 pub mod Ready
 pub mod Laws
+pub mod History

@@ -3,6 +3,7 @@
 
 mod branch;
 pub mod event;
+pub mod laws;
 mod lists;
 
 pub use event::{Event, NotNow};
