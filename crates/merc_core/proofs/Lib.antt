@@ -2,3 +2,8 @@ pub mod Pool
 pub mod Steps
 pub mod Measure
 mod CoreExamples
+pub mod CoreLists
+pub mod StandingLaws
+pub mod Filters
+pub mod PoolShows
+pub mod PoolMoves

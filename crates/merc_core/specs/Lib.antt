@@ -4,3 +4,6 @@ pub mod Events
 pub mod WellFormed
 pub mod Ready
 pub mod Laws
+pub mod Queues
+pub mod Standing
+pub mod Mirror

@@ -2,7 +2,12 @@
 #![tactic(auto)]
 
 mod branch;
+mod cell;
+mod course;
 pub mod event;
+mod join;
 mod lists;
+mod state;
+mod worker;
 
 pub use event::{Event, NotNow};

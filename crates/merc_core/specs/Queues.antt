@@ -1,0 +1,28 @@
+-- The lists in which the core keeps its branches.
+use Rattle.std.specs.Prelude.{ℕ, true, List, [], ◌++◌, Option, Some, None}
+use Rattle.merc_script.specs.declared.outcome.Outcome.{Outcome}
+use Rattle.merc_script.specs.declared.outcome.Outcome.TheVariants.{Starved}
+use Rattle.merc_core.specs.declared.branch.Branch.{Branch}
+use Rattle.merc_core.specs.declared.cell.Cell.{Cell}
+
+-- the branches that wait for a cell
+abbrev pub waiting_of : Option Cell → List Branch
+waiting_of None = []
+waiting_of (Some cell) = cell.waiting
+
+abbrev pub starved : Branch → Branch
+starved b = record b { ended = Some Starved }
+
+-- a cell after a signal, and after its producer ended without one
+abbrev pub filled : Option Cell → Option Cell
+filled None = None
+filled (Some cell) = Some (record { is_full = true; is_poisoned = cell.is_poisoned; waiting = [] })
+
+abbrev pub spoiled : Option Cell → Option Cell
+spoiled None = None
+spoiled (Some cell) = Some (record { is_full = cell.is_full; is_poisoned = true; waiting = [] })
+
+-- a cell at which branches are parked
+abbrev pub parked_at : List Branch → Option Cell → Option Cell
+parked_at branches None = None
+parked_at branches (Some cell) = Some (record cell { waiting = cell.waiting ++ branches })
