@@ -7,3 +7,6 @@ pub mod StandingLaws
 pub mod Filters
 pub mod PoolShows
 pub mod PoolMoves
+pub mod Rooms
+pub mod Acting
+pub mod Simple

@@ -46,7 +46,7 @@ pub behind_items : {A : Type 0} (xs front back : List A) (place n : ℕ) → len
 behind_items xs front back place n long same =
     drop-add place n xs ∙ ap (drop n) same ∙ ap (λ k. drop k (front ++ back)) (sym long) ∙ drop-append_seam front back
 
-there : {A : Type 0} (xs : List A) (n : ℕ) (x : A) → n < length xs → x ≡ get_or xs n x → (drop n xs ≡ x ∷ drop (suc n) xs) × (slice_get xs n ≡ Some x)
+pub there : {A : Type 0} (xs : List A) (n : ℕ) (x : A) → n < length xs → x ≡ get_or xs n x → (drop n xs ≡ x ∷ drop (suc n) xs) × (slice_get xs n ≡ Some x)
 there [] n x in_range same = absurd (omega arith)
 there (y ∷ ys) zero x in_range same = (ap (λ z. z ∷ ys) (sym same), ap (λ z. Some z) (sym same))
 there (y ∷ ys) (suc n) x in_range same = there ys n x (omega arith) same

@@ -7,3 +7,4 @@ pub mod Laws
 pub mod Queues
 pub mod Standing
 pub mod Mirror
+pub mod Stepping

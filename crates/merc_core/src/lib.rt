@@ -7,7 +7,10 @@ mod course;
 pub mod event;
 mod join;
 mod lists;
+mod running;
+mod simple_events;
 mod state;
+mod taking;
 mod worker;
 
 pub use event::{Event, NotNow};
