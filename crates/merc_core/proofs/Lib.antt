@@ -10,3 +10,4 @@ pub mod PoolMoves
 pub mod Rooms
 pub mod Acting
 pub mod Simple
+pub mod TakingUp
