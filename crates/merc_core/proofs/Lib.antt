@@ -11,3 +11,4 @@ pub mod Rooms
 pub mod Acting
 pub mod Simple
 pub mod TakingUp
+pub mod WaitingAt

@@ -48,7 +48,7 @@ stands-key (Parent i) (AtJoin j) b = refl
 nat-same : (a b : ℕ) → nat_eq a b ≡ true → a ≡ b
 nat-same a b same = grind (arith, nat_tests)
 
-nat-self : (a : ℕ) → nat_eq a a ≡ true
+pub nat-self : (a : ℕ) → nat_eq a a ≡ true
 nat-self a = grind (arith, nat_tests)
 
 pub same-key-is : (a b : Key) → same_key a b ≡ true → a ≡ b

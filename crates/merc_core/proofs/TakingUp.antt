@@ -208,3 +208,8 @@ module _ (items : List Item) (parts : Parts) (w : World) (mirrors : Mirrors item
           has_room = room-worker parts1 v k' (g.others ++ (spot (Runs v) g.x.branch ∷ [])) (length w.joins)
               (room-worker parts u victim' (g.others ++ (spot (Runs v) g.x.branch ∷ [])) (length w.joins) (room-back parts (length w.joins) g.takes (spot (Runs v) g.x.branch) (λ each. omega arith) mirrors.has_room));
         })
+
+pub some-worker : {A : Type 0} (xs : List A) (i : ℕ) → i < length xs → (x : A) × (slice_get xs i ≡ Some x)
+some-worker [] i in_range = absurd (omega arith)
+some-worker (x ∷ xs) zero in_range = (x, refl)
+some-worker (x ∷ xs) (suc i) in_range = some-worker xs i (omega arith)

@@ -1,9 +1,11 @@
 -- The lists in which the core keeps its branches.
-use Rattle.std.specs.Prelude.{ℕ, true, List, [], ◌++◌, Option, Some, None}
+use Rattle.std.specs.Prelude.{ℕ, Bool, true, false, List, [], ◌++◌, Option, Some, None}
 use Rattle.merc_script.specs.declared.outcome.Outcome.{Outcome}
 use Rattle.merc_script.specs.declared.outcome.Outcome.TheVariants.{Starved}
 use Rattle.merc_core.specs.declared.branch.Branch.{Branch}
 use Rattle.merc_core.specs.declared.cell.Cell.{Cell}
+use Rattle.merc_core.specs.declared.cell.Meeting.{Meeting}
+use Rattle.merc_core.specs.declared.cell.Meeting.TheVariants.{Full, Poisoned, Open}
 
 -- the branches that wait for a cell
 abbrev pub waiting_of : Option Cell → List Branch
@@ -26,3 +28,13 @@ spoiled (Some cell) = Some (record { is_full = cell.is_full; is_poisoned = true;
 abbrev pub parked_at : List Branch → Option Cell → Option Cell
 parked_at branches None = None
 parked_at branches (Some cell) = Some (record cell { waiting = cell.waiting ++ branches })
+
+-- what a branch finds at a cell
+abbrev pub meeting_at : Bool → Bool → Meeting
+meeting_at true poisoned = Full
+meeting_at false true = Poisoned
+meeting_at false false = Open
+
+abbrev pub meeting_of : Option Cell → Meeting
+meeting_of None = Open
+meeting_of (Some cell) = meeting_at cell.is_full cell.is_poisoned

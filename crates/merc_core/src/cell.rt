@@ -2,7 +2,7 @@
 ghost use Rattle.std.specs.Prelude.{◌≡◌, ◌+◌, ◌<◌, ◌^◌, ◌++◌, ℕ, [], map, length, if◌then◌else◌, nat_eq};
 ghost use Rattle.std.specs.Ordering.{nat_cmp};
 ghost use Rattle.std.specs.BTreeMap.{get};
-ghost use Rattle.merc_core.specs.Queues.{filled, parked_at, spoiled, starved as starved_branch, waiting_of};
+ghost use Rattle.merc_core.specs.Queues.{filled, meeting_of, parked_at, spoiled, starved as starved_branch, waiting_of};
 
 use crate::branch::{Branch, end_first};
 use crate::lists::{move_all, move_first};
@@ -64,5 +64,31 @@ fn starve_all(branches: &mut LinkedList<Branch>, list: &mut LinkedList<Branch>)
     while !branches.is_empty() {
         end_first(branches, Outcome::Starved);
         move_first(branches, list);
+    }
+}
+
+// What a branch that comes to a cell finds there.
+#[derive(Clone, Copy, Debug)]
+pub(crate) enum Meeting {
+    Full,
+    Poisoned,
+    Open,
+}
+
+// What a branch that comes to a cell finds there.
+pub(crate) fn find_cell(cells: &BTreeMap<CellId, Cell>, cell: CellId) -> Meeting
+    ensures { result ≡ meeting_of (get nat_cmp cells.now cell) }
+{
+    match cells.get(&cell) {
+        None => Meeting::Open,
+        Some(found) => {
+            if found.is_full {
+                Meeting::Full
+            } else if found.is_poisoned {
+                Meeting::Poisoned
+            } else {
+                Meeting::Open
+            }
+        }
     }
 }

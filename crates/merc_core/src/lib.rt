@@ -11,6 +11,7 @@ mod running;
 mod simple_events;
 mod state;
 mod taking;
+mod waiting;
 mod worker;
 
 pub use event::{Event, NotNow};
