@@ -1,5 +1,5 @@
 //! Cells as the core keeps them.
-ghost use Rattle.std.specs.Prelude.{◌≡◌, ◌+◌, ◌<◌, ◌^◌, ◌++◌, ℕ, [], map, length, if◌then◌else◌, nat_eq};
+ghost use Rattle.std.specs.Prelude.{◌≡◌, ◌+◌, ◌<◌, ◌^◌, ◌++◌, ℕ, [], map, length, if◌then◌else◌, nat_eq, IsSome};
 ghost use Rattle.std.specs.Ordering.{nat_cmp};
 ghost use Rattle.std.specs.BTreeMap.{get};
 ghost use Rattle.merc_core.specs.Queues.{filled, meeting_of, parked_at, spoiled, starved as starved_branch, waiting_of};
@@ -37,6 +37,7 @@ pub(crate) fn park(
 )
     requires { length (waiting_of (get nat_cmp cells.old cell)) + length branches.old < 2 ^ 63 }
     ensures cells { (other : ℕ) → get nat_cmp cells.new other ≡ (if nat_eq cell other then parked_at branches.old (get nat_cmp cells.old cell) else get nat_cmp cells.old other) }
+    ensures branches { IsSome (get nat_cmp cells.old cell) → branches.new ≡ [] }
 {
     if let Some(found) = cells.get_mut(&cell) {
         move_all(branches, &mut found.waiting);
