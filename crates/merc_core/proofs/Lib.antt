@@ -12,3 +12,5 @@ pub mod Acting
 pub mod Simple
 pub mod TakingUp
 pub mod WaitingAt
+pub mod Waking
+pub mod SignalledAt
