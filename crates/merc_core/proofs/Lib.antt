@@ -22,3 +22,15 @@ pub mod Histories
 mod CoreExamples
 mod WellFormedExamples
 mod HistoryExamples
+pub mod CoreLists
+pub mod StandingLaws
+pub mod Filters
+pub mod PoolShows
+pub mod PoolMoves
+pub mod Rooms
+pub mod Acting
+pub mod Simple
+pub mod TakingUp
+pub mod WaitingAt
+pub mod Waking
+pub mod SignalledAt

@@ -5,3 +5,7 @@ pub mod WellFormed
 pub mod Ready
 pub mod Laws
 pub mod History
+pub mod Queues
+pub mod Standing
+pub mod Mirror
+pub mod Stepping

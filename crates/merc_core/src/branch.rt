@@ -1,8 +1,11 @@
 //! Branches as the core keeps them.
 ghost use Rattle.std.specs.Prelude.{◌≡◌, ◌+◌, ◌-◌, ◌<◌, ◌^◌, [], ◌∷◌, Some};
 ghost use Rattle.merc_core.specs.declared.branch.Branch.{Branch as CoreBranch};
+ghost use Rattle.merc_core.specs.Rights.{without};
 
+use crate::rights::take_out;
 use merc_script::{CellId, Outcome};
+use std::alloc::Global;
 use std::collections::LinkedList;
 
 // A branch, in one of the lists of the core.
@@ -48,5 +51,16 @@ pub(crate) fn end_first(list: &mut LinkedList<Branch>, outcome: Outcome)
 {
     if let Some(branch) = list.front_mut() {
         branch.ended = Some(outcome);
+    }
+}
+
+// The first branch goes past a signal, and has the cell no more to signal.
+pub(crate) fn pass_signal(alloc: Global, hand: &mut LinkedList<Branch>, cell: CellId)
+    requires { (b : CoreBranch) × (hand.old ≡ b ∷ []) × (b.at < 2 ^ 63) }
+    ensures { (b : CoreBranch) → hand.old ≡ b ∷ [] → hand.new ≡ (record b { at = b.at + 1; signals = without (cell ∷ []) b.signals }) ∷ [] }
+{
+    if let Some(branch) = hand.front_mut() {
+        branch.at += 1;
+        take_out(alloc, &mut branch.signals, cell);
     }
 }

@@ -2,8 +2,19 @@
 #![tactic(auto)]
 
 mod branch;
+mod cell;
+mod course;
 pub mod event;
 pub mod laws;
+mod join;
 mod lists;
+mod rights;
+mod running;
+mod signalling;
+mod simple_events;
+mod state;
+mod taking;
+mod waiting;
+mod worker;
 
 pub use event::{Event, NotNow};
