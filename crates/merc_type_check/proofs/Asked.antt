@@ -3,16 +3,16 @@ use Rattle.std.proofs.Common.{◌≡◌, ℕ, zero, suc, ◌+◌, ◌<◌, ◌�
 use Rattle.std.specs.Prelude.{slice_get}
 use Rattle.std.proofs.lemmas.List.{map-append, take_all}
 use Rattle.std.proofs.Math.Seq.{take-suc}
-use Rattle.merc_tree.specs.Types.{TypeExpr, TypeExprs, TypeVariable, IntType, TextType, TypeApplication, no_types, more_types, types_of, replaced, replaced_all}
+use Rattle.merc_tree.specs.Types.{TypeExpr, TypeApplication, types_of, replaced}
 use Rattle.merc_tree.specs.declared.declarations.Module.{Module}
 use Rattle.merc_tree.specs.declared.declarations.Constructor.{Constructor}
 use Rattle.merc_tree.specs.declared.declarations.TypeDef.{TypeDef}
 use Rattle.merc_tree.specs.declared.declarations.PredDecl.{PredDecl}
 use Rattle.merc_known.specs.Known.{constructor_in}
 use Rattle.merc_type_check.specs.declared.checker.Checker.{Checker}
-use Rattle.merc_type_check.specs.Progress.{Types, IsSound, Step, Refuses, Takes, Nothing, Stands, AllStand, Places, IsCleared, GoalTakes}
+use Rattle.merc_type_check.specs.Progress.{Types, Step, Refuses, Takes, Nothing, Stands, AllStand, Places, IsCleared, GoalTakes}
 use Rattle.merc_type_check.specs.Typing.{HaveTypes, HasConstructor, IsConstructed, IsCalled, AreArguments}
-use Rattle.merc_type_check.proofs.Steps.{steps, step_as, takes_as, grow_takes, grow_grow, stands_on, all_stand_on, cleared_takes}
+use Rattle.merc_type_check.proofs.Steps.{steps, step_as, grow_takes, grow_grow, stands_on, all_stand_on, cleared_takes}
 use Rattle.merc_type_check.proofs.Built.{stand_push, stand_as}
 
 pub taken : (done : Bool) (old new : Checker) (Asked : Types → Types → Type 0) → done ≡ true → Takes done old new Asked → Step old new Asked

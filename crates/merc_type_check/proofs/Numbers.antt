@@ -4,7 +4,6 @@ use Rattle.std.specs.Prelude.{slice_get, ◌==◌, ◌&&◌, if◌then◌else◌
 use Rattle.std.specs.List.{find, list_any}
 use Rattle.std.specs.Option.{option_map}
 use Rattle.std.proofs.lemmas.List.{map-append, append-nil, take_all}
-use Rattle.std.proofs.Math.Seq.{take-suc}
 use Rattle.merc_base.specs.Groups.{kept, is_key}
 use Rattle.merc_base.specs.declared.groups.Key.{Key}
 use Rattle.merc_base.specs.declared.groups.Groups.{Groups}

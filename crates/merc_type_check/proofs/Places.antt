@@ -5,11 +5,11 @@ use Rattle.std.specs.Ordering.{nat_cmp, is_eq}
 use Rattle.std.specs.BTreeMap.{BTreeMap, get}
 use Rattle.std.proofs.lemmas.Bool.Decides.{nat_tests}
 use Rattle.merc_base.specs.declared.memory.NoMemory.{NoMemory}
-use Rattle.merc_tree.specs.Types.{TypeExpr, TypeVariable, IntType, TextType, TypeApplication, types_of}
-use Rattle.merc_type_graph.specs.Solutions.{Entry, Graph, Unknown, WholeEntry, Applied, Link, Agrees, Solves}
+use Rattle.merc_tree.specs.Types.{TypeExpr, TypeApplication, types_of}
+use Rattle.merc_type_graph.specs.Solutions.{Entry, Graph, Unknown, WholeEntry, Applied, Link, Agrees}
 use Rattle.merc_type_graph.specs.Changes.{AllWithin, Adds, MakesEqual, MakesWhole}
 use Rattle.merc_type_check.specs.declared.checker.Checker.{Checker}
-use Rattle.merc_type_check.specs.Progress.{Types, AgreesWith, Fits, AreThere, AgreeBelow, IsLocal, IsSound, Step, Nothing, Stands, AllStand, Takes, Places}
+use Rattle.merc_type_check.specs.Progress.{Types, AgreesWith, Fits, AreThere, AgreeBelow, IsLocal, IsSound, Stands, AllStand, Takes, Places}
 use Rattle.merc_type_check.proofs.Steps.{grow_nothing}
 
 -- types with another one at a place

@@ -3,11 +3,11 @@ use Rattle.std.proofs.Common.{◌≡◌, ℕ, ◌<◌, ◌≤◌, Bool, true, fa
 use Rattle.std.specs.Option.{IfSome}
 use Rattle.std.specs.Ordering.{nat_cmp}
 use Rattle.std.specs.BTreeMap.{BTreeMap, get}
-use Rattle.merc_tree.specs.Types.{TypeExpr, TypeVariable, IntType}
+use Rattle.merc_tree.specs.Types.{TypeExpr, IntType}
 use Rattle.merc_type_graph.specs.Solutions.{Graph, Solves}
 use Rattle.merc_type_graph.specs.Changes.{AllWithin}
 use Rattle.merc_type_check.specs.declared.checker.Checker.{Checker}
-use Rattle.merc_type_check.specs.Progress.{Types, AgreesWith, Fits, Holds, IsLocal, IsSound, IsCleared, Step, Takes, Nothing, Stands, AllStand, GoalStep, GoalTakes}
+use Rattle.merc_type_check.specs.Progress.{Types, AgreesWith, Fits, Holds, IsLocal, IsSound, IsCleared, Step, Takes, Nothing, Stands, AllStand, GoalTakes}
 
 pub steps : (first second third : Checker) (One Other : Types → Types → Type 0) → Step first second One → Step second third Other
     → Step first third (λ types instance. One types instance × Other types instance)

@@ -30,11 +30,7 @@ impl DeclaredTypes {
         ensures { IfOk result (λ declared. AreDeclared known.now declared) }
     {
         let mut numbering = TypeNumbering::new(alloc)?;
-        let predicates = number_predicates(
-            alloc,
-            known.module().preds.as_slice(),
-            &mut numbering,
-        )?;
+        let predicates = number_predicates(alloc, known.module().preds.as_slice(), &mut numbering)?;
         let constructors = number_constructors(
             alloc,
             known.module().types.as_slice(),

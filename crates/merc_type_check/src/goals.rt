@@ -54,7 +54,14 @@ impl<'a> Checker<'a> {
             SimpleGoal::True | SimpleGoal::Fail => Ok(true),
             SimpleGoal::Same(one, other) => self.are_alike(*one, *other),
             SimpleGoal::Shape(variable, symbol, arguments) => {
-                self.take_symbol(alloc, known, declared, *variable, symbol, arguments.as_slice())
+                self.take_symbol(
+                    alloc,
+                    known,
+                    declared,
+                    *variable,
+                    symbol,
+                    arguments.as_slice(),
+                )
             }
             SimpleGoal::Arithmetic(_, result, left, right) => {
                 self.are_all_ints(*result, *left, *right)

@@ -1,5 +1,5 @@
 -- Places that are given a whole type.
-use Rattle.std.proofs.Common.{◌≡◌, ◌≢◌, ℕ, zero, suc, ◌+◌, ◌<◌, ◌≤◌, ◌⊎◌, inl, inr, Bool, true, false, List, [], ◌∷◌, ◌++◌, map, length, get_or, set, refl, sym, ap, subst, ◌∙◌, arith, Some, length-append, length-set, get_or-set_same, get_or-set_other}
+use Rattle.std.proofs.Common.{◌≡◌, ◌≢◌, ℕ, zero, suc, ◌+◌, ◌<◌, ◌≤◌, inl, inr, Bool, true, false, List, [], ◌∷◌, ◌++◌, map, length, get_or, set, refl, sym, ap, subst, ◌∙◌, arith, Some, length-set, get_or-set_same, get_or-set_other}
 use Rattle.std.specs.Prelude.{slice_get, ◌↔◌, IsTrue}
 use Rattle.merc_tree.specs.Types.{TypeExpr, TypeExprs, TypeVariable, IntType, TextType, TypeApplication, no_types, more_types, types_of}
 use Rattle.merc_type_table.specs.declared.node.TypeNode.{TypeNode}
@@ -9,10 +9,9 @@ use Rattle.merc_type_graph.specs.declared.store.Store.{Store}
 use Rattle.merc_type_graph.specs.Solutions.{Unknown, WholeEntry, Applied, Agrees, Solves}
 use Rattle.merc_type_graph.specs.Changes.{AllWithin}
 use Rattle.merc_type_graph.specs.Cells.{entry_of, entries_of, needs_of, known_at, rank_at, blank, root_mark, roots, IsStored, IsSound, LeadsTo}
-use Rattle.merc_type_graph.specs.Visiting.{size, sizes}
+use Rattle.merc_type_graph.specs.Visiting.{size}
 use Rattle.merc_type_graph.specs.Fixing.{left, AllFixed, AllThere, Fits, FitsBy, FitsOrDiffers, Fixes, Steps, StepsOrDiffers}
 use Rattle.merc_type_graph.specs.declared.fixing.Fixing.{Fixing}
-use Rattle.merc_type_graph.specs.declared.cell.Known.{Known}
 use Rattle.merc_type_graph.specs.declared.cell.Known.TheVariants.{Whole, SameAs}
 use Rattle.merc_type_graph.specs.declared.cell.Cell.{Cell}
 use Rattle.merc_type_graph.proofs.Entries.{any_default, solves_at, solves_all}
@@ -367,8 +366,8 @@ fixing_on store start cells new fixings rest fixings' fixing place whole true is
     );
   },
   (let less = steps.less in
-  let whole_left : left store.table.now fixings ≡ left store.table.now rest + (size (type_at store.table.now fixing.whole) + 0) =
-  ap (left store.table.now) popped ∙ left-append store.table.now rest (fixing ∷ []) in omega arith),
+      let whole_left : left store.table.now fixings ≡ left store.table.now rest + (size (type_at store.table.now fixing.whole) + 0) =
+      ap (left store.table.now) popped ∙ left-append store.table.now rest (fixing ∷ []) in omega arith),
 )
 
 pub fixing_first : (store : Store) (cells : List Cell) (fixings : List Fixing) (place whole : ℕ) → IsSound store cells → place < length cells → whole < length store.table.now

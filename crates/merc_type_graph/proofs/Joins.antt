@@ -2,7 +2,7 @@
 use Rattle.std.proofs.Common.{◌≡◌, ℕ, suc, ◌+◌, ◌≤◌, Bool, true, false, List, [], ◌∷◌, map, length, take, drop, refl, sym, ap, subst, ◌∙◌, arith, length-take, length-drop, None, Some, inl, inr, ◌⊎◌}
 use Rattle.std.specs.Prelude.{◌==◌, ◌&&◌, if◌then◌else◌}
 use Rattle.std.proofs.lemmas.Bool.Decides.{nat_tests}
-use Rattle.merc_tree.specs.Types.{TypeExpr, TypeExprs, IntType, TextType, TypeVariable, TypeApplication, types_of, more_types}
+use Rattle.merc_tree.specs.Types.{TypeExpr, TypeExprs, TypeApplication, types_of, more_types}
 use Rattle.merc_type_graph.specs.declared.store.Store.{Store}
 use Rattle.merc_type_graph.specs.Solutions.{Entry, Unknown, WholeEntry, Applied, Link, Agrees}
 use Rattle.merc_type_graph.specs.Cells.{entry_of, root_mark, IsStored}

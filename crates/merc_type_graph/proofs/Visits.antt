@@ -5,7 +5,7 @@ use Rattle.std.proofs.lemmas.Bool.{cases_lt}
 use Rattle.std.proofs.lemmas.Bool.Decides.{nat_tests}
 use Rattle.std.proofs.lemmas.Option.{slice_get_within}
 use Rattle.std.proofs.Math.Nat.{mul-le-mul_right}
-use Rattle.merc_tree.specs.Types.{TypeExpr, IntType, TextType, TypeVariable, TypeApplication, types_of}
+use Rattle.merc_tree.specs.Types.{TypeExpr, IntType, TypeApplication, types_of}
 use Rattle.merc_type_graph.specs.declared.store.Store.{Store}
 use Rattle.merc_type_graph.specs.Solutions.{Entry, Unknown, WholeEntry, Applied, Link, Agrees, Solves}
 use Rattle.merc_type_graph.specs.Cells.{entry_of, entries_of, needs_of, known_at, IsSound}

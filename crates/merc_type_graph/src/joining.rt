@@ -5,8 +5,8 @@ ghost use Rattle.merc_type_graph.specs.Joining.{arguments_of, attached, joined, 
 
 use crate::Place;
 use crate::cell::{Cell, Known, root_of};
-use crate::store::Store;
 use crate::fixing::{fix, whole_at};
+use crate::store::Store;
 use merc_base::NoMemory;
 use std::alloc::Global;
 
@@ -123,11 +123,7 @@ fn joined(one: Known, other: Known) -> Option<Known>
 }
 
 /// The arguments of the type at a place.
-pub(crate) fn arguments_at<'a>(
-    store: &'a Store<'_>,
-    cells: &[Cell],
-    place: usize,
-) -> &'a [Place]
+pub(crate) fn arguments_at<'a>(store: &'a Store<'_>, cells: &[Cell], place: usize) -> &'a [Place]
     requires stored { IsStored store.now (known_at cells.now place) }
     requires there { place < length cells.now }
     ensures { result.now ≡ arguments_of store.now (known_at cells.now place) }

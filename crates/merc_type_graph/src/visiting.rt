@@ -22,11 +22,7 @@ pub(crate) enum Mark {
 }
 
 /// Whether there are types that solve the equations. Each place is visited once, after those that it needs.
-pub(crate) fn decide(
-    alloc: Global,
-    store: &Store<'_>,
-    cells: &[Cell],
-) -> Result<bool, NoMemory>
+pub(crate) fn decide(alloc: Global, store: &Store<'_>, cells: &[Cell]) -> Result<bool, NoMemory>
     requires { IsSound store.now cells.now }
     ensures { IfOk result (λ solvable. Decides solvable (entries_of store.now cells.now)) }
 {

@@ -1,5 +1,5 @@
 -- Types without type variables.
-use Rattle.std.proofs.Common.{◌≡◌, ℕ, zero, suc, ◌+◌, ◌<◌, ◌≤◌, Bool, true, false, ◌&&◌, List, [], ◌∷◌, ◌++◌, map, length, take, get_or, refl, sym, ap, subst, ◌∙◌, arith, Some, add-one, length-take}
+use Rattle.std.proofs.Common.{◌≡◌, ℕ, zero, suc, ◌+◌, ◌<◌, ◌≤◌, Bool, true, false, ◌&&◌, List, [], ◌∷◌, ◌++◌, map, length, take, get_or, refl, sym, ap, ◌∙◌, arith, Some, add-one, length-take}
 use Rattle.std.specs.Prelude.{slice_get}
 use Rattle.std.proofs.lemmas.List.{take_all}
 use Rattle.merc_tree.specs.Types.{TypeExpr, TypeVariable, IntType, TextType, TypeApplication}
@@ -7,7 +7,7 @@ use Rattle.merc_type_table.specs.declared.node.TypeNode.{TypeNode}
 use Rattle.merc_type_table.specs.declared.node.TypeNode.TheVariants.{Variable, Int, Text, Name, With}
 use Rattle.merc_type_table.specs.Table.{type_at, types_made, made, with_first, is_application, is_closed, IsBefore, IsComplete}
 use Rattle.merc_type_table.specs.Numbering.{closed_node}
-use Rattle.merc_type_table.proofs.Made.{count_made, made_at, read_there}
+use Rattle.merc_type_table.proofs.Made.{count_made, made_at}
 
 closed_with : (first rest : TypeExpr) → is_application rest ≡ true → is_closed (with_first first rest) ≡ (is_closed first && is_closed rest)
 closed_with first (TypeVariable name) e = absurd (cc)

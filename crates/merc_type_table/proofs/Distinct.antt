@@ -1,13 +1,12 @@
 -- Types that nodes make are distinct where the nodes are.
-use Rattle.std.proofs.Common.{◌≡◌, ℕ, zero, suc, ◌+◌, ◌<◌, Bool, true, false, Some, List, [], ◌∷◌, map, length, refl, sym, ap, subst, ◌∙◌, arith}
+use Rattle.std.proofs.Common.{◌≡◌, ℕ, zero, suc, ◌<◌, Bool, true, false, Some, List, map, length, refl, sym, ap, subst, ◌∙◌, arith}
 use Rattle.std.specs.Prelude.{slice_get}
-use Rattle.std.specs.Ordering.{nat_cmp}
 use Rattle.merc_tree.specs.Types.{TypeExpr, TypeExprs, TypeVariable, IntType, TextType, TypeApplication, no_types, more_types}
 use Rattle.merc_type_table.specs.declared.node.TypeNode.{TypeNode}
 use Rattle.merc_type_table.specs.declared.node.TypeNode.TheVariants.{Variable, Int, Text, Name, With}
 use Rattle.merc_type_table.specs.declared.numbering.TypeNumbering.{TypeNumbering}
-use Rattle.merc_type_table.specs.Table.{type_at, types_made, made, with_first, is_application, is_closed, IsBefore, IsComplete, AreDistinct, IsTable}
-use Rattle.merc_type_table.specs.Numbering.{IsNumbering, compare_pairs, with_pair}
+use Rattle.merc_type_table.specs.Table.{type_at, types_made, made, with_first, is_application, is_closed, IsBefore, IsComplete, IsTable}
+use Rattle.merc_type_table.specs.Numbering.{IsNumbering}
 use Rattle.merc_type_table.proofs.Made.{count_made, made_at, there_in_list}
 
 same_some : {A : Type 0} {a b : A} → Some a ≡ Some b → a ≡ b
@@ -106,11 +105,11 @@ distinct_below numbering sound (suc bound) i j less i_here j_here same =
     let nodes_same : one.0 ≡ other.0 =
     node_same types one.0 other.0 (sound.complete i one.0 one.1) (sound.complete j other.0 other.1)
     (λ f r f' r' is is' first rest.
-        let b = subst (IsBefore i) is one_before in
-        let b' = subst (IsBefore j) is' other_before in (
-          distinct_below numbering sound bound f f' (let x = b.0 in omega arith) (let x = b.0 in omega arith) (let x = b'.0 in omega arith) first,
-          distinct_below numbering sound bound r r' (let x = b.1 in omega arith) (let x = b.1 in omega arith) (let x = b'.1 in omega arith) rest,
-        ))
+    let b = subst (IsBefore i) is one_before in
+    let b' = subst (IsBefore j) is' other_before in (
+      distinct_below numbering sound bound f f' (let x = b.0 in omega arith) (let x = b.0 in omega arith) (let x = b'.0 in omega arith) first,
+      distinct_below numbering sound bound r r' (let x = b.1 in omega arith) (let x = b.1 in omega arith) (let x = b'.1 in omega arith) rest,
+    ))
     made_same in
     once numbering sound one.0 i j one.1 (other.1 ∙ ap Some (sym nodes_same))
 

@@ -1,7 +1,6 @@
 -- Types whose arguments are numbered one by one.
-use Rattle.std.proofs.Common.{◌≡◌, ℕ, zero, suc, ◌+◌, ◌<◌, ◌≤◌, true, ◌⊎◌, inl, inr, Some, List, [], ◌∷◌, ◌++◌, length, reverse, refl, sym, ap, subst, ◌∙◌, arith}
+use Rattle.std.proofs.Common.{◌≡◌, ℕ, ◌+◌, ◌<◌, true, inl, inr, Some, List, [], ◌∷◌, ◌++◌, length, refl, sym, ap, ◌∙◌, arith}
 use Rattle.std.specs.Prelude.{slice_get}
-use Rattle.std.proofs.lemmas.List.{reverse-append}
 use Rattle.merc_tree.specs.Types.{TypeExpr, TypeExprs, TypeVariable, IntType, TextType, TypeApplication, no_types, more_types, type_list}
 use Rattle.merc_tree.specs.TypeShape.{type_shape_of, type_arguments_of}
 use Rattle.merc_tree.specs.declared.types.TypeShape.TheVariants.{Variable as VariableShape, Int as IntShape, Text as TextShape, Application as ApplicationShape}
@@ -9,7 +8,7 @@ use Rattle.merc_type_table.specs.declared.node.TypeNode.{TypeNode}
 use Rattle.merc_type_table.specs.declared.node.TypeNode.TheVariants.{Variable, Int, Text, Name, With}
 use Rattle.merc_type_table.specs.declared.numbering.Frame.{Frame}
 use Rattle.merc_type_table.specs.declared.numbering.TypeNumbering.{TypeNumbering}
-use Rattle.merc_type_table.specs.Table.{type_at, types_made, made, with_first, is_application, IsBefore, IsComplete}
+use Rattle.merc_type_table.specs.Table.{type_at, types_made, made, with_first, is_application, IsBefore}
 use Rattle.merc_type_table.specs.Numbering.{Adds, Extends, IsNumbering, Numbers}
 use Rattle.merc_type_table.specs.Frames.{with_all, completed, finished, IsFrame, AreWaiting, type_work, types_work, list_work, frames_work, Begins}
 use Rattle.merc_type_table.proofs.Made.{count_made, made_at, got, within_list, extends_none, extends_on, extends_at, extends_length}

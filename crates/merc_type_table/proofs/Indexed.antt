@@ -1,5 +1,5 @@
 -- Nodes by what they are made of.
-use Rattle.std.proofs.Common.{◌≡◌, ◌≢◌, ℕ, zero, ◌+◌, ◌<◌, Bool, true, false, cond, Option, Some, None, List, [], ◌∷◌, ◌++◌, length, refl, sym, ap, subst, ◌∙◌, arith, inl, inr, Ordering, Less, Equal, Greater}
+use Rattle.std.proofs.Common.{◌≡◌, ℕ, ◌+◌, ◌<◌, Bool, true, false, cond, Some, None, List, [], ◌∷◌, ◌++◌, length, refl, sym, ap, subst, ◌∙◌, arith, inl, inr, Ordering, Less, Equal, Greater}
 use Rattle.std.specs.Prelude.{slice_get, ◌↔◌}
 use Rattle.std.specs.Ordering.{is_eq, nat_cmp, ordering_then}
 use Rattle.std.specs.BTreeMap.{BTreeMap, get}
@@ -9,7 +9,7 @@ use Rattle.merc_type_table.specs.declared.node.TypeNode.{TypeNode}
 use Rattle.merc_type_table.specs.declared.node.TypeNode.TheVariants.{Variable, Int, Text, Name, With}
 use Rattle.merc_type_table.specs.declared.node.Pair.{Pair}
 use Rattle.merc_type_table.specs.declared.numbering.TypeNumbering.{TypeNumbering}
-use Rattle.merc_type_table.specs.Table.{type_at, types_made, made, is_application, IsBefore, IsComplete}
+use Rattle.merc_type_table.specs.Table.{types_made, made, is_application, IsBefore, IsComplete}
 use Rattle.merc_type_table.specs.Numbering.{compare_pairs, with_pair, Indexes, IsNumbering, Extends, Adds}
 use Rattle.merc_type_table.proofs.Made.{types_made-append, count_made, at_front, last_or_before, stays_there, at_last, within_list, extends_none}
 

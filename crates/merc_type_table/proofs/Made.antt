@@ -2,7 +2,7 @@
 use Rattle.std.proofs.Common.{◌≡◌, ℕ, zero, suc, ◌+◌, ◌<◌, ◌≤◌, ◌⊎◌, inl, inr, List, [], ◌∷◌, ◌++◌, length, get_or, refl, sym, ap, ◌∙◌, arith, Some, length-append, append_assoc}
 use Rattle.std.specs.Prelude.{slice_get}
 use Rattle.std.proofs.lemmas.List.{append-nil}
-use Rattle.merc_tree.specs.Types.{TypeExpr, IntType, TypeVariable, TypeApplication, no_types}
+use Rattle.merc_tree.specs.Types.{TypeExpr}
 use Rattle.merc_type_table.specs.declared.node.TypeNode.{TypeNode}
 use Rattle.merc_type_table.specs.declared.node.TypeNode.TheVariants.{Variable, Int, Text, Name, With}
 use Rattle.merc_type_table.specs.Table.{type_at, with_first, made, made_after, types_made, IsBefore}

@@ -20,6 +20,7 @@ impl Model for TypeNumber {
 impl TypeNumber {
     // The numbers of `int` and `string` in every table.
     pub(crate) const INT: TypeNumber = TypeNumber(0);
+
     pub(crate) const TEXT: TypeNumber = TypeNumber(1);
 
     pub(crate) fn at(index: usize) -> TypeNumber

@@ -51,11 +51,7 @@ impl TypeNumbering {
 
     /// The number of a type, which is added behind the others where it is new. With n parts of the type and m types that
     /// are there this takes time of the order of n log m.
-    pub fn number(
-        &mut self,
-        alloc: Global,
-        declared: &TypeRef<'_>,
-    ) -> Result<TypeNumber, NoMemory>
+    pub fn number(&mut self, alloc: Global, declared: &TypeRef<'_>) -> Result<TypeNumber, NoMemory>
         requires { IsNumbering self.old }
         ensures { IfOk result (λ number. Numbers self.old self.new number declared.now) }
     {

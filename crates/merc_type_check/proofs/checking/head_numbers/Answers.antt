@@ -1,4 +1,4 @@
-use Rattle.std.proofs.Common.{◌≡◌, ℕ, List, Option, sym, ap, subst, ◌∙◌}
+use Rattle.std.proofs.Common.{ℕ, List, Option, sym, ap, subst, ◌∙◌}
 use Rattle.std.specs.Prelude.{slice_get}
 use Rattle.merc_type_check.specs.Checked.{head_of, head_types}
 use Rattle.merc_type_check.specs.TypeNumbers.{AreNumbers, numbers_found}

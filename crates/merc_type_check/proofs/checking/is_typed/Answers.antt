@@ -1,10 +1,10 @@
-use Rattle.std.proofs.Common.{◌≡◌, ◌<◌, ℕ, List, map, sym, subst, ◌∙◌, arith}
+use Rattle.std.proofs.Common.{◌≡◌, ◌<◌, List, map, sym, subst, ◌∙◌, arith}
 use Rattle.std.proofs.lemmas.Result.{IfOk-weaker}
 use Rattle.merc_goal_tree.specs.Parts.{parts_of}
 use Rattle.merc_tree.specs.Types.{TypeExpr}
 use Rattle.merc_type_table.specs.Table.{type_at}
 use Rattle.merc_type_check.specs.Checked.{head_of}
-use Rattle.merc_type_check.specs.TypeNumbers.{AreNumbers, AreWithin}
+use Rattle.merc_type_check.specs.TypeNumbers.{AreWithin}
 use Rattle.merc_type_check.specs.Progress.{GoalRefuses, GoalStep, GoalTakes, Takes}
 use Rattle.merc_type_check.specs.Typing.{AreArguments, IsTypedPart}
 use Rattle.merc_type_check.proofs.Asked.{taken, refused, some_there}

@@ -1,4 +1,4 @@
-use Rattle.std.proofs.Common.{◌≡◌, List, ℕ, [], length, sym, subst, refl, arith}
+use Rattle.std.proofs.Common.{List, ℕ, [], length, sym, subst, refl}
 use Rattle.std.proofs.lemmas.Option.{slice_get_read}
 use Rattle.merc_type_check.specs.TypeNumbers.{NumbersPredicates}
 use Rattle.merc_type_check.proofs.Numbers.{grows_none, predicates_more, predicates_all}

@@ -1,4 +1,4 @@
-use Rattle.std.proofs.Common.{◌≡◌, ◌≤◌, List, length, Some, sym, ap, subst, refl, arith, get_or, ◌∙◌}
+use Rattle.std.proofs.Common.{◌≡◌, List, length, Some, ap, subst, refl, arith}
 use Rattle.std.specs.Prelude.{slice_get}
 use Rattle.std.proofs.lemmas.Option.{slice_get_read}
 use Rattle.merc_tree.specs.declared.declarations.Constructor.{Constructor}

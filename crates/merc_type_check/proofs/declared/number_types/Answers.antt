@@ -1,4 +1,4 @@
-use Rattle.std.proofs.Common.{◌≡◌, List, ℕ, [], sym, subst, refl, arith}
+use Rattle.std.proofs.Common.{List, ℕ, [], sym, subst, refl, arith}
 use Rattle.merc_type_check.specs.TypeNumbers.{Numbered}
 use Rattle.merc_type_check.proofs.Numbers.{grows_none, numbered_more, numbered_all}
 use Rattle.merc_type_check.proofs.declared.number_types.Goals as goal

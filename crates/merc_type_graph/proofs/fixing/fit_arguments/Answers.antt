@@ -1,8 +1,5 @@
-use Rattle.std.proofs.Common.{ℕ, ◌≡◌, ◌∷◌, ◌+◌, ap, sym, ◌∙◌, subst, drop, length, arith, get_or}
+use Rattle.std.proofs.Common.{ℕ, ◌∷◌, ◌+◌, ap, sym, ◌∙◌, drop}
 use Rattle.std.proofs.lemmas.List.{drop_more, drop_all}
-use Rattle.merc_type_table.specs.Table.{type_at, made, IsBefore, IsComplete}
-use Rattle.merc_type_table.specs.declared.node.TypeNode.{TypeNode}
-use Rattle.merc_type_table.specs.declared.node.TypeNode.TheVariants.{With}
 use Rattle.merc_type_graph.proofs.Fixings.{fitting_on, fitting_last}
 use Rattle.merc_type_graph.proofs.fixing.fit_arguments.Goals as goal
 

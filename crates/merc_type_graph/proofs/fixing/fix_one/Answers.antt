@@ -1,11 +1,11 @@
-use Rattle.std.proofs.Common.{◌≡◌, ◌∙◌, ℕ, List, sym, subst, get_or, set}
+use Rattle.std.proofs.Common.{ℕ, sym, subst, set}
 use Rattle.merc_type_table.specs.Table.{type_at}
-use Rattle.merc_type_graph.specs.Cells.{entry_of, known_at, rank_at, IsSound, LeadsTo}
+use Rattle.merc_type_graph.specs.Cells.{entry_of, IsSound, LeadsTo}
 use Rattle.merc_type_graph.specs.Fixing.{FitsOrDiffers, Steps}
 use Rattle.merc_type_graph.specs.declared.cell.Known.{Known}
 use Rattle.merc_type_graph.specs.declared.cell.Known.TheVariants.{Whole}
 use Rattle.merc_type_graph.proofs.Entries.{known_read}
-use Rattle.merc_type_graph.proofs.Fixings.{rank_read, sound-whole, step_differs, steps_whole, whole_cell}
+use Rattle.merc_type_graph.proofs.Fixings.{rank_read, sound-whole, step_differs, steps_whole}
 use Rattle.merc_type_graph.proofs.fixing.fix_one.Goals as goal
 
 pub returns-then-not-branch-clause-made : goal.returns-then-not-branch-clause-made

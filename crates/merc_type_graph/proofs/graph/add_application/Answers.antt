@@ -2,7 +2,7 @@ use Rattle.std.proofs.Common.{◌≡◌, ◌∙◌, [], refl, sym, ap, length, a
 use Rattle.std.proofs.lemmas.List.{append-nil}
 use Rattle.std.proofs.lemmas.Result.{on_ok_weaker, on_err_weaker}
 use Rattle.merc_type_graph.specs.Cells.{entries_of}
-use Rattle.merc_type_graph.proofs.Adding.{HasMore, sound_more, applied_last, entries_same}
+use Rattle.merc_type_graph.proofs.Adding.{sound_more, applied_last, entries_same}
 use Rattle.merc_type_graph.proofs.graph.add_application.Goals as goal
 
 pub add-requires-clause-sound : goal.add-requires-clause-sound

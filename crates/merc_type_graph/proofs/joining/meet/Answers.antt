@@ -1,4 +1,4 @@
-use Rattle.std.proofs.Common.{sym, subst, ℕ}
+use Rattle.std.proofs.Common.{subst, ℕ}
 use Rattle.std.proofs.lemmas.Result.{IfOk-weaker}
 use Rattle.merc_type_graph.specs.Cells.{LeadsTo}
 use Rattle.merc_type_graph.proofs.Meeting.{whole_first, meets_swapped}

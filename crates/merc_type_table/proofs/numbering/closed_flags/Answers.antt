@@ -1,5 +1,4 @@
-use Rattle.std.proofs.Common.{◌≡◌, ◌<◌, length, refl, sym, subst, ℕ, Some}
-use Rattle.std.specs.Prelude.{slice_get}
+use Rattle.std.proofs.Common.{refl, sym, subst, ℕ}
 use Rattle.merc_type_table.specs.Table.{IsBefore}
 use Rattle.merc_type_table.proofs.Made.{read_there}
 use Rattle.merc_type_table.proofs.Closed.{one_flag, all_flags, flags_count}

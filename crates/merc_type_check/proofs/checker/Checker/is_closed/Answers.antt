@@ -1,4 +1,4 @@
-use Rattle.std.proofs.Common.{◌≡◌, ◌<◌, List, length, sym, ◌∙◌, ap, subst}
+use Rattle.std.proofs.Common.{◌<◌, List, length, sym, ◌∙◌, ap, subst}
 use Rattle.merc_tree.specs.Types.{TypeExpr}
 use Rattle.merc_type_table.specs.Table.{is_closed, type_at}
 use Rattle.merc_type_check.proofs.checker.Checker.is_closed.Goals as goal

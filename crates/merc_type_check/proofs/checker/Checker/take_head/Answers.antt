@@ -1,7 +1,6 @@
-use Rattle.std.proofs.Common.{◌≡◌, ◌<◌, ◌≤◌, List, map, length, take, refl, sym, ap, subst, ◌∙◌, arith}
+use Rattle.std.proofs.Common.{◌≡◌, ◌<◌, List, map, length, refl, sym, subst, ◌∙◌, arith}
 use Rattle.std.proofs.lemmas.Option.{slice_get_read}
 use Rattle.merc_tree.specs.Types.{TypeExpr}
-use Rattle.merc_tree.specs.declared.declarations.Module.{Module}
 use Rattle.merc_type_table.specs.Table.{type_at}
 use Rattle.merc_type_check.proofs.Asked.{taken, refused, head_step, head_refused, head_all}
 use Rattle.merc_type_check.proofs.Numbers.{given_at, mapped_at, mapped_length, within_at}

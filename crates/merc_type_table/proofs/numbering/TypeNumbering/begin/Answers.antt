@@ -1,4 +1,3 @@
-use Rattle.std.proofs.Common.{sym, ◌∙◌}
 use Rattle.merc_type_table.proofs.Framed.{begins_variable, begins_int, begins_text, begins_application}
 use Rattle.merc_type_table.proofs.numbering.TypeNumbering.begin.Goals as goal
 use Rattle.merc_type_table.proofs.numbering.TypeNumbering.begin.Goals.{in-Variable+in_ok-number-in-Variable, in-Int, in-Text, in-Application+in_ok-number-in-Application}

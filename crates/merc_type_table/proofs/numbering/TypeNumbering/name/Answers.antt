@@ -1,4 +1,4 @@
-use Rattle.std.proofs.Common.{◌≡◌, refl, sym, ◌∙◌}
+use Rattle.std.proofs.Common.{refl, sym, ◌∙◌}
 use Rattle.merc_type_table.specs.declared.node.TypeNode.TheVariants.{Name}
 use Rattle.merc_type_table.proofs.Indexed.{known_adds, name_adds}
 use Rattle.merc_type_table.proofs.numbering.TypeNumbering.name.Goals as goal

@@ -1,4 +1,4 @@
-use Rattle.std.proofs.Common.{◌≡◌, ℕ, ◌-◌, ◌<◌, List, [], ◌∷◌, ◌++◌, length, reverse, take, refl, ap, sym, subst, ◌∙◌, vec_len}
+use Rattle.std.proofs.Common.{◌≡◌, ℕ, ◌-◌, ◌<◌, List, [], ◌∷◌, ◌++◌, reverse, take, ap, sym, subst, ◌∙◌, vec_len}
 use Rattle.std.proofs.lemmas.List.{reverse-append}
 use Rattle.merc_type_table.specs.declared.numbering.Frame.{Frame}
 use Rattle.merc_type_table.specs.Frames.{frames_work}

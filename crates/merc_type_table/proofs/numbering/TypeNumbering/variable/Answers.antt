@@ -1,4 +1,4 @@
-use Rattle.std.proofs.Common.{◌≡◌, refl, sym, ◌∙◌}
+use Rattle.std.proofs.Common.{refl, sym, ◌∙◌}
 use Rattle.merc_type_table.specs.declared.node.TypeNode.TheVariants.{Variable}
 use Rattle.merc_type_table.proofs.Indexed.{known_adds, variable_adds}
 use Rattle.merc_type_table.proofs.numbering.TypeNumbering.variable.Goals as goal
