@@ -1,0 +1,2 @@
+pub mod NewTypes
+pub mod JoinedTyping
