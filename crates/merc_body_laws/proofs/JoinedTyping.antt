@@ -1,5 +1,5 @@
 -- Clauses that are typed one by one are typed as one goal.
-use Rattle.std.proofs.Common.{◌≡◌, ℕ, zero, suc, ◌+◌, ◌-◌, ◌<◌, ◌≤◌, Bool, true, false, List, [], ◌∷◌, ◌++◌, length, map, get_or, refl, ap, sym, ◌∙◌, arith, ⊎_elim}
+use Rattle.std.proofs.Common.{◌≡◌, ℕ, zero, suc, ◌+◌, ◌-◌, ◌<◌, ◌≤◌, true, List, [], ◌∷◌, ◌++◌, length, map, get_or, ap, sym, ◌∙◌, arith, ⊎_elim}
 use Rattle.std.specs.Prelude.{◌==◌, nat_lt, if◌then◌else◌}
 use Rattle.std.specs.List.{AllByRecursion, position_or_len}
 use Rattle.std.proofs.lemmas.Bool.{cases_lt, lt-ltb, le-ltb}
@@ -14,15 +14,8 @@ use Rattle.merc_bodies.specs.Bodies.{as_one, asked_body, body_of, clauses_of, jo
 use Rattle.merc_bodies.proofs.Rising.{has}
 use Rattle.merc_bodies.proofs.Members.{has_own, place_within, at_place}
 use Rattle.merc_type_check.specs.Typing.{AreArguments, IsTypedPart, HasTyping}
+use Rattle.merc_body_laws.proofs.Choices.{chosen_true, chosen_false}
 use Rattle.merc_body_laws.proofs.NewTypes.{renamed_typed}
-
-chosen_true : {T : Type 0} (test : Bool) (one other : T) → test ≡ true → (if test then one else other) ≡ one
-chosen_true true one other is = refl
-chosen_true false one other is = absurd cc
-
-chosen_false : {T : Type 0} (test : Bool) (one other : T) → test ≡ false → (if test then one else other) ≡ other
-chosen_false false one other is = refl
-chosen_false true one other is = absurd cc
 
 -- lists of facts
 
