@@ -1,8 +1,10 @@
 pub mod InHand
+pub mod Members
 pub mod OneGoal
 pub mod Pairs
 pub mod Parts
 pub mod PartVariables
 pub mod Places
 pub mod Rebuilds
+pub mod RenamedParts
 pub mod Rising

@@ -16,7 +16,7 @@ module _ (new : ℕ → ℕ) where
   rebuilt_both [] other goals = refl
   rebuilt_both (part ∷ one) other goals = rebuilt_both one other (joined (renamed_root new part.0) part.1 goals)
 
-  count_same : (goals : Nodes) → length (list_of (all_renamed new goals)) ≡ length (list_of goals)
+  pub count_same : (goals : Nodes) → length (list_of (all_renamed new goals)) ≡ length (list_of goals)
   count_same no_nodes = refl
   count_same (more_nodes first rest) = ap suc (count_same rest)
 

@@ -58,7 +58,7 @@ has-put : (number put : ℕ) (numbers : List ℕ) → has number (put_among put 
 has-put number put [] = refl
 has-put number put (first ∷ rest) = put_has (nat_lt put first) (put == first) number put first rest refl (has-put number put rest)
 
-has-rising : (number : ℕ) (numbers : List ℕ) → has number (rising numbers) ≡ has number numbers
+pub has-rising : (number : ℕ) (numbers : List ℕ) → has number (rising numbers) ≡ has number numbers
 has-rising number [] = refl
 has-rising number (first ∷ rest) = has-put number first (rising rest) ∙ ap (λ b. (number == first) || b) (has-rising number rest)
 
@@ -94,7 +94,7 @@ rest_has : (same one other : Bool) → (same || one) ≡ (same || other) → (sa
 rest_has true one other is none also = none refl ∙ sym (also refl)
 rest_has false one other is none also = is
 
-first_has : (number : ℕ) (numbers : List ℕ) → has number (number ∷ numbers) ≡ true
+pub first_has : (number : ℕ) (numbers : List ℕ) → has number (number ∷ numbers) ≡ true
 first_has number numbers = ap (λ b. b || has number numbers) (eq-eqb number number refl)
 
 pub same_rising : (one other : List ℕ) → Rises one → Rises other → ((number : ℕ) → has number one ≡ has number other) → one ≡ other

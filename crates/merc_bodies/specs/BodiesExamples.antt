@@ -62,6 +62,17 @@ joined = refl
 numbered_anew : body_of form (clause p 5 ∷ clause p 7 ∷ []) (predicate p) ≡ Disjunction (nodes_of (first_form 1 ∷ second_form 2 1 ∷ [])) (at 5) → ⊥
 numbered_anew wrong = cc
 
+-- as the forms of clauses have them, whose own variables are numbered from the number of arguments on
+from_arity : body_of (λ clause. first_form 1) (clause p 5 ∷ clause p 7 ∷ []) (predicate p) ≡ Disjunction (nodes_of (first_form 1 ∷ first_form 2 ∷ [])) (at 5)
+from_arity = refl
+
+-- a clause of the same name with another number of arguments
+abbrev other_arity : Clause
+other_arity = record { head = Application p None none no_span; body = None; span = at 8 }
+
+apart : body_of form (other_arity ∷ clause p 5 ∷ []) (predicate p) ≡ first_form 1
+apart = refl
+
 only_clause : body_of form (clause p 5 ∷ []) (predicate p) ≡ first_form 1
 only_clause = refl
 

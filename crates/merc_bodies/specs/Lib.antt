@@ -1,4 +1,5 @@
 pub mod Renamed
+pub mod RenamedExamples
 pub mod Bodies
 pub mod BodiesExamples
 pub mod Occurrences

@@ -1,0 +1,3 @@
+pub mod BodyNumbers
+pub mod BodyNumbersExamples
+pub mod BodyTyping
