@@ -188,8 +188,7 @@ impl Refusal {
         ensures { result ≡ comes_first self.now other.now }
     {
         self.place.byte < other.place.byte
-            || (self.place.byte == other.place.byte
-                && self.rule.number() <= other.rule.number())
+            || (self.place.byte == other.place.byte && self.rule.number() <= other.rule.number())
     }
 }
 

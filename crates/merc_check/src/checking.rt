@@ -1,20 +1,19 @@
 //! The check of clauses and of goals.
 ghost use Rattle.std.specs.Prelude.{◌≡◌, length, map, IfErr, IfOk};
-ghost use Rattle.std.specs.Option.{option_copied};
 ghost use Rattle.merc_tree.specs.declared.declarations.Clause.{Clause};
 ghost use Rattle.merc_terms.specs.Items.{IsRefusal};
 ghost use Rattle.merc_goal_tree.specs.Nodes.{Node};
-ghost use Rattle.merc_type_check.specs.Checked.{Tells, head_types};
-ghost use Rattle.merc_type_check.specs.Ground.{IsFlagged};
+ghost use Rattle.merc_type_check.specs.Checked.{Tells, head_of};
+ghost use Rattle.merc_type_check.specs.TypeNumbers.{AreDeclared};
 ghost use Rattle.merc_check.specs.Accepted.{AcceptsClauses, AcceptsGoal, RefusesClauses, RefusesGoal, declared_arguments, type_mismatch};
 ghost use Rattle.merc_check.specs.Untyped.{FindsUntyped};
 
 use merc_base::{Detail, Fault, Names, NoMemory, Refusal, Rule, Span};
 use merc_flat::{flatten, flatten_query};
-use merc_goal_tree::{NodeRef, Nodes};
+use merc_goal_tree::{NodeRef, Nodes, Predicate};
 use merc_known::{Callee, Known};
-use merc_tree::{Clause, PredDecl, Shape, TermRef};
-use merc_type_check::{GroundFlags, is_typed};
+use merc_tree::{Clause, Shape, TermRef};
+use merc_type_check::{DeclaredTypes, is_typed};
 use std::alloc::Global;
 
 /// Checks the clauses of a module.
@@ -29,8 +28,8 @@ pub(crate) fn check_clauses(alloc: Global, known: &Known<'_>, names: &Names) -> 
     ensures refused { IfErr result (λ fault. IsRefusal (RefusesClauses names.now known.now) fault) }
 {
     let forms = flatten(alloc, known, names)?;
-    let flags = GroundFlags::of(alloc, known)?;
-    match first_untyped(alloc, known, &flags, &forms)? {
+    let declared = DeclaredTypes::of(alloc, known)?;
+    match first_untyped(alloc, known, &declared, &forms)? {
         Some(span) => Err(Fault::Refused(type_mismatch(span))),
         None => Ok(()),
     }
@@ -55,8 +54,8 @@ pub(crate) fn check_goal(
         Some(form) => form,
         None => unreachable!(),
     };
-    let flags = GroundFlags::of(alloc, known)?;
-    if is_typed(alloc, known, &flags, None, &form)? {
+    let declared = DeclaredTypes::of(alloc, known)?;
+    if is_typed(alloc, known, &declared, None, &form)? {
         Ok(())
     } else {
         Err(Fault::Refused(type_mismatch(goal.span())))
@@ -77,10 +76,10 @@ fn type_mismatch(span: Span) -> Refusal
 fn first_untyped(
     alloc: Global,
     known: &Known<'_>,
-    flags: &GroundFlags,
+    declared: &DeclaredTypes,
     forms: &Nodes,
 ) -> Result<Option<Span>, NoMemory>
-    requires flagged { IsFlagged known.now flags.now }
+    requires declared { AreDeclared known.now declared.now }
     requires count { length forms.now ≡ length known.now.clauses }
     ensures { IfOk result (λ found. (form : Clause → Node) → forms.now ≡ map form known.now.clauses → FindsUntyped known.now form found) }
 {
@@ -89,7 +88,7 @@ fn first_untyped(
             Some(form) => form,
             None => unreachable!(),
         };
-        if !is_typed_clause(alloc, known, flags, clause, &form)? {
+        if !is_typed_clause(alloc, known, declared, clause, &form)? {
             return Ok(Some(clause.span));
         }
     }
@@ -100,24 +99,24 @@ fn first_untyped(
 fn is_typed_clause(
     alloc: Global,
     known: &Known<'_>,
-    flags: &GroundFlags,
+    declared: &DeclaredTypes,
     clause: &Clause,
     form: &NodeRef<'_>,
 ) -> Result<bool, NoMemory>
-    requires { IsFlagged known.now flags.now }
+    requires { AreDeclared known.now declared.now }
     ensures { IfOk result (λ typed. Tells typed known.now (declared_arguments known.now clause.now.head) form.now) }
 {
     let predicate = predicate_of(known, &clause.head.as_ref());
-    is_typed(alloc, known, flags, predicate, form)
+    is_typed(alloc, known, declared, predicate, form)
 }
 
 // The predicate whose head this is, None where there is none.
-fn predicate_of<'a>(known: &Known<'a>, head: &TermRef<'_>) -> Option<&'a PredDecl>
-    ensures { head_types (option_copied result) ≡ declared_arguments known.now head.now }
+fn predicate_of(known: &Known<'_>, head: &TermRef<'_>) -> Option<Predicate>
+    ensures { head_of known.now result ≡ declared_arguments known.now head.now }
 {
     match head.shape() {
         Shape::Application { name, arity, .. } => match known.callee(name, None, arity) {
-            Callee::Predicate(predicate) => known.predicate(predicate.number()),
+            Callee::Predicate(predicate) => Some(predicate),
             Callee::Error => None,
         },
         Shape::Variable(_) | Shape::Integer(_) | Shape::Text(_) => None,

@@ -28,21 +28,21 @@ use Rattle.merc_clause_laws.proofs.ClausePlaces.{BodyLies, ClauseLies, ClausesLi
 
 -- what is among lists
 
-among_left : {A : Type 0} (one : A) (some others : List A) → IsAmong one some → IsAmong one (some ++ others)
+pub among_left : {A : Type 0} (one : A) (some others : List A) → IsAmong one some → IsAmong one (some ++ others)
 among_left one [] others among = absurd among
 among_left one (first ∷ some) others (inl same) = inl same
 among_left one (first ∷ some) others (inr among) = inr (among_left one some others among)
 
-among_right : {A : Type 0} (one : A) (some others : List A) → IsAmong one others → IsAmong one (some ++ others)
+pub among_right : {A : Type 0} (one : A) (some others : List A) → IsAmong one others → IsAmong one (some ++ others)
 among_right one [] others among = among
 among_right one (first ∷ some) others among = inr (among_right one some others among)
 
-among_either : {A : Type 0} (one : A) (some others : List A) → IsAmong one (some ++ others) → IsAmong one some ⊎ IsAmong one others
+pub among_either : {A : Type 0} (one : A) (some others : List A) → IsAmong one (some ++ others) → IsAmong one some ⊎ IsAmong one others
 among_either one [] others among = inr among
 among_either one (first ∷ some) others (inl same) = inl (inl same)
 among_either one (first ∷ some) others (inr among) = elim (among_either one some others among) as (λ _. IsAmong one (first ∷ some) ⊎ IsAmong one others) [ inl there ↦ inl (inr there) | inr there ↦ inr there ]
 
-all_at : {A : Type 0} (P : A → Type 0) (one : A) (all : List A) → AllByRecursion P all → IsAmong one all → P one
+pub all_at : {A : Type 0} (P : A → Type 0) (one : A) (all : List A) → AllByRecursion P all → IsAmong one all → P one
 all_at P one [] holds among = absurd among
 all_at P one (first ∷ rest) holds (inl same) = subst P (sym same) holds.0
 all_at P one (first ∷ rest) holds (inr among) = all_at P one rest holds.1 among
@@ -276,7 +276,7 @@ module _ (names : List (List ℕ)) (known : Module) (clause : Clause) where
         least = λ other has. (let before = listed (first_fault Goal) refl other has in comes_on one before.one other (told.least before.one before.among) before.comes);
       }
 
-  goal_none : clause_form_fault names known clause ≡ None → (other : Refusal) → HasGoalFault names known clause other → ⊥
+  pub goal_none : clause_form_fault names known clause ≡ None → (other : Refusal) → HasGoalFault names known clause other → ⊥
   goal_none is other has = let before = listed (first_fault Goal) refl other has in none_first (Faults (first_fault Goal)) before.one is before.among
 
   -- names
@@ -294,7 +294,7 @@ module _ (names : List (List ℕ)) (known : Module) (clause : Clause) where
   name_least : (one : Refusal) → clause_name_fault names known clause ≡ Some one → TellsLeast (HasNameFault known clause) one
   name_least one is = name_by (first_span Unknown) refl one is
 
-  name_none : clause_name_fault names known clause ≡ None → (other : Refusal) → HasNameFault known clause other → ⊥
+  pub name_none : clause_name_fault names known clause ≡ None → (other : Refusal) → HasNameFault known clause other → ⊥
   name_none is _ (name span among) = none_spans Unknown span (by (first_span Unknown) is) among
     where
       by : (found : Option Span) → option_map (unknown_name known) found ≡ None → found ≡ None
@@ -309,7 +309,7 @@ module _ (names : List (List ℕ)) (known : Module) (clause : Clause) where
       before : (other : Refusal) → HasTypeFault names known clause other → Comes (type_mismatch clause.span) other
       before _ (untyped _) = comes_self (type_mismatch clause.span)
 
-  type_none : IsTypedClause names known clause → (other : Refusal) → HasTypeFault names known clause other → ⊥
+  pub type_none : IsTypedClause names known clause → (other : Refusal) → HasTypeFault names known clause other → ⊥
   type_none typed _ (untyped wrong') = wrong' typed
 
   -- the faults of a clause stand within it

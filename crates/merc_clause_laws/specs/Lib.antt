@@ -1,1 +1,2 @@
 pub mod ClauseFaults
+pub mod UnitClauses

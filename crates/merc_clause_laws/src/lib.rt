@@ -2,8 +2,19 @@
 #![tactic(auto)]
 
 ghost use Rattle.merc_clause_laws.specs.ClauseFaults.{TellsFirstFault};
+ghost use Rattle.merc_clause_laws.specs.UnitClauses.{TellsFileFault, UnitsAreFaultless};
 
 /// Of all faults of a file's clauses the one that is told comes first.
 pub fn tells_first_fault()
     ensures { TellsFirstFault }
+{}
+
+/// The clauses of the library units that a module imports have a form, keep the limits, name what is there and are typed.
+pub fn units_are_faultless()
+    ensures { UnitsAreFaultless }
+{}
+
+/// So what is told of the clauses of a module is a fault of a clause of its file.
+pub fn tells_file_fault()
+    ensures { TellsFileFault }
 {}

@@ -9,3 +9,5 @@ pub mod FirstPlaces
 pub mod EntriesExamples
 pub mod DoubleExamples
 pub mod UnitsExamples
+pub mod LibraryItems
+pub mod LibraryItemsExamples

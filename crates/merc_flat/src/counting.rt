@@ -1,5 +1,5 @@
 //! How many variables a goal has.
-ghost use Rattle.std.specs.Prelude.{◌≡◌, ◌++◌, ◌∷◌, [], ℕ, List, IfOk, OnOk};
+ghost use Rattle.std.specs.Prelude.{◌≡◌, ◌+◌, ◌++◌, ◌∷◌, [], ℕ, List, IfOk, OnOk};
 ghost use Rattle.merc_flat.specs.Counted.{HasThese, own, root_variables};
 ghost use Rattle.merc_goal_tree.specs.Variables.{variables_of};
 ghost use Rattle.merc_flat.specs.GoalFaults.{variable_count};
@@ -9,19 +9,19 @@ use merc_goal_tree::{NodeRef, Root, SimpleGoal, Var};
 use std::alloc::Global;
 use std::collections::BTreeSet;
 
-/// How many variables a goal in flat form has: the arguments, whose numbers are below `arity`, and each other variable.
+/// How many variables a goal in flat form has beside the arguments, whose numbers are below `arity`.
 ///
 /// With n occurrences of variables this takes time of the order of n log n.
 ///
 /// # Errors
 ///
-/// `NoMemory` says that memory was refused, or that the count is past the greatest `usize`.
-pub(crate) fn variable_count(
+/// `NoMemory` says that memory was refused.
+pub(crate) fn other_variables(
     alloc: Global,
     arity: usize,
     goal: &NodeRef<'_>,
 ) -> Result<usize, NoMemory>
-    ensures { IfOk result (λ count. count ≡ variable_count arity goal.now) }
+    ensures { IfOk result (λ count. arity + count ≡ variable_count arity goal.now) }
 {
     let mut found = BTreeSet::new(alloc);
     for index in 0..goal.part_count() {
@@ -29,10 +29,7 @@ pub(crate) fn variable_count(
             add_root(&mut found, arity, root)?;
         }
     }
-    match arity.checked_add(found.len()) {
-        Some(count) => Ok(count),
-        None => Err(NoMemory),
-    }
+    Ok(found.len())
 }
 
 // Adds the variables of a part, but for the arguments.

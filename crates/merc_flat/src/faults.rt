@@ -1,10 +1,10 @@
 //! What is wrong with the form of a goal and its size.
-ghost use Rattle.std.specs.Prelude.{◌≡◌, IfOk};
-ghost use Rattle.merc_flat.specs.GoalFaults.{form_fault, limit_passed};
+ghost use Rattle.std.specs.Prelude.{◌≡◌, ◌+◌, nat_lt, IfOk};
+ghost use Rattle.merc_flat.specs.GoalFaults.{form_fault, limit_passed, variable_limit};
 ghost use Rattle.merc_flat.specs.Flat.{either_fault};
 ghost use Rattle.merc_flat.specs.SizeFaults.{first_of_two, size_fault, width_fault};
 
-use crate::counting::variable_count;
+use crate::counting::other_variables;
 use merc_base::{Detail, LimitName, NoMemory, Refusal, Rule, Span};
 use merc_goal_tree::NodeRef;
 use merc_goals::WrittenGoal;
@@ -22,7 +22,7 @@ const CONJUNCT_LIMIT: usize = 64;
 ///
 /// # Errors
 ///
-/// As for the count of variables.
+/// `NoMemory` says that memory was refused.
 pub(crate) fn form_fault(
     alloc: Global,
     arity: usize,
@@ -57,7 +57,7 @@ fn or_size_fault(
 ///
 /// # Errors
 ///
-/// As for the count of variables.
+/// `NoMemory` says that memory was refused.
 pub(crate) fn size_fault(
     alloc: Global,
     arity: usize,
@@ -66,12 +66,19 @@ pub(crate) fn size_fault(
 ) -> Result<Option<Refusal>, NoMemory>
     ensures { IfOk result (λ fault. fault ≡ size_fault arity span flat.now) }
 {
-    let count = variable_count(alloc, arity, flat)?;
-    Ok(if count > VARIABLE_LIMIT {
+    let others = other_variables(alloc, arity, flat)?;
+    Ok(if are_many(arity, others) {
         Some(limit_passed(LimitName::Variables, span))
     } else {
         None
     })
+}
+
+// Whether these are more than a clause or a goal may have: arguments and other variables.
+fn are_many(arity: usize, others: usize) -> bool
+    ensures { result ≡ nat_lt variable_limit (arity + others) }
+{
+    arity > VARIABLE_LIMIT || others > VARIABLE_LIMIT - arity
 }
 
 // Too many conjuncts of a parallel conjunction, of which the widest has so many.

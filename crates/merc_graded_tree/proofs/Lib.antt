@@ -1,0 +1,3 @@
+pub mod JoinLaws
+pub mod EntryLaws
+pub mod Cuts

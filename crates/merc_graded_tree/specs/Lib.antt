@@ -1,2 +1,12 @@
 pub mod Nodes
+pub mod Roots
+pub mod RootLaws
+pub mod Labels
+pub mod Induction
+pub mod LabelCode
+pub mod Views
+pub mod NodesExamples
+pub mod Entries
+pub mod EntriesExamples
 pub mod Variables
+pub mod VariablesExamples

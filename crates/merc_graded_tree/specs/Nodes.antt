@@ -4,12 +4,7 @@ use Rattle.merc_base.specs.declared.category.Category.{Category}
 use Rattle.merc_base.specs.declared.place.Span.{Span}
 use Rattle.merc_goal_tree.specs.declared.goal.Symbol.{Symbol}
 use Rattle.merc_graded_tree.specs.declared.basic.BasicGoal.{BasicGoal}
-use Rattle.merc_graded_tree.specs.declared.basic.Site.{Site}
-
--- how the goals of a conjunction run: one after the other, or side by side, at a site once it has one
-pub data Running : Type 0 where
-  Sequential : Running
-  Parallel : (site : Option Site) → Running
+use Rattle.merc_graded_tree.specs.declared.entries.Running.{Running}
 
 -- A goal has its outputs: the variables that are free before it, bound behind it, and occur outside it. It has a category once categories are known, and the
 -- span of the goal as it is written.

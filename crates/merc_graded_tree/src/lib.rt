@@ -2,5 +2,11 @@
 #![tactic(auto)]
 
 pub mod basic;
+mod entries;
+pub mod node_ref;
+pub mod nodes;
 
 pub use basic::{BasicGoal, Procedure, Site};
+pub use entries::{Label, Root, Running};
+pub use node_ref::{NodeRef, NodeView, Parts};
+pub use nodes::Nodes;

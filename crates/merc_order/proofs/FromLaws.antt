@@ -63,7 +63,7 @@ beside-more : (number : ℕ) (ms : List Move) (bound more : Bound) → AreMonoto
 beside-more number [] bound more mono h ready = refl
 beside-more number (m ∷ ms) bound more (one, rest) h ready =
     beside_step number m ms bound more (m.from bound) (m.from more) (beside (number + 1) ms (with bound m.binds)) (beside (number + 1) ms (with more m.binds))
-      (one bound more h) (beside-more (number + 1) ms (with bound m.binds) (with more m.binds) rest (holds_with bound more m.binds h)) ready
+    (one bound more h) (beside-more (number + 1) ms (with bound m.binds) (with more m.binds) rest (holds_with bound more m.binds h)) ready
 
 -- calls
 
@@ -78,8 +78,8 @@ taken-more : (number : ℕ) (bound more : Bound) (arguments : List ℕ) (ms : Li
 taken-more number bound more arguments [] h ready = ready
 taken-more number bound more arguments (m ∷ ms) h ready =
     taken_step (are_bound bound (inputs_of m.args arguments)) (are_bound more (inputs_of m.args arguments)) number m
-      (taken_from (suc number) bound arguments ms) (taken_from (suc number) more arguments ms)
-      (all-more (inputs_of m.args arguments) bound more h) (taken-more (suc number) bound more arguments ms h) ready
+    (taken_from (suc number) bound arguments ms) (taken_from (suc number) more arguments ms)
+    (all-more (inputs_of m.args arguments) bound more h) (taken-more (suc number) bound more arguments ms h) ready
 
 called-more : (total : ℕ → ℕ) (modes : ℕ → List ModeDecl) (bound more : Bound) (predicate : ℕ) (arguments : List ℕ) (l l' : Option (ℕ × ModeDecl)) (outs outs' : List ℕ) (span : Span)
     → (is_some l ≡ true → is_some l' ≡ true)
@@ -124,7 +124,7 @@ simple-more total modes (Compare comparison left right) outs outs' span bound mo
 simple-more total modes (Raise text) outs outs' span bound more h ready = one-more (bound text) (more text) _ _ (never_ready span) (never_ready span) (h text) ready
 simple-more total modes (Call predicate arguments) outs outs' span bound more h ready =
     called-more total modes bound more predicate arguments (taken_from 0 bound arguments (modes predicate)) (taken_from 0 more arguments (modes predicate)) outs outs' span
-      (taken-more 0 bound more arguments (modes predicate) h) ready
+    (taken-more 0 bound more arguments (modes predicate) h) ready
 
 -- The conditions on what is bound hold where more is.
 
@@ -143,12 +143,12 @@ agree_or false false c d f h = h
 agree-more : (total : ℕ → ℕ) (modes : ℕ → List ModeDecl) (inside : List ℕ) (found : List Arm) (bound more : Bound) → Holds bound more → agree total modes bound inside found ≡ true → agree total modes more inside found ≡ true
 agree-more total modes inside found bound more h =
     all-more inside (λ v. bound v || not (differ_on found v) || not (outside total modes inside v)) (λ v. more v || not (differ_on found v) || not (outside total modes inside v))
-      (λ v k. agree_or (bound v) (more v) _ _ (h v) k)
+    (λ v k. agree_or (bound v) (more v) _ _ (h v) k)
 
 inside-more : (total : ℕ → ℕ) (modes : ℕ → List ModeDecl) (inside all : List ℕ) (at_last bound more : Bound) → Holds bound more → binds_inside total modes bound inside all at_last ≡ true → binds_inside total modes more inside all at_last ≡ true
 inside-more total modes inside all at_last bound more h =
     all-more all (λ v. bound v || not (at_last v) || not (outside total modes inside v)) (λ v. more v || not (at_last v) || not (outside total modes inside v))
-      (λ v k. agree_or (bound v) (more v) _ _ (h v) k)
+    (λ v k. agree_or (bound v) (more v) _ _ (h v) k)
 
 module _ (total : ℕ → ℕ) (modes : ℕ → List ModeDecl) where
   mutual
@@ -156,30 +156,30 @@ module _ (total : ℕ → ℕ) (modes : ℕ → List ModeDecl) where
     from-more (Simple goal at) bound more h ready = simple-more total modes goal _ _ at bound more h ready
     from-more (Conjunction goals at) bound more h ready =
         if_all_ready-more (settled (length (moves total modes goals)) (moves total modes goals) bound) (settled (length (moves total modes goals)) (moves total modes goals) more) _ _
-          (settled-more (moves total modes goals) bound more (moves-more goals) h) (λ g g' k. refl) ready
+        (settled-more (moves total modes goals) bound more (moves-more goals) h) (λ g g' k. refl) ready
     from-more (Parallel goals at) bound more h ready =
         if_all_ready-more (beside 1 (moves total modes goals) bound) (beside 1 (moves total modes goals) more) _ _
-          (beside-more 1 (moves total modes goals) bound more (moves-more goals) h) (λ g g' k. refl) ready
+        (beside-more 1 (moves total modes goals) bound more (moves-more goals) h) (λ g g' k. refl) ready
     from-more (Disjunction goals at) bound more h ready =
         if_all_ready-more (each_from (moves total modes goals) bound) (each_from (moves total modes goals) more) _ _
-          (each_from-more (moves total modes goals) bound more (moves-more goals) h)
-          (λ g g' k. if-more (agree total modes bound (all_variables goals) (arms total modes goals)) (agree total modes more (all_variables goals) (arms total modes goals)) _ _ (unbound_output at) (unbound_output at)
-            (agree-more total modes (all_variables goals) (arms total modes goals) bound more h) (λ j. refl) k) ready
+        (each_from-more (moves total modes goals) bound more (moves-more goals) h)
+        (λ g g' k. if-more (agree total modes bound (all_variables goals) (arms total modes goals)) (agree total modes more (all_variables goals) (arms total modes goals)) _ _ (unbound_output at) (unbound_output at)
+        (agree-more total modes (all_variables goals) (arms total modes goals) bound more h) (λ j. refl) k) ready
     from-more (Conditional condition then_part else_part at) bound more h ready =
         if_ready-more (from total modes condition bound) (from total modes condition more) _ _ (from-more condition bound more h)
-          (λ g g' k. if-more (binds_inside total modes bound (variables condition ++ variables then_part) (variables condition) (binds total modes condition))
-              (binds_inside total modes more (variables condition ++ variables then_part) (variables condition) (binds total modes condition)) _ _ (binds_outer (span_of condition)) (binds_outer (span_of condition))
-              (inside-more total modes (variables condition ++ variables then_part) (variables condition) (binds total modes condition) bound more h)
-              (λ j. if_ready-more (from total modes then_part (with bound (binds total modes condition))) (from total modes then_part (with more (binds total modes condition))) _ _
-                (from-more then_part (with bound (binds total modes condition)) (with more (binds total modes condition)) (holds_with bound more (binds total modes condition) h))
-                (λ s s' i. if_ready-more (from total modes else_part bound) (from total modes else_part more) _ _ (from-more else_part bound more h)
-                  (λ t t' q. if-more (agree total modes bound (variables (Conditional condition then_part else_part at)) (decision_arms total modes condition then_part else_part))
-                    (agree total modes more (variables (Conditional condition then_part else_part at)) (decision_arms total modes condition then_part else_part)) _ _ (unbound_output at) (unbound_output at)
-                    (agree-more total modes (variables (Conditional condition then_part else_part at)) (decision_arms total modes condition then_part else_part) bound more h) (λ r. refl) q) i) j) k) ready
+        (λ g g' k. if-more (binds_inside total modes bound (variables condition ++ variables then_part) (variables condition) (binds total modes condition))
+        (binds_inside total modes more (variables condition ++ variables then_part) (variables condition) (binds total modes condition)) _ _ (binds_outer (span_of condition)) (binds_outer (span_of condition))
+        (inside-more total modes (variables condition ++ variables then_part) (variables condition) (binds total modes condition) bound more h)
+        (λ j. if_ready-more (from total modes then_part (with bound (binds total modes condition))) (from total modes then_part (with more (binds total modes condition))) _ _
+        (from-more then_part (with bound (binds total modes condition)) (with more (binds total modes condition)) (holds_with bound more (binds total modes condition) h))
+        (λ s s' i. if_ready-more (from total modes else_part bound) (from total modes else_part more) _ _ (from-more else_part bound more h)
+        (λ t t' q. if-more (agree total modes bound (variables (Conditional condition then_part else_part at)) (decision_arms total modes condition then_part else_part))
+        (agree total modes more (variables (Conditional condition then_part else_part at)) (decision_arms total modes condition then_part else_part)) _ _ (unbound_output at) (unbound_output at)
+        (agree-more total modes (variables (Conditional condition then_part else_part at)) (decision_arms total modes condition then_part else_part) bound more h) (λ r. refl) q) i) j) k) ready
     from-more (Negation goal at) bound more h ready =
         if_ready-more (from total modes goal bound) (from total modes goal more) _ _ (from-more goal bound more h)
-          (λ g g' k. if-more (binds_inside total modes bound (variables goal) (variables goal) (binds total modes goal)) (binds_inside total modes more (variables goal) (variables goal) (binds total modes goal)) _ _
-            (binds_outer at) (binds_outer at) (inside-more total modes (variables goal) (variables goal) (binds total modes goal) bound more h) (λ j. refl) k) ready
+        (λ g g' k. if-more (binds_inside total modes bound (variables goal) (variables goal) (binds total modes goal)) (binds_inside total modes more (variables goal) (variables goal) (binds total modes goal)) _ _
+        (binds_outer at) (binds_outer at) (inside-more total modes (variables goal) (variables goal) (binds total modes goal) bound more h) (λ j. refl) k) ready
     from-more (Quantified own goal at) bound more h ready =
         if_ready-more (from total modes goal bound) (from total modes goal more) _ _ (from-more goal bound more h) (λ g g' k. refl) ready
 

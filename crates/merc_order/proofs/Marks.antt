@@ -91,10 +91,11 @@ module _ (total : ℕ → ℕ) (modes : ℕ → List ModeDecl) where
     sound-more (Parallel goals span) marked bound more h sound = beside-sound goals marked bound more h sound
     sound-more (Disjunction goals span) marked bound more h sound = each-sound goals marked bound more h sound
     sound-more (Conditional condition then_part else_part span) (more_marks c ci (more_marks t ti (more_marks e ei no_marks))) bound more h (one, two, three) =
-        let inner = holds_with bound more (binds total modes condition) h in
-        (part-more c _ _ _ _ (from-more total modes condition bound more h) (sound-more condition ci bound more h) one,
-        part-more t _ _ _ _ (from-more total modes then_part (with bound (binds total modes condition)) (with more (binds total modes condition)) inner) (sound-more then_part ti (with bound (binds total modes condition)) (with more (binds total modes condition)) inner) two,
-        part-more e _ _ _ _ (from-more total modes else_part bound more h) (sound-more else_part ei bound more h) three)
+        let inner = holds_with bound more (binds total modes condition) h in (
+          part-more c _ _ _ _ (from-more total modes condition bound more h) (sound-more condition ci bound more h) one,
+          part-more t _ _ _ _ (from-more total modes then_part (with bound (binds total modes condition)) (with more (binds total modes condition)) inner) (sound-more then_part ti (with bound (binds total modes condition)) (with more (binds total modes condition)) inner) two,
+          part-more e _ _ _ _ (from-more total modes else_part bound more h) (sound-more else_part ei bound more h) three,
+        )
     sound-more (Negation goal span) (more_marks g gi no_marks) bound more h sound =
         part-more g _ _ _ _ (from-more total modes goal bound more h) (sound-more goal gi bound more h) sound
     sound-more (Quantified own goal span) (more_marks g gi no_marks) bound more h sound =
@@ -123,9 +124,10 @@ module _ (total : ℕ → ℕ) (modes : ℕ → List ModeDecl) where
     beside-sound : (goals : Nodes) (marked : Marked) (bound more : Bound) → Holds bound more → SoundBeside goals marked bound → SoundBeside goals marked more
     beside-sound no_nodes marked bound more h sound = sound
     beside-sound (more_nodes first rest) no_marks bound more h sound = sound
-    beside-sound (more_nodes first rest) (more_marks went inner others) bound more h (one, two) =
-        (part-more went _ _ _ _ (from-more total modes first bound more h) (sound-more first inner bound more h) one,
-        beside-sound rest others (with bound (binds total modes first)) (with more (binds total modes first)) (holds_with bound more (binds total modes first) h) two)
+    beside-sound (more_nodes first rest) (more_marks went inner others) bound more h (one, two) = (
+      part-more went _ _ _ _ (from-more total modes first bound more h) (sound-more first inner bound more h) one,
+      beside-sound rest others (with bound (binds total modes first)) (with more (binds total modes first)) (holds_with bound more (binds total modes first) h) two,
+    )
 
   ready_all : (o : Outcomes) (outputs : List ℕ) (span : Span) → is_ready (if_all_ready o (λ all. Ready (put (Sequence all) outputs span))) ≡ are_ready o
   ready_all (AllReady goals) outputs span = refl
@@ -141,4 +143,4 @@ module _ (total : ℕ → ℕ) (modes : ℕ → List ModeDecl) where
       → is_ready (from total modes (Conjunction goals span) bound) ≡ true → ⊥
   conjunction-stuck goals span m ms bound now way stuck h =
       some_left (moves total modes goals) m ms bound now (moves-more total modes goals) way stuck
-        (sym (ready_all (settled (length (moves total modes goals)) (moves total modes goals) bound) (outputs_of total modes bound (Conjunction goals span)) span) ∙ h)
+      (sym (ready_all (settled (length (moves total modes goals)) (moves total modes goals) bound) (outputs_of total modes bound (Conjunction goals span)) span) ∙ h)

@@ -26,7 +26,6 @@ abbrev pub AreMonotone : List Move → Type 0
 AreMonotone [] = Unit {0}
 AreMonotone (move ∷ moves) = IsMonotone move × AreMonotone moves
 
-
 pub monotone_one : (move : Move) (all others : List Move) → Removed move all others → AreMonotone all → IsMonotone move
 monotone_one move all others (here m o) (m1, ms) = m1
 monotone_one move all others (later f m a o r) (m1, ms) = monotone_one move a o r ms
@@ -38,13 +37,13 @@ monotone_rest move all others (later f m a o r) (m1, ms) = (m1, monotone_rest mo
 pub holds_with : (bound more binds : Bound) → Holds bound more → Holds (with bound binds) (with more binds)
 holds_with bound more binds h variable b =
     or_both (bound variable) (binds variable) (more variable || binds variable)
-      (λ k. or_left (more variable) (binds variable) (h variable k)) (λ k. or_right (more variable) (binds variable) k) b
+    (λ k. or_left (more variable) (binds variable) (h variable k)) (λ k. or_right (more variable) (binds variable) k) b
 
 pub can_all-more : (all : List Move) (bound more : Bound) → AreMonotone all → Holds bound more → CanAll all bound → CanAll all more
 can_all-more all bound more mono h (none k) = none more
 can_all-more all bound more mono h (take m a o k r ready rest) =
     take m all o more r (monotone_one m all o r mono bound more h ready)
-      (can_all-more o (with bound m.binds) (with more m.binds) (monotone_rest m all o r mono) (holds_with bound more m.binds h) rest)
+    (can_all-more o (with bound m.binds) (with more m.binds) (monotone_rest m all o r mono) (holds_with bound more m.binds h) rest)
 
 -- two taken out one after the other
 data Both (one other : Move) (without_one without_other : List Move) : Type 0 where
@@ -64,10 +63,10 @@ both one other all a b (later f m c o r) (later g n d p s) = both_later f one ot
 swapped : (bound one other : Bound) → Holds (with (with bound one) other) (with (with bound other) one)
 swapped bound one other variable h =
     or_both (bound variable || one variable) (other variable) ((bound variable || other variable) || one variable)
-      (λ k. or_both (bound variable) (one variable) ((bound variable || other variable) || one variable)
-        (λ j. or_left (bound variable || other variable) (one variable) (or_left (bound variable) (other variable) j))
-        (λ j. or_right (bound variable || other variable) (one variable) j) k)
-      (λ k. or_left (bound variable || other variable) (one variable) (or_right (bound variable) (other variable) k)) h
+    (λ k. or_both (bound variable) (one variable) ((bound variable || other variable) || one variable)
+    (λ j. or_left (bound variable || other variable) (one variable) (or_left (bound variable) (other variable) j))
+    (λ j. or_right (bound variable || other variable) (one variable) j) k)
+    (λ k. or_left (bound variable || other variable) (one variable) (or_right (bound variable) (other variable) k)) h
 
 holds_more : (bound binds : Bound) → Holds bound (with bound binds)
 holds_more bound binds variable h = or_left (bound variable) (binds variable) h
@@ -77,15 +76,15 @@ without_from : (move m : Move) (all others o : List Move) (bound : Bound) → Ar
 without_from move m all others o bound mono r s ready rest again (same e f) = subst (λ l. CanAll l (with bound move.binds)) (sym f) (subst (λ x. CanAll o (with bound x.binds)) (sym e) rest)
 without_from move m all others o bound mono r s ready rest again (apart c t u) =
     take m others c (with bound move.binds) t (monotone_one m all o s mono bound (with bound move.binds) (holds_more bound move.binds) ready)
-      (can_all-more c (with (with bound m.binds) move.binds) (with (with bound move.binds) m.binds)
-        (monotone_rest m others c t (monotone_rest move all others r mono)) (swapped bound m.binds move.binds) (again c u))
+    (can_all-more c (with (with bound m.binds) move.binds) (with (with bound move.binds) m.binds)
+    (monotone_rest m others c t (monotone_rest move all others r mono)) (swapped bound m.binds move.binds) (again c u))
 
 -- Where all can go, all others can go behind any of them.
 pub can_all-without : (move : Move) (all others : List Move) (bound : Bound) → AreMonotone all → Removed move all others → CanAll all bound → CanAll others (with bound move.binds)
 can_all-without move all others bound mono r (none k) = elim r [ ]
 can_all-without move all others bound mono r (take m a o k s ready rest) =
     without_from move m all others o bound mono r s ready rest
-      (λ c u. can_all-without move o c (with bound m.binds) (monotone_rest m all o s mono) u rest) (both move m all others o r s)
+    (λ c u. can_all-without move o c (with bound m.binds) (monotone_rest m all o s mono) u rest) (both move m all others o r s)
 
 -- What `next` finds.
 
@@ -106,7 +105,7 @@ next_step m ms bound found (Stuck x) None e f h = cc
 next_step m ms bound found (Stuck x) (Some n) e f h =
     let i = f n refl in
     subst (λ n. IsNext (m ∷ ms) bound n) (some_is (record { goal = n.goal; binds = n.binds; others = m ∷ n.others }) found h)
-      (record { move = i.move; removed = later m i.move ms n.others i.removed; binds_is = i.binds_is; outcome = i.outcome })
+    (record { move = i.move; removed = later m i.move ms n.others i.removed; binds_is = i.binds_is; outcome = i.outcome })
 
 pub next_is : (all : List Move) (bound : Bound) (found : Next) → next all bound ≡ Some found → IsNext all bound found
 next_is [] bound found h = cc
@@ -147,8 +146,8 @@ goes_on left all bound first (Some found) count mono can e some again =
     let i = next_is all bound found e in
     then_all-ready found.goal (settled left found.others (with bound found.binds))
     ∙ again found.others (with bound found.binds) (suc_is (length found.others) left (sym (removed_length i.move all found.others i.removed) ∙ count))
-        (monotone_rest i.move all found.others i.removed mono)
-        (subst (λ b. CanAll found.others (with bound b)) (sym i.binds_is) (can_all-without i.move all found.others bound mono i.removed can))
+    (monotone_rest i.move all found.others i.removed mono)
+    (subst (λ b. CanAll found.others (with bound b)) (sym i.binds_is) (can_all-without i.move all found.others bound mono i.removed can))
 
 is_there : (m : Move) (ms : List Move) (bound : Bound) → CanAll (m ∷ ms) bound → next (m ∷ ms) bound ≡ None → ⊥
 is_there m ms bound (take move a o k r ready rest) h = next_none move (m ∷ ms) o bound r ready h
@@ -173,8 +172,8 @@ went_on left m ms bound None count e again h = absurd (next_none m (m ∷ ms) ms
 went_on left m ms bound (Some found) count e again h =
     let i = next_is (m ∷ ms) bound found e in
     let rest : CanAll found.others (with bound found.binds) =
-        again found.others (with bound found.binds) (suc_is (length found.others) left (sym (removed_length i.move (m ∷ ms) found.others i.removed) ∙ count))
-          (sym (then_all-ready found.goal (settled left found.others (with bound found.binds))) ∙ h) in
+    again found.others (with bound found.binds) (suc_is (length found.others) left (sym (removed_length i.move (m ∷ ms) found.others i.removed) ∙ count))
+    (sym (then_all-ready found.goal (settled left found.others (with bound found.binds))) ∙ h) in
     take i.move (m ∷ ms) found.others bound i.removed (ready_is (i.move.from bound) found.goal i.outcome) (subst (λ b. CanAll found.others (with bound b)) i.binds_is rest)
 
 pub all-settled : (left : ℕ) (all : List Move) (bound : Bound) → length all ≡ left → are_ready (settled left all bound) ≡ true → CanAll all bound

@@ -24,12 +24,12 @@ first_step : (m : Move) (ms : List Move) (bound : Bound) (found : Next) (o : Out
     → if_ready_next o m.binds ms (behind m l) ≡ Some found → IsFirst (m ∷ ms) bound found
 first_step m ms bound found (Ready g) l e f h =
     subst (λ n. IsFirst (m ∷ ms) bound n) (some_is (record { goal = g; binds = m.binds; others = ms }) found h)
-      (record { before = []; move = m; behind_it = ms; whole = refl; rest = refl; stuck = tt; binds_is = refl; outcome = e })
+    (record { before = []; move = m; behind_it = ms; whole = refl; rest = refl; stuck = tt; binds_is = refl; outcome = e })
 first_step m ms bound found (Stuck x) None e f h = cc
 first_step m ms bound found (Stuck x) (Some n) e f h =
     let i = f n refl in
     subst (λ k. IsFirst (m ∷ ms) bound k) (some_is (record { goal = n.goal; binds = n.binds; others = m ∷ n.others }) found h)
-      (record { before = m ∷ i.before; move = i.move; behind_it = i.behind_it; whole = ap (λ k. m ∷ k) i.whole; rest = ap (λ k. m ∷ k) i.rest; stuck = (ap is_ready e, i.stuck); binds_is = i.binds_is; outcome = i.outcome })
+    (record { before = m ∷ i.before; move = i.move; behind_it = i.behind_it; whole = ap (λ k. m ∷ k) i.whole; rest = ap (λ k. m ∷ k) i.rest; stuck = (ap is_ready e, i.stuck); binds_is = i.binds_is; outcome = i.outcome })
 
 pub next_first : (all : List Move) (bound : Bound) (found : Next) → next all bound ≡ Some found → IsFirst all bound found
 next_first [] bound found h = cc
@@ -52,7 +52,7 @@ step left m ms bound os (Some found) e again count h =
     let i = next_first (m ∷ ms) bound found e in
     let (r, one, two) = all_is found.goal (settled left found.others (with bound found.binds)) os h in
     let s : IsSequence (i.before ++ i.behind_it) (with bound i.move.binds) r =
-        subst (λ k. IsSequence k (with bound i.move.binds) r) i.rest (subst (λ b. IsSequence found.others (with bound b) r) i.binds_is (again found.others (with bound found.binds) r one (count found refl))) in
+    subst (λ k. IsSequence k (with bound i.move.binds) r) i.rest (subst (λ b. IsSequence found.others (with bound b) r) i.binds_is (again found.others (with bound found.binds) r one (count found refl))) in
     subst (λ k. IsSequence k bound os) (sym i.whole) (subst (λ k. IsSequence (i.before ++ i.move ∷ i.behind_it) bound k) two (goes i.before i.behind_it i.move bound found.goal r i.stuck i.outcome s))
 
 removed_length : (move : Move) (all others : List Move) → Removed move all others → length all ≡ suc (length others)
@@ -70,4 +70,4 @@ settled-sequence left [] bound os h count = subst (λ k. IsSequence [] bound k) 
 settled-sequence zero (m ∷ ms) bound os h count = cc
 settled-sequence (suc left) (m ∷ ms) bound os h count =
     step left m ms bound os (next (m ∷ ms) bound) refl (λ others more r s c. settled-sequence left others more r s c)
-      (λ found e. let i = next_is (m ∷ ms) bound found e in suc_is (length found.others) left (sym (removed_length i.move (m ∷ ms) found.others i.removed) ∙ count)) h
+    (λ found e. let i = next_is (m ∷ ms) bound found e in suc_is (length found.others) left (sym (removed_length i.move (m ∷ ms) found.others i.removed) ∙ count)) h

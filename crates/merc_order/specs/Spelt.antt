@@ -117,7 +117,7 @@ module _ (modes : ℕ → List ModeDecl) where
     spelt_step at (Raised text) outputs span = node (Basic (Raise text)) outputs None span
     spelt_step at (Called predicate mode arguments tests) outputs span =
         with_tests at (Call (record { predicate = predicate; mode = mode }) (replaced at arguments tests))
-          (written (inputs_at predicate mode) arguments tests) (tested_places arguments tests) outputs span
+        (written (inputs_at predicate mode) arguments tests) (tested_places arguments tests) outputs span
     spelt_step at (Sequence goals) outputs span = node (Conjunction Sequential (spelt_all at goals)) outputs None span
     spelt_step at (Beside goals) outputs span = node (Conjunction (Parallel None) (spelt_all at goals)) outputs None span
     spelt_step at (Choice goals) outputs span = node (Disjunction (spelt_all at goals)) outputs None span

@@ -17,8 +17,6 @@ pub mod ReadingExamples
 pub mod ItemLaws
 pub mod OutcomesExamples
 pub mod Deciding
-pub mod Renumbering
-pub mod RenumberedItems
 pub mod TextsRead
 pub mod TextsReadExamples
 pub mod TextSteps

@@ -10,7 +10,7 @@ use Rattle.merc_tree.specs.declared.declarations.TypeDef.{TypeDef}
 use Rattle.merc_tree.specs.declared.declarations.PredDecl.{PredDecl}
 use Rattle.merc_known.specs.Known.{constructor_in}
 use Rattle.merc_type_check.specs.declared.checker.Checker.{Checker}
-use Rattle.merc_type_check.specs.Progress.{Types, IsSound, Step, Refuses, Takes, Nothing, Stands, AllStand, Places, HaveHead, AreHead, IsCleared, GoalTakes}
+use Rattle.merc_type_check.specs.Progress.{Types, IsSound, Step, Refuses, Takes, Nothing, Stands, AllStand, Places, IsCleared, GoalTakes}
 use Rattle.merc_type_check.specs.Typing.{HaveTypes, HasConstructor, IsConstructed, IsCalled, AreArguments}
 use Rattle.merc_type_check.proofs.Steps.{steps, step_as, takes_as, grow_takes, grow_grow, stands_on, all_stand_on, cleared_takes}
 use Rattle.merc_type_check.proofs.Built.{stand_push, stand_as}
@@ -83,56 +83,30 @@ module _ (known : Module) (types instance : Types) where
   have_front (suc k) (v ∷ vs) (d ∷ ds) have = (have.0, have_front k vs ds have.1)
 
 -- The types of the first variables.
-module _ (types instance : Types) where
-  pub head_push : (k number : ℕ) (declared : List TypeExpr) (d : TypeExpr) → slice_get declared k ≡ Some d → HaveHead number (take k declared) types instance
-      → types (number + k) ≡ replaced instance d → HaveHead number (take (suc k) declared) types instance
+module _ (known : Module) (types : Types) where
+  pub head_push : (k number : ℕ) (declared : List TypeExpr) (d : TypeExpr) → slice_get declared k ≡ Some d → AreArguments known types number (take k declared)
+      → types (number + k) ≡ d → AreArguments known types number (take (suc k) declared)
   head_push k number [] d d_is have same = absurd (cc)
   head_push zero number (e ∷ es) d d_is have same =
-      let b : e ≡ d = cc in (ap types (sym (add-zero number)) ∙ same ∙ ap (replaced instance) (sym b), tt)
+      let b : e ≡ d = cc in (ap types (sym (add-zero number)) ∙ same ∙ sym b, tt)
   head_push (suc k) number (e ∷ es) d d_is have same =
       let at : number + suc k ≡ number + 1 + k = omega arith in
       (have.0, head_push k (number + 1) es d d_is have.1 (ap types (sym at) ∙ same))
 
-  pub head_pop : (k number : ℕ) (declared : List TypeExpr) (d : TypeExpr) → slice_get declared k ≡ Some d → HaveHead number (take (suc k) declared) types instance
-      → HaveHead number (take k declared) types instance × (types (number + k) ≡ replaced instance d)
+  pub head_pop : (k number : ℕ) (declared : List TypeExpr) (d : TypeExpr) → slice_get declared k ≡ Some d → AreArguments known types number (take (suc k) declared)
+      → AreArguments known types number (take k declared) × (types (number + k) ≡ d)
   head_pop k number [] d d_is have = absurd (cc)
   head_pop zero number (e ∷ es) d d_is have =
-      let b : e ≡ d = cc in (tt, ap types (add-zero number) ∙ have.0 ∙ ap (replaced instance) b)
+      let b : e ≡ d = cc in (tt, ap types (add-zero number) ∙ have.0 ∙ b)
   head_pop (suc k) number (e ∷ es) d d_is have =
       let at : number + suc k ≡ number + 1 + k = omega arith in
       let rest = head_pop k (number + 1) es d d_is have.1 in
       ((have.0, rest.0), ap types at ∙ rest.1)
 
-  pub head_front : (k number : ℕ) (declared : List TypeExpr) → HaveHead number declared types instance → HaveHead number (take k declared) types instance
+  pub head_front : (k number : ℕ) (declared : List TypeExpr) → AreArguments known types number declared → AreArguments known types number (take k declared)
   head_front zero number ds have = tt
   head_front (suc k) number [] have = tt
   head_front (suc k) number (d ∷ ds) have = (have.0, head_front k (number + 1) ds have.1)
-
--- a type with each variable replaced by itself
-mutual
-  pub replaced_self : (instance : Types) → ((name : ℕ) → instance name ≡ TypeVariable name) → (type : TypeExpr) → replaced instance type ≡ type
-  replaced_self instance own (TypeVariable name) = own name
-  replaced_self instance own IntType = refl
-  replaced_self instance own TextType = refl
-  replaced_self instance own (TypeApplication name arguments) = ap (TypeApplication name) (replaced_all_self instance own arguments)
-
-  pub replaced_all_self : (instance : Types) → ((name : ℕ) → instance name ≡ TypeVariable name) → (arguments : TypeExprs) → replaced_all instance arguments ≡ arguments
-  replaced_all_self instance own no_types = refl
-  replaced_all_self instance own (more_types first rest) =
-      let a : replaced instance first ≡ first = replaced_self instance own first in
-      let b : replaced_all instance rest ≡ rest = replaced_all_self instance own rest in cc
-
-pub head_to_arguments : (known : Module) (types instance : Types) → ((name : ℕ) → instance name ≡ TypeVariable name) → (number : ℕ) (declared : List TypeExpr)
-    → HaveHead number declared types instance → AreArguments known types number declared
-head_to_arguments known types instance own number [] have = tt
-head_to_arguments known types instance own number (d ∷ ds) have =
-    (have.0 ∙ replaced_self instance own d, head_to_arguments known types instance own (number + 1) ds have.1)
-
-pub arguments_to_head : (known : Module) (types instance : Types) → ((name : ℕ) → instance name ≡ TypeVariable name) → (number : ℕ) (declared : List TypeExpr)
-    → AreArguments known types number declared → HaveHead number declared types instance
-arguments_to_head known types instance own number [] have = tt
-arguments_to_head known types instance own number (d ∷ ds) have =
-    (have.0 ∙ sym (replaced_self instance own d), arguments_to_head known types instance own (number + 1) ds have.1)
 
 -- one more variable of a list
 pub have_step : (known : Module) (first second third : Checker) (variables : List ℕ) (declared : List TypeExpr) (k v : ℕ) (d : TypeExpr) → slice_get variables k ≡ Some v
@@ -169,31 +143,31 @@ pub have_none : (known : Module) (old : Checker) (variables : List ℕ) (declare
 have_none known old variables declared apart = λ places types instance fits have. apart (have_length known types instance variables declared have)
 
 -- one more of the first variables
-pub head_step : (first second third : Checker) (declared : List TypeExpr) (k v : ℕ) (d : TypeExpr) → v ≡ k → slice_get declared k ≡ Some d
-    → Step first second (λ types instance. AreHead (take k declared) types instance) → Step second third (λ types instance. types v ≡ replaced instance d)
-    → Step first third (λ types instance. AreHead (take (k + 1) declared) types instance)
-head_step first second third declared k v d v_is d_is one other =
+pub head_step : (known : Module) (first second third : Checker) (declared : List TypeExpr) (k v : ℕ) (d : TypeExpr) → v ≡ k → slice_get declared k ≡ Some d
+    → Step first second (λ types instance. AreArguments known types 0 (take k declared)) → Step second third (λ types instance. types v ≡ d)
+    → Step first third (λ types instance. AreArguments known types 0 (take (k + 1) declared))
+head_step known first second third declared k v d v_is d_is one other =
     let at : 0 + k ≡ v = omega arith in
-    subst (λ (n : ℕ). Step first third (λ types instance. AreHead (take n declared) types instance)) (sym (add-one k))
-    (step_as first third (λ types instance. AreHead (take k declared) types instance × (types v ≡ replaced instance d))
-    (λ types instance. AreHead (take (suc k) declared) types instance)
-    (λ types instance both. head_push types instance k 0 declared d d_is both.0 (ap types at ∙ both.1))
-    (λ types instance have. let rest = head_pop types instance k 0 declared d d_is have in (rest.0, ap types (sym at) ∙ rest.1))
-    (steps first second third (λ types instance. AreHead (take k declared) types instance) (λ types instance. types v ≡ replaced instance d) one other))
+    subst (λ (n : ℕ). Step first third (λ types instance. AreArguments known types 0 (take n declared))) (sym (add-one k))
+    (step_as first third (λ types instance. AreArguments known types 0 (take k declared) × (types v ≡ d))
+    (λ types instance. AreArguments known types 0 (take (suc k) declared))
+    (λ types instance both. head_push known types k 0 declared d d_is both.0 (ap types at ∙ both.1))
+    (λ types instance have. let rest = head_pop known types k 0 declared d d_is have in (rest.0, ap types (sym at) ∙ rest.1))
+    (steps first second third (λ types instance. AreArguments known types 0 (take k declared)) (λ types instance. types v ≡ d) one other))
 
-pub head_refused : (first second : Checker) (declared : List TypeExpr) (k v : ℕ) (d : TypeExpr) → v ≡ k → slice_get declared k ≡ Some d
-    → Step first second (λ types instance. AreHead (take k declared) types instance) → Refuses second (λ types instance. types v ≡ replaced instance d)
-    → Refuses first (λ types instance. AreHead declared types instance)
-head_refused first second declared k v d v_is d_is step refuses = λ places types instance fits have.
+pub head_refused : (known : Module) (first second : Checker) (declared : List TypeExpr) (k v : ℕ) (d : TypeExpr) → v ≡ k → slice_get declared k ≡ Some d
+    → Step first second (λ types instance. AreArguments known types 0 (take k declared)) → Refuses second (λ types instance. types v ≡ d)
+    → Refuses first (λ types instance. AreArguments known types 0 declared)
+head_refused known first second declared k v d v_is d_is step refuses = λ places types instance fits have.
     let at : 0 + k ≡ v = omega arith in
-    let both = head_pop types instance k 0 declared d d_is (head_front types instance (suc k) 0 declared have) in
+    let both = head_pop known types k 0 declared d d_is (head_front known types (suc k) 0 declared have) in
     let middle = step.forth places types instance fits both.0 in
     refuses middle.0 types instance middle.1 (ap types (sym at) ∙ both.1)
 
-pub head_all : (first second : Checker) (declared : List TypeExpr) (k : ℕ) → length declared ≤ k
-    → Step first second (λ types instance. AreHead (take k declared) types instance) → Step first second (λ types instance. AreHead declared types instance)
-head_all first second declared k less step =
-    subst (λ (ds : List TypeExpr). Step first second (λ types instance. AreHead ds types instance)) (take_all k declared less) step
+pub head_all : (known : Module) (first second : Checker) (declared : List TypeExpr) (k : ℕ) → length declared ≤ k
+    → Step first second (λ types instance. AreArguments known types 0 (take k declared)) → Step first second (λ types instance. AreArguments known types 0 declared)
+head_all known first second declared k less step =
+    subst (λ (ds : List TypeExpr). Step first second (λ types instance. AreArguments known types 0 ds)) (take_all k declared less) step
 
 pub some_there : {A : Type 0} (listed : List A) (k : ℕ) → None ≡ slice_get listed k → k < length listed → ⊥
 some_there [] k e less = omega arith

@@ -64,7 +64,7 @@ within-drop (suc n) (first ∷ rest) count within = within-drop n rest count wit
 pub stand_push : (checker : Checker) (listed : List ℕ) (place : ℕ) (Meant : Types → Types → List TypeExpr) (One : Types → Types → TypeExpr)
     → AllStand checker listed Meant → Stands checker place One → AllStand checker (listed ++ place ∷ []) (λ types instance. Meant types instance ++ One types instance ∷ [])
 stand_push checker listed place Meant One stand one = record {
-  there = within-append listed (place ∷ []) (length checker.graph) stand.there (one.there, tt);
+  there = within-append listed (place ∷ []) (length checker.graph.entries) stand.there (one.there, tt);
   meant = λ places types instance fits.
       map-append places listed (place ∷ []) ∙ ap (λ (l : List TypeExpr). l ++ places place ∷ []) (stand.meant places types instance fits)
       ∙ ap (λ (t : TypeExpr). Meant types instance ++ t ∷ []) (one.meant places types instance fits);
@@ -183,12 +183,12 @@ built_apply old new tasks listed now place name arity whole now_is applied build
     let types : List TypeExpr = builds.built in
     let same : length types - arity ≡ kept = ap (λ (n : ℕ). n - arity) (sym builds.count) in
     let back : AllStand old (drop kept listed) (instances_of (drop kept types)) = record {
-      there = within-drop kept listed (length old.graph) builds.stand.there;
+      there = within-drop kept listed (length old.graph.entries) builds.stand.there;
       meant = λ places kinds instance fits.
           sym (drop-map places kept listed) ∙ ap (drop kept) (builds.stand.meant places kinds instance fits) ∙ drop-map (replaced instance) kept types;
     } in
     let front : AllStand old (take kept listed) (instances_of (take kept types)) = record {
-      there = within-take kept listed (length old.graph) builds.stand.there;
+      there = within-take kept listed (length old.graph.entries) builds.stand.there;
       meant = λ places kinds instance fits.
           sym (take-map places kept listed) ∙ ap (take kept) (builds.stand.meant places kinds instance fits) ∙ take-map (replaced instance) kept types;
     } in

@@ -1,6 +1,6 @@
 pub mod Steps
 pub mod Places
 pub mod Built
-pub mod Grounded
+pub mod Numbers
 pub mod Asked
 pub mod Told

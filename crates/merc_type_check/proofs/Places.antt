@@ -6,10 +6,10 @@ use Rattle.std.specs.BTreeMap.{BTreeMap, get}
 use Rattle.std.proofs.lemmas.Bool.Decides.{nat_tests}
 use Rattle.merc_base.specs.declared.memory.NoMemory.{NoMemory}
 use Rattle.merc_tree.specs.Types.{TypeExpr, TypeVariable, IntType, TextType, TypeApplication, types_of}
-use Rattle.merc_type_graph.specs.Solutions.{Entry, Unknown, Own, IntEntry, TextEntry, WholeEntry, Applied, Link, Agrees, Solves}
+use Rattle.merc_type_graph.specs.Solutions.{Entry, Graph, Unknown, WholeEntry, Applied, Link, Agrees, Solves}
 use Rattle.merc_type_graph.specs.Changes.{AllWithin, Adds, MakesEqual, MakesWhole}
 use Rattle.merc_type_check.specs.declared.checker.Checker.{Checker}
-use Rattle.merc_type_check.specs.Progress.{Types, AgreesWith, IsAllowed, meant_entry, Fits, AreThere, AgreeBelow, IsForced, IsLocal, IsSound, Step, Nothing, Stands, AllStand, Takes, Places}
+use Rattle.merc_type_check.specs.Progress.{Types, AgreesWith, Fits, AreThere, AgreeBelow, IsLocal, IsSound, Step, Nothing, Stands, AllStand, Takes, Places}
 use Rattle.merc_type_check.proofs.Steps.{grow_nothing}
 
 -- types with another one at a place
@@ -51,9 +51,6 @@ map_alike count one other alike (first ∷ rest) within =
 agrees_alike : (count : ℕ) (entry : Entry) (one other : Types) → AgreeBelow count one other → one count ≡ other count → EntryIsWithin count entry
     → Agrees one count entry → Agrees other count entry
 agrees_alike count Unknown one other alike here within agrees = tt
-agrees_alike count (Own name) one other alike here within agrees = sym here ∙ agrees
-agrees_alike count IntEntry one other alike here within agrees = sym here ∙ agrees
-agrees_alike count TextEntry one other alike here within agrees = sym here ∙ agrees
 agrees_alike count (WholeEntry whole) one other alike here within agrees = sym here ∙ agrees
 agrees_alike count (Applied name arguments) one other alike here within agrees =
     let same = map_alike count one other alike arguments within in
@@ -81,54 +78,46 @@ agrees_with_alike found count one other types alike there agrees =
     λ number. there_alike (get nat_cmp found number) count one other (types number) alike (there number) (agrees number)
 
 -- what fits goes on to fit with other types at places that are not there
-fits_alike : (old : Checker) (one other types instance : Types) → IsSound old → AgreeBelow (length old.graph) one other → Fits old one types instance → Fits old other types instance
+fits_alike : (old : Checker) (one other types instance : Types) → IsSound old → AgreeBelow (length old.graph.entries) one other → Fits old one types instance → Fits old other types instance
 fits_alike old one other types instance sound alike fits = record {
   solved = sound.local one other alike fits.solved;
-  variables = agrees_with_alike old.variables (length old.graph) one other types alike sound.variables fits.variables;
-  instances = agrees_with_alike old.instance (length old.graph) one other instance alike sound.instances fits.instances;
-  allowed = fits.allowed;
+  variables = agrees_with_alike old.variables (length old.graph.entries) one other types alike sound.variables fits.variables;
+  instances = agrees_with_alike old.instance (length old.graph.entries) one other instance alike sound.instances fits.instances;
 }
 
-forced_on : (own : Bool) (graph more : List Entry) (found : BTreeMap ℕ ℕ) → ((places : Types) → Solves more places → Solves graph places)
-    → IsForced own graph found → IsForced own more found
-forced_on true graph more found before forced = λ places solves. forced places (before places solves)
-forced_on false graph more found before forced = tt
-
 -- one more place, of which no number is told
-pub placed : (old : Checker) (graph : List Entry) (place : ℕ) (entry : Entry) (Meant : Types → Types → TypeExpr) → IsSound old → place ≡ length old.graph
-    → length graph ≡ length old.graph + 1 → Adds old.graph graph entry → EntryIsWithin (length old.graph) entry
-    → ((places types instance : Types) → Fits old places types instance → Agrees places (length old.graph) entry → places (length old.graph) ≡ Meant types instance)
-    → ((places types instance : Types) → Fits old places types instance → places (length old.graph) ≡ Meant types instance → Agrees places (length old.graph) entry)
+pub placed : (old : Checker) (graph : Graph) (place : ℕ) (entry : Entry) (Meant : Types → Types → TypeExpr) → IsSound old → graph.table ≡ old.graph.table → place ≡ length old.graph.entries
+    → length graph.entries ≡ length old.graph.entries + 1 → Adds old.graph.entries graph.entries entry → EntryIsWithin (length old.graph.entries) entry
+    → ((places types instance : Types) → Fits old places types instance → Agrees places (length old.graph.entries) entry → places (length old.graph.entries) ≡ Meant types instance)
+    → ((places types instance : Types) → Fits old places types instance → places (length old.graph.entries) ≡ Meant types instance → Agrees places (length old.graph.entries) entry)
     → Places old (record old { graph = graph }) place Meant
-placed old graph place entry Meant sound at count adds within shows fills =
+placed old graph place entry Meant sound kept at count adds within shows fills =
     let before : (places types instance : Types) → Fits (record old { graph = graph }) places types instance → Fits old places types instance =
     λ places types instance fits. record {
       solved = ((adds places).0 fits.solved).0;
       variables = fits.variables;
       instances = fits.instances;
-      allowed = fits.allowed;
     } in
     record {
       grows = record {
         sound = record {
-          local = local_more old.graph graph entry sound.local adds count within;
-          variables = λ number. there_more _ (length old.graph) (length graph) (omega arith) (sound.variables number);
-          instances = λ number. there_more _ (length old.graph) (length graph) (omega arith) (sound.instances number);
-          forced = forced_on old.own old.graph graph old.instance (λ places solves. ((adds places).0 solves).0) sound.forced;
+          local = local_more old.graph.entries graph.entries entry sound.local adds count within;
+          variables = λ number. there_more _ (length old.graph.entries) (length graph.entries) (omega arith) (sound.variables number);
+          instances = λ number. there_more _ (length old.graph.entries) (length graph.entries) (omega arith) (sound.instances number);
+          table = sound.table ∙ sym kept;
         };
         longer = omega arith;
-        same_way = refl;
+        same_table = kept;
         back = λ places types instance fits. (before places types instance fits, tt);
         forth = λ places types instance fits asked.
-            let others : Types = put places (length old.graph) (Meant types instance) in
+            let others : Types = put places (length old.graph.entries) (Meant types instance) in
             let still : Fits old others types instance =
-            fits_alike old places others types instance sound (put_below places (length old.graph) (Meant types instance)) fits in (
+            fits_alike old places others types instance sound (put_below places (length old.graph.entries) (Meant types instance)) fits in (
               others,
               record {
-                solved = (adds others).1 (still.solved, fills others types instance still (put_here places (length old.graph) (Meant types instance)));
+                solved = (adds others).1 (still.solved, fills others types instance still (put_here places (length old.graph.entries) (Meant types instance)));
                 variables = still.variables;
                 instances = still.instances;
-                allowed = still.allowed;
               },
             );
       };
@@ -182,7 +171,7 @@ pub variable_known : (old : Checker) (number place : ℕ) → IsSound old → ge
 variable_known old number place sound known = record {
   grows = grow_nothing old sound;
   stands = record {
-    there = subst (λ (o : Option ℕ). IfSome o (λ p. p < length old.graph)) known (sound.variables number);
+    there = subst (λ (o : Option ℕ). IfSome o (λ p. p < length old.graph.entries)) known (sound.variables number);
     meant = λ places types instance fits. subst (λ (o : Option ℕ). IfSome o (λ p. places p ≡ types number)) known (fits.variables number);
   };
 }
@@ -193,46 +182,44 @@ pub type_variable_known : (old : Checker) (number place : ℕ) → IsSound old �
 type_variable_known old number place sound known = record {
   grows = grow_nothing old sound;
   stands = record {
-    there = subst (λ (o : Option ℕ). IfSome o (λ p. p < length old.graph)) known (sound.instances number);
+    there = subst (λ (o : Option ℕ). IfSome o (λ p. p < length old.graph.entries)) known (sound.instances number);
     meant = λ places types instance fits. subst (λ (o : Option ℕ). IfSome o (λ p. places p ≡ instance number)) known (fits.instances number);
   };
 }
 
 -- the place of a variable that is new
-pub variable_placed : (old : Checker) (graph : List Entry) (found : BTreeMap ℕ ℕ) (number place : ℕ) → IsSound old → place ≡ length old.graph
-    → length graph ≡ length old.graph + 1 → Adds old.graph graph Unknown → get nat_cmp old.variables number ≡ None → MapUpdates old.variables found number place
+pub variable_placed : (old : Checker) (graph : Graph) (found : BTreeMap ℕ ℕ) (number place : ℕ) → IsSound old → graph.table ≡ old.graph.table → place ≡ length old.graph.entries
+    → length graph.entries ≡ length old.graph.entries + 1 → Adds old.graph.entries graph.entries Unknown → get nat_cmp old.variables number ≡ None → MapUpdates old.variables found number place
     → Places old (record old { graph = graph; variables = found }) place (λ types instance. types number)
-variable_placed old graph found number place sound at count adds absent updates = record {
+variable_placed old graph found number place sound kept at count adds absent updates = record {
   grows = record {
     sound = record {
-      local = local_more old.graph graph Unknown sound.local adds count tt;
-      variables = all_more (λ n p. p < length graph) old.variables found number place updates
-          (λ n. there_more _ (length old.graph) (length graph) (omega arith) (sound.variables n)) (omega arith);
-      instances = λ n. there_more _ (length old.graph) (length graph) (omega arith) (sound.instances n);
-      forced = forced_on old.own old.graph graph old.instance (λ places solves. ((adds places).0 solves).0) sound.forced;
+      local = local_more old.graph.entries graph.entries Unknown sound.local adds count tt;
+      variables = all_more (λ n p. p < length graph.entries) old.variables found number place updates
+          (λ n. there_more _ (length old.graph.entries) (length graph.entries) (omega arith) (sound.variables n)) (omega arith);
+      instances = λ n. there_more _ (length old.graph.entries) (length graph.entries) (omega arith) (sound.instances n);
+      table = sound.table ∙ sym kept;
     };
     longer = omega arith;
-    same_way = refl;
+    same_table = kept;
     back = λ places types instance fits. (
       record {
         solved = ((adds places).0 fits.solved).0;
         variables = agrees_less old.variables found number place places types absent updates fits.variables;
         instances = fits.instances;
-        allowed = fits.allowed;
       },
       tt,
     );
     forth = λ places types instance fits asked.
-        let others : Types = put places (length old.graph) (types number) in
+        let others : Types = put places (length old.graph.entries) (types number) in
         let still : Fits old others types instance =
-        fits_alike old places others types instance sound (put_below places (length old.graph) (types number)) fits in (
+        fits_alike old places others types instance sound (put_below places (length old.graph.entries) (types number)) fits in (
           others,
           record {
             solved = (adds others).1 (still.solved, tt);
             variables = all_more (λ n p. others p ≡ types n) old.variables found number place updates still.variables
-                (ap others at ∙ put_here places (length old.graph) (types number));
+                (ap others at ∙ put_here places (length old.graph.entries) (types number));
             instances = still.instances;
-            allowed = still.allowed;
           },
         );
   };
@@ -243,56 +230,39 @@ variable_placed old graph found number place sound at count adds absent updates 
   };
 }
 
-meant_here : (own : Bool) (name place : ℕ) (places instance : Types) → IsAllowed own instance → places place ≡ instance name → Agrees places place (meant_entry own name)
-meant_here true name place places instance allowed same = same ∙ allowed name
-meant_here false name place places instance allowed same = tt
-
-meant_within : (own : Bool) (name count : ℕ) → EntryIsWithin count (meant_entry own name)
-meant_within true name count = tt
-meant_within false name count = tt
-
-forced_more : (own : Bool) (graph more : List Entry) (found with_one : BTreeMap ℕ ℕ) (number place : ℕ) → place ≡ length graph → Adds graph more (meant_entry own number)
-    → MapUpdates found with_one number place → IsForced own graph found → IsForced own more with_one
-forced_more true graph more found with_one number place at adds updates forced = λ places solves.
-    let both = (adds places).0 solves in
-    all_more (λ n p. places p ≡ TypeVariable n) found with_one number place updates (forced places both.0) (ap places at ∙ both.1)
-forced_more false graph more found with_one number place at adds updates forced = tt
-
 -- the place of what a new type variable stands for
-pub type_variable_placed : (old : Checker) (graph : List Entry) (found : BTreeMap ℕ ℕ) (number place : ℕ) → IsSound old → place ≡ length old.graph
-    → length graph ≡ length old.graph + 1 → Adds old.graph graph (meant_entry old.own number) → get nat_cmp old.instance number ≡ None → MapUpdates old.instance found number place
+pub type_variable_placed : (old : Checker) (graph : Graph) (found : BTreeMap ℕ ℕ) (number place : ℕ) → IsSound old → graph.table ≡ old.graph.table → place ≡ length old.graph.entries
+    → length graph.entries ≡ length old.graph.entries + 1 → Adds old.graph.entries graph.entries Unknown → get nat_cmp old.instance number ≡ None → MapUpdates old.instance found number place
     → Places old (record old { graph = graph; instance = found }) place (λ types instance. instance number)
-type_variable_placed old graph found number place sound at count adds absent updates = record {
+type_variable_placed old graph found number place sound kept at count adds absent updates = record {
   grows = record {
     sound = record {
-      local = local_more old.graph graph (meant_entry old.own number) sound.local adds count (meant_within old.own number (length old.graph));
-      variables = λ n. there_more _ (length old.graph) (length graph) (omega arith) (sound.variables n);
-      instances = all_more (λ n p. p < length graph) old.instance found number place updates
-          (λ n. there_more _ (length old.graph) (length graph) (omega arith) (sound.instances n)) (omega arith);
-      forced = forced_more old.own old.graph graph old.instance found number place at adds updates sound.forced;
+      local = local_more old.graph.entries graph.entries Unknown sound.local adds count tt;
+      variables = λ n. there_more _ (length old.graph.entries) (length graph.entries) (omega arith) (sound.variables n);
+      instances = all_more (λ n p. p < length graph.entries) old.instance found number place updates
+          (λ n. there_more _ (length old.graph.entries) (length graph.entries) (omega arith) (sound.instances n)) (omega arith);
+      table = sound.table ∙ sym kept;
     };
     longer = omega arith;
-    same_way = refl;
+    same_table = kept;
     back = λ places types instance fits. (
       record {
         solved = ((adds places).0 fits.solved).0;
         variables = fits.variables;
         instances = agrees_less old.instance found number place places instance absent updates fits.instances;
-        allowed = fits.allowed;
       },
       tt,
     );
     forth = λ places types instance fits asked.
-        let others : Types = put places (length old.graph) (instance number) in
+        let others : Types = put places (length old.graph.entries) (instance number) in
         let still : Fits old others types instance =
-        fits_alike old places others types instance sound (put_below places (length old.graph) (instance number)) fits in
-        let set : others (length old.graph) ≡ instance number = put_here places (length old.graph) (instance number) in (
+        fits_alike old places others types instance sound (put_below places (length old.graph.entries) (instance number)) fits in
+        let set : others (length old.graph.entries) ≡ instance number = put_here places (length old.graph.entries) (instance number) in (
           others,
           record {
-            solved = (adds others).1 (still.solved, meant_here old.own number (length old.graph) others instance fits.allowed set);
+            solved = (adds others).1 (still.solved, tt);
             variables = still.variables;
             instances = all_more (λ n p. others p ≡ instance n) old.instance found number place updates still.instances (ap others at ∙ set);
-            allowed = still.allowed;
           },
         );
   };
@@ -304,40 +274,39 @@ type_variable_placed old graph found number place sound at count adds absent upd
 }
 
 -- a place of a type's name over the types at other places
-pub applied_placed : (old : Checker) (graph : List Entry) (place name : ℕ) (arguments : List ℕ) → IsSound old → place ≡ length old.graph
-    → length graph ≡ length old.graph + 1 → Adds old.graph graph (Applied name arguments) → AllWithin (length old.graph) arguments
+pub applied_placed : (old : Checker) (graph : Graph) (place name : ℕ) (arguments : List ℕ) → IsSound old → graph.table ≡ old.graph.table → place ≡ length old.graph.entries
+    → length graph.entries ≡ length old.graph.entries + 1 → Adds old.graph.entries graph.entries (Applied name arguments) → AllWithin (length old.graph.entries) arguments
     → (Meant : Types → Types → List TypeExpr) → AllStand old arguments Meant
     → Places old (record old { graph = graph }) place (λ types instance. TypeApplication name (types_of (Meant types instance)))
-applied_placed old graph place name arguments sound at count adds within Meant stand =
-    placed old graph place (Applied name arguments) (λ types instance. TypeApplication name (types_of (Meant types instance))) sound at count adds within
+applied_placed old graph place name arguments sound kept at count adds within Meant stand =
+    placed old graph place (Applied name arguments) (λ types instance. TypeApplication name (types_of (Meant types instance))) sound kept at count adds within
     (λ places types instance fits agrees. agrees ∙ ap (λ (l : List TypeExpr). TypeApplication name (types_of l)) (stand.meant places types instance fits))
     (λ places types instance fits same. same ∙ ap (λ (l : List TypeExpr). TypeApplication name (types_of l)) (sym (stand.meant places types instance fits)))
 
 -- places made equal
-pub made_equal : (done : Bool) (old : Checker) (graph : List Entry) (one other : ℕ) → IsSound old → one < length old.graph → other < length old.graph
-    → MakesEqual done old.graph graph one other → (One Other : Types → Types → TypeExpr) → Stands old one One → Stands old other Other
+pub made_equal : (done : Bool) (old : Checker) (graph : Graph) (one other : ℕ) → IsSound old → graph.table ≡ old.graph.table → one < length old.graph.entries → other < length old.graph.entries
+    → MakesEqual done old.graph.entries graph.entries one other → (One Other : Types → Types → TypeExpr) → Stands old one One → Stands old other Other
     → Takes done old (record old { graph = graph }) (λ types instance. One types instance ≡ Other types instance)
-made_equal true old graph one other sound one_there other_there makes One Other stands_one stands_other =
-    let same : length graph ≡ length old.graph = makes.0 in
+made_equal true old graph one other sound kept one_there other_there makes One Other stands_one stands_other =
+    let same : length graph.entries ≡ length old.graph.entries = makes.0 in
     let back : (places types instance : Types) → Fits (record old { graph = graph }) places types instance → Fits old places types instance =
     λ places types instance fits. record {
       solved = ((makes.1 places).0 fits.solved).0;
       variables = fits.variables;
       instances = fits.instances;
-      allowed = fits.allowed;
     } in
     record {
       sound = record {
         local = λ first second alike solves.
-            let below : AgreeBelow (length old.graph) first second = λ place less. alike place (omega arith) in
+            let below : AgreeBelow (length old.graph.entries) first second = λ place less. alike place (omega arith) in
             let both = (makes.1 first).0 solves in
             (makes.1 second).1 (sound.local first second below both.0, sym (below one one_there) ∙ both.1 ∙ below other other_there);
-        variables = λ n. there_more _ (length old.graph) (length graph) (omega arith) (sound.variables n);
-        instances = λ n. there_more _ (length old.graph) (length graph) (omega arith) (sound.instances n);
-        forced = forced_on old.own old.graph graph old.instance (λ places solves. ((makes.1 places).0 solves).0) sound.forced;
+        variables = λ n. there_more _ (length old.graph.entries) (length graph.entries) (omega arith) (sound.variables n);
+        instances = λ n. there_more _ (length old.graph.entries) (length graph.entries) (omega arith) (sound.instances n);
+        table = sound.table ∙ sym kept;
       };
       longer = omega arith;
-      same_way = refl;
+      same_table = kept;
       back = λ places types instance fits.
           let before = back places types instance fits in
           (before, sym (stands_one.meant places types instance before) ∙ ((makes.1 places).0 fits.solved).1 ∙ stands_other.meant places types instance before);
@@ -347,38 +316,36 @@ made_equal true old graph one other sound one_there other_there makes One Other 
           solved = (makes.1 places).1 (fits.solved, stands_one.meant places types instance fits ∙ asked ∙ sym (stands_other.meant places types instance fits));
           variables = fits.variables;
           instances = fits.instances;
-          allowed = fits.allowed;
         },
       );
     }
-made_equal false old graph one other sound one_there other_there makes One Other stands_one stands_other = λ places types instance fits asked.
+made_equal false old graph one other sound kept one_there other_there makes One Other stands_one stands_other = λ places types instance fits asked.
     makes places fits.solved (stands_one.meant places types instance fits ∙ asked ∙ sym (stands_other.meant places types instance fits))
 
 -- a place given a type
-pub made_whole : (done : Bool) (old : Checker) (graph : List Entry) (one : ℕ) (whole : TypeExpr) → IsSound old → one < length old.graph
-    → MakesWhole done old.graph graph one whole → (One : Types → Types → TypeExpr) → Stands old one One
+pub made_whole : (done : Bool) (old : Checker) (graph : Graph) (one : ℕ) (whole : TypeExpr) → IsSound old → graph.table ≡ old.graph.table → one < length old.graph.entries
+    → MakesWhole done old.graph.entries graph.entries one whole → (One : Types → Types → TypeExpr) → Stands old one One
     → Takes done old (record old { graph = graph }) (λ types instance. One types instance ≡ whole)
-made_whole true old graph one whole sound one_there makes One stands_one =
-    let same : length graph ≡ length old.graph = makes.0 in
+made_whole true old graph one whole sound kept one_there makes One stands_one =
+    let same : length graph.entries ≡ length old.graph.entries = makes.0 in
     let back : (places types instance : Types) → Fits (record old { graph = graph }) places types instance → Fits old places types instance =
     λ places types instance fits. record {
       solved = ((makes.1 places).0 fits.solved).0;
       variables = fits.variables;
       instances = fits.instances;
-      allowed = fits.allowed;
     } in
     record {
       sound = record {
         local = λ first second alike solves.
-            let below : AgreeBelow (length old.graph) first second = λ place less. alike place (omega arith) in
+            let below : AgreeBelow (length old.graph.entries) first second = λ place less. alike place (omega arith) in
             let both = (makes.1 first).0 solves in
             (makes.1 second).1 (sound.local first second below both.0, sym (below one one_there) ∙ both.1);
-        variables = λ n. there_more _ (length old.graph) (length graph) (omega arith) (sound.variables n);
-        instances = λ n. there_more _ (length old.graph) (length graph) (omega arith) (sound.instances n);
-        forced = forced_on old.own old.graph graph old.instance (λ places solves. ((makes.1 places).0 solves).0) sound.forced;
+        variables = λ n. there_more _ (length old.graph.entries) (length graph.entries) (omega arith) (sound.variables n);
+        instances = λ n. there_more _ (length old.graph.entries) (length graph.entries) (omega arith) (sound.instances n);
+        table = sound.table ∙ sym kept;
       };
       longer = omega arith;
-      same_way = refl;
+      same_table = kept;
       back = λ places types instance fits.
           let before = back places types instance fits in
           (before, sym (stands_one.meant places types instance before) ∙ ((makes.1 places).0 fits.solved).1);
@@ -388,32 +355,25 @@ made_whole true old graph one whole sound one_there makes One stands_one =
           solved = (makes.1 places).1 (fits.solved, stands_one.meant places types instance fits ∙ asked);
           variables = fits.variables;
           instances = fits.instances;
-          allowed = fits.allowed;
         },
       );
     }
-made_whole false old graph one whole sound one_there makes One stands_one = λ places types instance fits asked.
+made_whole false old graph one whole sound kept one_there makes One stands_one = λ places types instance fits asked.
     makes places fits.solved (stands_one.meant places types instance fits ∙ asked)
 
 -- the same of a call's whole answer
-pub int_added : (old : Checker) (graph : List Entry) (result : Result ℕ NoMemory) → IsSound old → IfOk result (λ place. place ≡ length old.graph)
-    → OnOk result (length graph ≡ length old.graph + 1) → OnOk result (Adds old.graph graph IntEntry)
-    → IfOk result (λ place. Places old (record old { graph = graph }) place (λ types instance. IntType))
-int_added old graph (Ok place) sound at count adds =
-    placed old graph place IntEntry (λ types instance. IntType) sound at count adds tt (λ places types instance fits agrees. agrees) (λ places types instance fits same. same)
-int_added old graph (Err fault) sound at count adds = tt
+pub whole_added : (old : Checker) (graph : Graph) (result : Result ℕ NoMemory) (whole : TypeExpr) → IsSound old → graph.table ≡ old.graph.table
+    → IfOk result (λ place. place ≡ length old.graph.entries) → OnOk result (length graph.entries ≡ length old.graph.entries + 1)
+    → OnOk result (Adds old.graph.entries graph.entries (WholeEntry whole))
+    → IfOk result (λ place. Places old (record old { graph = graph }) place (λ types instance. whole))
+whole_added old graph (Ok place) whole sound kept at count adds =
+    placed old graph place (WholeEntry whole) (λ types instance. whole) sound kept at count adds tt (λ places types instance fits agrees. agrees) (λ places types instance fits same. same)
+whole_added old graph (Err fault) whole sound kept at count adds = tt
 
-pub text_added : (old : Checker) (graph : List Entry) (result : Result ℕ NoMemory) → IsSound old → IfOk result (λ place. place ≡ length old.graph)
-    → OnOk result (length graph ≡ length old.graph + 1) → OnOk result (Adds old.graph graph TextEntry)
-    → IfOk result (λ place. Places old (record old { graph = graph }) place (λ types instance. TextType))
-text_added old graph (Ok place) sound at count adds =
-    placed old graph place TextEntry (λ types instance. TextType) sound at count adds tt (λ places types instance fits agrees. agrees) (λ places types instance fits same. same)
-text_added old graph (Err fault) sound at count adds = tt
-
-pub applied_added : (old : Checker) (graph : List Entry) (result : Result ℕ NoMemory) (name : ℕ) (arguments : List ℕ) → IsSound old
-    → AllWithin (length old.graph) arguments → IfOk result (λ place. place ≡ length old.graph)
-    → OnOk result (length graph ≡ length old.graph + 1) → OnOk result (Adds old.graph graph (Applied name arguments))
+pub applied_added : (old : Checker) (graph : Graph) (result : Result ℕ NoMemory) (name : ℕ) (arguments : List ℕ) → IsSound old → graph.table ≡ old.graph.table
+    → AllWithin (length old.graph.entries) arguments → IfOk result (λ place. place ≡ length old.graph.entries)
+    → OnOk result (length graph.entries ≡ length old.graph.entries + 1) → OnOk result (Adds old.graph.entries graph.entries (Applied name arguments))
     → IfOk result (λ place. (Meant : Types → Types → List TypeExpr) → AllStand old arguments Meant
     → Places old (record old { graph = graph }) place (λ types instance. TypeApplication name (types_of (Meant types instance))))
-applied_added old graph (Ok place) name arguments sound within at count adds = applied_placed old graph place name arguments sound at count adds within
-applied_added old graph (Err fault) name arguments sound within at count adds = tt
+applied_added old graph (Ok place) name arguments sound kept within at count adds = applied_placed old graph place name arguments sound kept at count adds within
+applied_added old graph (Err fault) name arguments sound kept within at count adds = tt

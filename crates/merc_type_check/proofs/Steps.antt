@@ -1,20 +1,20 @@
 -- Steps one after the other.
-use Rattle.std.proofs.Common.{◌≡◌, ℕ, ◌<◌, ◌≤◌, Bool, true, false, Option, Some, None, List, [], ◌∷◌, length, refl, sym, subst, ◌∙◌, arith}
+use Rattle.std.proofs.Common.{◌≡◌, ℕ, ◌<◌, ◌≤◌, Bool, true, false, Option, Some, None, List, [], ◌∷◌, length, refl, sym, ap, subst, ◌∙◌, arith}
 use Rattle.std.specs.Option.{IfSome}
 use Rattle.std.specs.Ordering.{nat_cmp}
 use Rattle.std.specs.BTreeMap.{BTreeMap, get}
 use Rattle.merc_tree.specs.Types.{TypeExpr, TypeVariable, IntType}
-use Rattle.merc_type_graph.specs.Solutions.{Entry, Solves}
+use Rattle.merc_type_graph.specs.Solutions.{Graph, Solves}
 use Rattle.merc_type_graph.specs.Changes.{AllWithin}
 use Rattle.merc_type_check.specs.declared.checker.Checker.{Checker}
-use Rattle.merc_type_check.specs.Progress.{Types, AgreesWith, IsAllowed, Fits, Holds, IsForced, IsLocal, IsSound, IsCleared, Step, Takes, Nothing, Stands, AllStand, GoalStep, GoalTakes}
+use Rattle.merc_type_check.specs.Progress.{Types, AgreesWith, Fits, Holds, IsLocal, IsSound, IsCleared, Step, Takes, Nothing, Stands, AllStand, GoalStep, GoalTakes}
 
 pub steps : (first second third : Checker) (One Other : Types → Types → Type 0) → Step first second One → Step second third Other
     → Step first third (λ types instance. One types instance × Other types instance)
 steps first second third One Other one other = record {
   sound = other.sound;
   longer = let a = one.longer in let b = other.longer in omega arith;
-  same_way = other.same_way ∙ one.same_way;
+  same_table = other.same_table ∙ one.same_table;
   back = λ places types instance fits.
       let middle = other.back places types instance fits in
       let start = one.back places types instance middle.0 in
@@ -30,7 +30,7 @@ pub step_as : (old new : Checker) (One Other : Types → Types → Type 0) → (
 step_as old new One Other to from step = record {
   sound = step.sound;
   longer = step.longer;
-  same_way = step.same_way;
+  same_table = step.same_table;
   back = λ places types instance fits. let before = step.back places types instance fits in (before.0, to types instance before.1);
   forth = λ places types instance fits asked. step.forth places types instance fits (from types instance asked);
 }
@@ -63,7 +63,7 @@ pub grow_nothing : (old : Checker) → IsSound old → Step old old Nothing
 grow_nothing old sound = record {
   sound = sound;
   longer = omega arith;
-  same_way = refl;
+  same_table = refl;
   back = λ places types instance fits. (fits, tt);
   forth = λ places types instance fits asked. (places, fits);
 }
@@ -83,7 +83,7 @@ within_more (first ∷ rest) count more less within = (let a = within.0 in omega
 pub all_stand_on : (old new : Checker) (Asked : Types → Types → Type 0) (listed : List ℕ) (Meant : Types → Types → List TypeExpr) → Step old new Asked
     → AllStand old listed Meant → AllStand new listed Meant
 all_stand_on old new Asked listed Meant step stand = record {
-  there = within_more listed (length old.graph) (length new.graph) step.longer stand.there;
+  there = within_more listed (length old.graph.entries) (length new.graph.entries) step.longer stand.there;
   meant = λ places types instance fits. stand.meant places types instance (step.back places types instance fits).0;
 }
 
@@ -106,15 +106,11 @@ pub types_read_agree : (found : BTreeMap ℕ ℕ) (places : Types) → AgreesWit
 unfolding types_read
 types_read_agree found places = λ number. read_agrees (get nat_cmp found number) places
 
-some_instance : (own : Bool) (graph : List Entry) (found : BTreeMap ℕ ℕ) (places : Types) → IsForced own graph found → Solves graph places
-    → (instance : Types) × (AgreesWith found places instance × IsAllowed own instance)
-some_instance true graph found places forced solved = (TypeVariable, (forced places solved, λ name. refl))
-some_instance false graph found places forced solved = (types_read found places, (types_read_agree found places, tt))
-
-pub fits_some : (checker : Checker) (places types : Types) → IsSound checker → Holds checker places types → (instance : Types) × Fits checker places types instance
-fits_some checker places types sound holds =
-    let found = some_instance checker.own checker.graph checker.instance places sound.forced holds.solved in
-    (found.0, record { solved = holds.solved; variables = holds.variables; instances = found.1.0; allowed = found.1.1 })
+pub fits_some : (checker : Checker) (places types : Types) → Holds checker places types → (instance : Types) × Fits checker places types instance
+fits_some checker places types holds = (
+  types_read checker.instance places,
+  record { solved = holds.solved; variables = holds.variables; instances = types_read_agree checker.instance places },
+)
 
 pub goal_takes : (done : Bool) (old new : Checker) (One : Types → Types → Type 0) (Other : Types → Type 0)
     → ((places types instance : Types) → Fits old places types instance → One types instance → Other types)
@@ -122,8 +118,9 @@ pub goal_takes : (done : Bool) (old new : Checker) (One : Types → Types → Ty
     → Takes done old new One → GoalTakes done old new Other
 goal_takes true old new One Other to from step = record {
   sound = step.sound;
+  same_table = step.same_table;
   back = λ places types holds.
-      let whole = fits_some new places types step.sound holds in
+      let whole = fits_some new places types holds in
       let before = step.back places types whole.0 whole.1 in
       (record { solved = before.0.solved; variables = before.0.variables }, to places types whole.0 before.0 before.1);
   forth = λ places types holds asked.
@@ -136,31 +133,22 @@ goal_takes false old new One Other to from refuses = λ places types holds asked
     refuses places types whole.0 whole.1.0 whole.1.1
 
 -- where nothing is asked of what type variables stand for
-pub plain_goal_takes : (done : Bool) (old new : Checker) (Asked : Types → Type 0) → IsSound old
-    → Takes done old new (λ types instance. Asked types) → GoalTakes done old new Asked
-plain_goal_takes done old new Asked sound takes =
+pub plain_goal_takes : (done : Bool) (old new : Checker) (Asked : Types → Type 0) → Takes done old new (λ types instance. Asked types) → GoalTakes done old new Asked
+plain_goal_takes done old new Asked takes =
     goal_takes done old new (λ types instance. Asked types) Asked (λ places types instance fits asked. asked)
-    (λ places types holds asked. let whole = fits_some old places types sound holds in (whole.0, (whole.1, asked))) takes
+    (λ places types holds asked. let whole = fits_some old places types holds in (whole.0, (whole.1, asked))) takes
 
 -- what was forgotten is free
 no_place : (found : BTreeMap ℕ ℕ) (Q : ℕ → ℕ → Type 0) → ((number : ℕ) → get nat_cmp found number ≡ None) → (number : ℕ) → IfSome (get nat_cmp found number) (Q number)
 no_place found Q empty number = subst (λ (o : Option ℕ). IfSome o (Q number)) (sym (empty number)) tt
 
-not_forced : (own : Bool) (graph : List Entry) (found : BTreeMap ℕ ℕ) → own ≡ false → IsForced own graph found
-not_forced true graph found e = absurd (cc)
-not_forced false graph found e = tt
-
-all_allowed : (own : Bool) (instance : Types) → own ≡ false → IsAllowed own instance
-all_allowed true instance e = absurd (cc)
-all_allowed false instance e = tt
-
 pub cleared_sound : (old middle : Checker) → IsSound old → IsCleared old middle → IsSound middle
 cleared_sound old middle sound cleared = record {
-  local = subst IsLocal (sym cleared.graph) sound.local;
+  local = subst (λ (g : Graph). IsLocal g.entries) (sym cleared.graph) sound.local;
   variables = λ number.
       rw (cleared.variables, cleared.graph) (sound.variables number);
-  instances = no_place middle.instance (λ n p. p < length middle.graph) cleared.instance;
-  forced = not_forced middle.own middle.graph middle.instance cleared.own;
+  instances = no_place middle.instance (λ n p. p < length middle.graph.entries) cleared.instance;
+  table = cleared.table ∙ sound.table ∙ ap (λ (g : Graph). g.table) (sym cleared.graph);
 }
 
 pub cleared_takes : (done : Bool) (old middle new : Checker) (One : Types → Types → Type 0) (Other : Types → Type 0) → IsCleared old middle
@@ -175,7 +163,6 @@ cleared_takes done old middle new One Other cleared to from takes =
           solved = holds.solved;
           variables = holds.variables;
           instances = no_place middle.instance (λ n p. places p ≡ chosen.0 n) cleared.instance;
-          allowed = all_allowed middle.own chosen.0 cleared.own;
         },
         chosen.1,
       ),
@@ -183,19 +170,20 @@ cleared_takes done old middle new One Other cleared to from takes =
   where
     to_old : (places types : Types) → Holds middle places types → Holds old places types
     to_old places types holds = record {
-      solved = subst (λ (g : List Entry). Solves g places) cleared.graph holds.solved;
+      solved = subst (λ (g : Graph). Solves g.entries places) cleared.graph holds.solved;
       variables = subst (λ (m : BTreeMap ℕ ℕ). AgreesWith m places types) cleared.variables holds.variables;
     }
 
     to_middle : (places types : Types) → Holds old places types → Holds middle places types
     to_middle places types holds = record {
-      solved = subst (λ (g : List Entry). Solves g places) (sym cleared.graph) holds.solved;
+      solved = subst (λ (g : Graph). Solves g.entries places) (sym cleared.graph) holds.solved;
       variables = subst (λ (m : BTreeMap ℕ ℕ). AgreesWith m places types) (sym cleared.variables) holds.variables;
     }
 
     through : (b : Bool) → GoalTakes b middle new Other → GoalTakes b old new Other
     through true step = record {
       sound = step.sound;
+      same_table = step.same_table ∙ ap (λ (g : Graph). g.table) cleared.graph;
       back = λ places types holds. let before = step.back places types holds in (to_old places types before.0, before.1);
       forth = λ places types holds asked. step.forth places types (to_middle places types holds) asked;
     }

@@ -13,53 +13,34 @@ use Rattle.merc_goal_tree.specs.Parts.{parts_of}
 use Rattle.merc_type_graph.specs.Solutions.{Entry, Solves}
 use Rattle.merc_type_graph.specs.Changes.{Decides}
 use Rattle.merc_type_check.specs.declared.checker.Checker.{Checker}
-use Rattle.merc_type_check.specs.Progress.{Types, AgreesWith, IsAllowed, Fits, Holds, IsCleared, Step, Refuses, GoalStep, GoalRefuses, AreHead, Knows}
+use Rattle.merc_type_check.specs.Progress.{Types, Fits, Step, Refuses, GoalStep, GoalRefuses, Knows}
 use Rattle.merc_type_check.specs.Typing.{AreArguments, IsTypedPart, HasTyping}
 use Rattle.merc_type_check.specs.Checked.{Tells}
-use Rattle.merc_type_check.proofs.Steps.{types_read, types_read_agree, goal_takes, cleared_sound}
-use Rattle.merc_type_check.proofs.Asked.{head_to_arguments, arguments_to_head}
+use Rattle.merc_type_check.proofs.Steps.{types_read, types_read_agree, plain_goal_takes}
 
 -- the predicate's arguments have their types, and so many parts are typed
 pub record IsTypedUpTo (known : Module) (arguments : List TypeExpr) (goal : Node) (count : ℕ) (types : Types) : Type 0 where
   pub head : AreArguments known types 0 arguments
   pub parts : AllByRecursion (IsTypedPart known types) (take count (parts_of goal))
 
-forced : (own : Bool) (instance : Types) → own ≡ true → IsAllowed own instance → (name : ℕ) → instance name ≡ TypeVariable name
-forced true instance e allowed = allowed
-forced false instance e allowed = absurd (cc)
-
 -- the arguments
-pub head_known : (start head cleared : Checker) (known : Module) (arguments : List TypeExpr) (goal : Node) → start.own ≡ true
-    → ((places types : Types) → Fits start places types TypeVariable) → Step start head (λ types instance. AreHead arguments types instance) → IsCleared head cleared
-    → Knows cleared (IsTypedUpTo known arguments goal 0)
-head_known start head cleared known arguments goal own free step is_cleared =
+pub head_known : (start head : Checker) (known : Module) (arguments : List TypeExpr) (goal : Node) → ((places types instance : Types) → Fits start places types instance)
+    → Step start head (λ types instance. AreArguments known types 0 arguments) → Knows head (IsTypedUpTo known arguments goal 0)
+head_known start head known arguments goal free step =
     let whole : GoalStep start head (λ types. AreArguments known types 0 arguments) =
-    goal_takes true start head (λ types instance. AreHead arguments types instance) (λ types. AreArguments known types 0 arguments)
-    (λ places types instance fits have. head_to_arguments known types instance (forced start.own instance own fits.allowed) 0 arguments have)
-    (λ places types holds have. (TypeVariable, (free places types, arguments_to_head known types TypeVariable (λ name. refl) 0 arguments have))) step in
+    plain_goal_takes true start head (λ types. AreArguments known types 0 arguments) step in
     record {
-      sound = cleared_sound head cleared whole.sound is_cleared;
-      back = λ places types holds.
-          let before : Holds head places types = record {
-            solved = subst (λ (g : List Entry). Solves g places) is_cleared.graph holds.solved;
-            variables = subst (λ (m : BTreeMap ℕ ℕ). AgreesWith m places types) is_cleared.variables holds.variables;
-          } in
-          record { head = (whole.back places types before).1; parts = tt };
+      sound = whole.sound;
+      back = λ places types holds. record { head = (whole.back places types holds).1; parts = tt };
       forth = λ types typed.
-          let empty = free types types in
-          let after = whole.forth types types (record { solved = empty.solved; variables = empty.variables }) typed.head in (
-            after.0,
-            record {
-              solved = subst (λ (g : List Entry). Solves g after.0) (sym is_cleared.graph) after.1.solved;
-              variables = subst (λ (m : BTreeMap ℕ ℕ). AgreesWith m after.0 types) (sym is_cleared.variables) after.1.variables;
-            },
-          );
+          let empty = free types types types in
+          whole.forth types types (record { solved = empty.solved; variables = empty.variables }) typed.head;
     }
 
-pub head_untyped : (start : Checker) (known : Module) (arguments : List TypeExpr) (goal : Node) → ((places types : Types) → Fits start places types TypeVariable)
-    → Refuses start (λ types instance. AreHead arguments types instance) → HasTyping known arguments goal → ⊥
+pub head_untyped : (start : Checker) (known : Module) (arguments : List TypeExpr) (goal : Node) → ((places types instance : Types) → Fits start places types instance)
+    → Refuses start (λ types instance. AreArguments known types 0 arguments) → HasTyping known arguments goal → ⊥
 head_untyped start known arguments goal free refuses typing =
-    refuses typing.0 typing.0 TypeVariable (free typing.0 typing.0) (arguments_to_head known typing.0 TypeVariable (λ name. refl) 0 arguments typing.1.head)
+    refuses typing.0 typing.0 typing.0 (free typing.0 typing.0 typing.0) typing.1.head
 
 -- one part more
 part_push : {A : Type 0} (P : A → Type 0) (k : ℕ) (listed : List A) (x : A) → Some x ≡ slice_get listed k → AllByRecursion P (take k listed) → P x
@@ -111,7 +92,7 @@ part_untyped old known arguments goal k part part_is knows refuses typing =
 
 -- all parts
 pub told : (solvable : Bool) (checker : Checker) (known : Module) (arguments : List TypeExpr) (goal : Node) (k : ℕ) → length (parts_of goal) ≤ k
-    → Knows checker (IsTypedUpTo known arguments goal k) → Decides solvable checker.graph → Tells solvable known arguments goal
+    → Knows checker (IsTypedUpTo known arguments goal k) → Decides solvable checker.graph.entries → Tells solvable known arguments goal
 told true checker known arguments goal k all knows decides =
     let types : Types = types_read checker.variables decides.0 in
     let typed = knows.back decides.0 types (record { solved = decides.1; variables = types_read_agree checker.variables decides.0 }) in

@@ -1,5 +1,5 @@
 -- What the check of a goal's types tells.
-use Rattle.std.specs.Prelude.{◌≡◌, ◌∷◌, Bool, true, false, List, [], Option, Some, None}
+use Rattle.std.specs.Prelude.{◌≡◌, ℕ, ◌∷◌, Bool, true, false, List, [], Option, Some, None, slice_get}
 use Rattle.std.proofs.Common.{refl}
 use Rattle.merc_tree.specs.Term.{no_span}
 use Rattle.merc_tree.specs.Types.{TypeExpr, IntType}
@@ -22,3 +22,8 @@ head_types-there = refl
 
 head_types-none : head_types None ≡ []
 head_types-none = refl
+
+-- those of a predicate of a module, by its number
+abbrev pub head_of : Module → Option ℕ → List TypeExpr
+head_of known None = []
+head_of known (Some number) = head_types (slice_get known.preds number)

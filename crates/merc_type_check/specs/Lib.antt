@@ -1,6 +1,6 @@
 pub mod Typing
 pub mod Checked
-pub mod Ground
+pub mod TypeNumbers
 pub mod TypingExamples
 pub mod Progress
 pub mod Building

@@ -3,8 +3,8 @@ use Rattle.std.specs.Prelude.{◌≡◌, ℕ, ◌+◌, ◌<◌, ◌≤◌, Bool,
 use Rattle.std.specs.Option.{IfSome}
 use Rattle.std.specs.Ordering.{nat_cmp}
 use Rattle.std.specs.BTreeMap.{BTreeMap, get}
-use Rattle.merc_tree.specs.Types.{TypeExpr, TypeVariable, replaced}
-use Rattle.merc_type_graph.specs.Solutions.{Entry, Unknown, Own, Solves}
+use Rattle.merc_tree.specs.Types.{TypeExpr}
+use Rattle.merc_type_graph.specs.Solutions.{Entry, Solves}
 use Rattle.merc_type_graph.specs.Changes.{AllWithin}
 use Rattle.merc_type_check.specs.declared.checker.Checker.{Checker}
 
@@ -16,30 +16,15 @@ Types = ℕ → TypeExpr
 abbrev pub AgreesWith : BTreeMap ℕ ℕ → Types → Types → Type 0
 AgreesWith found places types = (number : ℕ) → IfSome (get nat_cmp found number) (λ place. places place ≡ types number)
 
--- type variables stand for themselves, where they have to
-abbrev pub IsAllowed : Bool → Types → Type 0
-IsAllowed true instance = (name : ℕ) → instance name ≡ TypeVariable name
-IsAllowed false instance = Unit {0}
-
--- a declared type is the same, whatever its type variables are allowed to stand for
-abbrev pub IsFixed : Bool → TypeExpr → Type 0
-IsFixed own declared = (instance : Types) → IsAllowed own instance → replaced instance declared ≡ declared
-
--- what is known of the type that a type variable stands for
-abbrev pub meant_entry : Bool → ℕ → Entry
-meant_entry true name = Own name
-meant_entry false name = Unknown
-
 -- Types at all places that solve the equations, with those of the variables and of what type variables stand for.
 pub record Fits (checker : Checker) (places types instance : Types) : Type 0 where
-  pub solved : Solves checker.graph places
+  pub solved : Solves checker.graph.entries places
   pub variables : AgreesWith checker.variables places types
   pub instances : AgreesWith checker.instance places instance
-  pub allowed : IsAllowed checker.own instance
 
 -- without a look at what type variables stand for
 pub record Holds (checker : Checker) (places types : Types) : Type 0 where
-  pub solved : Solves checker.graph places
+  pub solved : Solves checker.graph.entries places
   pub variables : AgreesWith checker.variables places types
 
 -- each place that is named is there
@@ -53,23 +38,18 @@ AgreeBelow count one other = (place : ℕ) → place < count → one place ≡ o
 abbrev pub IsLocal : List Entry → Type 0
 IsLocal graph = (one other : Types) → AgreeBelow (length graph) one other → Solves graph one → Solves graph other
 
--- type variables that have to stand for themselves do so in each solution
-abbrev pub IsForced : Bool → List Entry → BTreeMap ℕ ℕ → Type 0
-IsForced true graph found = (places : Types) → Solves graph places → AgreesWith found places TypeVariable
-IsForced false graph found = Unit {0}
-
 pub record IsSound (checker : Checker) : Type 0 where
-  pub local : IsLocal checker.graph
-  pub variables : AreThere checker.variables (length checker.graph)
-  pub instances : AreThere checker.instance (length checker.graph)
-  pub forced : IsForced checker.own checker.graph checker.instance
+  pub local : IsLocal checker.graph.entries
+  pub variables : AreThere checker.variables (length checker.graph.entries)
+  pub instances : AreThere checker.instance (length checker.graph.entries)
+  pub table : checker.table.now ≡ checker.graph.table
 
 -- What is asked of the types of variables and of what type variables stand for.
 -- A step adds this to what was asked before, and nothing else.
 pub record Step (old new : Checker) (Asked : Types → Types → Type 0) : Type 0 where
   pub sound : IsSound new
-  pub longer : length old.graph ≤ length new.graph
-  pub same_way : new.own ≡ old.own
+  pub longer : length old.graph.entries ≤ length new.graph.entries
+  pub same_table : new.graph.table ≡ old.graph.table
   pub back : (places types instance : Types) → Fits new places types instance → Fits old places types instance × Asked types instance
   pub forth : (places types instance : Types) → Fits old places types instance → Asked types instance → (others : Types) × Fits new others types instance
 
@@ -87,12 +67,12 @@ Nothing types instance = Unit {0}
 
 -- at this place there is always this type
 pub record Stands (checker : Checker) (place : ℕ) (Meant : Types → Types → TypeExpr) : Type 0 where
-  pub there : place < length checker.graph
+  pub there : place < length checker.graph.entries
   pub meant : (places types instance : Types) → Fits checker places types instance → places place ≡ Meant types instance
 
 -- at these places there are always these types
 pub record AllStand (checker : Checker) (listed : List ℕ) (Meant : Types → Types → List TypeExpr) : Type 0 where
-  pub there : AllWithin (length checker.graph) listed
+  pub there : AllWithin (length checker.graph.entries) listed
   pub meant : (places types instance : Types) → Fits checker places types instance → map places listed ≡ Meant types instance
 
 -- a step that asks nothing, and a place for a type
@@ -103,6 +83,7 @@ pub record Places (old new : Checker) (place : ℕ) (Meant : Types → Types →
 -- the same without a look at what type variables stand for
 pub record GoalStep (old new : Checker) (Asked : Types → Type 0) : Type 0 where
   pub sound : IsSound new
+  pub same_table : new.graph.table ≡ old.graph.table
   pub back : (places types : Types) → Holds new places types → Holds old places types × Asked types
   pub forth : (places types : Types) → Holds old places types → Asked types → (others : Types) × Holds new others types
 
@@ -113,20 +94,12 @@ abbrev pub GoalTakes : Bool → Checker → Checker → (Types → Type 0) → T
 GoalTakes true old new Asked = GoalStep old new Asked
 GoalTakes false old new Asked = GoalRefuses old Asked
 
--- What type variables stood for is forgotten, and they may stand for anything.
+-- What type variables stood for is forgotten.
 pub record IsCleared (old new : Checker) : Type 0 where
   pub graph : new.graph ≡ old.graph
   pub variables : new.variables ≡ old.variables
-  pub own : new.own ≡ false
+  pub table : new.table.now ≡ old.table.now
   pub instance : (number : ℕ) → get nat_cmp new.instance number ≡ None
-
--- variables from this number on have these declared types, whose type variables stand for types
-abbrev pub HaveHead : ℕ → List TypeExpr → Types → Types → Type 0
-HaveHead number [] types instance = Unit {0}
-HaveHead number (declared ∷ others) types instance = (types number ≡ replaced instance declared) × HaveHead (number + 1) others types instance
-
-abbrev pub AreHead : List TypeExpr → Types → Types → Type 0
-AreHead declared types instance = HaveHead 0 declared types instance
 
 -- What is known is just that types are as asked.
 pub record Knows (checker : Checker) (Asked : Types → Type 0) : Type 0 where

@@ -49,7 +49,7 @@ impl<'a> Checker<'a> {
         places: &mut Vec<Place>,
     ) -> Result<(), NoMemory>
         requires sound { IsSound self.old }
-        requires within { AllWithin (length self.old.graph) places.old.items }
+        requires within { AllWithin (length self.old.graph.entries) places.old.items }
         ensures builds { OnOk result ((whole : TypeExpr) → Builds self.old (tasks.old.items ++ task.entry ∷ []) places.old.items whole → Step self.old self.new Nothing × Builds self.new tasks.new.items places.new.items whole) }
         ensures less { OnOk result (weight tasks.new.items < weight tasks.old.items + task_weight task.entry) }
     {
@@ -72,8 +72,8 @@ impl<'a> Checker<'a> {
     {
         let place = match declared.shape() {
             TypeShape::Variable(name) => self.type_variable(name)?,
-            TypeShape::Int => self.int()?,
-            TypeShape::Text => self.text()?,
+            TypeShape::Int => self.int_place()?,
+            TypeShape::Text => self.text_place()?,
             TypeShape::Application { name, arity } => {
                 tasks.push(Task::Apply(name, arity))?;
                 return push_visits(declared.arguments(), tasks);
@@ -86,7 +86,7 @@ impl<'a> Checker<'a> {
     // Puts the place of a type's name over the types at the last places in place of these.
     fn apply(&mut self, name: Name, arity: usize, places: &mut Vec<Place>) -> Result<(), NoMemory>
         requires sound { IsSound self.old }
-        requires within { AllWithin (length self.old.graph) places.old.items }
+        requires within { AllWithin (length self.old.graph.entries) places.old.items }
         ensures { OnOk result ((whole : TypeExpr) (tasks : List TaskValue) → Builds self.old (tasks ++ Task.Apply name arity ∷ []) places.old.items whole → Step self.old self.new Nothing × Builds self.new tasks places.new.items whole) }
     {
         let kept = places.len().saturating_sub(arity);

@@ -1,40 +1,41 @@
 //! What is known of types while the parts of a goal are gone through.
-ghost use Rattle.std.specs.Prelude.{◌≡◌, ◌<◌, ◌+◌, List, length, true, IfOk, OnOk};
-ghost use Rattle.merc_tree.specs.Types.{TypeExpr, TypeVariable, IntType, TextType, TypeApplication, types_of};
-ghost use Rattle.merc_type_graph.specs.Changes.{AllWithin, Adds, Decides};
-ghost use Rattle.merc_type_check.specs.Progress.{meant_entry, AllStand, Fits, IsCleared, IsSound, Places, Stands, Takes, Types};
+ghost use Rattle.std.specs.Prelude.{◌≡◌, ◌<◌, List, length, slice_get, IfOk, Some};
+ghost use Rattle.merc_tree.specs.Types.{TypeExpr, IntType, TextType, TypeApplication, types_of};
+ghost use Rattle.merc_type_table.specs.Table.{is_closed, type_at};
+ghost use Rattle.merc_type_graph.specs.Changes.{AllWithin, Decides};
+ghost use Rattle.merc_type_check.specs.Progress.{AllStand, Fits, IsCleared, IsSound, Places, Stands, Takes, Types};
 
 use merc_base::{Name, NoMemory};
 use merc_goal_tree::Var;
-use merc_tree::TypeRef;
 use merc_type_graph::{Place, TypeGraph};
+use merc_type_table::{TypeNumber, TypeTable};
 use std::alloc::Global;
 use std::collections::BTreeMap;
 
 /// What is known of types: equations between the types at places, and the places of variables and type variables.
 #[derive(Drop)]
 pub(crate) struct Checker<'a> {
+    // The declared types of the module.
+    table: &'a TypeTable,
     graph: TypeGraph<'a>,
     // The places of the types of variables that were met.
     variables: BTreeMap<Var, Place>,
     // The places of what the type variables of the declared types in use stand for, where they were met.
     instance: BTreeMap<Name, Place>,
-    // Whether these stand for themselves.
-    pub(crate) own: bool,
 }
 
 impl<'a> Checker<'a> {
-    /// Nothing is known. Type variables stand for themselves. It takes no memory.
-    pub(crate) fn new(alloc: Global) -> Checker<'a>
+    /// Nothing is known. It takes no memory.
+    pub(crate) fn new(alloc: Global, table: &'a TypeTable) -> Checker<'a>
         ensures sound { IsSound result }
-        ensures free { (places types : Types) → Fits result places types TypeVariable }
-        ensures own { result.own ≡ true }
+        ensures free { (places types instance : Types) → Fits result places types instance }
+        ensures table { result.graph.table ≡ table.now }
     {
         Checker {
-            graph: TypeGraph::new(alloc),
+            table,
+            graph: TypeGraph::new(alloc, table),
             variables: BTreeMap::new(alloc),
             instance: BTreeMap::new(alloc),
-            own: true,
         }
     }
 
@@ -43,7 +44,6 @@ impl<'a> Checker<'a> {
         ensures { IsCleared self.old self.new }
     {
         self.instance = BTreeMap::new(alloc);
-        self.own = false;
     }
 
     /// The place of a variable's type.
@@ -69,33 +69,60 @@ impl<'a> Checker<'a> {
         match self.instance.get(&name).copied() {
             Some(place) => Ok(place),
             None => {
-                let place = add_meant(&mut self.graph, self.own, name)?;
+                let place = self.graph.add_unknown()?;
                 self.instance.insert(name, place)?;
                 Ok(place)
             }
         }
     }
 
+    /// The number of the type `int`.
+    pub(crate) fn int(&self) -> TypeNumber
+        requires { IsSound self.now }
+        ensures { slice_get self.now.graph.table result ≡ Some IntType }
+    {
+        self.table.int()
+    }
+
+    /// The number of the type `string`.
+    pub(crate) fn text(&self) -> TypeNumber
+        requires { IsSound self.now }
+        ensures { slice_get self.now.graph.table result ≡ Some TextType }
+    {
+        self.table.text()
+    }
+
+    /// Whether a declared type has no type variables.
+    pub(crate) fn is_closed(&self, number: TypeNumber) -> bool
+        requires sound { IsSound self.now }
+        requires declared { number < length self.now.graph.table }
+        ensures { result ≡ is_closed (type_at self.now.graph.table number) }
+    {
+        self.table.is_closed(number)
+    }
+
     /// A place for the type `int`.
-    pub(crate) fn int(&mut self) -> Result<Place, NoMemory>
+    pub(crate) fn int_place(&mut self) -> Result<Place, NoMemory>
         requires { IsSound self.old }
         ensures { IfOk result (λ place. Places self.old self.new place (λ types instance. IntType)) }
     {
-        self.graph.add_int()
+        let number = self.int();
+        self.graph.add_whole(number)
     }
 
     /// A place for the type `string`.
-    pub(crate) fn text(&mut self) -> Result<Place, NoMemory>
+    pub(crate) fn text_place(&mut self) -> Result<Place, NoMemory>
         requires { IsSound self.old }
         ensures { IfOk result (λ place. Places self.old self.new place (λ types instance. TextType)) }
     {
-        self.graph.add_text()
+        let number = self.text();
+        self.graph.add_whole(number)
     }
 
     /// A place for a type's name over the types at these places.
     pub(crate) fn applied(&mut self, name: Name, arguments: &[Place]) -> Result<Place, NoMemory>
         requires sound { IsSound self.old }
-        requires within { AllWithin (length self.old.graph) arguments.now }
+        requires within { AllWithin (length self.old.graph.entries) arguments.now }
         ensures { IfOk result (λ place. (Meant : Types → Types → List TypeExpr) → AllStand self.old arguments.now Meant → Places self.old self.new place (λ types instance. TypeApplication name (types_of (Meant types instance)))) }
     {
         self.graph.add_applied(name, arguments)
@@ -104,39 +131,27 @@ impl<'a> Checker<'a> {
     /// Makes the types at two places equal. False where they cannot be.
     pub(crate) fn make_equal(&mut self, one: Place, other: Place) -> Result<bool, NoMemory>
         requires sound { IsSound self.old }
-        requires one { one < length self.old.graph }
-        requires other { other < length self.old.graph }
+        requires one { one < length self.old.graph.entries }
+        requires other { other < length self.old.graph.entries }
         ensures { IfOk result (λ done. (One Other : Types → Types → TypeExpr) → Stands self.old one One → Stands self.old other Other → Takes done self.old self.new (λ types instance. One types instance ≡ Other types instance)) }
     {
         self.graph.make_equal(one, other)
     }
 
     /// Makes the type at a place a declared type, in which type variables stand for themselves. False where it cannot be.
-    pub(crate) fn make_whole(&mut self, place: Place, whole: &TypeRef<'a>) -> Result<bool, NoMemory>
+    pub(crate) fn make_whole(&mut self, place: Place, whole: TypeNumber) -> Result<bool, NoMemory>
         requires sound { IsSound self.old }
-        requires there { place < length self.old.graph }
-        ensures { IfOk result (λ done. (Meant : Types → Types → TypeExpr) → Stands self.old place Meant → Takes done self.old self.new (λ types instance. Meant types instance ≡ whole.now)) }
+        requires there { place < length self.old.graph.entries }
+        requires declared { whole < length self.old.graph.table }
+        ensures { IfOk result (λ done. (Meant : Types → Types → TypeExpr) → Stands self.old place Meant → Takes done self.old self.new (λ types instance. Meant types instance ≡ type_at self.old.graph.table whole)) }
     {
         self.graph.make_whole(place, whole)
     }
 
     /// Whether there are types that solve the equations.
     pub(crate) fn is_solvable(&self, alloc: Global) -> Result<bool, NoMemory>
-        ensures { IfOk result (λ solvable. Decides solvable self.now.graph) }
+        ensures { IfOk result (λ solvable. Decides solvable self.now.graph.entries) }
     {
         self.graph.is_solvable(alloc)
-    }
-}
-
-// Adds a place of what a type variable stands for: itself, or something unknown.
-fn add_meant(graph: &mut TypeGraph<'_>, own: bool, name: Name) -> Result<Place, NoMemory>
-    ensures place { IfOk result (λ place. place ≡ length graph.old) }
-    ensures count { OnOk result (length graph.new ≡ length graph.old + 1) }
-    ensures solutions { OnOk result (Adds graph.old graph.new (meant_entry own name)) }
-{
-    if own {
-        graph.add_own(name)
-    } else {
-        graph.add_unknown()
     }
 }

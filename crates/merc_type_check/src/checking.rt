@@ -1,15 +1,15 @@
 //! Whether a goal is typed.
 ghost use Rattle.std.specs.Prelude.{IfOk};
-ghost use Rattle.std.specs.Option.{option_copied};
-ghost use Rattle.merc_type_check.specs.Checked.{Tells, head_types};
-ghost use Rattle.merc_type_check.specs.Ground.{IsFlagged};
+ghost use Rattle.merc_type_check.specs.Checked.{Tells, head_of};
+ghost use Rattle.merc_type_check.specs.TypeNumbers.{AreDeclared, AreNumbers};
+ghost use Rattle.merc_tree.specs.declared.declarations.Module.{Module};
 
 use crate::checker::Checker;
-use crate::flags::GroundFlags;
+use crate::declared::DeclaredTypes;
 use merc_base::NoMemory;
-use merc_goal_tree::NodeRef;
+use merc_goal_tree::{NodeRef, Predicate};
 use merc_known::Known;
-use merc_tree::PredDecl;
+use merc_type_table::TypeNumber;
 use std::alloc::Global;
 
 /// Whether the variables of a goal have types, such that the arguments of the predicate that it is the body of, which are
@@ -17,33 +17,32 @@ use std::alloc::Global;
 /// type variables of the arguments stand for themselves; those of each call and each constructor stand for types of its
 /// own.
 ///
-/// Declared types of the predicate's arguments, and those without type variables, are taken as a whole. With n parts of
-/// the goal and of the other declared types that it uses, each counted at each use, this takes time of the order of
-/// n log n, however large the types are that solve it, but for comparing the whole types that meet at one place.
+/// Declared types of the predicate's arguments, and those without type variables, are taken as a whole, and two of them are
+/// compared by their numbers. With n parts of the goal and of the other declared types that it uses, each counted at each
+/// use, this takes time of the order of n log n, however large the types are that solve it.
 ///
 /// # Errors
 ///
 /// `NoMemory` where memory was refused.
-pub fn is_typed<'a>(
+pub fn is_typed(
     alloc: Global,
-    known: &Known<'a>,
-    flags: &GroundFlags,
-    predicate: Option<&'a PredDecl>,
+    known: &Known<'_>,
+    declared: &DeclaredTypes,
+    predicate: Option<Predicate>,
     goal: &NodeRef<'_>,
 ) -> Result<bool, NoMemory>
-    requires { IsFlagged known.now flags.now }
-    ensures { IfOk result (λ typed. Tells typed known.now (head_types (option_copied predicate.entry)) goal.now) }
+    requires { AreDeclared known.now declared.now }
+    ensures { IfOk result (λ typed. Tells typed known.now (head_of known.now predicate) goal.now) }
 {
-    let mut checker = Checker::new(alloc);
-    let done = checker.take_predicate(alloc, predicate)?;
+    let mut checker = Checker::new(alloc, declared.table());
+    let done = checker.take_head(head_numbers(declared, predicate))?;
     if !done {
         return Ok(false);
     }
-    checker.clear(alloc);
     for index in 0..goal.part_count() {
         match goal.part(index) {
             Some((part, _)) => {
-                let done = checker.take_part(alloc, known, flags, part)?;
+                let done = checker.take_part(alloc, known, declared, part)?;
                 if !done {
                     return Ok(false);
                 }
@@ -52,4 +51,14 @@ pub fn is_typed<'a>(
         }
     }
     checker.is_solvable(alloc)
+}
+
+// The numbers of the declared types of a predicate's arguments, none where there is no predicate.
+fn head_numbers(declared: &DeclaredTypes, predicate: Option<Predicate>) -> &[TypeNumber]
+    ensures { (known : Module) → AreDeclared known declared.now → AreNumbers declared.now.table result.now (head_of known predicate) }
+{
+    match predicate {
+        Some(predicate) => declared.of_predicate(predicate.number()),
+        None => &[],
+    }
 }

@@ -1,20 +1,20 @@
 //! What goals ask of the types of their variables.
-ghost use Rattle.std.specs.Prelude.{◌≡◌, List, slice_get, slice_index_or, if◌then◌else◌, IfOk, IsTrue, true, false};
+ghost use Rattle.std.specs.Prelude.{◌≡◌, map, slice_get, IfOk, Some};
 ghost use Rattle.merc_tree.specs.Types.{IntType, TextType, replaced};
-ghost use Rattle.std.specs.Option.{option_copied};
-ghost use Rattle.merc_type_check.specs.Checked.{head_types};
-ghost use Rattle.merc_type_check.specs.Progress.{AreHead, GoalTakes, IsFixed, IsSound, Takes};
-ghost use Rattle.merc_type_check.specs.Ground.{AreFlags, IsFlagged};
-ghost use Rattle.merc_type_check.specs.Typing.{HasSymbol, HaveTypes, HasConstructor, IsCalled, IsTypedGoal, IsTypedPart};
+ghost use Rattle.merc_type_table.specs.Table.{type_at};
+ghost use Rattle.merc_type_check.specs.TypeNumbers.{AreDeclared, AreNumbers, AreWithin};
+ghost use Rattle.merc_type_check.specs.Progress.{GoalTakes, IsSound, Takes};
+ghost use Rattle.merc_type_check.specs.Typing.{AreArguments, HasSymbol, HaveTypes, HasConstructor, IsCalled, IsTypedGoal, IsTypedPart};
 ghost use Rattle.merc_base.specs.declared.place.Span.{Span};
 ghost use Rattle.merc_tree.specs.declared.declarations.Module.{Module};
 
 use crate::checker::Checker;
-use crate::flags::GroundFlags;
+use crate::declared::DeclaredTypes;
 use merc_base::{Name, NoMemory};
 use merc_goal_tree::{Predicate, Root, SimpleGoal, Symbol, Var};
 use merc_known::Known;
-use merc_tree::{Constructor, PredDecl, TypeDef, TypeExprs, TypeRef};
+use merc_tree::{Constructor, TypeDef, TypeExprs, TypeRef};
+use merc_type_table::TypeNumber;
 use std::alloc::Global;
 
 impl<'a> Checker<'a> {
@@ -22,16 +22,17 @@ impl<'a> Checker<'a> {
     pub(crate) fn take_part(
         &mut self,
         alloc: Global,
-        known: &Known<'a>,
-        flags: &GroundFlags,
+        known: &Known<'_>,
+        declared: &DeclaredTypes,
         part: &Root,
     ) -> Result<bool, NoMemory>
         requires sound { IsSound self.old }
-        requires flagged { IsFlagged known.now flags.now }
+        requires declared { AreDeclared known.now declared.now }
+        requires table { declared.now.table ≡ self.old.graph.table }
         ensures { IfOk result (λ done. (span : Span) → GoalTakes done self.old self.new (λ types. IsTypedPart known.now types (part.now, span))) }
     {
         match part {
-            Root::Simple(goal) => self.take_goal(alloc, known, flags, goal),
+            Root::Simple(goal) => self.take_goal(alloc, known, declared, goal),
             _ => Ok(true),
         }
     }
@@ -40,19 +41,20 @@ impl<'a> Checker<'a> {
     fn take_goal(
         &mut self,
         alloc: Global,
-        known: &Known<'a>,
-        flags: &GroundFlags,
+        known: &Known<'_>,
+        declared: &DeclaredTypes,
         goal: &SimpleGoal,
     ) -> Result<bool, NoMemory>
         requires sound { IsSound self.old }
-        requires flagged { IsFlagged known.now flags.now }
+        requires declared { AreDeclared known.now declared.now }
+        requires table { declared.now.table ≡ self.old.graph.table }
         ensures { IfOk result (λ done. GoalTakes done self.old self.new (λ types. IsTypedGoal known.now types goal.now)) }
     {
         match goal {
             SimpleGoal::True | SimpleGoal::Fail => Ok(true),
             SimpleGoal::Same(one, other) => self.are_alike(*one, *other),
             SimpleGoal::Shape(variable, symbol, arguments) => {
-                self.take_symbol(alloc, known, flags, *variable, symbol, arguments.as_slice())
+                self.take_symbol(alloc, known, declared, *variable, symbol, arguments.as_slice())
             }
             SimpleGoal::Arithmetic(_, result, left, right) => {
                 self.are_all_ints(*result, *left, *right)
@@ -60,7 +62,7 @@ impl<'a> Checker<'a> {
             SimpleGoal::Compare(_, left, right) => self.are_ints(*left, *right),
             SimpleGoal::Raise(text) => self.is_text(*text),
             SimpleGoal::Call(predicate, arguments) => {
-                self.take_call(alloc, known, flags, *predicate, arguments.as_slice())
+                self.take_call(alloc, known, declared, *predicate, arguments.as_slice())
             }
         }
     }
@@ -69,22 +71,30 @@ impl<'a> Checker<'a> {
     fn take_symbol(
         &mut self,
         alloc: Global,
-        known: &Known<'a>,
-        flags: &GroundFlags,
+        known: &Known<'_>,
+        declared: &DeclaredTypes,
         variable: Var,
         symbol: &Symbol,
         arguments: &[Var],
     ) -> Result<bool, NoMemory>
         requires sound { IsSound self.old }
-        requires flagged { IsFlagged known.now flags.now }
+        requires declared { AreDeclared known.now declared.now }
+        requires table { declared.now.table ≡ self.old.graph.table }
         ensures { IfOk result (λ done. GoalTakes done self.old self.new (λ types. HasSymbol known.now types variable symbol.now arguments.now)) }
     {
         match symbol {
             Symbol::Constructor(name, arity) => match known.constructor(*name, *arity) {
-                Some((declared, constructor)) => {
+                Some((type_def, constructor)) => {
                     self.clear(alloc);
-                    let fixed = flags.of_constructor(*name, *arity);
-                    self.take_constructor(alloc, variable, declared, constructor, fixed, arguments)
+                    let numbers = declared.of_constructor(*name, *arity);
+                    self.take_constructor(
+                        alloc,
+                        variable,
+                        type_def,
+                        constructor,
+                        numbers,
+                        arguments,
+                    )
                 }
                 None => Ok(false),
             },
@@ -99,12 +109,12 @@ impl<'a> Checker<'a> {
         alloc: Global,
         variable: Var,
         declared: &TypeDef,
-        constructor: &'a Constructor,
-        fixed: &[bool],
+        constructor: &Constructor,
+        numbers: &[TypeNumber],
         arguments: &[Var],
     ) -> Result<bool, NoMemory>
         requires sound { IsSound self.old }
-        requires flags { AreFlags fixed.now constructor.now.args }
+        requires numbers { AreNumbers self.old.graph.table numbers.now constructor.now.args }
         ensures { IfOk result (λ done. (known : Module) → Takes done self.old self.new (λ types instance. HasConstructor known types instance variable declared.now constructor.now arguments.now)) }
     {
         let place = self.variable(variable)?;
@@ -113,31 +123,28 @@ impl<'a> Checker<'a> {
         if !done {
             return Ok(false);
         }
-        self.have_types(alloc, arguments, &constructor.args, fixed)
+        self.have_types(alloc, arguments, &constructor.args, numbers)
     }
 
     // Asks that the arguments of a call have the types that the predicate declares.
     fn take_call(
         &mut self,
         alloc: Global,
-        known: &Known<'a>,
-        flags: &GroundFlags,
+        known: &Known<'_>,
+        declared: &DeclaredTypes,
         predicate: Predicate,
         arguments: &[Var],
     ) -> Result<bool, NoMemory>
         requires sound { IsSound self.old }
-        requires flagged { IsFlagged known.now flags.now }
+        requires declared { AreDeclared known.now declared.now }
+        requires table { declared.now.table ≡ self.old.graph.table }
         ensures { IfOk result (λ done. GoalTakes done self.old self.new (λ types. IsCalled known.now types (slice_get known.now.preds predicate) arguments.now)) }
     {
         match known.predicate(predicate.number()) {
-            Some(declared) => {
+            Some(pred) => {
                 self.clear(alloc);
-                self.have_types(
-                    alloc,
-                    arguments,
-                    &declared.args,
-                    flags.of_predicate(predicate.number()),
-                )
+                let numbers = declared.of_predicate(predicate.number());
+                self.have_types(alloc, arguments, &pred.args, numbers)
             }
             None => Ok(false),
         }
@@ -148,11 +155,11 @@ impl<'a> Checker<'a> {
         &mut self,
         alloc: Global,
         variables: &[Var],
-        declared: &'a TypeExprs,
-        fixed: &[bool],
+        declared: &TypeExprs,
+        numbers: &[TypeNumber],
     ) -> Result<bool, NoMemory>
         requires sound { IsSound self.old }
-        requires flags { AreFlags fixed.now declared.now }
+        requires numbers { AreNumbers self.old.graph.table numbers.now declared.now }
         ensures { IfOk result (λ done. (known : Module) → Takes done self.old self.new (λ types instance. HaveTypes known types instance variables.now declared.now)) }
     {
         if variables.len() != declared.len() {
@@ -161,8 +168,7 @@ impl<'a> Checker<'a> {
         for (index, variable) in variables.iter().enumerate() {
             match declared.get(index) {
                 Some(one) => {
-                    let same = is_fixed(self.own, fixed, index);
-                    let done = self.has_type(alloc, *variable, &one, same)?;
+                    let done = self.has_type(alloc, *variable, &one, numbers[index])?;
                     if !done {
                         return Ok(false);
                     }
@@ -173,56 +179,37 @@ impl<'a> Checker<'a> {
         Ok(true)
     }
 
-    /// Asks that the first variables have the types that a predicate declares for its arguments.
-    pub(crate) fn take_predicate(
-        &mut self,
-        alloc: Global,
-        predicate: Option<&'a PredDecl>,
-    ) -> Result<bool, NoMemory>
-        requires { IsSound self.old }
-        ensures { IfOk result (λ done. Takes done self.old self.new (λ types instance. AreHead (head_types (option_copied predicate.entry)) types instance)) }
+    /// Asks that the first variables have these declared types, in which type variables stand for themselves.
+    pub(crate) fn take_head(&mut self, numbers: &[TypeNumber]) -> Result<bool, NoMemory>
+        requires sound { IsSound self.old }
+        requires numbers { AreWithin self.old.graph.table numbers.now }
+        ensures { IfOk result (λ done. (known : Module) → Takes done self.old self.new (λ types instance. AreArguments known types 0 (map (type_at self.old.graph.table) numbers.now))) }
     {
-        match predicate {
-            Some(declared) => self.take_head(alloc, &declared.args),
-            None => Ok(true),
-        }
-    }
-
-    // Asks that the first variables have these declared types.
-    fn take_head(&mut self, alloc: Global, declared: &'a TypeExprs) -> Result<bool, NoMemory>
-        requires { IsSound self.old }
-        ensures { IfOk result (λ done. Takes done self.old self.new (λ types instance. AreHead declared.now types instance)) }
-    {
-        for index in 0..declared.len() {
-            match declared.get(index) {
-                Some(one) => {
-                    let done = self.has_type(alloc, Var::new(index), &one, self.own)?;
-                    if !done {
-                        return Ok(false);
-                    }
-                }
-                None => unreachable!(),
+        for (index, number) in numbers.iter().enumerate() {
+            let place = self.variable(Var::new(index))?;
+            let done = self.make_whole(place, *number)?;
+            if !done {
+                return Ok(false);
             }
         }
         Ok(true)
     }
 
-    // Asks that a variable has a declared type. It may be known that this is the same, whatever its type variables stand
-    // for: it is taken as a whole then.
+    // Asks that a variable has a declared type, whose number this is.
     fn has_type(
         &mut self,
         alloc: Global,
         variable: Var,
-        declared: &TypeRef<'a>,
-        fixed: bool,
+        declared: &TypeRef<'_>,
+        number: TypeNumber,
     ) -> Result<bool, NoMemory>
         requires sound { IsSound self.old }
-        requires fixed { IsTrue fixed → IsFixed self.old.own declared.now }
+        requires number { slice_get self.old.graph.table number ≡ Some declared.now }
         ensures { IfOk result (λ done. Takes done self.old self.new (λ types instance. types variable ≡ replaced instance declared.now)) }
     {
         let place = self.variable(variable)?;
-        if fixed {
-            return self.make_whole(place, declared);
+        if self.is_closed(number) {
+            return self.make_whole(place, number);
         }
         let other = self.declared(alloc, declared)?;
         self.make_equal(place, other)
@@ -267,8 +254,8 @@ impl<'a> Checker<'a> {
         ensures { IfOk result (λ done. Takes done self.old self.new (λ types instance. types variable ≡ IntType)) }
     {
         let place = self.variable(variable)?;
-        let int = self.int()?;
-        self.make_equal(place, int)
+        let number = self.int();
+        self.make_whole(place, number)
     }
 
     fn is_text(&mut self, variable: Var) -> Result<bool, NoMemory>
@@ -276,24 +263,7 @@ impl<'a> Checker<'a> {
         ensures { IfOk result (λ done. Takes done self.old self.new (λ types instance. types variable ≡ TextType)) }
     {
         let place = self.variable(variable)?;
-        let text = self.text()?;
-        self.make_equal(place, text)
-    }
-}
-
-// Whether a declared type is known to be the same, whatever its type variables stand for.
-fn is_fixed(own: bool, flags: &[bool], index: usize) -> bool
-    ensures { result ≡ (if own then true else slice_index_or flags.now index false) }
-{
-    if own { true } else { flag_at(flags, index) }
-}
-
-// The flag at an index, false past the last.
-fn flag_at(flags: &[bool], index: usize) -> bool
-    ensures { result ≡ slice_index_or flags.now index false }
-{
-    match flags.get(index) {
-        Some(flag) => *flag,
-        None => false,
+        let number = self.text();
+        self.make_whole(place, number)
     }
 }

@@ -4,9 +4,8 @@
 mod building;
 mod checker;
 mod checking;
-pub mod flags;
+pub mod declared;
 mod goals;
-mod ground;
 
 pub use checking::is_typed;
-pub use flags::GroundFlags;
+pub use declared::DeclaredTypes;

@@ -3,11 +3,14 @@ use Rattle.std.proofs.Common.{◌≡◌, ℕ, zero, suc, ◌+◌, ◌<◌, ◌�
 use Rattle.std.specs.Prelude.{slice_get}
 use Rattle.std.proofs.lemmas.Bool.{cases_lt}
 use Rattle.std.proofs.lemmas.List.{drop_at, drop_all, take_all, append-nil}
-use Rattle.merc_type_graph.specs.Solutions.{Entry, Applied, Agrees, SolvesFrom}
+use Rattle.merc_tree.specs.Types.{TypeExpr}
+use Rattle.merc_type_table.specs.Table.{type_at}
+use Rattle.merc_type_graph.specs.declared.store.Store.{Store}
+use Rattle.merc_type_graph.specs.Solutions.{Entry, WholeEntry, Applied, Agrees, SolvesFrom}
 use Rattle.merc_type_graph.specs.Changes.{Adds, AllWithin}
 use Rattle.merc_type_graph.specs.Cells.{entry_of, entries_of, needs_of, known_at, rank_at, root_mark, roots, blank, IsStored, IsSound}
 use Rattle.merc_type_graph.specs.declared.cell.Known.{Known}
-use Rattle.merc_type_graph.specs.declared.cell.Known.TheVariants.{Nothing, Variable, Int, Text, Whole, Named, SameAs}
+use Rattle.merc_type_graph.specs.declared.cell.Known.TheVariants.{Nothing, Whole, Named, SameAs}
 use Rattle.merc_type_graph.specs.declared.cell.Cell.{Cell}
 use Rattle.merc_type_graph.proofs.Entries.{solves_from-append, append-solves_from}
 
@@ -25,14 +28,14 @@ adds_last old new entry e types =
 pub count_last : (old new : List Entry) (entry : Entry) → new ≡ old ++ entry ∷ [] → length new ≡ length old + 1
 count_last old new entry e = ap length e ∙ length-append old (entry ∷ [])
 
-pub entries-append : (arguments : List ℕ) (cells : List Cell) (cell : Cell)
-    → entries_of arguments (cells ++ cell ∷ []) ≡ entries_of arguments cells ++ entry_of arguments cell.known ∷ []
-entries-append arguments [] cell = refl
-entries-append arguments (first ∷ rest) cell = ap (λ (l : List Entry). entry_of arguments first.known ∷ l) (entries-append arguments rest cell)
+pub entries-append : (store : Store) (cells : List Cell) (cell : Cell)
+    → entries_of store (cells ++ cell ∷ []) ≡ entries_of store cells ++ entry_of store cell.known ∷ []
+entries-append store [] cell = refl
+entries-append store (first ∷ rest) cell = ap (λ (l : List Entry). entry_of store first.known ∷ l) (entries-append store rest cell)
 
-pub count_entries : (arguments : List ℕ) (cells : List Cell) → length (entries_of arguments cells) ≡ length cells
-count_entries arguments [] = refl
-count_entries arguments (first ∷ rest) = ap suc (count_entries arguments rest)
+pub count_entries : (store : Store) (cells : List Cell) → length (entries_of store cells) ≡ length cells
+count_entries store [] = refl
+count_entries store (first ∷ rest) = ap suc (count_entries store rest)
 
 -- a cell at the end
 last_or_before : (cells : List Cell) (cell : Cell) (i : ℕ)
@@ -67,9 +70,6 @@ rank_past (first ∷ rest) (suc i) past = rank_past rest i (omega arith)
 
 mark_few : (known : Known) → root_mark known ≤ 1
 mark_few Nothing = omega arith
-mark_few (Variable name) = omega arith
-mark_few Int = omega arith
-mark_few Text = omega arith
 mark_few (Whole whole) = omega arith
 mark_few (Named name first count) = omega arith
 mark_few (SameAs place) = omega arith
@@ -78,13 +78,13 @@ roots_few : (cells : List Cell) → roots cells ≤ length cells
 roots_few [] = omega arith
 roots_few (first ∷ rest) = let one = mark_few first.known in let few = roots_few rest in omega arith
 
-pub sound-append : (arguments : List ℕ) (cells after : List Cell) (known : Known) → IsSound arguments cells → IsStored (length arguments) known → root_mark known ≡ 1
-    → AllWithin (length cells) (needs_of (entry_of arguments known)) → after ≡ cells ++ record { known = known; rank = 0 } ∷ [] → IsSound arguments after
-sound-append arguments cells after known sound stored root within is =
+pub sound-append : (store : Store) (cells after : List Cell) (known : Known) → IsSound store cells → IsStored store known → root_mark known ≡ 1
+    → AllWithin (length cells) (needs_of (entry_of store known)) → after ≡ cells ++ record { known = known; rank = 0 } ∷ [] → IsSound store after
+sound-append store cells after known sound stored root within is =
     let cell : Cell = record { known = known; rank = 0 } in
     let longer : length (cells ++ cell ∷ []) ≡ length cells + 1 = length-append cells (cell ∷ []) in
     let more : roots (cells ++ cell ∷ []) ≡ roots cells + root_mark known = roots-append cells cell in
-    subst (IsSound arguments) (sym is) (record {
+    subst (IsSound store) (sym is) (record {
       forest = record {
         rising = λ i j link.
             elim (last_or_before cells cell i) [
@@ -123,16 +123,16 @@ sound-append arguments cells after known sound stored root within is =
       };
       stored = λ i.
           elim (last_or_before cells cell i) [
-            | inl e ↦ subst (λ (c : Cell). IsStored (length arguments) c.known) (sym e) (sound.stored i)
-            | inr w ↦ subst (λ (c : Cell). IsStored (length arguments) c.known) (sym w.1) stored
+            | inl e ↦ subst (λ (c : Cell). IsStored store c.known) (sym e) (sound.stored i)
+            | inr w ↦ subst (λ (c : Cell). IsStored store c.known) (sym w.1) stored
           ];
       within = λ i number place need.
           elim (last_or_before cells cell i) [
             | inl e ↦
-                let less = sound.within i number place (sym (ap (λ (c : Cell). slice_get (needs_of (entry_of arguments c.known)) number) e) ∙ need) in omega arith
+                let less = sound.within i number place (sym (ap (λ (c : Cell). slice_get (needs_of (entry_of store c.known)) number) e) ∙ need) in omega arith
             | inr w ↦
-                let less = all_within (length cells) (needs_of (entry_of arguments known)) within number place
-                (sym (ap (λ (c : Cell). slice_get (needs_of (entry_of arguments c.known)) number) w.1) ∙ need) in omega arith
+                let less = all_within (length cells) (needs_of (entry_of store known)) within number place
+                (sym (ap (λ (c : Cell). slice_get (needs_of (entry_of store c.known)) number) w.1) ∙ need) in omega arith
           ];
     })
 
@@ -146,45 +146,43 @@ part-append (x ∷ xs) added zero zero within = refl
 part-append (x ∷ xs) added zero (suc count) within = ap (λ (l : List ℕ). x ∷ l) (part-append xs added zero count (omega arith))
 part-append (x ∷ xs) added (suc first) count within = part-append xs added first count (omega arith)
 
-entry-append : (arguments added : List ℕ) (known : Known) → IsStored (length arguments) known → entry_of (arguments ++ added) known ≡ entry_of arguments known
-entry-append arguments added Nothing stored = refl
-entry-append arguments added (Variable name) stored = refl
-entry-append arguments added Int stored = refl
-entry-append arguments added Text stored = refl
-entry-append arguments added (Whole whole) stored = refl
-entry-append arguments added (Named name first count) stored = ap (Applied name) (part-append arguments added first count stored)
-entry-append arguments added (SameAs place) stored = refl
+-- a store with more arguments
+pub record HasMore (old new : Store) (added : List ℕ) : Type 0 where
+  pub table : new.table.now ≡ old.table.now
+  pub arguments : new.arguments.items ≡ old.arguments.items ++ added
 
-entries_alike : (arguments added : List ℕ) (cells : List Cell) → ((i : ℕ) → IsStored (length arguments) (known_at cells i))
-    → entries_of (arguments ++ added) cells ≡ entries_of arguments cells
-entries_alike arguments added [] stored = refl
-entries_alike arguments added (first ∷ rest) stored =
-    ap (λ (e : Entry). e ∷ entries_of (arguments ++ added) rest) (entry-append arguments added first.known (stored zero))
-    ∙ ap (λ (l : List Entry). entry_of arguments first.known ∷ l) (entries_alike arguments added rest (λ i. stored (suc i)))
+entry-more : (old new : Store) (added : List ℕ) (known : Known) → HasMore old new added → IsStored old known → entry_of new known ≡ entry_of old known
+entry-more old new added Nothing more stored = refl
+entry-more old new added (Whole whole) more stored = ap (λ (t : List TypeExpr). WholeEntry (type_at t whole)) more.table
+entry-more old new added (Named name first count) more stored =
+    ap (λ (l : List ℕ). Applied name (take count (drop first l))) more.arguments ∙ ap (Applied name) (part-append old.arguments.items added first count stored)
+entry-more old new added (SameAs place) more stored = refl
 
-pub entries_same : (arguments added after : List ℕ) (cells : List Cell) → IsSound arguments cells → after ≡ arguments ++ added
-    → entries_of after cells ≡ entries_of arguments cells
-entries_same arguments added after cells sound e = ap (λ (l : List ℕ). entries_of l cells) e ∙ entries_alike arguments added cells sound.stored
+entries_alike : (old new : Store) (added : List ℕ) (cells : List Cell) → HasMore old new added → ((i : ℕ) → IsStored old (known_at cells i))
+    → entries_of new cells ≡ entries_of old cells
+entries_alike old new added [] more stored = refl
+entries_alike old new added (first ∷ rest) more stored =
+    ap (λ (e : Entry). e ∷ entries_of new rest) (entry-more old new added first.known more (stored zero))
+    ∙ ap (λ (l : List Entry). entry_of old first.known ∷ l) (entries_alike old new added rest more (λ i. stored (suc i)))
 
-stored_more : (count more : ℕ) (known : Known) → count ≤ more → IsStored count known → IsStored more known
-stored_more count more Nothing less stored = tt
-stored_more count more (Variable name) less stored = tt
-stored_more count more Int less stored = tt
-stored_more count more Text less stored = tt
-stored_more count more (Whole whole) less stored = tt
-stored_more count more (Named name first number) less stored = omega arith
-stored_more count more (SameAs place) less stored = tt
+pub entries_same : (old new : Store) (added : List ℕ) (cells : List Cell) → IsSound old cells → HasMore old new added → entries_of new cells ≡ entries_of old cells
+entries_same old new added cells sound more = entries_alike old new added cells more sound.stored
 
-pub sound_more : (arguments added after : List ℕ) (cells : List Cell) → IsSound arguments cells → after ≡ arguments ++ added → IsSound after cells
-sound_more arguments added after cells sound e =
-    let longer : length (arguments ++ added) ≡ length arguments + length added = length-append arguments added in
-    subst (λ (l : List ℕ). IsSound l cells) (sym e) (record {
-      forest = sound.forest;
-      stored = λ i. stored_more (length arguments) (length (arguments ++ added)) (known_at cells i) (omega arith) (sound.stored i);
-      within = λ i number place need.
-          sound.within i number place
-          (sym (ap (λ (entry : Entry). slice_get (needs_of entry) number) (entry-append arguments added (known_at cells i) (sound.stored i))) ∙ need);
-    })
+stored_more : (old new : Store) (added : List ℕ) (known : Known) → HasMore old new added → IsStored old known → IsStored new known
+stored_more old new added Nothing more stored = tt
+stored_more old new added (Whole whole) more stored = let e = ap length more.table in omega arith
+stored_more old new added (Named name first number) more stored =
+    let e = ap length more.arguments in omega (arith, length-append old.arguments.items added)
+stored_more old new added (SameAs place) more stored = tt
+
+pub sound_more : (old new : Store) (added : List ℕ) (cells : List Cell) → IsSound old cells → HasMore old new added → IsSound new cells
+sound_more old new added cells sound more = record {
+  forest = sound.forest;
+  stored = λ i. stored_more old new added (known_at cells i) more (sound.stored i);
+  within = λ i number place need.
+      sound.within i number place
+      (sym (ap (λ (entry : Entry). slice_get (needs_of entry) number) (entry-more old new added (known_at cells i) more (sound.stored i))) ∙ need);
+}
 
 -- the arguments that were added last
 pub added_part : (arguments added after : List ℕ) → after ≡ arguments ++ added → take (length added) (drop (length arguments) after) ≡ added
@@ -192,32 +190,24 @@ added_part arguments added after e =
     ap (λ (l : List ℕ). take (length added) (drop (length arguments) l)) e
     ∙ ap (take (length added)) (drop_at arguments added (length arguments) refl) ∙ take_all (length added) added (omega arith)
 
-pub adds_by : (arguments shown : List ℕ) (cells cells' : List Cell) (old : List Entry) (entry : Entry) → entries_of arguments cells ≡ old → shown ≡ arguments
-    → entries_of shown cells' ≡ entries_of shown cells ++ entry ∷ [] → Adds old (entries_of arguments cells') entry
-adds_by arguments shown cells cells' old entry view same added =
-    let there : entries_of arguments cells' ≡ entries_of arguments cells ++ entry ∷ [] =
-    subst (λ (l : List ℕ). entries_of l cells' ≡ entries_of l cells ++ entry ∷ []) same added in
-    adds_last old (entries_of arguments cells') entry (there ∙ ap (λ (l : List Entry). l ++ entry ∷ []) view)
-
 pub adds_applied : (old new view : List Entry) (entry : Entry) → view ≡ old → new ≡ view ++ entry ∷ [] → Adds old new entry
 adds_applied old new view entry same added = adds_last old new entry (added ∙ ap (λ (l : List Entry). l ++ entry ∷ []) same)
 
-pub applied_last : (arguments added after shown : List ℕ) (cells cells' : List Cell) (name first : ℕ) → IsSound arguments cells → after ≡ arguments ++ added → shown ≡ after
-    → first ≡ length arguments
-    → entries_of shown cells' ≡ entries_of shown cells ++ Applied name (take (length added) (drop first shown)) ∷ []
-    → entries_of after cells' ≡ entries_of arguments cells ++ Applied name added ∷ []
-applied_last arguments added after shown cells cells' name first sound e same first_is last =
-    let there : entries_of after cells' ≡ entries_of after cells ++ Applied name (take (length added) (drop first after)) ∷ [] =
-    subst (λ (l : List ℕ). entries_of l cells' ≡ entries_of l cells ++ Applied name (take (length added) (drop first l)) ∷ []) same last in
-    let part : take (length added) (drop first after) ≡ added = ap (λ (n : ℕ). take (length added) (drop n after)) first_is ∙ added_part arguments added after e in
-    there ∙ ap (λ (l : List ℕ). entries_of after cells ++ Applied name l ∷ []) part
-    ∙ ap (λ (l : List Entry). l ++ Applied name added ∷ []) (entries_same arguments added after cells sound e)
+pub applied_last : (old new : Store) (added : List ℕ) (cells cells' : List Cell) (name first : ℕ) → IsSound old cells → HasMore old new added
+    → first ≡ length old.arguments.items
+    → entries_of new cells' ≡ entries_of new cells ++ Applied name (take (length added) (drop first new.arguments.items)) ∷ []
+    → entries_of new cells' ≡ entries_of old cells ++ Applied name added ∷ []
+applied_last old new added cells cells' name first sound more first_is last =
+    let part : take (length added) (drop first new.arguments.items) ≡ added =
+    ap (λ (n : ℕ). take (length added) (drop n new.arguments.items)) first_is ∙ added_part old.arguments.items added new.arguments.items more.arguments in
+    last ∙ ap (λ (l : List ℕ). entries_of new cells ++ Applied name l ∷ []) part
+    ∙ ap (λ (l : List Entry). l ++ Applied name added ∷ []) (entries_same old new added cells sound more)
 
 -- cells that were lent and came back
-pub sound_back : (arguments : List ℕ) (back old : List Cell) (count : ℕ) → length back ≡ length old → count ≡ length old → IsSound arguments back
-    → IsSound arguments (take count (back ++ drop (length back) old))
-sound_back arguments back old count same count_is sound =
+pub sound_back : (store : Store) (back old : List Cell) (count : ℕ) → length back ≡ length old → count ≡ length old → IsSound store back
+    → IsSound store (take count (back ++ drop (length back) old))
+sound_back store back old count same count_is sound =
     let nothing : drop (length back) old ≡ [] = drop_all (length back) old (omega arith) in
     let whole : take count (back ++ drop (length back) old) ≡ back =
     ap (λ (l : List Cell). take count (back ++ l)) nothing ∙ ap (take count) (append-nil back) ∙ take_all count back (omega arith) in
-    subst (IsSound arguments) (sym whole) sound
+    subst (IsSound store) (sym whole) sound

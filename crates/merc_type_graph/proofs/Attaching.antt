@@ -3,6 +3,7 @@ use Rattle.std.proofs.Common.{◌≡◌, ◌≢◌, ℕ, zero, suc, ◌+◌, ◌
 use Rattle.std.specs.Prelude.{slice_get}
 use Rattle.std.proofs.lemmas.Bool.{cases_lt}
 use Rattle.merc_tree.specs.Types.{TypeExpr}
+use Rattle.merc_type_graph.specs.declared.store.Store.{Store}
 use Rattle.merc_type_graph.specs.Solutions.{Agrees, Solves}
 use Rattle.merc_type_graph.specs.Cells.{entry_of, entries_of, needs_of, known_at, rank_at, blank, root_mark, roots, IsStored, IsForest, IsSound}
 use Rattle.merc_type_graph.specs.Joining.{AllSame, attached}
@@ -10,7 +11,8 @@ use Rattle.merc_type_graph.specs.declared.cell.Known.{Known}
 use Rattle.merc_type_graph.specs.declared.cell.Known.TheVariants.{SameAs}
 use Rattle.merc_type_graph.specs.declared.cell.Cell.{Cell}
 use Rattle.merc_type_graph.proofs.Entries.{solves_at, solves_all}
-use Rattle.merc_type_graph.proofs.Joins.{Fits, fits, agrees_by, fits_at}
+use Rattle.merc_type_graph.specs.Fixing.{Fits}
+use Rattle.merc_type_graph.proofs.Joins.{fits, agrees_by, fits_at}
 
 pub same_or_not : (i j : ℕ) → (i ≡ j) ⊎ (i ≢ j)
 same_or_not i j =
@@ -79,20 +81,20 @@ roots-attached cells child parent known child_here parent_here apart child_root 
     omega arith
 
 -- what is asked of the places and of what is known then
-pub record MayAttach (arguments : List ℕ) (cells : List Cell) (child parent : ℕ) (known : Known) : Type 0 where
-  pub sound : IsSound arguments cells
+pub record MayAttach (store : Store) (cells : List Cell) (child parent : ℕ) (known : Known) : Type 0 where
+  pub sound : IsSound store cells
   pub child_here : child < length cells
   pub parent_here : parent < length cells
   pub apart : child ≢ parent
   pub child_root : root_mark (known_at cells child) ≡ 1
   pub parent_root : root_mark (known_at cells parent) ≡ 1
   pub known_root : root_mark known ≡ 1
-  pub known_stored : IsStored (length arguments) known
-  pub known_within : (number place : ℕ) → slice_get (needs_of (entry_of arguments known)) number ≡ Some place → place < length cells
+  pub known_stored : IsStored store known
+  pub known_within : (number place : ℕ) → slice_get (needs_of (entry_of store known)) number ≡ Some place → place < length cells
 
-ranks_rise : (arguments : List ℕ) (cells : List Cell) (child parent : ℕ) (known : Known) → MayAttach arguments cells child parent known → (i : ℕ)
+ranks_rise : (store : Store) (cells : List Cell) (child parent : ℕ) (known : Known) → MayAttach store cells child parent known → (i : ℕ)
     → rank_at cells i ≤ rank_at (attached cells child parent known) i
-ranks_rise arguments cells child parent known may i =
+ranks_rise store cells child parent known may i =
     elim (attached_at cells child parent known may.child_here may.parent_here may.apart i) [
       | at_child e is ↦
           let r : rank_at (attached cells child parent known) i ≡ rank_at cells child = rank_by (attached cells child parent known) i (child_cell cells child parent) is in
@@ -113,9 +115,9 @@ no_link known j root e = let z : root_mark known ≡ 0 = ap root_mark e in absur
 link_place : (i j : ℕ) → SameAs i ≡ SameAs j → i ≡ j
 link_place i j e = cc
 
-forest-attached : (arguments : List ℕ) (cells : List Cell) (child parent : ℕ) (known : Known) → MayAttach arguments cells child parent known
+forest-attached : (store : Store) (cells : List Cell) (child parent : ℕ) (known : Known) → MayAttach store cells child parent known
     → IsForest (attached cells child parent known)
-forest-attached arguments cells child parent known may =
+forest-attached store cells child parent known may =
     let after : List Cell = attached cells child parent known in
     let count : length after ≡ length cells = length-attached cells child parent known in
     let fewer : roots after + 1 ≡ roots cells = roots-attached cells child parent known may.child_here may.parent_here may.apart may.child_root may.parent_root may.known_root in
@@ -140,7 +142,7 @@ forest-attached arguments cells child parent known may =
                 let old : known_at cells i ≡ SameAs j = sym (ap (λ (c : Cell). c.known) is) ∙ link in
                 let less = may.sound.forest.rising i j old in
                 let r : rank_at after i ≡ rank_at cells i = ap (λ (c : Cell). c.rank) is in
-                let s = ranks_rise arguments cells child parent known may j in
+                let s = ranks_rise store cells child parent known may j in
                 omega arith
           ];
       near = λ i j link.
@@ -169,88 +171,88 @@ one_need : (place number found : ℕ) → slice_get (place ∷ []) number ≡ So
 one_need place zero found e = cc
 one_need place (suc number) found e = absurd (cc)
 
-pub sound-attached : (arguments : List ℕ) (cells : List Cell) (child parent : ℕ) (known : Known) → MayAttach arguments cells child parent known
-    → IsSound arguments (attached cells child parent known)
-sound-attached arguments cells child parent known may =
+pub sound-attached : (store : Store) (cells : List Cell) (child parent : ℕ) (known : Known) → MayAttach store cells child parent known
+    → IsSound store (attached cells child parent known)
+sound-attached store cells child parent known may =
     let after : List Cell = attached cells child parent known in
     let count : length after ≡ length cells = length-attached cells child parent known in
     record {
-      forest = forest-attached arguments cells child parent known may;
+      forest = forest-attached store cells child parent known may;
       stored = λ i.
           elim (attached_at cells child parent known may.child_here may.parent_here may.apart i) [
-            | at_child e is ↦ subst (IsStored (length arguments)) (sym (known_by after i (child_cell cells child parent) is)) tt
-            | at_parent e is ↦ subst (IsStored (length arguments)) (sym (known_by after i (parent_cell cells child parent known) is)) may.known_stored
-            | elsewhere ne ne' is ↦ subst (IsStored (length arguments)) (sym (ap (λ (c : Cell). c.known) is)) (may.sound.stored i)
+            | at_child e is ↦ subst (IsStored store) (sym (known_by after i (child_cell cells child parent) is)) tt
+            | at_parent e is ↦ subst (IsStored store) (sym (known_by after i (parent_cell cells child parent known) is)) may.known_stored
+            | elsewhere ne ne' is ↦ subst (IsStored store) (sym (ap (λ (c : Cell). c.known) is)) (may.sound.stored i)
           ];
       within = λ i number place need.
           elim (attached_at cells child parent known may.child_here may.parent_here may.apart i) [
             | at_child e is ↦
                 let to : parent ≡ place = one_need parent number place
-                (sym (ap (λ (k : Known). slice_get (needs_of (entry_of arguments k)) number) (known_by after i (child_cell cells child parent) is)) ∙ need) in
+                (sym (ap (λ (k : Known). slice_get (needs_of (entry_of store k)) number) (known_by after i (child_cell cells child parent) is)) ∙ need) in
                 let here = may.parent_here in omega arith
             | at_parent e is ↦
                 let less = may.known_within number place
-                (sym (ap (λ (k : Known). slice_get (needs_of (entry_of arguments k)) number) (known_by after i (parent_cell cells child parent known) is)) ∙ need) in omega arith
+                (sym (ap (λ (k : Known). slice_get (needs_of (entry_of store k)) number) (known_by after i (parent_cell cells child parent known) is)) ∙ need) in omega arith
             | elsewhere ne ne' is ↦
                 let less = may.sound.within i number place
-                (sym (ap (λ (c : Cell). slice_get (needs_of (entry_of arguments c.known)) number) is) ∙ need) in omega arith
+                (sym (ap (λ (c : Cell). slice_get (needs_of (entry_of store c.known)) number) is) ∙ need) in omega arith
           ];
     }
 
 -- A type fits what is known now where it fits what was known of both, and the added pairs are equal.
-pub record Splits (types : ℕ → TypeExpr) (arguments : List ℕ) (child parent both : Known) (added : List (ℕ × ℕ)) : Type 0 where
-  pub apart : (type : TypeExpr) → Fits types type (entry_of arguments both) → AllSame types added
-      → Fits types type (entry_of arguments child) × Fits types type (entry_of arguments parent)
-  pub together : (type : TypeExpr) → Fits types type (entry_of arguments child) → Fits types type (entry_of arguments parent)
-      → Fits types type (entry_of arguments both) × AllSame types added
+pub record Splits (types : ℕ → TypeExpr) (store : Store) (child parent both : Known) (added : List (ℕ × ℕ)) : Type 0 where
+  pub apart : (type : TypeExpr) → Fits types type (entry_of store both) → AllSame types added
+      → Fits types type (entry_of store child) × Fits types type (entry_of store parent)
+  pub together : (type : TypeExpr) → Fits types type (entry_of store child) → Fits types type (entry_of store parent)
+      → Fits types type (entry_of store both) × AllSame types added
 
-pub attached_before : (arguments : List ℕ) (cells : List Cell) (child parent : ℕ) (known : Known) (added : List (ℕ × ℕ)) → MayAttach arguments cells child parent known
-    → (types : ℕ → TypeExpr) → Splits types arguments (known_at cells child) (known_at cells parent) known added
-    → Solves (entries_of arguments (attached cells child parent known)) types → AllSame types added
-    → Solves (entries_of arguments cells) types × (types child ≡ types parent)
-attached_before arguments cells child parent known added may types splits solves same =
+pub attached_before : (store : Store) (cells : List Cell) (child parent : ℕ) (known : Known) (added : List (ℕ × ℕ)) → MayAttach store cells child parent known
+    → (types : ℕ → TypeExpr) → Splits types store (known_at cells child) (known_at cells parent) known added
+    → Solves (entries_of store (attached cells child parent known)) types → AllSame types added
+    → Solves (entries_of store cells) types × (types child ≡ types parent)
+attached_before store cells child parent known added may types splits solves same =
     let after : List Cell = attached cells child parent known in
     let link : types child ≡ types parent = elim (attached_at cells child parent known may.child_here may.parent_here may.apart child) [
-      | at_child e is ↦ subst (λ (k : Known). Agrees types child (entry_of arguments k)) (known_by after child (child_cell cells child parent) is) (solves_at arguments after types solves child)
+      | at_child e is ↦ subst (λ (k : Known). Agrees types child (entry_of store k)) (known_by after child (child_cell cells child parent) is) (solves_at store after types solves child)
       | at_parent e is ↦ absurd (may.apart e)
       | elsewhere ne ne' is ↦ absurd (ne refl)
     ] in
-    let both : Fits types (types parent) (entry_of arguments known) = elim (attached_at cells child parent known may.child_here may.parent_here may.apart parent) [
+    let both : Fits types (types parent) (entry_of store known) = elim (attached_at cells child parent known may.child_here may.parent_here may.apart parent) [
       | at_child e is ↦ absurd (may.apart (sym e))
-      | at_parent e is ↦ fits types parent (entry_of arguments known)
-          (subst (λ (k : Known). Agrees types parent (entry_of arguments k)) (known_by after parent (parent_cell cells child parent known) is) (solves_at arguments after types solves parent))
+      | at_parent e is ↦ fits types parent (entry_of store known)
+          (subst (λ (k : Known). Agrees types parent (entry_of store k)) (known_by after parent (parent_cell cells child parent known) is) (solves_at store after types solves parent))
       | elsewhere ne ne' is ↦ absurd (ne' refl)
     ] in
     let parts = splits.apart (types parent) both same in (
-      solves_all arguments cells types (λ i.
+      solves_all store cells types (λ i.
           elim (attached_at cells child parent known may.child_here may.parent_here may.apart i) [
-            | at_child e is ↦ subst (λ (k : ℕ). Agrees types k (entry_of arguments (known_at cells k))) (sym e)
-                (agrees_by types child (entry_of arguments (known_at cells child)) (fits_at types (entry_of arguments (known_at cells child)) (types parent) (types child) (sym link) parts.0))
-            | at_parent e is ↦ subst (λ (k : ℕ). Agrees types k (entry_of arguments (known_at cells k))) (sym e)
-                (agrees_by types parent (entry_of arguments (known_at cells parent)) parts.1)
-            | elsewhere ne ne' is ↦ subst (λ (c : Cell). Agrees types i (entry_of arguments c.known)) is (solves_at arguments after types solves i)
+            | at_child e is ↦ subst (λ (k : ℕ). Agrees types k (entry_of store (known_at cells k))) (sym e)
+                (agrees_by types child (entry_of store (known_at cells child)) (fits_at types (entry_of store (known_at cells child)) (types parent) (types child) (sym link) parts.0))
+            | at_parent e is ↦ subst (λ (k : ℕ). Agrees types k (entry_of store (known_at cells k))) (sym e)
+                (agrees_by types parent (entry_of store (known_at cells parent)) parts.1)
+            | elsewhere ne ne' is ↦ subst (λ (c : Cell). Agrees types i (entry_of store c.known)) is (solves_at store after types solves i)
           ]),
       link,
     )
 
-pub attached_after : (arguments : List ℕ) (cells : List Cell) (child parent : ℕ) (known : Known) (added : List (ℕ × ℕ)) → MayAttach arguments cells child parent known
-    → (types : ℕ → TypeExpr) → Splits types arguments (known_at cells child) (known_at cells parent) known added
-    → Solves (entries_of arguments cells) types → types child ≡ types parent
-    → Solves (entries_of arguments (attached cells child parent known)) types × AllSame types added
-attached_after arguments cells child parent known added may types splits solves link =
+pub attached_after : (store : Store) (cells : List Cell) (child parent : ℕ) (known : Known) (added : List (ℕ × ℕ)) → MayAttach store cells child parent known
+    → (types : ℕ → TypeExpr) → Splits types store (known_at cells child) (known_at cells parent) known added
+    → Solves (entries_of store cells) types → types child ≡ types parent
+    → Solves (entries_of store (attached cells child parent known)) types × AllSame types added
+attached_after store cells child parent known added may types splits solves link =
     let after : List Cell = attached cells child parent known in
-    let child_fit : Fits types (types parent) (entry_of arguments (known_at cells child)) =
-    fits_at types (entry_of arguments (known_at cells child)) (types child) (types parent) link (fits types child (entry_of arguments (known_at cells child)) (solves_at arguments cells types solves child)) in
-    let parent_fit : Fits types (types parent) (entry_of arguments (known_at cells parent)) =
-    fits types parent (entry_of arguments (known_at cells parent)) (solves_at arguments cells types solves parent) in
+    let child_fit : Fits types (types parent) (entry_of store (known_at cells child)) =
+    fits_at types (entry_of store (known_at cells child)) (types child) (types parent) link (fits types child (entry_of store (known_at cells child)) (solves_at store cells types solves child)) in
+    let parent_fit : Fits types (types parent) (entry_of store (known_at cells parent)) =
+    fits types parent (entry_of store (known_at cells parent)) (solves_at store cells types solves parent) in
     let both = splits.together (types parent) child_fit parent_fit in (
-      solves_all arguments after types (λ i.
+      solves_all store after types (λ i.
           elim (attached_at cells child parent known may.child_here may.parent_here may.apart i) [
-            | at_child e is ↦ subst (λ (k : Known). Agrees types i (entry_of arguments k)) (sym (known_by after i (child_cell cells child parent) is))
+            | at_child e is ↦ subst (λ (k : Known). Agrees types i (entry_of store k)) (sym (known_by after i (child_cell cells child parent) is))
                 (ap types e ∙ link)
-            | at_parent e is ↦ subst (λ (k : Known). Agrees types i (entry_of arguments k)) (sym (known_by after i (parent_cell cells child parent known) is))
-                (subst (λ (k : ℕ). Agrees types k (entry_of arguments known)) (sym e) (agrees_by types parent (entry_of arguments known) both.0))
-            | elsewhere ne ne' is ↦ subst (λ (c : Cell). Agrees types i (entry_of arguments c.known)) (sym is) (solves_at arguments cells types solves i)
+            | at_parent e is ↦ subst (λ (k : Known). Agrees types i (entry_of store k)) (sym (known_by after i (parent_cell cells child parent known) is))
+                (subst (λ (k : ℕ). Agrees types k (entry_of store known)) (sym e) (agrees_by types parent (entry_of store known) both.0))
+            | elsewhere ne ne' is ↦ subst (λ (c : Cell). Agrees types i (entry_of store c.known)) (sym is) (solves_at store cells types solves i)
           ]),
       both.1,
     )

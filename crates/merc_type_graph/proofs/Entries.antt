@@ -2,6 +2,7 @@
 use Rattle.std.proofs.Common.{◌≡◌, ℕ, zero, suc, ◌+◌, ◌<◌, List, [], ◌∷◌, ◌++◌, length, get_or, refl, sym, ap, subst, ◌∙◌, arith, add-zero}
 use Rattle.std.proofs.Math.ListN.{get_or-map}
 use Rattle.merc_tree.specs.Types.{TypeExpr}
+use Rattle.merc_type_graph.specs.declared.store.Store.{Store}
 use Rattle.merc_type_graph.specs.Solutions.{Entry, Unknown, Agrees, Solves, SolvesFrom}
 use Rattle.merc_type_graph.specs.Cells.{entry_of, entries_of, known_at, blank}
 use Rattle.merc_type_graph.specs.declared.cell.Cell.{Cell}
@@ -25,25 +26,25 @@ solves_from_all place (first ∷ rest) types agree = (
       subst (λ (p : ℕ). Agrees types p (get_or rest i Unknown)) e (agree (suc i))),
 )
 
-entry_at : (arguments : List ℕ) (cells : List Cell) (i : ℕ) → get_or (entries_of arguments cells) i Unknown ≡ entry_of arguments (known_at cells i)
-entry_at arguments cells i = get_or-map (λ (c : Cell). entry_of arguments c.known) cells i blank
+entry_at : (store : Store) (cells : List Cell) (i : ℕ) → get_or (entries_of store cells) i Unknown ≡ entry_of store (known_at cells i)
+entry_at store cells i = get_or-map (λ (c : Cell). entry_of store c.known) cells i blank
 
 -- a solution agrees with what is known at each place
-pub solves_at : (arguments : List ℕ) (cells : List Cell) (types : ℕ → TypeExpr) → Solves (entries_of arguments cells) types → (i : ℕ)
-    → Agrees types i (entry_of arguments (known_at cells i))
-solves_at arguments cells types solves i =
+pub solves_at : (store : Store) (cells : List Cell) (types : ℕ → TypeExpr) → Solves (entries_of store cells) types → (i : ℕ)
+    → Agrees types i (entry_of store (known_at cells i))
+solves_at store cells types solves i =
     let zero_i : 0 + i ≡ i = omega arith in
-    subst (Agrees types i) (entry_at arguments cells i)
-    (subst (λ (p : ℕ). Agrees types p (get_or (entries_of arguments cells) i Unknown)) zero_i (solves_from_at 0 (entries_of arguments cells) types solves i))
+    subst (Agrees types i) (entry_at store cells i)
+    (subst (λ (p : ℕ). Agrees types p (get_or (entries_of store cells) i Unknown)) zero_i (solves_from_at 0 (entries_of store cells) types solves i))
 
 -- and types that agree with all of them are a solution
-pub solves_all : (arguments : List ℕ) (cells : List Cell) (types : ℕ → TypeExpr)
-    → ((i : ℕ) → Agrees types i (entry_of arguments (known_at cells i))) → Solves (entries_of arguments cells) types
-solves_all arguments cells types agree =
-    solves_from_all 0 (entries_of arguments cells) types (λ i.
+pub solves_all : (store : Store) (cells : List Cell) (types : ℕ → TypeExpr)
+    → ((i : ℕ) → Agrees types i (entry_of store (known_at cells i))) → Solves (entries_of store cells) types
+solves_all store cells types agree =
+    solves_from_all 0 (entries_of store cells) types (λ i.
     let zero_i : i ≡ 0 + i = omega arith in
-    subst (λ (p : ℕ). Agrees types p (get_or (entries_of arguments cells) i Unknown)) zero_i
-    (subst (Agrees types i) (sym (entry_at arguments cells i)) (agree i)))
+    subst (λ (p : ℕ). Agrees types p (get_or (entries_of store cells) i Unknown)) zero_i
+    (subst (Agrees types i) (sym (entry_at store cells i)) (agree i)))
 
 -- one more entry at the end
 pub solves_from-append : (place : ℕ) (entries : List Entry) (entry : Entry) (types : ℕ → TypeExpr)

@@ -3,36 +3,22 @@ use Rattle.std.proofs.Common.{◌≡◌, ℕ, suc, ◌+◌, ◌≤◌, Bool, tru
 use Rattle.std.specs.Prelude.{◌==◌, ◌&&◌, if◌then◌else◌}
 use Rattle.std.proofs.lemmas.Bool.Decides.{nat_tests}
 use Rattle.merc_tree.specs.Types.{TypeExpr, TypeExprs, IntType, TextType, TypeVariable, TypeApplication, types_of, more_types}
-use Rattle.merc_type_graph.specs.Solutions.{Entry, Unknown, Own, IntEntry, TextEntry, WholeEntry, Applied, Link, Agrees}
+use Rattle.merc_type_graph.specs.declared.store.Store.{Store}
+use Rattle.merc_type_graph.specs.Solutions.{Entry, Unknown, WholeEntry, Applied, Link, Agrees}
 use Rattle.merc_type_graph.specs.Cells.{entry_of, root_mark, IsStored}
+use Rattle.merc_type_graph.specs.Fixing.{Fits}
 use Rattle.merc_type_graph.specs.Joining.{joined, arguments_of, is_whole, zipped, AllSame}
 use Rattle.merc_type_graph.specs.declared.cell.Known.{Known}
-use Rattle.merc_type_graph.specs.declared.cell.Known.TheVariants.{Nothing, Variable, Int, Text, Whole, Named, SameAs}
-
--- a type, at whatever place, agrees with an entry
-abbrev pub Fits : (ℕ → TypeExpr) → TypeExpr → Entry → Type 0
-Fits types type Unknown = Unit {0}
-Fits types type (Own name) = type ≡ TypeVariable name
-Fits types type IntEntry = type ≡ IntType
-Fits types type TextEntry = type ≡ TextType
-Fits types type (WholeEntry whole) = type ≡ whole
-Fits types type (Applied name arguments) = type ≡ TypeApplication name (types_of (map types arguments))
-Fits types type (Link other) = type ≡ types other
+use Rattle.merc_type_graph.specs.declared.cell.Known.TheVariants.{Nothing, Whole, Named, SameAs}
 
 pub fits : (types : ℕ → TypeExpr) (place : ℕ) (entry : Entry) → Agrees types place entry → Fits types (types place) entry
 fits types place Unknown agrees = tt
-fits types place (Own name) agrees = agrees
-fits types place IntEntry agrees = agrees
-fits types place TextEntry agrees = agrees
 fits types place (WholeEntry whole) agrees = agrees
 fits types place (Applied name arguments) agrees = agrees
 fits types place (Link other) agrees = agrees
 
 pub agrees_by : (types : ℕ → TypeExpr) (place : ℕ) (entry : Entry) → Fits types (types place) entry → Agrees types place entry
 agrees_by types place Unknown fit = tt
-agrees_by types place (Own name) fit = fit
-agrees_by types place IntEntry fit = fit
-agrees_by types place TextEntry fit = fit
 agrees_by types place (WholeEntry whole) fit = fit
 agrees_by types place (Applied name arguments) fit = fit
 agrees_by types place (Link other) fit = fit
@@ -87,8 +73,8 @@ equal_by m n e = grind (arith, nat_tests)
 differ_by : (m n : ℕ) → (m == n) ≡ false → m ≡ n → ⊥
 differ_by m n e h = absurd (grind (arith, nat_tests))
 
-pub length_part : (arguments : List ℕ) (first count : ℕ) → first + count ≤ length arguments → length (take count (drop first arguments)) ≡ count
-length_part arguments first count within = omega (arith, length-take count (drop first arguments), length-drop first arguments)
+pub length_part : (store : Store) (first count : ℕ) → first + count ≤ length store.arguments.items → length (take count (drop first store.arguments.items)) ≡ count
+length_part store first count within = omega (arith, length-take count (drop first store.arguments.items), length-drop first store.arguments.items)
 
 types_length : (types : ℕ → TypeExpr) (ones others : List ℕ) → types_of (map types ones) ≡ types_of (map types others) → length ones ≡ length others
 types_length types [] [] e = refl
@@ -99,70 +85,47 @@ types_length types (one ∷ ones) (other ∷ others) e =
     ap suc (types_length types ones others there)
 
 -- A type fits what is known of it twice where it fits both, and the arguments are equal in pairs.
-pub record FitsBoth (types : ℕ → TypeExpr) (arguments : List ℕ) (one other both : Known) : Type 0 where
-  pub apart : (type : TypeExpr) → Fits types type (entry_of arguments both) → AllSame types (zipped (arguments_of arguments one) (arguments_of arguments other))
-      → Fits types type (entry_of arguments one) × Fits types type (entry_of arguments other)
-  pub together : (type : TypeExpr) → Fits types type (entry_of arguments one) → Fits types type (entry_of arguments other)
-      → Fits types type (entry_of arguments both) × AllSame types (zipped (arguments_of arguments one) (arguments_of arguments other))
+pub record FitsBoth (types : ℕ → TypeExpr) (store : Store) (one other both : Known) : Type 0 where
+  pub apart : (type : TypeExpr) → Fits types type (entry_of store both) → AllSame types (zipped (arguments_of store one) (arguments_of store other))
+      → Fits types type (entry_of store one) × Fits types type (entry_of store other)
+  pub together : (type : TypeExpr) → Fits types type (entry_of store one) → Fits types type (entry_of store other)
+      → Fits types type (entry_of store both) × AllSame types (zipped (arguments_of store one) (arguments_of store other))
 
-by_other : (types : ℕ → TypeExpr) (arguments : List ℕ) (other both : Known) → other ≡ both → FitsBoth types arguments Nothing other both
-by_other types arguments other both e = record {
-  apart = λ type fit same. (tt, subst (λ (k : Known). Fits types type (entry_of arguments k)) (sym e) fit);
-  together = λ type fit fit'. (subst (λ (k : Known). Fits types type (entry_of arguments k)) e fit', tt);
+by_other : (types : ℕ → TypeExpr) (store : Store) (other both : Known) → other ≡ both → FitsBoth types store Nothing other both
+by_other types store other both e = record {
+  apart = λ type fit same. (tt, subst (λ (k : Known). Fits types type (entry_of store k)) (sym e) fit);
+  together = λ type fit fit'. (subst (λ (k : Known). Fits types type (entry_of store k)) e fit', tt);
 }
 
-by_one : (types : ℕ → TypeExpr) (arguments : List ℕ) (one both : Known) → one ≡ both → FitsBoth types arguments one Nothing both
-by_one types arguments one both e = record {
-  apart = λ type fit same. (subst (λ (k : Known). Fits types type (entry_of arguments k)) (sym e) fit, tt);
+by_one : (types : ℕ → TypeExpr) (store : Store) (one both : Known) → one ≡ both → FitsBoth types store one Nothing both
+by_one types store one both e = record {
+  apart = λ type fit same. (subst (λ (k : Known). Fits types type (entry_of store k)) (sym e) fit, tt);
   together = λ type fit fit'. (
-    subst (λ (k : Known). Fits types type (entry_of arguments k)) e fit,
-    subst (AllSame types) (sym (zipped_nil (arguments_of arguments one))) tt,
+    subst (λ (k : Known). Fits types type (entry_of store k)) e fit,
+    subst (AllSame types) (sym (zipped_nil (arguments_of store one))) tt,
   );
 }
 
-by_variable : (types : ℕ → TypeExpr) (arguments : List ℕ) (m n : ℕ) (both : Known) → (m == n) ≡ true → Variable m ≡ both
-    → FitsBoth types arguments (Variable m) (Variable n) both
-by_variable types arguments m n both test e =
-    let same_name : m ≡ n = equal_by m n test in
-    let name_type : TypeVariable m ≡ TypeVariable n = ap TypeVariable same_name in
-    record {
-      apart = λ type fit same.
-          let here : Fits types type (Own m) = subst (λ (k : Known). Fits types type (entry_of arguments k)) (sym e) fit in
-          (here, here ∙ name_type);
-      together = λ type fit fit'. (subst (λ (k : Known). Fits types type (entry_of arguments k)) e fit, tt);
-    }
-
-by_itself : (types : ℕ → TypeExpr) (arguments : List ℕ) (one both : Known) → zipped (arguments_of arguments one) (arguments_of arguments one) ≡ [] → one ≡ both
-    → FitsBoth types arguments one one both
-by_itself types arguments one both empty e = record {
-  apart = λ type fit same.
-      let here : Fits types type (entry_of arguments one) = subst (λ (k : Known). Fits types type (entry_of arguments k)) (sym e) fit in (here, here);
-  together = λ type fit fit'. (subst (λ (k : Known). Fits types type (entry_of arguments k)) e fit, subst (AllSame types) (sym empty) tt);
-}
-
-by_name : (types : ℕ → TypeExpr) (arguments : List ℕ) (f s c g t d : ℕ) (both : Known) → s + c ≤ length arguments → t + d ≤ length arguments
-    → ((f == g) && (c == d)) ≡ true → Named f s c ≡ both → FitsBoth types arguments (Named f s c) (Named g t d) both
-by_name types arguments f s c g t d both within within' test e =
+by_name : (types : ℕ → TypeExpr) (store : Store) (f s c g t d : ℕ) (both : Known) → s + c ≤ length store.arguments.items → t + d ≤ length store.arguments.items
+    → ((f == g) && (c == d)) ≡ true → Named f s c ≡ both → FitsBoth types store (Named f s c) (Named g t d) both
+by_name types store f s c g t d both within within' test e =
     let tests = and_true (f == g) (c == d) test in
     let same_name : f ≡ g = equal_by f g tests.0 in
     let same_count : c ≡ d = equal_by c d tests.1 in
-    let ones : List ℕ = take c (drop s arguments) in
-    let others : List ℕ = take d (drop t arguments) in
-    let count : length ones ≡ length others = length_part arguments s c within ∙ same_count ∙ sym (length_part arguments t d within') in
+    let ones : List ℕ = take c (drop s store.arguments.items) in
+    let others : List ℕ = take d (drop t store.arguments.items) in
+    let count : length ones ≡ length others = length_part store s c within ∙ same_count ∙ sym (length_part store t d within') in
     record {
       apart = λ type fit same.
-          let here : Fits types type (Applied f ones) = subst (λ (k : Known). Fits types type (entry_of arguments k)) (sym e) fit in
+          let here : Fits types type (Applied f ones) = subst (λ (k : Known). Fits types type (entry_of store k)) (sym e) fit in
           let all : types_of (map types ones) ≡ types_of (map types others) = same_arguments types ones others count same in
           (here, here ∙ ap (λ (n : ℕ). TypeApplication n (types_of (map types ones))) same_name ∙ ap (TypeApplication g) all);
       together = λ type fit fit'.
           let one_type : type ≡ TypeApplication f (types_of (map types ones)) = fit in
           let other_type : type ≡ TypeApplication g (types_of (map types others)) = fit' in
           let all : types_of (map types ones) ≡ types_of (map types others) = cc in
-          (subst (λ (k : Known). Fits types type (entry_of arguments k)) e fit, all_same_arguments types ones others all);
+          (subst (λ (k : Known). Fits types type (entry_of store k)) e fit, all_same_arguments types ones others all);
     }
-
-variables_same : (type : TypeExpr) (m n : ℕ) → type ≡ TypeVariable m → type ≡ TypeVariable n → m ≡ n
-variables_same type m n e e' = cc
 
 applications_same_name : (type : TypeExpr) (f g : ℕ) (xs ys : TypeExprs) → type ≡ TypeApplication f xs → type ≡ TypeApplication g ys → f ≡ g
 applications_same_name type f g xs ys e e' = cc
@@ -170,79 +133,31 @@ applications_same_name type f g xs ys e e' = cc
 applications_same_arguments : (type : TypeExpr) (f g : ℕ) (xs ys : TypeExprs) → type ≡ TypeApplication f xs → type ≡ TypeApplication g ys → xs ≡ ys
 applications_same_arguments type f g xs ys e e' = cc
 
-pub fits_both : (types : ℕ → TypeExpr) (arguments : List ℕ) (one other both : Known) → IsStored (length arguments) one → IsStored (length arguments) other
-    → joined one other ≡ Some both → FitsBoth types arguments one other both
-fits_both types arguments Nothing other both within within' e = by_other types arguments other both (cc)
-fits_both types arguments (Variable m) Nothing both within within' e = by_one types arguments (Variable m) both (cc)
-fits_both types arguments (Variable m) (Variable n) both within within' e = let c = chosen (m == n) (Variable m) both e in by_variable types arguments m n both c.0 c.1
-fits_both types arguments (Variable m) Int both within within' e = absurd (cc)
-fits_both types arguments (Variable m) Text both within within' e = absurd (cc)
-fits_both types arguments (Variable m) (Named g t d) both within within' e = absurd (cc)
-fits_both types arguments (Variable m) (Whole u) both within within' e = absurd (cc)
-fits_both types arguments (Variable m) (SameAs q) both within within' e = absurd (cc)
-fits_both types arguments Int Nothing both within within' e = by_one types arguments Int both (cc)
-fits_both types arguments Int (Variable n) both within within' e = absurd (cc)
-fits_both types arguments Int Int both within within' e = by_itself types arguments Int both refl (cc)
-fits_both types arguments Int Text both within within' e = absurd (cc)
-fits_both types arguments Int (Named g t d) both within within' e = absurd (cc)
-fits_both types arguments Int (Whole u) both within within' e = absurd (cc)
-fits_both types arguments Int (SameAs q) both within within' e = absurd (cc)
-fits_both types arguments Text Nothing both within within' e = by_one types arguments Text both (cc)
-fits_both types arguments Text (Variable n) both within within' e = absurd (cc)
-fits_both types arguments Text Int both within within' e = absurd (cc)
-fits_both types arguments Text Text both within within' e = by_itself types arguments Text both refl (cc)
-fits_both types arguments Text (Named g t d) both within within' e = absurd (cc)
-fits_both types arguments Text (Whole u) both within within' e = absurd (cc)
-fits_both types arguments Text (SameAs q) both within within' e = absurd (cc)
-fits_both types arguments (Named f s c) Nothing both within within' e = by_one types arguments (Named f s c) both (cc)
-fits_both types arguments (Named f s c) (Variable n) both within within' e = absurd (cc)
-fits_both types arguments (Named f s c) Int both within within' e = absurd (cc)
-fits_both types arguments (Named f s c) Text both within within' e = absurd (cc)
-fits_both types arguments (Named f s c) (Named g t d) both within within' e = let w = chosen ((f == g) && (c == d)) (Named f s c) both e in by_name types arguments f s c g t d both within within' w.0 w.1
-fits_both types arguments (Named f s c) (Whole u) both within within' e = absurd (cc)
-fits_both types arguments (Named f s c) (SameAs q) both within within' e = absurd (cc)
-fits_both types arguments (Whole w) other both within within' e = absurd (cc)
-fits_both types arguments (SameAs p) other both within within' e = absurd (cc)
+pub fits_both : (types : ℕ → TypeExpr) (store : Store) (one other both : Known) → IsStored store one → IsStored store other
+    → joined one other ≡ Some both → FitsBoth types store one other both
+fits_both types store Nothing other both within within' e = by_other types store other both (cc)
+fits_both types store (Named f s c) Nothing both within within' e = by_one types store (Named f s c) both (cc)
+fits_both types store (Named f s c) (Named g t d) both within within' e = let w = chosen ((f == g) && (c == d)) (Named f s c) both e in by_name types store f s c g t d both within within' w.0 w.1
+fits_both types store (Named f s c) (Whole u) both within within' e = absurd (cc)
+fits_both types store (Named f s c) (SameAs q) both within within' e = absurd (cc)
+fits_both types store (Whole w) other both within within' e = absurd (cc)
+fits_both types store (SameAs p) other both within within' e = absurd (cc)
 
 -- and no type fits both where they clash
-pub fits_none : (types : ℕ → TypeExpr) (arguments : List ℕ) (one other : Known) → root_mark one ≡ 1 → root_mark other ≡ 1 → is_whole one ≡ false → is_whole other ≡ false → IsStored (length arguments) one
-    → IsStored (length arguments) other → joined one other ≡ None → (type : TypeExpr) → Fits types type (entry_of arguments one) → Fits types type (entry_of arguments other) → ⊥
-fits_none types arguments Nothing other root root' partial partial' within within' e type fit fit' = absurd (cc)
-fits_none types arguments (Variable m) Nothing root root' partial partial' within within' e type fit fit' = absurd (cc)
-fits_none types arguments (Variable m) (Variable n) root root' partial partial' within within' e type fit fit' = differ_by m n (not_chosen (m == n) (Variable m) e) (variables_same type m n fit fit')
-fits_none types arguments (Variable m) Int root root' partial partial' within within' e type fit fit' = absurd (cc)
-fits_none types arguments (Variable m) Text root root' partial partial' within within' e type fit fit' = absurd (cc)
-fits_none types arguments (Variable m) (Named g t d) root root' partial partial' within within' e type fit fit' = absurd (cc)
-fits_none types arguments (Variable m) (Whole u) root root' partial partial' within within' e type fit fit' = absurd (cc)
-fits_none types arguments (Variable m) (SameAs q) root root' partial partial' within within' e type fit fit' = absurd (omega arith)
-fits_none types arguments Int Nothing root root' partial partial' within within' e type fit fit' = absurd (cc)
-fits_none types arguments Int (Variable n) root root' partial partial' within within' e type fit fit' = absurd (cc)
-fits_none types arguments Int Int root root' partial partial' within within' e type fit fit' = absurd (cc)
-fits_none types arguments Int Text root root' partial partial' within within' e type fit fit' = absurd (cc)
-fits_none types arguments Int (Named g t d) root root' partial partial' within within' e type fit fit' = absurd (cc)
-fits_none types arguments Int (Whole u) root root' partial partial' within within' e type fit fit' = absurd (cc)
-fits_none types arguments Int (SameAs q) root root' partial partial' within within' e type fit fit' = absurd (omega arith)
-fits_none types arguments Text Nothing root root' partial partial' within within' e type fit fit' = absurd (cc)
-fits_none types arguments Text (Variable n) root root' partial partial' within within' e type fit fit' = absurd (cc)
-fits_none types arguments Text Int root root' partial partial' within within' e type fit fit' = absurd (cc)
-fits_none types arguments Text Text root root' partial partial' within within' e type fit fit' = absurd (cc)
-fits_none types arguments Text (Named g t d) root root' partial partial' within within' e type fit fit' = absurd (cc)
-fits_none types arguments Text (Whole u) root root' partial partial' within within' e type fit fit' = absurd (cc)
-fits_none types arguments Text (SameAs q) root root' partial partial' within within' e type fit fit' = absurd (omega arith)
-fits_none types arguments (Named f s c) Nothing root root' partial partial' within within' e type fit fit' = absurd (cc)
-fits_none types arguments (Named f s c) (Variable n) root root' partial partial' within within' e type fit fit' = absurd (cc)
-fits_none types arguments (Named f s c) Int root root' partial partial' within within' e type fit fit' = absurd (cc)
-fits_none types arguments (Named f s c) Text root root' partial partial' within within' e type fit fit' = absurd (cc)
-fits_none types arguments (Named f s c) (Named g t d) root root' partial partial' within within' e type fit fit' =
+pub fits_none : (types : ℕ → TypeExpr) (store : Store) (one other : Known) → root_mark one ≡ 1 → root_mark other ≡ 1 → is_whole one ≡ false → is_whole other ≡ false → IsStored store one
+    → IsStored store other → joined one other ≡ None → (type : TypeExpr) → Fits types type (entry_of store one) → Fits types type (entry_of store other) → ⊥
+fits_none types store Nothing other root root' partial partial' within within' e type fit fit' = absurd (cc)
+fits_none types store (Named f s c) Nothing root root' partial partial' within within' e type fit fit' = absurd (cc)
+fits_none types store (Named f s c) (Named g t d) root root' partial partial' within within' e type fit fit' =
     elim (and_false (f == g) (c == d) (not_chosen ((f == g) && (c == d)) (Named f s c) e)) [
-      | inl names ↦ differ_by f g names (applications_same_name type f g (types_of (map types (take c (drop s arguments)))) (types_of (map types (take d (drop t arguments)))) fit fit')
+      | inl names ↦ differ_by f g names (applications_same_name type f g (types_of (map types (take c (drop s store.arguments.items)))) (types_of (map types (take d (drop t store.arguments.items)))) fit fit')
       | inr counts ↦ differ_by c d counts
-          (sym (length_part arguments s c within)
-          ∙ types_length types (take c (drop s arguments)) (take d (drop t arguments))
-          (applications_same_arguments type f g (types_of (map types (take c (drop s arguments)))) (types_of (map types (take d (drop t arguments)))) fit fit')
-          ∙ length_part arguments t d within')
+          (sym (length_part store s c within)
+          ∙ types_length types (take c (drop s store.arguments.items)) (take d (drop t store.arguments.items))
+          (applications_same_arguments type f g (types_of (map types (take c (drop s store.arguments.items)))) (types_of (map types (take d (drop t store.arguments.items)))) fit fit')
+          ∙ length_part store t d within')
     ]
-fits_none types arguments (Named f s c) (Whole u) root root' partial partial' within within' e type fit fit' = absurd (cc)
-fits_none types arguments (Named f s c) (SameAs q) root root' partial partial' within within' e type fit fit' = absurd (omega arith)
-fits_none types arguments (Whole w) other root root' partial partial' within within' e type fit fit' = absurd (cc)
-fits_none types arguments (SameAs p) other root root' partial partial' within within' e type fit fit' = absurd (omega arith)
+fits_none types store (Named f s c) (Whole u) root root' partial partial' within within' e type fit fit' = absurd (cc)
+fits_none types store (Named f s c) (SameAs q) root root' partial partial' within within' e type fit fit' = absurd (omega arith)
+fits_none types store (Whole w) other root root' partial partial' within within' e type fit fit' = absurd (cc)
+fits_none types store (SameAs p) other root root' partial partial' within within' e type fit fit' = absurd (omega arith)

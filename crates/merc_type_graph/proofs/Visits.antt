@@ -6,13 +6,14 @@ use Rattle.std.proofs.lemmas.Bool.Decides.{nat_tests}
 use Rattle.std.proofs.lemmas.Option.{slice_get_within}
 use Rattle.std.proofs.Math.Nat.{mul-le-mul_right}
 use Rattle.merc_tree.specs.Types.{TypeExpr, IntType, TextType, TypeVariable, TypeApplication, types_of}
-use Rattle.merc_type_graph.specs.Solutions.{Entry, Unknown, Own, IntEntry, TextEntry, WholeEntry, Applied, Link, Agrees, Solves}
+use Rattle.merc_type_graph.specs.declared.store.Store.{Store}
+use Rattle.merc_type_graph.specs.Solutions.{Entry, Unknown, WholeEntry, Applied, Link, Agrees, Solves}
 use Rattle.merc_type_graph.specs.Cells.{entry_of, entries_of, needs_of, known_at, IsSound}
 use Rattle.merc_type_graph.specs.Visiting.{needs_at, mark_at, weight, Passed, IsSettled, IsVisiting, new_mark, news, Advance}
 use Rattle.merc_type_graph.specs.declared.visiting.Mark.{Mark}
 use Rattle.merc_type_graph.specs.declared.visiting.Mark.TheVariants.{New, Open, Done}
 use Rattle.merc_type_graph.specs.declared.cell.Known.{Known}
-use Rattle.merc_type_graph.specs.declared.cell.Known.TheVariants.{Nothing, Variable, Int, Text, Whole, Named, SameAs}
+use Rattle.merc_type_graph.specs.declared.cell.Known.TheVariants.{Nothing, Whole, Named, SameAs}
 use Rattle.merc_type_graph.specs.declared.cell.Cell.{Cell}
 use Rattle.merc_type_graph.proofs.Attaching.{same_or_not}
 use Rattle.merc_type_graph.proofs.Weights.{lighter}
@@ -40,9 +41,6 @@ map_alike types types' (first ∷ rest) alike =
 agrees_alike : (types types' : ℕ → TypeExpr) (i : ℕ) (entry : Entry) → types' i ≡ types i
     → ((number found : ℕ) → slice_get (needs_of entry) number ≡ Some found → types' found ≡ types found) → Agrees types i entry → Agrees types' i entry
 agrees_alike types types' i Unknown here alike agrees = tt
-agrees_alike types types' i (Own name) here alike agrees = here ∙ agrees
-agrees_alike types types' i IntEntry here alike agrees = here ∙ agrees
-agrees_alike types types' i TextEntry here alike agrees = here ∙ agrees
 agrees_alike types types' i (WholeEntry whole) here alike agrees = here ∙ agrees
 agrees_alike types types' i (Applied name arguments) here alike agrees =
     here ∙ agrees ∙ sym (ap (λ (l : List TypeExpr). TypeApplication name (types_of l)) (map_alike types types' arguments alike))
@@ -51,9 +49,6 @@ agrees_alike types types' i (Link place) here alike agrees = here ∙ agrees ∙
 -- a type that agrees with an entry, where those that it needs are given
 abbrev pub type_for : (ℕ → TypeExpr) → Entry → TypeExpr
 type_for types Unknown = IntType
-type_for types (Own name) = TypeVariable name
-type_for types IntEntry = IntType
-type_for types TextEntry = TextType
 type_for types (WholeEntry whole) = whole
 type_for types (Applied name arguments) = TypeApplication name (types_of (map types arguments))
 type_for types (Link place) = types place
@@ -61,9 +56,6 @@ type_for types (Link place) = types place
 agrees_new : (types types' : ℕ → TypeExpr) (i : ℕ) (entry : Entry) → types' i ≡ type_for types entry
     → ((number found : ℕ) → slice_get (needs_of entry) number ≡ Some found → types' found ≡ types found) → Agrees types' i entry
 agrees_new types types' i Unknown here alike = tt
-agrees_new types types' i (Own name) here alike = here
-agrees_new types types' i IntEntry here alike = here
-agrees_new types types' i TextEntry here alike = here
 agrees_new types types' i (WholeEntry whole) here alike = here
 agrees_new types types' i (Applied name arguments) here alike =
     here ∙ sym (ap (λ (l : List TypeExpr). TypeApplication name (types_of l)) (map_alike types types' arguments alike))
@@ -93,11 +85,11 @@ news-set [] place mark here = absurd (omega arith)
 news-set (first ∷ rest) zero mark here = omega arith
 news-set (first ∷ rest) (suc place) mark here = let e = news-set rest place mark (omega arith) in omega arith
 
-passed_more : (arguments : List ℕ) (cells : List Cell) (marks marks' : List Mark) (frames : List (ℕ × ℕ))
-    → ((i : ℕ) → mark_at marks i ≡ Done → mark_at marks' i ≡ Done) → Passed arguments cells marks frames → Passed arguments cells marks' frames
-passed_more arguments cells marks marks' [] kept passed = tt
-passed_more arguments cells marks marks' (frame ∷ frames) kept passed =
-    (passed.0, (λ number place less need. kept place (passed.1 number place less need)), passed_more arguments cells marks marks' frames kept passed.2)
+passed_more : (store : Store) (cells : List Cell) (marks marks' : List Mark) (frames : List (ℕ × ℕ))
+    → ((i : ℕ) → mark_at marks i ≡ Done → mark_at marks' i ≡ Done) → Passed store cells marks frames → Passed store cells marks' frames
+passed_more store cells marks marks' [] kept passed = tt
+passed_more store cells marks marks' (frame ∷ frames) kept passed =
+    (passed.0, (λ number place less need. kept place (passed.1 number place less need)), passed_more store cells marks marks' frames kept passed.2)
 
 -- needs
 
@@ -109,33 +101,27 @@ none_past (first ∷ rest) (suc number) e = let less = none_past rest number e i
 same_found : (places : List ℕ) (n m p q : ℕ) → n ≡ m → slice_get places n ≡ Some p → slice_get places m ≡ Some q → p ≡ q
 same_found places n m p q e f g = let h : slice_get places n ≡ Some q = ap (slice_get places) e ∙ g in cc
 
-count_needs : (arguments : List ℕ) (known : Known) → length (needs_of (entry_of arguments known)) ≤ length arguments + 1
-count_needs arguments Nothing = omega arith
-count_needs arguments (Variable name) = omega arith
-count_needs arguments Int = omega arith
-count_needs arguments Text = omega arith
-count_needs arguments (Whole whole) = omega arith
-count_needs arguments (Named name first count) = omega (arith, length-take count (drop first arguments), length-drop first arguments)
-count_needs arguments (SameAs place) = omega arith
+count_needs : (store : Store) (known : Known) → length (needs_of (entry_of store known)) ≤ length store.arguments.items + 1
+count_needs store Nothing = omega arith
+count_needs store (Whole whole) = omega arith
+count_needs store (Named name first count) = omega (arith, length-take count (drop first store.arguments.items), length-drop first store.arguments.items)
+count_needs store (SameAs place) = omega arith
 
-pub next_small : (arguments : List ℕ) (known : Known) (next place : ℕ) → slice_get (needs_of (entry_of arguments known)) next ≡ Some place
-    → (next < length arguments) ⊎ (next ≡ 0)
-next_small arguments Nothing next place e = absurd (cc)
-next_small arguments (Variable name) next place e = absurd (cc)
-next_small arguments Int next place e = absurd (cc)
-next_small arguments Text next place e = absurd (cc)
-next_small arguments (Whole whole) next place e = absurd (cc)
-next_small arguments (Named name first count) next place e =
-    let within = slice_get_within (take count (drop first arguments)) next place e in
-    inl (omega (arith, length-take count (drop first arguments), length-drop first arguments))
-next_small arguments (SameAs to) zero place e = inr refl
-next_small arguments (SameAs to) (suc next) place e = absurd (cc)
+pub next_small : (store : Store) (known : Known) (next place : ℕ) → slice_get (needs_of (entry_of store known)) next ≡ Some place
+    → (next < length store.arguments.items) ⊎ (next ≡ 0)
+next_small store Nothing next place e = absurd (cc)
+next_small store (Whole whole) next place e = absurd (cc)
+next_small store (Named name first count) next place e =
+    let within = slice_get_within (take count (drop first store.arguments.items)) next place e in
+    inl (omega (arith, length-take count (drop first store.arguments.items), length-drop first store.arguments.items))
+next_small store (SameAs to) zero place e = inr refl
+next_small store (SameAs to) (suc next) place e = absurd (cc)
 
 -- Where all needs of a place are done, it is done.
-settled_done : (arguments : List ℕ) (cells : List Cell) (marks : List Mark) (place : ℕ) → IsSettled arguments cells marks → place < length cells
-    → ((number found : ℕ) → slice_get (needs_at arguments cells place) number ≡ Some found → mark_at marks found ≡ Done)
-    → IsSettled arguments cells (set marks place Done)
-settled_done arguments cells marks place settled here done =
+settled_done : (store : Store) (cells : List Cell) (marks : List Mark) (place : ℕ) → IsSettled store cells marks → place < length cells
+    → ((number found : ℕ) → slice_get (needs_at store cells place) number ≡ Some found → mark_at marks found ≡ Done)
+    → IsSettled store cells (set marks place Done)
+settled_done store cells marks place settled here done =
     let counted : length (set marks place Done) ≡ length cells = length-set marks place Done ∙ settled.count in
     let inside : place < length marks = let count = settled.count in omega arith in
     let kept : (i : ℕ) → mark_at marks i ≡ Done → mark_at (set marks place Done) i ≡ Done =
@@ -143,10 +129,10 @@ settled_done arguments cells marks place settled here done =
       | inl same ↦ mark_here marks place Done i inside same
       | inr ne ↦ mark_there marks place Done i ne ∙ e
     ] in
-    let closed' : (i number found : ℕ) → mark_at (set marks place Done) i ≡ Done → slice_get (needs_at arguments cells i) number ≡ Some found → mark_at (set marks place Done) found ≡ Done =
-    λ (i number found : ℕ) (e : mark_at (set marks place Done) i ≡ Done) (need : slice_get (needs_at arguments cells i) number ≡ Some found).
+    let closed' : (i number found : ℕ) → mark_at (set marks place Done) i ≡ Done → slice_get (needs_at store cells i) number ≡ Some found → mark_at (set marks place Done) found ≡ Done =
+    λ (i number found : ℕ) (e : mark_at (set marks place Done) i ≡ Done) (need : slice_get (needs_at store cells i) number ≡ Some found).
     elim (same_or_not i place) [
-      | inl same ↦ kept found (done number found (subst (λ (k : ℕ). slice_get (needs_at arguments cells k) number ≡ Some found) same need))
+      | inl same ↦ kept found (done number found (subst (λ (k : ℕ). slice_get (needs_at store cells k) number ≡ Some found) same need))
       | inr ne ↦ kept found (settled.closed i number found (sym (mark_there marks place Done i ne) ∙ e) need)
     ] in
     elim (done_or_not (mark_at marks place)) [
@@ -160,7 +146,7 @@ settled_done arguments cells marks place settled here done =
         closed = closed';
       }
       | inr fresh ↦
-          let entry : Entry = entry_of arguments (known_at cells place) in
+          let entry : Entry = entry_of store (known_at cells place) in
           let types' : ℕ → TypeExpr = updated settled.types place (type_for settled.types entry) in
           let alike : (found : ℕ) → mark_at marks found ≡ Done → types' found ≡ settled.types found =
           λ (found : ℕ) (e : mark_at marks found ≡ Done).
@@ -169,28 +155,28 @@ settled_done arguments cells marks place settled here done =
             count = counted;
             types = types';
             agree = λ i e. elim (same_or_not i place) [
-              | inl same ↦ subst (λ (k : ℕ). Agrees types' k (entry_of arguments (known_at cells k))) (sym same)
+              | inl same ↦ subst (λ (k : ℕ). Agrees types' k (entry_of store (known_at cells k))) (sym same)
                   (agrees_new settled.types types' place entry (updated_here settled.types place (type_for settled.types entry))
                   (λ number found need. alike found (done number found need)))
               | inr ne ↦
                   let old : mark_at marks i ≡ Done = sym (mark_there marks place Done i ne) ∙ e in
-                  agrees_alike settled.types types' i (entry_of arguments (known_at cells i)) (alike i old)
+                  agrees_alike settled.types types' i (entry_of store (known_at cells i)) (alike i old)
                   (λ number found need. alike found (settled.closed i number found old need)) (settled.agree i old)
             ];
             closed = closed';
           }
     ]
 
-pub advance_done : (arguments : List ℕ) (cells : List Cell) (marks : List Mark) (place next : ℕ) (frames : List (ℕ × ℕ))
-    → IsVisiting arguments cells marks ((place, next) ∷ frames) → slice_get (needs_at arguments cells place) next ≡ None
-    → Advance arguments cells marks (set marks place Done) ((place, next) ∷ frames) frames
-advance_done arguments cells marks place next frames visiting none =
+pub advance_done : (store : Store) (cells : List Cell) (marks : List Mark) (place next : ℕ) (frames : List (ℕ × ℕ))
+    → IsVisiting store cells marks ((place, next) ∷ frames) → slice_get (needs_at store cells place) next ≡ None
+    → Advance store cells marks (set marks place Done) ((place, next) ∷ frames) frames
+advance_done store cells marks place next frames visiting none =
     let here : place < length cells = visiting.passed.0 in
     let inside : place < length marks = let count = visiting.settled.count in omega arith in
-    let past = none_past (needs_at arguments cells place) next none in
-    let done : (number found : ℕ) → slice_get (needs_at arguments cells place) number ≡ Some found → mark_at marks found ≡ Done =
-    λ (number found : ℕ) (need : slice_get (needs_at arguments cells place) number ≡ Some found).
-    let within = slice_get_within (needs_at arguments cells place) number found need in
+    let past = none_past (needs_at store cells place) next none in
+    let done : (number found : ℕ) → slice_get (needs_at store cells place) number ≡ Some found → mark_at marks found ≡ Done =
+    λ (number found : ℕ) (need : slice_get (needs_at store cells place) number ≡ Some found).
+    let within = slice_get_within (needs_at store cells place) number found need in
     visiting.passed.1 number found (omega arith) need in
     let kept : (i : ℕ) → mark_at marks i ≡ Done → mark_at (set marks place Done) i ≡ Done =
     λ (i : ℕ) (e : mark_at marks i ≡ Done). elim (same_or_not i place) [
@@ -199,10 +185,10 @@ advance_done arguments cells marks place next frames visiting none =
     ] in
     let fewer = news-set marks place Done inside in
     let least : news (set marks place Done) ≤ news marks = omega arith in
-    let most : news (set marks place Done) * (length arguments + 3) ≤ news marks * (length arguments + 3) = mul-le-mul_right (length arguments + 3) least in
+    let most : news (set marks place Done) * (length store.arguments.items + 3) ≤ news marks * (length store.arguments.items + 3) = mul-le-mul_right (length store.arguments.items + 3) least in
     record {
       visiting = record {
-        settled = settled_done arguments cells marks place visiting.settled here done;
+        settled = settled_done store cells marks place visiting.settled here done;
         open_on = λ i e. elim (same_or_not i place) [
           | inl same ↦ let d : mark_at (set marks place Done) i ≡ Done = mark_here marks place Done i inside same in absurd (cc)
           | inr ne ↦ elim (visiting.open_on i (sym (mark_there marks place Done i ne) ∙ e)) [
@@ -210,7 +196,7 @@ advance_done arguments cells marks place next frames visiting none =
             | inr below ↦ below
           ]
         ];
-        passed = passed_more arguments cells marks (set marks place Done) frames kept visiting.passed.2;
+        passed = passed_more store cells marks (set marks place Done) frames kept visiting.passed.2;
         falls = λ types solves. (visiting.falls types solves).1;
       };
       kept = kept;
@@ -221,21 +207,21 @@ advance_done arguments cells marks place next frames visiting none =
       less = omega arith;
     }
 
-pub advance_cycle : (arguments : List ℕ) (cells : List Cell) (marks : List Mark) (place next need : ℕ) (frames : List (ℕ × ℕ)) → IsSound arguments cells
-    → IsVisiting arguments cells marks ((place, next) ∷ frames) → slice_get (needs_at arguments cells place) next ≡ Some need → mark_at marks need ≡ Open
-    → (types : ℕ → TypeExpr) → Solves (entries_of arguments cells) types → ⊥
-advance_cycle arguments cells marks place next need frames sound visiting some opened types solves =
-    let less = lighter arguments cells types place need next sound solves some in
+pub advance_cycle : (store : Store) (cells : List Cell) (marks : List Mark) (place next need : ℕ) (frames : List (ℕ × ℕ)) → IsSound store cells
+    → IsVisiting store cells marks ((place, next) ∷ frames) → slice_get (needs_at store cells place) next ≡ Some need → mark_at marks need ≡ Open
+    → (types : ℕ → TypeExpr) → Solves (entries_of store cells) types → ⊥
+advance_cycle store cells marks place next need frames sound visiting some opened types solves =
+    let less = lighter store cells types place need next sound solves some in
     elim (visiting.open_on need opened) [
       | inl top ↦ let same : weight cells types place ≡ weight cells types need = ap (weight cells types) top in absurd (omega arith)
       | inr below ↦ let more = (visiting.falls types solves).0 need below in absurd (omega arith)
     ]
 
-pub advance_past : (arguments : List ℕ) (cells : List Cell) (marks : List Mark) (place next need : ℕ) (frames : List (ℕ × ℕ))
-    → IsVisiting arguments cells marks ((place, next) ∷ frames) → slice_get (needs_at arguments cells place) next ≡ Some need → mark_at marks need ≡ Done
-    → Advance arguments cells marks marks ((place, next) ∷ frames) ((place, next + 1) ∷ frames)
-advance_past arguments cells marks place next need frames visiting some done =
-    let within = slice_get_within (needs_at arguments cells place) next need some in
+pub advance_past : (store : Store) (cells : List Cell) (marks : List Mark) (place next need : ℕ) (frames : List (ℕ × ℕ))
+    → IsVisiting store cells marks ((place, next) ∷ frames) → slice_get (needs_at store cells place) next ≡ Some need → mark_at marks need ≡ Done
+    → Advance store cells marks marks ((place, next) ∷ frames) ((place, next + 1) ∷ frames)
+advance_past store cells marks place next need frames visiting some done =
+    let within = slice_get_within (needs_at store cells place) next need some in
     record {
       visiting = record {
         settled = visiting.settled;
@@ -245,7 +231,7 @@ advance_past arguments cells marks place next need frames visiting some done =
           (λ number found less found_is. elim (cases_lt number next) [
             | inl before ↦ visiting.passed.1 number found before found_is
             | inr here ↦
-                let same : need ≡ found = same_found (needs_at arguments cells place) next number need found (omega arith) some found_is in
+                let same : need ≡ found = same_found (needs_at store cells place) next number need found (omega arith) some found_is in
                 sym (ap (mark_at marks) same) ∙ done
           ]),
           visiting.passed.2,
@@ -264,9 +250,9 @@ done_kept marks place inside fresh i e = elim (same_or_not i place) [
   | inr ne ↦ mark_there marks place Open i ne ∙ e
 ]
 
-pub settled_open : (arguments : List ℕ) (cells : List Cell) (marks : List Mark) (place : ℕ) → IsSettled arguments cells marks → place < length cells → mark_at marks place ≡ New
-    → IsSettled arguments cells (set marks place Open)
-settled_open arguments cells marks place settled here fresh =
+pub settled_open : (store : Store) (cells : List Cell) (marks : List Mark) (place : ℕ) → IsSettled store cells marks → place < length cells → mark_at marks place ≡ New
+    → IsSettled store cells (set marks place Open)
+settled_open store cells marks place settled here fresh =
     let inside : place < length marks = let count = settled.count in omega arith in
     let old : (i : ℕ) → mark_at (set marks place Open) i ≡ Done → mark_at marks i ≡ Done =
     λ (i : ℕ) (e : mark_at (set marks place Open) i ≡ Done). elim (same_or_not i place) [
@@ -280,20 +266,20 @@ settled_open arguments cells marks place settled here fresh =
       closed = λ i number found e need. done_kept marks place inside fresh found (settled.closed i number found (old i e) need);
     }
 
-pub advance_new : (arguments : List ℕ) (cells : List Cell) (marks : List Mark) (place next need : ℕ) (frames : List (ℕ × ℕ)) → IsSound arguments cells
-    → IsVisiting arguments cells marks ((place, next) ∷ frames) → slice_get (needs_at arguments cells place) next ≡ Some need → mark_at marks need ≡ New
-    → Advance arguments cells marks (set marks need Open) ((place, next) ∷ frames) ((need, 0) ∷ (place, next) ∷ frames)
-advance_new arguments cells marks place next need frames sound visiting some fresh =
+pub advance_new : (store : Store) (cells : List Cell) (marks : List Mark) (place next need : ℕ) (frames : List (ℕ × ℕ)) → IsSound store cells
+    → IsVisiting store cells marks ((place, next) ∷ frames) → slice_get (needs_at store cells place) next ≡ Some need → mark_at marks need ≡ New
+    → Advance store cells marks (set marks need Open) ((place, next) ∷ frames) ((need, 0) ∷ (place, next) ∷ frames)
+advance_new store cells marks place next need frames sound visiting some fresh =
     let here : need < length cells = sound.within place next need some in
     let inside : need < length marks = let count = visiting.settled.count in omega arith in
     let fewer = news-set marks need Open inside in
     let one : new_mark (mark_at marks need) ≡ 1 = ap new_mark fresh in
     let less_one : news (set marks need Open) + 1 ≡ news marks = omega arith in
-    let multiplied : (news (set marks need Open) + 1) * (length arguments + 3) ≡ news marks * (length arguments + 3) = ap (λ (n : ℕ). n * (length arguments + 3)) less_one in
-    let few = count_needs arguments (known_at cells need) in
+    let multiplied : (news (set marks need Open) + 1) * (length store.arguments.items + 3) ≡ news marks * (length store.arguments.items + 3) = ap (λ (n : ℕ). n * (length store.arguments.items + 3)) less_one in
+    let few = count_needs store (known_at cells need) in
     record {
       visiting = record {
-        settled = settled_open arguments cells marks need visiting.settled here fresh;
+        settled = settled_open store cells marks need visiting.settled here fresh;
         open_on = λ i e. elim (same_or_not i need) [
           | inl same ↦ inl (sym same)
           | inr ne ↦ inr (visiting.open_on i (sym (mark_there marks need Open i ne) ∙ e))
@@ -301,10 +287,10 @@ advance_new arguments cells marks place next need frames sound visiting some fre
         passed = (
           here,
           (λ number found less found_is. absurd (omega arith)),
-          passed_more arguments cells marks (set marks need Open) ((place, next) ∷ frames) (done_kept marks need inside fresh) visiting.passed,
+          passed_more store cells marks (set marks need Open) ((place, next) ∷ frames) (done_kept marks need inside fresh) visiting.passed,
         );
         falls = λ types solves.
-            let less = lighter arguments cells types place need next sound solves some in
+            let less = lighter store cells types place need next sound solves some in
             let old = visiting.falls types solves in (
               (λ i on. elim on [
                 | inl top ↦ let same : weight cells types place ≡ weight cells types i = ap (weight cells types) top in omega arith

@@ -3,11 +3,12 @@ use Rattle.std.proofs.Common.{◌≡◌, ℕ, zero, suc, ◌+◌, ◌-◌, ◌*�
 use Rattle.std.specs.Prelude.{slice_get}
 use Rattle.std.proofs.Math.Nat.{mul-le-mul_right}
 use Rattle.merc_tree.specs.Types.{TypeExpr, types_of}
+use Rattle.merc_type_graph.specs.declared.store.Store.{Store}
 use Rattle.merc_type_graph.specs.Solutions.{Agrees, Solves}
 use Rattle.merc_type_graph.specs.Cells.{entry_of, entries_of, needs_of, known_at, rank_at, IsForest, IsSound}
 use Rattle.merc_type_graph.specs.Visiting.{size, sizes, needs_at, weight}
 use Rattle.merc_type_graph.specs.declared.cell.Known.{Known}
-use Rattle.merc_type_graph.specs.declared.cell.Known.TheVariants.{Nothing, Variable, Int, Text, Whole, Named, SameAs}
+use Rattle.merc_type_graph.specs.declared.cell.Known.TheVariants.{Nothing, Whole, Named, SameAs}
 use Rattle.merc_type_graph.specs.declared.cell.Cell.{Cell}
 use Rattle.merc_type_graph.proofs.Entries.{solves_at}
 
@@ -28,19 +29,16 @@ by_size width a b p q less few =
     let next : a + 1 ≤ b = omega arith in
     let most : (a + 1) * width ≤ b * width = mul-le-mul_right width next in omega arith
 
-less_known : (arguments : List ℕ) (cells : List Cell) (types : ℕ → TypeExpr) (i place number : ℕ) (known : Known) → IsForest cells → known_at cells i ≡ known
-    → Agrees types i (entry_of arguments known) → slice_get (needs_of (entry_of arguments known)) number ≡ Some place
+less_known : (store : Store) (cells : List Cell) (types : ℕ → TypeExpr) (i place number : ℕ) (known : Known) → IsForest cells → known_at cells i ≡ known
+    → Agrees types i (entry_of store known) → slice_get (needs_of (entry_of store known)) number ≡ Some place
     → size (types place) * suc (length cells) + (length cells - rank_at cells place) < size (types i) * suc (length cells) + (length cells - rank_at cells i)
-less_known arguments cells types i place number Nothing forest e agrees need = absurd (cc)
-less_known arguments cells types i place number (Variable name) forest e agrees need = absurd (cc)
-less_known arguments cells types i place number Int forest e agrees need = absurd (cc)
-less_known arguments cells types i place number Text forest e agrees need = absurd (cc)
-less_known arguments cells types i place number (Whole whole) forest e agrees need = absurd (cc)
-less_known arguments cells types i place number (Named name first count) forest e agrees need =
-    let inner = argument_smaller types (needs_of (entry_of arguments (Named name first count))) number place need in
-    let whole : size (types i) ≡ suc (sizes (types_of (map types (needs_of (entry_of arguments (Named name first count)))))) = ap size agrees in
+less_known store cells types i place number Nothing forest e agrees need = absurd (cc)
+less_known store cells types i place number (Whole whole) forest e agrees need = absurd (cc)
+less_known store cells types i place number (Named name first count) forest e agrees need =
+    let inner = argument_smaller types (needs_of (entry_of store (Named name first count))) number place need in
+    let whole : size (types i) ≡ suc (sizes (types_of (map types (needs_of (entry_of store (Named name first count)))))) = ap size agrees in
     by_size (suc (length cells)) (size (types place)) (size (types i)) (length cells - rank_at cells place) (length cells - rank_at cells i) (omega arith) (omega arith)
-less_known arguments cells types i place number (SameAs to) forest e agrees need =
+less_known store cells types i place number (SameAs to) forest e agrees need =
     let same : to ≡ place = one_need to number place need in
     let link : known_at cells i ≡ SameAs place = e ∙ ap SameAs same in
     let up = forest.rising i place link in
@@ -50,8 +48,8 @@ less_known arguments cells types i place number (SameAs to) forest e agrees need
     omega arith
 
 -- a need is lighter than what needs it
-pub lighter : (arguments : List ℕ) (cells : List Cell) (types : ℕ → TypeExpr) (i place number : ℕ) → IsSound arguments cells → Solves (entries_of arguments cells) types
-    → slice_get (needs_at arguments cells i) number ≡ Some place → weight cells types place < weight cells types i
+pub lighter : (store : Store) (cells : List Cell) (types : ℕ → TypeExpr) (i place number : ℕ) → IsSound store cells → Solves (entries_of store cells) types
+    → slice_get (needs_at store cells i) number ≡ Some place → weight cells types place < weight cells types i
 unfolding weight
-lighter arguments cells types i place number sound solves need =
-    less_known arguments cells types i place number (known_at cells i) sound.forest refl (solves_at arguments cells types solves i) need
+lighter store cells types i place number sound solves need =
+    less_known store cells types i place number (known_at cells i) sound.forest refl (solves_at store cells types solves i) need

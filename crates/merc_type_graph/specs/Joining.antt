@@ -4,15 +4,13 @@ use Rattle.merc_tree.specs.Types.{TypeExpr}
 use Rattle.merc_type_graph.specs.Solutions.{Solves}
 use Rattle.merc_type_graph.specs.Cells.{entries_of, known_at, rank_at, root_mark, roots, IsSound}
 use Rattle.merc_type_graph.specs.declared.cell.Known.{Known}
-use Rattle.merc_type_graph.specs.declared.cell.Known.TheVariants.{Nothing, Variable, Int, Text, Whole, Named, SameAs}
+use Rattle.merc_type_graph.specs.declared.cell.Known.TheVariants.{Nothing, Whole, Named, SameAs}
 use Rattle.merc_type_graph.specs.declared.cell.Cell.{Cell}
+use Rattle.merc_type_graph.specs.declared.store.Store.{Store}
 
 -- whether a type is known as a whole
 abbrev pub is_whole : Known → Bool
 is_whole Nothing = false
-is_whole (Variable name) = false
-is_whole Int = false
-is_whole Text = false
 is_whole (Whole whole) = true
 is_whole (Named name first count) = false
 is_whole (SameAs place) = false
@@ -26,15 +24,6 @@ pub record IsPartial (cells : List Cell) (place : ℕ) : Type 0 where
 -- What is known of a type of which both are known, neither as a whole, but for the arguments of the second; None where no type is both.
 abbrev pub joined : Known → Known → Option Known
 joined Nothing other = Some other
-joined (Variable name) Nothing = Some (Variable name)
-joined (Variable name) (Variable name') = if name == name' then Some (Variable name) else None
-joined (Variable name) other = None
-joined Int Nothing = Some Int
-joined Int Int = Some Int
-joined Int other = None
-joined Text Nothing = Some Text
-joined Text Text = Some Text
-joined Text other = None
 joined (Named name first count) Nothing = Some (Named name first count)
 joined (Named name first count) (Named name' first' count') = if (name == name') && (count == count') then Some (Named name first count) else None
 joined (Named name first count) other = None
@@ -42,14 +31,11 @@ joined (Whole whole) other = None
 joined (SameAs place) other = None
 
 -- the arguments of a type
-abbrev pub arguments_of : List ℕ → Known → List ℕ
-arguments_of arguments Nothing = []
-arguments_of arguments (Variable name) = []
-arguments_of arguments Int = []
-arguments_of arguments Text = []
-arguments_of arguments (Whole whole) = []
-arguments_of arguments (Named name first count) = take count (drop first arguments)
-arguments_of arguments (SameAs place) = []
+abbrev pub arguments_of : Store → Known → List ℕ
+arguments_of store Nothing = []
+arguments_of store (Whole whole) = []
+arguments_of store (Named name first count) = take count (drop first store.arguments.items)
+arguments_of store (SameAs place) = []
 
 -- the elements of two lists in pairs, as far as both go
 abbrev pub zipped : List ℕ → List ℕ → List (ℕ × ℕ)
@@ -74,25 +60,25 @@ attached cells child parent known =
     (record { known = SameAs parent; rank = rank_at cells child })
 
 -- what is to be done before the pairs are compared: each link that is made leaves fewer roots
-abbrev pub work : List ℕ → List Cell → List (ℕ × ℕ) → ℕ
-work arguments cells pairs = roots cells * (length arguments + 1) + length pairs
+abbrev pub work : Store → List Cell → List (ℕ × ℕ) → ℕ
+work store cells pairs = roots cells * (length store.arguments.items + 1) + length pairs
 
 -- Two places are made equal, but for the pairs that are added.
-pub record Meets (arguments : List ℕ) (old new : List Cell) (pairs pairs' : List (ℕ × ℕ)) (one other : ℕ) : Type 0 where
-  pub sound : IsSound arguments new
+pub record Meets (store : Store) (old new : List Cell) (pairs pairs' : List (ℕ × ℕ)) (one other : ℕ) : Type 0 where
+  pub sound : IsSound store new
   pub count : length new ≡ length old
   pub below : AllBelow (length new) pairs'
-  pub equal : (types : ℕ → TypeExpr) → (Solves (entries_of arguments new) types × AllSame types pairs')
-      ↔ (Solves (entries_of arguments old) types × AllSame types pairs × (types one ≡ types other))
-  pub less : work arguments new pairs' < suc (work arguments old pairs)
+  pub equal : (types : ℕ → TypeExpr) → (Solves (entries_of store new) types × AllSame types pairs')
+      ↔ (Solves (entries_of store old) types × AllSame types pairs × (types one ≡ types other))
+  pub less : work store new pairs' < suc (work store old pairs)
 
 -- or no solution has equal types there
-abbrev pub MeetsOrDiffers : Bool → List ℕ → List Cell → List Cell → List (ℕ × ℕ) → List (ℕ × ℕ) → ℕ → ℕ → Type 0
-MeetsOrDiffers true arguments old new pairs pairs' one other = Meets arguments old new pairs pairs' one other
-MeetsOrDiffers false arguments old new pairs pairs' one other =
-    (types : ℕ → TypeExpr) → Solves (entries_of arguments old) types → types one ≡ types other → ⊥
+abbrev pub MeetsOrDiffers : Bool → Store → List Cell → List Cell → List (ℕ × ℕ) → List (ℕ × ℕ) → ℕ → ℕ → Type 0
+MeetsOrDiffers true store old new pairs pairs' one other = Meets store old new pairs pairs' one other
+MeetsOrDiffers false store old new pairs pairs' one other =
+    (types : ℕ → TypeExpr) → Solves (entries_of store old) types → types one ≡ types other → ⊥
 
-abbrev pub Equates : Bool → List ℕ → List Cell → List Cell → ℕ → ℕ → Type 0
-Equates true arguments old new one other =
-    (length new ≡ length old) × IsSound arguments new × ((types : ℕ → TypeExpr) → Solves (entries_of arguments new) types ↔ (Solves (entries_of arguments old) types × (types one ≡ types other)))
-Equates false arguments old new one other = (types : ℕ → TypeExpr) → Solves (entries_of arguments old) types → types one ≡ types other → ⊥
+abbrev pub Equates : Bool → Store → List Cell → List Cell → ℕ → ℕ → Type 0
+Equates true store old new one other =
+    (length new ≡ length old) × IsSound store new × ((types : ℕ → TypeExpr) → Solves (entries_of store new) types ↔ (Solves (entries_of store old) types × (types one ≡ types other)))
+Equates false store old new one other = (types : ℕ → TypeExpr) → Solves (entries_of store old) types → types one ≡ types other → ⊥

@@ -6,6 +6,7 @@ use Rattle.merc_type_graph.specs.Cells.{entry_of, entries_of, needs_of, known_at
 use Rattle.merc_type_graph.specs.declared.visiting.Mark.{Mark}
 use Rattle.merc_type_graph.specs.declared.visiting.Mark.TheVariants.{New, Open, Done}
 use Rattle.merc_type_graph.specs.declared.cell.Cell.{Cell}
+use Rattle.merc_type_graph.specs.declared.store.Store.{Store}
 
 -- the number of names in a type
 abbrev mutual
@@ -22,8 +23,8 @@ abbrev mutual
 abbrev pub mark_at : List Mark → ℕ → Mark
 mark_at marks place = slice_index_or marks place New
 
-abbrev pub needs_at : List ℕ → List Cell → ℕ → List ℕ
-needs_at arguments cells place = needs_of (entry_of arguments (known_at cells place))
+abbrev pub needs_at : Store → List Cell → ℕ → List ℕ
+needs_at store cells place = needs_of (entry_of store (known_at cells place))
 
 -- what falls along needs: the size of the type, and along links, which keep it, what is left of the rank
 unfoldable pub weight : List Cell → (ℕ → TypeExpr) → ℕ → ℕ
@@ -40,26 +41,26 @@ Falls heavy [] = Unit {0}
 Falls heavy (frame ∷ frames) = ((i : ℕ) → IsOn i frames → heavy frame.0 < heavy i) × Falls heavy frames
 
 -- so many of the needs of each are done
-abbrev pub Passed : List ℕ → List Cell → List Mark → List (ℕ × ℕ) → Type 0
-Passed arguments cells marks [] = Unit {0}
-Passed arguments cells marks (frame ∷ frames) =
+abbrev pub Passed : Store → List Cell → List Mark → List (ℕ × ℕ) → Type 0
+Passed store cells marks [] = Unit {0}
+Passed store cells marks (frame ∷ frames) =
     (frame.0 < length cells)
-    × ((number place : ℕ) → number < frame.1 → slice_get (needs_at arguments cells frame.0) number ≡ Some place → mark_at marks place ≡ Done)
-    × Passed arguments cells marks frames
+    × ((number place : ℕ) → number < frame.1 → slice_get (needs_at store cells frame.0) number ≡ Some place → mark_at marks place ≡ Done)
+    × Passed store cells marks frames
 
 -- The places that are done have all their needs done, and types that agree with all of them.
-pub record IsSettled (arguments : List ℕ) (cells : List Cell) (marks : List Mark) : Type 0 where
+pub record IsSettled (store : Store) (cells : List Cell) (marks : List Mark) : Type 0 where
   pub count : length marks ≡ length cells
   pub types : ℕ → TypeExpr
-  pub agree : (i : ℕ) → mark_at marks i ≡ Done → Agrees types i (entry_of arguments (known_at cells i))
-  pub closed : (i number place : ℕ) → mark_at marks i ≡ Done → slice_get (needs_at arguments cells i) number ≡ Some place → mark_at marks place ≡ Done
+  pub agree : (i : ℕ) → mark_at marks i ≡ Done → Agrees types i (entry_of store (known_at cells i))
+  pub closed : (i number place : ℕ) → mark_at marks i ≡ Done → slice_get (needs_at store cells i) number ≡ Some place → mark_at marks place ≡ Done
 
 -- the state of a visit
-pub record IsVisiting (arguments : List ℕ) (cells : List Cell) (marks : List Mark) (frames : List (ℕ × ℕ)) : Type 0 where
-  pub settled : IsSettled arguments cells marks
+pub record IsVisiting (store : Store) (cells : List Cell) (marks : List Mark) (frames : List (ℕ × ℕ)) : Type 0 where
+  pub settled : IsSettled store cells marks
   pub open_on : (i : ℕ) → mark_at marks i ≡ Open → IsOn i frames
-  pub passed : Passed arguments cells marks frames
-  pub falls : (types : ℕ → TypeExpr) → Solves (entries_of arguments cells) types → Falls (weight cells types) frames
+  pub passed : Passed store cells marks frames
+  pub falls : (types : ℕ → TypeExpr) → Solves (entries_of store cells) types → Falls (weight cells types) frames
 
 abbrev pub new_mark : Mark → ℕ
 new_mark New = 1
@@ -72,31 +73,31 @@ news [] = 0
 news (first ∷ rest) = new_mark first + news rest
 
 -- what is left to look at in the frames
-abbrev pub left_over : List ℕ → List Cell → List (ℕ × ℕ) → ℕ
-left_over arguments cells [] = 0
-left_over arguments cells (frame ∷ frames) = suc (length (needs_at arguments cells frame.0) - frame.1) + left_over arguments cells frames
+abbrev pub left_over : Store → List Cell → List (ℕ × ℕ) → ℕ
+left_over store cells [] = 0
+left_over store cells (frame ∷ frames) = suc (length (needs_at store cells frame.0) - frame.1) + left_over store cells frames
 
-abbrev pub visit_left : List ℕ → List Cell → List Mark → List (ℕ × ℕ) → ℕ
-visit_left arguments cells marks frames = news marks * (length arguments + 3) + left_over arguments cells frames
+abbrev pub visit_left : Store → List Cell → List Mark → List (ℕ × ℕ) → ℕ
+visit_left store cells marks frames = news marks * (length store.arguments.items + 3) + left_over store cells frames
 
 -- one step of a visit
-pub record Advance (arguments : List ℕ) (cells : List Cell) (old new : List Mark) (frames frames' : List (ℕ × ℕ)) : Type 0 where
-  pub visiting : IsVisiting arguments cells new frames'
+pub record Advance (store : Store) (cells : List Cell) (old new : List Mark) (frames frames' : List (ℕ × ℕ)) : Type 0 where
+  pub visiting : IsVisiting store cells new frames'
   pub kept : (i : ℕ) → mark_at old i ≡ Done → mark_at new i ≡ Done
   pub begun : (i : ℕ) → mark_at old i ≢ New → mark_at new i ≢ New
-  pub less : visit_left arguments cells new frames' < visit_left arguments cells old frames
+  pub less : visit_left store cells new frames' < visit_left store cells old frames
 
 -- or nothing solves the equations
-abbrev pub Advances : Bool → List ℕ → List Cell → List Mark → List Mark → List (ℕ × ℕ) → List (ℕ × ℕ) → Type 0
-Advances true arguments cells old new frames frames' = Advance arguments cells old new frames frames'
-Advances false arguments cells old new frames frames' = (types : ℕ → TypeExpr) → Solves (entries_of arguments cells) types → ⊥
+abbrev pub Advances : Bool → Store → List Cell → List Mark → List Mark → List (ℕ × ℕ) → List (ℕ × ℕ) → Type 0
+Advances true store cells old new frames frames' = Advance store cells old new frames frames'
+Advances false store cells old new frames frames' = (types : ℕ → TypeExpr) → Solves (entries_of store cells) types → ⊥
 
 -- no place is being visited
 abbrev pub IsIdle : List Mark → Type 0
 IsIdle marks = (i : ℕ) → mark_at marks i ≢ Open
 
 -- a whole visit
-abbrev pub Visits : Bool → List ℕ → List Cell → List Mark → List Mark → ℕ → Type 0
-Visits true arguments cells old new start =
-    IsSettled arguments cells new × IsIdle new × (mark_at new start ≡ Done) × ((i : ℕ) → mark_at old i ≡ Done → mark_at new i ≡ Done)
-Visits false arguments cells old new start = (types : ℕ → TypeExpr) → Solves (entries_of arguments cells) types → ⊥
+abbrev pub Visits : Bool → Store → List Cell → List Mark → List Mark → ℕ → Type 0
+Visits true store cells old new start =
+    IsSettled store cells new × IsIdle new × (mark_at new start ≡ Done) × ((i : ℕ) → mark_at old i ≡ Done → mark_at new i ≡ Done)
+Visits false store cells old new start = (types : ℕ → TypeExpr) → Solves (entries_of store cells) types → ⊥

@@ -3,19 +3,16 @@ ghost use Rattle.std.specs.Prelude.{◌≡◌, ◌<◌, length, slice_get};
 ghost use Rattle.merc_type_graph.specs.Cells.{entry_of, needs_of, IsForest, IsStored, LeadsTo};
 
 use crate::Place;
+use crate::store::Store;
 use merc_base::Name;
-use merc_tree::TypeRef;
+use merc_type_table::TypeNumber;
 
-/// What is known of the type at a place. The arguments of all types stand in one list.
-#[derive(Drop)]
-pub(crate) enum Known<'a> {
+/// What is known of the type at a place.
+#[derive(Clone, Copy, Debug)]
+pub(crate) enum Known {
     Nothing,
-    /// A type variable that stands for itself.
-    Variable(Name),
-    Int,
-    Text,
-    /// A type as a whole, in which type variables stand for themselves.
-    Whole(TypeRef<'a>),
+    /// A declared type, in which type variables stand for themselves.
+    Whole(TypeNumber),
     /// A type's name over `count` arguments, from `first` on.
     Named {
         name: Name,
@@ -26,54 +23,33 @@ pub(crate) enum Known<'a> {
     SameAs(usize),
 }
 
-impl<'a> Known<'a> {
-    /// The same once more.
-    pub(crate) fn copy(&self) -> Known<'a>
-        ensures { result ≡ self.now }
-    {
-        match self {
-            Known::Nothing => Known::Nothing,
-            Known::Variable(name) => Known::Variable(*name),
-            Known::Int => Known::Int,
-            Known::Text => Known::Text,
-            Known::Whole(whole) => Known::Whole(whole.copy()),
-            Known::Named { name, first, count } => Known::Named {
-                name: *name,
-                first: *first,
-                count: *count,
-            },
-            Known::SameAs(place) => Known::SameAs(*place),
-        }
-    }
-}
-
 /// What is known at a place, and its rank, which is below that of a place that it is the same as.
-#[derive(Drop)]
-pub(crate) struct Cell<'a> {
-    pub(crate) known: Known<'a>,
+#[derive(Clone, Copy, Debug)]
+pub(crate) struct Cell {
+    pub(crate) known: Known,
     pub(crate) rank: usize,
 }
 
 /// The place at this number among those that a type is known by.
-pub(crate) fn need_at(known: &Known<'_>, arguments: &[Place], number: usize) -> Option<usize>
-    requires { IsStored (length arguments.now) known.now }
-    ensures { result ≡ slice_get (needs_of (entry_of arguments.now known.now)) number }
+pub(crate) fn need_at(known: &Known, store: &Store<'_>, number: usize) -> Option<usize>
+    requires { IsStored store.now known.now }
+    ensures { result ≡ slice_get (needs_of (entry_of store.now known.now)) number }
 {
     match known {
         Known::SameAs(place) => { if number == 0 { Some(*place) } else { None } }
         Known::Named { first, count, .. } => {
             if number < *count {
-                Some(arguments[*first + number].index())
+                Some(store.arguments[*first + number].index())
             } else {
                 None
             }
         }
-        Known::Nothing | Known::Variable(_) | Known::Int | Known::Text | Known::Whole(_) => None,
+        Known::Nothing | Known::Whole(_) => None,
     }
 }
 
 /// The root that a place leads to. Each link leads to a higher rank, so there are few.
-pub(crate) fn root_of(cells: &[Cell<'_>], place: usize) -> usize
+pub(crate) fn root_of(cells: &[Cell], place: usize) -> usize
     requires forest { IsForest cells.now }
     requires there { place < length cells.now }
     ensures { LeadsTo cells.now place result }

@@ -1,42 +1,43 @@
 //! Places that are given a whole type.
-ghost use Rattle.std.specs.Prelude.{◌≡◌, ◌<◌, ◌++◌, ◌↔◌, length, IfOk, OnOk, MatchOption, IsTrue};
-ghost use Rattle.merc_type_graph.specs.Cells.{known_at, IsSound};
-ghost use Rattle.merc_type_graph.specs.Fixing.{fixings_of, AllThere, FixesOrDiffers, Matches, StepsOrDiffers, WholeAt};
+ghost use Rattle.std.specs.Prelude.{◌≡◌, ◌<◌, ◌∷◌, [], ◌↔◌, length, IfOk, IsTrue};
+ghost use Rattle.merc_tree.specs.Types.{TypeApplication, no_types};
+ghost use Rattle.merc_type_table.specs.Table.{type_at};
+ghost use Rattle.merc_type_graph.specs.Cells.{entry_of, known_at, root_mark, IsSound, IsStored};
+ghost use Rattle.merc_type_graph.specs.Fixing.{AllThere, FitsOrDiffers, FixesOrDiffers, StepsOrDiffers, WholeAt};
+ghost use Rattle.merc_type_graph.specs.Solutions.{Applied};
 
 use crate::Place;
 use crate::cell::{Cell, Known, root_of};
-use crate::joining::arguments_at;
-use merc_base::NoMemory;
-use merc_tree::{TypeArguments, TypeRef, TypeShape};
+use crate::store::Store;
+use merc_base::{Name, NoMemory};
+use merc_type_table::{TypeNode, TypeNumber, TypeTable};
 use std::alloc::Global;
 
 /// A place that is to have a whole type.
-#[derive(Drop)]
-pub(crate) struct Fixing<'a> {
+#[derive(Clone, Copy, Debug)]
+pub(crate) struct Fixing {
     pub(crate) place: Place,
-    pub(crate) whole: TypeRef<'a>,
+    pub(crate) whole: TypeNumber,
 }
 
 /// Makes the type at a place a whole type. False where it has to be another.
-pub(crate) fn fix<'a>(
+pub(crate) fn fix(
     alloc: Global,
-    arguments: &[Place],
-    cells: &mut [Cell<'a>],
+    store: &Store<'_>,
+    cells: &mut [Cell],
     place: Place,
-    whole: &TypeRef<'a>,
+    whole: TypeNumber,
 ) -> Result<bool, NoMemory>
-    requires sound { IsSound arguments.now cells.old }
+    requires sound { IsSound store.now cells.old }
     requires there { place < length cells.old }
-    ensures sound { IsSound arguments.now cells.new }
-    ensures made { IfOk result (λ done. FixesOrDiffers done arguments.now cells.old cells.new place whole.now) }
+    requires declared { whole < length store.now.table.now }
+    ensures sound { IsSound store.now cells.new }
+    ensures made { IfOk result (λ done. FixesOrDiffers done store.now cells.old cells.new place (type_at store.now.table.now whole)) }
 {
     let mut fixings = Vec::new(alloc);
-    fixings.push(Fixing {
-        place,
-        whole: whole.copy(),
-    })?;
+    fixings.push(Fixing { place, whole })?;
     while let Some(fixing) = fixings.pop() {
-        if !fix_one(arguments, cells, fixing, &mut fixings)? {
+        if !fix_one(store, cells, fixing, &mut fixings)? {
             return Ok(false);
         }
     }
@@ -44,85 +45,97 @@ pub(crate) fn fix<'a>(
 }
 
 // Makes the type at one place a whole type, and puts its arguments on the list. False where it has to be another.
-fn fix_one<'a>(
-    arguments: &[Place],
-    cells: &mut [Cell<'a>],
-    fixing: Fixing<'a>,
-    fixings: &mut Vec<Fixing<'a>>,
+fn fix_one(
+    store: &Store<'_>,
+    cells: &mut [Cell],
+    fixing: Fixing,
+    fixings: &mut Vec<Fixing>,
 ) -> Result<bool, NoMemory>
-    requires sound { IsSound arguments.now cells.old }
-    requires there { fixing.place < length cells.old }
-    requires fixings { AllThere (length cells.old) fixings.old.items }
-    ensures sound { IsSound arguments.now cells.new }
-    ensures made { IfOk result (λ done. StepsOrDiffers done arguments.now cells.old cells.new fixings.old.items fixings.new.items fixing.entry) }
+    requires sound { IsSound store.now cells.old }
+    requires there { AllThere store.now.table.now (length cells.old) (fixing ∷ []) }
+    requires fixings { AllThere store.now.table.now (length cells.old) fixings.old.items }
+    ensures sound { IsSound store.now cells.new }
+    ensures made { IfOk result (λ done. StepsOrDiffers done store.now cells.old cells.new fixings.old.items fixings.new.items fixing) }
 {
     let root = root_of(cells, fixing.place.index());
-    if !matches(&cells[root].known, &fixing.whole) {
+    if !fit(store, cells[root].known, fixing.whole, fixings)? {
         return Ok(false);
     }
-    push_fixings(
-        arguments_at(arguments, cells, root),
-        fixing.whole.arguments(),
-        fixings,
-    )?;
     cells[root].known = Known::Whole(fixing.whole);
     Ok(true)
 }
 
-// Whether a type of which this is known can be a whole type, but for the arguments.
-fn matches(known: &Known<'_>, whole: &TypeRef<'_>) -> bool
-    ensures { IsTrue result ↔ Matches known.now whole.now }
+// Puts on the list what makes a whole type fit what is known of a type. False where no type is both.
+fn fit(
+    store: &Store<'_>,
+    known: Known,
+    whole: TypeNumber,
+    fixings: &mut Vec<Fixing>,
+) -> Result<bool, NoMemory>
+    requires stored { IsStored store.now known }
+    requires root { root_mark known ≡ 1 }
+    requires there { whole < length store.now.table.now }
+    ensures { IfOk result (λ fits. FitsOrDiffers store.now.table.now fits fixings.old.items fixings.new.items (entry_of store.now known) (type_at store.now.table.now whole)) }
 {
     match known {
-        Known::Nothing => true,
-        Known::Whole(other) => other.is_same(whole),
-        Known::Variable(name) => match whole.shape() {
-            TypeShape::Variable(other) => *name == other,
-            _ => false,
-        },
-        Known::Int => match whole.shape() {
-            TypeShape::Int => true,
-            _ => false,
-        },
-        Known::Text => match whole.shape() {
-            TypeShape::Text => true,
-            _ => false,
-        },
-        Known::Named { name, count, .. } => match whole.shape() {
-            TypeShape::Application { name: other, arity } => *name == other && *count == arity,
-            _ => false,
-        },
-        Known::SameAs(_) => false,
+        Known::Nothing => Ok(true),
+        Known::Whole(other) => Ok(store.table.is_same(other, whole)),
+        Known::Named { name, first, count } => {
+            let places = &store.arguments[first..first + count];
+            fit_arguments(store.table, name, places, whole, fixings)
+        }
+        Known::SameAs(_) => Ok(false),
     }
 }
 
-// Puts the arguments of a type, at these places, on the list with those of a whole type.
-fn push_fixings<'a>(
+// The same of a type's name over the types at these places.
+fn fit_arguments(
+    table: &TypeTable,
+    name: Name,
     places: &[Place],
-    mut wholes: TypeArguments<'a>,
-    fixings: &mut Vec<Fixing<'a>>,
-) -> Result<(), NoMemory>
-    ensures { OnOk result (fixings.new.items ≡ fixings.old.items ++ fixings_of places.now wholes.entry) }
+    whole: TypeNumber,
+    fixings: &mut Vec<Fixing>,
+) -> Result<bool, NoMemory>
+    requires { whole < length table.now }
+    ensures { IfOk result (λ fits. FitsOrDiffers table.now fits fixings.old.items fixings.new.items (Applied name places.now) (type_at table.now whole)) }
 {
-    while let Some(whole) = wholes.take_last() {
-        let number = wholes.len();
-        if number < places.len() {
-            fixings.push(Fixing {
-                place: places[number],
-                whole,
-            })?;
+    let mut rest = whole;
+    for place in places {
+        match table.node(rest) {
+            TypeNode::With {
+                first,
+                rest: others,
+            } => {
+                fixings.push(Fixing {
+                    place: *place,
+                    whole: first,
+                })?;
+                rest = others;
+            }
+            _ => return Ok(false),
         }
     }
-    Ok(())
+    Ok(is_name(table, rest, name))
+}
+
+// Whether a type is this name without arguments.
+fn is_name(table: &TypeTable, number: TypeNumber, name: Name) -> bool
+    requires { number < length table.now }
+    ensures { IsTrue result ↔ (type_at table.now number ≡ TypeApplication name no_types) }
+{
+    match table.node(number) {
+        TypeNode::Name(other) => other == name,
+        _ => false,
+    }
 }
 
 /// The whole type that is known at a place, None where it is not known as a whole.
-pub(crate) fn whole_at<'a>(cells: &[Cell<'a>], place: usize) -> Option<TypeRef<'a>>
+pub(crate) fn whole_at(cells: &[Cell], place: usize) -> Option<TypeNumber>
     requires { place < length cells.now }
     ensures { WholeAt (known_at cells.now place) result }
 {
-    match &cells[place].known {
-        Known::Whole(whole) => Some(whole.copy()),
+    match cells[place].known {
+        Known::Whole(whole) => Some(whole),
         _ => None,
     }
 }

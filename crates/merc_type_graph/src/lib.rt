@@ -6,6 +6,7 @@ mod fixing;
 pub mod graph;
 mod joining;
 pub mod place;
+mod store;
 mod visiting;
 
 pub use graph::TypeGraph;

@@ -6,8 +6,8 @@ ghost use Rattle.merc_type_graph.specs.Fresh.{AreNew};
 ghost use Rattle.merc_type_graph.specs.Visiting.{mark_at, Advances, IsIdle, IsSettled, IsVisiting, Visits};
 ghost use Rattle.merc_type_graph.specs.declared.visiting.Mark.TheVariants.{New};
 
-use crate::Place;
 use crate::cell::{Cell, need_at};
+use crate::store::Store;
 use merc_base::NoMemory;
 use std::alloc::Global;
 
@@ -24,30 +24,30 @@ pub(crate) enum Mark {
 /// Whether there are types that solve the equations. Each place is visited once, after those that it needs.
 pub(crate) fn decide(
     alloc: Global,
-    arguments: &[Place],
-    cells: &[Cell<'_>],
+    store: &Store<'_>,
+    cells: &[Cell],
 ) -> Result<bool, NoMemory>
-    requires { IsSound arguments.now cells.now }
-    ensures { IfOk result (λ solvable. Decides solvable (entries_of arguments.now cells.now)) }
+    requires { IsSound store.now cells.now }
+    ensures { IfOk result (λ solvable. Decides solvable (entries_of store.now cells.now)) }
 {
     let mut marks = vec![in alloc; Mark::New; cells.len()]?;
-    visit_all(alloc, arguments, cells, &mut marks)
+    visit_all(alloc, store, cells, &mut marks)
 }
 
 // Visits all places. False where a place needs itself.
 fn visit_all(
     alloc: Global,
-    arguments: &[Place],
-    cells: &[Cell<'_>],
+    store: &Store<'_>,
+    cells: &[Cell],
     marks: &mut [Mark],
 ) -> Result<bool, NoMemory>
-    requires sound { IsSound arguments.now cells.now }
+    requires sound { IsSound store.now cells.now }
     requires count { length marks.old ≡ length cells.now }
     requires fresh { AreNew marks.old }
-    ensures { IfOk result (λ solvable. Decides solvable (entries_of arguments.now cells.now)) }
+    ensures { IfOk result (λ solvable. Decides solvable (entries_of store.now cells.now)) }
 {
     for start in 0..cells.len() {
-        if !visit_once(alloc, arguments, cells, start, marks)? {
+        if !visit_once(alloc, store, cells, start, marks)? {
             return Ok(false);
         }
     }
@@ -57,19 +57,19 @@ fn visit_all(
 // Visits a place and all that it needs, unless that is done. False where a place needs itself.
 fn visit_once(
     alloc: Global,
-    arguments: &[Place],
-    cells: &[Cell<'_>],
+    store: &Store<'_>,
+    cells: &[Cell],
     start: usize,
     marks: &mut [Mark],
 ) -> Result<bool, NoMemory>
-    requires sound { IsSound arguments.now cells.now }
-    requires settled { IsSettled arguments.now cells.now marks.old }
+    requires sound { IsSound store.now cells.now }
+    requires settled { IsSettled store.now cells.now marks.old }
     requires idle { IsIdle marks.old }
     requires there { start < length cells.now }
-    ensures { IfOk result (λ fine. Visits fine arguments.now cells.now marks.old marks.new start) }
+    ensures { IfOk result (λ fine. Visits fine store.now cells.now marks.old marks.new start) }
 {
     match marks[start] {
-        Mark::New => visit(alloc, arguments, cells, start, marks),
+        Mark::New => visit(alloc, store, cells, start, marks),
         Mark::Open | Mark::Done => Ok(true),
     }
 }
@@ -77,23 +77,23 @@ fn visit_once(
 // Visits a new place and all that it needs. False where a place needs itself.
 fn visit(
     alloc: Global,
-    arguments: &[Place],
-    cells: &[Cell<'_>],
+    store: &Store<'_>,
+    cells: &[Cell],
     start: usize,
     marks: &mut [Mark],
 ) -> Result<bool, NoMemory>
-    requires sound { IsSound arguments.now cells.now }
-    requires settled { IsSettled arguments.now cells.now marks.old }
+    requires sound { IsSound store.now cells.now }
+    requires settled { IsSettled store.now cells.now marks.old }
     requires idle { IsIdle marks.old }
     requires there { start < length cells.now }
     requires fresh { mark_at marks.old start ≡ New }
-    ensures { IfOk result (λ fine. Visits fine arguments.now cells.now marks.old marks.new start) }
+    ensures { IfOk result (λ fine. Visits fine store.now cells.now marks.old marks.new start) }
 {
     let mut stack = Vec::new(alloc);
     stack.push((start, 0))?;
     marks[start] = Mark::Open;
     while let Some(frame) = stack.pop() {
-        if !advance(arguments, cells, frame, marks, &mut stack)? {
+        if !advance(store, cells, frame, marks, &mut stack)? {
             return Ok(false);
         }
     }
@@ -102,18 +102,18 @@ fn visit(
 
 // Looks at the next place that a place needs. False where the visit of that one is what led here.
 fn advance(
-    arguments: &[Place],
-    cells: &[Cell<'_>],
+    store: &Store<'_>,
+    cells: &[Cell],
     frame: (usize, usize),
     marks: &mut [Mark],
     stack: &mut Vec<(usize, usize)>,
 ) -> Result<bool, NoMemory>
-    requires sound { IsSound arguments.now cells.now }
-    requires visiting { IsVisiting arguments.now cells.now marks.old (frame ∷ reverse stack.old.items) }
-    ensures { IfOk result (λ fine. Advances fine arguments.now cells.now marks.old marks.new (frame ∷ reverse stack.old.items) (reverse stack.new.items)) }
+    requires sound { IsSound store.now cells.now }
+    requires visiting { IsVisiting store.now cells.now marks.old (frame ∷ reverse stack.old.items) }
+    ensures { IfOk result (λ fine. Advances fine store.now cells.now marks.old marks.new (frame ∷ reverse stack.old.items) (reverse stack.new.items)) }
 {
     let (place, next) = frame;
-    let need = match need_at(&cells[place].known, arguments, next) {
+    let need = match need_at(&cells[place].known, store, next) {
         Some(need) => need,
         None => {
             marks[place] = Mark::Done;

@@ -1,33 +1,54 @@
-use Rattle.std.proofs.Common.{◌<◌, subst, arith}
+use Rattle.std.proofs.Common.{◌≡◌, ◌<◌, ℕ, List, map, sym, subst, ◌∙◌, arith}
 use Rattle.std.proofs.lemmas.Result.{IfOk-weaker}
-use Rattle.std.specs.Option.{option_copied}
 use Rattle.merc_goal_tree.specs.Parts.{parts_of}
-use Rattle.merc_type_check.specs.Checked.{head_types}
-use Rattle.merc_type_check.specs.Progress.{AreHead, GoalRefuses, GoalStep, GoalTakes}
-use Rattle.merc_type_check.specs.Typing.{IsTypedPart}
+use Rattle.merc_tree.specs.Types.{TypeExpr}
+use Rattle.merc_type_table.specs.Table.{type_at}
+use Rattle.merc_type_check.specs.Checked.{head_of}
+use Rattle.merc_type_check.specs.TypeNumbers.{AreNumbers, AreWithin}
+use Rattle.merc_type_check.specs.Progress.{GoalRefuses, GoalStep, GoalTakes, Takes}
+use Rattle.merc_type_check.specs.Typing.{AreArguments, IsTypedPart}
 use Rattle.merc_type_check.proofs.Asked.{taken, refused, some_there}
+use Rattle.merc_type_check.proofs.Numbers.{numbers_types, numbers_within}
 use Rattle.merc_type_check.proofs.Told.{head_known, head_untyped, part_known, part_untyped, told}
 use Rattle.merc_type_check.proofs.checking.is_typed.Goals as goal
 
+pub take_head-requires-clause-numbers : goal.take_head-requires-clause-numbers
+take_head-requires-clause-numbers c =
+    subst (λ (t : List TypeExpr). AreWithin t c.head_numbers.result.now) (sym (c.new-checker.ensures.table ∙ c.table.ensures))
+    (numbers_within c.args.declared.now.table c.head_numbers.result.now (head_of c.args.known.now c.args.predicate) (c.head_numbers.ensures c.args.known.now c.requires))
+
 pub returns-then-not-done : goal.returns-then-not-done
 returns-then-not-done c =
-    head_untyped c.new-checker.result c.args.known.now (head_types (option_copied c.args.predicate)) c.args.goal.now c.new-checker.ensures.free
-    (refused c.in_ok-done.done c.new-checker.result c.take_predicate.new.self (λ types instance. AreHead (head_types (option_copied c.args.predicate)) types instance) c.if-not-done.true c.in_ok-done.ensures)
+    let head : map (type_at c.new-checker.result.graph.table) c.head_numbers.result.now ≡ head_of c.args.known.now c.args.predicate =
+    subst (λ (t : List TypeExpr). map (type_at t) c.head_numbers.result.now ≡ head_of c.args.known.now c.args.predicate) (sym (c.new-checker.ensures.table ∙ c.table.ensures))
+    (numbers_types c.args.declared.now.table c.head_numbers.result.now (head_of c.args.known.now c.args.predicate) (c.head_numbers.ensures c.args.known.now c.requires)) in
+    head_untyped c.new-checker.result c.args.known.now (head_of c.args.known.now c.args.predicate) c.args.goal.now c.new-checker.ensures.free
+    (refused c.in_ok-done.done c.new-checker.result c.take_head.new.self (λ types instance. AreArguments c.args.known.now types 0 (head_of c.args.known.now c.args.predicate))
+    c.if-not-done.true
+    (subst (λ (l : List TypeExpr). Takes c.in_ok-done.done c.new-checker.result c.take_head.new.self (λ types instance. AreArguments c.args.known.now types 0 l)) head
+    (c.in_ok-done.ensures c.args.known.now)))
 
 pub loop-index-init : goal.loop-index-init
 loop-index-init c =
-    head_known c.new-checker.result c.take_predicate.new.self c.clear.new.self c.args.known.now (head_types (option_copied c.args.predicate)) c.args.goal.now c.new-checker.ensures.own
-    c.new-checker.ensures.free
-    (taken c.in_ok-done.done c.new-checker.result c.take_predicate.new.self (λ types instance. AreHead (head_types (option_copied c.args.predicate)) types instance) c.if-not-done.false c.in_ok-done.ensures)
-    c.clear.ensures
+    let head : map (type_at c.new-checker.result.graph.table) c.head_numbers.result.now ≡ head_of c.args.known.now c.args.predicate =
+    subst (λ (t : List TypeExpr). map (type_at t) c.head_numbers.result.now ≡ head_of c.args.known.now c.args.predicate) (sym (c.new-checker.ensures.table ∙ c.table.ensures))
+    (numbers_types c.args.declared.now.table c.head_numbers.result.now (head_of c.args.known.now c.args.predicate) (c.head_numbers.ensures c.args.known.now c.requires)) in
+    let step = taken c.in_ok-done.done c.new-checker.result c.take_head.new.self
+    (λ types instance. AreArguments c.args.known.now types 0 (head_of c.args.known.now c.args.predicate)) c.if-not-done.false
+    (subst (λ (l : List TypeExpr). Takes c.in_ok-done.done c.new-checker.result c.take_head.new.self (λ types instance. AreArguments c.args.known.now types 0 l)) head
+    (c.in_ok-done.ensures c.args.known.now)) in
+    record {
+      knows = head_known c.new-checker.result c.take_head.new.self c.args.known.now (head_of c.args.known.now c.args.predicate) c.args.goal.now c.new-checker.ensures.free step;
+      table = sym (step.same_table ∙ c.new-checker.ensures.table ∙ c.table.ensures);
+    }
 
 pub returns-then-not-done-2 : goal.returns-then-not-done-2
 returns-then-not-done-2 c =
     let refuses : GoalRefuses c.loop-index.checker (λ types. IsTypedPart c.args.known.now types (c.in-Some.part.now, c.in-Some.field-0-1)) =
     subst (λ b. GoalTakes b c.loop-index.checker c.take_part.new.self (λ types. IsTypedPart c.args.known.now types (c.in-Some.part.now, c.in-Some.field-0-1)))
     c.if-not-done-2.true (c.in_ok-done-in-Some.ensures c.in-Some.field-0-1) in
-    part_untyped c.loop-index.checker c.args.known.now (head_types (option_copied c.args.predicate)) c.args.goal.now c.loop-index.index (c.in-Some.part.now, c.in-Some.field-0-1) c.in-Some.ensures
-    c.loop-index.invariant refuses
+    part_untyped c.loop-index.checker c.args.known.now (head_of c.args.known.now c.args.predicate) c.args.goal.now c.loop-index.index (c.in-Some.part.now, c.in-Some.field-0-1)
+    c.in-Some.ensures c.loop-index.invariant.knows refuses
 
 pub unreachable-requires : goal.unreachable-requires
 unreachable-requires c =
@@ -40,13 +61,17 @@ loop-index-preserved c =
     let step : GoalStep c.loop-index.checker c.take_part.new.self (λ types. IsTypedPart c.args.known.now types (c.in-Some.part.now, c.in-Some.field-0-1)) =
     subst (λ b. GoalTakes b c.loop-index.checker c.take_part.new.self (λ types. IsTypedPart c.args.known.now types (c.in-Some.part.now, c.in-Some.field-0-1)))
     c.if-not-done-2.false (c.in_ok-done-in-Some.ensures c.in-Some.field-0-1) in
-    part_known c.loop-index.checker c.take_part.new.self c.args.known.now (head_types (option_copied c.args.predicate)) c.args.goal.now c.loop-index.index
-    (c.in-Some.part.now, c.in-Some.field-0-1) c.in-Some.ensures c.loop-index.invariant step
+    record {
+      knows = part_known c.loop-index.checker c.take_part.new.self c.args.known.now (head_of c.args.known.now c.args.predicate) c.args.goal.now c.loop-index.index
+          (c.in-Some.part.now, c.in-Some.field-0-1) c.in-Some.ensures c.loop-index.invariant.knows step;
+      table = c.loop-index.invariant.table ∙ sym step.same_table;
+    }
 
 pub returns : goal.returns
 returns c =
     let less = c.loop-index-test.false in
     let same = c.part_count-index-end.ensures in
     IfOk-weaker c.is_solvable.result _ _
-    (λ solvable decides. told solvable c.loop-index.checker c.args.known.now (head_types (option_copied c.args.predicate)) c.args.goal.now c.loop-index.index (omega arith) c.loop-index.invariant decides)
+    (λ solvable decides. told solvable c.loop-index.checker c.args.known.now (head_of c.args.known.now c.args.predicate) c.args.goal.now c.loop-index.index (omega arith)
+    c.loop-index.invariant.knows decides)
     c.is_solvable.ensures

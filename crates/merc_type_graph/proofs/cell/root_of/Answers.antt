@@ -12,9 +12,9 @@ loop-at-preserved c =
     known_any c.args.cells.now c.loop-at.at _ (SameAs c.in-SameAs.next) c.loop-at.invariant.here c.in-SameAs.is in
     record {
       here = c.requires.forest.near c.loop-at.at c.in-SameAs.next link;
-      same = λ arguments types solves.
-          sym (subst (λ (k : Known). Agrees types c.loop-at.at (entry_of arguments k)) link (solves_at arguments c.args.cells.now types solves c.loop-at.at))
-          ∙ c.loop-at.invariant.same arguments types solves;
+      same = λ store types solves.
+          sym (subst (λ (k : Known). Agrees types c.loop-at.at (entry_of store k)) link (solves_at store c.args.cells.now types solves c.loop-at.at))
+          ∙ c.loop-at.invariant.same store types solves;
     }
 
 pub loop-at-smaller : goal.loop-at-smaller

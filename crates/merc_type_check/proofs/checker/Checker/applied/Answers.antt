@@ -3,5 +3,5 @@ use Rattle.merc_type_check.proofs.checker.Checker.applied.Goals as goal
 
 pub returns : goal.returns
 returns c =
-    applied_added c.args.self.now c.add_applied.new.self c.add_applied.result c.args.name c.args.arguments.now c.requires.sound c.requires.within
+    applied_added c.args.self.now c.add_applied.new.self c.add_applied.result c.args.name c.args.arguments.now c.requires.sound c.add_applied.ensures.table c.requires.within
     c.add_applied.ensures.place c.add_applied.ensures.count c.add_applied.ensures.solutions

@@ -7,9 +7,9 @@ use Rattle.merc_type_check.proofs.checker.Checker.apply.Goals as goal
 pub applied-requires-clause-within : goal.applied-requires-clause-within
 applied-requires-clause-within c =
     let count : c.len.result ≡ length c.args.places.now.items = c.len.ensures ∙ sym c.deref.ensures.len ∙ ap length c.deref.ensures.value in
-    subst (AllWithin (length c.args.self.now.graph)) (sym (dropped_places c.args.places.now.items c.deref.result.now c.split_at.result.1.now c.len.result
+    subst (AllWithin (length c.args.self.now.graph.entries)) (sym (dropped_places c.args.places.now.items c.deref.result.now c.split_at.result.1.now c.len.result
     c.saturating_sub-kept.result c.args.arity count c.saturating_sub-kept.ensures c.deref.ensures.value c.split_at.ensures.back))
-    (within-drop (length c.args.places.now.items - c.args.arity) c.args.places.now.items (length c.args.self.now.graph) c.requires.within)
+    (within-drop (length c.args.places.now.items - c.args.arity) c.args.places.now.items (length c.args.self.now.graph.entries) c.requires.within)
 
 pub returns : goal.returns
 returns c = λ whole tasks builds.

@@ -1,8 +1,9 @@
-use Rattle.std.proofs.Common.{◌≡◌, ◌<◌, false, get_or, length, refl, sym, ◌∙◌, arith}
+use Rattle.std.proofs.Common.{◌≡◌, ◌<◌, ℕ, List, Some, length, refl, sym, subst, ◌∙◌, arith}
+use Rattle.std.specs.Prelude.{slice_get}
 use Rattle.std.proofs.lemmas.Option.{slice_get_read}
-use Rattle.merc_tree.specs.Types.{replaced}
+use Rattle.merc_tree.specs.Types.{TypeExpr, replaced}
 use Rattle.merc_type_check.proofs.Asked.{taken, refused, have_step, have_refused, have_all, have_none, some_there}
-use Rattle.merc_type_check.proofs.Grounded.{fixed_at, fixed_by}
+use Rattle.merc_type_check.proofs.Numbers.{number_at}
 use Rattle.merc_type_check.proofs.checker.Checker.have_types.Goals as goal
 
 pub returns-then-variables-len : goal.returns-then-variables-len
@@ -32,6 +33,7 @@ loop-index-preserved c =
     c.if-not-done.false c.in_ok-done-in-Some.ensures in
     record {
       sound = step.sound;
+      table = step.same_table ∙ c.loop-index.invariant.table;
       have = λ known. have_step known c.args.self.now c.loop-index.self c.has_type.new.self c.args.variables.now c.args.declared.now c.loop-index.index
           c.index-variables-index.result c.in-Some.one
           (slice_get_read c.args.variables.now (length c.args.variables.now) c.loop-index.index c.index-variables-index.result refl c.loop-index-test.true c.index-variables-index.is)
@@ -45,7 +47,13 @@ returns c = λ known.
     let same = c.len.ensures in
     have_all known c.args.self.now c.loop-index.self c.args.variables.now c.args.declared.now c.loop-index.index (omega arith) (omega arith) (c.loop-index.invariant.have known)
 
-pub has_type-requires-clause-fixed : goal.has_type-requires-clause-fixed
-has_type-requires-clause-fixed c = λ fixed.
-    fixed_at c.loop-index.self.own c.args.fixed.now c.args.declared.now c.loop-index.index c.in-Some.one c.requires.flags (sym c.in-Some.ensures)
-    (fixed_by c.loop-index.self.own (get_or c.args.fixed.now c.loop-index.index false) (sym c.is_fixed-same.ensures ∙ fixed))
+pub has_type-requires-clause-number : goal.has_type-requires-clause-number
+has_type-requires-clause-number c =
+    subst (λ (t : List TypeExpr). slice_get t c.index-numbers-index.result ≡ Some c.in-Some.one) (sym c.loop-index.invariant.table)
+    (subst (λ (n : ℕ). slice_get c.args.self.now.graph.table n ≡ Some c.in-Some.one) (sym c.index-numbers-index.is)
+    (number_at c.args.self.now.graph.table c.args.numbers.now c.args.declared.now c.loop-index.index c.index-numbers-index.result c.in-Some.one c.requires.numbers
+    (sym c.in-Some.ensures)).1)
+
+pub bounds-numbers-index : goal.bounds-numbers-index
+bounds-numbers-index c =
+    (number_at c.args.self.now.graph.table c.args.numbers.now c.args.declared.now c.loop-index.index 0 c.in-Some.one c.requires.numbers (sym c.in-Some.ensures)).0

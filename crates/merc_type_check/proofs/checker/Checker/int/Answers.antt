@@ -1,6 +1,7 @@
-use Rattle.merc_type_check.proofs.Places.{int_added}
+use Rattle.std.proofs.Common.{◌≡◌, List, Some, subst}
+use Rattle.std.specs.Prelude.{slice_get}
+use Rattle.merc_tree.specs.Types.{TypeExpr, IntType}
 use Rattle.merc_type_check.proofs.checker.Checker.int.Goals as goal
 
 pub returns : goal.returns
-returns c =
-    int_added c.args.self.now c.add_int.new.self c.add_int.result c.requires c.add_int.ensures.place c.add_int.ensures.count c.add_int.ensures.solutions
+returns c = subst (λ (t : List TypeExpr). slice_get t c.int.result ≡ Some IntType) c.requires.table c.int.ensures

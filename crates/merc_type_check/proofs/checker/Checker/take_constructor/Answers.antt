@@ -1,3 +1,6 @@
+use Rattle.std.proofs.Common.{List, sym, subst}
+use Rattle.merc_tree.specs.Types.{TypeExpr}
+use Rattle.merc_type_check.specs.TypeNumbers.{AreNumbers}
 use Rattle.std.proofs.lemmas.Result.{IfOk-weaker}
 use Rattle.merc_type_check.specs.Typing.{HaveTypes}
 use Rattle.merc_type_check.proofs.Steps.{step_takes}
@@ -26,3 +29,10 @@ returns c =
     IfOk-weaker c.have_types.result _ _
     (λ done takes. λ known. step_takes done c.args.self.now c.make_equal.new.self c.have_types.new.self (HasWhole c.args.variable c.args.declared.now)
     (λ types instance. HaveTypes known types instance c.args.arguments.now c.args.constructor.now.args) step (takes known)) c.have_types.ensures
+
+pub have_types-requires-clause-numbers : goal.have_types-requires-clause-numbers
+have_types-requires-clause-numbers c =
+    let step = taken c.in_ok-done.done c.args.self.now c.make_equal.new.self (HasWhole c.args.variable c.args.declared.now) c.if-not-done.false
+    (whole_taken c.in_ok-done.done c.args.self.now c.variable.new.self c.whole.new.self c.make_equal.new.self c.in_ok-place.place c.in_ok-whole.whole c.args.variable
+    c.args.declared.now c.in_ok-place.ensures c.in_ok-whole.ensures c.in_ok-done.ensures) in
+    subst (λ (t : List TypeExpr). AreNumbers t c.args.numbers.now c.args.constructor.now.args) (sym step.same_table) c.requires.numbers

@@ -11,14 +11,14 @@ pub returns-in-Same : goal.returns-in-Same
 returns-in-Same c =
     rw c.in-Same.is
     (IfOk-weaker c.are_alike.result _ _
-    (λ done takes. plain_goal_takes done c.args.self.now c.are_alike.new.self (λ types. types c.in-Same.one ≡ types c.in-Same.other) c.requires.sound takes) c.are_alike.ensures)
+    (λ done takes. plain_goal_takes done c.args.self.now c.are_alike.new.self (λ types. types c.in-Same.one ≡ types c.in-Same.other) takes) c.are_alike.ensures)
 
 pub returns-in-Arithmetic : goal.returns-in-Arithmetic
 returns-in-Arithmetic c =
     rw c.in-Arithmetic.is
     (IfOk-weaker c.are_all_ints.result _ _
     (λ done takes. plain_goal_takes done c.args.self.now c.are_all_ints.new.self
-    (λ types. (types c.in-Arithmetic.result ≡ IntType) × (types c.in-Arithmetic.left ≡ IntType) × (types c.in-Arithmetic.right ≡ IntType)) c.requires.sound takes)
+    (λ types. (types c.in-Arithmetic.result ≡ IntType) × (types c.in-Arithmetic.left ≡ IntType) × (types c.in-Arithmetic.right ≡ IntType)) takes)
     c.are_all_ints.ensures)
 
 pub returns-in-Compare : goal.returns-in-Compare
@@ -26,14 +26,14 @@ returns-in-Compare c =
     rw c.in-Compare.is
     (IfOk-weaker c.are_ints.result _ _
     (λ done takes. plain_goal_takes done c.args.self.now c.are_ints.new.self
-    (λ types. (types c.in-Compare.left ≡ IntType) × (types c.in-Compare.right ≡ IntType)) c.requires.sound takes)
+    (λ types. (types c.in-Compare.left ≡ IntType) × (types c.in-Compare.right ≡ IntType)) takes)
     c.are_ints.ensures)
 
 pub returns-in-Raise : goal.returns-in-Raise
 returns-in-Raise c =
     rw c.in-Raise.is
     (IfOk-weaker c.is_text.result _ _
-    (λ done takes. plain_goal_takes done c.args.self.now c.is_text.new.self (λ types. types c.in-Raise.text ≡ TextType) c.requires.sound takes) c.is_text.ensures)
+    (λ done takes. plain_goal_takes done c.args.self.now c.is_text.new.self (λ types. types c.in-Raise.text ≡ TextType) takes) c.is_text.ensures)
 
 pub returns-in-Shape : goal.returns-in-Shape
 returns-in-Shape c =

@@ -1,6 +1,7 @@
-use Rattle.merc_type_check.proofs.Places.{text_added}
+use Rattle.std.proofs.Common.{◌≡◌, List, Some, subst}
+use Rattle.std.specs.Prelude.{slice_get}
+use Rattle.merc_tree.specs.Types.{TypeExpr, TextType}
 use Rattle.merc_type_check.proofs.checker.Checker.text.Goals as goal
 
 pub returns : goal.returns
-returns c =
-    text_added c.args.self.now c.add_text.new.self c.add_text.result c.requires c.add_text.ensures.place c.add_text.ensures.count c.add_text.ensures.solutions
+returns c = subst (λ (t : List TypeExpr). slice_get t c.text.result ≡ Some TextType) c.requires.table c.text.ensures

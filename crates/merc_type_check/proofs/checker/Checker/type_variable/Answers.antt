@@ -7,5 +7,5 @@ returns-in-Some c = type_variable_known c.args.self.now c.args.name c.in-Some.pl
 
 pub returns-in_ok-insert-in-None : goal.returns-in_ok-insert-in-None
 returns-in_ok-insert-in-None c =
-    type_variable_placed c.args.self.now c.add_meant.new.graph c.insert.new.self c.args.name c.in_ok-place-in-None.place c.requires c.in_ok-place-in-None.ensures.place
+    type_variable_placed c.args.self.now c.add_unknown.new.self c.insert.new.self c.args.name c.in_ok-place-in-None.place c.requires c.add_unknown.ensures.table c.in_ok-place-in-None.ensures.place
     c.in_ok-place-in-None.ensures.count c.in_ok-place-in-None.ensures.solutions (sym c.get.ensures.value ∙ sym c.in-None.ensures) c.in_ok-insert-in-None.ensures.updates.0

@@ -7,5 +7,5 @@ returns-in-Some c = variable_known c.args.self.now c.args.variable c.in-Some.pla
 
 pub returns-in_ok-insert-in-None : goal.returns-in_ok-insert-in-None
 returns-in_ok-insert-in-None c =
-    variable_placed c.args.self.now c.add_unknown.new.self c.insert.new.self c.args.variable c.in_ok-place-in-None.place c.requires c.in_ok-place-in-None.ensures.place
+    variable_placed c.args.self.now c.add_unknown.new.self c.insert.new.self c.args.variable c.in_ok-place-in-None.place c.requires c.add_unknown.ensures.table c.in_ok-place-in-None.ensures.place
     c.in_ok-place-in-None.ensures.count c.in_ok-place-in-None.ensures.solutions (sym c.get.ensures.value ∙ sym c.in-None.ensures) c.in_ok-insert-in-None.ensures.updates.0

@@ -1,13 +1,13 @@
-use Rattle.std.proofs.Common.{◌≡◌}
+use Rattle.std.proofs.Common.{◌≡◌, ap}
 use Rattle.std.proofs.lemmas.Result.{on_ok_weaker}
-use Rattle.merc_type_graph.specs.Solutions.{Unknown}
+use Rattle.merc_type_graph.specs.Solutions.{Graph, Unknown}
 use Rattle.merc_type_graph.specs.Cells.{entries_of}
-use Rattle.merc_type_graph.proofs.Adding.{adds_by}
+use Rattle.merc_type_graph.proofs.Adding.{adds_applied}
 use Rattle.merc_type_graph.proofs.graph.TypeGraph.add_unknown.Goals as goal
 
 pub returns-clause-solutions : goal.returns-clause-solutions
 returns-clause-solutions c =
-    let view : entries_of c.self.inside.arguments.items c.self.inside.cells.items ≡ c.args.self.now = cc in
+    let view : entries_of c.self.inside.store c.self.inside.cells.items ≡ c.args.self.now.entries = ap (λ (g : Graph). g.entries) c.self.view_is in
     on_ok_weaker c.add.result
-    (λ h. adds_by c.self.inside.arguments.items c.deref.result.now c.self.inside.cells.items c.add.new.cells.items c.args.self.now Unknown view c.deref.ensures.value h)
+    (λ h. adds_applied c.args.self.now.entries (entries_of c.self.inside.store c.add.new.cells.items) (entries_of c.self.inside.store c.self.inside.cells.items) Unknown view h)
     c.add.ensures.added

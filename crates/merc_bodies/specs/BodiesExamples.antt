@@ -1,0 +1,73 @@
+-- The predicates p/1, with two clauses, and q/1, with none.
+use Rattle.std.specs.Prelude.{◌≡◌, ℕ, ◌+◌, ◌==◌, [], ◌∷◌, None, refl, if◌then◌else◌}
+use Rattle.merc_base.specs.declared.place.Span.{Span}
+use Rattle.merc_tree.specs.Term.{Term, Variable, Application, none, more, no_span}
+use Rattle.merc_tree.specs.Types.{IntType}
+use Rattle.merc_tree.specs.declared.declarations.PredDecl.{PredDecl}
+use Rattle.merc_tree.specs.declared.declarations.Clause.{Clause}
+use Rattle.merc_goal_tree.specs.Nodes.{Node, Simple, Conjunction, Disjunction, Quantified, nodes_of}
+use Rattle.merc_goal_tree.specs.declared.goal.SimpleGoal.TheVariants.{Fail, Shape, Call}
+use Rattle.merc_goal_tree.specs.declared.goal.Symbol.TheVariants.{Constructor}
+use Rattle.merc_bodies.specs.Bodies.{rising, numbered, body_of, asked_body}
+
+abbrev at : ℕ → Span
+at first = record { first = first; past = first + 1; line = 1 }
+
+abbrev p : ℕ
+p = 200
+
+abbrev q : ℕ
+q = 201
+
+abbrev f : ℕ
+f = 202
+
+-- with one argument
+abbrev predicate : ℕ → PredDecl
+predicate name = record { name = name; args = IntType ∷ []; modes = []; span = no_span; unit = None }
+
+abbrev head : ℕ → Term
+head name = Application name None (more (Variable 100 no_span) none) no_span
+
+abbrev clause : ℕ → ℕ → Clause
+clause name byte = record { head = head name; body = None; span = at byte }
+
+-- `p(f(X)) :- q(X).`, whose variable X has the number 5
+abbrev first_form : ℕ → Node
+first_form x = Conjunction (nodes_of (Simple (Shape 0 (Constructor f 1) (x ∷ [])) (at 5) ∷ Simple (Call 1 (x ∷ [])) (at 8) ∷ [])) (at 5)
+
+-- `p(X) :- some [Z] ( q(Z), q(Y) ).`, whose variables Z and Y have the numbers 9 and 7
+abbrev second_form : ℕ → ℕ → Node
+second_form z y = Quantified (z ∷ []) (Conjunction (nodes_of (Simple (Call 1 (z ∷ [])) (at 20) ∷ Simple (Call 1 (y ∷ [])) (at 22) ∷ [])) (at 20)) (at 18)
+
+abbrev form : Clause → Node
+form found = if found.span.first == 5 then first_form 5 else second_form 9 7
+
+in_order : rising (9 ∷ 7 ∷ 9 ∷ 8 ∷ []) ≡ 7 ∷ 8 ∷ 9 ∷ []
+in_order = refl
+
+not_twice : rising (9 ∷ 7 ∷ 9 ∷ []) ≡ 7 ∷ 9 ∷ 9 ∷ [] → ⊥
+not_twice wrong = cc
+
+argument_stays : numbered 2 6 (7 ∷ 9 ∷ []) 1 ≡ 1
+argument_stays = refl
+
+own_moves : numbered 2 6 (7 ∷ 9 ∷ []) 9 ≡ 7
+own_moves = refl
+
+-- the second clause's variables stand behind the first one's, in the order of their numbers
+joined : body_of form (clause p 5 ∷ clause q 6 ∷ clause p 7 ∷ []) (predicate p) ≡ Disjunction (nodes_of (first_form 1 ∷ second_form 3 2 ∷ [])) (at 5)
+joined = refl
+
+numbered_anew : body_of form (clause p 5 ∷ clause p 7 ∷ []) (predicate p) ≡ Disjunction (nodes_of (first_form 1 ∷ second_form 2 1 ∷ [])) (at 5) → ⊥
+numbered_anew wrong = cc
+
+only_clause : body_of form (clause p 5 ∷ []) (predicate p) ≡ first_form 1
+only_clause = refl
+
+without_clauses : body_of form (clause p 5 ∷ []) (predicate q) ≡ Simple Fail no_span
+without_clauses = refl
+
+-- a goal that is asked has no arguments
+asked : asked_body (first_form 5) ≡ Conjunction (nodes_of (Simple (Shape 0 (Constructor f 1) (1 ∷ [])) (at 5) ∷ Simple (Call 1 (1 ∷ [])) (at 8) ∷ [])) (at 5)
+asked = refl

@@ -1,0 +1,7 @@
+pub mod Renamed
+pub mod Bodies
+pub mod BodiesExamples
+pub mod Occurrences
+pub mod Numbering
+pub mod Rebuilding
+pub mod Grouping

@@ -1,0 +1,36 @@
+pub mod Pool
+pub mod Steps
+pub mod Measure
+pub mod Truth
+pub mod TruthSteps
+pub mod Names
+pub mod Losses
+pub mod Carrying
+pub mod Live
+pub mod Anys
+pub mod Progress
+pub mod Times
+pub mod ForkTimes
+pub mod Serving
+pub mod ForkServing
+pub mod Parking
+pub mod LiveSteps
+pub mod Dues
+pub mod Hands
+pub mod Single
+pub mod Histories
+mod CoreExamples
+mod WellFormedExamples
+mod HistoryExamples
+pub mod CoreLists
+pub mod StandingLaws
+pub mod Filters
+pub mod PoolShows
+pub mod PoolMoves
+pub mod Rooms
+pub mod Acting
+pub mod Simple
+pub mod TakingUp
+pub mod WaitingAt
+pub mod Waking
+pub mod SignalledAt

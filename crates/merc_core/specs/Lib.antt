@@ -1,0 +1,11 @@
+pub mod Rights
+pub mod World
+pub mod Events
+pub mod WellFormed
+pub mod Ready
+pub mod Laws
+pub mod History
+pub mod Queues
+pub mod Standing
+pub mod Mirror
+pub mod Stepping

@@ -1,0 +1,66 @@
+//! Branches as the core keeps them.
+ghost use Rattle.std.specs.Prelude.{◌≡◌, ◌+◌, ◌-◌, ◌<◌, ◌^◌, [], ◌∷◌, Some};
+ghost use Rattle.merc_core.specs.declared.branch.Branch.{Branch as CoreBranch};
+ghost use Rattle.merc_core.specs.Rights.{without};
+
+use crate::rights::take_out;
+use merc_script::{CellId, Outcome};
+use std::alloc::Global;
+use std::collections::LinkedList;
+
+// A branch, in one of the lists of the core.
+#[derive(Drop)]
+pub(crate) struct Branch {
+    // the join whose child it is
+    pub(crate) join: usize,
+    // the child's number, from 1
+    pub(crate) child: usize,
+    // the place of its next item
+    pub(crate) at: usize,
+    // the outcome that it ends with in place of what its script says
+    pub(crate) ended: Option<Outcome>,
+    pub(crate) steps: u64,
+    // the cells that it has to signal
+    pub(crate) signals: LinkedList<CellId>,
+}
+
+// The first branch goes past a tick.
+pub(crate) fn pass_tick(hand: &mut LinkedList<Branch>)
+    requires { (b : CoreBranch) × (hand.old ≡ b ∷ []) × (b.at < 2 ^ 63) × (b.steps < 2 ^ 64 - 1) }
+    ensures { (b : CoreBranch) → hand.old ≡ b ∷ [] → hand.new ≡ (record b { at = b.at + 1; steps = b.steps + 1 }) ∷ [] }
+{
+    if let Some(branch) = hand.front_mut() {
+        branch.at += 1;
+        branch.steps += 1;
+    }
+}
+
+// The first branch goes past an item.
+pub(crate) fn pass_item(hand: &mut LinkedList<Branch>)
+    requires { (b : CoreBranch) × (hand.old ≡ b ∷ []) × (b.at < 2 ^ 63) }
+    ensures { (b : CoreBranch) → hand.old ≡ b ∷ [] → hand.new ≡ (record b { at = b.at + 1 }) ∷ [] }
+{
+    if let Some(branch) = hand.front_mut() {
+        branch.at += 1;
+    }
+}
+
+// The first branch ends here.
+pub(crate) fn end_first(list: &mut LinkedList<Branch>, outcome: Outcome)
+    ensures { (b : CoreBranch) (bs : _) → list.old ≡ b ∷ bs → list.new ≡ (record b { ended = Some outcome }) ∷ bs }
+{
+    if let Some(branch) = list.front_mut() {
+        branch.ended = Some(outcome);
+    }
+}
+
+// The first branch goes past a signal, and has the cell no more to signal.
+pub(crate) fn pass_signal(alloc: Global, hand: &mut LinkedList<Branch>, cell: CellId)
+    requires { (b : CoreBranch) × (hand.old ≡ b ∷ []) × (b.at < 2 ^ 63) }
+    ensures { (b : CoreBranch) → hand.old ≡ b ∷ [] → hand.new ≡ (record b { at = b.at + 1; signals = without (cell ∷ []) b.signals }) ∷ [] }
+{
+    if let Some(branch) = hand.front_mut() {
+        branch.at += 1;
+        take_out(alloc, &mut branch.signals, cell);
+    }
+}

@@ -1,0 +1,95 @@
+//! Cells as the core keeps them.
+ghost use Rattle.std.specs.Prelude.{◌≡◌, ◌+◌, ◌<◌, ◌^◌, ◌++◌, ℕ, [], map, length, if◌then◌else◌, nat_eq, IsSome};
+ghost use Rattle.std.specs.Ordering.{nat_cmp};
+ghost use Rattle.std.specs.BTreeMap.{get};
+ghost use Rattle.merc_core.specs.Queues.{filled, meeting_of, parked_at, spoiled, starved as starved_branch, waiting_of};
+
+use crate::branch::{Branch, end_first};
+use crate::lists::{move_all, move_first};
+use merc_script::{CellId, Outcome};
+use std::collections::{BTreeMap, LinkedList};
+
+// A cell for which some branch waits in its script.
+#[derive(Drop)]
+pub(crate) struct Cell {
+    pub(crate) is_full: bool,
+    pub(crate) is_poisoned: bool,
+    pub(crate) waiting: LinkedList<Branch>,
+}
+
+// Fills a cell. Those that wait for it go behind a list.
+pub(crate) fn fill(cells: &mut BTreeMap<CellId, Cell>, cell: CellId, list: &mut LinkedList<Branch>)
+    requires { length list.old + length (waiting_of (get nat_cmp cells.old cell)) < 2 ^ 63 }
+    ensures cells { (other : ℕ) → get nat_cmp cells.new other ≡ (if nat_eq cell other then filled (get nat_cmp cells.old cell) else get nat_cmp cells.old other) }
+    ensures list { list.new ≡ list.old ++ waiting_of (get nat_cmp cells.old cell) }
+{
+    if let Some(found) = cells.get_mut(&cell) {
+        found.is_full = true;
+        move_all(&mut found.waiting, list);
+    }
+}
+
+// Parks branches at a cell.
+pub(crate) fn park(
+    cells: &mut BTreeMap<CellId, Cell>,
+    cell: CellId,
+    branches: &mut LinkedList<Branch>,
+)
+    requires { length (waiting_of (get nat_cmp cells.old cell)) + length branches.old < 2 ^ 63 }
+    ensures cells { (other : ℕ) → get nat_cmp cells.new other ≡ (if nat_eq cell other then parked_at branches.old (get nat_cmp cells.old cell) else get nat_cmp cells.old other) }
+    ensures branches { IsSome (get nat_cmp cells.old cell) → branches.new ≡ [] }
+{
+    if let Some(found) = cells.get_mut(&cell) {
+        move_all(branches, &mut found.waiting);
+    }
+}
+
+// Spoils a cell. Those that wait for it end as starved, and go behind a list.
+pub(crate) fn spoil(cells: &mut BTreeMap<CellId, Cell>, cell: CellId, list: &mut LinkedList<Branch>)
+    requires { length list.old + length (waiting_of (get nat_cmp cells.old cell)) < 2 ^ 63 }
+    ensures cells { (other : ℕ) → get nat_cmp cells.new other ≡ (if nat_eq cell other then spoiled (get nat_cmp cells.old cell) else get nat_cmp cells.old other) }
+    ensures list { list.new ≡ list.old ++ map starved_branch (waiting_of (get nat_cmp cells.old cell)) }
+{
+    if let Some(found) = cells.get_mut(&cell) {
+        found.is_poisoned = true;
+        starve_all(&mut found.waiting, list);
+    }
+}
+
+// Branches end as starved, and go behind a list.
+fn starve_all(branches: &mut LinkedList<Branch>, list: &mut LinkedList<Branch>)
+    requires { length list.old + length branches.old < 2 ^ 63 }
+    ensures branches { branches.new ≡ [] }
+    ensures list { list.new ≡ list.old ++ map starved_branch branches.old }
+{
+    while !branches.is_empty() {
+        end_first(branches, Outcome::Starved);
+        move_first(branches, list);
+    }
+}
+
+// What a branch that comes to a cell finds there.
+#[derive(Clone, Copy, Debug)]
+pub(crate) enum Meeting {
+    Full,
+    Poisoned,
+    Open,
+}
+
+// What a branch that comes to a cell finds there.
+pub(crate) fn find_cell(cells: &BTreeMap<CellId, Cell>, cell: CellId) -> Meeting
+    ensures { result ≡ meeting_of (get nat_cmp cells.now cell) }
+{
+    match cells.get(&cell) {
+        None => Meeting::Open,
+        Some(found) => {
+            if found.is_full {
+                Meeting::Full
+            } else if found.is_poisoned {
+                Meeting::Poisoned
+            } else {
+                Meeting::Open
+            }
+        }
+    }
+}

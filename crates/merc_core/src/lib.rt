@@ -1,0 +1,20 @@
+//! The core: branches of scripts over workers, one event at a time.
+#![tactic(auto)]
+
+mod branch;
+mod cell;
+mod course;
+pub mod event;
+pub mod laws;
+mod join;
+mod lists;
+mod rights;
+mod running;
+mod signalling;
+mod simple_events;
+mod state;
+mod taking;
+mod waiting;
+mod worker;
+
+pub use event::{Event, NotNow};

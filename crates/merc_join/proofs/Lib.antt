@@ -1,0 +1,7 @@
+mod Lists
+mod Keeping
+mod Ending
+mod Dealing
+mod Laws
+mod Answering
+mod JoinExamples

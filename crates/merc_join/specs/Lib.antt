@@ -1,0 +1,4 @@
+pub mod Join
+pub mod Answers
+pub mod Tickets
+pub mod Room

@@ -1,0 +1,172 @@
+//! What comes out of many joins whose tickets are done in four threads, in whatever order.
+
+use crate::{Finished, Forked, Ticket, new_join};
+use merc_base::NoMemory;
+use merc_script::Outcome;
+use std::alloc::Global;
+use std::test::Fail;
+use std::thread;
+use std::thread::Threads;
+
+impl Forked for u64 {
+    ghost ends = { λ parent child outcome. Unit {0} };
+}
+
+const CHILDREN: u32 = 8;
+
+const JOINS: u64 = 2_000;
+
+// A ticket with the number of steps that its child is to end with.
+type Job = (Ticket<u64>, u64);
+
+// What each of four threads is to do.
+#[derive(Drop)]
+struct Hands {
+    first: Vec<Job>,
+    second: Vec<Job>,
+    third: Vec<Job>,
+    fourth: Vec<Job>,
+}
+
+// How many joins were finished, the sum of their parents, and how many outcomes were those of their children.
+#[derive(Clone, Copy)]
+struct Counts {
+    finished: u64,
+    parent_sum: u64,
+    outcomes: u64,
+}
+
+impl Counts {
+    fn with(self, other: Counts) -> Counts {
+        Counts {
+            finished: self.finished.wrapping_add(other.finished),
+            parent_sum: self.parent_sum.wrapping_add(other.parent_sum),
+            outcomes: self.outcomes.wrapping_add(other.outcomes),
+        }
+    }
+}
+
+fn steps_of(parent: u64, child: u64) -> u64 {
+    parent.wrapping_mul(100).wrapping_add(child)
+}
+
+// The tickets of many joins, each thread having two of each.
+fn deal_out(alloc: Global) -> Result<Hands, NoMemory> {
+    let mut hands = Hands {
+        first: Vec::new(alloc),
+        second: Vec::new(alloc),
+        third: Vec::new(alloc),
+        fourth: Vec::new(alloc),
+    };
+    for parent in 0..JOINS {
+        let Ok(tickets) = new_join(alloc, CHILDREN, parent) else {
+            return Err(NoMemory);
+        };
+        let mut child = 0;
+        for ticket in tickets {
+            let job = (ticket, steps_of(parent, child));
+            match child % 4 {
+                0 => hands.first.push(job)?,
+                1 => hands.second.push(job)?,
+                2 => hands.third.push(job)?,
+                _ => hands.fourth.push(job)?,
+            }
+            child = child.wrapping_add(1);
+        }
+    }
+    Ok(hands)
+}
+
+fn count_outcomes(outcomes: &[Outcome], parent: u64) -> u64 {
+    let mut count = 0u64;
+    let mut child = 0;
+    for outcome in outcomes {
+        if *outcome == Outcome::Ok(steps_of(parent, child)) {
+            count = count.wrapping_add(1);
+        }
+        child = child.wrapping_add(1);
+    }
+    count
+}
+
+fn do_all(mut jobs: Vec<Job>) -> Counts {
+    let mut counts = Counts {
+        finished: 0,
+        parent_sum: 0,
+        outcomes: 0,
+    };
+    for i in 0..jobs.len() {
+        if let Some((ticket, steps)) = jobs.pop() {
+            if let Some(finished) = ticket.done(Outcome::Ok(steps)) {
+                counts = counts.with(Counts {
+                    finished: 1,
+                    parent_sum: finished.parent,
+                    outcomes: count_outcomes(finished.outcomes.as_slice(), finished.parent),
+                });
+            }
+        }
+    }
+    counts
+}
+
+fn do_two<R: Threads + Sync>(rt: &R, one: Vec<Job>, other: Vec<Job>) -> Counts {
+    let (a, b) = thread::join(rt, move || do_all(one), move || do_all(other));
+    a.with(b)
+}
+
+// No clause speaks of several threads at once.
+#[test]
+fn each_join_ends_once(rt: HostRuntime) -> Result<(), Fail> {
+    for round in 0..20 {
+        let Hands {
+            first,
+            second,
+            third,
+            fourth,
+        } = deal_out(rt.alloc())?;
+        let threads = &rt;
+        let (a, b) = thread::join(
+            &rt,
+            move || do_two(threads, first, second),
+            move || do_two(threads, third, fourth),
+        );
+        let all = a.with(b);
+        assert_eq!(rt; all.finished, JOINS);
+        assert_eq!(rt; all.parent_sum, 1_999_000);
+        assert_eq!(rt; all.outcomes, 16_000);
+    }
+    Ok(())
+}
+
+fn two_tickets(alloc: Global) -> Result<(Ticket<u64>, Ticket<u64>), NoMemory> {
+    let Ok(mut tickets) = new_join(alloc, 2, 7u64) else {
+        return Err(NoMemory);
+    };
+    match (tickets.pop(), tickets.pop()) {
+        (Some(second), Some(first)) => Ok((first, second)),
+        _ => Err(NoMemory),
+    }
+}
+
+// Whether both outcomes came out, in order, with the parent.
+fn has_both(finished: Option<Finished<u64>>) -> bool {
+    match finished {
+        Some(finished) => {
+            finished.parent == 7
+                && finished.outcomes.as_slice() == [Outcome::Ok(3), Outcome::Limit].as_slice()
+        }
+        None => false,
+    }
+}
+
+// No clause speaks of what was done before with the other ticket.
+#[test]
+fn the_second_of_two_gets_both(rt: HostRuntime) -> Result<(), Fail> {
+    let (first, second) = two_tickets(rt.alloc())?;
+    assert!(rt; first.done(Outcome::Ok(3)).is_none());
+    assert!(rt; has_both(second.done(Outcome::Limit)));
+    let (first, second) = two_tickets(rt.alloc())?;
+    assert!(rt; second.done(Outcome::Limit).is_none());
+    assert!(rt; has_both(first.done(Outcome::Ok(3))));
+    Ok(())
+}

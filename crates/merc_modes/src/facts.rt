@@ -1,0 +1,17 @@
+//! What is known of the parts of a body before any of them is ordered.
+
+use merc_goal_tree::Vars;
+
+/// What is known of one part of a body.
+#[derive(Drop)]
+pub(crate) struct Facts {
+    /// Whether its end can be reached.
+    pub(crate) reached: bool,
+    /// The variables that it binds, each once.
+    pub(crate) binds: Vars,
+    /// The variables that have to be bound before it, since it may not bind them: those that a negated goal binds and that
+    /// occur outside, or that only some of the arms bind.
+    pub(crate) owed: Vars,
+    /// The same of the condition of an if-then-else.
+    pub(crate) owed_by_condition: Vars,
+}

@@ -1,0 +1,4 @@
+//! The order of the goals of procedures.
+#![tactic(auto)]
+
+mod facts;

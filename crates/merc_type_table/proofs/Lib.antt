@@ -1,0 +1,5 @@
+pub mod Closed
+pub mod Distinct
+pub mod Framed
+pub mod Indexed
+pub mod Made
