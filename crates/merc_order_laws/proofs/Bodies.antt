@@ -14,15 +14,17 @@ use Rattle.merc_order.specs.Faults.{unbound_output}
 use Rattle.merc_order.specs.Order.{from, binds, reached}
 use Rattle.merc_order.specs.Ordered.{Ordered, Ready, Stuck}
 use Rattle.merc_order.specs.Procedures.{bound_at, numbers_below, total_of, are_bound_behind, body_from, beyond, first_fresh, IsBody}
-use Rattle.merc_order.specs.Spelt.{spelt}
+use Rattle.merc_order.specs.Spelt.{spelt, twins}
 use Rattle.merc_order_laws.specs.Bindings.{Variables}
 use Rattle.merc_order_laws.specs.GoodTree.{node_ends, GoodNode}
-use Rattle.merc_order_laws.specs.Laws.{Sized, Outer, AllBelow, SpeltIsGood, BindsHeads, ProcedureIsGood, ProcedureBindsHeads, QueryIsGood, QueryBindsAnswers}
-use Rattle.merc_order_laws.specs.OrderedVariables.{ordered_outputs}
+use Rattle.merc_order_laws.specs.Laws.{Sized, Outer, AllBelow, SpeltIsGood, BindsHeads, ProcedureIsGood, ProcedureBindsHeads, QueryIsGood, QueryBindsAnswers, IsMadeFrom, ProcedureIsMadeFrom, QueryIsMadeFrom}
+use Rattle.merc_order_laws.specs.OrderedVariables.{in_ordered, ordered_outputs}
+use Rattle.merc_order_laws.specs.WrittenGoals.{original, IsMadeOf}
 use Rattle.merc_order_laws.proofs.Facts.{clash, or_left, or_right, or_cases, not_true, either_way, among_append, among_counts, not_counted, lt_is}
 use Rattle.merc_order_laws.proofs.Ordering.{if_ready_is, if_is, Fits, behind_one, list_all_in, from_fits}
 use Rattle.merc_order_laws.proofs.SpeltGood.{spelt_good}
 use Rattle.merc_order_laws.proofs.SpeltVariables.{outputs_stay, ends_stay}
+use Rattle.merc_order_laws.proofs.SpeltWritten.{original_old, spelt_is_made_of}
 
 none_from : (number : ℕ) (these : Variables) → AllBelow number these → (v : ℕ) → number ≤ v → these v ≡ false
 none_from number these below v l = not_true (these v) (λ h. absurd (omega (arith, l, below v h)))
@@ -82,6 +84,7 @@ outer_heads heads goal = (
 -- A body.
 record Body (modes : ℕ → List ModeDecl) (heads : List ℕ) (bound : Bound) (goal : Node) (tree : OrderedNode) : Type 0 where
   ordered : Ordered
+  is_from : from (total_of heads goal) modes goal bound ≡ Ready ordered
   fits : Fits (total_of heads goal) modes bound (variables goal) (binds (total_of heads goal) modes goal) (reached (total_of heads goal) modes goal) ordered
   heads_bound : are_bound_behind modes heads bound goal ≡ true
   is_tree : tree ≡ spelt modes (first_fresh heads goal) ordered
@@ -92,24 +95,26 @@ body_is modes heads bound span goal tree sized (ordered, ready, is_tree) =
     let k = if_is (are_bound_behind modes heads bound goal) o ordered (unbound_output span) q in
     record {
       ordered = ordered;
+      is_from = p ∙ ap (λ (z : Ordered). Ready z) k.1;
       fits = from_fits (total_of heads goal) modes goal sized bound ordered (p ∙ ap (λ (z : Ordered). Ready z) k.1);
       heads_bound = k.0;
       is_tree = is_tree;
     }
 
+own_below : (modes : ℕ → List ModeDecl) (heads : List ℕ) (bound : Bound) (goal : Node) (tree : OrderedNode) (b : Body modes heads bound goal tree) → AllBelow (first_fresh heads goal) (in_ordered b.ordered)
+own_below modes heads bound goal tree b v h =
+    beyond_all (heads ++ variables goal) v (among_append v heads (variables goal) ∙ or_right (among heads v) (among (variables goal) v) (sym (b.fits.vars v) ∙ h))
+
 body_good : (modes : ℕ → List ModeDecl) (heads : List ℕ) (bound : Bound) (goal : Node) (tree : OrderedNode) → ((v : ℕ) → bound v ≡ true → among heads v ≡ true) → Body modes heads bound goal tree → GoodNode modes (among heads) bound tree
 body_good modes heads bound goal tree within b =
-    let number : ℕ = first_fresh heads goal in
     let head_below : AllBelow (first_fresh heads goal) (among heads) =
     λ v h. beyond_all (heads ++ variables goal) v (among_append v heads (variables goal) ∙ or_left (among heads v) (among (variables goal) v) h) in
     subst (λ (t : OrderedNode). GoodNode modes (among heads) bound t) (sym b.is_tree)
     (spelt_is_good modes b.ordered (first_fresh heads goal) (among heads) bound (b.fits.good (among heads) bound (outer_heads heads goal) (λ v h. refl))
-    (λ v h. beyond_all (heads ++ variables goal) v (among_append v heads (variables goal) ∙ or_right (among heads v) (among (variables goal) v) (sym (b.fits.vars v) ∙ h)))
-    head_below (λ v h. head_below v (within v h)))
+    (own_below modes heads bound goal tree b) head_below (λ v h. head_below v (within v h)))
 
 body_binds : (modes : ℕ → List ModeDecl) (heads : List ℕ) (bound : Bound) (goal : Node) (tree : OrderedNode) → Body modes heads bound goal tree → BindsHeads modes heads bound tree
 body_binds modes heads bound goal tree b =
-    let total : ℕ → ℕ = total_of heads goal in
     let outs : outputs_of tree ≡ ordered_outputs b.ordered = ap (λ (t : OrderedNode). outputs_of t) b.is_tree ∙ outputs_stay modes b.ordered (first_fresh heads goal) in
     elim (or_cases (not (reached (total_of heads goal) modes goal)) (list_all (λ v. bound v || binds (total_of heads goal) modes goal v) heads) b.heads_bound) as (λ _. BindsHeads modes heads bound tree) [
       | inl k ↦ inl (ap (λ (t : OrderedNode). node_ends modes t) b.is_tree ∙ ends_stay modes b.ordered (first_fresh heads goal) ∙ b.fits.ended ∙ unreached (reached (total_of heads goal) modes goal) k)
@@ -136,3 +141,20 @@ query_is_good modes answers goal tree sized is =
 
 pub query_binds_answers : QueryBindsAnswers
 query_binds_answers modes answers goal tree sized is = body_binds modes answers nothing goal tree (body_is modes answers nothing (span_of goal) goal tree sized is)
+
+-- What a body is made of.
+
+body_made : (modes : ℕ → List ModeDecl) (heads : List ℕ) (bound : Bound) (goal : Node) (tree : OrderedNode) → Body modes heads bound goal tree → IsMadeFrom (first_fresh heads goal) goal tree
+body_made modes heads bound goal tree b = (
+  original (first_fresh heads goal) (twins b.ordered),
+  original_old (first_fresh heads goal) (twins b.ordered),
+  subst (λ (t : OrderedNode). IsMadeOf goal (original (first_fresh heads goal) (twins b.ordered)) t) (sym b.is_tree)
+      (spelt_is_made_of (total_of heads goal) modes goal bound b.ordered (first_fresh heads goal) b.is_from (own_below modes heads bound goal tree b)),
+)
+
+pub procedure_is_made_from : ProcedureIsMadeFrom
+procedure_is_made_from modes arity mode goal tree sized is =
+    body_made modes (numbers_below arity) (bound_at mode.args) goal tree (body_is modes (numbers_below arity) (bound_at mode.args) mode.span goal tree sized is)
+
+pub query_is_made_from : QueryIsMadeFrom
+query_is_made_from modes answers goal tree sized is = body_made modes answers nothing goal tree (body_is modes answers nothing (span_of goal) goal tree sized is)

@@ -6,4 +6,6 @@ pub mod Replacing
 pub mod Grouping
 pub mod SpeltVariables
 pub mod SpeltGood
+pub mod SpeltWritten
 pub mod Bodies
+pub mod Written

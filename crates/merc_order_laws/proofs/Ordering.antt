@@ -28,39 +28,39 @@ use Rattle.merc_order_laws.proofs.Facts.{clash, or_left, or_right, or_cases, and
 use Rattle.merc_order_laws.proofs.Fewer.{fewer, fewer_each}
 use Rattle.merc_order_laws.proofs.Groups.{among_outputs, outs_in, outs_free, behind_node, binds_all, places_bound, tested_all, tested_free, same_length, call_fits_places, written_all, written_free, all_bound, bound_in, inputs_in, taken_takes}
 
-chosen : (b : Bool) (x y z : Outcome) → (if b then x else y) ≡ z → ((b ≡ true) × (x ≡ z)) ⊎ ((b ≡ false) × (y ≡ z))
+pub chosen : (b : Bool) (x y z : Outcome) → (if b then x else y) ≡ z → ((b ≡ true) × (x ≡ z)) ⊎ ((b ≡ false) × (y ≡ z))
 chosen true x y z h = inl (refl, h)
 chosen false x y z h = inr (refl, h)
 
-ready_is : (g o : Ordered) → Ready g ≡ Ready o → g ≡ o
+pub ready_is : (g o : Ordered) → Ready g ≡ Ready o → g ≡ o
 ready_is g o h = cc
 
-all_ready_is : (g o : Ordereds) → AllReady g ≡ AllReady o → g ≡ o
+pub all_ready_is : (g o : Ordereds) → AllReady g ≡ AllReady o → g ≡ o
 all_ready_is g o h = cc
 
-stuck_not : {A : Type 0} (f : Refusal) (o : Ordered) → Stuck f ≡ Ready o → A
+pub stuck_not : {A : Type 0} (f : Refusal) (o : Ordered) → Stuck f ≡ Ready o → A
 stuck_not f o h = absurd cc
 
-one_stuck_not : {A : Type 0} (f : Refusal) (o : Ordereds) → OneStuck f ≡ AllReady o → A
+pub one_stuck_not : {A : Type 0} (f : Refusal) (o : Ordereds) → OneStuck f ≡ AllReady o → A
 one_stuck_not f o h = absurd cc
 
 pub if_ready_is : (x : Outcome) (f : Ordered → Outcome) (o : Ordered) → if_ready x f ≡ Ready o → (g : Ordered) × (x ≡ Ready g) × (f g ≡ Ready o)
 if_ready_is (Ready g) f o h = (g, refl, h)
 if_ready_is (Stuck x) f o h = stuck_not x o h
 
-if_all_ready_is : (x : Outcomes) (f : Ordereds → Outcome) (o : Ordered) → if_all_ready x f ≡ Ready o → (g : Ordereds) × (x ≡ AllReady g) × (f g ≡ Ready o)
+pub if_all_ready_is : (x : Outcomes) (f : Ordereds → Outcome) (o : Ordered) → if_all_ready x f ≡ Ready o → (g : Ordereds) × (x ≡ AllReady g) × (f g ≡ Ready o)
 if_all_ready_is (AllReady g) f o h = (g, refl, h)
 if_all_ready_is (OneStuck x) f o h = stuck_not x o h
 
-then_all_is : (g : Ordered) (x : Outcomes) (os : Ordereds) → then_all g x ≡ AllReady os → (r : Ordereds) × (x ≡ AllReady r) × (more_goals g r ≡ os)
+pub then_all_is : (g : Ordered) (x : Outcomes) (os : Ordereds) → then_all g x ≡ AllReady os → (r : Ordereds) × (x ≡ AllReady r) × (more_goals g r ≡ os)
 then_all_is g (AllReady r) os h = (r, refl, cc)
 then_all_is g (OneStuck x) os h = one_stuck_not x os h
 
-and_all_is : (x : Outcome) (xs : Outcomes) (os : Ordereds) → and_all x xs ≡ AllReady os → (g : Ordered) × (r : Ordereds) × (x ≡ Ready g) × (xs ≡ AllReady r) × (more_goals g r ≡ os)
+pub and_all_is : (x : Outcome) (xs : Outcomes) (os : Ordereds) → and_all x xs ≡ AllReady os → (g : Ordered) × (r : Ordereds) × (x ≡ Ready g) × (xs ≡ AllReady r) × (more_goals g r ≡ os)
 and_all_is (Ready g) xs os h = let (r, e, f) = then_all_is g xs os h in (g, r, refl, e, f)
 and_all_is (Stuck x) xs os h = one_stuck_not x os h
 
-beside_is : (number : ℕ) (move : Move) (ms : List Move) (bound : Bound) (x : Outcome) (xs : Outcomes) (os : Ordereds) → beside_next number move ms bound x xs ≡ AllReady os
+pub beside_is : (number : ℕ) (move : Move) (ms : List Move) (bound : Bound) (x : Outcome) (xs : Outcomes) (os : Ordereds) → beside_next number move ms bound x xs ≡ AllReady os
     → (g : Ordered) × (r : Ordereds) × (x ≡ Ready g) × (xs ≡ AllReady r) × (more_goals g r ≡ os)
 beside_is number move ms bound (Ready g) xs os h = let (r, e, f) = then_all_is g xs os h in (g, r, refl, e, f)
 beside_is number move ms bound (Stuck x) xs os h = one_stuck_not (conjunct_fault number move.span (needed (number + 1) move ms bound) x) os h
@@ -73,7 +73,7 @@ pub if_is : (b : Bool) (g o : Ordered) (f : Refusal) → (if b then Ready g else
 if_is true g o f h = (refl, ready_is g o h)
 if_is false g o f h = stuck_not f o h
 
-if_then : (b : Bool) (x : Outcome) (f : Refusal) (o : Ordered) → (if b then x else Stuck f) ≡ Ready o → (b ≡ true) × (x ≡ Ready o)
+pub if_then : (b : Bool) (x : Outcome) (f : Refusal) (o : Ordered) → (if b then x else Stuck f) ≡ Ready o → (b ≡ true) × (x ≡ Ready o)
 if_then true x f o h = (refl, h)
 if_then false x f o h = stuck_not f o h
 

@@ -11,12 +11,13 @@ use Rattle.merc_graded_tree.specs.Variables.{in_node}
 use Rattle.merc_order.specs.Bound.{Bound, nothing, among}
 use Rattle.merc_order.specs.Order.{from}
 use Rattle.merc_order.specs.Ordered.{Ordered, Ready}
-use Rattle.merc_order.specs.Procedures.{bound_at, numbers_below, IsProcedure, IsQuery}
-use Rattle.merc_order.specs.Spelt.{spelt}
+use Rattle.merc_order.specs.Procedures.{bound_at, numbers_below, first_fresh, IsProcedure, IsQuery}
+use Rattle.merc_order.specs.Spelt.{spelt, twins}
 use Rattle.merc_order_laws.specs.Bindings.{Variables}
 use Rattle.merc_order_laws.specs.GoodOrdered.{Good}
 use Rattle.merc_order_laws.specs.GoodTree.{node_ends, GoodNode}
 use Rattle.merc_order_laws.specs.OrderedVariables.{in_ordered, ordered_outputs, ends}
+use Rattle.merc_order_laws.specs.WrittenGoals.{original, IsMadeOf}
 
 -- Each call has as many arguments as each mode of its predicate has places.
 
@@ -91,3 +92,19 @@ QueryIsGood = (modes : ℕ → List ModeDecl) (answers : List ℕ) (goal : Node)
 
 abbrev pub QueryBindsAnswers : Type 0
 QueryBindsAnswers = (modes : ℕ → List ModeDecl) (answers : List ℕ) (goal : Node) (tree : OrderedNode) → Sized modes goal → IsQuery modes answers goal tree → BindsHeads modes answers nothing tree
+
+-- An ordered goal with its tests written out is made of the goal as it is written, where each fresh variable is taken for the one that it stands for.
+abbrev pub SpeltIsMadeOf : Type 0
+SpeltIsMadeOf = (total : ℕ → ℕ) (modes : ℕ → List ModeDecl) (goal : Node) (bound : Bound) (ordered : Ordered) (number : ℕ) → from total modes goal bound ≡ Ready ordered
+    → AllBelow number (in_ordered ordered) → IsMadeOf goal (original number (twins ordered)) (spelt modes number ordered)
+
+-- a tree is made of a goal, where variables below this number stand for themselves
+abbrev pub IsMadeFrom : ℕ → Node → OrderedNode → Type 0
+IsMadeFrom number goal tree = (new : ℕ → ℕ) × ((variable : ℕ) → variable < number → new variable ≡ variable) × IsMadeOf goal new tree
+
+abbrev pub ProcedureIsMadeFrom : Type 0
+ProcedureIsMadeFrom = (modes : ℕ → List ModeDecl) (arity : ℕ) (mode : ModeDecl) (goal : Node) (tree : OrderedNode) → Sized modes goal
+    → IsProcedure modes arity mode goal tree → IsMadeFrom (first_fresh (numbers_below arity) goal) goal tree
+
+abbrev pub QueryIsMadeFrom : Type 0
+QueryIsMadeFrom = (modes : ℕ → List ModeDecl) (answers : List ℕ) (goal : Node) (tree : OrderedNode) → Sized modes goal → IsQuery modes answers goal tree → IsMadeFrom (first_fresh answers goal) goal tree

@@ -1,6 +1,8 @@
 pub mod Bindings
 pub mod OrderedVariables
 pub mod GoodOrdered
+pub mod WrittenGoals
+pub mod WrittenGoalsExamples
 pub mod GoodOrderedExamples
 pub mod GoodTree
 pub mod GoodTreeExamples

@@ -1,15 +1,5 @@
 //! What the parts of ordered goals keep to.
-ghost use Rattle.merc_order_laws.specs.Laws.{
-  OrderedIsGood,
-  ProcedureBindsHeads,
-  ProcedureIsGood,
-  QueryBindsAnswers,
-  QueryIsGood,
-  SpeltEnds,
-  SpeltIsGood,
-  SpeltOutputs,
-  SpeltVariables,
-};
+ghost use Rattle.merc_order_laws.specs.Laws.{OrderedIsGood, ProcedureBindsHeads, ProcedureIsGood, ProcedureIsMadeFrom, QueryBindsAnswers, QueryIsGood, QueryIsMadeFrom, SpeltEnds, SpeltIsGood, SpeltIsMadeOf, SpeltOutputs, SpeltVariables};
 
 /// The ordered form of a goal is good: inputs are bound where each goal stands, what it writes is free there, its outputs
 /// are what it leaves bound of all that occurs outside it, negations and conditions bind nothing outside, and arms bind
@@ -31,6 +21,18 @@ pub fn spelt_is_good()
     ensures outputs { SpeltOutputs }
     ensures ends { SpeltEnds }
     ensures variables { SpeltVariables }
+{}
+
+/// With fresh variables taken for those that they stand for, each part of an ordered goal that holds no others is a part
+/// of the goal as it is written, a unification turned round, or a test of a variable against itself. So whatever holds of
+/// the written parts, as their types, holds of the ordered ones.
+///
+/// The same of the bodies of procedures and of asked goals, where the variables of the written goal and the head variables
+/// stand for themselves.
+pub fn is_made_of_the_written()
+    ensures spelt { SpeltIsMadeOf }
+    ensures procedures { ProcedureIsMadeFrom }
+    ensures queries { QueryIsMadeFrom }
 {}
 
 /// A predicate's body in a mode is good where its head variables occur outside it and the mode's inputs are bound, and
