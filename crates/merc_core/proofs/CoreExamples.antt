@@ -46,6 +46,15 @@ abbrev branches : Answer → Option ℕ
 branches (Ok w) = Some (length w.pool)
 branches (Err refused) = None
 
+-- the rights to signal that those in a hand hold, and the names of all branches with the items that they have passed
+abbrev signals_in : ℕ → Answer → Option (List (List ℕ))
+signals_in worker (Ok w) = Some (map (λ one. one.branch.signals) (filter (acts worker) w.pool))
+signals_in worker (Err refused) = None
+
+abbrev names : Answer → Option (List (List (ℕ × ℕ) × ℕ))
+names (Ok w) = Some (map (λ one. (one.branch.name, one.branch.passed)) w.pool)
+names (Err refused) = None
+
 -- a value handed on
 
 abbrev seven : Cell
@@ -88,6 +97,13 @@ signal-wakes = refl
 
 signal-once : branches (after root (Fork 0 ∷ Steal 1 0 ∷ Wait 1 ∷ Tick 0 ∷ Signal 0 ∷ [])) ≡ Some 3
 signal-once = refl
+
+-- A right is held until it is used.
+right-held : signals_in 0 (after root (Fork 0 ∷ Tick 0 ∷ [])) ≡ Some ((5 ∷ []) ∷ [])
+right-held = refl
+
+right-used : signals_in 0 (after root (Fork 0 ∷ Tick 0 ∷ Signal 0 ∷ [])) ≡ Some ([] ∷ [])
+right-used = refl
 
 -- Where the cell is full the user goes past its Wait.
 full-passes : outcome_of (after root (Fork 0 ∷ Tick 0 ∷ Signal 0 ∷ End 0 ∷ Pop 0 ∷ Wait 0 ∷ Tick 0 ∷ End 0 ∷ Resume 0 ∷ End 0 ∷ [])) ≡ Some (Some (Fine 2))
@@ -177,6 +193,18 @@ twice = ForkThen 9 [] [] (Child (ForkThen 9 [] [] (Child (Ends (Fine 1)) (Child 
 
 twice-list : list_of 0 (after twice (Fork 0 ∷ Fork 0 ∷ [])) ≡ Some (3 ∷ 2 ∷ 2 ∷ [])
 twice-list = refl
+
+-- The parent is behind its Fork, its children are at the beginnings of theirs, each under its number at the Fork's place.
+wide-names : names (after (TickThen wide) (Tick 0 ∷ Fork 0 ∷ [])) ≡ Some (([], 2) ∷ ((1, 1) ∷ [], 0) ∷ ((1, 3) ∷ [], 0) ∷ ((1, 2) ∷ [], 0) ∷ [])
+wide-names = refl
+
+-- Worker 1 signals, and what it wakes goes to its own list.
+abbrev thieves : Script
+thieves = ForkThen 9 (record { cell = 5; producer = 2; consumer = 3; value = Some (Int (pos 7)) } ∷ []) []
+    (Child (Ends (Fine 0)) (Child (SignalThen 5 (Ends (Fine 0))) (Child (WaitThen 5 (Ends (Fine 0))) NoChild))) (Ends (Fine 0))
+
+thief-list : list_of 1 (after thieves (Fork 0 ∷ Steal 1 0 ∷ Wait 1 ∷ Steal 1 0 ∷ Signal 1 ∷ [])) ≡ Some (3 ∷ [])
+thief-list = refl
 
 -- Two cells that are poisoned: child 1 raises name 40 after two steps, children 2 and 3 wait for what it does not signal.
 

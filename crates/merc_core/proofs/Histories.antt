@@ -12,9 +12,9 @@ use Rattle.merc_core.specs.declared.event.NotNow.TheVariants.{NoWorker}
 use Rattle.merc_core.specs.Rights.{has, has_in}
 use Rattle.merc_core.specs.World.{Branch, Location, Listed, Runs, Holds, AtCell, AtJoin, Spot, spot, World, start}
 use Rattle.merc_core.specs.Events.{Answer, acts, acts_at, first_from, beside, taken, in_hand, past_tick, tick_on, fork_on, signal_on, wait_at, wait_on, end_on, if_found, if_runs, running, happens, run}
-use Rattle.merc_core.specs.Laws.{LeadsTo}
+use Rattle.merc_core.specs.Laws.{LeadsTo, IsKept}
 use Rattle.merc_core.specs.History.{past_ticks, settled, happens_settled, replay, is_tick, without_ticks, IsRunOf, HistoriesAreRuns}
-use Rattle.merc_core.proofs.Pool.{Takes, Took, took_first, chosen, each_way, each-always}
+use Rattle.merc_core.proofs.Pool.{Takes, Took, took_first, chosen, each_way, each-filter, each-always}
 use Rattle.merc_core.proofs.Steps.{with_rest, put_back, Step, step_of, run-refused, run-keeps}
 use Rattle.merc_core.proofs.TruthSteps.{is_same, test_same}
 use Rattle.merc_core.proofs.Measure.{total, total-takes}
@@ -227,6 +227,24 @@ runs-to : (history : List Event) (w w' : World) → Single w → replay history 
 runs-to [] w w' single is = record { events = []; runs = is; same = refl }
 runs-to (e ∷ history) w w' single is = next-one w w' e history (happens_settled w e) single refl is (λ u single' next. runs-to history u w' single' next)
 
+kept-from : (events : List Event) → AllByRecursion IsKept (without_ticks events) → AllByRecursion IsKept events
+kept-from [] kept = tt
+kept-from (Tick v ∷ events) kept = (tt, kept-from events kept)
+kept-from (Fork v ∷ events) kept = (tt, kept-from events kept.1)
+kept-from (Pop v ∷ events) kept = (tt, kept-from events kept.1)
+kept-from (Steal v victim ∷ events) kept = (tt, kept-from events kept.1)
+kept-from (Signal v ∷ events) kept = (tt, kept-from events kept.1)
+kept-from (Wait v ∷ events) kept = (tt, kept-from events kept.1)
+kept-from (End v ∷ events) kept = (tt, kept-from events kept.1)
+kept-from (Resume v ∷ events) kept = (tt, kept-from events kept.1)
+kept-from (Lost v ∷ events) kept = absurd kept.0
+
 pub histories_are_runs : HistoriesAreRuns
 histories_are_runs root workers history w is =
-    let ran = runs-to history (start root workers) w (single-start root workers) is in record { events = ran.events; leads = ran.runs; same = ran.same }
+    let ran = runs-to history (start root workers) w (single-start root workers) is in
+    record {
+      events = ran.events;
+      leads = ran.runs;
+      same = ran.same;
+      kept = λ kept. kept-from ran.events (rw ran.same (each-filter IsKept (λ e. not (is_tick e)) history kept))
+    }

@@ -19,6 +19,7 @@ pub mod Dues
 pub mod Hands
 pub mod Single
 pub mod Histories
+pub mod Waiters
 mod CoreExamples
 mod WellFormedExamples
 mod HistoryExamples

@@ -204,7 +204,7 @@ module _ (due : ℕ → ℕ) (root : Script) where
     formed-of joins join child steps had may item none (inl honest) = honest.formed
     formed-of joins join child steps had may item none (inr cut) = absurd (none cut.end cut.is)
 
-    formed-at : (w : World) (v : ℕ) (b : Branch) (item : Script) (others : List Spot) → Truth value Excused Spoiled root w → Takes w.pool (spot (Runs v) (with_rest b item)) others → ((o : Outcome) → item ≡ Ends o → ⊥)
+    pub formed-at : (w : World) (v : ℕ) (b : Branch) (item : Script) (others : List Spot) → Truth value Excused Spoiled root w → Takes w.pool (spot (Runs v) (with_rest b item)) others → ((o : Outcome) → item ≡ Ends o → ⊥)
         → Formed value b.steps b.signals b.waits item
     formed-at w v b item others truth takes none =
         formed-of w.joins b.join b.child b.steps b.signals b.waits item none (takes-one (Good value Excused Spoiled w.joins) takes truth.spots)

@@ -60,7 +60,7 @@ use Rattle.merc_core.proofs.TruthSteps.{is_same, test_same}
 use Rattle.merc_core.proofs.Measure.{total, total-takes, total-append, total-back, total-changed, total-mapped}
 use Rattle.merc_core.proofs.Hands.{hand-found}
 
-abbrev one_if : Bool → ℕ
+abbrev pub one_if : Bool → ℕ
 one_if true = 1
 one_if false = 0
 
@@ -279,7 +279,7 @@ pub single-after : (root : Script) (workers : ℕ) (events : List Event) (w : Wo
 single-after root workers events w leads = run-keeps (λ e. Unit {0}) Single single-step events (start root workers) w leads (each-always (λ e. Unit {0}) (λ e. tt) events) (single-start root workers)
 
 -- as numbers of those that pass a test
-total-passing : (test : Spot → Bool) (xs : List Spot) → total (λ x. one_if (test x)) xs ≡ length (filter test xs)
+pub total-passing : (test : Spot → Bool) (xs : List Spot) → total (λ x. one_if (test x)) xs ≡ length (filter test xs)
 total-passing test [] = refl
 total-passing test (x ∷ xs) = by-test (test x) (total-passing test xs)
   where
@@ -292,5 +292,5 @@ each_single root workers events w leads =
     let single = single-after root workers events w leads in
     record {
       one_hand = λ worker. let same = total-passing (acts worker) w.pool in let one = single.one_hand worker in omega arith;
-      one_parent = λ number. let same = total-passing (is_parent number) w.pool in let one = single.one_parent number in omega arith
+      one_parent = λ number. let same = total-passing (is_parent number) w.pool in let one = single.one_parent number in omega arith;
     }

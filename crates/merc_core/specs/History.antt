@@ -6,7 +6,7 @@ use Rattle.merc_core.specs.declared.event.Event.{Event}
 use Rattle.merc_core.specs.declared.event.Event.TheVariants.{Tick, Fork, Pop, Steal, Signal, Wait, End, Resume, Lost}
 use Rattle.merc_core.specs.World.{Branch, World, start}
 use Rattle.merc_core.specs.Events.{Answer, past_tick, tick_on, fork_on, signal_on, wait_on, end_on, lose_on, running, happens}
-use Rattle.merc_core.specs.Laws.{LeadsTo}
+use Rattle.merc_core.specs.Laws.{LeadsTo, IsKept}
 
 -- past the Ticks with which what is left of its script begins
 abbrev pub past_ticks : Script → Branch → Branch
@@ -50,11 +50,12 @@ is_tick (Lost worker) = false
 abbrev pub without_ticks : List Event → List Event
 without_ticks events = filter (λ event. not (is_tick event)) events
 
--- events that lead to a world and are those of a history but for Ticks
+-- Events that lead to a world and are those of a history but for Ticks. None ends a branch for want of memory if none of the history does.
 pub record IsRunOf (root : Script) (workers : ℕ) (history : List Event) (w : World) : Type 0 where
   pub events : List Event
   pub leads : LeadsTo root workers events w
   pub same : without_ticks events ≡ without_ticks history
+  pub kept : AllByRecursion IsKept history → AllByRecursion IsKept events
 
 -- What a history leads to, the core comes to with the Ticks put in.
 abbrev pub HistoriesAreRuns : Type 0

@@ -9,7 +9,7 @@ use Rattle.merc_script.specs.Places.{Name, left_of, script_named}
 use Rattle.merc_core.specs.declared.event.Event.{Event}
 use Rattle.merc_core.specs.declared.event.Event.TheVariants.{Tick, Fork, Pop, Steal, Signal, Wait, End, Resume, Lost}
 use Rattle.merc_core.specs.World.{Branch, Location, Listed, Runs, Holds, AtCell, AtJoin, Spot, Parent, Join, Stored, World, start, outcome}
-use Rattle.merc_core.specs.Events.{Answer, worker_of, acts, in_hand, happens, run}
+use Rattle.merc_core.specs.Events.{Answer, worker_of, acts, parked, in_hand, happens, run}
 use Rattle.merc_core.specs.WellFormed.{WellFormed, value_in, cells_of}
 
 -- this list of events is accepted, and leads to a world
@@ -157,6 +157,10 @@ pub record AreSingle (w : World) : Type 0 where
 
 abbrev pub EachSingle : Type 0
 EachSingle = (root : Script) (workers : ℕ) (events : List Event) (w : World) → LeadsTo root workers events w → AreSingle w
+
+-- In a well-formed script one branch at most is parked at a cell.
+abbrev pub EachWaiter : Type 0
+EachWaiter = (root : Script) (workers : ℕ) (events : List Event) (w : World) → WellFormed root → LeadsTo root workers events w → (cell : ℕ) → length (filter (parked cell) w.pool) ≤ 1
 
 -- Only a worker's own events change what it runs or holds.
 abbrev pub OwnEventsAlone : Type 0

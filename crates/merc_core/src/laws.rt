@@ -1,6 +1,6 @@
 //! What holds of the core after every list of events that it accepts.
 ghost use Rattle.merc_core.specs.History.{HistoriesAreRuns};
-ghost use Rattle.merc_core.specs.Laws.{AlwaysEnds, EachCarries, EachSingle, EachStands, EveryInterleaving, EveryLoss, NeverStuck, OwnEventsAlone};
+ghost use Rattle.merc_core.specs.Laws.{AlwaysEnds, EachCarries, EachSingle, EachStands, EachWaiter, EveryInterleaving, EveryLoss, NeverStuck, OwnEventsAlone};
 
 /// Each outcome that is stored is the end of that child's script, each full cell has its script's value, and the
 /// outcome of the whole is the end of the root's script: for every well-formed script, every number of workers and
@@ -52,4 +52,9 @@ pub fn each_carries()
 /// A worker runs or holds one branch at most, and a join has one parent at most.
 pub fn each_single()
     ensures { EachSingle }
+{}
+
+/// In a well-formed script one branch at most is parked at a cell.
+pub fn each_waiter()
+    ensures { EachWaiter }
 {}
