@@ -14,3 +14,4 @@ pub mod TakingUp
 pub mod WaitingAt
 pub mod Waking
 pub mod SignalledAt
+pub mod StoredOutcomes

@@ -8,3 +8,4 @@ pub mod Queues
 pub mod Standing
 pub mod Mirror
 pub mod Stepping
+pub mod Outcomes

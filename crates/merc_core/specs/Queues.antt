@@ -1,7 +1,7 @@
 -- The lists in which the core keeps its branches.
-use Rattle.std.specs.Prelude.{ℕ, Bool, true, false, List, [], ◌++◌, Option, Some, None}
+use Rattle.std.specs.Prelude.{ℕ, ◌+◌, Bool, true, false, List, [], ◌++◌, Option, Some, None}
 use Rattle.merc_script.specs.declared.outcome.Outcome.{Outcome}
-use Rattle.merc_script.specs.declared.outcome.Outcome.TheVariants.{Starved}
+use Rattle.merc_script.specs.declared.outcome.Outcome.TheVariants.{Ok as Fine, Raise, Limit, Starved, NoMemory}
 use Rattle.merc_core.specs.declared.branch.Branch.{Branch}
 use Rattle.merc_core.specs.declared.cell.Cell.{Cell}
 use Rattle.merc_core.specs.declared.cell.Meeting.{Meeting}
@@ -38,3 +38,11 @@ meeting_at false false = Open
 abbrev pub meeting_of : Option Cell → Meeting
 meeting_of None = Open
 meeting_of (Some cell) = meeting_at cell.is_full cell.is_poisoned
+
+-- a parent behind its Fork, whose join gave this outcome
+abbrev pub behind_with : Outcome → Branch → Branch
+behind_with (Fine gained) b = record b { steps = b.steps + gained }
+behind_with (Raise text made) b = record b { ended = Some (Raise text (b.steps + made)) }
+behind_with Limit b = record b { ended = Some Limit }
+behind_with Starved b = record b { ended = Some Starved }
+behind_with NoMemory b = record b { ended = Some NoMemory }

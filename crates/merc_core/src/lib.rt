@@ -7,6 +7,7 @@ mod course;
 pub mod event;
 mod join;
 mod lists;
+mod resuming;
 mod rights;
 mod running;
 mod signalling;
