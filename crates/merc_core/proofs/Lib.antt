@@ -15,3 +15,4 @@ pub mod WaitingAt
 pub mod Waking
 pub mod SignalledAt
 pub mod StoredOutcomes
+pub mod ResumedAt
