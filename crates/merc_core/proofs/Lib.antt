@@ -16,3 +16,5 @@ pub mod Waking
 pub mod SignalledAt
 pub mod StoredOutcomes
 pub mod ResumedAt
+pub mod Spoiling
+pub mod Poisoning

@@ -9,3 +9,4 @@ pub mod Standing
 pub mod Mirror
 pub mod Stepping
 pub mod Outcomes
+pub mod Roomy

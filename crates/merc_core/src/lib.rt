@@ -4,6 +4,7 @@
 mod branch;
 mod cell;
 mod course;
+mod ending;
 pub mod event;
 mod join;
 mod lists;
