@@ -18,3 +18,5 @@ pub mod StoredOutcomes
 pub mod ResumedAt
 pub mod Spoiling
 pub mod Poisoning
+pub mod FinishedAt
+pub mod EndedAt

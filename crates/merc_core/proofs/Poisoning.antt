@@ -172,11 +172,11 @@ stored-now : (stored : List Stored) (new : Stored) (join child : ℕ) → nat_eq
     → stored_at join child (stored ++ (new ∷ [])) ≡ first_stored (stored_at join child stored) new.outcome
 stored-now [] new join child one other =
     ap (λ t. if (t && nat_eq new.child child) then Some new.outcome else None) one ∙ ap (λ t. if t then Some new.outcome else None) other
-stored-now (first ∷ rest) new join child one other = step (nat_eq first.join join && nat_eq first.child child) (stored-now rest new join child one other)
+stored-now (first ∷ rest) new join child one other = step (nat_eq first.join join && nat_eq first.child child) (stored_at join child rest) (stored_at join child (rest ++ (new ∷ []))) (stored-now rest new join child one other)
   where
-    step : {o p : Option Outcome} (b : Bool) → p ≡ first_stored o new.outcome → (if b then Some first.outcome else p) ≡ first_stored (if b then Some first.outcome else o) new.outcome
-    step true is = refl
-    step false is = is
+    step : (b : Bool) (o p : Option Outcome) → p ≡ first_stored o new.outcome → (if b then Some first.outcome else p) ≡ first_stored (if b then Some first.outcome else o) new.outcome
+    step true o p is = refl
+    step false o p is = is
 
 -- what is stored for another join stays
 pub stored-apart : (stored : List Stored) (new : Stored) (join from : ℕ) (all : Children) → nat_eq new.join join ≡ false → stored_for (stored ++ (new ∷ [])) join from all ≡ stored_for stored join from all
