@@ -1,6 +1,25 @@
 pub mod Pool
 pub mod Steps
 pub mod Measure
+pub mod Truth
+pub mod TruthSteps
+pub mod Names
+pub mod Losses
+pub mod Carrying
+pub mod Live
+pub mod Anys
+pub mod Progress
+pub mod Times
+pub mod ForkTimes
+pub mod Serving
+pub mod ForkServing
+pub mod Parking
+pub mod LiveSteps
+pub mod Dues
+pub mod Hands
+pub mod Single
+pub mod Histories
+pub mod Waiters
 mod CoreExamples
 pub mod CoreLists
 pub mod StandingLaws
@@ -20,3 +39,5 @@ pub mod Spoiling
 pub mod Poisoning
 pub mod FinishedAt
 pub mod EndedAt
+mod WellFormedExamples
+mod HistoryExamples

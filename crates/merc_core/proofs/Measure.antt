@@ -4,7 +4,8 @@ use Rattle.std.specs.Prelude.{Option, Result, Ok, Err, filter, map, if◌then◌
 use Rattle.std.specs.List.{AllByRecursion}
 use Rattle.merc_script.specs.declared.outcome.Outcome.{Outcome}
 use Rattle.merc_script.specs.declared.outcome.Outcome.TheVariants.{Ok as Fine, Raise, Limit, Starved, NoMemory}
-use Rattle.merc_script.specs.Script.{Script, Ends, TickThen, WaitThen, SignalThen, ForkThen, Children, NoChild, Child, Cell, Move, size, sizes}
+use Rattle.merc_script.specs.declared.cells.Move.{Move}
+use Rattle.merc_script.specs.Script.{Script, Ends, TickThen, WaitThen, SignalThen, ForkThen, Children, NoChild, Child, Cell, size, sizes}
 use Rattle.merc_script.specs.Joining.{joined}
 use Rattle.merc_core.specs.declared.event.Event.{Event}
 use Rattle.merc_core.specs.declared.event.NotNow.{NotNow}
@@ -226,7 +227,7 @@ event-less {w} (finishes e v b o others worker takes how) =
     let h = hold_load v b.join (poison b.signals v others) (outcomes_of (stored_with w b o) b.join (slice_get w.joins b.join)) in
     let some = weight-some b.rest in
     omega arith
-event-less {w} (takes_up e v u b others worker takes-up takes) = back_load w (Runs v) b others takes (omega arith)
+event-less {w} (takes_up e v u b others worker takes-up free takes) = back_load w (Runs v) b others takes (omega arith)
 event-less {w} (resumes v b number join outcomes others worker takes is all) =
     let less = behind_load (joined join.limit outcomes) b in back_load w (Runs v) (go_behind (joined join.limit outcomes) b) others takes (omega arith)
 

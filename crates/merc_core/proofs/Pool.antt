@@ -99,6 +99,10 @@ pub each-weaker : {A : Type 0} (Holds Also : A → Type 0) → ((x : A) → Hold
 each-weaker Holds Also weaken [] all = tt
 each-weaker Holds Also weaken (x ∷ xs) all = (weaken x all.0, each-weaker Holds Also weaken xs all.1)
 
+pub each-both : {A : Type 0} (One Other : A → Type 0) (xs : List A) → AllByRecursion One xs → AllByRecursion Other xs → AllByRecursion (λ x. One x × Other x) xs
+each-both One Other [] one other = tt
+each-both One Other (x ∷ xs) one other = ((one.0, other.0), each-both One Other xs one.1 other.1)
+
 pub each-always : {A : Type 0} (Holds : A → Type 0) → ((x : A) → Holds x) → (xs : List A) → AllByRecursion Holds xs
 each-always Holds holds [] = tt
 each-always Holds holds (x ∷ xs) = (holds x, each-always Holds holds xs)

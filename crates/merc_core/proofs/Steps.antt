@@ -5,7 +5,8 @@ use Rattle.std.specs.Prelude.{Option, Result, Ok, Err, slice_get, if◌then◌el
 use Rattle.std.specs.List.{AllByRecursion}
 use Rattle.merc_script.specs.declared.outcome.Outcome.{Outcome}
 use Rattle.merc_script.specs.declared.outcome.Outcome.TheVariants.{NoMemory, Starved}
-use Rattle.merc_script.specs.Script.{Script, Ends, TickThen, WaitThen, SignalThen, ForkThen, Children, Cell, Move}
+use Rattle.merc_script.specs.declared.cells.Move.{Move}
+use Rattle.merc_script.specs.Script.{Script, Ends, TickThen, WaitThen, SignalThen, ForkThen, Children, Cell}
 use Rattle.merc_script.specs.Joining.{joined}
 use Rattle.merc_core.specs.declared.event.Event.{Event}
 use Rattle.merc_core.specs.declared.event.Event.TheVariants.{Tick, Fork, Pop, Steal, Signal, Wait, End, Resume, Lost}
@@ -91,7 +92,7 @@ pub data Step (w : World) : Event → World → Type 0 where
       → Takes w.pool (spot (Runs v) b) others → Finishes e v b.rest o
       → Step w e (finished w v b others o)
   takes_up : (e : Event) (v u : ℕ) (b : Branch) (others : List Spot) → nat_lt v w.workers ≡ true
-      → TakesUp e v → Takes w.pool (spot (Listed u) b) others
+      → TakesUp e v → in_hand v w.pool ≡ None → Takes w.pool (spot (Listed u) b) others
       → Step w e (put_back w (Runs v) b others)
   resumes : (v : ℕ) (b : Branch) (number : ℕ) (join : Join) (outcomes : List Outcome) (others : List Spot) → nat_lt v w.workers ≡ true
       → Takes w.pool (spot (Holds v number) b) others → slice_get w.joins number ≡ Some join → outcomes_of w.stored number (Some join) ≡ Some outcomes
@@ -162,27 +163,27 @@ module _ (w : World) (v : ℕ) (worker : nat_lt v w.workers ≡ true) (b : Branc
 loses_to : (w : World) (v : ℕ) (w' : World) → Began w v (λ b others. lose_on w v b others) w' → Step w (Lost v) w'
 loses_to w v w' began' = to_step _ _ (finishes (Lost v) v began'.branch NoMemory began'.others began'.worker began'.takes (loses v began'.branch.rest)) began'.went
 
-takes_up_at : (w : World) (e : Event) (v u : ℕ) (w' : World) → nat_lt v w.workers ≡ true → TakesUp e v → (location : Location) (b : Branch) (others : List Spot)
+takes_up_at : (w : World) (e : Event) (v u : ℕ) (w' : World) → nat_lt v w.workers ≡ true → TakesUp e v → in_hand v w.pool ≡ None → (location : Location) (b : Branch) (others : List Spot)
     → Takes w.pool (spot location b) others → listed_at u location ≡ true → run_on w v b others ≡ Ok w' → Step w e w'
-takes_up_at w e v u w' worker takes-up (Listed other) b others takes listing is = to_step _ _ (takes_up e v other b others worker takes-up takes) is
-takes_up_at w e v u w' worker takes-up (Runs other) b others takes listing is = absurd (cc)
-takes_up_at w e v u w' worker takes-up (Holds other join) b others takes listing is = absurd (cc)
-takes_up_at w e v u w' worker takes-up (AtCell cell) b others takes listing is = absurd (cc)
-takes_up_at w e v u w' worker takes-up (AtJoin join) b others takes listing is = absurd (cc)
+takes_up_at w e v u w' worker takes-up free (Listed other) b others takes listing is = to_step _ _ (takes_up e v other b others worker takes-up free takes) is
+takes_up_at w e v u w' worker takes-up free (Runs other) b others takes listing is = absurd (cc)
+takes_up_at w e v u w' worker takes-up free (Holds other join) b others takes listing is = absurd (cc)
+takes_up_at w e v u w' worker takes-up free (AtCell cell) b others takes listing is = absurd (cc)
+takes_up_at w e v u w' worker takes-up free (AtJoin join) b others takes listing is = absurd (cc)
 
-takes_up_to : (w : World) (e : Event) (v u : ℕ) (w' : World) → nat_lt v w.workers ≡ true → TakesUp e v → (q : Option (Spot × List Spot))
+takes_up_to : (w : World) (e : Event) (v u : ℕ) (w' : World) → nat_lt v w.workers ≡ true → TakesUp e v → in_hand v w.pool ≡ None → (q : Option (Spot × List Spot))
     → ((p : Spot × List Spot) → q ≡ Some p → Took (listed u) w.pool p) → take_up w v q ≡ Ok w' → Step w e w'
-takes_up_to w e v u w' worker takes-up None took is = absurd (cc)
-takes_up_to w e v u w' worker takes-up (Some p) took is = takes_up_at w e v u w' worker takes-up p.0.location p.0.branch p.1 (took p refl).takes (took p refl).passes is
+takes_up_to w e v u w' worker takes-up free None took is = absurd (cc)
+takes_up_to w e v u w' worker takes-up free (Some p) took is = takes_up_at w e v u w' worker takes-up free p.0.location p.0.branch p.1 (took p refl).takes (took p refl).passes is
 
-is_free : (q : Option (Spot × List Spot)) (answer : Answer) (w' : World) → if_free q answer ≡ Ok w' → answer ≡ Ok w'
-is_free None answer w' is = is
+is_free : (q : Option (Spot × List Spot)) (answer : Answer) (w' : World) → if_free q answer ≡ Ok w' → (q ≡ None) × (answer ≡ Ok w')
+is_free None answer w' is = (refl, is)
 is_free (Some p) answer w' is = absurd (cc)
 
 pops_to : (w : World) (v : ℕ) (w' : World) → happens w (Pop v) ≡ Ok w' → Step w (Pop v) w'
 pops_to w v w' is =
     elim (chosen (nat_lt v w.workers) (if_free (in_hand v w.pool) (take_up w v (back_of v w.pool))) (Err NoWorker) (Ok w') is) [
-      | inl p ↦ takes_up_to w (Pop v) v v w' p.0 (pops v) (back_of v w.pool) (λ q e. took_last (listed v) w.pool q e) (is_free (in_hand v w.pool) _ w' p.1)
+      | inl p ↦ takes_up_to w (Pop v) v v w' p.0 (pops v) (is_free (in_hand v w.pool) _ w' p.1).0 (back_of v w.pool) (λ q e. took_last (listed v) w.pool q e) (is_free (in_hand v w.pool) _ w' p.1).1
       | inr p ↦ absurd (cc)
     ]
 
@@ -197,9 +198,9 @@ steals_to : (w : World) (v u : ℕ) (w' : World) → happens w (Steal v u) ≡ O
 steals_to w v u w' is =
     elim (chosen (nat_lt v w.workers) (if_worker w u (stolen_if_free w v u)) (Err NoWorker) (Ok w') is) [
       | inl p ↦ elim (chosen (nat_lt u w.workers) (stolen_if_free w v u) (Err NoWorker) (Ok w') p.1) [
-        | inl q ↦ elim (chosen (nat_eq v u) (Err SameWorker) (take_up w v (front_of u w.pool)) (Ok w') (is_free (in_hand v w.pool) (stolen w v u) w' q.1)) [
+        | inl q ↦ elim (chosen (nat_eq v u) (Err SameWorker) (take_up w v (front_of u w.pool)) (Ok w') (is_free (in_hand v w.pool) (stolen w v u) w' q.1).1) [
           | inl r ↦ absurd (cc)
-          | inr r ↦ takes_up_to w (Steal v u) v u w' p.0 (steals v u) (front_of u w.pool) (λ t e. took_first (listed u) w.pool t e) r.1
+          | inr r ↦ takes_up_to w (Steal v u) v u w' p.0 (steals v u) (is_free (in_hand v w.pool) (stolen w v u) w' q.1).0 (front_of u w.pool) (λ t e. took_first (listed u) w.pool t e) r.1
         ]
         | inr q ↦ absurd (cc)
       ]

@@ -10,3 +10,4 @@ pub mod Mirror
 pub mod Stepping
 pub mod Outcomes
 pub mod Roomy
+pub mod History

@@ -1,7 +1,8 @@
 -- Rights to signal a cell and to wait for one, and how a Fork hands them out.
 use Rattle.std.specs.Prelude.{ℕ, Bool, true, false, not, ◌&&◌, List, ◌++◌, nat_eq, filter, map}
 use Rattle.std.specs.List.{list_any}
-use Rattle.merc_script.specs.Script.{Cell, Move}
+use Rattle.merc_script.specs.declared.cells.Move.{Move}
+use Rattle.merc_script.specs.Script.{Cell}
 
 -- a cell is among these
 abbrev pub has : ℕ → List ℕ → Bool

@@ -3,7 +3,8 @@ use Rattle.std.specs.Prelude.{◌≡◌, ◌≢◌, ℕ, suc, ◌+◌, ◌≤◌
 use Rattle.std.specs.List.{AllByRecursion}
 use Rattle.merc_script.specs.declared.outcome.Outcome.{Outcome}
 use Rattle.merc_script.specs.declared.outcome.Outcome.TheVariants.{Ok as Fine, Raise, Limit, Starved, NoMemory}
-use Rattle.merc_script.specs.Script.{Script, Ends, TickThen, WaitThen, SignalThen, ForkThen, Children, NoChild, Child, Cell, Move, ends, count}
+use Rattle.merc_script.specs.declared.cells.Move.{Move}
+use Rattle.merc_script.specs.Script.{Script, Ends, TickThen, WaitThen, SignalThen, ForkThen, Children, NoChild, Child, Cell, ends, count}
 use Rattle.merc_script.specs.Joining.{joined, later}
 use Rattle.merc_value.specs.Value.{Value}
 use Rattle.merc_core.specs.Rights.{has, without, numbers_of, moved, signals_at, waits_at, signals_behind, waits_behind}

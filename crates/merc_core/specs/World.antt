@@ -1,6 +1,7 @@
 -- The core's state: branches of scripts over workers, with the cells and the joins at which they meet.
 use Rattle.std.specs.Prelude.{◌≡◌, ℕ, zero, suc, ◌+◌, Bool, true, false, ◌&&◌, List, [], ◌∷◌, Option, Some, None, if◌then◌else◌, nat_eq}
 use Rattle.merc_script.specs.declared.outcome.Outcome.{Outcome}
+use Rattle.merc_script.specs.Places.{Name}
 use Rattle.merc_script.specs.Script.{Script, Children, NoChild, Child, size}
 
 -- A branch is on its way through one script, that of a child of a join. `name` leads to this script from the root's: for each Fork on the way the number of
@@ -9,7 +10,7 @@ use Rattle.merc_script.specs.Script.{Script, Children, NoChild, Child, size}
 pub record Branch : Type 0 where
   pub join : ℕ
   pub child : ℕ
-  pub name : List (ℕ × ℕ)
+  pub name : Name
   pub passed : ℕ
   pub at : ℕ
   pub steps : ℕ
@@ -34,7 +35,7 @@ pub record Spot : Type 0 where
 pub record Parent : Type 0 where
   pub join : ℕ
   pub child : ℕ
-  pub name : List (ℕ × ℕ)
+  pub name : Name
   pub passed : ℕ
 
 -- A join of children with the Fork's limit. `behind` counts the items and ends that come before what follows the Fork. The outermost join has no parent.

@@ -1,4 +1,6 @@
 //! Events, and why one is refused.
+ghost use Rattle.std.specs.Prelude.{◌≡◌};
+ghost use Rattle.merc_core.specs.Events.{worker_of};
 
 /// A step of one of the workers. The first number is the worker, numbered from 0.
 #[derive(Clone, Copy, Debug, PartialEq, Eq)]
@@ -21,6 +23,25 @@ pub enum Event {
     Resume(u32),
     /// The branch ends for want of memory, wherever it stands.
     Lost(u32),
+}
+
+impl Event {
+    /// The worker whose step it is.
+    pub fn worker(self) -> u32
+        ensures { result ≡ worker_of self }
+    {
+        match self {
+            Event::Tick(worker)
+            | Event::Fork(worker)
+            | Event::Pop(worker)
+            | Event::Steal(worker, _)
+            | Event::Signal(worker)
+            | Event::Wait(worker)
+            | Event::End(worker)
+            | Event::Resume(worker)
+            | Event::Lost(worker) => worker,
+        }
+    }
 }
 
 /// The first condition of an event that fails.

@@ -7,6 +7,7 @@ mod course;
 mod ending;
 pub mod event;
 mod join;
+pub mod laws;
 mod lists;
 mod resuming;
 mod rights;
