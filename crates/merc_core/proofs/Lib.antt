@@ -35,3 +35,9 @@ pub mod TakingUp
 pub mod WaitingAt
 pub mod Waking
 pub mod SignalledAt
+pub mod StoredOutcomes
+pub mod ResumedAt
+pub mod Spoiling
+pub mod Poisoning
+pub mod FinishedAt
+pub mod EndedAt

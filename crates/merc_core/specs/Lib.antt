@@ -9,3 +9,5 @@ pub mod Queues
 pub mod Standing
 pub mod Mirror
 pub mod Stepping
+pub mod Outcomes
+pub mod Roomy

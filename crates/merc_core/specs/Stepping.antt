@@ -3,6 +3,7 @@ use Rattle.std.specs.Prelude.{◌≡◌, ℕ, ◌<◌, List, [], ◌∷◌, leng
 use Rattle.std.specs.List.{AllByRecursion}
 use Rattle.std.specs.Ordering.{nat_cmp}
 use Rattle.std.specs.BTreeMap.{get}
+use Rattle.merc_script.specs.declared.outcome.Outcome.{Outcome}
 use Rattle.merc_script.specs.declared.items.Item.{Item}
 use Rattle.merc_script.specs.Script.{Script}
 use Rattle.merc_core.specs.declared.branch.Branch.{Branch as CoreBranch}
@@ -11,8 +12,8 @@ use Rattle.merc_core.specs.declared.event.Event.{Event}
 use Rattle.merc_core.specs.declared.event.NotNow.{NotNow}
 use Rattle.merc_core.specs.declared.state.State.{State}
 use Rattle.merc_core.specs.declared.worker.Worker.{Worker}
-use Rattle.merc_core.specs.World.{World}
-use Rattle.merc_core.specs.Events.{happens}
+use Rattle.merc_core.specs.World.{World, Spot}
+use Rattle.merc_core.specs.Events.{happens, in_hand, finished}
 use Rattle.merc_core.specs.Standing.{IsLeft, IsNext}
 use Rattle.merc_core.specs.Mirror.{Parts, Mirrors, IsCourse, AreFit}
 
@@ -56,3 +57,8 @@ pub record RunsNext (items : List Item) (worker : Worker) (next : Next) : Type 0
 pub data IsIdle (worker : Worker) : Type 0 where
   empty : worker.hand ≡ [] → IsIdle worker
   holding : (join : ℕ) → worker.held ≡ Some join → IsIdle worker
+
+-- the branch that a worker runs is finished with an outcome, and the new parts show that
+abbrev pub Finishes : List Item → ℕ → Outcome → Parts → Parts → Type 0
+Finishes items worker o old new =
+    (w : World) (x : Spot) (others : List Spot) → Mirrors items old w → in_hand worker w.pool ≡ Some (x, others) → Mirrors items new (finished w worker x.branch others o)

@@ -4,10 +4,12 @@
 mod branch;
 mod cell;
 mod course;
+mod ending;
 pub mod event;
 pub mod laws;
 mod join;
 mod lists;
+mod resuming;
 mod rights;
 mod running;
 mod signalling;

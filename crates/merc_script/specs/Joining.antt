@@ -26,6 +26,35 @@ lacks_memory (Starved ∷ others) = lacks_memory others
 abbrev pub joined : ℕ → List Outcome → Outcome
 joined limit outcomes = if lacks_memory outcomes then NoMemory else walk limit 0 outcomes
 
+-- One outcome more, where those to the left of it are joined to one. Want of memory comes before all else.
+abbrev pub joined_with : ℕ → Outcome → Outcome → Outcome
+joined_with limit NoMemory next = NoMemory
+joined_with limit (Fine sum) NoMemory = NoMemory
+joined_with limit (Fine sum) (Fine steps) = if nat_le (sum + steps) limit then Fine (sum + steps) else Limit
+joined_with limit (Fine sum) (Raise text steps) = if nat_le (sum + steps) limit then Raise text (sum + steps) else Limit
+joined_with limit (Fine sum) Limit = Limit
+joined_with limit (Fine sum) Starved = Starved
+joined_with limit (Raise text steps) NoMemory = NoMemory
+joined_with limit (Raise text steps) (Fine more) = Raise text steps
+joined_with limit (Raise text steps) (Raise other more) = Raise text steps
+joined_with limit (Raise text steps) Limit = Raise text steps
+joined_with limit (Raise text steps) Starved = Raise text steps
+joined_with limit Limit NoMemory = NoMemory
+joined_with limit Limit (Fine more) = Limit
+joined_with limit Limit (Raise other more) = Limit
+joined_with limit Limit Limit = Limit
+joined_with limit Limit Starved = Limit
+joined_with limit Starved NoMemory = NoMemory
+joined_with limit Starved (Fine more) = Starved
+joined_with limit Starved (Raise other more) = Starved
+joined_with limit Starved Limit = Starved
+joined_with limit Starved Starved = Starved
+
+-- outcomes joined one after the other, behind those that are joined to one
+abbrev pub joined_behind : ℕ → Outcome → List Outcome → Outcome
+joined_behind limit before [] = before
+joined_behind limit before (next ∷ others) = joined_behind limit (joined_with limit before next) others
+
 -- an outcome as a script has it that made so many steps before
 abbrev pub later : ℕ → Outcome → Outcome
 later before (Raise text steps) = Raise text (before + steps)

@@ -1,7 +1,7 @@
 //! How the outcomes of children are joined to one.
-ghost use Rattle.std.specs.Prelude.{◌≡◌, ◌≤◌, length};
+ghost use Rattle.std.specs.Prelude.{◌≡◌, ◌+◌, ◌≤◌, Some, None, if◌then◌else◌, length, nat_le};
 ghost use Rattle.std.specs.List.{All};
-ghost use Rattle.merc_script.specs.Joining.{HasFewSteps, joined, lacks_memory as some_lacks_memory, walk};
+ghost use Rattle.merc_script.specs.Joining.{HasFewSteps, joined, joined_with};
 
 use crate::Outcome;
 
@@ -14,46 +14,39 @@ pub fn join(limit: u64, outcomes: &[Outcome]) -> Outcome
     requires small { All HasFewSteps outcomes.now }
     ensures { result ≡ joined limit outcomes.now }
 {
-    if lacks_memory(outcomes) {
-        Outcome::NoMemory
-    } else {
-        walk_from_left(limit, outcomes)
+    let mut before = Outcome::Ok(0);
+    for outcome in outcomes {
+        before = join_next(limit, before, *outcome);
+    }
+    before
+}
+
+/// The outcome of a fork with this limit where those of its first children are joined to `before`, `Ok(0)` for none,
+/// and the next child has the outcome `next`. So the outcomes of all children are joined one after the other.
+pub fn join_next(limit: u64, before: Outcome, next: Outcome) -> Outcome
+    ensures { result ≡ joined_with limit before next }
+{
+    match (before, next) {
+        (Outcome::NoMemory, _) | (_, Outcome::NoMemory) => Outcome::NoMemory,
+        (Outcome::Ok(sum), Outcome::Ok(steps)) => match sum_within(limit, sum, steps) {
+            Some(sum) => Outcome::Ok(sum),
+            None => Outcome::Limit,
+        },
+        (Outcome::Ok(sum), Outcome::Raise(text, steps)) => match sum_within(limit, sum, steps) {
+            Some(sum) => Outcome::Raise(text, sum),
+            None => Outcome::Limit,
+        },
+        (Outcome::Ok(_), _) => next,
+        _ => before,
     }
 }
 
-fn lacks_memory(outcomes: &[Outcome]) -> bool
-    ensures { result ≡ some_lacks_memory outcomes.now }
+// The sum of two numbers of steps, unless it passes the limit.
+fn sum_within(limit: u64, sum: u64, steps: u64) -> Option<u64>
+    ensures { result ≡ (if nat_le (sum + steps) limit then Some (sum + steps) else None) }
 {
-    for outcome in outcomes {
-        if let Outcome::NoMemory = outcome {
-            return true;
-        }
+    if limit < sum || limit - sum < steps {
+        return None;
     }
-    false
-}
-
-fn walk_from_left(limit: u64, outcomes: &[Outcome]) -> Outcome
-    requires few { length outcomes.now ≤ 64 }
-    requires small { All HasFewSteps outcomes.now }
-    ensures { result ≡ walk limit 0 outcomes.now }
-{
-    let mut sum = 0;
-    for outcome in outcomes {
-        match *outcome {
-            Outcome::Ok(steps) => {
-                sum += steps;
-                if sum > limit {
-                    return Outcome::Limit;
-                }
-            }
-            Outcome::Raise(text, steps) => {
-                if sum + steps > limit {
-                    return Outcome::Limit;
-                }
-                return Outcome::Raise(text, sum + steps);
-            }
-            other => return other,
-        }
-    }
-    Outcome::Ok(sum)
+    Some(sum + steps)
 }

@@ -10,7 +10,7 @@ pub mod script;
 
 pub use cells::{CellId, Move, ScriptCell};
 pub use items::{Fork, Item};
-pub use joining::join;
+pub use joining::{join, join_next};
 pub use load::Load;
 pub use outcome::Outcome;
 pub use script::Script;
