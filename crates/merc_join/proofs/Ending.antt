@@ -91,7 +91,7 @@ module _ {P : Type 0} (ends : P → ℕ → Outcome → Type 0) (parent : P) whe
             let other : u.child ≢ child = (λ same. t.0 (sym found.2 ∙ ap (λ (m : Mark). m.seat) (same_at marks u.child found.0 (mark id Carried) found.1 (ap (λ (k : ℕ). get_elem? marks k) same ∙ at_mark)))) in
             (fits.parent, inr (t.0, stops u.stage found.0.progress found.3 (none_due marks' u.child found.0 none_left (set_else marks child u.child m' other ∙ found.1)))))
             (at_set views id j w u e);
-        one = (w, set_here views id w (below views id v at));
+        there = (w, set_here views id w (below views id v at));
       }
 
   counts_running : (id child : ℕ) (q : P) (o : Outcome) (end_of : ends q child o) (marks : List Mark) (views : List (Stub P)) (total : ℕ) → to_come marks ≡ total → total < 18446744073709551616
@@ -153,7 +153,7 @@ module _ {P : Type 0} (ends : P → ℕ → Outcome → Type 0) (parent : P) whe
         (is_parent, inl (t.0 ∙ first, is_stage, is_taken, own)))
         (λ (t : (j ≢ id) × (get_elem? views j ≡ some u)). let was = end.each j u t.1 in (was.0, ⊎_elim (λ s. absurd (t.0 (s.0 ∙ sym first))) inr was.1))
         (at_set views id j w u e);
-    one = (w, ap (λ (k : ℕ). get_elem? (set views id w) k) (sym first) ∙ set_here views id w (below views id v at));
+    there = (w, ap (λ (k : ℕ). get_elem? (set views id w) k) (sym first) ∙ set_here views id w (below views id v at));
   }
 
   -- the last seat is one of a join whose children have all ended, and whose parent is there

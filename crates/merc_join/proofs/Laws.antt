@@ -49,9 +49,9 @@ module _ {P : Type 0} (ends : P → ℕ → Outcome → Type 0) (parent : P) whe
         behind = λ j k v w at at' is. ⊎_elim (λ (t : (k ≡ last) × (w.stage ≡ stage) × (w.taken ≡ taken) × Own outcomes w). ap has_stopped t.1 ∙ has_it) (λ (t : (k ≢ last) × (w.stage ≡ Stopped)). ap has_stopped t.1) (end.each k w at').1;
         surely = λ all. (
           last,
-          end.one.0,
-          end.one.1,
-          ⊎_elim (λ (t : (last ≡ last) × (end.one.0.stage ≡ stage) × (end.one.0.taken ≡ taken) × Own outcomes end.one.0). ap is_last t.1 ∙ is_it) (λ (t : (last ≢ last) × (end.one.0.stage ≡ Stopped)). absurd (t.0 refl)) (end.each last end.one.0 end.one.1).1,
+          end.there.0,
+          end.there.1,
+          ⊎_elim (λ (t : (last ≡ last) × (end.there.0.stage ≡ stage) × (end.there.0.taken ≡ taken) × Own outcomes end.there.0). ap is_last t.1 ∙ is_it) (λ (t : (last ≢ last) × (end.there.0.stage ≡ Stopped)). absurd (t.0 refl)) (end.each last end.there.0 end.there.1).1,
         );
       }
 

@@ -136,9 +136,9 @@ module _ {P : Type 0} (ends : P → ℕ → Outcome → Type 0) (parent : P) whe
     pub end : (child : ℕ) (outcome : Outcome) → get_elem? outcomes child ≡ some outcome → ends parent child outcome
     pub each : (j : ℕ) (v : Stub P) → get_elem? seats j ≡ some v
         → (v.parent ≡ parent) × (((j ≡ last) × (v.stage ≡ stage) × (v.taken ≡ taken) × Own outcomes v) ⊎ ((j ≢ last) × (v.stage ≡ Stopped)))
-    pub one : (v : Stub P) × (get_elem? seats last ≡ some v)
+    pub there : (v : Stub P) × (get_elem? seats last ≡ some v)
 
-  -- The word, the slots at home, and the seats
+  -- The word, the slots at home, and the seats: before the parent is there, while it is brought, while children are to come, while the last seat takes the outcomes, and when it has taken the parent
   pub data Reached : List ℕ → List (Option (Slot P)) → List (Stub P) → Type 0 where
     making : (children : ℕ) → 0 < children → Reached (children ∷ []) (replicate children (some Empty) ++ some Empty ∷ []) (first_stub parent children ∷ [])
     bringing : (children : ℕ) → 0 < children → Reached (children ∷ []) (replicate children (some Empty) ++ none ∷ []) (stub parent 0 children Bringing Empty 0 ∷ [])

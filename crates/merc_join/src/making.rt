@@ -1,5 +1,5 @@
 //! How a join is made.
-ghost use Rattle.std.specs.Prelude.{◌≡◌, ◌+◌, ◌-◌, ◌<◌, ◌≤◌, [], ◌∷◌, length, replicate, All, IfOk, MatchResult};
+ghost use Rattle.std.specs.Prelude.{◌≡◌, ◌+◌, ◌-◌, ◌<◌, ◌≤◌, [], length, replicate, All, IfOk, MatchResult};
 ghost use Rattle.std.specs.Arc.{arc_value};
 ghost use Rattle.merc_join.specs.declared.stub.Slot.TheVariants.{Empty};
 ghost use Rattle.merc_join.specs.Join.{IsSeated, first_stub, begun, most_children};

@@ -9,7 +9,7 @@ use std::marker::Model;
 pub const MOST_CHILDREN: usize = 64;
 
 /// The outcomes of a join's children, in order. They lie in the value itself.
-#[derive(Debug, Drop)]
+#[derive(Drop)]
 pub struct Outcomes {
     places: [Outcome; MOST_CHILDREN],
     count: usize,

@@ -3,7 +3,6 @@ ghost use Rattle.merc_join.specs.Join.{Kept, first_stub, after_split, split_off,
 
 use crate::stub::{Slot, Stub};
 use atomic_table::{Play, Shared, Split, TableRule};
-use merc_script::Outcome;
 use std::snapshot::Snapshot;
 
 /// What forked. It tells how each of its children may end, by the child's number.

@@ -1,11 +1,10 @@
 //! The steps of a ticket, on a seat that is lent, so that a clause can say what the seat knows afterwards. And the law
 //! that one ticket is the last.
-ghost use Rattle.std.specs.Prelude.{◌≡◌, ◌+◌, ◌<◌, ◌≤◌, ℕ, List, [], ◌∷◌, length, EachIndex, slice_get, Some};
+ghost use Rattle.std.specs.Prelude.{◌≡◌, ◌+◌, ◌<◌, ◌≤◌, ℕ, List, length};
 ghost use mathlib.Core.Option.{Option};
-ghost use Rattle.merc_script.specs.declared.outcome.Outcome.{Outcome};
 ghost use Rattle.merc_join.specs.declared.stub.Slot.{Slot};
-ghost use Rattle.merc_join.specs.declared.stub.Slot.TheVariants.{Empty, Ended, Parent};
-ghost use Rattle.merc_join.specs.declared.stub.Stage.TheVariants.{Waiting, Last, Over};
+ghost use Rattle.merc_join.specs.declared.stub.Slot.TheVariants.{Empty, Ended};
+ghost use Rattle.merc_join.specs.declared.stub.Stage.TheVariants.{Last, Over};
 ghost use Rattle.merc_join.specs.declared.stub.Stub.{Stub};
 ghost use Rattle.merc_join.specs.Join.{stub, Reached, IsBegun, IsSeated, OneIsLast, most_children};
 ghost use Rattle.merc_join.specs.Answers.{AreOutcomes, IsDone};
