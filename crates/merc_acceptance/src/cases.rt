@@ -20,7 +20,7 @@ pub struct Case {
 
 impl Case {
     /// The case with this text, and at this line where one is said.
-    pub fn of(
+    pub(crate) fn of(
         alloc: Global,
         settings: &Settings,
         text: &str,

@@ -105,7 +105,7 @@ const CONSTANTS: [(Name, &[u8]); 98] = [
 ];
 
 /// Counts the constants that have their texts as cases that passed, and tells each other one.
-pub fn run<R: Print + AllocGlobal>(rt: &R, tally: &mut Tally) -> io::Result<()> {
+pub(crate) fn run<R: Print + AllocGlobal>(rt: &R, tally: &mut Tally) -> io::Result<()> {
     let names = Names::new(rt.alloc());
     for (name, text) in CONSTANTS {
         if names.text(name) == Some(text) {

@@ -21,7 +21,7 @@ pub struct Filling<'a> {
 
 impl<'a> Filling<'a> {
     /// This text and line, which stood nowhere yet.
-    pub fn new(alloc: Global, text: &'a [u8], line: &'a [u8]) -> Filling<'a> {
+    pub(crate) fn new(alloc: Global, text: &'a [u8], line: &'a [u8]) -> Filling<'a> {
         Filling {
             alloc,
             text,
@@ -33,7 +33,7 @@ impl<'a> Filling<'a> {
 }
 
 /// The text that is written so.
-pub fn expand(written: &str, filling: &mut Filling<'_>) -> Result<Text, TableFault> {
+pub(crate) fn expand(written: &str, filling: &mut Filling<'_>) -> Result<Text, TableFault> {
     let mut text = Text::new(filling.alloc);
     let mut rest = written.as_bytes();
     // Each time takes one byte at least.

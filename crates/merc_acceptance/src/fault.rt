@@ -18,7 +18,7 @@ pub enum TableFault {
 
 impl TableFault {
     /// The fault in words.
-    pub fn text(self) -> &'static str {
+    pub(crate) fn text(self) -> &'static str {
         match self {
             TableFault::Unread => "the table cannot be read",
             TableFault::UnknownLine => "neither a comment, a heading, a setting nor a case",

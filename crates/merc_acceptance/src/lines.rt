@@ -23,7 +23,7 @@ pub struct LineFault {
 }
 
 /// The entries of a table, in order.
-pub fn entries(alloc: Global, text: &str) -> Result<Vec<Entry>, LineFault> {
+pub(crate) fn entries(alloc: Global, text: &str) -> Result<Vec<Entry>, LineFault> {
     let mut entries = Vec::new(alloc);
     let mut line = 0u32;
     for written in text.lines() {

@@ -12,7 +12,7 @@ use std::sync::Wait;
 use std::thread::Threads;
 
 /// Runs a case. Where something else came than was due, says both.
-pub fn difference<R: Threads + Wait + AllocGlobal>(
+pub(crate) fn difference<R: Threads + Wait + AllocGlobal>(
     rt: &R,
     settings: &Settings,
     case: Case,

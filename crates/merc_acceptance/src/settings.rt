@@ -33,7 +33,7 @@ pub struct Settings {
 
 impl Settings {
     /// Those that hold at a heading: the file `m.m` is the least module, and the goal is `X = 1`.
-    pub fn new(alloc: Global) -> Result<Settings, TableFault> {
+    pub(crate) fn new(alloc: Global) -> Result<Settings, TableFault> {
         let mut settings = Settings {
             files: Vec::new(alloc),
             words: Vec::new(alloc),
@@ -50,7 +50,7 @@ impl Settings {
     }
 
     /// Takes a line `key: value`.
-    pub fn set(&mut self, alloc: Global, key: &str, value: &str) -> Result<(), TableFault> {
+    pub(crate) fn set(&mut self, alloc: Global, key: &str, value: &str) -> Result<(), TableFault> {
         match key {
             "module" => self.set_file(alloc, "m.m", value),
             "goal" => self.set_goal(alloc, value),

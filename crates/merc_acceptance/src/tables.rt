@@ -35,7 +35,7 @@ impl Section {
 }
 
 /// Runs the cases of a table. With its first fault the table ends; the fault counts as a case that failed.
-pub fn run_table<R: Print + Threads + Wait + AllocGlobal>(
+pub(crate) fn run_table<R: Print + Threads + Wait + AllocGlobal>(
     rt: &R,
     path: &str,
     text: &str,

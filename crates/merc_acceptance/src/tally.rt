@@ -11,7 +11,7 @@ pub struct Tally {
 
 impl Tally {
     /// Counts a case.
-    pub fn count(&mut self, passed: bool) {
+    pub(crate) fn count(&mut self, passed: bool) {
         if passed {
             self.passed = self.passed.saturating_add(1);
         } else {

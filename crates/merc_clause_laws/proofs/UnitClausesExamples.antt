@@ -1,14 +1,16 @@
 -- Tables, clauses with and without faults, and a module whose only clause is the file's.
 use Rattle.std.proofs.Common.{◌≡◌, ℕ, ◌+◌, inl, List, [], ◌∷◌, Some, None, codes, refl}
-use Rattle.merc_base.specs.Names.{fixed_names}
+use Rattle.merc_base.specs.Names.{colon_minus_name, fixed_names}
 use Rattle.merc_base.proofs.NameLaws.{fixed_names-distinct}
 use Rattle.merc_base.specs.declared.place.Span.{Span}
-use Rattle.merc_tree.specs.Term.{Term, Application, none}
+use Rattle.merc_base.specs.declared.refusal.Refusal.{Refusal}
+use Rattle.merc_tree.specs.Term.{Term, Application, none, more}
 use Rattle.merc_tree.specs.Types.{IntType}
 use Rattle.merc_tree.specs.declared.declarations.Clause.{Clause}
 use Rattle.merc_tree.specs.declared.declarations.Module.{Module}
-use Rattle.merc_clause_laws.specs.ClauseFaults.{IsAmong}
-use Rattle.merc_clause_laws.specs.UnitClauses.{HasFaultlessUnits, IsFaultless, IsTable}
+use Rattle.merc_flat.specs.GoalFaults.{unknown_name}
+use Rattle.merc_clause_laws.specs.ClauseFaults.{IsAmong, name, names as names_fault, names_phase}
+use Rattle.merc_clause_laws.specs.UnitClauses.{HasFaultlessUnits, IsFaultless, IsFileFault, IsTable}
 
 pub IsTable-constants : IsTable fixed_names
 IsTable-constants = record { fixed = record { text = λ number text is. is }; distinct = fixed_names-distinct }
@@ -22,7 +24,7 @@ abbrev at : ℕ → Span
 at first = record { first = first; past = first + 1; line = 1 }
 
 abbrev atom : ℕ → ℕ → Term
-atom name first = Application name None none (at first)
+atom word first = Application word None none (at first)
 
 -- the predicate p/0 with its clause `p.`
 
@@ -62,3 +64,14 @@ HasFaultlessUnits-faulty units = of units.unit_clauses units.whole units.faultle
     of : (clauses : List Clause) → rule ∷ [] ≡ clauses → ((clause : Clause) → IsAmong clause clauses → IsFaultless [] (example (rule ∷ [])) clause) → ⊥
     of [] same all = cc
     of (first ∷ rest) same all = let is : rule ≡ first = cc in IsFaultless-unknown (all rule (inl is))
+
+-- the item of `p :- q.`
+abbrev rule_item : Term
+rule_item = Application colon_minus_name None (more rule.head (more (atom q_name 25) none)) (at 20)
+
+pub IsFileFault-rule : IsFileFault [] (rule_item ∷ []) (example (rule ∷ [])) (unknown_name (example (rule ∷ [])) (at 25))
+IsFileFault-rule = record { phase = names_phase; clause = rule; among = inl refl; fault = names_fault _ (name (at 25) (inl refl)) }
+
+-- a fault of a clause that is not the file's
+pub IsFileFault-unit : (told : Refusal) → IsFileFault [] [] (example (rule ∷ [])) told → ⊥
+IsFileFault-unit told is = is.among

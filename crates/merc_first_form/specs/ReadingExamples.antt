@@ -306,7 +306,7 @@ rule head body = apply colon_minus_name (head ∷ body ∷ [])
 abbrev add_defined : Term
 add_defined = rule call sum
 
-pub head_of-example : head_of names call ≡ Some (codes "add", codes "Y" ∷ codes "Z" ∷ [])
+pub head_of-example : head_of names call ≡ Some (codes "add", codes "X" ∷ codes "Y" ∷ codes "Z" ∷ [])
 unfolding fixed_names
 head_of-example = refl
 
@@ -315,7 +315,7 @@ pub head_of-integer : head_of names (apply add_name (x ∷ y ∷ integer (pos 7)
 unfolding fixed_names
 head_of-integer = refl
 
-pub clause_of-example : clause_of names (item_of add_defined) ≡ Some ((codes "add", codes "Y" ∷ codes "Z" ∷ []), sum_read ∷ [])
+pub clause_of-example : clause_of names (item_of add_defined) ≡ Some ((codes "add", codes "X" ∷ codes "Y" ∷ codes "Z" ∷ []), sum_read ∷ [])
 unfolding fixed_names
 clause_of-example = refl
 
@@ -332,7 +332,7 @@ abbrev add : Predicate
 add = record {
   name = codes "add";
   modes = Input ∷ Input ∷ Output ∷ [];
-  head = codes "Y" ∷ codes "Z" ∷ [];
+  head = codes "X" ∷ codes "Y" ∷ codes "Z" ∷ [];
   body = sum_read ∷ [];
 }
 
