@@ -5,7 +5,8 @@ use Rattle.merc_base.specs.declared.place.Span.{Span}
 use Rattle.merc_tree.specs.declared.declarations.ModeDecl.{ModeDecl}
 use Rattle.merc_graded_tree.specs.declared.basic.BasicGoal.{BasicGoal}
 use Rattle.merc_graded_tree.specs.declared.basic.BasicGoal.TheVariants.{Test as TestGoal}
-use Rattle.merc_graded_tree.specs.Nodes.{Node, node, Basic, Conjunction, Sequential, Nodes, more_nodes, outputs_of}
+use Rattle.merc_graded_tree.specs.declared.entries.Running.TheVariants.{Sequential}
+use Rattle.merc_graded_tree.specs.Nodes.{Node, node, Basic, Conjunction, Nodes, more_nodes, outputs_of}
 use Rattle.merc_graded_tree.specs.Variables.{variables_of, in_goal, in_node, in_nodes}
 use Rattle.merc_order.specs.Bound.{Bound, with, among}
 use Rattle.merc_order.specs.Spelt.{numbered, tests_of, inner_outputs, with_tests}

@@ -141,6 +141,9 @@ split_free h = cc h.2.0
 split_into_bound : IsGood [] (x ∷ y ∷ []) (Split x pair (y ∷ z ∷ []) (false ∷ false ∷ [])) [] → ⊥
 split_into_bound h = cc h.2.1.0.0
 
+split_into_bound_later : IsGood [] (x ∷ z ∷ []) (Split x pair (y ∷ z ∷ []) (false ∷ false ∷ [])) [] → ⊥
+split_into_bound_later h = cc h.2.1.0.2.0
+
 split_twice : IsGood [] (x ∷ []) (Split x pair (y ∷ y ∷ []) (false ∷ false ∷ [])) [] → ⊥
 split_twice h = cc h.2.1.0.1
 

@@ -5,7 +5,8 @@ use Rattle.std.proofs.Common.{arith}
 use Rattle.merc_goal_tree.specs.declared.goal.SimpleGoal.{SimpleGoal}
 use Rattle.merc_goal_tree.specs.declared.goal.SimpleGoal.TheVariants.{Same, Shape, Call}
 use Rattle.merc_graded_tree.specs.declared.basic.BasicGoal.TheVariants.{Assign, Test, Call as CallBasic}
-use Rattle.merc_graded_tree.specs.Nodes.{Node, node, Basic, Conjunction, Sequential, nodes_of}
+use Rattle.merc_graded_tree.specs.declared.entries.Running.TheVariants.{Sequential}
+use Rattle.merc_graded_tree.specs.Nodes.{Node, node, Basic, Conjunction, nodes_of}
 use Rattle.merc_order.specs.OrderExamples.{at, append, x, y, z, one}
 use Rattle.merc_order_laws.specs.WrittenGoals.{basic_goals, written_goal, renamed, original, StandsFor, as_written, turned_round}
 
