@@ -10,7 +10,8 @@ use Rattle.merc_tree.specs.declared.declarations.PredDecl.{PredDecl}
 use Rattle.merc_goal_tree.specs.declared.goal.SimpleGoal.TheVariants.{True, Fail, Same, Shape, Call}
 use Rattle.merc_goal_tree.specs.Nodes.{Node, Simple, Conjunction, nodes_of}
 use Rattle.merc_graded_tree.specs.declared.basic.BasicGoal.TheVariants.{Assign as AssignGoal, Test as TestGoal, Build as BuildGoal, Split as SplitGoal, Call as CallGoal}
-use Rattle.merc_graded_tree.specs.Nodes.{Node as OrderedNode, node, Basic, Conjunction as OrderedConjunction, Sequential, nodes_of as ordered_nodes}
+use Rattle.merc_graded_tree.specs.declared.entries.Running.TheVariants.{Sequential}
+use Rattle.merc_graded_tree.specs.Nodes.{Node as OrderedNode, node, Basic, Conjunction as OrderedConjunction, nodes_of as ordered_nodes}
 use Rattle.merc_order.specs.Faults.{never_ready, unbound_output}
 use Rattle.merc_order.specs.Ordered.{Ordered, put, Failure, Split, Called, Sequence, no_goals, more_goals, Ready, Stuck}
 use Rattle.merc_order.specs.OrderExamples.{at, mode, modes, f, p, append, x, y, z, one, pair, is_one, call, both, built}
