@@ -1,1 +1,4 @@
+pub mod Bounds
+pub mod BoundsExamples
+pub mod CallModeCode
 pub mod Facts

@@ -1,4 +1,6 @@
 //! The order of the goals of procedures.
 #![tactic(auto)]
 
+mod bound;
 mod facts;
+mod simple;

@@ -2,15 +2,10 @@
 use Rattle.std.specs.Prelude.{◌≡◌, ℕ, Bool, true, false, ◌||◌, List, [], ◌∷◌, length, refl}
 use Rattle.std.proofs.Common.{◌∙◌, ap, sym, subst}
 use Rattle.merc_order.specs.Bound.{Bound, with, Holds}
-use Rattle.merc_order.specs.Ways.{Removed, here, later, CanAll, none, take, IsReady}
+use Rattle.merc_order.specs.Ways.{Removed, here, later, CanAll, none, take, IsReady, Went, start, went, NoneReady}
 use Rattle.merc_order.specs.Moves.{Move, settled}
 use Rattle.merc_order.specs.Ordered.{is_ready, Outcomes, are_ready}
 use Rattle.merc_order.proofs.MoveLaws.{holds_with, or_left, or_right, or_both, IsMonotone, AreMonotone, monotone_one, monotone_rest, can_all-more, can_all-without, settled-all, all-settled}
-
--- Of all goals, from what was bound, these are left, and this is bound now.
-pub data Went : List Move → Bound → List Move → Bound → Type 0 where
-  start : (all : List Move) (bound : Bound) → Went all bound all bound
-  went : (all left rest : List Move) (bound now : Bound) (move : Move) → Went all bound left now → Removed move left rest → IsReady move now → Went all bound rest (with now move.binds)
 
 left_monotone : (all left : List Move) (bound now : Bound) → Went all bound left now → AreMonotone all → AreMonotone left
 left_monotone all left bound now (start a k) mono = mono
@@ -28,10 +23,6 @@ went-left : (all left : List Move) (bound now : Bound) → AreMonotone all → W
 went-left all left bound now mono (start a k) can = can
 went-left all left bound now mono (went a l r k n m w t ready) can =
     can_all-without m l r n (left_monotone a l k n w mono) t (went-left a l k n mono w can)
-
--- none of these is ready
-abbrev pub NoneReady : List Move → Bound → Type 0
-NoneReady all bound = (move : Move) (others : List Move) → Removed move all others → IsReady move bound → ⊥
 
 no_way : (m : Move) (ms : List Move) (now : Bound) → NoneReady (m ∷ ms) now → CanAll (m ∷ ms) now → ⊥
 no_way m ms now stuck (take move a o k r ready rest) = stuck move o r ready

@@ -6,6 +6,7 @@ pub mod Moves
 pub mod Ways
 pub mod Order
 pub mod Laws
+pub mod Marks
 pub mod OrderExamples
 pub mod Spelt
 pub mod Procedures

@@ -28,3 +28,12 @@ pub data IsSequence : List Move → Bound → Ordereds → Type 0 where
   none_left : (bound : Bound) → IsSequence [] bound no_goals
   goes : (before others : List Move) (move : Move) (bound : Bound) (goal : Ordered) (rest : Ordereds) → AllStuck before bound → move.from bound ≡ Ready goal
       → IsSequence (before ++ others) (with bound move.binds) rest → IsSequence (before ++ move ∷ others) bound (more_goals goal rest)
+
+-- Of all goals, from what was bound, these are left, and this is bound now.
+pub data Went : List Move → Bound → List Move → Bound → Type 0 where
+  start : (all : List Move) (bound : Bound) → Went all bound all bound
+  went : (all left rest : List Move) (bound now : Bound) (move : Move) → Went all bound left now → Removed move left rest → IsReady move now → Went all bound rest (with now move.binds)
+
+-- none of these is ready
+abbrev pub NoneReady : List Move → Bound → Type 0
+NoneReady all bound = (move : Move) (others : List Move) → Removed move all others → IsReady move bound → ⊥

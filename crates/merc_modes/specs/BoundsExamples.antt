@@ -1,0 +1,12 @@
+-- Variables are bound each once, in order.
+use Rattle.std.specs.Prelude.{◌≡◌, ◌∷◌, [], refl}
+use Rattle.merc_modes.specs.Bounds.{behind, all_behind}
+
+one_more : behind (4 ∷ 2 ∷ []) 3 ≡ 4 ∷ 2 ∷ 3 ∷ []
+one_more = refl
+
+one_of_them : behind (4 ∷ 2 ∷ []) 2 ≡ 4 ∷ 2 ∷ []
+one_of_them = refl
+
+several : all_behind (4 ∷ []) (2 ∷ 4 ∷ 2 ∷ 7 ∷ []) ≡ 4 ∷ 2 ∷ 7 ∷ []
+several = refl
