@@ -1,13 +1,12 @@
 -- One of a list of which something holds.
-use Rattle.std.proofs.Common.{◌≡◌, ℕ, zero, suc, ◌+◌, ◌≤◌, ◌<◌, ◌⊎◌, inl, inr, Bool, true, false, not, List, [], ◌∷◌, ◌++◌, Some, None, refl, ap, sym, ◌∙◌, subst, arith, length}
-use Rattle.std.proofs.lemmas.Bool.Decides.{nat_tests}
-use Rattle.std.specs.Prelude.{Option, if◌then◌else◌, nat_eq, filter, map, ◌&&◌, ◌||◌}
+use Rattle.std.proofs.Common.{◌≡◌, ℕ, ◌⊎◌, inl, inr, Bool, true, false, not, List, [], ◌∷◌, ◌++◌, Some, None, refl}
+use Rattle.std.specs.Prelude.{Option, if◌then◌else◌, nat_eq, filter, map, ◌||◌}
 use Rattle.std.specs.List.{AllByRecursion}
 use Rattle.merc_script.specs.declared.outcome.Outcome.{Outcome}
 use Rattle.merc_script.specs.declared.outcome.Outcome.TheVariants.{Starved}
 use Rattle.merc_script.specs.Script.{Script, Ends}
 use Rattle.merc_core.specs.Rights.{has, has_in, without}
-use Rattle.merc_core.specs.World.{Branch, Location, Listed, Runs, Holds, AtCell, AtJoin, Spot, spot}
+use Rattle.merc_core.specs.World.{Branch, Location, Listed, Runs, Holds, Spot, spot}
 use Rattle.merc_core.specs.Events.{parked, awaits, ended, listed_backwards, placed, woken, wake, unchanged, poison, hold_one, hold_if}
 use Rattle.merc_core.proofs.Pool.{Takes, here, there, each_way}
 use Rattle.merc_core.proofs.TruthSteps.{either_true, is_same, test_same}

@@ -1,42 +1,19 @@
 -- In a well-formed script an end that a branch was given early is Starved or NoMemory.
-use Rattle.std.proofs.Common.{◌≡◌, ℕ, zero, suc, ◌+◌, ◌≤◌, ◌⊎◌, inl, inr, Bool, true, false, not, List, [], ◌∷◌, ◌++◌, Some, None, refl, ap, sym, ◌∙◌, subst, arith, length}
-use Rattle.std.specs.Prelude.{Option, Ok, slice_get, if◌then◌else◌, filter, map}
+use Rattle.std.proofs.Common.{◌≡◌, ℕ, suc, ◌+◌, ◌⊎◌, inl, inr, Bool, true, false, not, List, [], ◌∷◌, Some, None, refl, ap, sym, ◌∙◌, subst, length}
+use Rattle.std.specs.Prelude.{Option, slice_get, if◌then◌else◌, filter, map}
 use Rattle.std.specs.List.{AllByRecursion}
 use Rattle.merc_value.specs.Value.{Value}
 use Rattle.merc_script.specs.declared.outcome.Outcome.{Outcome}
 use Rattle.merc_script.specs.declared.outcome.Outcome.TheVariants.{Ok as Fine, Raise, Limit, Starved, NoMemory}
 use Rattle.merc_script.specs.declared.cells.Move.{Move}
-use Rattle.merc_script.specs.Script.{Script, Ends, TickThen, WaitThen, SignalThen, ForkThen, Children, NoChild, Child, Cell, ends, size}
+use Rattle.merc_script.specs.Script.{Script, Ends, TickThen, WaitThen, SignalThen, ForkThen, Children, Cell, ends}
 use Rattle.merc_script.specs.Places.{left_behind, left_of}
 use Rattle.merc_script.specs.Joining.{joined}
 use Rattle.merc_core.specs.declared.event.Event.{Event}
-use Rattle.merc_core.specs.World.{Branch, Location, Listed, Runs, Holds, AtCell, AtJoin, Spot, spot, Parent, Join, World, start, outcomes_of}
-use Rattle.merc_core.specs.Events.{
-  parked,
-  awaits,
-  past,
-  past_tick,
-  past_signal,
-  past_wait,
-  ended,
-  go_behind,
-  spawned,
-  listed_backwards,
-  placed,
-  parent_behind,
-  woken,
-  wake,
-  unchanged,
-  poison,
-  hold_one,
-  hold_if,
-  forked,
-  signalled,
-  finished,
-  stored_with,
-}
+use Rattle.merc_core.specs.World.{Branch, Location, Listed, Runs, Holds, AtCell, AtJoin, Spot, spot, Join, World, start, outcomes_of}
+use Rattle.merc_core.specs.Events.{parked, awaits, past, past_tick, past_signal, past_wait, ended, go_behind, spawned, listed_backwards, placed, parent_behind, woken, wake, unchanged, poison, hold_one, hold_if, forked, stored_with}
 use Rattle.merc_core.specs.WellFormed.{WellFormed, Follows, value_in, cells_of}
-use Rattle.merc_core.specs.Laws.{LeadsTo, IsCutEnd, CarriesIts, EachCarries, AllStand}
+use Rattle.merc_core.specs.Laws.{LeadsTo, IsCutEnd, CarriesIts, EachCarries}
 use Rattle.merc_core.proofs.Pool.{Takes, each-append, each-filter, each-mapped, each-changed, each-weaker, each-always, takes-one, takes-others}
 use Rattle.merc_core.proofs.Steps.{
   with_rest,
@@ -53,7 +30,7 @@ use Rattle.merc_core.proofs.Steps.{
   resumes,
   run-keeps,
 }
-use Rattle.merc_core.proofs.Truth.{Near, Excuses, Good, StoredOk, BehindIn, Truth, truth-start}
+use Rattle.merc_core.proofs.Truth.{Good, BehindIn, Truth, truth-start}
 use Rattle.merc_core.proofs.TruthSteps.{truth-step, MayLose, gathered-near, has-memory}
 use Rattle.merc_core.proofs.Names.{next-in, kids-left}
 use Rattle.merc_core.proofs.Losses.{Excused, Spoiled, excuses, lost-may}

@@ -1,5 +1,5 @@
 -- The core on a root script with one Fork: child 1 makes a step and signals cell 5, child 2 waits for it and makes a step.
-use Rattle.std.proofs.Common.{◌≡◌, ℕ, zero, suc, Bool, true, false, List, [], ◌∷◌, Some, None, refl, pos, arith}
+use Rattle.std.proofs.Common.{◌≡◌, ℕ, Bool, List, [], ◌∷◌, Some, None, refl, pos, arith}
 use Rattle.std.specs.Prelude.{Option, Ok, Err, filter, map, length}
 use Rattle.merc_value.specs.Value.{Int}
 use Rattle.merc_script.specs.declared.outcome.Outcome.{Outcome}
@@ -9,7 +9,7 @@ use Rattle.merc_core.specs.declared.event.Event.{Event}
 use Rattle.merc_core.specs.declared.event.Event.TheVariants.{Tick, Fork, Pop, Steal, Signal, Wait, End, Resume, Lost}
 use Rattle.merc_core.specs.declared.event.NotNow.{NotNow}
 use Rattle.merc_core.specs.declared.event.NotNow.TheVariants.{NoWorker, Idle, Busy, WrongItem, ListEmpty, SameWorker, NotAtEnd, NotHolding}
-use Rattle.merc_core.specs.World.{Spot, World, start, outcome}
+use Rattle.merc_core.specs.World.{Spot, start, outcome}
 use Rattle.merc_core.specs.Events.{Answer, acts, listed, parked, run}
 use Rattle.merc_core.specs.WellFormed.{WellFormed}
 

@@ -1,13 +1,13 @@
 -- Each cell of a root script is due at one place: behind its producer's script.
-use Rattle.std.proofs.Common.{◌≡◌, ℕ, zero, suc, ◌+◌, inl, inr, Bool, true, false, List, [], ◌∷◌, ◌++◌, refl, ap, sym, ◌∙◌, subst, arith}
+use Rattle.std.proofs.Common.{◌≡◌, ℕ, zero, suc, ◌+◌, inl, inr, true, false, List, [], ◌∷◌, ◌++◌, refl, ap, arith}
 use Rattle.std.proofs.lemmas.Bool.Decides.{nat_tests}
-use Rattle.std.specs.Prelude.{if◌then◌else◌, nat_eq, nat_lt, map, Option, Some, None, slice_get, ◌<◌, ◌≤◌, Ok}
+use Rattle.std.specs.Prelude.{if◌then◌else◌, nat_eq, map, Option, Some, slice_get, ◌≤◌}
 use Rattle.std.specs.List.{AllByRecursion}
 use Rattle.merc_value.specs.Value.{Value}
 use Rattle.merc_script.specs.Script.{Script, Ends, TickThen, WaitThen, SignalThen, ForkThen, Children, NoChild, Child, Cell, size, sizes, count}
 use Rattle.merc_core.specs.declared.event.Event.{Event}
 use Rattle.merc_core.specs.Rights.{has, numbers_of}
-use Rattle.merc_core.specs.World.{Spot, spot, Runs, first_branch, Join, World, start, outermost, stored_at, outcome}
+use Rattle.merc_core.specs.World.{spot, Runs, first_branch, Join, World, start, outermost}
 use Rattle.merc_core.specs.WellFormed.{AreDistinct, WellFormed, cells_of, cells_in, value_in}
 use Rattle.merc_core.specs.Laws.{LeadsTo, NeverStuck}
 use Rattle.merc_core.proofs.Pool.{each_way, each-front, each-back, each-always}

@@ -1,18 +1,18 @@
 -- What the children of a Fork and its parent need is served.
-use Rattle.std.proofs.Common.{◌≡◌, ℕ, zero, suc, ◌+◌, ◌≤◌, ◌<◌, ◌⊎◌, inl, inr, Bool, true, false, not, List, [], ◌∷◌, ◌++◌, refl, ap, sym, ◌∙◌, subst, arith}
+use Rattle.std.proofs.Common.{◌≡◌, ℕ, suc, ◌+◌, ◌≤◌, ◌<◌, inl, inr, Bool, true, false, not, List, [], ◌∷◌, ◌++◌, refl, subst, arith}
 use Rattle.std.proofs.lemmas.Bool.Decides.{nat_tests}
-use Rattle.std.specs.Prelude.{if◌then◌else◌, nat_eq, filter, map, ◌&&◌, ◌||◌}
+use Rattle.std.specs.Prelude.{nat_eq, ◌&&◌}
 use Rattle.std.specs.List.{AllByRecursion}
 use Rattle.merc_script.specs.declared.cells.Move.{Move}
-use Rattle.merc_script.specs.Script.{Script, ForkThen, Children, NoChild, Child, Cell, size, sizes, count}
-use Rattle.merc_core.specs.Rights.{has, has_in, without, numbers_of, made_by, used_by, cells_moved, is_kind, moved, moved_to, signals_at, waits_at, signals_behind, waits_behind}
+use Rattle.merc_script.specs.Script.{Script, ForkThen, Children, NoChild, Child, Cell, size, count}
+use Rattle.merc_core.specs.Rights.{has, without, made_by, used_by, is_kind, moved, moved_to, signals_at, waits_at}
 use Rattle.merc_core.specs.World.{Branch, Location, Listed, Runs, AtJoin, Spot, spot}
 use Rattle.merc_core.specs.Events.{spawned, listed_backwards, placed, parent_behind}
-use Rattle.merc_core.specs.WellFormed.{CellFits, MoveFits, held_of}
+use Rattle.merc_core.specs.WellFormed.{CellFits, MoveFits}
 use Rattle.merc_core.proofs.Pool.{Takes, each_way, each-append, each-filter, each-changed, each-weaker, each-both, takes-one, takes-others}
 use Rattle.merc_core.proofs.TruthSteps.{is_same, test_same, has-holds}
 use Rattle.merc_core.proofs.Anys.{any-with, any-front, any-back, any-takes, any-placed, has-front, has-back, has-without, among, from-among, each-in}
-use Rattle.merc_core.proofs.Live.{AnyOf, Owes, Served, is_full, is_poisoned, is_owed, needs, IsServed}
+use Rattle.merc_core.proofs.Live.{AnyOf, Owes, Served, is_full, is_poisoned, is_owed, IsServed}
 use Rattle.merc_core.proofs.Serving.{Serves, still-served}
 
 -- the branch of a child

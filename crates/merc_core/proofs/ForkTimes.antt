@@ -1,18 +1,18 @@
 -- The children of a Fork, and its parent behind it, come behind what they need and before where what they owe is due.
-use Rattle.std.proofs.Common.{◌≡◌, ℕ, zero, suc, ◌+◌, ◌≤◌, ◌<◌, ◌⊎◌, inl, inr, Bool, true, false, not, List, [], ◌∷◌, ◌++◌, Some, None, refl, ap, sym, ◌∙◌, subst, arith, length}
+use Rattle.std.proofs.Common.{◌≡◌, ℕ, suc, ◌+◌, ◌≤◌, ◌<◌, inl, inr, Bool, true, false, not, List, [], ◌∷◌, Some, refl, sym, ◌∙◌, subst, arith}
 use Rattle.std.proofs.lemmas.Bool.Decides.{nat_tests}
-use Rattle.std.specs.Prelude.{Option, slice_get, if◌then◌else◌, nat_eq, nat_lt, filter, map, ◌&&◌}
+use Rattle.std.specs.Prelude.{slice_get, if◌then◌else◌, nat_eq, nat_lt, ◌&&◌}
 use Rattle.std.specs.List.{AllByRecursion}
 use Rattle.merc_script.specs.declared.cells.Move.{Move}
 use Rattle.merc_script.specs.Script.{Script, ForkThen, Children, NoChild, Child, Cell, size, sizes, count}
-use Rattle.merc_core.specs.Rights.{has, without, numbers_of, made_by, used_by, cells_moved, is_kind, moved, moved_to, signals_at, waits_at, signals_behind, waits_behind}
-use Rattle.merc_core.specs.World.{Branch, Listed, Runs, AtJoin, Spot, spot, Join}
+use Rattle.merc_core.specs.Rights.{has, without, made_by, used_by, is_kind, moved, moved_to}
+use Rattle.merc_core.specs.World.{Branch, Listed, Runs, AtJoin, spot, Join}
 use Rattle.merc_core.specs.Events.{spawned, listed_backwards, placed, parent_behind}
-use Rattle.merc_core.specs.WellFormed.{CellFits, MoveFits, held_of}
-use Rattle.merc_core.proofs.Pool.{chosen, each_way, each-append, each-filter, each-changed, each-weaker, each-both}
+use Rattle.merc_core.specs.WellFormed.{CellFits, MoveFits}
+use Rattle.merc_core.proofs.Pool.{each_way, each-append, each-filter, each-changed, each-weaker}
 use Rattle.merc_core.proofs.TruthSteps.{test_same, is_same, has-holds}
 use Rattle.merc_core.proofs.Times.{before-less}
-use Rattle.merc_core.proofs.Live.{behind_child, Timed, TimedAll, BeforeIn, BehindIt, Timely, OnTime}
+use Rattle.merc_core.proofs.Live.{behind_child, Timed, TimedAll, BeforeIn, Timely, OnTime}
 
 pub behind-most : (at from child : ℕ) (all : Children) → behind_child at from child all ≤ at + sizes all
 behind-most at from child NoChild = omega arith

@@ -1,49 +1,16 @@
 -- Only a worker's own events change what it runs or holds.
-use Rattle.std.proofs.Common.{◌≡◌, ℕ, zero, suc, ◌+◌, ◌≤◌, ◌<◌, ◌⊎◌, inl, inr, Bool, true, false, not, List, [], ◌∷◌, ◌++◌, Some, None, refl, ap, sym, ◌∙◌, subst, arith, length}
-use Rattle.std.proofs.lemmas.Bool.Decides.{nat_tests}
-use Rattle.std.specs.Prelude.{Option, Ok, slice_get, if◌then◌else◌, nat_eq, filter, map, find}
-use Rattle.std.specs.List.{AllByRecursion, remove}
+use Rattle.std.proofs.Common.{◌≡◌, ℕ, zero, suc, ◌+◌, ◌⊎◌, inl, inr, Bool, true, false, not, List, [], ◌∷◌, ◌++◌, Some, None, refl, ap, sym, ◌∙◌, arith, length}
+use Rattle.std.specs.Prelude.{Option, slice_get, if◌then◌else◌, nat_eq, filter, map, find}
+use Rattle.std.specs.List.{remove}
 use Rattle.merc_script.specs.declared.outcome.Outcome.{Outcome}
 use Rattle.merc_script.specs.declared.outcome.Outcome.TheVariants.{Starved}
-use Rattle.merc_script.specs.Script.{Script, TickThen, WaitThen, SignalThen, ForkThen, sizes}
+use Rattle.merc_script.specs.Script.{Script, TickThen, WaitThen}
 use Rattle.merc_script.specs.Joining.{joined}
 use Rattle.merc_core.specs.declared.event.Event.{Event}
 use Rattle.merc_core.specs.World.{Branch, Location, Listed, Runs, Holds, AtCell, AtJoin, Spot, spot, World, outcomes_of}
-use Rattle.merc_core.specs.Events.{
-  worker_of,
-  acts,
-  acts_at,
-  parked,
-  parked_at,
-  awaits,
-  awaits_at,
-  first_from,
-  beside,
-  taken,
-  in_hand,
-  past_tick,
-  past_signal,
-  past_wait,
-  ended,
-  go_behind,
-  spawned,
-  listed_backwards,
-  placed,
-  parent_behind,
-  woken,
-  wake,
-  unchanged,
-  poison,
-  hold_one,
-  hold_if,
-  forked,
-  signalled,
-  finished,
-  stored_with,
-  happens,
-}
-use Rattle.merc_core.specs.Laws.{spot_of, hand_of, OwnEventsAlone}
-use Rattle.merc_core.proofs.Pool.{Takes, here, there, chosen, each_way, Found, first-found}
+use Rattle.merc_core.specs.Events.{worker_of, acts, acts_at, parked, parked_at, first_from, beside, taken, past_tick, past_signal, past_wait, ended, go_behind, spawned, listed_backwards, placed, parent_behind, woken, wake, unchanged, poison, hold_one, hold_if, stored_with}
+use Rattle.merc_core.specs.Laws.{spot_of, OwnEventsAlone}
+use Rattle.merc_core.proofs.Pool.{Takes, here, there, chosen, each_way}
 use Rattle.merc_core.proofs.Steps.{
   with_rest,
   put_back,
@@ -65,7 +32,7 @@ use Rattle.merc_core.proofs.Steps.{
   resumes,
   step_of,
 }
-use Rattle.merc_core.proofs.TruthSteps.{is_same, test_same}
+use Rattle.merc_core.proofs.TruthSteps.{test_same}
 
 -- the first that passes a test
 

@@ -1,8 +1,6 @@
 -- A history without Ticks is a list of events with them.
-use Rattle.std.proofs.Common.{◌≡◌, ℕ, zero, suc, ◌+◌, ◌≤◌, ◌⊎◌, inl, inr, Bool, true, false, not, List, [], ◌∷◌, ◌++◌, Some, None, refl, ap, sym, ◌∙◌, subst, arith, length, append_assoc}
-use Rattle.std.proofs.lemmas.Bool.Decides.{nat_tests}
-use Rattle.std.proofs.lemmas.List.Edits.{remove-append_right}
-use Rattle.std.specs.Prelude.{Option, Result, Ok, Err, slice_get, if◌then◌else◌, nat_eq, nat_lt, filter, map, find}
+use Rattle.std.proofs.Common.{◌≡◌, ℕ, suc, ◌+◌, inl, inr, Bool, true, false, not, List, [], ◌∷◌, ◌++◌, Some, None, refl, ap, sym, ◌∙◌, arith, length}
+use Rattle.std.specs.Prelude.{Option, Ok, Err, slice_get, if◌then◌else◌, nat_lt}
 use Rattle.std.specs.List.{AllByRecursion, remove}
 use Rattle.merc_script.specs.Script.{Script, Ends, TickThen, WaitThen, SignalThen, ForkThen}
 use Rattle.merc_core.specs.declared.event.Event.{Event}
@@ -11,11 +9,11 @@ use Rattle.merc_core.specs.declared.event.NotNow.{NotNow}
 use Rattle.merc_core.specs.declared.event.NotNow.TheVariants.{NoWorker}
 use Rattle.merc_core.specs.Rights.{has, has_in}
 use Rattle.merc_core.specs.World.{Branch, Location, Listed, Runs, Holds, AtCell, AtJoin, Spot, spot, World, start}
-use Rattle.merc_core.specs.Events.{Answer, acts, acts_at, first_from, beside, taken, in_hand, past_tick, tick_on, fork_on, signal_on, wait_at, wait_on, end_on, if_found, if_runs, running, happens, run}
-use Rattle.merc_core.specs.Laws.{LeadsTo, IsKept}
-use Rattle.merc_core.specs.History.{past_ticks, settled, happens_settled, replay, is_tick, without_ticks, IsRunOf, HistoriesAreRuns}
-use Rattle.merc_core.proofs.Pool.{Takes, Took, took_first, chosen, each_way, each-filter, each-always}
-use Rattle.merc_core.proofs.Steps.{with_rest, put_back, Step, step_of, run-refused, run-keeps}
+use Rattle.merc_core.specs.Events.{Answer, acts, acts_at, first_from, taken, in_hand, past_tick, tick_on, fork_on, signal_on, wait_at, wait_on, end_on, if_found, if_runs, running, happens, run}
+use Rattle.merc_core.specs.Laws.{IsKept}
+use Rattle.merc_core.specs.History.{past_ticks, settled, happens_settled, replay, is_tick, without_ticks, HistoriesAreRuns}
+use Rattle.merc_core.proofs.Pool.{took_first, chosen, each_way, each-filter, each-always}
+use Rattle.merc_core.proofs.Steps.{with_rest, put_back, run-keeps}
 use Rattle.merc_core.proofs.TruthSteps.{is_same, test_same}
 use Rattle.merc_core.proofs.Measure.{total, total-takes}
 use Rattle.merc_core.proofs.Single.{acting, Single, single-start, single-step}
@@ -246,5 +244,5 @@ histories_are_runs root workers history w is =
       events = ran.events;
       leads = ran.runs;
       same = ran.same;
-      kept = λ kept. kept-from ran.events (rw ran.same (each-filter IsKept (λ e. not (is_tick e)) history kept))
+      kept = λ kept. kept-from ran.events (rw ran.same (each-filter IsKept (λ e. not (is_tick e)) history kept));
     }

@@ -1,12 +1,12 @@
 -- A history of a script with Ticks.
-use Rattle.std.proofs.Common.{◌≡◌, ℕ, List, [], ◌∷◌, Some, None, refl}
+use Rattle.std.proofs.Common.{◌≡◌, List, [], ◌∷◌, Some, None, refl}
 use Rattle.std.specs.Prelude.{Option, Ok, Err}
 use Rattle.merc_script.specs.declared.outcome.Outcome.{Outcome}
 use Rattle.merc_script.specs.declared.outcome.Outcome.TheVariants.{Ok as Fine}
 use Rattle.merc_script.specs.Script.{Script, Ends, TickThen, ForkThen, NoChild, Child}
 use Rattle.merc_core.specs.declared.event.Event.{Event}
-use Rattle.merc_core.specs.declared.event.Event.TheVariants.{Tick, Fork, Pop, End, Resume}
-use Rattle.merc_core.specs.World.{World, start, outcome}
+use Rattle.merc_core.specs.declared.event.Event.TheVariants.{Tick, Fork, End, Resume}
+use Rattle.merc_core.specs.World.{start, outcome}
 use Rattle.merc_core.specs.Events.{Answer, run}
 use Rattle.merc_core.specs.History.{replay, without_ticks}
 use Rattle.merc_core.specs.Ready.{ready}

@@ -1,12 +1,12 @@
 -- Why some event is accepted until the outermost join is done: each branch that is parked is parked for one that comes before it where each Fork's children run
 -- before what follows.
-use Rattle.std.proofs.Common.{◌≡◌, ℕ, zero, suc, ◌+◌, ◌≤◌, ◌<◌, ◌⊎◌, inl, inr, Bool, true, false, not, List, [], ◌∷◌, ◌++◌, Some, None, refl, ap, sym, ◌∙◌, subst, arith, length}
-use Rattle.std.specs.Prelude.{Option, slice_get, if◌then◌else◌, nat_eq, nat_lt, filter, map}
+use Rattle.std.proofs.Common.{◌≡◌, ℕ, suc, ◌+◌, ◌≤◌, ◌<◌, ◌⊎◌, true, false, List, [], ◌∷◌, Some, None, length}
+use Rattle.std.specs.Prelude.{Option, slice_get, if◌then◌else◌, nat_eq, nat_lt}
 use Rattle.std.specs.List.{AllByRecursion}
 use Rattle.merc_script.specs.declared.outcome.Outcome.{Outcome}
-use Rattle.merc_script.specs.Script.{Script, Ends, TickThen, WaitThen, SignalThen, ForkThen, Children, NoChild, Child, Cell, size, sizes, count}
+use Rattle.merc_script.specs.Script.{Script, Ends, TickThen, WaitThen, SignalThen, ForkThen, Children, NoChild, Child, size, sizes, count}
 use Rattle.merc_core.specs.Rights.{has, has_in}
-use Rattle.merc_core.specs.World.{Branch, Location, Listed, Runs, Holds, AtCell, AtJoin, Spot, spot, Join, Stored, World, outermost, start, stored_at, gathered}
+use Rattle.merc_core.specs.World.{Location, Listed, Runs, Holds, AtCell, AtJoin, Spot, Join, Stored, World, outermost, stored_at, gathered}
 
 -- the place behind a child, in the order of all items and ends, where child `from` begins at `at`
 abbrev pub behind_child : ℕ → ℕ → ℕ → Children → ℕ

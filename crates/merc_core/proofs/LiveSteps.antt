@@ -1,71 +1,24 @@
 -- Each accepted event keeps what lets some event go on.
-use Rattle.std.proofs.Common.{◌≡◌, ℕ, zero, suc, ◌+◌, ◌≤◌, ◌<◌, ◌⊎◌, inl, inr, Bool, true, false, not, List, [], ◌∷◌, ◌++◌, Some, None, refl, ap, sym, ◌∙◌, subst, arith, length}
+use Rattle.std.proofs.Common.{◌≡◌, ℕ, zero, suc, ◌+◌, ◌≤◌, ◌<◌, ◌⊎◌, inl, inr, true, List, [], ◌∷◌, ◌++◌, Some, refl, ap, sym, ◌∙◌, arith, length}
 use Rattle.std.proofs.lemmas.List.{length-append}
 use Rattle.std.proofs.lemmas.Bool.Decides.{nat_tests}
-use Rattle.std.specs.Prelude.{Option, slice_get, if◌then◌else◌, nat_eq, nat_lt, filter, map, ◌&&◌}
+use Rattle.std.specs.Prelude.{Option, slice_get, nat_lt}
 use Rattle.std.specs.List.{AllByRecursion}
 use Rattle.merc_script.specs.declared.outcome.Outcome.{Outcome}
 use Rattle.merc_script.specs.declared.outcome.Outcome.TheVariants.{Ok as Fine, Raise, Limit, Starved, NoMemory}
 use Rattle.merc_script.specs.declared.cells.Move.{Move}
-use Rattle.merc_script.specs.Script.{Script, Ends, TickThen, WaitThen, SignalThen, ForkThen, Children, NoChild, Child, Cell, size, sizes, count}
+use Rattle.merc_script.specs.Script.{Script, Ends, TickThen, WaitThen, SignalThen, ForkThen, Children, Cell, size, sizes, count}
 use Rattle.merc_script.specs.Joining.{joined}
 use Rattle.merc_core.specs.declared.event.Event.{Event}
-use Rattle.merc_core.specs.Rights.{has, without, moved}
-use Rattle.merc_core.specs.World.{Branch, Location, Listed, Runs, Holds, AtCell, AtJoin, Spot, spot, Join, Parent, Stored, World, outermost, start, stored_at, outcomes_of}
-use Rattle.merc_core.specs.Events.{
-  past_tick,
-  past_signal,
-  past_wait,
-  ended,
-  go_behind,
-  spawned,
-  placed,
-  parent_behind,
-  wake,
-  unchanged,
-  poison,
-  hold_if,
-  forked,
-  signalled,
-  finished,
-  stored_with,
-}
-use Rattle.merc_core.specs.WellFormed.{Formed, ForkFits, CellFits, MoveFits}
-use Rattle.merc_core.proofs.Pool.{Takes, each_way, each-append, each-filter, each-weaker, each-both, takes-one, takes-others}
-use Rattle.merc_core.proofs.Steps.{
-  with_rest,
-  put_back,
-  TakesUp,
-  Step,
-  ticked,
-  forks,
-  signals as signals_it,
-  passes,
-  starves,
-  parks,
-  finishes,
-  takes_up,
-  resumes,
-}
+use Rattle.merc_core.specs.Rights.{without}
+use Rattle.merc_core.specs.World.{Branch, Location, Listed, Runs, Holds, AtCell, AtJoin, Spot, spot, Join, Parent, Stored, World, outermost, outcomes_of}
+use Rattle.merc_core.specs.Events.{past_tick, past_signal, past_wait, ended, go_behind, spawned, placed, parent_behind, wake, unchanged, poison, forked, signalled, finished, stored_with}
+use Rattle.merc_core.specs.WellFormed.{Formed, CellFits}
+use Rattle.merc_core.proofs.Pool.{Takes, each-append, each-filter, each-weaker, each-both, takes-one, takes-others}
+use Rattle.merc_core.proofs.Steps.{with_rest, put_back, Step, ticked, forks, signals as signals_it, passes, starves, parks, finishes, takes_up, resumes}
 use Rattle.merc_core.proofs.Truth.{Honest, IsCut, Good, Truth}
-use Rattle.merc_core.proofs.TruthSteps.{get-front, get-last, is_same, test_same, has-holds}
-use Rattle.merc_core.proofs.Live.{
-  AnyOf,
-  Owes,
-  InPlace,
-  Timed,
-  TimedAll,
-  Served,
-  needs,
-  BeforeIn,
-  Timely,
-  OnTime,
-  IsServed,
-  StuckAt,
-  Stuck,
-  Placed,
-  Live,
-}
+use Rattle.merc_core.proofs.TruthSteps.{get-front, get-last, has-holds}
+use Rattle.merc_core.proofs.Live.{InPlace, needs, BeforeIn, OnTime, StuckAt, Stuck, Live}
 use Rattle.merc_core.proofs.Anys.{any-front, any-back, any-takes, any-put, any-wake, any-poison, any-hold, any-placed}
 use Rattle.merc_core.proofs.Times.{time-grown, time-ended, time-acts, time-past, wakes-time, poisons-time, holds-time, behind-time}
 use Rattle.merc_core.proofs.ForkTimes.{Forking, children-time, parent-time}

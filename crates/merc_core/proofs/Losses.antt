@@ -1,6 +1,6 @@
 -- Outcomes of which some are lost, joined, and what follows for every list of events.
-use Rattle.std.proofs.Common.{◌≡◌, ℕ, zero, suc, ◌+◌, ◌⊎◌, inl, inr, Bool, true, false, List, [], ◌∷◌, Some, None, refl, ap, sym, ◌∙◌, subst, arith}
-use Rattle.std.specs.Prelude.{Option, slice_get, if◌then◌else◌, nat_eq, nat_le, ◌||◌, ◌&&◌}
+use Rattle.std.proofs.Common.{◌≡◌, ℕ, suc, ◌+◌, ◌⊎◌, inl, inr, Bool, true, false, List, [], ◌∷◌, Some, refl, ap, sym, subst}
+use Rattle.std.specs.Prelude.{Option, if◌then◌else◌, nat_le, ◌||◌}
 use Rattle.std.specs.List.{AllByRecursion}
 use Rattle.merc_value.specs.Value.{Value}
 use Rattle.merc_script.specs.declared.outcome.Outcome.{Outcome}
@@ -9,9 +9,9 @@ use Rattle.merc_script.specs.Script.{Script, Children, NoChild, Child, end_of, e
 use Rattle.merc_script.specs.Joining.{joined, walk, lacks_memory}
 use Rattle.merc_core.specs.declared.event.Event.{Event}
 use Rattle.merc_core.specs.declared.event.Event.TheVariants.{Tick, Fork, Pop, Steal, Signal, Wait, End, Resume, Lost}
-use Rattle.merc_core.specs.World.{World, Stored, start, outcome, outermost, stored_at}
+use Rattle.merc_core.specs.World.{World, start, outcome}
 use Rattle.merc_core.specs.WellFormed.{WellFormed, value_in, cells_of}
-use Rattle.merc_core.specs.Laws.{LeadsTo, IsCutEnd, IsItsEnd, IsKept, IsTrueTo, IsNearlyTrueTo, EveryInterleaving, EveryLoss}
+use Rattle.merc_core.specs.Laws.{LeadsTo, IsCutEnd, IsItsEnd, IsKept, EveryInterleaving, EveryLoss}
 use Rattle.merc_core.proofs.Pool.{each-weaker, each-always, each_way}
 use Rattle.merc_core.proofs.Steps.{run-keeps}
 use Rattle.merc_core.proofs.Truth.{EndIn, Near, Excuses, StoredOk, Truth, truth-start}

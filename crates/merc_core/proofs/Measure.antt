@@ -1,62 +1,17 @@
 -- Each accepted event makes what is left to do less.
-use Rattle.std.proofs.Common.{◌≡◌, ℕ, zero, suc, ◌+◌, ◌*◌, ◌≤◌, ◌<◌, Bool, true, false, not, List, [], ◌∷◌, ◌++◌, Some, None, refl, ap, sym, ◌∙◌, subst, arith, length}
-use Rattle.std.specs.Prelude.{Option, Result, Ok, Err, filter, map, if◌then◌else◌, slice_get}
-use Rattle.std.specs.List.{AllByRecursion}
+use Rattle.std.proofs.Common.{◌≡◌, ℕ, suc, ◌+◌, ◌*◌, ◌≤◌, ◌<◌, Bool, true, false, not, List, [], ◌∷◌, ◌++◌, Some, None, refl, ap, arith, length}
+use Rattle.std.specs.Prelude.{Option, Ok, Err, filter, map, if◌then◌else◌, slice_get}
 use Rattle.merc_script.specs.declared.outcome.Outcome.{Outcome}
 use Rattle.merc_script.specs.declared.outcome.Outcome.TheVariants.{Ok as Fine, Raise, Limit, Starved, NoMemory}
 use Rattle.merc_script.specs.declared.cells.Move.{Move}
 use Rattle.merc_script.specs.Script.{Script, Ends, TickThen, WaitThen, SignalThen, ForkThen, Children, NoChild, Child, Cell, size, sizes}
 use Rattle.merc_script.specs.Joining.{joined}
 use Rattle.merc_core.specs.declared.event.Event.{Event}
-use Rattle.merc_core.specs.declared.event.NotNow.{NotNow}
-use Rattle.merc_core.specs.World.{Branch, Location, Listed, Runs, Holds, AtCell, AtJoin, Spot, spot, Join, World, start, outcomes_of}
-use Rattle.merc_core.specs.Events.{
-  parked,
-  parked_at,
-  awaits,
-  awaits_at,
-  past_tick,
-  past_signal,
-  past_wait,
-  ended,
-  go_behind,
-  spawned,
-  listed_backwards,
-  placed,
-  parent_behind,
-  woken,
-  wake,
-  unchanged,
-  poison,
-  hold,
-  hold_one,
-  hold_if,
-  forked,
-  signalled,
-  finished,
-  stored_with,
-  Answer,
-  happens,
-  run,
-}
+use Rattle.merc_core.specs.World.{Branch, Location, Listed, Runs, Holds, AtCell, AtJoin, Spot, spot, World, start, outcomes_of}
+use Rattle.merc_core.specs.Events.{parked, parked_at, awaits_at, past_tick, past_signal, past_wait, ended, go_behind, spawned, listed_backwards, placed, parent_behind, woken, wake, unchanged, poison, hold_one, hold_if, stored_with, Answer, happens, run}
 use Rattle.merc_core.specs.Laws.{LeadsTo}
-use Rattle.merc_core.proofs.Pool.{Takes, here, there, each_way}
-use Rattle.merc_core.proofs.Steps.{
-  with_rest,
-  put_back,
-  Step,
-  ticked,
-  forks,
-  signals,
-  passes,
-  starves,
-  parks,
-  finishes,
-  takes_up,
-  resumes,
-  step_of,
-  run-refused,
-}
+use Rattle.merc_core.proofs.Pool.{Takes, here, there}
+use Rattle.merc_core.proofs.Steps.{put_back, Step, ticked, forks, signals, passes, starves, parks, finishes, takes_up, resumes, step_of, run-refused}
 
 -- sums over spots
 

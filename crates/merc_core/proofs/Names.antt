@@ -1,42 +1,19 @@
 -- What each branch carries is what is left at its name in the root script, and each join's children are those of a Fork there.
-use Rattle.std.proofs.Common.{◌≡◌, ℕ, zero, suc, ◌+◌, ◌≤◌, ◌<◌, ◌⊎◌, inl, inr, Bool, true, false, not, List, [], ◌∷◌, ◌++◌, Some, None, refl, ap, sym, ◌∙◌, subst, arith, length}
+use Rattle.std.proofs.Common.{◌≡◌, ℕ, zero, suc, ◌+◌, ◌⊎◌, inl, inr, Bool, true, false, not, List, [], ◌∷◌, ◌++◌, Some, None, refl, ap, sym, ◌∙◌, subst, arith, length}
 use Rattle.std.proofs.lemmas.Bool.Decides.{nat_tests}
-use Rattle.std.specs.Prelude.{Option, Ok, slice_get, if◌then◌else◌, nat_eq, filter, map}
+use Rattle.std.specs.Prelude.{Option, slice_get, if◌then◌else◌, nat_eq, filter, map}
 use Rattle.std.specs.List.{AllByRecursion}
 use Rattle.merc_script.specs.declared.outcome.Outcome.{Outcome}
 use Rattle.merc_script.specs.declared.outcome.Outcome.TheVariants.{Ok as Fine, Raise, Limit, Starved, NoMemory}
 use Rattle.merc_script.specs.declared.cells.Move.{Move}
 use Rattle.merc_script.specs.Script.{Script, Ends, TickThen, WaitThen, SignalThen, ForkThen, Children, NoChild, Child, Cell, end_of, size, sizes}
-use Rattle.merc_script.specs.Places.{Name, left_behind, child_at, child_of, left_in, script_named, left_of}
+use Rattle.merc_script.specs.Places.{Name, left_behind, child_at, child_of, left_in, script_named}
 use Rattle.merc_script.specs.Joining.{joined}
 use Rattle.merc_core.specs.declared.event.Event.{Event}
-use Rattle.merc_core.specs.World.{Branch, Location, Listed, Runs, Holds, AtCell, AtJoin, Spot, spot, Parent, Join, Stored, World, start, outermost, outcomes_of}
-use Rattle.merc_core.specs.Events.{
-  parked,
-  awaits,
-  past,
-  past_tick,
-  past_signal,
-  past_wait,
-  ended,
-  go_behind,
-  spawned,
-  listed_backwards,
-  placed,
-  parent_behind,
-  woken,
-  wake,
-  unchanged,
-  poison,
-  hold_one,
-  hold_if,
-  forked,
-  signalled,
-  finished,
-  stored_with,
-}
-use Rattle.merc_core.specs.Laws.{LeadsTo, child_name, Carries, IsNamedIn, Stands, IsOfFork, IsMadeBy, AllStand, child_script, IsEndOf, IsItsEnd}
-use Rattle.merc_core.proofs.Pool.{Takes, chosen, each_way, each-append, each-filter, each-mapped, each-changed, each-weaker, each-always, takes-one, takes-others}
+use Rattle.merc_core.specs.World.{Branch, Location, Listed, Runs, Holds, AtCell, AtJoin, Spot, spot, Parent, Join, Stored, World, start, outcomes_of}
+use Rattle.merc_core.specs.Events.{parked, awaits, past, past_tick, past_signal, past_wait, ended, go_behind, spawned, listed_backwards, placed, parent_behind, woken, wake, unchanged, poison, hold_one, hold_if, forked, stored_with}
+use Rattle.merc_core.specs.Laws.{LeadsTo, child_name, IsNamedIn, Stands, IsMadeBy, AllStand, child_script, IsEndOf, IsItsEnd}
+use Rattle.merc_core.proofs.Pool.{Takes, each-append, each-filter, each-mapped, each-changed, each-weaker, each-always, takes-one, takes-others}
 use Rattle.merc_core.proofs.Steps.{
   with_rest,
   put_back,
@@ -54,7 +31,7 @@ use Rattle.merc_core.proofs.Steps.{
 }
 use Rattle.merc_core.proofs.Truth.{end_at, EndIn}
 use Rattle.merc_core.proofs.ForkServing.{kid}
-use Rattle.merc_core.proofs.TruthSteps.{get-front, get-last, grown, end-above, test_same}
+use Rattle.merc_core.proofs.TruthSteps.{get-last, grown, end-above}
 
 -- behind one more item
 

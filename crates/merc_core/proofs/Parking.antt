@@ -1,7 +1,7 @@
 -- A branch is parked where it cannot go on, and the parent of a join is held where it can: each event keeps this.
-use Rattle.std.proofs.Common.{◌≡◌, ℕ, zero, suc, ◌+◌, ◌≤◌, ◌<◌, ◌⊎◌, inl, inr, Bool, true, false, not, List, [], ◌∷◌, ◌++◌, Some, None, refl, ap, sym, ◌∙◌, subst, arith, length, length-append}
+use Rattle.std.proofs.Common.{◌≡◌, ℕ, suc, ◌≤◌, ◌<◌, inl, inr, Bool, true, false, not, List, [], ◌∷◌, ◌++◌, Some, None, refl, ap, arith, length}
 use Rattle.std.proofs.lemmas.Bool.Decides.{nat_tests}
-use Rattle.std.specs.Prelude.{Option, slice_get, if◌then◌else◌, nat_eq, nat_lt, filter, map, ◌&&◌, ◌||◌}
+use Rattle.std.specs.Prelude.{Option, slice_get, if◌then◌else◌, nat_eq, filter, map, ◌&&◌, ◌||◌}
 use Rattle.std.specs.List.{AllByRecursion}
 use Rattle.merc_script.specs.declared.outcome.Outcome.{Outcome}
 use Rattle.merc_script.specs.declared.outcome.Outcome.TheVariants.{Starved}
@@ -10,7 +10,7 @@ use Rattle.merc_core.specs.Rights.{has, has_in}
 use Rattle.merc_core.specs.World.{Branch, Location, Listed, Runs, Holds, AtCell, AtJoin, Spot, spot, Join, Stored, stored_at, with_first, gathered, outcomes_of}
 use Rattle.merc_core.specs.Events.{parked, parked_at, awaits, awaits_at, ended, listed_backwards, placed, woken, wake, unchanged, poison, hold_one, hold_if}
 use Rattle.merc_core.proofs.Pool.{chosen, each_way, each-append, each-filter, each-mapped, each-changed, each-passing, each-weaker, each-both}
-use Rattle.merc_core.proofs.TruthSteps.{get-front, get-last, is_same, test_same}
+use Rattle.merc_core.proofs.TruthSteps.{get-front, get-last, test_same}
 use Rattle.merc_core.proofs.Live.{StuckAt, Stuck}
 
 -- numbers

@@ -1,7 +1,6 @@
 -- The event that `ready` names is accepted, and there is one until the outermost join is done.
-use Rattle.std.proofs.Common.{◌≡◌, ℕ, zero, suc, ◌+◌, ◌≤◌, ◌<◌, ◌⊎◌, inl, inr, Bool, true, false, not, List, [], ◌∷◌, ◌++◌, Some, None, refl, ap, sym, ◌∙◌, subst, arith, length}
-use Rattle.std.proofs.lemmas.Bool.Decides.{nat_tests}
-use Rattle.std.specs.Prelude.{Option, Result, Ok, Err, slice_get, if◌then◌else◌, nat_eq, nat_lt}
+use Rattle.std.proofs.Common.{◌≡◌, ℕ, zero, suc, ◌+◌, ◌≤◌, ◌<◌, inl, inr, Bool, true, false, List, [], ◌∷◌, Some, None, refl, ap, sym, ◌∙◌, subst, arith}
+use Rattle.std.specs.Prelude.{Option, Ok, slice_get, if◌then◌else◌, nat_lt}
 use Rattle.std.specs.List.{AllByRecursion, remove}
 use Rattle.merc_script.specs.declared.outcome.Outcome.{Outcome}
 use Rattle.merc_script.specs.Script.{Script, Ends, TickThen, WaitThen, SignalThen, ForkThen, Children, NoChild, Child, size, count}
@@ -9,61 +8,15 @@ use Rattle.merc_script.specs.Joining.{joined}
 use Rattle.merc_core.specs.declared.event.Event.{Event}
 use Rattle.merc_core.specs.declared.event.Event.TheVariants.{Tick, Fork, Pop, Signal, Wait, End, Resume}
 use Rattle.merc_core.specs.Rights.{has, has_in}
-use Rattle.merc_core.specs.World.{Branch, Location, Listed, Runs, Holds, AtCell, AtJoin, Spot, spot, Join, Stored, World, outcome, outermost, stored_at, with_first, gathered, outcomes_of}
-use Rattle.merc_core.specs.Events.{
-  Answer,
-  first_from,
-  last_from,
-  beside,
-  taken,
-  acts,
-  acts_at,
-  listed,
-  listed_at,
-  in_hand,
-  back_of,
-  run_on,
-  tick_on,
-  fork_on,
-  signal_on,
-  wait_at,
-  wait_on,
-  end_on,
-  go_behind,
-  resume_on,
-  if_found,
-  running,
-  if_free,
-  take_up,
-  if_held,
-  happens,
-}
+use Rattle.merc_core.specs.World.{Branch, Location, Listed, Runs, Holds, AtCell, AtJoin, Spot, spot, Join, Stored, World, outcome, outermost, stored_at, with_first, gathered}
+use Rattle.merc_core.specs.Events.{Answer, first_from, last_from, taken, acts, acts_at, listed, listed_at, in_hand, back_of, tick_on, fork_on, signal_on, wait_at, wait_on, end_on, go_behind, running, happens}
 use Rattle.merc_core.specs.Ready.{event_at, acting_at, acting, listed_for, waiting, or_else, unless_done, ready}
 use Rattle.merc_core.specs.Laws.{GoesOn}
-use Rattle.merc_core.proofs.Pool.{chosen, each_way, last-found, each-always, each-both}
+use Rattle.merc_core.proofs.Pool.{last-found, each-always, each-both}
 use Rattle.merc_core.proofs.Steps.{put_back}
-use Rattle.merc_core.proofs.TruthSteps.{is_same, test_same, has-holds, either_true}
+use Rattle.merc_core.proofs.TruthSteps.{is_same, test_same, has-holds}
 use Rattle.merc_core.proofs.Anys.{any-weaker, any-with}
-use Rattle.merc_core.proofs.Live.{
-  AnyOf,
-  Owes,
-  InPlace,
-  Served,
-  is_full,
-  is_poisoned,
-  is_owed,
-  needs,
-  InRange,
-  BeforeIn,
-  BehindIt,
-  Timely,
-  OnTime,
-  IsServed,
-  StuckAt,
-  Stuck,
-  Placed,
-  Live,
-}
+use Rattle.merc_core.proofs.Live.{AnyOf, Owes, InPlace, Served, is_full, is_poisoned, is_owed, InRange, BeforeIn, BehindIt, OnTime, IsServed, Stuck, Live}
 
 -- finding
 

@@ -1,42 +1,15 @@
 -- What a branch needs is full, poisoned or owed by some branch: each event keeps this.
-use Rattle.std.proofs.Common.{◌≡◌, ℕ, zero, suc, ◌+◌, ◌≤◌, ◌<◌, ◌⊎◌, inl, inr, Bool, true, false, not, List, [], ◌∷◌, ◌++◌, Some, None, refl, ap, sym, ◌∙◌, subst, arith, length}
-use Rattle.std.proofs.lemmas.Bool.Decides.{nat_tests}
-use Rattle.std.specs.Prelude.{Option, slice_get, if◌then◌else◌, nat_eq, nat_lt, filter, map, ◌&&◌, ◌||◌}
+use Rattle.std.proofs.Common.{◌≡◌, ℕ, inl, inr, Bool, true, false, not, List, [], ◌∷◌, ◌++◌, Some, None, refl, sym, subst}
+use Rattle.std.specs.Prelude.{Option, if◌then◌else◌, nat_eq, filter, map}
 use Rattle.std.specs.List.{AllByRecursion}
 use Rattle.merc_script.specs.declared.outcome.Outcome.{Outcome}
 use Rattle.merc_script.specs.declared.outcome.Outcome.TheVariants.{Starved}
-use Rattle.merc_script.specs.declared.cells.Move.{Move}
-use Rattle.merc_script.specs.Script.{Script, Ends, ForkThen, Children, NoChild, Child, Cell, size, sizes, count}
-use Rattle.merc_core.specs.Rights.{has, has_in, without, numbers_of, made_by, used_by, cells_moved, is_kind, moved, moved_to, signals_at, waits_at, signals_behind, waits_behind}
+use Rattle.merc_script.specs.Script.{Script}
 use Rattle.merc_core.specs.World.{Branch, Location, Listed, Runs, Holds, AtCell, AtJoin, Spot, spot}
-use Rattle.merc_core.specs.Events.{parked, awaits, past_signal, ended, spawned, listed_backwards, placed, parent_behind, woken, wake, unchanged, poison, hold_one, hold_if}
-use Rattle.merc_core.specs.WellFormed.{CellFits, MoveFits, held_of}
-use Rattle.merc_core.proofs.Pool.{Takes, chosen, each_way, each-append, each-filter, each-mapped, each-changed, each-weaker, each-both, each-always, takes-one, takes-others}
-use Rattle.merc_core.proofs.TruthSteps.{either_true, is_same, test_same}
-use Rattle.merc_core.proofs.Anys.{
-  any-weaker,
-  any-with,
-  any-front,
-  any-back,
-  any-takes,
-  any-put,
-  any-wake,
-  any-poison,
-  any-hold,
-  any-placed,
-  has-append,
-  or-left,
-  or-right,
-  has-front,
-  has-back,
-  has-in-front,
-  has-in-last,
-  has-without,
-  among,
-  from-among,
-  each-in,
-}
-use Rattle.merc_core.proofs.Live.{AnyOf, Owes, InPlace, Served, is_full, is_poisoned, is_owed, needs, IsServed}
+use Rattle.merc_core.specs.Events.{parked, awaits, past_signal, ended, woken, wake, unchanged, poison, hold_one, hold_if}
+use Rattle.merc_core.proofs.Pool.{Takes, each_way, each-append, each-filter, each-mapped, each-changed, each-weaker, takes-one, takes-others}
+use Rattle.merc_core.proofs.Anys.{any-front, any-back, any-takes, any-put, any-wake, any-poison, any-hold, has-front, has-back, has-in-front, has-in-last, has-without}
+use Rattle.merc_core.proofs.Live.{AnyOf, Owes, Served, is_full, is_poisoned, is_owed, needs, IsServed}
 
 -- a branch's rights do not depend on where it is
 pub owes-keeps : (cell : ℕ) (location : Location) (rest : Script) (x : Spot) → Owes cell x → Owes cell (spot location (record x.branch { rest = rest }))

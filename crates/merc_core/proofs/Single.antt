@@ -1,46 +1,17 @@
 -- A worker runs or holds one branch at most, and a join has one parent at most.
-use Rattle.std.proofs.Common.{◌≡◌, ℕ, zero, suc, ◌+◌, ◌≤◌, ◌<◌, ◌⊎◌, inl, inr, Bool, true, false, not, List, [], ◌∷◌, ◌++◌, Some, None, refl, ap, sym, ◌∙◌, subst, arith, length}
+use Rattle.std.proofs.Common.{◌≡◌, ℕ, suc, ◌+◌, ◌≤◌, inl, inr, Bool, true, false, List, [], ◌∷◌, ◌++◌, Some, None, refl, ap, sym, ◌∙◌, subst, arith, length}
 use Rattle.std.proofs.lemmas.List.{length-append}
 use Rattle.std.proofs.lemmas.Bool.Decides.{nat_tests}
-use Rattle.std.specs.Prelude.{Option, Ok, slice_get, if◌then◌else◌, nat_eq, filter, map, find}
-use Rattle.std.specs.List.{AllByRecursion}
+use Rattle.std.specs.Prelude.{Option, slice_get, if◌then◌else◌, nat_eq, filter, map, find}
 use Rattle.merc_script.specs.declared.outcome.Outcome.{Outcome}
 use Rattle.merc_script.specs.declared.outcome.Outcome.TheVariants.{Starved}
 use Rattle.merc_script.specs.Script.{Script, TickThen, WaitThen, SignalThen, ForkThen, Children, sizes}
 use Rattle.merc_script.specs.Joining.{joined}
 use Rattle.merc_core.specs.declared.event.Event.{Event}
 use Rattle.merc_core.specs.World.{Branch, Location, Listed, Runs, Holds, AtCell, AtJoin, Spot, spot, Join, World, start, outcomes_of}
-use Rattle.merc_core.specs.Events.{
-  acts,
-  acts_at,
-  parked,
-  parked_at,
-  awaits,
-  awaits_at,
-  in_hand,
-  past_tick,
-  past_signal,
-  past_wait,
-  ended,
-  go_behind,
-  spawned,
-  listed_backwards,
-  placed,
-  parent_behind,
-  woken,
-  wake,
-  unchanged,
-  poison,
-  hold,
-  hold_one,
-  hold_if,
-  forked,
-  signalled,
-  finished,
-  stored_with,
-}
-use Rattle.merc_core.specs.Laws.{LeadsTo, spot_of, is_parent_at, is_parent, AreSingle, EachSingle}
-use Rattle.merc_core.proofs.Pool.{Takes, here, there, chosen, each_way, each-always}
+use Rattle.merc_core.specs.Events.{acts, acts_at, parked, awaits, in_hand, past_tick, past_signal, past_wait, ended, go_behind, spawned, listed_backwards, placed, parent_behind, woken, wake, unchanged, poison, hold_one, hold_if, forked, signalled, finished, stored_with}
+use Rattle.merc_core.specs.Laws.{LeadsTo, spot_of, is_parent_at, is_parent, EachSingle}
+use Rattle.merc_core.proofs.Pool.{Takes, chosen, each_way, each-always}
 use Rattle.merc_core.proofs.Steps.{
   with_rest,
   put_back,
@@ -56,7 +27,7 @@ use Rattle.merc_core.proofs.Steps.{
   resumes,
   run-keeps,
 }
-use Rattle.merc_core.proofs.TruthSteps.{is_same, test_same}
+use Rattle.merc_core.proofs.TruthSteps.{test_same}
 use Rattle.merc_core.proofs.Measure.{total, total-takes, total-append, total-back, total-changed, total-mapped}
 use Rattle.merc_core.proofs.Hands.{hand-found}
 

@@ -1,7 +1,7 @@
 -- What an accepted event began with, and what it leaves.
-use Rattle.std.proofs.Common.{◌≡◌, ℕ, zero, suc, ◌+◌, ◌⊎◌, inl, inr, Bool, true, false, List, [], ◌∷◌, ◌++◌, Some, None, refl, ap, sym, ◌∙◌, subst, arith}
+use Rattle.std.proofs.Common.{◌≡◌, ℕ, inl, inr, Bool, true, false, List, [], ◌∷◌, ◌++◌, Some, None, refl, subst, arith}
 use Rattle.std.proofs.lemmas.Bool.Decides.{nat_tests}
-use Rattle.std.specs.Prelude.{Option, Result, Ok, Err, slice_get, if◌then◌else◌, nat_eq, nat_lt}
+use Rattle.std.specs.Prelude.{Option, Ok, Err, slice_get, if◌then◌else◌, nat_eq, nat_lt}
 use Rattle.std.specs.List.{AllByRecursion}
 use Rattle.merc_script.specs.declared.outcome.Outcome.{Outcome}
 use Rattle.merc_script.specs.declared.outcome.Outcome.TheVariants.{NoMemory, Starved}
@@ -14,44 +14,8 @@ use Rattle.merc_core.specs.declared.event.NotNow.{NotNow}
 use Rattle.merc_core.specs.declared.event.NotNow.TheVariants.{NoWorker, SameWorker}
 use Rattle.merc_core.specs.Rights.{has, has_in}
 use Rattle.merc_core.specs.World.{Branch, Location, Listed, Runs, Holds, AtCell, AtJoin, Spot, spot, Join, World, outcomes_of}
-use Rattle.merc_core.specs.Events.{
-  Answer,
-  acts,
-  acts_at,
-  listed,
-  listed_at,
-  in_hand,
-  back_of,
-  front_of,
-  past_tick,
-  past_signal,
-  past_wait,
-  ended,
-  go_behind,
-  run_on,
-  tick_on,
-  forked,
-  fork_on,
-  signalled,
-  signal_on,
-  wait_at,
-  wait_on,
-  finished,
-  end_on,
-  lose_on,
-  resume_on,
-  if_worker,
-  if_runs,
-  if_found,
-  running,
-  if_free,
-  take_up,
-  if_holds,
-  if_held,
-  happens,
-  run,
-}
-use Rattle.merc_core.proofs.Pool.{Takes, Took, took_first, took_last, chosen, each_way}
+use Rattle.merc_core.specs.Events.{Answer, acts, acts_at, listed, listed_at, in_hand, back_of, front_of, past_tick, past_wait, ended, go_behind, run_on, tick_on, forked, fork_on, signalled, signal_on, wait_at, wait_on, finished, end_on, lose_on, resume_on, if_worker, if_runs, if_found, running, if_free, take_up, if_holds, if_held, happens, run}
+use Rattle.merc_core.proofs.Pool.{Takes, Took, took_first, took_last, chosen}
 
 abbrev pub with_rest : Branch → Script → Branch
 with_rest b rest = record b { rest = rest }

@@ -1,40 +1,15 @@
 -- Each branch comes behind what it needs and before where what it owes is due: each event keeps this.
-use Rattle.std.proofs.Common.{◌≡◌, ℕ, zero, suc, ◌+◌, ◌≤◌, ◌<◌, ◌⊎◌, inl, inr, Bool, true, false, not, List, [], ◌∷◌, ◌++◌, Some, None, refl, ap, sym, ◌∙◌, subst, arith, length}
-use Rattle.std.proofs.lemmas.Bool.Decides.{nat_tests}
-use Rattle.std.specs.Prelude.{Option, slice_get, if◌then◌else◌, nat_eq, nat_lt, filter, map, ◌&&◌}
+use Rattle.std.proofs.Common.{◌≡◌, ℕ, suc, ◌+◌, ◌≤◌, Bool, true, false, not, List, [], ◌∷◌, ◌++◌, Some, None, refl, sym, subst, arith}
+use Rattle.std.specs.Prelude.{Option, slice_get, if◌then◌else◌, nat_lt, filter, map}
 use Rattle.std.specs.List.{AllByRecursion}
 use Rattle.merc_script.specs.declared.outcome.Outcome.{Outcome}
 use Rattle.merc_script.specs.declared.outcome.Outcome.TheVariants.{Ok as Fine, Raise, Limit, Starved, NoMemory}
-use Rattle.merc_script.specs.declared.cells.Move.{Move}
-use Rattle.merc_script.specs.Script.{Script, Ends, TickThen, WaitThen, SignalThen, ForkThen, Children, NoChild, Child, Cell, size, sizes, count}
-use Rattle.merc_core.specs.Rights.{has, without, numbers_of, made_by, used_by, cells_moved, is_kind, moved, moved_to, signals_at, waits_at, signals_behind, waits_behind}
-use Rattle.merc_core.specs.World.{Branch, Location, Listed, Runs, Holds, AtCell, AtJoin, Spot, spot, Join, Parent, World, outermost}
-use Rattle.merc_core.specs.Events.{
-  parked,
-  parked_at,
-  awaits,
-  awaits_at,
-  past_tick,
-  past_signal,
-  past_wait,
-  ended,
-  go_behind,
-  spawned,
-  listed_backwards,
-  placed,
-  parent_behind,
-  woken,
-  wake,
-  unchanged,
-  poison,
-  hold,
-  hold_one,
-  hold_if,
-}
-use Rattle.merc_core.specs.WellFormed.{CellFits, MoveFits, held_of}
-use Rattle.merc_core.proofs.Pool.{chosen, each_way, each-append, each-filter, each-mapped, each-changed, each-passing, each-weaker}
-use Rattle.merc_core.proofs.TruthSteps.{grown, get-front, get-last, test_same, is_same, has-holds}
-use Rattle.merc_core.proofs.Live.{behind_child, Timed, TimedAll, needs, InRange, BeforeIn, BehindIt, Begins, Timely, OnTime}
+use Rattle.merc_script.specs.Script.{Script, Ends, size}
+use Rattle.merc_core.specs.World.{Branch, Location, Listed, Runs, Holds, AtCell, AtJoin, Spot, spot, Join}
+use Rattle.merc_core.specs.Events.{parked, parked_at, awaits, ended, go_behind, woken, wake, unchanged, poison, hold_one, hold_if}
+use Rattle.merc_core.proofs.Pool.{each-append, each-filter, each-mapped, each-changed, each-weaker}
+use Rattle.merc_core.proofs.TruthSteps.{grown}
+use Rattle.merc_core.proofs.Live.{Timed, needs, InRange, BeforeIn, BehindIt, Begins, Timely, OnTime}
 use Rattle.merc_core.proofs.Progress.{size-some}
 
 pub before-less : (most at : ℕ) (join : Option Join) → at ≤ most → BeforeIn most join → BeforeIn at join

@@ -1,17 +1,14 @@
 -- What holds of the branches, cells and outcomes of a well-formed script after every list of events. A parameter says which outcomes may be stored although a
 -- child's script ends otherwise, and another which cells may be poisoned although a script signals them.
-use Rattle.std.proofs.Common.{◌≡◌, ℕ, zero, suc, ◌+◌, ◌≤◌, ◌<◌, ◌⊎◌, inl, inr, Bool, true, false, List, [], ◌∷◌, ◌++◌, Some, None, refl, ap, sym, ◌∙◌, subst, arith, length}
-use Rattle.std.proofs.lemmas.Bool.Decides.{nat_tests}
-use Rattle.std.specs.Prelude.{Option, slice_get, if◌then◌else◌, nat_eq, nat_le}
+use Rattle.std.proofs.Common.{◌≡◌, ℕ, suc, ◌+◌, ◌⊎◌, inl, false, List, [], ◌∷◌, Some, None, refl}
+use Rattle.std.specs.Prelude.{Option, slice_get, if◌then◌else◌, nat_eq}
 use Rattle.std.specs.List.{AllByRecursion}
 use Rattle.merc_script.specs.declared.outcome.Outcome.{Outcome}
-use Rattle.merc_script.specs.declared.outcome.Outcome.TheVariants.{Ok as Fine, Raise, Limit, Starved, NoMemory}
-use Rattle.merc_script.specs.declared.cells.Move.{Move}
-use Rattle.merc_script.specs.Script.{Script, Ends, TickThen, WaitThen, SignalThen, ForkThen, Children, NoChild, Child, Cell, end_of, ends, size}
-use Rattle.merc_script.specs.Joining.{joined, walk, lacks_memory, later}
-use Rattle.merc_core.specs.Rights.{signals_at, waits_at}
-use Rattle.merc_core.specs.World.{Branch, Location, Listed, Runs, Holds, AtCell, AtJoin, Spot, spot, Join, Stored, World, outermost, start, stored_at, with_first, gathered, outcome}
-use Rattle.merc_core.specs.WellFormed.{Formed, FormedAll, Follows, gain}
+use Rattle.merc_script.specs.declared.outcome.Outcome.TheVariants.{Starved}
+use Rattle.merc_script.specs.Script.{Script, Ends, Children, NoChild, Child, end_of, ends}
+use Rattle.merc_script.specs.Joining.{joined, lacks_memory}
+use Rattle.merc_core.specs.World.{Branch, Location, Listed, Runs, Holds, AtCell, AtJoin, Spot, Join, Stored, World, outermost, start}
+use Rattle.merc_core.specs.WellFormed.{Formed, Follows, gain}
 use Rattle.merc_core.specs.Laws.{IsCutEnd}
 
 -- the end of a child, where the children are numbered from this number on

@@ -1,43 +1,18 @@
 -- Each accepted event keeps what holds of branches, cells and outcomes.
-use Rattle.std.proofs.Common.{◌≡◌, ℕ, zero, suc, ◌+◌, ◌≤◌, ◌<◌, ◌⊎◌, inl, inr, Bool, true, false, not, List, [], ◌∷◌, ◌++◌, Some, None, refl, ap, sym, ◌∙◌, subst, arith, length}
+use Rattle.std.proofs.Common.{◌≡◌, ℕ, zero, suc, ◌+◌, ◌≤◌, ◌<◌, ◌⊎◌, inl, inr, Bool, true, false, not, List, [], ◌∷◌, ◌++◌, Some, None, refl, sym, subst, arith, length}
 use Rattle.std.proofs.lemmas.Bool.Decides.{nat_tests}
-use Rattle.std.specs.Prelude.{Option, slice_get, if◌then◌else◌, nat_eq, nat_le, filter, map, ◌&&◌, ◌||◌}
+use Rattle.std.specs.Prelude.{Option, slice_get, if◌then◌else◌, nat_eq, filter, map, ◌&&◌, ◌||◌}
 use Rattle.std.specs.List.{AllByRecursion}
 use Rattle.merc_script.specs.declared.outcome.Outcome.{Outcome}
 use Rattle.merc_script.specs.declared.outcome.Outcome.TheVariants.{Ok as Fine, Raise, Limit, Starved, NoMemory}
 use Rattle.merc_script.specs.declared.cells.Move.{Move}
 use Rattle.merc_script.specs.Script.{Script, Ends, TickThen, WaitThen, SignalThen, ForkThen, Children, NoChild, Child, Cell, end_of, ends, size, sizes}
 use Rattle.merc_script.specs.Joining.{joined, walk, lacks_memory, later}
-use Rattle.merc_core.specs.Rights.{has, has_in, signals_at, waits_at}
+use Rattle.merc_core.specs.Rights.{has, has_in}
 use Rattle.merc_core.specs.declared.event.Event.{Event}
 use Rattle.merc_core.specs.declared.event.Event.TheVariants.{Tick, Fork, Pop, Steal, Signal, Wait, End, Resume, Lost}
-use Rattle.merc_core.specs.World.{Branch, Location, Listed, Runs, Holds, AtCell, AtJoin, Spot, spot, Join, Parent, Stored, World, outermost, start, stored_at, with_first, gathered, outcomes_of}
-use Rattle.merc_core.specs.Events.{
-  parked,
-  parked_at,
-  awaits,
-  awaits_at,
-  past_tick,
-  past_signal,
-  past_wait,
-  ended,
-  go_behind,
-  spawned,
-  listed_backwards,
-  placed,
-  parent_behind,
-  woken,
-  wake,
-  unchanged,
-  poison,
-  hold,
-  hold_one,
-  hold_if,
-  forked,
-  signalled,
-  finished,
-  stored_with,
-}
+use Rattle.merc_core.specs.World.{Branch, Location, Listed, Runs, Holds, AtCell, AtJoin, Spot, spot, Join, Parent, Stored, World, outermost, stored_at, with_first, gathered, outcomes_of}
+use Rattle.merc_core.specs.Events.{parked, parked_at, past_tick, past_signal, past_wait, ended, go_behind, spawned, listed_backwards, placed, parent_behind, woken, wake, unchanged, poison, hold_one, hold_if, forked, signalled, finished, stored_with}
 use Rattle.merc_core.specs.WellFormed.{Formed, FormedAll, Follows, gain}
 use Rattle.merc_core.specs.Laws.{IsCutEnd}
 use Rattle.merc_core.proofs.Pool.{Takes, chosen, each_way, each-append, each-filter, each-mapped, each-changed, each-weaker, takes-one, takes-others}

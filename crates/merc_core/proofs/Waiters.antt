@@ -1,45 +1,20 @@
 -- In a well-formed script one branch at most waits for a cell: the right to wait for it is held once, and given out by one Fork.
-use Rattle.std.proofs.Common.{◌≡◌, ℕ, zero, suc, ◌+◌, ◌≤◌, ◌<◌, ◌⊎◌, inl, inr, Bool, true, false, not, List, [], ◌∷◌, ◌++◌, Some, None, refl, ap, sym, ◌∙◌, subst, arith, length}
-use Rattle.std.proofs.lemmas.Bool.Decides.{nat_tests}
-use Rattle.std.specs.Prelude.{Option, Ok, slice_get, if◌then◌else◌, nat_eq, filter, map, ◌&&◌, ◌||◌}
+use Rattle.std.proofs.Common.{◌≡◌, ℕ, suc, ◌+◌, ◌≤◌, ◌<◌, inl, inr, Bool, true, false, not, List, [], ◌∷◌, ◌++◌, Some, None, refl, ap, arith, length}
+use Rattle.std.specs.Prelude.{Option, slice_get, if◌then◌else◌, nat_eq, filter, map, ◌&&◌, ◌||◌}
 use Rattle.std.specs.List.{AllByRecursion}
 use Rattle.merc_value.specs.Value.{Value}
 use Rattle.merc_script.specs.declared.outcome.Outcome.{Outcome}
 use Rattle.merc_script.specs.declared.outcome.Outcome.TheVariants.{Ok as Fine, Raise, Limit, Starved, NoMemory}
 use Rattle.merc_script.specs.declared.cells.Move.{Move}
-use Rattle.merc_script.specs.Script.{Script, Ends, TickThen, WaitThen, SignalThen, ForkThen, Children, NoChild, Child, Cell, size, sizes, count}
+use Rattle.merc_script.specs.Script.{Script, TickThen, WaitThen, ForkThen, Children, NoChild, Child, Cell, size, count}
 use Rattle.merc_script.specs.Joining.{joined}
 use Rattle.merc_core.specs.declared.event.Event.{Event}
-use Rattle.merc_core.specs.Rights.{has, without, numbers_of, made_by, used_by, cells_moved, is_kind, moved, moved_to, waits_at, waits_behind}
+use Rattle.merc_core.specs.Rights.{has, without, numbers_of, used_by, is_kind, moved, moved_to}
 use Rattle.merc_core.specs.World.{Branch, Location, Listed, Runs, Holds, AtCell, AtJoin, Spot, spot, World, start, outcomes_of}
-use Rattle.merc_core.specs.Events.{
-  parked,
-  parked_at,
-  awaits,
-  awaits_at,
-  past_tick,
-  past_signal,
-  past_wait,
-  ended,
-  go_behind,
-  spawned,
-  listed_backwards,
-  placed,
-  parent_behind,
-  woken,
-  wake,
-  unchanged,
-  poison,
-  hold_one,
-  hold_if,
-  forked,
-  signalled,
-  finished,
-  stored_with,
-}
-use Rattle.merc_core.specs.WellFormed.{AreDistinct, Formed, MoveFits, held_of, WellFormed, cells_of, cells_in, value_in}
+use Rattle.merc_core.specs.Events.{parked, parked_at, awaits, past_tick, past_signal, past_wait, ended, go_behind, spawned, listed_backwards, placed, parent_behind, woken, wake, unchanged, poison, hold_one, hold_if, forked, stored_with}
+use Rattle.merc_core.specs.WellFormed.{AreDistinct, Formed, MoveFits, WellFormed, cells_of, cells_in, value_in}
 use Rattle.merc_core.specs.Laws.{LeadsTo, EachWaiter}
-use Rattle.merc_core.proofs.Pool.{Takes, each_way, each-both, each-always, takes-one}
+use Rattle.merc_core.proofs.Pool.{Takes, each_way, each-always}
 use Rattle.merc_core.proofs.Steps.{
   with_rest,
   put_back,
@@ -56,10 +31,10 @@ use Rattle.merc_core.proofs.Steps.{
   run-keeps,
 }
 use Rattle.merc_core.proofs.Truth.{Truth, truth-start}
-use Rattle.merc_core.proofs.TruthSteps.{truth-step, MayLose, either_true, is_same, test_same}
+use Rattle.merc_core.proofs.TruthSteps.{truth-step, MayLose, test_same}
 use Rattle.merc_core.proofs.Losses.{Excused, Spoiled, excuses, lost-may}
 use Rattle.merc_core.proofs.Measure.{total, total-takes, total-append, total-back, total-changed, total-mapped}
-use Rattle.merc_core.proofs.Anys.{any-with, from-among, each-in}
+use Rattle.merc_core.proofs.Anys.{any-with, from-among}
 use Rattle.merc_core.proofs.Single.{one_if, total-passing}
 use Rattle.merc_core.proofs.LiveSteps.{formed-at}
 

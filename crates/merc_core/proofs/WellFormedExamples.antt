@@ -1,9 +1,8 @@
 -- Rights at a Fork, and scripts that are well formed and that are not, one for each condition.
-use Rattle.std.proofs.Common.{◌≡◌, ℕ, zero, suc, ◌+◌, Bool, true, false, List, [], ◌∷◌, Some, None, refl, pos, arith}
+use Rattle.std.proofs.Common.{◌≡◌, ℕ, zero, suc, Bool, true, false, List, [], ◌∷◌, Some, None, refl, pos, arith}
 use Rattle.std.specs.Prelude.{Option}
 use Rattle.merc_value.specs.Value.{Value, Int}
-use Rattle.merc_script.specs.declared.outcome.Outcome.{Outcome}
-use Rattle.merc_script.specs.declared.outcome.Outcome.TheVariants.{Ok as Fine, Raise, Limit, Starved, NoMemory}
+use Rattle.merc_script.specs.declared.outcome.Outcome.TheVariants.{Ok as Fine, Raise, Limit, Starved}
 use Rattle.merc_script.specs.declared.cells.Move.{Move}
 use Rattle.merc_script.specs.Script.{Script, Ends, TickThen, WaitThen, SignalThen, ForkThen, Children, NoChild, Child, Cell}
 use Rattle.merc_core.specs.Rights.{signals_at, waits_at, signals_behind, waits_behind}

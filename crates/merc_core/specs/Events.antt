@@ -1,5 +1,5 @@
 -- Events, their conditions in the order in which they are tested, and what they do.
-use Rattle.std.specs.Prelude.{◌≡◌, ℕ, zero, suc, ◌+◌, Bool, true, false, not, ◌&&◌, List, [], ◌∷◌, ◌++◌, length, filter, map, Option, Some, None, Result, Ok, Err, if◌then◌else◌, nat_eq, nat_lt, slice_get}
+use Rattle.std.specs.Prelude.{ℕ, suc, ◌+◌, Bool, true, false, not, List, [], ◌∷◌, ◌++◌, length, filter, map, Option, Some, None, Result, Ok, Err, if◌then◌else◌, nat_eq, nat_lt, slice_get}
 use Rattle.std.specs.List.{remove}
 use Rattle.merc_script.specs.declared.outcome.Outcome.{Outcome}
 use Rattle.merc_script.specs.declared.outcome.Outcome.TheVariants.{Ok as Fine, Raise, Limit, Starved, NoMemory}
@@ -11,7 +11,7 @@ use Rattle.merc_core.specs.declared.event.Event.TheVariants.{Tick, Fork, Pop, St
 use Rattle.merc_core.specs.declared.event.NotNow.{NotNow}
 use Rattle.merc_core.specs.declared.event.NotNow.TheVariants.{NoWorker, Idle, Busy, WrongItem, ListEmpty, SameWorker, NotAtEnd, NotHolding}
 use Rattle.merc_core.specs.Rights.{has, has_in, without, signals_at, waits_at, signals_behind, waits_behind}
-use Rattle.merc_core.specs.World.{Branch, Location, Listed, Runs, Holds, AtCell, AtJoin, Spot, spot, Parent, Join, Stored, World, start, stored_at, outcomes_of}
+use Rattle.merc_core.specs.World.{Branch, Location, Listed, Runs, Holds, AtCell, AtJoin, Spot, spot, Join, Stored, World, outcomes_of}
 
 -- what an event leaves, or the first of its conditions that fails
 abbrev pub Answer : Type 0

@@ -1,11 +1,11 @@
 -- Histories of events without Ticks: the Ticks of a branch stand directly before its next other step.
-use Rattle.std.specs.Prelude.{◌≡◌, ℕ, Bool, true, false, not, List, [], ◌∷◌, Result, Ok, Err, filter}
+use Rattle.std.specs.Prelude.{◌≡◌, ℕ, Bool, true, false, not, List, [], ◌∷◌, Ok, Err, filter}
 use Rattle.std.specs.List.{AllByRecursion}
 use Rattle.merc_script.specs.Script.{Script, Ends, TickThen, WaitThen, SignalThen, ForkThen}
 use Rattle.merc_core.specs.declared.event.Event.{Event}
 use Rattle.merc_core.specs.declared.event.Event.TheVariants.{Tick, Fork, Pop, Steal, Signal, Wait, End, Resume, Lost}
 use Rattle.merc_core.specs.World.{Branch, World, start}
-use Rattle.merc_core.specs.Events.{Answer, past_tick, tick_on, fork_on, signal_on, wait_on, end_on, lose_on, running, happens}
+use Rattle.merc_core.specs.Events.{Answer, past_tick, fork_on, signal_on, wait_on, end_on, running, happens}
 use Rattle.merc_core.specs.Laws.{LeadsTo, IsKept}
 
 -- past the Ticks with which what is left of its script begins

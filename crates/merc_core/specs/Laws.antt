@@ -1,5 +1,5 @@
 -- What holds of every list of events.
-use Rattle.std.specs.Prelude.{◌≡◌, ◌≢◌, ℕ, zero, suc, ◌+◌, ◌*◌, ◌≤◌, ◌<◌, ◌⊎◌, Bool, true, false, List, [], ◌∷◌, ◌++◌, length, Option, Some, None, Result, Ok, Err, if◌then◌else◌, nat_eq, slice_get, filter}
+use Rattle.std.specs.Prelude.{◌≡◌, ◌≢◌, ℕ, ◌*◌, ◌≤◌, ◌<◌, ◌⊎◌, Bool, false, List, [], ◌∷◌, ◌++◌, length, Option, Some, None, Ok, nat_eq, slice_get, filter}
 use Rattle.std.specs.List.{AllByRecursion}
 use Rattle.merc_script.specs.declared.outcome.Outcome.{Outcome}
 use Rattle.merc_script.specs.declared.outcome.Outcome.TheVariants.{Ok as Fine, Raise, Limit, Starved, NoMemory}
@@ -9,7 +9,7 @@ use Rattle.merc_script.specs.Places.{Name, left_of, script_named}
 use Rattle.merc_core.specs.declared.event.Event.{Event}
 use Rattle.merc_core.specs.declared.event.Event.TheVariants.{Tick, Fork, Pop, Steal, Signal, Wait, End, Resume, Lost}
 use Rattle.merc_core.specs.World.{Branch, Location, Listed, Runs, Holds, AtCell, AtJoin, Spot, Parent, Join, Stored, World, start, outcome}
-use Rattle.merc_core.specs.Events.{Answer, worker_of, acts, parked, in_hand, happens, run}
+use Rattle.merc_core.specs.Events.{worker_of, acts, parked, in_hand, happens, run}
 use Rattle.merc_core.specs.WellFormed.{WellFormed, value_in, cells_of}
 
 -- this list of events is accepted, and leads to a world
