@@ -1,25 +1,23 @@
 -- A branch that a worker runs is taken up and put back.
-use Rattle.std.proofs.Common.{◌≡◌, ◌≢◌, ℕ, zero, suc, ◌+◌, ◌≤◌, ◌<◌, ◌⊎◌, inl, inr, Bool, true, false, List, [], ◌∷◌, ◌++◌, Some, None, refl, ap, sym, ◌∙◌, subst, arith, length, length-set}
+use Rattle.std.proofs.Common.{◌≡◌, ℕ, zero, suc, ◌≤◌, ◌<◌, inl, inr, Bool, true, false, List, [], ◌∷◌, ◌++◌, Some, None, refl, ap, sym, ◌∙◌, subst, arith, length, length-set}
 use Rattle.std.proofs.Math.ListN.{set}
 use Rattle.std.proofs.lemmas.Option.{slice_get_within}
 use Rattle.std.proofs.lemmas.Bool.Decides.{nat_tests}
-use Rattle.std.specs.Prelude.{Option, Result, Ok, Err, slice_get, filter, if◌then◌else◌, nat_eq, nat_lt}
+use Rattle.std.specs.Prelude.{Option, Err, slice_get, filter, if◌then◌else◌, nat_eq, nat_lt}
 use Rattle.std.specs.List.{AllByRecursion}
-use Rattle.merc_script.specs.declared.outcome.Outcome.{Outcome}
 use Rattle.merc_script.specs.declared.items.Item.{Item}
-use Rattle.merc_script.specs.Script.{Script, Ends, Cell as ScriptCell, Move}
+use Rattle.merc_script.specs.Script.{Cell as ScriptCell, Move}
 use Rattle.merc_core.specs.declared.branch.Branch.{Branch as CoreBranch}
 use Rattle.merc_core.specs.declared.worker.Worker.{Worker}
-use Rattle.merc_core.specs.declared.event.NotNow.{NotNow}
 use Rattle.merc_core.specs.declared.event.NotNow.TheVariants.{NoWorker, Idle}
-use Rattle.merc_core.specs.World.{Branch, Location, Listed, Runs, Holds, AtCell, AtJoin, Spot, spot, World}
-use Rattle.merc_core.specs.Events.{Answer, acts, in_hand, running, if_found, if_runs, if_worker, run_on}
-use Rattle.merc_core.specs.Mirror.{Key, Hand, Row, Waiting, Parent, same_key, stands_in, in_hand_at, queue, held, held_of, hand_of, row_of, Parts, Shows, AllShow, IsEarly, IsSingle, ShowsPool, Mirrors, AreFit, IsFit, IsFitAt, made, HasRoom}
+use Rattle.merc_core.specs.World.{Branch, Runs, Spot, spot, World}
+use Rattle.merc_core.specs.Events.{Answer, in_hand, running, if_found, if_runs}
+use Rattle.merc_core.specs.Mirror.{Key, Hand, Row, Waiting, Parent, same_key, stands_in, in_hand_at, queue, held, held_of, hand_of, row_of, Parts, Shows, ShowsPool, Mirrors, AreFit, IsFitAt, made, HasRoom}
 use Rattle.merc_core.specs.Stepping.{IsIdle, empty, holding}
 use Rattle.merc_core.proofs.Pool.{Takes, here, there, each_way, takes-one}
 use Rattle.merc_core.proofs.Steps.{put_back}
 use Rattle.merc_core.proofs.Filters.{filter-yes, filter-no}
-use Rattle.merc_core.proofs.PoolShows.{key_of, key-runs, same-key-is, same-key-self, with_queue, queue-same, same-queues, Gone, gone-first, gone-none, put, held-changed, show-none}
+use Rattle.merc_core.proofs.PoolShows.{key-runs, same-key-is, with_queue, queue-same, same-queues, Gone, gone-first, gone-none, put, held-changed}
 use Rattle.merc_core.proofs.Rooms.{room-back}
 
 -- a worker is replaced
@@ -52,15 +50,15 @@ pub replaced : (parts : Parts) (v : ℕ) (k : Worker) → v < length parts.worke
     → with_queue (Hand v) k.hand (with_queue (Row v) k.list (queue parts)) key ≡ queue (with_worker parts v k) key
 replaced parts v k near (Hand u) =
     elim (each_way (nat_eq v u)) [
-      inl same ↦ (let e : v ≡ u = nat-is v u same in
+      | inl same ↦ (let e : v ≡ u = nat-is v u same in
           ap (λ t. if t then k.hand else queue parts (Hand u)) same ∙ sym (ap (λ o. hand_of o) (sym (ap (slice_get (set parts.workers v k)) e) ∙ get-set-here parts.workers v k near)))
-    | inr apart ↦ ap (λ t. if t then k.hand else queue parts (Hand u)) apart ∙ sym (ap (λ o. hand_of o) (get-set-there parts.workers v u k (nat-apart v u apart)))
+      | inr apart ↦ ap (λ t. if t then k.hand else queue parts (Hand u)) apart ∙ sym (ap (λ o. hand_of o) (get-set-there parts.workers v u k (nat-apart v u apart)))
     ]
 replaced parts v k near (Row u) =
     elim (each_way (nat_eq v u)) [
-      inl same ↦ (let e : v ≡ u = nat-is v u same in
+      | inl same ↦ (let e : v ≡ u = nat-is v u same in
           ap (λ t. if t then k.list else queue parts (Row u)) same ∙ sym (ap (λ o. row_of o) (sym (ap (slice_get (set parts.workers v k)) e) ∙ get-set-here parts.workers v k near)))
-    | inr apart ↦ ap (λ t. if t then k.list else queue parts (Row u)) apart ∙ sym (ap (λ o. row_of o) (get-set-there parts.workers v u k (nat-apart v u apart)))
+      | inr apart ↦ ap (λ t. if t then k.list else queue parts (Row u)) apart ∙ sym (ap (λ o. row_of o) (get-set-there parts.workers v u k (nat-apart v u apart)))
     ]
 replaced parts v k near (Waiting c) = refl
 replaced parts v k near (Parent j) = refl
@@ -80,9 +78,9 @@ room-worker parts v k pool joins room =
 filter-one : (Fact : Spot → Type 0) (test : Spot → Bool) {pool : List Spot} {x : Spot} {others : List Spot} → Takes pool x others → test x ≡ true → AllByRecursion Fact (filter test pool) → Fact x
 filter-one Fact test (here x xs) is all = (let both : AllByRecursion Fact (x ∷ filter test xs) = subst (AllByRecursion Fact) (filter-yes test x xs is) all in both.0)
 filter-one Fact test (there x y xs ys takes) is all = elim (each_way (test x)) [
-      inl p ↦ (let both : AllByRecursion Fact (x ∷ filter test xs) = subst (AllByRecursion Fact) (filter-yes test x xs p) all in filter-one Fact test takes is both.1)
-    | inr f ↦ filter-one Fact test takes is (subst (AllByRecursion Fact) (filter-no test x xs f) all)
-    ]
+  | inl p ↦ (let both : AllByRecursion Fact (x ∷ filter test xs) = subst (AllByRecursion Fact) (filter-yes test x xs p) all in filter-one Fact test takes is both.1)
+  | inr f ↦ filter-one Fact test takes is (subst (AllByRecursion Fact) (filter-no test x xs f) all)
+]
 
 module _ (items : List Item) (parts : Parts) (w : World) (mirrors : Mirrors items parts w) (v : ℕ) (k : Worker) (stands : slice_get parts.workers v ≡ Some k) where
   pub worker-there : v < length parts.workers
@@ -147,9 +145,9 @@ module _ (items : List Item) (parts : Parts) (w : World) (mirrors : Mirrors item
   row-same : (list : List CoreBranch) → list ≡ k.list → (key : Key) → with_queue (Row v) list (queue parts) key ≡ queue parts key
   row-same list is key =
       elim (each_way (same_key (Row v) key)) [
-        inl same ↦ (let e : Row v ≡ key = same-key-is (Row v) key same in
+        | inl same ↦ (let e : Row v ≡ key = same-key-is (Row v) key same in
             ap (λ t. if t then list else queue parts key) same ∙ is ∙ sym (ap (λ o. row_of o) stands) ∙ ap (queue parts) e)
-      | inr apart ↦ ap (λ t. if t then list else queue parts key) apart
+        | inr apart ↦ ap (λ t. if t then list else queue parts key) apart
       ]
 
   -- the hand alone is replaced
@@ -160,14 +158,14 @@ module _ (items : List Item) (parts : Parts) (w : World) (mirrors : Mirrors item
       → with_queue (Hand v) (with_queue (Hand v) [] (queue parts) (Hand v) ++ (c' ∷ [])) (with_queue (Hand v) [] (queue parts)) key ≡ queue (with_worker parts v k') key
   hand-put c' k' hand list key =
       elim (each_way (same_key (Hand v) key)) [
-        inl same ↦
+        | inl same ↦
             ap (λ t. if t then with_queue (Hand v) [] (queue parts) (Hand v) ++ (c' ∷ []) else with_queue (Hand v) [] (queue parts) key) same
             ∙ ap (λ l. l ++ (c' ∷ [])) (queue-same (Hand v) [] (queue parts)) ∙ sym hand
             ∙ sym (ap (λ t. if t then k'.hand else queue parts key) same) ∙ hand-set k' list key
-      | inr apart ↦
-          ap (λ t. if t then with_queue (Hand v) [] (queue parts) (Hand v) ++ (c' ∷ []) else with_queue (Hand v) [] (queue parts) key) apart
-          ∙ ap (λ t. if t then [] else queue parts key) apart
-          ∙ sym (ap (λ t. if t then k'.hand else queue parts key) apart) ∙ hand-set k' list key
+        | inr apart ↦
+            ap (λ t. if t then with_queue (Hand v) [] (queue parts) (Hand v) ++ (c' ∷ []) else with_queue (Hand v) [] (queue parts) key) apart
+            ∙ ap (λ t. if t then [] else queue parts key) apart
+            ∙ sym (ap (λ t. if t then k'.hand else queue parts key) apart) ∙ hand-set k' list key
       ]
 
   runs-here : (k' : Worker) → k'.held ≡ None → (u : ℕ) → v ≡ u → Runs v ≡ in_hand_at u (held (with_worker parts v k') u)

@@ -1,6 +1,6 @@
 -- The branches that pass a test, where one is taken out of a list or put in.
-use Rattle.std.proofs.Common.{◌≡◌, ℕ, zero, suc, ◌+◌, ◌≤◌, ◌<◌, ◌⊎◌, inl, inr, Bool, true, false, not, List, [], ◌∷◌, ◌++◌, Some, None, refl, ap, sym, ◌∙◌, subst, arith, length, append_assoc}
-use Rattle.std.specs.Prelude.{Option, slice_get, filter, map, if◌then◌else◌}
+use Rattle.std.proofs.Common.{◌≡◌, ℕ, zero, suc, ◌+◌, inl, inr, Bool, true, false, List, [], ◌∷◌, ◌++◌, Some, None, refl, ap, sym, ◌∙◌, subst, arith}
+use Rattle.std.specs.Prelude.{Option, slice_get, filter, if◌then◌else◌}
 use Rattle.std.specs.List.{remove}
 use Rattle.merc_core.specs.World.{Spot}
 use Rattle.merc_core.specs.Events.{first_from, last_from, beside, taken}

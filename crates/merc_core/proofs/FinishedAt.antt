@@ -1,25 +1,25 @@
 -- A branch ends.
-use Rattle.std.proofs.Common.{◌≡◌, ℕ, zero, suc, ◌+◌, ◌≤◌, ◌<◌, ◌⊎◌, inl, inr, Bool, true, false, List, [], ◌∷◌, ◌++◌, Some, None, refl, ap, sym, ◌∙◌, subst, arith, length, length-append, length-set}
+use Rattle.std.proofs.Common.{◌≡◌, ℕ, zero, suc, ◌≤◌, ◌<◌, inl, inr, true, false, List, [], ◌∷◌, ◌++◌, Some, None, refl, ap, sym, ◌∙◌, subst, arith, length, length-set}
 use Rattle.std.proofs.Math.ListN.{set}
 use Rattle.std.proofs.lemmas.Bool.Decides.{nat_tests}
 use Rattle.std.specs.List.{AllByRecursion}
 use Rattle.merc_core.specs.Roomy.{IsRoomy}
 use Rattle.std.proofs.lemmas.Option.{slice_get_past, slice_get_within}
-use Rattle.std.specs.Prelude.{Option, Result, Ok, Err, slice_get, filter, map, if◌then◌else◌, nat_eq, IsSome}
+use Rattle.std.specs.Prelude.{Option, slice_get, if◌then◌else◌, nat_eq, IsSome}
 use Rattle.merc_script.specs.declared.outcome.Outcome.{Outcome}
 use Rattle.merc_script.specs.declared.items.Item.{Item}
-use Rattle.merc_script.specs.Script.{Script, Children, NoChild, Child, Cell as ScriptCell, Move}
+use Rattle.merc_script.specs.Script.{Children, NoChild, Child, Cell as ScriptCell, Move}
 use Rattle.merc_script.specs.Joining.{HasFewSteps}
 use Rattle.merc_core.specs.declared.branch.Branch.{Branch as CoreBranch}
 use Rattle.merc_core.specs.declared.cell.Cell.{Cell as CoreCell}
 use Rattle.merc_core.specs.declared.join.Join.{Join as CoreJoin}
 use Rattle.merc_core.specs.declared.worker.Worker.{Worker}
-use Rattle.merc_core.specs.World.{Branch, Location, Runs, Spot, spot, Join, Stored, World, stored_at, with_first, gathered, outcomes_of}
+use Rattle.merc_core.specs.World.{Spot, Join, Stored, World, stored_at, with_first, gathered, outcomes_of}
 use Rattle.merc_core.specs.Events.{in_hand, finished, stored_with, poison, hold_if, hold}
 use Rattle.merc_core.specs.Outcomes.{all_stored, joined_if, joined_at}
 use Rattle.merc_core.specs.Queues.{waiting_of, cells_after, list_after, stored_from}
-use Rattle.merc_core.specs.Mirror.{Key, Hand, Row, Waiting, Parent, same_key, queue, held, held_of, hand_of, row_of, parents_of, in_hand_at, stored_for, FewIf, IsJoin, ShowsJoin, Parts, Shows, ShowsPool, ShowsCell, Mirrors, made, still_made, HasRoom, branches_made, rights_made, joins_made}
-use Rattle.merc_core.proofs.Pool.{Takes, each_way}
+use Rattle.merc_core.specs.Mirror.{Key, Hand, Row, Waiting, Parent, queue, held, held_of, hand_of, row_of, parents_of, stored_for, FewIf, IsJoin, ShowsJoin, Parts, ShowsPool, ShowsCell, Mirrors, still_made, HasRoom, branches_made, rights_made, joins_made}
+use Rattle.merc_core.proofs.Pool.{each_way}
 use Rattle.merc_core.proofs.Acting.{with_worker, held-there, held-here, nat-is, replaced}
 use Rattle.merc_core.proofs.PoolShows.{nat-self, with_queue, queue-same, same-queues, Gone, gone-first, held-changed}
 use Rattle.merc_core.proofs.PoolMoves.{held_queues, hold-shows}
@@ -40,14 +40,14 @@ module _ (items : List Item) (parts : Parts) (w : World) (mirrors : Mirrors item
   module _ (k' : Worker) (list : k'.list ≡ list_after c.signals parts.cells k.list) (cells' : ℕ → Option CoreCell) (cells-are : (other : ℕ) → cells' other ≡ cells_after c.signals parts.cells other) (joins' : List CoreJoin) where
     row-is : (u : ℕ) → behind_queues (Row u) ≡ queue (with_worker parts v k') (Row u)
     row-is u = elim (each_way (nat_eq v u)) [
-          inl same ↦ (let e : v ≡ u = nat-is v u same in
-              subst (λ (n : ℕ). behind_queues (Row n) ≡ queue (with_worker parts v k') (Row n)) e
-              (after-row c.signals v (with_queue (Hand v) [] (queue parts)) parts.cells (λ x. refl) k.list (ap (λ o. row_of o) stands) ∙ sym list
-                ∙ sym (ap (λ t. if t then k'.list else queue parts (Row v)) (nat-self v)) ∙ replaced parts v k' near-v (Row v)))
-        | inr apart ↦
-              after-other c.signals v u (with_queue (Hand v) [] (queue parts)) apart
-              ∙ sym (ap (λ t. if t then k'.list else queue parts (Row u)) apart) ∙ replaced parts v k' near-v (Row u)
-        ]
+      | inl same ↦ (let e : v ≡ u = nat-is v u same in
+          subst (λ (n : ℕ). behind_queues (Row n) ≡ queue (with_worker parts v k') (Row n)) e
+          (after-row c.signals v (with_queue (Hand v) [] (queue parts)) parts.cells (λ x. refl) k.list (ap (λ o. row_of o) stands) ∙ sym list
+          ∙ sym (ap (λ t. if t then k'.list else queue parts (Row v)) (nat-self v)) ∙ replaced parts v k' near-v (Row v)))
+      | inr apart ↦
+          after-other c.signals v u (with_queue (Hand v) [] (queue parts)) apart
+          ∙ sym (ap (λ t. if t then k'.list else queue parts (Row u)) apart) ∙ replaced parts v k' near-v (Row u)
+    ]
 
     cell-is : (other : ℕ) → behind_queues (Waiting other) ≡ waiting_of (cells' other)
     cell-is other = after-cell c.signals v (with_queue (Hand v) [] (queue parts)) parts.cells (λ x. refl) other ∙ ap waiting_of (sym (cells-are other))
@@ -60,10 +60,10 @@ module _ (items : List Item) (parts : Parts) (w : World) (mirrors : Mirrors item
 
     same-held : k'.held ≡ k.held → (u : ℕ) → held parts u ≡ held (with_worker parts v k') u
     same-held is u = elim (each_way (nat_eq v u)) [
-          inl same ↦ (let e : v ≡ u = nat-is v u same in
-              subst (λ (n : ℕ). held parts n ≡ held (with_worker parts v k') n) e (ap (λ o. held_of o) stands ∙ sym (held-here parts v k' near-v ∙ is)))
-        | inr apart ↦ held-there parts v u k' apart
-        ]
+      | inl same ↦ (let e : v ≡ u = nat-is v u same in
+          subst (λ (n : ℕ). held parts n ≡ held (with_worker parts v k') n) e (ap (λ o. held_of o) stands ∙ sym (held-here parts v k' near-v ∙ is)))
+      | inr apart ↦ held-there parts v u k' apart
+    ]
 
     quiet-queues : k'.hand ≡ [] → ((j : ℕ) → parents_of (slice_get parts.joins j) ≡ parents_of (slice_get joins' j)) → (key : Key)
         → behind_queues key ≡ queue (record (with_worker parts v k') { cells = cells'; joins = joins' }) key
@@ -80,14 +80,14 @@ module _ (items : List Item) (parts : Parts) (w : World) (mirrors : Mirrors item
     held-queues : (join : ℕ) → k'.hand ≡ parents_of (slice_get parts.joins join) → ((j : ℕ) → (if nat_eq join j then [] else parents_of (slice_get parts.joins j)) ≡ parents_of (slice_get joins' j)) → (key : Key)
         → held_queues v join behind_queues key ≡ queue (record (with_worker parts v k') { cells = cells'; joins = joins' }) key
     held-queues join hand parents (Hand u) = elim (each_way (nat_eq v u)) [
-          inl same ↦
-              ap (λ t. if t then behind_queues (Parent join) else behind_queues (Hand u)) same ∙ after-parent c.signals v join (with_queue (Hand v) [] (queue parts)) ∙ sym hand
-              ∙ sym (ap (λ t. if t then k'.hand else queue parts (Hand u)) same) ∙ hand-is' k'.hand refl u
-        | inr apart ↦
-              ap (λ t. if t then behind_queues (Parent join) else behind_queues (Hand u)) apart ∙ after-hand c.signals v u (with_queue (Hand v) [] (queue parts))
-              ∙ ap (λ t. if t then [] else queue parts (Hand u)) apart
-              ∙ sym (ap (λ t. if t then k'.hand else queue parts (Hand u)) apart) ∙ hand-is' k'.hand refl u
-        ]
+      | inl same ↦
+          ap (λ t. if t then behind_queues (Parent join) else behind_queues (Hand u)) same ∙ after-parent c.signals v join (with_queue (Hand v) [] (queue parts)) ∙ sym hand
+          ∙ sym (ap (λ t. if t then k'.hand else queue parts (Hand u)) same) ∙ hand-is' k'.hand refl u
+      | inr apart ↦
+          ap (λ t. if t then behind_queues (Parent join) else behind_queues (Hand u)) apart ∙ after-hand c.signals v u (with_queue (Hand v) [] (queue parts))
+          ∙ ap (λ t. if t then [] else queue parts (Hand u)) apart
+          ∙ sym (ap (λ t. if t then k'.hand else queue parts (Hand u)) apart) ∙ hand-is' k'.hand refl u
+    ]
     held-queues join hand parents (Row u) = row-is u
     held-queues join hand parents (Waiting other) = cell-is other
     held-queues join hand parents (Parent j) = ap (λ (l : List CoreBranch). if nat_eq join j then [] else l) (after-parent c.signals v j (with_queue (Hand v) [] (queue parts))) ∙ parents j
@@ -181,13 +181,18 @@ shows-kept stored new number None None apart shows = tt
 shows-kept stored new number None (Some join) apart shows = absurd shows
 shows-kept stored new number (Some one) None apart shows = absurd shows
 shows-kept stored new number (Some one) (Some join) apart shows = record {
-  limit = shows.limit; small = shows.small; outcomes = shows.outcomes ∙ sym (stored-apart stored new number 1 join.children apart); few = shows.few; children = shows.children;
+  limit = shows.limit;
+  small = shows.small;
+  outcomes = shows.outcomes ∙ sym (stored-apart stored new number 1 join.children apart);
+  few = shows.few;
+  children = shows.children;
 }
 
 shows-new : (stored : List Stored) (new : Stored) (number : ℕ) (j j' : CoreJoin) (join : Join) → nat_eq new.join number ≡ true → HasFewSteps new.outcome → j'.outcomes ≡ stored_from 1 new.child new.outcome j.outcomes → j'.limit ≡ j.limit
     → IsJoin stored number j join → IsJoin (stored ++ (new ∷ [])) number j' join
 shows-new stored new number j j' join same few outcomes limit shows = record {
-  limit = limit ∙ shows.limit; small = shows.small;
+  limit = limit ∙ shows.limit;
+  small = shows.small;
   outcomes = outcomes ∙ ap (stored_from 1 new.child new.outcome) shows.outcomes ∙ sym (stored-here stored new number 1 join.children same);
   few = subst (AllByRecursion FewIf) (sym outcomes) (few-stored 1 new.child new.outcome j.outcomes shows.few few);
   children = shows.children;
@@ -225,8 +230,8 @@ module _ (items : List Item) (parts : Parts) (w : World) (mirrors : Mirrors item
       (quiet-pool items parts w mirrors v k stands c only k' list cells' cells-are parts.joins hand free (λ j. refl))
       (room-poisoned items parts w mirrors v k stands c only k' list cells' cells-are parts.joins (poison c.signals v T.others) (λ each. refl) refl)
       (λ number. elim (each_way (nat_eq T.x.branch.join number)) [
-          inl same ↦ (let e : T.x.branch.join ≡ number = nat-is T.x.branch.join number same in let f : c.join ≡ number = T.one.join ∙ e in
-              both-none w.stored (stored_with w T.x.branch o) number _ _ (ap (slice_get parts.joins) (sym f) ∙ none) (ap (slice_get w.joins) (sym e) ∙ spec-none))
+        | inl same ↦ (let e : T.x.branch.join ≡ number = nat-is T.x.branch.join number same in let f : c.join ≡ number = T.one.join ∙ e in
+            both-none w.stored (stored_with w T.x.branch o) number _ _ (ap (slice_get parts.joins) (sym f) ∙ none) (ap (slice_get w.joins) (sym e) ∙ spec-none))
         | inr apart ↦ shows-kept w.stored new_stored number _ _ apart (mirrors.joins number)
       ]) refl
 
@@ -245,15 +250,15 @@ module _ (items : List Item) (parts : Parts) (w : World) (mirrors : Mirrors item
 
     joins-show : (number : ℕ) → ShowsJoin (stored_with w T.x.branch o) number (slice_get (set parts.joins c.join j') number) (slice_get w.joins number)
     joins-show number = elim (each_way (nat_eq T.x.branch.join number)) [
-          inl same ↦ (let f : c.join ≡ number = T.one.join ∙ nat-is T.x.branch.join number same in
-              subst (λ (n : ℕ). ShowsJoin (stored_with w T.x.branch o) n (slice_get (set parts.joins c.join j') n) (slice_get w.joins n)) f
-              (subst (λ (s : Option CoreJoin). ShowsJoin (stored_with w T.x.branch o) c.join s (slice_get w.joins c.join)) (sym (get-set-here' parts.joins c.join j' near-join))
-              (subst (λ (s : Option Join). ShowsJoin (stored_with w T.x.branch o) c.join (Some j') s) (sym spec-join.1)
-              (shows-new w.stored new_stored c.join j j' spec-join.0 same-join few outcomes' limit spec-join.2))))
-        | inr apart ↦
-              subst (λ (s : Option CoreJoin). ShowsJoin (stored_with w T.x.branch o) number s (slice_get w.joins number))
-              (sym (get-set-there' parts.joins c.join number j' (λ e. apart-nat T.x.branch.join number apart (sym T.one.join ∙ e)))) (shows-kept w.stored new_stored number _ _ apart (mirrors.joins number))
-        ]
+      | inl same ↦ (let f : c.join ≡ number = T.one.join ∙ nat-is T.x.branch.join number same in
+          subst (λ (n : ℕ). ShowsJoin (stored_with w T.x.branch o) n (slice_get (set parts.joins c.join j') n) (slice_get w.joins n)) f
+          (subst (λ (s : Option CoreJoin). ShowsJoin (stored_with w T.x.branch o) c.join s (slice_get w.joins c.join)) (sym (get-set-here' parts.joins c.join j' near-join))
+          (subst (λ (s : Option Join). ShowsJoin (stored_with w T.x.branch o) c.join (Some j') s) (sym spec-join.1)
+          (shows-new w.stored new_stored c.join j j' spec-join.0 same-join few outcomes' limit spec-join.2))))
+      | inr apart ↦
+          subst (λ (s : Option CoreJoin). ShowsJoin (stored_with w T.x.branch o) number s (slice_get w.joins number))
+          (sym (get-set-there' parts.joins c.join number j' (λ e. apart-nat T.x.branch.join number apart (sym T.one.join ∙ e)))) (shows-kept w.stored new_stored number _ _ apart (mirrors.joins number))
+    ]
 
     gathers : outcomes_of (stored_with w T.x.branch o) T.x.branch.join (slice_get w.joins T.x.branch.join) ≡ all_stored j'.outcomes
     gathers =
@@ -267,12 +272,12 @@ module _ (items : List Item) (parts : Parts) (w : World) (mirrors : Mirrors item
         finished-by items parts w mirrors v k stands c only k' list cells' cells-are (set parts.joins c.join j') o (poison c.signals v T.others)
         (ap (hold_if v T.x.branch.join (poison T.x.branch.signals v T.others)) (gathers ∙ none-joined j'.limit (all_stored j'.outcomes) waits) ∙ ap (λ s. poison s v T.others) (sym T.one.signals))
         (quiet-pool items parts w mirrors v k stands c only k' list cells' cells-are (set parts.joins c.join j') hand free
-          (λ i. elim (each_way (nat_eq c.join i)) [
-              inl same ↦ (let e : c.join ≡ i = nat-is c.join i same in
-                  subst (λ (n : ℕ). parents_of (slice_get parts.joins n) ≡ parents_of (slice_get (set parts.joins c.join j') n)) e
-                  (ap (λ s. parents_of s) at ∙ sym parent ∙ sym (ap (λ s. parents_of s) (get-set-here' parts.joins c.join j' near-join))))
-            | inr apart ↦ sym (ap (λ s. parents_of s) (get-set-there' parts.joins c.join i j' (apart-nat c.join i apart)))
-          ]))
+        (λ i. elim (each_way (nat_eq c.join i)) [
+          | inl same ↦ (let e : c.join ≡ i = nat-is c.join i same in
+              subst (λ (n : ℕ). parents_of (slice_get parts.joins n) ≡ parents_of (slice_get (set parts.joins c.join j') n)) e
+              (ap (λ s. parents_of s) at ∙ sym parent ∙ sym (ap (λ s. parents_of s) (get-set-here' parts.joins c.join j' near-join))))
+          | inr apart ↦ sym (ap (λ s. parents_of s) (get-set-there' parts.joins c.join i j' (apart-nat c.join i apart)))
+        ]))
         (room-poisoned items parts w mirrors v k stands c only k' list cells' cells-are (set parts.joins c.join j') (poison c.signals v T.others) (λ each. refl) refl)
         joins-show (length-set parts.joins c.join j')
 
@@ -282,16 +287,16 @@ module _ (items : List Item) (parts : Parts) (w : World) (mirrors : Mirrors item
         let all = some-joined j'.limit (all_stored j'.outcomes) given is in
         finished-by items parts w mirrors v k stands c only k' list cells' cells-are (set parts.joins c.join j') o (hold v c.join (poison c.signals v T.others))
         (ap (hold_if v T.x.branch.join (poison T.x.branch.signals v T.others)) (gathers ∙ all.1) ∙ ap (λ s. hold v T.x.branch.join (poison s v T.others)) (sym T.one.signals)
-          ∙ ap (λ n. hold v n (poison c.signals v T.others)) (sym T.one.join))
+        ∙ ap (λ n. hold v n (poison c.signals v T.others)) (sym T.one.join))
         (held-pool items parts w mirrors v k stands c only k' list cells' cells-are (set parts.joins c.join j') c.join (hand ∙ sym (ap (λ s. parents_of s) at)) holds
-          (λ i. elim (each_way (nat_eq c.join i)) [
-              inl same ↦ (let e : c.join ≡ i = nat-is c.join i same in
-                  ap (λ t. if t then [] else parents_of (slice_get parts.joins i)) same
-                  ∙ subst (λ (n : ℕ). [] ≡ parents_of (slice_get (set parts.joins c.join j') n)) e (sym parent ∙ sym (ap (λ s. parents_of s) (get-set-here' parts.joins c.join j' near-join))))
-            | inr apart ↦ ap (λ t. if t then [] else parents_of (slice_get parts.joins i)) apart ∙ sym (ap (λ s. parents_of s) (get-set-there' parts.joins c.join i j' (apart-nat c.join i apart)))
-          ]))
+        (λ i. elim (each_way (nat_eq c.join i)) [
+          | inl same ↦ (let e : c.join ≡ i = nat-is c.join i same in
+              ap (λ t. if t then [] else parents_of (slice_get parts.joins i)) same
+              ∙ subst (λ (n : ℕ). [] ≡ parents_of (slice_get (set parts.joins c.join j') n)) e (sym parent ∙ sym (ap (λ s. parents_of s) (get-set-here' parts.joins c.join j' near-join))))
+          | inr apart ↦ ap (λ t. if t then [] else parents_of (slice_get parts.joins i)) apart ∙ sym (ap (λ s. parents_of s) (get-set-there' parts.joins c.join i j' (apart-nat c.join i apart)))
+        ]))
         (room-poisoned items parts w mirrors v k stands c only k' list cells' cells-are (set parts.joins c.join j') (hold v c.join (poison c.signals v T.others))
-          (λ each. still-hold each v c.join (poison c.signals v T.others)) (length-hold v c.join (poison c.signals v T.others)))
+        (λ each. still-hold each v c.join (poison c.signals v T.others)) (length-hold v c.join (poison c.signals v T.others)))
         joins-show (length-set parts.joins c.join j')
 
 -- what is said of the branch that is found holds of the one that is there
@@ -312,7 +317,15 @@ one-in-hand items parts w mirrors v k stands c more is =
 
 pub roomy-of : (items : List Item) (parts : Parts) (w : World) → Mirrors items parts w → (v : ℕ) (k : Worker) → slice_get parts.workers v ≡ Some k → IsRoomy parts.cells k.list
 roomy-of items parts w mirrors v k stands = record {
-  items = items; queues = queue parts; holds = held parts; pool = w.pool; worker = v; shows = mirrors.pool; waits = λ cell. refl; row = ap (λ o. row_of o) stands; few = let r = mirrors.has_room.crowd in omega arith;
+  items = items;
+  queues = queue parts;
+  holds = held parts;
+  pool = w.pool;
+  worker = v;
+  shows = mirrors.pool;
+  waits = λ cell. refl;
+  row = ap (λ o. row_of o) stands;
+  few = let r = mirrors.has_room.crowd in omega arith;
 }
 
 pub few-parents : (items : List Item) (parts : Parts) (w : World) → Mirrors items parts w → (number : ℕ) (j : CoreJoin) → slice_get parts.joins number ≡ Some j → length j.parent ≤ 1

@@ -1,6 +1,6 @@
 -- The lists of the core show the pool still, where cells are poisoned one after the other.
-use Rattle.std.proofs.Common.{◌≡◌, ℕ, zero, suc, ◌+◌, ◌≤◌, ◌<◌, ◌⊎◌, inl, inr, Bool, true, false, List, [], ◌∷◌, ◌++◌, Some, None, refl, ap, sym, ◌∙◌, subst, arith, length, length-append}
-use Rattle.std.specs.Prelude.{Option, filter, map, if◌then◌else◌, nat_eq, ◌||◌, ◌&&◌, slice_get, IsSome}
+use Rattle.std.proofs.Common.{◌≡◌, ℕ, suc, ◌+◌, ◌≤◌, ◌⊎◌, inl, inr, Bool, true, false, List, [], ◌∷◌, ◌++◌, Some, None, refl, ap, sym, ◌∙◌, subst, arith, length}
+use Rattle.std.specs.Prelude.{Option, map, if◌then◌else◌, nat_eq, ◌||◌, ◌&&◌, IsSome}
 use Rattle.std.proofs.lemmas.Bool.Decides.{nat_tests}
 use Rattle.std.specs.List.{AllByRecursion}
 use Rattle.merc_script.specs.declared.outcome.Outcome.{Outcome}
@@ -9,13 +9,12 @@ use Rattle.merc_script.specs.declared.items.Item.{Item}
 use Rattle.merc_script.specs.Script.{Children, NoChild, Child, Cell as ScriptCell, Move}
 use Rattle.merc_core.specs.declared.branch.Branch.{Branch as CoreBranch}
 use Rattle.merc_core.specs.declared.cell.Cell.{Cell}
-use Rattle.merc_core.specs.World.{Branch, Holds, Spot, spot, Stored, World, stored_at}
+use Rattle.merc_core.specs.World.{Branch, Holds, Spot, spot, Stored, stored_at}
 use Rattle.merc_core.specs.Rights.{has, has_in}
 use Rattle.merc_core.specs.Events.{ended, wake, poison, hold, hold_one, awaits}
 use Rattle.merc_core.specs.Queues.{waiting_of, starved, spoiled, spoil_at, cells_after, list_after, first_stored, stored_from}
-use Rattle.merc_core.specs.Mirror.{Key, Hand, Row, Waiting, Parent, Shows, ShowsPool, ShowsCell, stored_for, FewIf, made, still_made}
+use Rattle.merc_core.specs.Mirror.{Key, Hand, Row, Waiting, Parent, ShowsPool, ShowsCell, stored_for, FewIf, made, still_made}
 use Rattle.merc_core.proofs.Pool.{each_way}
-use Rattle.merc_core.proofs.PoolShows.{nat-self}
 use Rattle.merc_core.proofs.PoolMoves.{woken_queues, wake-shows}
 use Rattle.merc_core.proofs.Waking.{still-wake, length-wake, has-in-added}
 use Rattle.merc_core.proofs.Spoiling.{starved-shows, spoiled-waits, spoiled-row}
@@ -83,11 +82,11 @@ flags-after (cell ∷ rest) cells other full poisoned flags =
     subst (λ t. Flags full t (cells_after rest (spoil_at cell cells) other)) (or-assoc poisoned (nat_eq cell other) (has other rest))
     (flags-after rest (spoil_at cell cells) other full (poisoned || nat_eq cell other)
     (elim (each_way (nat_eq cell other)) [
-        inl same ↦
-            subst (λ t. Flags full (poisoned || t) (if t then spoiled (cells cell) else cells other)) (sym same)
-            (subst (λ t. Flags full t (spoiled (cells cell))) (sym (or-yes poisoned)) (spoiled-flags full poisoned (cells cell) (subst (λ n. Flags full poisoned (cells n)) (sym (same-cell cell other same)) flags)))
+      | inl same ↦
+          subst (λ t. Flags full (poisoned || t) (if t then spoiled (cells cell) else cells other)) (sym same)
+          (subst (λ t. Flags full t (spoiled (cells cell))) (sym (or-yes poisoned)) (spoiled-flags full poisoned (cells cell) (subst (λ n. Flags full poisoned (cells n)) (sym (same-cell cell other same)) flags)))
       | inr apart ↦
-            subst (λ t. Flags full (poisoned || t) (if t then spoiled (cells cell) else cells other)) (sym apart) (subst (λ t. Flags full t (cells other)) (sym (or-nothing poisoned)) flags)
+          subst (λ t. Flags full (poisoned || t) (if t then spoiled (cells cell) else cells other)) (sym apart) (subst (λ t. Flags full t (cells other)) (sym (or-nothing poisoned)) flags)
     ]))
   where
     same-cell : (a b : ℕ) → nat_eq a b ≡ true → a ≡ b
@@ -138,9 +137,9 @@ length-poison (cell ∷ rest) v xs = let a = length-poison rest v (wake cell v (
 
 held-rest : (v join : ℕ) (x : Spot) → (hold_one v join x).branch ≡ x.branch
 held-rest v join x = elim (each_way (awaits join x)) [
-      inl is ↦ either (awaits join x)
-    | inr is ↦ either (awaits join x)
-    ]
+  | inl is ↦ either (awaits join x)
+  | inr is ↦ either (awaits join x)
+]
   where
     either : (b : Bool) → (if b then spot (Holds v join) x.branch else x).branch ≡ x.branch
     either true = refl
@@ -159,9 +158,9 @@ length-hold v join (x ∷ xs) = ap suc (length-hold v join xs)
 
 stored-more : (stored : List Stored) (new : Stored) (join child : ℕ) → (nat_eq new.join join ≡ false) ⊎ (nat_eq new.child child ≡ false) → stored_at join child (stored ++ (new ∷ [])) ≡ stored_at join child stored
 stored-more [] new join child apart = elim apart [
-      inl one ↦ ap (λ t. if (t && nat_eq new.child child) then Some new.outcome else None) one
-    | inr one ↦ ap (λ t. if (nat_eq new.join join && t) then Some new.outcome else None) one ∙ ap (λ t. if t then Some new.outcome else None) (and-no (nat_eq new.join join))
-    ]
+  | inl one ↦ ap (λ t. if (t && nat_eq new.child child) then Some new.outcome else None) one
+  | inr one ↦ ap (λ t. if (nat_eq new.join join && t) then Some new.outcome else None) one ∙ ap (λ t. if t then Some new.outcome else None) (and-no (nat_eq new.join join))
+]
   where
     and-no : (b : Bool) → b && false ≡ false
     and-no true = refl
@@ -190,10 +189,10 @@ stored-here stored new join from NoChild one = refl
 stored-here stored new join from (Child first more) one =
     ap (λ l. stored_at join from (stored ++ (new ∷ [])) ∷ l) (stored-here stored new join (suc from) more one)
     ∙ ap (λ o. o ∷ stored_from (suc from) new.child new.outcome (stored_for stored join (suc from) more))
-      (elim (each_way (nat_eq new.child from)) [
-          inl other ↦ stored-now stored new join from one other ∙ sym (ap (λ t. if t then first_stored (stored_at join from stored) new.outcome else stored_at join from stored) other)
-        | inr other ↦ stored-more stored new join from (inr other) ∙ sym (ap (λ t. if t then first_stored (stored_at join from stored) new.outcome else stored_at join from stored) other)
-      ])
+    (elim (each_way (nat_eq new.child from)) [
+      | inl other ↦ stored-now stored new join from one other ∙ sym (ap (λ t. if t then first_stored (stored_at join from stored) new.outcome else stored_at join from stored) other)
+      | inr other ↦ stored-more stored new join from (inr other) ∙ sym (ap (λ t. if t then first_stored (stored_at join from stored) new.outcome else stored_at join from stored) other)
+    ])
 
 few-first : (first : Option Outcome) (o : Outcome) (b : Bool) → FewIf first → FewIf (Some o) → FewIf (if b then first_stored first o else first)
 few-first None o true few new = new

@@ -1,17 +1,17 @@
 -- The core's lists show the pool still, where branches are woken or a parent is held.
-use Rattle.std.proofs.Common.{◌≡◌, ℕ, zero, suc, ◌+◌, ◌≤◌, ◌⊎◌, inl, inr, Bool, true, false, not, List, [], ◌∷◌, ◌++◌, Some, None, refl, ap, sym, ◌∙◌, subst, arith, length, append_assoc}
+use Rattle.std.proofs.Common.{◌≡◌, ℕ, ◌≤◌, inl, inr, Bool, true, false, not, List, [], ◌∷◌, ◌++◌, Some, refl, ap, sym, ◌∙◌, subst, arith, length}
 use Rattle.std.proofs.lemmas.List.{append-nil}
-use Rattle.std.specs.Prelude.{Option, filter, map, if◌then◌else◌, nat_eq}
+use Rattle.std.specs.Prelude.{Option, filter, map, if◌then◌else◌}
 use Rattle.std.specs.List.{AllByRecursion}
 use Rattle.merc_script.specs.declared.items.Item.{Item}
 use Rattle.merc_core.specs.declared.branch.Branch.{Branch as CoreBranch}
 use Rattle.merc_core.specs.World.{Branch, Location, Listed, Runs, Holds, AtCell, AtJoin, Spot, spot}
-use Rattle.merc_core.specs.Events.{acts, listed, parked, awaits, woken, wake, hold, hold_one, unchanged}
+use Rattle.merc_core.specs.Events.{parked, awaits, woken, wake, hold, hold_one}
 use Rattle.merc_core.specs.WellFormed.{most_steps}
 use Rattle.merc_core.specs.Mirror.{Key, Hand, Row, Waiting, Parent, same_key, stands_in, in_hand_at, Shows, AllShow, IsEarly, IsSingle, ShowsPool}
-use Rattle.merc_core.proofs.Pool.{each_way, each-append, each-filter, each-mapped, each-changed, each-always}
+use Rattle.merc_core.proofs.Pool.{each_way, each-append, each-filter, each-mapped, each-always}
 use Rattle.merc_core.proofs.Filters.{filter-yes, filter-no, filter-append}
-use Rattle.merc_core.proofs.PoolShows.{key_of, key-listed, key-holds, stands-key, stands-apart, same-key-is, same-key-self, with_queue, show-append, show-changed, show-none}
+use Rattle.merc_core.proofs.PoolShows.{key-listed, key-holds, stands-key, stands-apart, same-key-is, same-key-self, with_queue, show-append, show-changed, show-none}
 
 filter-stay : (test gone : Spot → Bool) → ((x : Spot) → gone x ≡ true → test x ≡ false) → (xs : List Spot) → filter test (filter (λ x. not (gone x)) xs) ≡ filter test xs
 filter-stay test gone apart [] = refl

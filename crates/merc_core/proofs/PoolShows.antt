@@ -1,16 +1,15 @@
 -- The core's lists show the pool still, where a branch is taken out or put in.
-use Rattle.std.proofs.Common.{◌≡◌, ℕ, zero, suc, ◌+◌, ◌*◌, ◌≤◌, ◌<◌, ◌⊎◌, inl, inr, Bool, true, false, not, List, [], ◌∷◌, ◌++◌, Some, None, refl, ap, sym, ◌∙◌, subst, arith, length, length-append, append_assoc}
+use Rattle.std.proofs.Common.{◌≡◌, ℕ, suc, ◌≤◌, inl, inr, Bool, true, false, List, [], ◌∷◌, ◌++◌, Some, None, refl, ap, sym, ◌∙◌, subst, arith, length, length-append}
 use Rattle.std.proofs.lemmas.List.{append-nil}
 use Rattle.std.proofs.lemmas.Bool.Decides.{nat_tests}
-use Rattle.std.specs.Prelude.{Option, slice_get, filter, map, if◌then◌else◌, nat_eq}
+use Rattle.std.specs.Prelude.{Option, filter, map, if◌then◌else◌, nat_eq}
 use Rattle.std.specs.List.{AllByRecursion}
-use Rattle.merc_script.specs.declared.outcome.Outcome.{Outcome}
 use Rattle.merc_script.specs.declared.items.Item.{Item}
 use Rattle.merc_core.specs.declared.branch.Branch.{Branch as CoreBranch}
 use Rattle.merc_core.specs.World.{Branch, Location, Listed, Runs, Holds, AtCell, AtJoin, Spot, spot}
-use Rattle.merc_core.specs.Events.{acts, listed, parked, awaits, first_from, last_from, taken, woken, wake, hold, hold_one}
+use Rattle.merc_core.specs.Events.{first_from, last_from, taken}
 use Rattle.merc_core.specs.Mirror.{Key, Hand, Row, Waiting, Parent, same_key, stands_in, in_hand_at, Shows, AllShow, IsEarly, IsSingle, ShowsPool}
-use Rattle.merc_core.proofs.Pool.{Takes, here, there, each_way, each-append, each-back, takes-one, takes-others, each-filter, each-mapped, each-weaker, each-changed}
+use Rattle.merc_core.proofs.Pool.{Takes, here, there, each_way, each-append, each-back, takes-others}
 use Rattle.merc_core.proofs.Filters.{filter-yes, filter-no, filter-append, takes-filter, Out, takes-first, takes-last, takes-none, takes-no-last}
 
 -- Keys

@@ -1,26 +1,25 @@
 -- A parent goes on behind its fork.
-use Rattle.std.proofs.Common.{◌≡◌, ℕ, zero, suc, ◌+◌, ◌*◌, ◌≤◌, ◌<◌, ◌⊎◌, inl, inr, Bool, true, false, List, [], ◌∷◌, ◌++◌, Some, None, refl, ap, sym, ◌∙◌, subst, arith, length}
+use Rattle.std.proofs.Common.{◌≡◌, ℕ, suc, ◌+◌, ◌≤◌, ◌<◌, Bool, true, false, List, [], ◌∷◌, Some, None, refl, ap, sym, ◌∙◌, subst, arith, length}
 use Rattle.std.proofs.lemmas.Bool.Decides.{nat_tests}
 use Rattle.std.proofs.lemmas.Option.{slice_get_past}
-use Rattle.std.specs.Prelude.{Option, Result, Ok, Err, slice_get, if◌then◌else◌, nat_le}
+use Rattle.std.specs.Prelude.{Option, Ok, Err, slice_get, if◌then◌else◌, nat_le}
 use Rattle.merc_script.specs.declared.outcome.Outcome.{Outcome}
 use Rattle.merc_script.specs.declared.outcome.Outcome.TheVariants.{Ok as Fine, Raise, Limit, Starved, NoMemory}
 use Rattle.merc_script.specs.declared.items.Item.{Item}
-use Rattle.merc_script.specs.Script.{Script, Ends, Children, NoChild, Child, Cell as ScriptCell, Move}
-use Rattle.merc_script.specs.Joining.{joined, walk, lacks_memory, HasFewSteps, later}
+use Rattle.merc_script.specs.Script.{Ends, Children, NoChild, Child, Cell as ScriptCell, Move}
+use Rattle.merc_script.specs.Joining.{joined, walk, lacks_memory, HasFewSteps}
 use Rattle.merc_core.specs.declared.branch.Branch.{Branch as CoreBranch}
 use Rattle.merc_core.specs.declared.join.Join.{Join as CoreJoin}
 use Rattle.merc_core.specs.declared.worker.Worker.{Worker}
 use Rattle.merc_core.specs.declared.event.Event.TheVariants.{Resume}
 use Rattle.merc_core.specs.declared.event.NotNow.TheVariants.{NoWorker, NotHolding}
-use Rattle.merc_core.specs.World.{Branch, Location, Runs, Holds, Spot, spot, Join, Stored, World, stored_at, with_first, gathered, outcomes_of}
-use Rattle.merc_core.specs.Events.{Answer, in_hand, if_worker, if_held, if_holds, resume_on, run_on, go_behind, ended, happens}
+use Rattle.merc_core.specs.World.{Branch, Location, Runs, Join, Stored, World, stored_at, with_first, gathered, outcomes_of}
+use Rattle.merc_core.specs.Events.{in_hand, if_held, if_holds, resume_on, run_on, go_behind, happens}
 use Rattle.merc_core.specs.WellFormed.{most_steps}
 use Rattle.merc_core.specs.Outcomes.{all_stored, joined_if, joined_at}
 use Rattle.merc_core.specs.Queues.{behind_with}
-use Rattle.merc_core.specs.Standing.{IsLeft}
-use Rattle.merc_core.specs.Mirror.{Key, Hand, queue, held, held_of, hand_of, in_hand_at, stored_for, IsJoin, ShowsJoin, Parts, Shows, IsEarly, Mirrors, AreFit, made}
-use Rattle.merc_core.proofs.Pool.{takes-one, each_way}
+use Rattle.merc_core.specs.Mirror.{Hand, queue, held_of, hand_of, in_hand_at, stored_for, IsJoin, ShowsJoin, Parts, Shows, IsEarly, Mirrors, AreFit, made}
+use Rattle.merc_core.proofs.Pool.{takes-one}
 use Rattle.merc_core.proofs.Steps.{put_back}
 use Rattle.merc_core.proofs.Acting.{with_worker, Acting, acting, knows, back-in-hand}
 use Rattle.merc_core.proofs.PoolShows.{gone-none}
@@ -128,7 +127,9 @@ module _ (items : List Item) (parts : Parts) (w : World) (mirrors : Mirrors item
       let limits : joined s.0.limit all.0 ≡ o = ap (λ n. joined n all.0) (sym s.2.limit) ∙ sym all.2 in
       let early : a.gone.x.branch.steps ≤ most_steps = subst (λ (l : Location). IsEarly l a.gone.x.branch.steps) a.location (takes-one (λ one. IsEarly one.location one.branch.steps) a.gone.takes mirrors.pool.early) in
       record {
-        c = c; only = a.only; acts = a;
+        c = c;
+        only = a.only;
+        acts = a;
         early = let e = a.gone.one.steps in omega (arith, e, early);
         few = subst HasFewSteps limits (few-joined s.0.limit all.0 s.2.small);
         is = at-hand (Some number) c a ∙ ap (λ o. resume_on w v a.gone.x.branch a.gone.others o (outcomes_of w.stored number o)) s.1
@@ -137,10 +138,24 @@ module _ (items : List Item) (parts : Parts) (w : World) (mirrors : Mirrors item
 
   shows-behind : (o : Outcome) (c : CoreBranch) (b : Branch) → Shows items c b → c.steps ≤ most_steps → HasFewSteps o → Shows items (behind_with o c) (go_behind o b)
   shows-behind (Fine n) c b one early few = record {
-    join = one.join; child = one.child; at = one.at; steps = (let e = one.steps in omega (arith, e)); signals = one.signals; left = one.left; within = one.within; few = omega (arith, early, few);
+    join = one.join;
+    child = one.child;
+    at = one.at;
+    steps = (let e = one.steps in omega (arith, e));
+    signals = one.signals;
+    left = one.left;
+    within = one.within;
+    few = omega (arith, early, few);
   }
   shows-behind (Raise text n) c b one early few = record {
-    join = one.join; child = one.child; at = one.at; steps = one.steps; signals = one.signals; left = ap (λ m. Ends (Raise text (m + n))) (sym one.steps); within = one.within; few = one.few;
+    join = one.join;
+    child = one.child;
+    at = one.at;
+    steps = one.steps;
+    signals = one.signals;
+    left = ap (λ m. Ends (Raise text (m + n))) (sym one.steps);
+    within = one.within;
+    few = one.few;
   }
   shows-behind Limit c b one early few = record { join = one.join; child = one.child; at = one.at; steps = one.steps; signals = one.signals; left = refl; within = one.within; few = one.few }
   shows-behind Starved c b one early few = record { join = one.join; child = one.child; at = one.at; steps = one.steps; signals = one.signals; left = refl; within = one.within; few = one.few }
@@ -155,7 +170,9 @@ module _ (items : List Item) (parts : Parts) (w : World) (mirrors : Mirrors item
 
   pub resume-done : (number : ℕ) (j : CoreJoin) (o : Outcome) (r : Resumes number j o) (k' : Worker) → ((b : CoreBranch) → k.hand ≡ b ∷ [] → k'.hand ≡ behind_with o b ∷ []) → k'.held ≡ None → k'.list ≡ k.list
       → (after : World) × (happens w (Resume v) ≡ Ok after) × Mirrors items (with_worker parts v k') after
-  resume-done number j o r k' hand free list =
-      (put_back w (Runs v) (go_behind o r.acts.gone.x.branch) r.acts.gone.others, r.is,
-        back-in-hand items parts w mirrors v k stands (Some number) None r.c (behind_with o r.c) r.acts k' (go_behind o r.acts.gone.x.branch) (hand r.c r.only) list free
-          (shows-behind o r.c r.acts.gone.x.branch r.acts.gone.one r.early r.few) (λ each. makes-less each o r.acts.gone.x.branch))
+  resume-done number j o r k' hand free list = (
+    put_back w (Runs v) (go_behind o r.acts.gone.x.branch) r.acts.gone.others,
+    r.is,
+    back-in-hand items parts w mirrors v k stands (Some number) None r.c (behind_with o r.c) r.acts k' (go_behind o r.acts.gone.x.branch) (hand r.c r.only) list free
+        (shows-behind o r.c r.acts.gone.x.branch r.acts.gone.one r.early r.few) (λ each. makes-less each o r.acts.gone.x.branch),
+  )

@@ -1,10 +1,9 @@
 -- Room for what Forks still make.
-use Rattle.std.proofs.Common.{◌≡◌, ℕ, zero, suc, ◌+◌, ◌≤◌, ◌<◌, Bool, true, false, not, List, [], ◌∷◌, ◌++◌, refl, ap, sym, ◌∙◌, subst, arith, length, length-append}
-use Rattle.std.specs.Prelude.{filter, map, if◌then◌else◌}
-use Rattle.merc_script.specs.Script.{Script, Ends, TickThen, WaitThen, SignalThen, ForkThen, Children, NoChild, Child, Cell, Move}
-use Rattle.merc_core.specs.World.{Branch, Spot, spot}
-use Rattle.merc_core.specs.Mirror.{Parts, made, made_in, still_made, branches_made, rights_made, joins_made, HasRoom}
-use Rattle.merc_core.proofs.Measure.{total, total-takes, total-append, total-back, total-changed, total-mapped}
+use Rattle.std.proofs.Common.{◌≡◌, ℕ, suc, ◌+◌, ◌≤◌, List, [], ◌∷◌, ◌++◌, refl, ap, arith, length, length-append}
+use Rattle.merc_script.specs.Script.{Cell, Move}
+use Rattle.merc_core.specs.World.{Spot}
+use Rattle.merc_core.specs.Mirror.{Parts, made, still_made, branches_made, rights_made, joins_made, HasRoom}
+use Rattle.merc_core.proofs.Measure.{total}
 use Rattle.merc_core.proofs.Pool.{Takes, here, there}
 
 module _ (each : ℕ → List Cell → List Move → ℕ) where

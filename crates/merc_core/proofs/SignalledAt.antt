@@ -1,9 +1,8 @@
 -- A branch signals a cell.
-use Rattle.std.proofs.Common.{◌≡◌, ℕ, zero, suc, ◌+◌, ◌*◌, ◌^◌, ◌≤◌, ◌<◌, ◌⊎◌, inl, inr, Bool, true, false, List, [], ◌∷◌, ◌++◌, Some, None, refl, ap, sym, ◌∙◌, subst, arith, length, length-append, length-set}
-use Rattle.std.specs.Prelude.{Option, Result, Ok, Err, slice_get, filter, map, if◌then◌else◌, nat_eq, IsSome}
-use Rattle.merc_script.specs.declared.outcome.Outcome.{Outcome}
+use Rattle.std.proofs.Common.{◌≡◌, ℕ, suc, ◌+◌, ◌^◌, ◌≤◌, ◌<◌, inl, inr, true, false, List, [], ◌∷◌, ◌++◌, Some, None, refl, ap, sym, ◌∙◌, subst, arith, length, length-append, length-set}
+use Rattle.std.specs.Prelude.{Option, Ok, Err, slice_get, filter, map, if◌then◌else◌, nat_eq, IsSome}
 use Rattle.merc_script.specs.declared.items.Item.{Item}
-use Rattle.merc_script.specs.Script.{Script, Ends, TickThen, WaitThen, SignalThen, ForkThen, Children, Cell as ScriptCell, Move}
+use Rattle.merc_script.specs.Script.{Script, Ends, TickThen, WaitThen, SignalThen, ForkThen, Cell as ScriptCell, Move}
 use Rattle.merc_core.specs.declared.branch.Branch.{Branch as CoreBranch}
 use Rattle.merc_core.specs.declared.cell.Cell.{Cell as CoreCell}
 use Rattle.merc_core.specs.declared.worker.Worker.{Worker}
@@ -11,12 +10,12 @@ use Rattle.merc_core.specs.declared.course.Next.{Next}
 use Rattle.merc_core.specs.declared.course.Next.TheVariants.{Tick as TickNext, Wait as WaitNext, Signal as SignalNext, Fork as ForkNext, End as EndNext}
 use Rattle.merc_core.specs.declared.event.Event.TheVariants.{Signal}
 use Rattle.merc_core.specs.declared.event.NotNow.TheVariants.{WrongItem}
-use Rattle.merc_core.specs.World.{Branch, Location, Runs, Spot, spot, World}
-use Rattle.merc_core.specs.Rights.{has, has_in, without}
-use Rattle.merc_core.specs.Events.{Answer, signal_on, signalled, past_signal, unchanged, wake, happens}
-use Rattle.merc_core.specs.Standing.{StandsAt, LeftAt, IsLeft, IsNext, IsSignal}
+use Rattle.merc_core.specs.World.{Branch, Runs, Spot, spot, World}
+use Rattle.merc_core.specs.Rights.{has, without}
+use Rattle.merc_core.specs.Events.{signal_on, signalled, past_signal, unchanged, wake, happens}
+use Rattle.merc_core.specs.Standing.{StandsAt, IsLeft, IsNext, IsSignal}
 use Rattle.merc_core.specs.Queues.{filled, waiting_of}
-use Rattle.merc_core.specs.Mirror.{Key, Hand, Row, Waiting, Parent, same_key, stands_in, queue, held, held_of, hand_of, row_of, in_hand_at, Parts, Shows, ShowsPool, ShowsCell, Mirrors, AreFit, made, still_made, HasRoom, branches_made, rights_made, joins_made}
+use Rattle.merc_core.specs.Mirror.{Key, Hand, Row, Waiting, Parent, stands_in, queue, held, held_of, row_of, in_hand_at, Parts, Shows, ShowsPool, ShowsCell, Mirrors, AreFit, made, still_made, branches_made, rights_made, joins_made}
 use Rattle.merc_core.specs.Stepping.{RunsNext}
 use Rattle.merc_core.proofs.Pool.{each_way}
 use Rattle.merc_core.proofs.Acting.{with_worker, Acting, acting, runs-on, held-there, held-here, nat-is, worker-there, replaced}
@@ -41,7 +40,12 @@ module _ (items : List Item) (parts : Parts) (w : World) (mirrors : Mirrors item
 
   signals-by : (cell : ℕ) (c : CoreBranch) (a : Acting items parts w mirrors v k stands None c) (rest : Script) → a.gone.x.branch.rest ≡ rest → IsLeft items c rest → IsSignal cell c.at items rest → Signals cell
   signals-by cell c a (SignalThen other rest) is left at = record {
-    c = c; acts = a; rest = rest; is = is ∙ ap (λ n. SignalThen n rest) (sym at.0); left = at.1; none = not-ended items c.at c.ended (SignalThen other rest) left (λ o e. cc);
+    c = c;
+    acts = a;
+    rest = rest;
+    is = is ∙ ap (λ n. SignalThen n rest) (sym at.0);
+    left = at.1;
+    none = not-ended items c.at c.ended (SignalThen other rest) left (λ o e. cc);
   }
   signals-by cell c a (Ends o) is left at = absurd at
   signals-by cell c a (TickThen rest) is left at = absurd at
@@ -80,10 +84,10 @@ module _ (items : List Item) (parts : Parts) (w : World) (mirrors : Mirrors item
 
     full-shows : (other : ℕ) → ShowsCell other (w.full ++ (cell ∷ [])) w.poisoned (cells' other)
     full-shows other = elim (each_way (nat_eq cell other)) [
-          inl same ↦ subst (ShowsCell other (w.full ++ (cell ∷ [])) w.poisoned) (sym (full-here other same))
-              (filled-shows other (parts.cells other) (subst (λ n. has n (w.full ++ (cell ∷ [])) ≡ true) (nat-is cell other same) (has-added cell w.full)) (mirrors.cells other))
-        | inr apart ↦ subst (ShowsCell other (w.full ++ (cell ∷ [])) w.poisoned) (sym (full-there other apart)) (kept-shows other (parts.cells other) (has-others cell other w.full apart) (mirrors.cells other))
-        ]
+      | inl same ↦ subst (ShowsCell other (w.full ++ (cell ∷ [])) w.poisoned) (sym (full-here other same))
+          (filled-shows other (parts.cells other) (subst (λ n. has n (w.full ++ (cell ∷ [])) ≡ true) (nat-is cell other same) (has-added cell w.full)) (mirrors.cells other))
+      | inr apart ↦ subst (ShowsCell other (w.full ++ (cell ∷ [])) w.poisoned) (sym (full-there other apart)) (kept-shows other (parts.cells other) (has-others cell other w.full apart) (mirrors.cells other))
+    ]
 
     filled-some : (o : Option CoreCell) → IsSome o → IsSome (filled o)
     filled-some (Some found) some = refl
@@ -91,9 +95,9 @@ module _ (items : List Item) (parts : Parts) (w : World) (mirrors : Mirrors item
 
     full-some : (other : ℕ) → IsSome (parts.cells other) → IsSome (cells' other)
     full-some other some = elim (each_way (nat_eq cell other)) [
-          inl same ↦ subst IsSome (sym (full-here other same)) (filled-some (parts.cells other) some)
-        | inr apart ↦ subst IsSome (sym (full-there other apart)) some
-        ]
+      | inl same ↦ subst IsSome (sym (full-here other same)) (filled-some (parts.cells other) some)
+      | inr apart ↦ subst IsSome (sym (full-there other apart)) some
+    ]
 
     filled-none : (o : Option CoreCell) → waiting_of (filled o) ≡ []
     filled-none None = refl
@@ -103,22 +107,22 @@ module _ (items : List Item) (parts : Parts) (w : World) (mirrors : Mirrors item
       new-queues : (key : Key) → with_queue (Hand v) (woken_queues cell v (λ c. c) (with_queue (Hand v) [] (queue parts)) (Hand v) ++ (c' ∷ [])) (woken_queues cell v (λ c. c) (with_queue (Hand v) [] (queue parts))) key
           ≡ queue (record (with_worker parts v k') { cells = cells' }) key
       new-queues (Hand u) = elim (each_way (nat_eq v u)) [
-            inl same ↦
-                ap (λ t. if t then (if nat_eq v v then [] else queue parts (Hand v)) ++ (c' ∷ []) else (if nat_eq v u then [] else queue parts (Hand u))) same
-                ∙ ap (λ t. (if t then [] else queue parts (Hand v)) ++ (c' ∷ [])) (nat-self v) ∙ sym hand
-                ∙ sym (ap (λ t. if t then k'.hand else queue parts (Hand u)) same) ∙ replaced parts v k' (worker-there items parts w mirrors v k stands) (Hand u)
-          | inr apart ↦
-                ap (λ t. if t then (if nat_eq v v then [] else queue parts (Hand v)) ++ (c' ∷ []) else (if t then [] else queue parts (Hand u))) apart
-                ∙ sym (ap (λ t. if t then k'.hand else queue parts (Hand u)) apart) ∙ replaced parts v k' (worker-there items parts w mirrors v k stands) (Hand u)
-          ]
+        | inl same ↦
+            ap (λ t. if t then (if nat_eq v v then [] else queue parts (Hand v)) ++ (c' ∷ []) else (if nat_eq v u then [] else queue parts (Hand u))) same
+            ∙ ap (λ t. (if t then [] else queue parts (Hand v)) ++ (c' ∷ [])) (nat-self v) ∙ sym hand
+            ∙ sym (ap (λ t. if t then k'.hand else queue parts (Hand u)) same) ∙ replaced parts v k' (worker-there items parts w mirrors v k stands) (Hand u)
+        | inr apart ↦
+            ap (λ t. if t then (if nat_eq v v then [] else queue parts (Hand v)) ++ (c' ∷ []) else (if t then [] else queue parts (Hand u))) apart
+            ∙ sym (ap (λ t. if t then k'.hand else queue parts (Hand u)) apart) ∙ replaced parts v k' (worker-there items parts w mirrors v k stands) (Hand u)
+      ]
       new-queues (Row u) =
           ap (λ (l : List CoreBranch). if nat_eq v u then l else queue parts (Row u))
           (ap (λ o. row_of o ++ map (λ c. c) (waiting_of (parts.cells cell))) stands ∙ ap (λ l. k.list ++ l) (map-as-is (waiting_of (parts.cells cell))) ∙ sym list)
           ∙ replaced parts v k' (worker-there items parts w mirrors v k stands) (Row u)
       new-queues (Waiting other) = elim (each_way (nat_eq cell other)) [
-            inl same ↦ ap (λ t. if t then [] else waiting_of (parts.cells other)) same ∙ sym (ap waiting_of (full-here other same) ∙ filled-none (parts.cells other))
-          | inr apart ↦ ap (λ t. if t then [] else waiting_of (parts.cells other)) apart ∙ sym (ap waiting_of (full-there other apart))
-          ]
+        | inl same ↦ ap (λ t. if t then [] else waiting_of (parts.cells other)) same ∙ sym (ap waiting_of (full-here other same) ∙ filled-none (parts.cells other))
+        | inr apart ↦ ap (λ t. if t then [] else waiting_of (parts.cells other)) apart ∙ sym (ap waiting_of (full-there other apart))
+      ]
       new-queues (Parent j) = refl
 
     still-room : (each : ℕ → List ScriptCell → List Move → ℕ) (at : Signals cell)
@@ -139,7 +143,11 @@ module _ (items : List Item) (parts : Parts) (w : World) (mirrors : Mirrors item
         let hand : k'.hand ≡ c' ∷ [] = changed at.c a.only in
         let holds = λ (u : ℕ). held (with_worker parts v k') u in
         let behind : Shows items c' b' = record {
-          join = one.join; child = one.child; at = let e = one.at in omega arith; steps = one.steps; signals = ap (without (cell ∷ [])) one.signals;
+          join = one.join;
+          child = one.child;
+          at = let e = one.at in omega arith;
+          steps = one.steps;
+          signals = ap (without (cell ∷ [])) one.signals;
           left = left-on items at.c.at at.c.ended at.rest at.none at.left;
           within = (let e : suc at.c.at ≡ at.c.at + 1 = omega arith in subst (λ n. n < length items) e (stands-within items (suc at.c.at) at.rest at.left));
           few = let e = one.few in omega arith;
@@ -150,8 +158,8 @@ module _ (items : List Item) (parts : Parts) (w : World) (mirrors : Mirrors item
         let ready : ShowsPool items (woken_queues cell v (λ c. c) (with_queue (Hand v) [] (queue parts))) holds (wake cell v unchanged a.gone.others) =
         held-changed items (woken_queues cell v (λ c. c) (with_queue (Hand v) [] (queue parts))) (λ u. held_of (slice_get parts.workers u)) (wake cell v unchanged a.gone.others) waked v holds empty (λ u apart. held-there parts v u k' apart) in
         let new = put items (woken_queues cell v (λ c. c) (with_queue (Hand v) [] (queue parts))) holds (wake cell v unchanged a.gone.others) ready (Hand v) (Runs v) c' b' (key-runs v) behind tt (λ _. empty)
-        (λ u e. let same : v ≡ u = cc in subst (λ (n : ℕ). Runs v ≡ in_hand_at n (holds n)) same (sym (ap (in_hand_at v) (held-here parts v k' near ∙ held-same ∙ free)))) in
-        (signalled w v a.gone.x.branch a.gone.others cell at.rest,
+        (λ u e. let same : v ≡ u = cc in subst (λ (n : ℕ). Runs v ≡ in_hand_at n (holds n)) same (sym (ap (in_hand_at v) (held-here parts v k' near ∙ held-same ∙ free)))) in (
+          signalled w v a.gone.x.branch a.gone.others cell at.rest,
           runs-on items parts w mirrors v k stands at.c a _ ∙ ap (λ s. signal_on w v s a.gone.x.branch a.gone.others) at.is,
           record {
             workers = length-set parts.workers v k' ∙ mirrors.workers;
@@ -169,7 +177,8 @@ module _ (items : List Item) (parts : Parts) (w : World) (mirrors : Mirrors item
                   let p = length-append (wake cell v unchanged a.gone.others) (spot (Runs v) b' ∷ []) in let m = r.crowd in omega arith;
               many = r.many;
             };
-          })
+          },
+        )
 
   no-signal : (place : ℕ) (next : Next) (left : Script) (b : Branch) (others : List Spot) → ((cell : ℕ) → next ≡ SignalNext cell → ⊥) → IsNext items place next left → signal_on w v left b others ≡ Err WrongItem
   no-signal place next (Ends o) b others apart at = refl

@@ -1,11 +1,11 @@
 -- Events after which a branch goes on by itself.
-use Rattle.std.proofs.Common.{◌≡◌, ℕ, zero, suc, ◌+◌, ◌-◌, ◌*◌, ◌^◌, ◌≤◌, ◌<◌, Bool, true, false, List, [], ◌∷◌, ◌++◌, Some, None, refl, ap, sym, ◌∙◌, subst, arith, length, length-append, drop, take}
-use Rattle.std.specs.Prelude.{Option, Result, Ok, Err, slice_get, filter}
+use Rattle.std.proofs.Common.{◌≡◌, ℕ, suc, ◌+◌, ◌-◌, ◌^◌, ◌<◌, List, [], ◌∷◌, Some, None, refl, ap, sym, ◌∙◌, subst, arith, length, length-append}
+use Rattle.std.specs.Prelude.{Option, Ok, Err, slice_get, filter}
 use Rattle.std.specs.List.{AllByRecursion}
 use Rattle.std.proofs.lemmas.List.{length-drop}
 use Rattle.merc_script.specs.declared.outcome.Outcome.{Outcome}
 use Rattle.merc_script.specs.declared.items.Item.{Item}
-use Rattle.merc_script.specs.Script.{Script, Ends, TickThen, WaitThen, SignalThen, ForkThen, Children, size}
+use Rattle.merc_script.specs.Script.{Script, Ends, TickThen, WaitThen, SignalThen, ForkThen}
 use Rattle.merc_script.specs.Items.{items_of}
 use Rattle.merc_core.specs.declared.branch.Branch.{Branch as CoreBranch}
 use Rattle.merc_core.specs.declared.worker.Worker.{Worker}
@@ -13,11 +13,10 @@ use Rattle.merc_core.specs.declared.course.Next.{Next}
 use Rattle.merc_core.specs.declared.course.Next.TheVariants.{Tick as TickNext, Wait as WaitNext, Signal as SignalNext, Fork as ForkNext, End as EndNext}
 use Rattle.merc_core.specs.declared.event.Event.TheVariants.{Tick}
 use Rattle.merc_core.specs.declared.event.NotNow.TheVariants.{WrongItem}
-use Rattle.merc_core.specs.World.{Branch, Location, Runs, Spot, spot, World}
-use Rattle.merc_core.specs.Events.{Answer, running, tick_on, past_tick, happens}
+use Rattle.merc_core.specs.World.{Branch, Runs, Spot, World}
+use Rattle.merc_core.specs.Events.{tick_on, past_tick, happens}
 use Rattle.merc_core.specs.Standing.{StandsAt, LeftAt, IsLeft, IsNext, IsTick}
-use Rattle.merc_core.specs.Mirror.{Key, Hand, queue, hand_of, stands_in, Parts, Shows, AllShow, Mirrors, AreFit, IsCourse, made}
-use Rattle.merc_core.specs.WellFormed.{most_steps}
+use Rattle.merc_core.specs.Mirror.{Hand, queue, hand_of, stands_in, Parts, AllShow, Mirrors, AreFit, made}
 use Rattle.merc_core.specs.Stepping.{RunsNext}
 use Rattle.merc_core.proofs.StandingLaws.{length-items_of, size-some}
 use Rattle.merc_core.proofs.Steps.{put_back}
@@ -44,17 +43,22 @@ module _ (items : List Item) (parts : Parts) (w : World) (mirrors : Mirrors item
       → (left : Script) → a.gone.x.branch.rest ≡ left → IsLeft items c left → IsTick c.at items left
       → (after : World) × (happens w (Tick v) ≡ Ok after) × Mirrors items (with_worker parts v k') after
   tick-goes c a k' hand held list (TickThen rest) is left next =
-      let b = a.gone.x.branch in
-      (put_back w (Runs v) (past_tick b rest) a.gone.others,
+      let b = a.gone.x.branch in (
+        put_back w (Runs v) (past_tick b rest) a.gone.others,
         runs-on items parts w mirrors v k stands c a _ ∙ ap (λ s. tick_on w v s b a.gone.others) is,
         back-in-hand items parts w mirrors v k stands None None c (record c { at = c.at + 1; steps = c.steps + 1 }) a k' (past_tick b rest) hand list held
-          (record {
-            join = a.gone.one.join; child = a.gone.one.child; at = let e = a.gone.one.at in omega arith; steps = let e = a.gone.one.steps in omega arith; signals = a.gone.one.signals;
-            left = left-on items c.at c.ended rest (not-ended items c.at c.ended (TickThen rest) left (λ o e. cc)) next;
-            within = (let e : suc c.at ≡ c.at + 1 = omega arith in subst (λ n. n < length items) e (stands-within items (suc c.at) rest next));
-            few = let e = a.gone.one.few in omega arith;
-          })
-          (λ each. let e = ap (made each) is in omega (arith, e)))
+            (record {
+              join = a.gone.one.join;
+              child = a.gone.one.child;
+              at = let e = a.gone.one.at in omega arith;
+              steps = let e = a.gone.one.steps in omega arith;
+              signals = a.gone.one.signals;
+              left = left-on items c.at c.ended rest (not-ended items c.at c.ended (TickThen rest) left (λ o e. cc)) next;
+              within = (let e : suc c.at ≡ c.at + 1 = omega arith in subst (λ n. n < length items) e (stands-within items (suc c.at) rest next));
+              few = let e = a.gone.one.few in omega arith;
+            })
+            (λ each. let e = ap (made each) is in omega (arith, e)),
+      )
   tick-goes c a k' hand held list (Ends o) is left next = absurd next
   tick-goes c a k' hand held list (WaitThen cell rest) is left next = absurd next
   tick-goes c a k' hand held list (SignalThen cell rest) is left next = absurd next

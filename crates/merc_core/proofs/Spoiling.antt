@@ -1,5 +1,5 @@
 -- Cells are spoiled, and outcomes stored.
-use Rattle.std.proofs.Common.{◌≡◌, ℕ, zero, suc, ◌+◌, ◌-◌, ◌^◌, ◌≤◌, ◌<◌, ◌⊎◌, inl, inr, Bool, true, false, List, [], ◌∷◌, ◌++◌, Some, None, refl, ap, sym, ◌∙◌, subst, arith, length, length-append, take, drop}
+use Rattle.std.proofs.Common.{◌≡◌, ℕ, zero, suc, ◌+◌, ◌^◌, ◌≤◌, ◌<◌, inl, inr, Bool, true, false, List, [], ◌∷◌, ◌++◌, Some, None, refl, ap, sym, ◌∙◌, subst, arith, length, length-append, take, drop}
 use mathlib.Core.Path.{fun_ext}
 use Rattle.std.proofs.lemmas.Bool.Decides.{nat_tests}
 use Rattle.std.specs.Prelude.{Option, filter, map, if◌then◌else◌, nat_eq}
@@ -8,11 +8,11 @@ use Rattle.merc_script.specs.declared.outcome.Outcome.TheVariants.{Starved}
 use Rattle.merc_script.specs.declared.items.Item.{Item}
 use Rattle.merc_core.specs.declared.branch.Branch.{Branch as CoreBranch}
 use Rattle.merc_core.specs.declared.cell.Cell.{Cell}
-use Rattle.merc_core.specs.World.{Branch, Spot}
+use Rattle.merc_core.specs.World.{Branch}
 use Rattle.merc_core.specs.Events.{ended, wake}
 use Rattle.merc_core.specs.Queues.{waiting_of, starved, spoiled, spoil_at, cells_after, list_after, first_stored, stored_from}
 use Rattle.merc_core.specs.Roomy.{IsRoomy}
-use Rattle.merc_core.specs.Mirror.{Key, Hand, Row, Waiting, Parent, stands_in, Shows, ShowsPool}
+use Rattle.merc_core.specs.Mirror.{Key, Row, Waiting, stands_in, Shows}
 use Rattle.merc_core.proofs.Pool.{each_way}
 use Rattle.merc_core.proofs.PoolShows.{nat-self, show-length, stands-apart}
 use Rattle.merc_core.proofs.PoolMoves.{woken_queues, wake-shows}
@@ -36,10 +36,10 @@ pub spoiled-waits : (cells : ℕ → Option Cell) (queues : Key → List CoreBra
     → (other : ℕ) → woken_queues cell v starved queues (Waiting other) ≡ waiting_of (spoil_at cell cells other)
 spoiled-waits cells queues v cell waits other =
     elim (each_way (nat_eq cell other)) [
-      inl same ↦
+      | inl same ↦
           ap (λ t. if t then [] else queues (Waiting other)) same
           ∙ sym (ap (λ t. waiting_of (if t then spoiled (cells cell) else cells other)) same ∙ spoiled-none (cells cell))
-    | inr apart ↦
+      | inr apart ↦
           ap (λ t. if t then [] else queues (Waiting other)) apart ∙ waits other
           ∙ sym (ap (λ t. waiting_of (if t then spoiled (cells cell) else cells other)) apart)
     ]
@@ -103,7 +103,7 @@ stored-there number n o [] back in_range stores = absurd (omega arith)
 stored-there number zero o (x ∷ xs) back in_range stores =
     stores x xs refl
     ∙ sym (ap (λ (t : Bool). (if t then first_stored x o else x) ∷ stored_from (suc number) (number + 0) o xs) (let e : nat_eq (number + 0) number ≡ true = grind (arith, nat_tests) in e)
-        ∙ ap (λ l. first_stored x o ∷ l) (stored-before (suc number) (number + 0) o xs (omega arith)))
+    ∙ ap (λ l. first_stored x o ∷ l) (stored-before (suc number) (number + 0) o xs (omega arith)))
 stored-there number (suc n) o (x ∷ xs) back in_range stores =
     let e : suc number + n ≡ number + suc n = omega arith in
     ap (λ l. x ∷ l) (stored-there (suc number) n o xs back (omega (arith, in_range)) stores ∙ ap (λ k. stored_from (suc number) k o xs) e)

@@ -1,14 +1,14 @@
 -- What stands at a place, and behind it.
-use Rattle.std.proofs.Common.{◌≡◌, ℕ, zero, suc, ◌+◌, ◌≤◌, ◌<◌, List, [], ◌∷◌, ◌++◌, length, take, drop, get_or, refl, ap, sym, ◌∙◌, subst, arith, append_assoc, length-append, drop-cons}
+use Rattle.std.proofs.Common.{◌≡◌, ℕ, zero, suc, ◌+◌, ◌≤◌, ◌<◌, List, [], ◌∷◌, ◌++◌, length, drop, get_or, refl, ap, sym, ◌∙◌, subst, arith, append_assoc, length-append}
 use Rattle.std.specs.Prelude.{Option, Some, None, slice_get}
 use Rattle.std.proofs.Math.Seq.{drop-append_seam}
 use Rattle.merc_script.specs.declared.outcome.Outcome.{Outcome}
 use Rattle.merc_script.specs.declared.items.Item.{Item}
 use Rattle.merc_script.specs.declared.items.Fork.{Fork as ForkData}
-use Rattle.merc_script.specs.declared.items.Item.TheVariants.{Tick, Wait, Signal, Fork, End}
-use Rattle.merc_script.specs.Script.{Script, Ends, TickThen, WaitThen, SignalThen, ForkThen, Children, NoChild, Child, count, size, sizes}
+use Rattle.merc_script.specs.declared.items.Item.TheVariants.{Wait, Fork}
+use Rattle.merc_script.specs.Script.{Script, Ends, TickThen, WaitThen, SignalThen, ForkThen, Children, NoChild, Child, size, sizes}
 use Rattle.merc_script.specs.Items.{items_of, items_in}
-use Rattle.merc_core.specs.Standing.{StandsAt, StandAt, LeftAt, IsWait, IsFork}
+use Rattle.merc_core.specs.Standing.{StandsAt, LeftAt, IsWait, IsFork}
 
 -- a script has as many items as its size says
 mutual

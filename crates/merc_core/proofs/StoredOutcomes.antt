@@ -1,9 +1,9 @@
 -- Outcomes that are joined as they are stored are joined as a whole.
-use Rattle.std.proofs.Common.{◌≡◌, ℕ, List, [], ◌∷◌, refl, ap, sym, ◌∙◌}
+use Rattle.std.proofs.Common.{◌≡◌, ℕ, List, [], ◌∷◌, refl, ap, ◌∙◌}
 use Rattle.std.specs.Prelude.{Option, Some, None}
 use Rattle.merc_script.specs.declared.outcome.Outcome.{Outcome}
 use Rattle.merc_script.specs.declared.outcome.Outcome.TheVariants.{Ok as Fine}
-use Rattle.merc_script.specs.Joining.{joined, joined_with, joined_behind}
+use Rattle.merc_script.specs.Joining.{joined_with, joined_behind}
 use Rattle.merc_script.proofs.JoiningLaws.{joined-in-order}
 use Rattle.merc_core.specs.World.{with_first}
 use Rattle.merc_core.specs.Outcomes.{all_stored, joined_if, joined_on}

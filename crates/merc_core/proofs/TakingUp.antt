@@ -1,24 +1,21 @@
 -- A worker takes up a branch from a list.
-use Rattle.std.proofs.Common.{◌≡◌, ℕ, zero, suc, ◌+◌, ◌-◌, ◌≤◌, ◌<◌, ◌==◌, ◌⊎◌, inl, inr, Bool, true, false, not, List, [], ◌∷◌, ◌++◌, Some, None, refl, ap, sym, ◌∙◌, subst, arith, length, length-append, length-set, take, drop}
+use Rattle.std.proofs.Common.{◌≡◌, ℕ, zero, suc, ◌-◌, ◌<◌, ◌==◌, inl, inr, true, false, List, [], ◌∷◌, ◌++◌, Some, None, refl, ap, sym, ◌∙◌, subst, arith, length, length-set, take, drop}
 use Rattle.std.proofs.Math.ListN.{set}
 use Rattle.std.proofs.lemmas.Option.{slice_get_within}
 use Rattle.std.proofs.lemmas.Bool.Decides.{nat_tests}
-use Rattle.std.specs.Prelude.{Option, Result, Ok, Err, slice_get, filter, if◌then◌else◌, nat_eq, nat_lt}
-use Rattle.std.specs.List.{AllByRecursion}
+use Rattle.std.specs.Prelude.{Ok, Err, slice_get, if◌then◌else◌, nat_eq, nat_lt}
 use Rattle.merc_script.specs.declared.items.Item.{Item}
-use Rattle.merc_script.specs.Script.{Cell as ScriptCell, Move}
 use Rattle.merc_core.specs.declared.branch.Branch.{Branch as CoreBranch}
 use Rattle.merc_core.specs.declared.worker.Worker.{Worker}
-use Rattle.merc_core.specs.declared.event.Event.{Event}
 use Rattle.merc_core.specs.declared.event.Event.TheVariants.{Pop, Steal}
 use Rattle.merc_core.specs.declared.event.NotNow.TheVariants.{NoWorker, Busy, ListEmpty, SameWorker}
-use Rattle.merc_core.specs.World.{Branch, Location, Runs, Spot, spot, World}
+use Rattle.merc_core.specs.World.{Branch, Runs, Spot, spot, World}
 use Rattle.merc_core.specs.Events.{Answer, in_hand, back_of, front_of, if_worker, if_free, take_up, happens}
-use Rattle.merc_core.specs.Mirror.{Key, Hand, Row, Waiting, Parent, same_key, stands_in, in_hand_at, queue, held, held_of, hand_of, row_of, Parts, Shows, ShowsPool, Mirrors, AreFit, made, HasRoom}
+use Rattle.merc_core.specs.Mirror.{Key, Hand, Row, same_key, in_hand_at, queue, held, held_of, hand_of, row_of, Parts, Shows, ShowsPool, Mirrors}
 use Rattle.merc_core.proofs.Pool.{each_way}
 use Rattle.merc_core.proofs.Steps.{put_back}
 use Rattle.merc_core.proofs.CoreLists.{Begins, begins}
-use Rattle.merc_core.proofs.PoolShows.{key-runs, same-key-is, with_queue, queue-same, same-queues, Gone, gone-first, gone-last, gone-none, gone-no-last, put, held-changed}
+use Rattle.merc_core.proofs.PoolShows.{key-runs, same-key-is, with_queue, same-queues, Gone, gone-first, gone-last, gone-none, gone-no-last, put, held-changed}
 use Rattle.merc_core.proofs.Rooms.{room-back}
 use Rattle.merc_core.proofs.Acting.{with_worker, replaced, held-there, held-here, worker-known, nat-is, room-worker}
 
@@ -51,21 +48,21 @@ module _ (parts : Parts) (v : ℕ) (k : Worker) (stands : slice_get parts.worker
     where
       row : with_queue (Row v) k'.list (queue parts) key ≡ queue parts key
       row = elim (each_way (same_key (Row v) key)) [
-            inl same ↦ (let e : Row v ≡ key = same-key-is (Row v) key same in
-                ap (λ t. if t then k'.list else queue parts key) same ∙ list ∙ sym (ap (λ o. row_of o) stands) ∙ ap (queue parts) e)
-          | inr apart ↦ ap (λ t. if t then k'.list else queue parts key) apart
-          ]
+        | inl same ↦ (let e : Row v ≡ key = same-key-is (Row v) key same in
+            ap (λ t. if t then k'.list else queue parts key) same ∙ list ∙ sym (ap (λ o. row_of o) stands) ∙ ap (queue parts) e)
+        | inr apart ↦ ap (λ t. if t then k'.list else queue parts key) apart
+      ]
 
   pub row-alone : (k' : Worker) → k'.hand ≡ k.hand → (key : Key) → with_queue (Row v) k'.list (queue parts) key ≡ queue (with_worker parts v k') key
   row-alone k' hand key = sym same-hand ∙ replaced parts v k' near key
     where
       same-hand : with_queue (Hand v) k'.hand (with_queue (Row v) k'.list (queue parts)) key ≡ with_queue (Row v) k'.list (queue parts) key
       same-hand = elim (each_way (same_key (Hand v) key)) [
-            inl same ↦ (let e : Hand v ≡ key = same-key-is (Hand v) key same in
-                ap (λ t. if t then k'.hand else with_queue (Row v) k'.list (queue parts) key) same ∙ hand ∙ sym (ap (λ o. hand_of o) stands)
-                ∙ ap (with_queue (Row v) k'.list (queue parts)) e)
-          | inr apart ↦ ap (λ t. if t then k'.hand else with_queue (Row v) k'.list (queue parts) key) apart
-          ]
+        | inl same ↦ (let e : Hand v ≡ key = same-key-is (Hand v) key same in
+            ap (λ t. if t then k'.hand else with_queue (Row v) k'.list (queue parts) key) same ∙ hand ∙ sym (ap (λ o. hand_of o) stands)
+            ∙ ap (with_queue (Row v) k'.list (queue parts)) e)
+        | inr apart ↦ ap (λ t. if t then k'.hand else with_queue (Row v) k'.list (queue parts) key) apart
+      ]
 
 -- a branch that was taken out runs on a worker whose hand is empty
 taken-up : (items : List Item) (parts : Parts) (pool : List Spot) (v : ℕ) (k : Worker) (stands : slice_get parts.workers v ≡ Some k) → k.hand ≡ [] → ShowsPool items (queue parts) (held parts) pool
@@ -121,22 +118,23 @@ module _ (items : List Item) (parts : Parts) (w : World) (mirrors : Mirrors item
       let new : ShowsPool items (with_queue (Hand v) (with_queue (Row v) e.0 (queue parts) (Hand v) ++ (e.1 ∷ [])) (with_queue (Row v) e.0 (queue parts))) holds (g.others ++ (spot (Runs v) g.x.branch ∷ [])) =
       put items (with_queue (Row v) e.0 (queue parts)) holds g.others ready (Hand v) (Runs v) e.1 g.x.branch (key-runs v) g.one tt (λ _. empty)
       (λ u same'. let same : v ≡ u = cc in subst (λ (n : ℕ). Runs v ≡ in_hand_at n (holds n)) same (sym (ap (in_hand_at v) (held-here parts v k' near' ∙ free)))) in
-      let is-hand : with_queue (Row v) e.0 (queue parts) (Hand v) ++ (e.1 ∷ []) ≡ k'.hand = ap (λ l. l ++ (e.1 ∷ [])) empty ∙ sym (hand ∙ ap (λ l. l ++ drop (length k.list - 1) k.list) none ∙ e.4) in
-      (put_back w (Runs v) g.x.branch g.others,
+      let is-hand : with_queue (Row v) e.0 (queue parts) (Hand v) ++ (e.1 ∷ []) ≡ k'.hand = ap (λ l. l ++ (e.1 ∷ [])) empty ∙ sym (hand ∙ ap (λ l. l ++ drop (length k.list - 1) k.list) none ∙ e.4) in (
+        put_back w (Runs v) g.x.branch g.others,
         ap (λ t. if t then if_free (in_hand v w.pool) (take_up w v (back_of v w.pool)) else Err NoWorker) knows'
-        ∙ ap (λ f. if_free f (take_up w v (back_of v w.pool))) (free-hand none) ∙ ap (take_up w v) g.is,
+            ∙ ap (λ f. if_free f (take_up w v (back_of v w.pool))) (free-hand none) ∙ ap (take_up w v) g.is,
         record {
           workers = length-set parts.workers v k' ∙ mirrors.workers;
           pool = same-queues items _ _ _ _ _
               (λ key. ap (λ (l : List CoreBranch). if same_key (Hand v) key then l else with_queue (Row v) e.0 (queue parts) key) is-hand
-                ∙ ap (λ (l : List CoreBranch). if same_key (Hand v) key then k'.hand else (if same_key (Row v) key then l else queue parts key)) (sym (list ∙ e.3))
-                ∙ replaced parts v k' near' key) (λ u. refl) new;
+              ∙ ap (λ (l : List CoreBranch). if same_key (Hand v) key then k'.hand else (if same_key (Row v) key then l else queue parts key)) (sym (list ∙ e.3))
+              ∙ replaced parts v k' near' key) (λ u. refl) new;
           cells = mirrors.cells;
           waits = mirrors.waits;
           joins = mirrors.joins;
           count = mirrors.count;
           has_room = room-worker parts v k' (g.others ++ (spot (Runs v) g.x.branch ∷ [])) (length w.joins) (room-back parts (length w.joins) g.takes (spot (Runs v) g.x.branch) (λ each. omega arith) mirrors.has_room);
-        })
+        },
+      )
 
 -- Stealing
 
@@ -193,11 +191,12 @@ module _ (items : List Item) (parts : Parts) (w : World) (mirrors : Mirrors item
       same-queues items _ _ _ _ _
       (λ key. ap (λ (l : List CoreBranch). if same_key (Row u) key then l else queue parts key) (sym left) ∙ row-alone parts u victim there' victim' hand-same key)
       (λ x. elim (each_way (nat_eq u x)) [
-          inl is ↦ (let e : u ≡ x = nat-is u x is in
-              subst (λ (n : ℕ). held_of (slice_get parts.workers n) ≡ held parts1 n) e (ap (λ o. held_of o) there' ∙ sym (held-here parts u victim' near-u ∙ held-same)))
+        | inl is ↦ (let e : u ≡ x = nat-is u x is in
+            subst (λ (n : ℕ). held_of (slice_get parts.workers n) ≡ held parts1 n) e (ap (λ o. held_of o) there' ∙ sym (held-here parts u victim' near-u ∙ held-same)))
         | inr is ↦ held-there parts u x victim' is
-      ]) g.rest in
-      (put_back w (Runs v) g.x.branch g.others, steals none apart ∙ ap (take_up w v) g.is,
+      ]) g.rest in (
+        put_back w (Runs v) g.x.branch g.others,
+        steals none apart ∙ ap (take_up w v) g.is,
         record {
           workers = length-set parts1.workers v k' ∙ length-set parts.workers u victim' ∙ mirrors.workers;
           pool = taken-up items parts1 g.others v k1 stands1 none1 shows1 b.first g.x.branch g.one k' (hand ∙ ap (λ l. take 1 l) b.is) list free;
@@ -207,7 +206,8 @@ module _ (items : List Item) (parts : Parts) (w : World) (mirrors : Mirrors item
           count = mirrors.count;
           has_room = room-worker parts1 v k' (g.others ++ (spot (Runs v) g.x.branch ∷ [])) (length w.joins)
               (room-worker parts u victim' (g.others ++ (spot (Runs v) g.x.branch ∷ [])) (length w.joins) (room-back parts (length w.joins) g.takes (spot (Runs v) g.x.branch) (λ each. omega arith) mirrors.has_room));
-        })
+        },
+      )
 
 pub some-worker : {A : Type 0} (xs : List A) (i : ℕ) → i < length xs → (x : A) × (slice_get xs i ≡ Some x)
 some-worker [] i in_range = absurd (omega arith)

@@ -1,11 +1,9 @@
 -- A branch comes to a wait.
-use Rattle.std.proofs.Common.{◌≡◌, ℕ, zero, suc, ◌+◌, ◌*◌, ◌^◌, ◌≤◌, ◌<◌, ◌⊎◌, inl, inr, Bool, true, false, List, [], ◌∷◌, ◌++◌, Some, None, refl, ap, sym, ◌∙◌, subst, arith, length, length-append, length-set}
-use Rattle.std.specs.Prelude.{Option, Result, Ok, Err, slice_get, filter, if◌then◌else◌, nat_eq, IsSome}
-use Rattle.merc_script.specs.declared.outcome.Outcome.{Outcome}
+use Rattle.std.proofs.Common.{◌≡◌, ℕ, suc, ◌+◌, ◌^◌, ◌≤◌, ◌<◌, inl, inr, Bool, true, false, List, [], ◌∷◌, ◌++◌, Some, None, refl, ap, sym, ◌∙◌, subst, arith, length, length-set}
+use Rattle.std.specs.Prelude.{Option, Ok, Err, slice_get, filter, if◌then◌else◌, nat_eq, IsSome}
 use Rattle.merc_script.specs.declared.outcome.Outcome.TheVariants.{Starved}
 use Rattle.merc_script.specs.declared.items.Item.{Item}
-use Rattle.merc_script.specs.declared.items.Item.TheVariants.{Wait as WaitItem}
-use Rattle.merc_script.specs.Script.{Script, Ends, TickThen, WaitThen, SignalThen, ForkThen, Children, Cell as ScriptCell, Move}
+use Rattle.merc_script.specs.Script.{Script, Ends, TickThen, WaitThen, SignalThen, ForkThen}
 use Rattle.merc_core.specs.declared.branch.Branch.{Branch as CoreBranch}
 use Rattle.merc_core.specs.declared.cell.Cell.{Cell as CoreCell}
 use Rattle.merc_core.specs.declared.cell.Meeting.{Meeting}
@@ -15,17 +13,17 @@ use Rattle.merc_core.specs.declared.course.Next.{Next}
 use Rattle.merc_core.specs.declared.course.Next.TheVariants.{Tick as TickNext, Wait as WaitNext, Signal as SignalNext, Fork as ForkNext, End as EndNext}
 use Rattle.merc_core.specs.declared.event.Event.TheVariants.{Wait}
 use Rattle.merc_core.specs.declared.event.NotNow.TheVariants.{WrongItem}
-use Rattle.merc_core.specs.World.{Branch, Location, Runs, AtCell, Spot, spot, World}
+use Rattle.merc_core.specs.World.{Branch, Runs, AtCell, Spot, spot, World}
 use Rattle.merc_core.specs.Rights.{has, has_in}
-use Rattle.merc_core.specs.Events.{Answer, running, wait_on, wait_at, past_wait, ended, happens}
-use Rattle.merc_core.specs.Standing.{StandsAt, LeftAt, IsLeft, IsNext, IsWait}
+use Rattle.merc_core.specs.Events.{wait_on, wait_at, past_wait, ended, happens}
+use Rattle.merc_core.specs.Standing.{StandsAt, IsLeft, IsNext, IsWait}
 use Rattle.merc_core.specs.Queues.{meeting_of, meeting_at, parked_at, waiting_of}
-use Rattle.merc_core.specs.Mirror.{Key, Hand, Row, Waiting, Parent, same_key, stands_in, queue, held, held_of, hand_of, in_hand_at, Parts, Shows, ShowsPool, ShowsCell, Mirrors, AreFit, made, HasRoom}
+use Rattle.merc_core.specs.Mirror.{Key, Hand, Row, Waiting, Parent, stands_in, queue, held, held_of, Parts, Shows, ShowsPool, ShowsCell, Mirrors, AreFit, made}
 use Rattle.merc_core.specs.Stepping.{RunsNext}
 use Rattle.merc_core.proofs.Pool.{each_way}
 use Rattle.merc_core.proofs.Steps.{put_back}
-use Rattle.merc_core.proofs.Acting.{with_worker, Acting, acting, runs-on, back-in-hand, held-there, held-here, nat-is, room-worker, worker-there}
-use Rattle.merc_core.proofs.PoolShows.{key-at-cell, nat-self, same-key-is, with_queue, queue-same, same-queues, show-length, put, held-changed}
+use Rattle.merc_core.proofs.Acting.{with_worker, Acting, acting, runs-on, back-in-hand, held-there, held-here, nat-is, worker-there}
+use Rattle.merc_core.proofs.PoolShows.{key-at-cell, nat-self, with_queue, same-queues, show-length, put}
 use Rattle.merc_core.proofs.Rooms.{room-back, takes-length}
 use Rattle.merc_core.proofs.TakingUp.{hand-alone}
 use Rattle.merc_core.proofs.Simple.{stands-within, not-ended, left-on}
@@ -55,7 +53,9 @@ module _ (items : List Item) (parts : Parts) (w : World) (mirrors : Mirrors item
 
   waits-by : (cell : ℕ) (c : CoreBranch) (a : Acting items parts w mirrors v k stands None c) (rest : Script) → a.gone.x.branch.rest ≡ rest → IsLeft items c rest → IsWait cell c.at items rest → Waits cell
   waits-by cell c a (WaitThen other rest) is left at = record {
-    c = c; acts = a; rest = rest;
+    c = c;
+    acts = a;
+    rest = rest;
     is = is ∙ ap (λ n. WaitThen n rest) (sym at.0);
     left = at.1;
     none = not-ended items c.at c.ended (WaitThen other rest) left (λ o e. cc);
@@ -101,7 +101,11 @@ module _ (items : List Item) (parts : Parts) (w : World) (mirrors : Mirrors item
     -- a branch behind the wait
     pub behind : Shows items (record at.c { at = at.c.at + 1 }) (past_wait cell at.acts.gone.x.branch at.rest)
     behind = let one = at.acts.gone.one in record {
-      join = one.join; child = one.child; at = let e = one.at in omega arith; steps = one.steps; signals = one.signals;
+      join = one.join;
+      child = one.child;
+      at = let e = one.at in omega arith;
+      steps = one.steps;
+      signals = one.signals;
       left = left-on items at.c.at at.c.ended at.rest at.none at.left;
       within = (let e : suc at.c.at ≡ at.c.at + 1 = omega arith in subst (λ n. n < length items) e (stands-within items (suc at.c.at) at.rest at.left));
       few = let e = one.few in omega arith;
@@ -111,34 +115,36 @@ module _ (items : List Item) (parts : Parts) (w : World) (mirrors : Mirrors item
         → ((b : CoreBranch) → k.hand ≡ b ∷ [] → k'.hand ≡ (record b { at = b.at + 1 }) ∷ []) → k'.held ≡ k.held → k'.list ≡ k.list → k.held ≡ None
         → (after : World) × (happens w (Wait v) ≡ Ok after) × Mirrors items (with_worker parts v k') after
     full-done m is at-full k' hand held list free =
-        let yes-full : has cell w.full ≡ true = full-is (has cell w.full) (has_in cell w.poisoned) (sym at-full ∙ meets m is) in
-        (put_back w (Runs v) (past_wait cell at.acts.gone.x.branch at.rest) at.acts.gone.others,
+        let yes-full : has cell w.full ≡ true = full-is (has cell w.full) (has_in cell w.poisoned) (sym at-full ∙ meets m is) in (
+          put_back w (Runs v) (past_wait cell at.acts.gone.x.branch at.rest) at.acts.gone.others,
           wait-is ∙ ap (λ t. wait_at w v cell at.rest at.acts.gone.x.branch at.acts.gone.others t (has_in cell w.poisoned)) yes-full,
           back-in-hand items parts w mirrors v k stands None None at.c (record at.c { at = at.c.at + 1 }) at.acts k' (past_wait cell at.acts.gone.x.branch at.rest)
-            (hand at.c at.acts.only) list (held ∙ free) behind (λ each. let e = ap (made each) at.is in omega (arith, e)))
+              (hand at.c at.acts.only) list (held ∙ free) behind (λ each. let e = ap (made each) at.is in omega (arith, e)),
+        )
 
     pub poisoned-done : (m : Meeting) → m ≡ meeting_of (parts.cells cell) → m ≡ Poisoned → (k' : Worker)
         → ((b : CoreBranch) (bs : List CoreBranch) → k.hand ≡ b ∷ bs → k'.hand ≡ (record b { ended = Some Starved }) ∷ bs) → k'.held ≡ k.held → k'.list ≡ k.list → k.held ≡ None
         → (after : World) × (happens w (Wait v) ≡ Ok after) × Mirrors items (with_worker parts v k') after
     poisoned-done m is at-poisoned k' hand held list free =
         let one = at.acts.gone.one in
-        let which = poisoned-is (has cell w.full) (has_in cell w.poisoned) (sym at-poisoned ∙ meets m is) in
-        (put_back w (Runs v) (ended Starved at.acts.gone.x.branch) at.acts.gone.others,
+        let which = poisoned-is (has cell w.full) (has_in cell w.poisoned) (sym at-poisoned ∙ meets m is) in (
+          put_back w (Runs v) (ended Starved at.acts.gone.x.branch) at.acts.gone.others,
           wait-is ∙ ap (λ t. wait_at w v cell at.rest at.acts.gone.x.branch at.acts.gone.others t (has_in cell w.poisoned)) which.0
-          ∙ ap (λ t. wait_at w v cell at.rest at.acts.gone.x.branch at.acts.gone.others false t) which.1,
+              ∙ ap (λ t. wait_at w v cell at.rest at.acts.gone.x.branch at.acts.gone.others false t) which.1,
           back-in-hand items parts w mirrors v k stands None None at.c (record at.c { ended = Some Starved }) at.acts k' (ended Starved at.acts.gone.x.branch)
-            (hand at.c [] at.acts.only) list (held ∙ free)
-            (record { join = one.join; child = one.child; at = one.at; steps = one.steps; signals = one.signals; left = refl; within = one.within; few = one.few })
-            (λ each. omega arith))
+              (hand at.c [] at.acts.only) list (held ∙ free)
+              (record { join = one.join; child = one.child; at = one.at; steps = one.steps; signals = one.signals; left = refl; within = one.within; few = one.few })
+              (λ each. omega arith),
+        )
 
     -- helpers on what is parked
     same-held : (k' : Worker) → k'.held ≡ k.held → (u : ℕ) → held parts u ≡ held (with_worker parts v k') u
     same-held k' held-same u = elim (each_way (nat_eq v u)) [
-          inl is ↦ (let e : v ≡ u = nat-is v u is in
-              subst (λ (n : ℕ). held parts n ≡ held (with_worker parts v k') n) e
-              (ap (λ o. held_of o) stands ∙ sym (held-here parts v k' (worker-there items parts w mirrors v k stands) ∙ held-same)))
-        | inr apart ↦ held-there parts v u k' apart
-        ]
+      | inl is ↦ (let e : v ≡ u = nat-is v u is in
+          subst (λ (n : ℕ). held parts n ≡ held (with_worker parts v k') n) e
+          (ap (λ o. held_of o) stands ∙ sym (held-here parts v k' (worker-there items parts w mirrors v k stands) ∙ held-same)))
+      | inr apart ↦ held-there parts v u k' apart
+    ]
 
     module _ (mid : List CoreBranch) (cells' : ℕ → Option CoreCell) (cells-are : (other : ℕ) → cells' other ≡ (if nat_eq cell other then parked_at mid (parts.cells cell) else parts.cells other)) where
       here-is : (other : ℕ) → nat_eq cell other ≡ true → cells' other ≡ parked_at mid (Some at.found.0)
@@ -149,16 +155,16 @@ module _ (items : List Item) (parts : Parts) (w : World) (mirrors : Mirrors item
 
       shows-other : (other : ℕ) → ShowsCell other w.full w.poisoned (cells' other)
       shows-other other = elim (each_way (nat_eq cell other)) [
-            inl same ↦ subst (ShowsCell other w.full w.poisoned) (sym (here-is other same))
-                (subst (λ (n : ℕ). ShowsCell n w.full w.poisoned (parked_at mid (Some at.found.0))) (nat-is cell other same) flags)
-          | inr apart ↦ subst (ShowsCell other w.full w.poisoned) (sym (there-is other apart)) (mirrors.cells other)
-          ]
+        | inl same ↦ subst (ShowsCell other w.full w.poisoned) (sym (here-is other same))
+            (subst (λ (n : ℕ). ShowsCell n w.full w.poisoned (parked_at mid (Some at.found.0))) (nat-is cell other same) flags)
+        | inr apart ↦ subst (ShowsCell other w.full w.poisoned) (sym (there-is other apart)) (mirrors.cells other)
+      ]
 
       parked-some : (other : ℕ) → IsSome (parts.cells other) → IsSome (cells' other)
       parked-some other some = elim (each_way (nat_eq cell other)) [
-            inl same ↦ subst IsSome (sym (here-is other same)) refl
-          | inr apart ↦ subst IsSome (sym (there-is other apart)) some
-          ]
+        | inl same ↦ subst IsSome (sym (here-is other same)) refl
+        | inr apart ↦ subst IsSome (sym (there-is other apart)) some
+      ]
 
       parked-queue : (c' : CoreBranch) (k' : Worker) → k'.hand ≡ [] → k'.list ≡ k.list → waiting_of (cells' cell) ≡ waiting_of (parts.cells cell) ++ (c' ∷ []) → (key : Key)
           → with_queue (Waiting cell) (with_queue (Hand v) [] (queue parts) (Waiting cell) ++ (c' ∷ [])) (with_queue (Hand v) [] (queue parts)) key ≡ queue (record (with_worker parts v k') { cells = cells' }) key
@@ -166,10 +172,10 @@ module _ (items : List Item) (parts : Parts) (w : World) (mirrors : Mirrors item
       parked-queue c' k' hand list in-cell (Row u) = hand-alone parts v k stands k' list (Row u)
       parked-queue c' k' hand list in-cell (Parent j) = refl
       parked-queue c' k' hand list in-cell (Waiting other) = elim (each_way (nat_eq cell other)) [
-            inl same ↦
-                ap (λ t. if t then waiting_of (parts.cells cell) ++ (c' ∷ []) else waiting_of (parts.cells other)) same ∙ sym in-cell ∙ ap (λ n. waiting_of (cells' n)) (nat-is cell other same)
-          | inr apart ↦ ap (λ t. if t then waiting_of (parts.cells cell) ++ (c' ∷ []) else waiting_of (parts.cells other)) apart ∙ sym (ap waiting_of (there-is other apart))
-          ]
+        | inl same ↦
+            ap (λ t. if t then waiting_of (parts.cells cell) ++ (c' ∷ []) else waiting_of (parts.cells other)) same ∙ sym in-cell ∙ ap (λ n. waiting_of (cells' n)) (nat-is cell other same)
+        | inr apart ↦ ap (λ t. if t then waiting_of (parts.cells cell) ++ (c' ∷ []) else waiting_of (parts.cells other)) apart ∙ sym (ap waiting_of (there-is other apart))
+      ]
 
     -- the branch is parked: the hand is empty, and the cell has one more
     pub open-done : (m : Meeting) → m ≡ meeting_of (parts.cells cell) → m ≡ Open → (mid : List CoreBranch)
@@ -187,10 +193,10 @@ module _ (items : List Item) (parts : Parts) (w : World) (mirrors : Mirrors item
         (λ single. absurd single) (λ u e. absurd (cc)) in
         let in-cell : waiting_of (cells' cell) ≡ waiting_of (parts.cells cell) ++ (c' ∷ []) =
         ap waiting_of (cells-are cell ∙ ap (λ t. if t then parked_at mid (parts.cells cell) else parts.cells cell) (nat-self cell)
-            ∙ ap (parked_at mid) at.found.1) ∙ ap (λ l. at.found.0.waiting ++ l) (changed at.c a.only) ∙ ap (λ o. waiting_of o ++ (c' ∷ [])) (sym at.found.1) in
-        (record w { pool = a.gone.others ++ (spot (AtCell cell) b' ∷ []) },
+        ∙ ap (parked_at mid) at.found.1) ∙ ap (λ l. at.found.0.waiting ++ l) (changed at.c a.only) ∙ ap (λ o. waiting_of o ++ (c' ∷ [])) (sym at.found.1) in (
+          record w { pool = a.gone.others ++ (spot (AtCell cell) b' ∷ []) },
           wait-is ∙ ap (λ t. wait_at w v cell at.rest a.gone.x.branch a.gone.others t (has_in cell w.poisoned)) which.0
-          ∙ ap (λ t. wait_at w v cell at.rest a.gone.x.branch a.gone.others false t) which.1,
+              ∙ ap (λ t. wait_at w v cell at.rest a.gone.x.branch a.gone.others false t) which.1,
           record {
             workers = length-set parts.workers v k' ∙ mirrors.workers;
             pool = same-queues items _ (queue parts') _ (held parts') _ (λ key. parked-queue mid cells' cells-are c' k' hand list in-cell key) (λ u. same-held k' held-same u) new;
@@ -200,7 +206,8 @@ module _ (items : List Item) (parts : Parts) (w : World) (mirrors : Mirrors item
             count = mirrors.count;
             has_room = let r = room-back parts (length w.joins) a.gone.takes (spot (AtCell cell) b') (λ each. let e = ap (made each) at.is in omega (arith, e)) mirrors.has_room in
                 record { branches = r.branches; outcomes = r.outcomes; rights = r.rights; joins = r.joins; crowd = r.crowd; many = r.many };
-          })
+          },
+        )
 
   no-wait : (place : ℕ) (next : Next) (left : Script) (b : Branch) (others : List Spot) → ((cell : ℕ) → next ≡ WaitNext cell → ⊥) → IsNext items place next left → wait_on w v left b others ≡ Err WrongItem
   no-wait place next (Ends o) b others apart at = refl

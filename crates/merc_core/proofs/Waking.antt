@@ -1,6 +1,6 @@
 -- Room, and what is known of cells, where branches are woken.
-use Rattle.std.proofs.Common.{◌≡◌, ℕ, zero, suc, ◌+◌, ◌≤◌, ◌<◌, ◌⊎◌, inl, inr, Bool, true, false, not, List, [], ◌∷◌, ◌++◌, refl, ap, sym, ◌∙◌, subst, arith, length, length-append}
-use Rattle.std.specs.Prelude.{filter, map, if◌then◌else◌, nat_eq, ◌||◌}
+use Rattle.std.proofs.Common.{◌≡◌, ℕ, ◌+◌, ◌≤◌, inl, inr, Bool, true, false, List, [], ◌∷◌, ◌++◌, refl, ap, ◌∙◌, arith, length}
+use Rattle.std.specs.Prelude.{filter, nat_eq, ◌||◌}
 use Rattle.std.specs.List.{list_any}
 use Rattle.std.proofs.lemmas.Bool.Decides.{nat_tests}
 use Rattle.merc_script.specs.Script.{Cell, Move}
@@ -19,11 +19,11 @@ filters-apart one other apart [] = omega arith
 filters-apart one other apart (x ∷ xs) =
     let rest = filters-apart one other apart xs in
     elim (each_way (one x)) [
-      inl is ↦ (let a = ap length (filter-yes one x xs is) in let b = ap length (filter-no other x xs (apart x is)) in omega arith)
-    | inr is ↦ (let a = ap length (filter-no one x xs is) in
+      | inl is ↦ (let a = ap length (filter-yes one x xs is) in let b = ap length (filter-no other x xs (apart x is)) in omega arith)
+      | inr is ↦ (let a = ap length (filter-no one x xs is) in
           elim (each_way (other x)) [
-            inl at ↦ (let b = ap length (filter-yes other x xs at) in omega arith)
-          | inr at ↦ (let b = ap length (filter-no other x xs at) in omega arith)
+            | inl at ↦ (let b = ap length (filter-yes other x xs at) in omega arith)
+            | inr at ↦ (let b = ap length (filter-no other x xs at) in omega arith)
           ])
     ]
 

@@ -1,5 +1,5 @@
 -- How the core's lists and tables show a world.
-use Rattle.std.specs.Prelude.{◌≡◌, ℕ, suc, ◌+◌, ◌*◌, ◌≤◌, ◌<◌, ◌^◌, ◌++◌, Bool, true, false, ◌&&◌, List, [], ◌∷◌, length, filter, Option, Some, None, Result, Ok, Err, if◌then◌else◌, nat_eq, slice_get, IsSome}
+use Rattle.std.specs.Prelude.{◌≡◌, ℕ, suc, ◌+◌, ◌*◌, ◌≤◌, ◌<◌, ◌^◌, Bool, false, List, [], ◌∷◌, length, filter, Option, Some, None, nat_eq, slice_get, IsSome}
 use Rattle.std.specs.List.{AllByRecursion}
 use Rattle.merc_script.specs.declared.outcome.Outcome.{Outcome}
 use Rattle.merc_script.specs.declared.items.Item.{Item}
@@ -11,10 +11,8 @@ use Rattle.merc_core.specs.declared.branch.Branch.{Branch as CoreBranch}
 use Rattle.merc_core.specs.declared.cell.Cell.{Cell as CoreCell}
 use Rattle.merc_core.specs.declared.join.Join.{Join as CoreJoin}
 use Rattle.merc_core.specs.declared.worker.Worker.{Worker}
-use Rattle.merc_core.specs.declared.event.Event.{Event}
-use Rattle.merc_core.specs.declared.event.NotNow.{NotNow}
 use Rattle.merc_core.specs.World.{Branch, Location, Listed, Runs, Holds, AtCell, AtJoin, Spot, Join, Stored, World, stored_at}
-use Rattle.merc_core.specs.Events.{acts, listed, parked, awaits, happens}
+use Rattle.merc_core.specs.Events.{acts, listed, parked, awaits}
 use Rattle.merc_core.specs.Rights.{has, has_in}
 use Rattle.merc_core.specs.WellFormed.{most_children, most_steps}
 use Rattle.merc_core.specs.Standing.{StandsAt, IsLeft}

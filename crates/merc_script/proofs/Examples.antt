@@ -1,12 +1,15 @@
 -- Outcomes that are joined, scripts as items, and places in them.
-use Rattle.std.proofs.Common.{◌≡◌, ◌≢◌, ℕ, List, [], ◌∷◌, refl, true, false}
-use Rattle.std.specs.Prelude.{Option, Some, None}
+use Rattle.std.proofs.Common.{◌≡◌, ◌≢◌, ℕ, List, [], ◌∷◌, refl, lit≤, arith}
+use Rattle.std.specs.Prelude.{Option, Some, None, pos}
+use Rattle.merc_value.specs.Value.{Int}
+use Rattle.merc_value.specs.declared.word.Word.TheVariants.{Int as IntWord}
+use Rattle.merc_script.specs.Cells.{value_shown}
 use Rattle.merc_script.specs.declared.outcome.Outcome.{Outcome}
 use Rattle.merc_script.specs.declared.outcome.Outcome.TheVariants.{Ok as Fine, Raise, Limit, Starved, NoMemory}
 use Rattle.merc_script.specs.declared.items.Item.{Item}
 use Rattle.merc_script.specs.declared.items.Item.TheVariants.{Tick, Wait, Signal, Fork, End}
 use Rattle.merc_script.specs.Script.{Script, Ends, TickThen, WaitThen, SignalThen, ForkThen, Children, NoChild, Child, end_of, ends, count, size}
-use Rattle.merc_script.specs.Joining.{joined, later}
+use Rattle.merc_script.specs.Joining.{joined, later, HasFewSteps}
 use Rattle.merc_script.specs.Items.{items_of, script_of}
 use Rattle.merc_script.specs.Counting.{count_in}
 use Rattle.merc_script.specs.Places.{left_of}
@@ -119,3 +122,17 @@ no_fork = refl
 
 behind_the_end : left_of (record { root = root; name = []; passed = 3 }) ≡ None
 behind_the_end = refl
+
+-- the value of a cell is that of its block's first root
+first_root : value_shown (Some (record { cells = []; roots = IntWord (pos 7) ∷ IntWord (pos 8) ∷ [] })) ≡ Some (Int (pos 7))
+first_root = refl
+
+no_block : value_shown None ≡ None
+no_block = refl
+
+-- a thousand million steps are few, and one more is not
+few_steps : HasFewSteps (Fine 1000000000)
+few_steps = lit≤ tt
+
+too_many_steps : HasFewSteps (Raise 7 1000000001) → ⊥
+too_many_steps few = omega (arith, few)

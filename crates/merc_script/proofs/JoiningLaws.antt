@@ -5,10 +5,6 @@ use Rattle.merc_script.specs.declared.outcome.Outcome.{Outcome}
 use Rattle.merc_script.specs.declared.outcome.Outcome.TheVariants.{Ok as Fine, Raise, Limit, Starved, NoMemory}
 use Rattle.merc_script.specs.Joining.{walk, lacks_memory, joined, joined_with, joined_behind}
 
-
-
-
-
 behind-lack : (limit : ℕ) (os : List Outcome) → joined_behind limit NoMemory os ≡ NoMemory
 behind-lack limit [] = refl
 behind-lack limit (o ∷ os) = behind-lack limit os
@@ -56,3 +52,16 @@ behind-fine limit sum (NoMemory ∷ os) = behind-lack limit os
 
 pub joined-in-order : (limit : ℕ) (os : List Outcome) → joined_behind limit (Fine 0) os ≡ joined limit os
 joined-in-order limit os = behind-fine limit 0 os
+
+-- A walk gives no want of memory that was not there, so that it comes exactly where one of the outcomes is NoMemory.
+not-memory : (b : Bool) (one : Outcome) → (one ≡ NoMemory → ⊥) → (if b then one else Limit) ≡ NoMemory → ⊥
+not-memory true one other is = other is
+not-memory false one other is = absurd (cc)
+
+pub walk-has-memory : (limit sum : ℕ) (os : List Outcome) → lacks_memory os ≡ false → walk limit sum os ≡ NoMemory → ⊥
+walk-has-memory limit sum [] none is = absurd (cc)
+walk-has-memory limit sum (Fine steps ∷ os) none is = not-memory (nat_le (sum + steps) limit) (walk limit (sum + steps) os) (walk-has-memory limit (sum + steps) os none) is
+walk-has-memory limit sum (Raise text steps ∷ os) none is = not-memory (nat_le (sum + steps) limit) (Raise text (sum + steps)) (λ e. absurd (cc)) is
+walk-has-memory limit sum (Limit ∷ os) none is = absurd (cc)
+walk-has-memory limit sum (Starved ∷ os) none is = absurd (cc)
+walk-has-memory limit sum (NoMemory ∷ os) none is = absurd (cc)

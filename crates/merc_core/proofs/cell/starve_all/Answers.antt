@@ -1,4 +1,4 @@
-use Rattle.std.proofs.Common.{◌≡◌, ◌<◌, ◌+◌, length, arith}
+use Rattle.std.proofs.Common.{◌<◌, length, arith}
 use Rattle.std.proofs.lemmas.List.{length-drop}
 use Rattle.merc_core.proofs.CoreLists.{not-empty, starve-some, starve-kept, starve-room}
 use Rattle.merc_core.proofs.cell.starve_all.Goals as goal

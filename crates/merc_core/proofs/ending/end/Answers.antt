@@ -1,4 +1,4 @@
-use Rattle.std.proofs.Common.{◌≡◌, refl}
+use Rattle.std.proofs.Common.{refl}
 use Rattle.merc_core.specs.Stepping.{parts_of}
 use Rattle.merc_core.proofs.StandingLaws.{there}
 use Rattle.merc_core.proofs.Acting.{runs-none}

@@ -1,4 +1,4 @@
-use Rattle.std.proofs.Common.{◌≡◌, ◌∙◌, ◌<◌, ◌≤◌, ◌++◌, [], ◌∷◌, length, refl, subst, sym, ap, arith}
+use Rattle.std.proofs.Common.{◌≡◌, ◌∙◌, ◌<◌, ◌++◌, [], ◌∷◌, length, refl, sym, ap, arith}
 use Rattle.merc_core.specs.Stepping.{parts_of}
 use Rattle.merc_core.specs.declared.worker.Worker.{Worker}
 use Rattle.merc_core.proofs.StandingLaws.{there}
@@ -19,7 +19,7 @@ returns-else-join-len c = λ w x others mirrors found.
     let t = taken-out c.args.course.now.items.items (parts_of c.args.state.now) w mirrors c.args.worker c.index_mut-runner.result.now stands c.in-Some.branch only in
     found-same c.args.course.now.items.items (parts_of c.args.state.now) _ w c.args.worker c.args.outcome t.x x t.others others t.is found
     (done-past c.args.course.now.items.items (parts_of c.args.state.now) w mirrors c.args.worker c.index_mut-runner.result.now stands c.in-Some.branch only c.args.outcome c.requires.few _ c.poison.ensures.list _ c.poison.ensures.cells
-      (omega arith) none refl)
+    (omega arith) none refl)
 
 pub move_all-requires : goal.move_all-requires
 move_all-requires c =
@@ -40,7 +40,7 @@ returns-in_default-joined c = λ w x others mirrors found.
     let at = (there c.args.state.now.joins.items c.in-Some.branch.join c.index_mut-ended.result.now near c.index_mut-ended.ensures.value).1 in
     found-same c.args.course.now.items.items (parts_of c.args.state.now) _ w c.args.worker c.args.outcome t.x x t.others others t.is found
     (done-waits c.args.course.now.items.items (parts_of c.args.state.now) w mirrors c.args.worker c.index_mut-runner.result.now stands c.in-Some.branch only c.args.outcome c.requires.few _ c.poison.ensures.list _ c.poison.ensures.cells
-      c.index_mut-ended.result.now _ at c.store.ensures refl refl (sym c.in_default-joined.is ∙ c.joined.ensures) none refl)
+    c.index_mut-ended.result.now _ at c.store.ensures refl refl (sym c.in_default-joined.is ∙ c.joined.ensures) none refl)
 
 pub returns-in-Some-joined : goal.returns-in-Some-joined
 returns-in-Some-joined c = λ w x others mirrors found.
@@ -52,8 +52,8 @@ returns-in-Some-joined c = λ w x others mirrors found.
     let at = (there c.args.state.now.joins.items c.in-Some.branch.join c.index_mut-ended.result.now near c.index_mut-ended.ensures.value).1 in
     found-same c.args.course.now.items.items (parts_of c.args.state.now) _ w c.args.worker c.args.outcome t.x x t.others others t.is found
     (done-held c.args.course.now.items.items (parts_of c.args.state.now) w mirrors c.args.worker c.index_mut-runner.result.now stands c.in-Some.branch only c.args.outcome c.requires.few _ c.poison.ensures.list _ c.poison.ensures.cells
-      c.index_mut-ended.result.now _ at c.store.ensures refl c.move_all.ensures.from c.in-Some-joined.field-0 c.in-Some-joined.ensures
-      (c.move_all.ensures.into ∙ ap (λ l. l ++ c.index_mut-ended.result.now.parent) none) refl)
+    c.index_mut-ended.result.now _ at c.store.ensures refl c.move_all.ensures.from c.in-Some-joined.field-0 c.in-Some-joined.ensures
+    (c.move_all.ensures.into ∙ ap (λ l. l ++ c.index_mut-ended.result.now.parent) none) refl)
 
 pub returns-in_default : goal.returns-in_default
 returns-in_default c = λ w x others mirrors found.

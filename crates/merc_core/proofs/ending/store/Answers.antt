@@ -1,4 +1,4 @@
-use Rattle.std.proofs.Common.{◌≡◌, ◌∙◌, ◌+◌, ◌-◌, ◌≤◌, ◌<◌, ◌++◌, length, take, sym, ap, arith}
+use Rattle.std.proofs.Common.{◌≡◌, ◌∙◌, ◌+◌, ◌-◌, ◌<◌, ◌++◌, length, sym, ap, arith}
 use Rattle.merc_core.specs.Queues.{stored_from}
 use Rattle.merc_core.proofs.Spoiling.{stored-before, stored-behind, stored-there, stored-room}
 use Rattle.merc_core.proofs.ending.store.Goals as goal
@@ -6,10 +6,10 @@ use Rattle.merc_core.proofs.ending.store.Goals.{then-child-eq0-via-then-child-eq
 
 pub returns-then-child-eq0 : goal.returns-then-child-eq0
 returns-then-child-eq0 c = elim c.then-child-eq0.branch [
-      then-child-eq0-via-then-child-eq0 w ↦ sym (stored-before 1 c.args.child c.args.outcome c.args.outcomes.now (let e = w.if-child-eq0.true in omega (arith, e)))
-    | then-child-eq0-via-else-child-eq0+then-child-len w ↦ sym (stored-behind 1 c.args.child c.args.outcome c.args.outcomes.now
-          (let e = w.if-child-len.true in let f = w.len.ensures.value in omega (arith, e, f)))
-    ]
+  | then-child-eq0-via-then-child-eq0 w ↦ sym (stored-before 1 c.args.child c.args.outcome c.args.outcomes.now (let e = w.if-child-eq0.true in omega (arith, e)))
+  | then-child-eq0-via-else-child-eq0+then-child-len w ↦ sym (stored-behind 1 c.args.child c.args.outcome c.args.outcomes.now
+      (let e = w.if-child-len.true in let f = w.len.ensures.value in omega (arith, e, f)))
+]
 
 pub returns-in-Ok : goal.returns-in-Ok
 returns-in-Ok c =

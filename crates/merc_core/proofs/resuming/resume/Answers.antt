@@ -1,5 +1,5 @@
-use Rattle.std.proofs.Common.{◌≡◌, ◌==◌, ◌∙◌, ◌<◌, ◌≤◌, true, false, length, refl, subst, sym, arith}
-use Rattle.std.specs.Prelude.{Option, Some, None}
+use Rattle.std.proofs.Common.{◌≡◌, ◌==◌, ◌<◌, false, length, refl, subst, sym, arith}
+use Rattle.std.specs.Prelude.{Some, None}
 use Rattle.merc_core.specs.declared.worker.Worker.{Worker}
 use Rattle.merc_core.specs.Stepping.{parts_of}
 use Rattle.merc_core.proofs.StandingLaws.{there}
@@ -17,27 +17,33 @@ pub returns-in-None : goal.returns-in-None
 returns-in-None c = λ root w course mirrors fit.
     let stands = (there c.args.state.now.workers.items c.args.worker c.index.result.now c.requires.worker c.index.ensures).1 in
     let again = (there c.args.state.now.workers.items c.args.worker c.index-2.result.now c.requires.worker c.index-2.ensures).1 in
-    let same : c.index-2.result.now ≡ c.index.result.now = same-worker c.args.state.now.workers.items c.args.worker _ _ again stands in
-    (resume-free c.args.course.now.items.items (parts_of c.args.state.now) w mirrors fit c.args.worker c.index.result.now stands c.index.result.now.hand refl
-        (not-empty-list c.index.result.now.hand (sym c.if-is_empty.ensures)) (subst (λ (k : Worker). k.held ≡ None) same c.in-None.is), refl)
+    let same : c.index-2.result.now ≡ c.index.result.now = same-worker c.args.state.now.workers.items c.args.worker _ _ again stands in (
+      resume-free c.args.course.now.items.items (parts_of c.args.state.now) w mirrors fit c.args.worker c.index.result.now stands c.index.result.now.hand refl
+          (not-empty-list c.index.result.now.hand (sym c.if-is_empty.ensures)) (subst (λ (k : Worker). k.held ≡ None) same c.in-None.is),
+      refl,
+    )
 
 pub returns-then-number-len : goal.returns-then-number-len
 returns-then-number-len c = λ root w course mirrors fit.
     let stands = (there c.args.state.now.workers.items c.args.worker c.index.result.now c.requires.worker c.index.ensures).1 in
     let again = (there c.args.state.now.workers.items c.args.worker c.index-2.result.now c.requires.worker c.index-2.ensures).1 in
-    let same : c.index-2.result.now ≡ c.index.result.now = same-worker c.args.state.now.workers.items c.args.worker _ _ again stands in
-    (resume-past c.args.course.now.items.items (parts_of c.args.state.now) w mirrors fit c.args.worker c.index.result.now stands c.index.result.now.hand refl
-        (not-empty-list c.index.result.now.hand (sym c.if-is_empty.ensures)) c.in-Some.number (subst (λ (k : Worker). k.held ≡ Some c.in-Some.number) same c.in-Some.is) (omega arith), refl)
+    let same : c.index-2.result.now ≡ c.index.result.now = same-worker c.args.state.now.workers.items c.args.worker _ _ again stands in (
+      resume-past c.args.course.now.items.items (parts_of c.args.state.now) w mirrors fit c.args.worker c.index.result.now stands c.index.result.now.hand refl
+          (not-empty-list c.index.result.now.hand (sym c.if-is_empty.ensures)) c.in-Some.number (subst (λ (k : Worker). k.held ≡ Some c.in-Some.number) same c.in-Some.is) (omega arith),
+      refl,
+    )
 
 pub returns-in-None-joined : goal.returns-in-None-joined
 returns-in-None-joined c = λ root w course mirrors fit.
     let stands = (there c.args.state.now.workers.items c.args.worker c.index.result.now c.requires.worker c.index.ensures).1 in
     let again = (there c.args.state.now.workers.items c.args.worker c.index-2.result.now c.requires.worker c.index-2.ensures).1 in
     let same : c.index-2.result.now ≡ c.index.result.now = same-worker c.args.state.now.workers.items c.args.worker _ _ again stands in
-    let near : c.in-Some.number < length c.args.state.now.joins.items = omega arith in
-    (resume-waits c.args.course.now.items.items (parts_of c.args.state.now) w mirrors fit c.args.worker c.index.result.now stands c.index.result.now.hand refl
-        (not-empty-list c.index.result.now.hand (sym c.if-is_empty.ensures)) c.in-Some.number (subst (λ (k : Worker). k.held ≡ Some c.in-Some.number) same c.in-Some.is)
-        c.index-in-Some.result.now (there c.args.state.now.joins.items c.in-Some.number c.index-in-Some.result.now near c.index-in-Some.ensures).1 c.in-None-joined.ensures, refl)
+    let near : c.in-Some.number < length c.args.state.now.joins.items = omega arith in (
+      resume-waits c.args.course.now.items.items (parts_of c.args.state.now) w mirrors fit c.args.worker c.index.result.now stands c.index.result.now.hand refl
+          (not-empty-list c.index.result.now.hand (sym c.if-is_empty.ensures)) c.in-Some.number (subst (λ (k : Worker). k.held ≡ Some c.in-Some.number) same c.in-Some.is)
+          c.index-in-Some.result.now (there c.args.state.now.joins.items c.in-Some.number c.index-in-Some.result.now near c.index-in-Some.ensures).1 c.in-None-joined.ensures,
+      refl,
+    )
 
 pub go_behind-requires : goal.go_behind-requires
 go_behind-requires c =

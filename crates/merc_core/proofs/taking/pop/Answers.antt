@@ -15,10 +15,12 @@ pub returns-then-is_empty : goal.returns-then-is_empty
 returns-then-is_empty c = λ root w course mirrors fit.
     let stands = (there c.args.state.now.workers.items c.args.worker c.index.result.now c.requires.worker c.index.ensures).1 in
     let again = (there c.args.state.now.workers.items c.args.worker c.index-2.result.now c.requires.worker c.index-2.ensures).1 in
-    let same : c.index-2.result.now ≡ c.index.result.now = same-worker c.args.state.now.workers.items c.args.worker _ _ again stands in
-    (pop-empty c.args.course.now.items.items (parts_of c.args.state.now) w mirrors c.args.worker c.index.result.now stands
-        (empty-list c.index.result.now.hand (sym c.if-not-is_empty.ensures))
-        (empty-list c.index.result.now.list (subst (λ (k : Worker). (length k.list == 0) ≡ true) same (sym c.if-is_empty.ensures))), refl)
+    let same : c.index-2.result.now ≡ c.index.result.now = same-worker c.args.state.now.workers.items c.args.worker _ _ again stands in (
+      pop-empty c.args.course.now.items.items (parts_of c.args.state.now) w mirrors c.args.worker c.index.result.now stands
+          (empty-list c.index.result.now.hand (sym c.if-not-is_empty.ensures))
+          (empty-list c.index.result.now.list (subst (λ (k : Worker). (length k.list == 0) ≡ true) same (sym c.if-is_empty.ensures))),
+      refl,
+    )
 
 pub returns : goal.returns
 returns c = λ root w course mirrors fit.

@@ -1,4 +1,4 @@
-use Rattle.std.proofs.Common.{◌≡◌, ◌==◌, ◌<◌, ◌∙◌, ◌++◌, take, true, false, length, length-set, refl, subst, sym, ap, arith}
+use Rattle.std.proofs.Common.{◌≡◌, ◌==◌, ◌<◌, ◌∙◌, ◌++◌, take, false, length, length-set, refl, subst, sym, ap, arith}
 use Rattle.merc_core.specs.declared.worker.Worker.{Worker}
 use Rattle.merc_core.specs.Stepping.{parts_of}
 use Rattle.std.proofs.Math.ListN.{set}
@@ -10,23 +10,29 @@ use Rattle.merc_core.proofs.taking.steal.Goals as goal
 pub returns-then-not-is_empty : goal.returns-then-not-is_empty
 returns-then-not-is_empty c = λ root w course mirrors fit.
     let stands = (there c.args.state.now.workers.items c.args.worker c.index.result.now c.requires.worker c.index.ensures).1 in
-    let victim = some-worker c.args.state.now.workers.items c.args.victim c.requires.victim in
-    (steal-busy c.args.course.now.items.items (parts_of c.args.state.now) w mirrors c.args.worker c.args.victim c.index.result.now stands victim.0 victim.1
-        (not-empty-list c.index.result.now.hand (sym c.if-not-is_empty.ensures)), refl)
+    let victim = some-worker c.args.state.now.workers.items c.args.victim c.requires.victim in (
+      steal-busy c.args.course.now.items.items (parts_of c.args.state.now) w mirrors c.args.worker c.args.victim c.index.result.now stands victim.0 victim.1
+          (not-empty-list c.index.result.now.hand (sym c.if-not-is_empty.ensures)),
+      refl,
+    )
 
 pub returns-then-worker-victim : goal.returns-then-worker-victim
 returns-then-worker-victim c = λ root w course mirrors fit.
     let stands = (there c.args.state.now.workers.items c.args.worker c.index.result.now c.requires.worker c.index.ensures).1 in
-    let victim = some-worker c.args.state.now.workers.items c.args.victim c.requires.victim in
-    (steal-same c.args.course.now.items.items (parts_of c.args.state.now) w mirrors c.args.worker c.args.victim c.index.result.now stands victim.0 victim.1
-        (empty-list c.index.result.now.hand (sym c.if-not-is_empty.ensures)) c.if-worker-victim.true, refl)
+    let victim = some-worker c.args.state.now.workers.items c.args.victim c.requires.victim in (
+      steal-same c.args.course.now.items.items (parts_of c.args.state.now) w mirrors c.args.worker c.args.victim c.index.result.now stands victim.0 victim.1
+          (empty-list c.index.result.now.hand (sym c.if-not-is_empty.ensures)) c.if-worker-victim.true,
+      refl,
+    )
 
 pub returns-then-is_empty : goal.returns-then-is_empty
 returns-then-is_empty c = λ root w course mirrors fit.
     let stands = (there c.args.state.now.workers.items c.args.worker c.index.result.now c.requires.worker c.index.ensures).1 in
-    let victim = (there c.args.state.now.workers.items c.args.victim c.index-2.result.now c.requires.victim c.index-2.ensures).1 in
-    (steal-empty c.args.course.now.items.items (parts_of c.args.state.now) w mirrors c.args.worker c.args.victim c.index.result.now stands c.index-2.result.now victim
-        (empty-list c.index.result.now.hand (sym c.if-not-is_empty.ensures)) c.if-worker-victim.false (empty-list c.index-2.result.now.list (sym c.if-is_empty.ensures)), refl)
+    let victim = (there c.args.state.now.workers.items c.args.victim c.index-2.result.now c.requires.victim c.index-2.ensures).1 in (
+      steal-empty c.args.course.now.items.items (parts_of c.args.state.now) w mirrors c.args.worker c.args.victim c.index.result.now stands c.index-2.result.now victim
+          (empty-list c.index.result.now.hand (sym c.if-not-is_empty.ensures)) c.if-worker-victim.false (empty-list c.index-2.result.now.list (sym c.if-is_empty.ensures)),
+      refl,
+    )
 
 pub returns : goal.returns
 returns c = λ root w course mirrors fit.

@@ -1,9 +1,8 @@
-use Rattle.std.proofs.Common.{◌≡◌, ◌∙◌, ◌+◌, ◌<◌, ◌^◌, length, refl, subst, sym, ap, arith}
-use Rattle.std.specs.Prelude.{slice_get, Some, IsSome}
+use Rattle.std.proofs.Common.{◌≡◌, length, refl, subst, sym, ap, arith}
+use Rattle.std.specs.Prelude.{IsSome}
 use Rattle.std.specs.Ordering.{nat_cmp}
 use Rattle.std.specs.BTreeMap.{get}
 use Rattle.merc_core.specs.declared.worker.Worker.{Worker}
-use Rattle.merc_core.specs.Queues.{waiting_of}
 use Rattle.merc_core.specs.Stepping.{parts_of, RunsNext}
 use Rattle.merc_core.proofs.StandingLaws.{there}
 use Rattle.merc_core.proofs.Acting.{runs-none, same-worker}
