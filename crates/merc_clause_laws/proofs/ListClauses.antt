@@ -142,10 +142,13 @@ module _ (behind : List (List ℕ)) (known : Module) (knows : KnowsList known) w
   append_nil-faultless = record {
     form = refl;
     named = names_known known names (clause_of append_nil) ((knows.nil, tt), (tt, (tt, tt))) tt;
-    typed = (lists, record {
-      head = head_typed lists append_name 3 _ knows.append (refl, (refl, (refl, tt)));
-      parts = (nil_typed lists 0 refl, (refl, (tt, tt)));
-    });
+    typed = (
+      lists,
+      record {
+        head = head_typed lists append_name 3 _ knows.append (refl, (refl, (refl, tt)));
+        parts = (nil_typed lists 0 refl, (refl, (tt, tt)));
+      },
+    );
   }
 
   abbrev cell_types : ℕ → TypeExpr
@@ -156,11 +159,19 @@ module _ (behind : List (List ℕ)) (known : Module) (knows : KnowsList known) w
   append_cell-faultless = record {
     form = refl;
     named = names_known known names (clause_of append_cell) ((knows.cons, (tt, (tt, tt))), (tt, ((knows.cons, (tt, (tt, tt))), tt))) (append_calls, (tt, (tt, (tt, tt))));
-    typed = (cell_types, record {
-      head = head_typed cell_types append_name 3 _ knows.append (refl, (refl, (refl, tt)));
-      parts = (cons_typed cell_types 0 7 9 refl refl refl, (cons_typed cell_types 2 7 17 refl refl refl,
-          (call_typed cell_types append_name 3 _ knows.append (9 ∷ 1 ∷ 17 ∷ []) (refl, (refl, (refl, tt))), (tt, tt))));
-    });
+    typed = (
+      cell_types,
+      record {
+        head = head_typed cell_types append_name 3 _ knows.append (refl, (refl, (refl, tt)));
+        parts = (
+          cons_typed cell_types 0 7 9 refl refl refl,
+          (
+            cons_typed cell_types 2 7 17 refl refl refl,
+            (call_typed cell_types append_name 3 _ knows.append (9 ∷ 1 ∷ 17 ∷ []) (refl, (refl, (refl, tt))), (tt, tt)),
+          ),
+        );
+      },
+    );
   }
 
   abbrev first_types : ℕ → TypeExpr
@@ -171,10 +182,13 @@ module _ (behind : List (List ℕ)) (known : Module) (knows : KnowsList known) w
   member_first-faultless = record {
     form = refl;
     named = names_known known names (clause_of member_first) (tt, ((knows.cons, (tt, (tt, tt))), tt)) tt;
-    typed = (first_types, record {
-      head = head_typed first_types member_name 2 _ knows.member (refl, (refl, tt));
-      parts = (cons_typed first_types 1 0 10 refl refl refl, tt);
-    });
+    typed = (
+      first_types,
+      record {
+        head = head_typed first_types member_name 2 _ knows.member (refl, (refl, tt));
+        parts = (cons_typed first_types 1 0 10 refl refl refl, tt);
+      },
+    );
   }
 
   abbrev later_types : ℕ → TypeExpr
@@ -185,10 +199,13 @@ module _ (behind : List (List ℕ)) (known : Module) (knows : KnowsList known) w
   member_later-faultless = record {
     form = refl;
     named = names_known known names (clause_of member_later) (tt, ((knows.cons, (tt, (tt, tt))), tt)) (calls member_name 2 _ knows.member, (tt, (tt, tt)));
-    typed = (later_types, record {
-      head = head_typed later_types member_name 2 _ knows.member (refl, (refl, tt));
-      parts = (cons_typed later_types 1 8 10 refl refl refl, (call_typed later_types member_name 2 _ knows.member (0 ∷ 10 ∷ []) (refl, (refl, tt)), (tt, tt)));
-    });
+    typed = (
+      later_types,
+      record {
+        head = head_typed later_types member_name 2 _ knows.member (refl, (refl, tt));
+        parts = (cons_typed later_types 1 8 10 refl refl refl, (call_typed later_types member_name 2 _ knows.member (0 ∷ 10 ∷ []) (refl, (refl, tt)), (tt, tt)));
+      },
+    );
   }
 
   abbrev none_types : ℕ → TypeExpr
@@ -199,10 +216,13 @@ module _ (behind : List (List ℕ)) (known : Module) (knows : KnowsList known) w
   length_nil-faultless = record {
     form = refl;
     named = names_known known names (clause_of length_nil) ((knows.nil, tt), (tt, tt)) tt;
-    typed = (none_types, record {
-      head = head_typed none_types length_name 2 _ knows.length_is (refl, (refl, tt));
-      parts = (nil_typed none_types 0 refl, (refl, (tt, tt)));
-    });
+    typed = (
+      none_types,
+      record {
+        head = head_typed none_types length_name 2 _ knows.length_is (refl, (refl, tt));
+        parts = (nil_typed none_types 0 refl, (refl, (tt, tt)));
+      },
+    );
   }
 
   abbrev count_types : ℕ → TypeExpr
@@ -214,11 +234,19 @@ module _ (behind : List (List ℕ)) (known : Module) (knows : KnowsList known) w
     form = refl;
     named = names_known known names (clause_of length_cell) ((knows.cons, (tt, (tt, tt))), (tt, tt))
         ((calls length_name 2 _ knows.length_is, (tt, (tt, tt))), ((tt, (refl, (tt, (tt, tt)))), tt));
-    typed = (count_types, record {
-      head = head_typed count_types length_name 2 _ knows.length_is (refl, (refl, tt));
-      parts = (cons_typed count_types 0 6 8 refl refl refl, (call_typed count_types length_name 2 _ knows.length_is (8 ∷ 18 ∷ []) (refl, (refl, tt)),
-          (refl, ((refl, refl, refl), (tt, tt)))));
-    });
+    typed = (
+      count_types,
+      record {
+        head = head_typed count_types length_name 2 _ knows.length_is (refl, (refl, tt));
+        parts = (
+          cons_typed count_types 0 6 8 refl refl refl,
+          (
+            call_typed count_types length_name 2 _ knows.length_is (8 ∷ 18 ∷ []) (refl, (refl, tt)),
+            (refl, ((refl, refl, refl), (tt, tt))),
+          ),
+        );
+      },
+    );
   }
 
   reverse_clause-faultless : Faultless reverse_clause
@@ -226,10 +254,13 @@ module _ (behind : List (List ℕ)) (known : Module) (knows : KnowsList known) w
   reverse_clause-faultless = record {
     form = refl;
     named = names_known known names (clause_of reverse_clause) (tt, (tt, tt)) (calls list_reverse_onto_name 3 _ knows.onto, (tt, ((knows.nil, tt), (tt, tt))));
-    typed = (lists, record {
-      head = head_typed lists reverse_name 2 _ knows.reverse (refl, (refl, tt));
-      parts = (nil_typed lists 12 refl, (call_typed lists list_reverse_onto_name 3 _ knows.onto (0 ∷ 12 ∷ 1 ∷ []) (refl, (refl, (refl, tt))), (tt, tt)));
-    });
+    typed = (
+      lists,
+      record {
+        head = head_typed lists reverse_name 2 _ knows.reverse (refl, (refl, tt));
+        parts = (nil_typed lists 12 refl, (call_typed lists list_reverse_onto_name 3 _ knows.onto (0 ∷ 12 ∷ 1 ∷ []) (refl, (refl, (refl, tt))), (tt, tt)));
+      },
+    );
   }
 
   onto_nil-faultless : Faultless onto_nil
@@ -237,10 +268,13 @@ module _ (behind : List (List ℕ)) (known : Module) (knows : KnowsList known) w
   onto_nil-faultless = record {
     form = refl;
     named = names_known known names (clause_of onto_nil) ((knows.nil, tt), (tt, (tt, tt))) tt;
-    typed = (lists, record {
-      head = head_typed lists list_reverse_onto_name 3 _ knows.onto (refl, (refl, (refl, tt)));
-      parts = (nil_typed lists 0 refl, (refl, (tt, tt)));
-    });
+    typed = (
+      lists,
+      record {
+        head = head_typed lists list_reverse_onto_name 3 _ knows.onto (refl, (refl, (refl, tt)));
+        parts = (nil_typed lists 0 refl, (refl, (tt, tt)));
+      },
+    );
   }
 
   onto_cell-faultless : Faultless onto_cell
@@ -249,16 +283,40 @@ module _ (behind : List (List ℕ)) (known : Module) (knows : KnowsList known) w
     form = refl;
     named = names_known known names (clause_of onto_cell) ((knows.cons, (tt, (tt, tt))), (tt, (tt, tt)))
         (calls list_reverse_onto_name 3 _ knows.onto, (tt, ((knows.cons, (tt, (tt, tt))), (tt, tt))));
-    typed = (cell_types, record {
-      head = head_typed cell_types list_reverse_onto_name 3 _ knows.onto (refl, (refl, (refl, tt)));
-      parts = (cons_typed cell_types 0 7 9 refl refl refl, (cons_typed cell_types 19 7 1 refl refl refl,
-          (call_typed cell_types list_reverse_onto_name 3 _ knows.onto (9 ∷ 19 ∷ 2 ∷ []) (refl, (refl, (refl, tt))), (tt, tt))));
-    });
+    typed = (
+      cell_types,
+      record {
+        head = head_typed cell_types list_reverse_onto_name 3 _ knows.onto (refl, (refl, (refl, tt)));
+        parts = (
+          cons_typed cell_types 0 7 9 refl refl refl,
+          (
+            cons_typed cell_types 19 7 1 refl refl refl,
+            (call_typed cell_types list_reverse_onto_name 3 _ knows.onto (9 ∷ 19 ∷ 2 ∷ []) (refl, (refl, (refl, tt))), (tt, tt)),
+          ),
+        );
+      },
+    );
   }
 
   -- All of them are.
   pub list_faultless : AllByRecursion (IsFaultless names known) (file_clauses list_items)
   unfolding list_items
-  list_faultless =
-      (append_nil-faultless, (append_cell-faultless, (member_first-faultless, (member_later-faultless, (length_nil-faultless, (length_cell-faultless,
-      (reverse_clause-faultless, (onto_nil-faultless, (onto_cell-faultless, tt)))))))))
+  list_faultless = (
+    append_nil-faultless,
+    (
+      append_cell-faultless,
+      (
+        member_first-faultless,
+        (
+          member_later-faultless,
+          (
+            length_nil-faultless,
+            (
+              length_cell-faultless,
+              (reverse_clause-faultless, (onto_nil-faultless, (onto_cell-faultless, tt))),
+            ),
+          ),
+        ),
+      ),
+    ),
+  )

@@ -235,9 +235,10 @@ module _ (behind : List (List ℕ)) (terms : List Term) (all : List Entry) (plac
   type_from : (one : TypeDef) → IsAmong one known.types → (entry : Entry) × IsAmong entry all × IsAmong one (type_defs names entry)
   type_from one among =
       elim (among_either one (flat_map (type_defs names) (own_entries all)) (flat_map (type_defs names) (unit_items all)) among)
-      as (λ _. (entry : Entry) × IsAmong entry all × IsAmong one (type_defs names entry))
-      [ inl own ↦ (let from = flat_mapped (type_defs names) one (own_entries all) own in (from.from, own_among from.from all from.among, from.inside))
-      | inr unit ↦ (let from = flat_mapped (type_defs names) one (unit_items all) unit in (from.from, (unit_among from.from all from.among).0, from.inside)) ]
+      as (λ _. (entry : Entry) × IsAmong entry all × IsAmong one (type_defs names entry)) [
+        | inl own ↦ (let from = flat_mapped (type_defs names) one (own_entries all) own in (from.from, own_among from.from all from.among, from.inside))
+        | inr unit ↦ (let from = flat_mapped (type_defs names) one (unit_items all) unit in (from.from, (unit_among from.from all from.among).0, from.inside))
+      ]
 
   -- it declares one type
   only_declared : (one : TypeDef) → IsAmong one (type_defs names (entry_of list_type)) → one ≡ list_declared
@@ -250,7 +251,7 @@ module _ (behind : List (List ℕ)) (terms : List Term) (all : List Entry) (plac
     only_list one among is =
         let from = type_from one among in
         let same = unique constructors_of (key name arity) all constructed from.0 (entry_of list_type) from.1 (whole list_type type_among)
-            (type_key names name arity other from.0.unit from.0.item one from.2 is) has
+        (type_key names name arity other from.0.unit from.0.item one from.2 is) has
         in
         only_declared one (subst (λ (entry : Entry). IsAmong one (type_defs names entry)) same from.2)
 
@@ -265,9 +266,10 @@ module _ (behind : List (List ℕ)) (terms : List Term) (all : List Entry) (plac
   predicate_from : (one : PredDecl) → IsAmong one known.preds → (entry : Entry) × (those : List Entry) × IsAmong entry all × IsAmong one (pred_decls names those entry)
   predicate_from one among =
       elim (among_either one (flat_map (pred_decls names (own_entries all)) (own_entries all)) (flat_map (pred_decls names (unit_items all)) (unit_items all)) among)
-      as (λ _. (entry : Entry) × (those : List Entry) × IsAmong entry all × IsAmong one (pred_decls names those entry))
-      [ inl own ↦ (let from = flat_mapped (pred_decls names (own_entries all)) one (own_entries all) own in (from.from, own_entries all, own_among from.from all from.among, from.inside))
-      | inr unit ↦ (let from = flat_mapped (pred_decls names (unit_items all)) one (unit_items all) unit in (from.from, unit_items all, (unit_among from.from all from.among).0, from.inside)) ]
+      as (λ _. (entry : Entry) × (those : List Entry) × IsAmong entry all × IsAmong one (pred_decls names those entry)) [
+        | inl own ↦ (let from = flat_mapped (pred_decls names (own_entries all)) one (own_entries all) own in (from.from, own_entries all, own_among from.from all from.among, from.inside))
+        | inr unit ↦ (let from = flat_mapped (pred_decls names (unit_items all)) one (unit_items all) unit in (from.from, unit_items all, (unit_among from.from all from.among).0, from.inside))
+      ]
 
   -- a declaration of the unit, with its name and what its arguments are
   module _ (term : Term) (among : IsAmong term list_items) (is_item : item_of term ≡ PredicateItem (head_in (item_of term)) (category_in (item_of term)))
@@ -301,7 +303,7 @@ module _ (behind : List (List ℕ)) (terms : List Term) (all : List Entry) (plac
     only_predicate one among' is =
         let from = predicate_from one among' in
         let same = unique predicates_of (key name arity) all named from.0 (entry_of term) from.2 (whole term among)
-            (predicate_key names known.name name arity other from.1 from.0.unit from.0.span from.0.item one from.3 is) has
+        (predicate_key names known.name name arity other from.1 from.0.unit from.0.span from.0.item one from.3 is) has
         in
         alone from.1 (item_of term) is_item one (subst (λ (entry : Entry). IsAmong one (pred_decls names from.1 entry)) same from.3)
 

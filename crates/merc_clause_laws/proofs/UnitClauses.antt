@@ -82,11 +82,11 @@ module _ (behind : List (List ℕ)) (terms : List Term) (items : ℕ → List Te
       let list = of_list from.unit from.term clause (subst (IsAmong from.term) (sym (same from.unit)) from.among) stands in
       let whole : (term : Term) → IsAmong term list_items → IsAmong (unit_entry from.place list_name term) all =
       λ term among. subst (λ (unit : ℕ). IsAmong (unit_entry from.place unit term) all) list.0
-          (from.whole term (subst (IsAmong term) (ap library_items (sym list.0) ∙ same from.unit) among))
+      (from.whole term (subst (IsAmong term) (ap library_items (sym list.0) ∙ same from.unit) among))
       in
       let knows = knows_list behind terms all from.place whole
-          (λ at again. faultless doubles_phase DeclaredTwice Plain at (double at (constructor_again at again)))
-          (λ at again. faultless doubles_phase DeclaredTwice Plain at (double at (predicate_again at again)))
+      (λ at again. faultless doubles_phase DeclaredTwice Plain at (double at (constructor_again at again)))
+      (λ at again. faultless doubles_phase DeclaredTwice Plain at (double at (predicate_again at again)))
       in
       all_at Faultless clause (file_clauses list_items) (list_faultless behind (module_of (fixed_names ++ behind) terms all) knows)
       (flat_among (λ term. clauses_of (span_of term) (item_of term)) from.term clause list_items list.1 stands)
@@ -125,6 +125,7 @@ pub tells_file_fault : TellsFileFault
 tells_file_fault before after text terms found told table is refuses =
     let first = tells_first before after text terms found told is refuses in
     let units = units_faultless before after text terms found table is in
-    elim (among_either first.clause (file_clauses terms) units.unit_clauses (subst (IsAmong first.clause) units.whole first.among)) as (λ _. IsFileFault after terms found told)
-    [ inl own ↦ record { phase = first.phase; clause = first.clause; among = own; fault = first.fault }
-    | inr unit ↦ absurd (no_fault after found first.clause (units.faultless first.clause unit) first.phase told first.fault) ]
+    elim (among_either first.clause (file_clauses terms) units.unit_clauses (subst (IsAmong first.clause) units.whole first.among)) as (λ _. IsFileFault after terms found told) [
+      | inl own ↦ record { phase = first.phase; clause = first.clause; among = own; fault = first.fault }
+      | inr unit ↦ absurd (no_fault after found first.clause (units.faultless first.clause unit) first.phase told first.fault)
+    ]

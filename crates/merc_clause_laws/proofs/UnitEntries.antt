@@ -41,9 +41,10 @@ pub record IsFlatMapped {A B : Type 0} (f : A → List B) (one : B) (all : List 
 pub flat_mapped : {A B : Type 0} (f : A → List B) (one : B) (all : List A) → IsAmong one (flat_map f all) → IsFlatMapped f one all
 flat_mapped f one [] among = absurd among
 flat_mapped {A} {B} f one (first ∷ rest) among =
-    elim (among_either one (f first) (flat_map f rest) among) as (λ _. IsFlatMapped f one (first ∷ rest))
-    [ inl there ↦ record { from = first; among = inl refl; inside = there }
-    | inr there ↦ (let inner = flat_mapped f one rest there in record { from = inner.from; among = inr inner.among; inside = inner.inside }) ]
+    elim (among_either one (f first) (flat_map f rest) among) as (λ _. IsFlatMapped f one (first ∷ rest)) [
+      | inl there ↦ record { from = first; among = inl refl; inside = there }
+      | inr there ↦ (let inner = flat_mapped f one rest there in record { from = inner.from; among = inr inner.among; inside = inner.inside })
+    ]
 
 pub flat_among : {A B : Type 0} (f : A → List B) (from : A) (one : B) (all : List A) → IsAmong from all → IsAmong one (f from) → IsAmong one (flat_map f all)
 flat_among f from one [] among inside = absurd among
@@ -108,17 +109,18 @@ module _ (items : ℕ → List Term) (all : List Entry) (one : Entry) where
       by true known new within there = known within there
       by false known new within there =
           let others = unit_entries items place (seen ++ unit ∷ []) rest in
-          elim (among_either one (map (unit_entry place unit) (items unit)) others there) as (λ _. ComesFrom items all one)
-          [ inl inside ↦ (let from = mapped (unit_entry place unit) one (items unit) inside in
-            record {
-              place = place;
-              unit = unit;
-              term = from.from;
-              among = from.among;
-              same = from.same;
-              whole = λ other is. within (unit_entry place unit other) (among_left _ (map (unit_entry place unit) (items unit)) others (map_among (unit_entry place unit) other (items unit) is));
-            })
-          | inr behind ↦ new (λ other is. within other (among_right other (map (unit_entry place unit) (items unit)) others is)) behind ]
+          elim (among_either one (map (unit_entry place unit) (items unit)) others there) as (λ _. ComesFrom items all one) [
+            | inl inside ↦ (let from = mapped (unit_entry place unit) one (items unit) inside in
+                record {
+                  place = place;
+                  unit = unit;
+                  term = from.from;
+                  among = from.among;
+                  same = from.same;
+                  whole = λ other is. within (unit_entry place unit other) (among_left _ (map (unit_entry place unit) (items unit)) others (map_among (unit_entry place unit) other (items unit) is));
+                })
+            | inr behind ↦ new (λ other is. within other (among_right other (map (unit_entry place unit) (items unit)) others is)) behind
+          ]
 
   pub comes_from : (seen : List ℕ) (terms : List Term) → ((other : Entry) → IsAmong other (entries_from items seen terms) → IsAmong other all)
       → is_own one ≡ false → IsAmong one (entries_from items seen terms) → ComesFrom items all one
@@ -127,9 +129,10 @@ module _ (items : ℕ → List Term) (all : List Entry) (one : Entry) where
   comes_from seen (term ∷ rest) within foreign (inr among) =
       let inside = unit_entries items (place_of term) seen (imports (item_of term)) in
       let behind = entries_from items (with_units seen (imports (item_of term))) rest in
-      elim (among_either one inside behind among) as (λ _. ComesFrom items all one)
-      [ inl there ↦ from_units (place_of term) seen (imports (item_of term)) (λ other is. within other (inr (among_left other inside behind is))) there
-      | inr there ↦ comes_from (with_units seen (imports (item_of term))) rest (λ other is. within other (inr (among_right other inside behind is))) foreign there ]
+      elim (among_either one inside behind among) as (λ _. ComesFrom items all one) [
+        | inl there ↦ from_units (place_of term) seen (imports (item_of term)) (λ other is. within other (inr (among_left other inside behind is))) there
+        | inr there ↦ comes_from (with_units seen (imports (item_of term))) rest (λ other is. within other (inr (among_right other inside behind is))) foreign there
+      ]
 
 -- No two entries declare the same.
 
