@@ -9,3 +9,4 @@ pub mod SpeltGood
 pub mod SpeltWritten
 pub mod Bodies
 pub mod Written
+pub mod TreeTypes

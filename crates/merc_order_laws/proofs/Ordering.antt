@@ -22,7 +22,7 @@ use Rattle.merc_order.specs.Ways.{Removed, here, later}
 use Rattle.merc_order.proofs.MoveLaws.{next_is, next_none}
 use Rattle.merc_order_laws.specs.Bindings.{Variables, Binds}
 use Rattle.merc_order_laws.specs.GoodOrdered.{GoodCall, EachBinds, Good, GoodStep, GoodList, GoodEach}
-use Rattle.merc_order_laws.specs.Laws.{Sized, AllSized, Outer, OrderedIsGood}
+use Rattle.merc_order_laws.specs.Laws.{Sized, AllSized, Outer, OrderedIsGood, OrderedKeepsVariables, OrderedEnds}
 use Rattle.merc_order_laws.specs.OrderedVariables.{in_ordered, in_step, in_ordereds, ordered_outputs, bound_behind, ends, step_ends, all_end, some_ends}
 use Rattle.merc_order_laws.proofs.Facts.{clash, or_left, or_right, or_cases, and_left, and_right, either_way, not_true, same_bool, or_same, and_same, or_assoc, among_append, among_counts, counts_among, count_append, not_counted, Together, together_left, together_turned, outer_part}
 use Rattle.merc_order_laws.proofs.Fewer.{fewer, fewer_each}
@@ -747,3 +747,9 @@ module _ (total : ℕ → ℕ) (modes : ℕ → List ModeDecl) where
 
 pub ordered_good : OrderedIsGood
 ordered_good total modes goal bound ordered l is out u = (from_fits total modes goal l bound ordered is).good out bound u (λ v h. refl)
+
+pub ordered_variables : OrderedKeepsVariables
+ordered_variables total modes goal bound ordered l is = (from_fits total modes goal l bound ordered is).vars
+
+pub ordered_ends : OrderedEnds
+ordered_ends total modes goal bound ordered l is = (from_fits total modes goal l bound ordered is).ended

@@ -12,7 +12,7 @@ use Rattle.merc_graded_tree.specs.declared.entries.Running.TheVariants.{Sequenti
 use Rattle.merc_graded_tree.specs.Nodes.{Node, node, Goal, Basic, Conjunction, Disjunction, Switch, Conditional, Negation, Quantified, nodes_of, Arms, no_arms, more_arms}
 use Rattle.merc_order.specs.Bound.{among}
 use Rattle.merc_order.specs.OrderExamples.{at, modes, f, p, append, x, y, z, one, pair}
-use Rattle.merc_order_laws.specs.GoodTree.{GoodNode}
+use Rattle.merc_order_laws.specs.GoodTree.{node_ends, GoodNode}
 
 abbrev pub goal_at : Goal → List ℕ → Node
 goal_at goal outputs = node goal outputs None (at 10)
@@ -239,6 +239,14 @@ arm_not_good h = cc h.2.1.1.0.2
 
 arms_differ : IsGood (y ∷ []) (x ∷ []) (Switch x (arms (built y (y ∷ [])) true_goal)) (y ∷ []) → ⊥
 arms_differ h = cc (owed h.2.2.1.0 y refl refl)
+
+-- The end of a switch can be reached where that of some arm can.
+
+some_arm : node_ends modes (goal_at (Switch x (arms (basic_at Fail []) true_goal)) []) ≡ true
+some_arm = refl
+
+no_arm : node_ends modes (goal_at (Switch x (arms (basic_at Fail []) no_goal)) []) ≡ false
+no_arm = refl
 
 -- Goals with parts: a part that is not good; a condition, or a negated goal, that binds what occurs outside it; an output that is left out
 

@@ -9,7 +9,7 @@ use Rattle.merc_goal_tree.specs.Variables.{variables, count}
 use Rattle.merc_graded_tree.specs.Nodes.{Node as OrderedNode, outputs_of}
 use Rattle.merc_graded_tree.specs.Variables.{in_node}
 use Rattle.merc_order.specs.Bound.{Bound, nothing, among}
-use Rattle.merc_order.specs.Order.{from}
+use Rattle.merc_order.specs.Order.{from, reached}
 use Rattle.merc_order.specs.Ordered.{Ordered, Ready}
 use Rattle.merc_order.specs.Procedures.{bound_at, numbers_below, first_fresh, IsProcedure, IsQuery}
 use Rattle.merc_order.specs.Spelt.{spelt, twins}
@@ -49,6 +49,16 @@ Outer total outside inside =
 abbrev pub OrderedIsGood : Type 0
 OrderedIsGood = (total : ℕ → ℕ) (modes : ℕ → List ModeDecl) (goal : Node) (bound : Bound) (ordered : Ordered) → Sized modes goal → from total modes goal bound ≡ Ready ordered
     → (outside : Variables) → Outer total outside (variables goal) → Good modes outside bound ordered
+
+-- The same variables occur in it, and its end can be reached where the goal's can.
+
+abbrev pub OrderedKeepsVariables : Type 0
+OrderedKeepsVariables = (total : ℕ → ℕ) (modes : ℕ → List ModeDecl) (goal : Node) (bound : Bound) (ordered : Ordered) → Sized modes goal → from total modes goal bound ≡ Ready ordered
+    → (variable : ℕ) → in_ordered ordered variable ≡ among (variables goal) variable
+
+abbrev pub OrderedEnds : Type 0
+OrderedEnds = (total : ℕ → ℕ) (modes : ℕ → List ModeDecl) (goal : Node) (bound : Bound) (ordered : Ordered) → Sized modes goal → from total modes goal bound ≡ Ready ordered
+    → ends modes ordered ≡ reached total modes goal
 
 -- all of these have numbers below this one
 abbrev pub AllBelow : ℕ → Variables → Type 0

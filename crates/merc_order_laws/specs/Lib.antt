@@ -7,3 +7,5 @@ pub mod GoodOrderedExamples
 pub mod GoodTree
 pub mod GoodTreeExamples
 pub mod Laws
+pub mod TypedTree
+pub mod TypedTreeExamples
