@@ -1,2 +1,5 @@
 pub mod Bounds
 pub mod CallModes
+pub mod Marking
+pub mod Sweeping
+pub mod Ways
