@@ -14,6 +14,7 @@ use Rattle.merc_order.specs.Ways.{Removed, here, later, Went, start, went, IsRea
 use Rattle.merc_order.proofs.MoveLaws.{or_left}
 use Rattle.merc_order.proofs.Marks.{sound-more, left-more}
 use Rattle.merc_modes.specs.Asking.{flags_of, joined_by, Fits, none, more}
+use Rattle.merc_modes.specs.Sweeps.{new_one, Closed, During}
 use Rattle.merc_modes.proofs.Marking.{marks_length, regrouped}
 
 removed_middle : (before others : List Move) (move : Move) → Removed move (before ++ move ∷ others) (before ++ others)
@@ -27,37 +28,7 @@ stuck_more (first ∷ before) move bound (one, stuck) this = (one, stuck_more be
 moved : (before others : List Move) (move : Move) → before ++ move ∷ others ≡ (before ++ move ∷ []) ++ others
 moved before others move = sym (append_assoc before (move ∷ []) others)
 
-abbrev pub new_one : Bool → ℕ
-new_one true = 1
-new_one false = 0
-
 module _ (total : ℕ → ℕ) (modes : ℕ → List ModeDecl) (goals : Nodes) (bound : Bound) where
-  -- the marks of all goals, of which these are left, from what is bound now
-  pub record Closed (flags : List Bool) (rest : List Move) (now : Bound) : Type 0 where
-    pub marked : Marked
-    pub fits : Fits goals marked
-    pub flags_are : flags ≡ flags_of marked
-    pub left_are : left total modes goals marked ≡ rest
-    pub sound : SoundLeft total modes goals marked now
-
-  -- These goals are still to be asked in this sweep, from this mark on. `is_new` tells whether one went in this sweep, and `is_left` whether one that was
-  -- asked is left.
-  pub record During (rest : Nodes) (flags : List Bool) (at : ℕ) (now : Bound) (is_new is_left : Bool) (count : ℕ) : Type 0 where
-    pub front : List Bool
-    pub before : List Move
-    pub marked : Marked
-    pub at_is : length front ≡ at
-    pub flags_are : flags ≡ front ++ flags_of marked
-    pub fits : Fits rest marked
-    pub way : Went (moves total modes goals) bound (before ++ left total modes rest marked) now
-    pub sound : SoundLeft total modes rest marked now
-    pub close : (others : Marked) (later : Bound) → Holds now later → Fits rest others → SoundLeft total modes rest others later
-        → Closed (front ++ flags_of others) (before ++ left total modes rest others) later
-    pub stuck : is_new ≡ false → AllStuck before now
-    pub none_left : is_left ≡ false → before ≡ []
-    pub some_left : is_left ≡ true → 0 < length before
-    pub fewer : length (before ++ left total modes rest marked) + new_one is_new ≤ count
-
   -- the same with the next goal's marks taken apart
   pub record Open (goal : Node) (rest : Nodes) (flags : List Bool) (at : ℕ) (now : Bound) (is_new is_left : Bool) (count : ℕ) : Type 0 where
     pub front : List Bool
@@ -73,7 +44,7 @@ module _ (total : ℕ → ℕ) (modes : ℕ → List ModeDecl) (goals : Nodes) (
     pub sound_inner : unless gone (IsSound total modes goal inner now)
     pub sound_others : SoundLeft total modes rest others now
     pub close : (marked : Marked) (later : Bound) → Holds now later → Fits (more_nodes goal rest) marked → SoundLeft total modes (more_nodes goal rest) marked later
-        → Closed (front ++ flags_of marked) (before ++ left total modes (more_nodes goal rest) marked) later
+        → Closed total modes goals bound (front ++ flags_of marked) (before ++ left total modes (more_nodes goal rest) marked) later
     pub stuck : is_new ≡ false → AllStuck before now
     pub none_left : is_left ≡ false → before ≡ []
     pub some_left : is_left ≡ true → 0 < length before
@@ -83,7 +54,7 @@ module _ (total : ℕ → ℕ) (modes : ℕ → List ModeDecl) (goals : Nodes) (
       → Fits (more_nodes goal rest) marked → length front ≡ at → flags ≡ front ++ flags_of marked
       → Went (moves total modes goals) bound (before ++ left total modes (more_nodes goal rest) marked) now → SoundLeft total modes (more_nodes goal rest) marked now
       → ((others : Marked) (later : Bound) → Holds now later → Fits (more_nodes goal rest) others → SoundLeft total modes (more_nodes goal rest) others later
-      → Closed (front ++ flags_of others) (before ++ left total modes (more_nodes goal rest) others) later)
+      → Closed total modes goals bound (front ++ flags_of others) (before ++ left total modes (more_nodes goal rest) others) later)
       → (is_new ≡ false → AllStuck before now) → (is_left ≡ false → before ≡ []) → (is_left ≡ true → 0 < length before)
       → length (before ++ left total modes (more_nodes goal rest) marked) + new_one is_new ≤ count → Open goal rest flags at now is_new is_left count
   opened goal rest flags at now is_new is_left count front before marked (more g r gone inner others f o) at_is flags_are way (one, sound) close stuck none_left some_left fewer = record {
@@ -106,7 +77,7 @@ module _ (total : ℕ → ℕ) (modes : ℕ → List ModeDecl) (goals : Nodes) (
     fewer = fewer;
   }
 
-  pub taken_apart : (goal : Node) (rest : Nodes) (flags : List Bool) (at : ℕ) (now : Bound) (is_new is_left : Bool) (count : ℕ) → During (more_nodes goal rest) flags at now is_new is_left count
+  pub taken_apart : (goal : Node) (rest : Nodes) (flags : List Bool) (at : ℕ) (now : Bound) (is_new is_left : Bool) (count : ℕ) → During total modes goals bound (more_nodes goal rest) flags at now is_new is_left count
       → Open goal rest flags at now is_new is_left count
   taken_apart goal rest flags at now is_new is_left count d =
       opened goal rest flags at now is_new is_left count d.front d.before d.marked d.fits d.at_is d.flags_are d.way d.sound d.close d.stuck d.none_left d.some_left d.fewer
@@ -117,7 +88,7 @@ module _ (total : ℕ → ℕ) (modes : ℕ → List ModeDecl) (goals : Nodes) (
 
   -- the next goal went before
   pub pass_over : (goal : Node) (rest : Nodes) (flags : List Bool) (at : ℕ) (now : Bound) (is_new is_left : Bool) (count : ℕ) (o : Open goal rest flags at now is_new is_left count)
-      → o.gone ≡ true → During rest flags (at + length (parts_of goal)) now is_new is_left count
+      → o.gone ≡ true → During total modes goals bound rest flags (at + length (parts_of goal)) now is_new is_left count
   pass_over goal rest flags at now is_new is_left count o gone =
       record {
         front = o.front ++ (flags_of o.inner ++ o.gone ∷ []);
@@ -129,8 +100,8 @@ module _ (total : ℕ → ℕ) (modes : ℕ → List ModeDecl) (goals : Nodes) (
         way = subst (λ b. Went (moves total modes goals) bound (o.before ++ kept b (move_of total modes goal) (left total modes rest o.others)) now) gone o.way;
         sound = o.sound_others;
         close = λ others later holds fits sound.
-            subst (λ b. Closed ((o.front ++ (flags_of o.inner ++ b ∷ [])) ++ flags_of others) (o.before ++ left total modes rest others) later) (sym gone)
-            (subst (λ l. Closed l (o.before ++ left total modes rest others) later) (regrouped o.front (flags_of o.inner) true (flags_of others))
+            subst (λ b. Closed total modes goals bound ((o.front ++ (flags_of o.inner ++ b ∷ [])) ++ flags_of others) (o.before ++ left total modes rest others) later) (sym gone)
+            (subst (λ l. Closed total modes goals bound l (o.before ++ left total modes rest others) later) (regrouped o.front (flags_of o.inner) true (flags_of others))
             (o.close (more_marks true o.inner others) later holds (more goal rest true o.inner others o.fits_inner fits) (tt, sound)));
         stuck = o.stuck;
         none_left = o.none_left;
@@ -141,7 +112,7 @@ module _ (total : ℕ → ℕ) (modes : ℕ → List ModeDecl) (goals : Nodes) (
   -- It was asked and is not ready.
   pub stays : (goal : Node) (rest : Nodes) (flags : List Bool) (at : ℕ) (now : Bound) (is_new is_left : Bool) (count : ℕ) (o : Open goal rest flags at now is_new is_left count)
       → o.gone ≡ false → (inner : Marked) → Fits (joined_by goal) inner → IsSound total modes goal inner now → is_ready (from total modes goal now) ≡ false
-      → During rest (o.front ++ ((flags_of inner ++ false ∷ []) ++ flags_of o.others)) (at + length (parts_of goal)) now is_new true count
+      → During total modes goals bound rest (o.front ++ ((flags_of inner ++ false ∷ []) ++ flags_of o.others)) (at + length (parts_of goal)) now is_new true count
   stays goal rest flags at now is_new is_left count o gone inner fits_inner sound_inner not_ready =
       record {
         front = o.front ++ (flags_of inner ++ false ∷ []);
@@ -154,8 +125,8 @@ module _ (total : ℕ → ℕ) (modes : ℕ → List ModeDecl) (goals : Nodes) (
             (subst (λ b. Went (moves total modes goals) bound (o.before ++ kept b (move_of total modes goal) (left total modes rest o.others)) now) gone o.way);
         sound = o.sound_others;
         close = λ others later holds fits sound.
-            subst (λ l. Closed ((o.front ++ (flags_of inner ++ false ∷ [])) ++ flags_of others) l later) (moved o.before (left total modes rest others) (move_of total modes goal))
-            (subst (λ l. Closed l (o.before ++ move_of total modes goal ∷ left total modes rest others) later) (regrouped o.front (flags_of inner) false (flags_of others))
+            subst (λ l. Closed total modes goals bound ((o.front ++ (flags_of inner ++ false ∷ [])) ++ flags_of others) l later) (moved o.before (left total modes rest others) (move_of total modes goal))
+            (subst (λ l. Closed total modes goals bound l (o.before ++ move_of total modes goal ∷ left total modes rest others) later) (regrouped o.front (flags_of inner) false (flags_of others))
             (o.close (more_marks false inner others) later holds (more goal rest false inner others fits_inner fits) (sound-more total modes goal inner now later holds sound_inner, sound)));
         stuck = λ same. stuck_more o.before (move_of total modes goal) now (o.stuck same) not_ready;
         none_left = λ no. cc;
@@ -167,7 +138,7 @@ module _ (total : ℕ → ℕ) (modes : ℕ → List ModeDecl) (goals : Nodes) (
   -- It was asked and is ready: it goes.
   pub goes : (goal : Node) (rest : Nodes) (flags : List Bool) (at : ℕ) (now : Bound) (is_new is_left : Bool) (count : ℕ) (o : Open goal rest flags at now is_new is_left count)
       → o.gone ≡ false → (inner : Marked) → Fits (joined_by goal) inner → is_ready (from total modes goal now) ≡ true
-      → During rest (o.front ++ ((flags_of inner ++ true ∷ []) ++ flags_of o.others)) (at + length (parts_of goal)) (with now (binds total modes goal)) true is_left count
+      → During total modes goals bound rest (o.front ++ ((flags_of inner ++ true ∷ []) ++ flags_of o.others)) (at + length (parts_of goal)) (with now (binds total modes goal)) true is_left count
   goes goal rest flags at now is_new is_left count o gone inner fits_inner ready =
       let holds_now : Holds now (with now (binds total modes goal)) = λ variable h. or_left (now variable) (binds total modes goal variable) h in
       let fewer : length (o.before ++ move_of total modes goal ∷ left total modes rest o.others) + new_one is_new ≤ count =
@@ -184,7 +155,7 @@ module _ (total : ℕ → ℕ) (modes : ℕ → List ModeDecl) (goals : Nodes) (
             (removed_middle o.before (left total modes rest o.others) (move_of total modes goal)) ready;
         sound = left-more total modes rest o.others now (with now (binds total modes goal)) holds_now o.sound_others;
         close = λ others later holds fits sound.
-            subst (λ l. Closed l (o.before ++ left total modes rest others) later) (regrouped o.front (flags_of inner) true (flags_of others))
+            subst (λ l. Closed total modes goals bound l (o.before ++ left total modes rest others) later) (regrouped o.front (flags_of inner) true (flags_of others))
             (o.close (more_marks true inner others) later (λ variable h. holds variable (holds_now variable h)) (more goal rest true inner others fits_inner fits) (tt, sound));
         stuck = λ no. cc;
         none_left = o.none_left;

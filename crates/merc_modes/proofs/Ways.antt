@@ -10,6 +10,7 @@ use Rattle.merc_order.specs.Marks.{Marked, no_marks, more_marks, left}
 use Rattle.merc_order.specs.Moves.{Move}
 use Rattle.merc_order.specs.Order.{binds, moves}
 use Rattle.merc_order.specs.Ways.{Removed, here, later, Went, start, went}
+use Rattle.merc_modes.specs.Sweeps.{marked_bind}
 use Rattle.merc_modes.proofs.Bounds.{or_false}
 
 abbrev one_of : Bool → ℕ
@@ -50,12 +51,6 @@ bound_now variable all rest bound now (went a l r k n m w t ready) =
     ∙ grown (m.binds variable) (k variable) (weight variable l) (weight variable r) (weight variable a) (weight-removed variable m l r t) (weight-went variable a l k n w)
 
 module _ (total : ℕ → ℕ) (modes : ℕ → List ModeDecl) where
-  -- what the marked ones of these bind
-  abbrev pub marked_bind : Nodes → Marked → Bound
-  marked_bind no_nodes marked variable = false
-  marked_bind (more_nodes first rest) no_marks variable = false
-  marked_bind (more_nodes first rest) (more_marks gone inner others) variable = (gone && binds total modes first variable) || marked_bind rest others variable
-
   weight-left : (variable : ℕ) (goals : Nodes) (marked : Marked) → weight variable (left total modes goals marked) ≤ weight variable (moves total modes goals)
   weight-left variable no_nodes marked = omega arith
   weight-left variable (more_nodes first rest) no_marks = omega arith
@@ -69,17 +64,17 @@ module _ (total : ℕ → ℕ) (modes : ℕ → List ModeDecl) where
   kept_step : (k l a : ℕ) → nat_lt l a ≡ nat_lt (k + l) (k + a)
   kept_step k l a = grind (arith, nat_tests)
 
-  marked_is : (variable : ℕ) (goals : Nodes) (marked : Marked) → marked_bind goals marked variable ≡ nat_lt (weight variable (left total modes goals marked)) (weight variable (moves total modes goals))
+  marked_is : (variable : ℕ) (goals : Nodes) (marked : Marked) → marked_bind total modes goals marked variable ≡ nat_lt (weight variable (left total modes goals marked)) (weight variable (moves total modes goals))
   marked_is variable no_nodes marked = refl
   marked_is variable (more_nodes first rest) no_marks = sym (not_less (weight variable (moves total modes (more_nodes first rest))))
   marked_is variable (more_nodes first rest) (more_marks true inner others) =
-      gone_step (binds total modes first variable) (marked_bind rest others variable) (weight variable (left total modes rest others)) (weight variable (moves total modes rest))
+      gone_step (binds total modes first variable) (marked_bind total modes rest others variable) (weight variable (left total modes rest others)) (weight variable (moves total modes rest))
       (weight-left variable rest others) (marked_is variable rest others)
   marked_is variable (more_nodes first rest) (more_marks false inner others) =
       marked_is variable rest others
       ∙ kept_step (one_of (binds total modes first variable)) (weight variable (left total modes rest others)) (weight variable (moves total modes rest))
 
   -- What is bound where the marked ones of these went is what was bound and what they bind.
-  pub now_is : (goals : Nodes) (marked : Marked) (bound now : Bound) → Went (moves total modes goals) bound (left total modes goals marked) now → now ≡ with bound (marked_bind goals marked)
+  pub now_is : (goals : Nodes) (marked : Marked) (bound now : Bound) → Went (moves total modes goals) bound (left total modes goals marked) now → now ≡ with bound (marked_bind total modes goals marked)
   now_is goals marked bound now way =
       fun_ext (λ variable. bound_now variable (moves total modes goals) (left total modes goals marked) bound now way ∙ ap (λ x. bound variable || x) (sym (marked_is variable goals marked)))

@@ -8,7 +8,7 @@ use Rattle.merc_order.specs.Marks.{Marked, no_marks, more_marks, part, IsSound}
 use Rattle.merc_order.specs.Order.{from}
 use Rattle.merc_order.specs.Ordered.{is_ready}
 use Rattle.merc_order.specs.Procedures.{modes_of}
-use Rattle.merc_modes.specs.Facts.{AreFactsOf, subgoals}
+use Rattle.merc_modes.specs.Facts.{AreFactsOf, subgoals, all_subgoals}
 use Rattle.merc_modes.specs.declared.facts.Facts.{Facts}
 
 -- marks in the order of the parts: those of a part's own parts before its own
@@ -41,6 +41,13 @@ module _ (total : ℕ → ℕ) (modes : ℕ → List ModeDecl) where
     pub flags_are : flags ≡ flags_of inner ++ went ∷ []
     pub sound : part went (is_ready (from total modes goal bound) ≡ true) (IsSound total modes goal inner bound)
 
+  -- The same of the parts of a goal that is not marked, without its own mark.
+  pub record AreMarked (goal : Node) (flags : List Bool) (bound : Bound) : Type 0 where
+    pub inner : Marked
+    pub fits : Fits (joined_by goal) inner
+    pub flags_are : flags ≡ flags_of inner
+    pub sound : IsSound total modes goal inner bound
+
   -- facts of each of these goals
   abbrev pub AreKnown : List Node → List Facts → Type 0
   AreKnown [] [] = Unit {0}
@@ -53,3 +60,10 @@ abbrev pub Asked : List PredDecl → Node → List Facts → List Bool → List 
 Asked predicates goal facts old new bound ready =
     (total : ℕ → ℕ) → AreKnown total (modes_of predicates) (subgoals goal) facts → IsMarked total (modes_of predicates) goal old bound
     → (is_ready (from total (modes_of predicates) goal bound) ≡ ready) × ((marked : IsMarked total (modes_of predicates) goal new bound) × (marked.went ≡ ready))
+
+-- The same of a goal that is not marked, by its parts. It is given the facts of the parts, and its own.
+abbrev pub AskedParts : List PredDecl → Node → List Facts → Facts → List Bool → List Bool → Bound → Bool → Type 0
+AskedParts predicates goal facts own old new bound ready =
+    (total : ℕ → ℕ) → AreKnown total (modes_of predicates) (all_subgoals (joined_by goal)) facts → AreFactsOf total (modes_of predicates) goal own
+    → AreMarked total (modes_of predicates) goal old bound
+    → (is_ready (from total (modes_of predicates) goal bound) ≡ ready) × AreMarked total (modes_of predicates) goal new bound
