@@ -3,4 +3,5 @@
 
 mod bound;
 mod facts;
+mod members;
 mod simple;

@@ -51,19 +51,19 @@ module _ (total : ℕ → ℕ) (modes : ℕ → List ModeDecl) where
     sound-more (Quantified own goal span) no_marks bound more h sound = elim sound [ ]
     sound-more (Quantified own goal span) (more_marks g gi (more_marks t ti rest)) bound more h sound = elim sound [ ]
 
-    left-more : (goals : Nodes) (marked : Marked) (bound more : Bound) → Holds bound more → SoundLeft total modes goals marked bound → SoundLeft total modes goals marked more
+    pub left-more : (goals : Nodes) (marked : Marked) (bound more : Bound) → Holds bound more → SoundLeft total modes goals marked bound → SoundLeft total modes goals marked more
     left-more no_nodes marked bound more h sound = sound
     left-more (more_nodes first rest) no_marks bound more h sound = sound
     left-more (more_nodes first rest) (more_marks went inner others) bound more h (one, two) =
         (unless-more went _ _ (sound-more first inner bound more h) one, left-more rest others bound more h two)
 
-    each-sound : (goals : Nodes) (marked : Marked) (bound more : Bound) → Holds bound more → SoundEach total modes goals marked bound → SoundEach total modes goals marked more
+    pub each-sound : (goals : Nodes) (marked : Marked) (bound more : Bound) → Holds bound more → SoundEach total modes goals marked bound → SoundEach total modes goals marked more
     each-sound no_nodes marked bound more h sound = sound
     each-sound (more_nodes first rest) no_marks bound more h sound = sound
     each-sound (more_nodes first rest) (more_marks went inner others) bound more h (one, two) =
         (part-more went _ _ _ _ (from-more total modes first bound more h) (sound-more first inner bound more h) one, each-sound rest others bound more h two)
 
-    beside-sound : (goals : Nodes) (marked : Marked) (bound more : Bound) → Holds bound more → SoundBeside total modes goals marked bound → SoundBeside total modes goals marked more
+    pub beside-sound : (goals : Nodes) (marked : Marked) (bound more : Bound) → Holds bound more → SoundBeside total modes goals marked bound → SoundBeside total modes goals marked more
     beside-sound no_nodes marked bound more h sound = sound
     beside-sound (more_nodes first rest) no_marks bound more h sound = sound
     beside-sound (more_nodes first rest) (more_marks went inner others) bound more h (one, two) = (
