@@ -1,2 +1,4 @@
 pub mod Bounds
 pub mod CallModes
+pub mod Reaches
+pub mod Occurring

@@ -2,5 +2,7 @@
 #![tactic(auto)]
 
 mod bound;
+mod collecting;
 mod facts;
+mod occurrences;
 mod simple;
