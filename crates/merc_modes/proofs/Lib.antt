@@ -6,3 +6,5 @@ pub mod Marking
 pub mod Stepping
 pub mod Sweeping
 pub mod Ways
+pub mod Reaches
+pub mod Occurring

@@ -5,3 +5,6 @@ pub mod BoundsExamples
 pub mod CallModeCode
 pub mod Facts
 pub mod Sweeps
+pub mod Reaches
+pub mod Occurring
+pub mod OccurringExamples

@@ -2,6 +2,8 @@
 #![tactic(auto)]
 
 mod bound;
+mod collecting;
 mod facts;
 mod members;
+mod occurrences;
 mod simple;
