@@ -273,3 +273,6 @@ quantified_no_output h = cc (h.2.1 x refl refl)
 -- X occurs in the goal before
 later_output_missing : IsGood [] [] (Sequence (ordereds (owes_nothing ∷ built x [] 20 ∷ []))) [] → ⊥
 later_output_missing h = cc (h.2.0.1.0.2.2 x refl refl)
+
+later_arm_not_good : IsGood [] [] (Choice (ordereds (true_goal ∷ no_goal ∷ []))) [] → ⊥
+later_arm_not_good h = cc h.2.0.1.0.2

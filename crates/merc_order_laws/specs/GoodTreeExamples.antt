@@ -140,6 +140,9 @@ split_free h = cc h.2.0
 split_into_bound : IsGoodBasic [] (x ∷ y ∷ []) (Split x pair (y ∷ z ∷ [])) [] → ⊥
 split_into_bound h = cc h.2.1.0
 
+split_into_bound_later : IsGoodBasic [] (x ∷ z ∷ []) (Split x pair (y ∷ z ∷ [])) [] → ⊥
+split_into_bound_later h = cc h.2.1.2.0
+
 split_twice : IsGoodBasic [] (x ∷ []) (Split x pair (y ∷ y ∷ [])) [] → ⊥
 split_twice h = cc h.2.1.1
 
@@ -227,6 +230,9 @@ true_goal = basic_at True []
 
 disjunct_not_good : IsGood [] [] (Disjunction (nodes_of (no_goal ∷ []))) [] → ⊥
 disjunct_not_good h = cc h.2.0.0.2
+
+later_disjunct_not_good : IsGood [] [] (Disjunction (nodes_of (true_goal ∷ no_goal ∷ []))) [] → ⊥
+later_disjunct_not_good h = cc h.2.0.1.0.2
 
 disjuncts_differ : IsGood (x ∷ []) [] (Disjunction (nodes_of (built x (x ∷ []) ∷ true_goal ∷ []))) (x ∷ []) → ⊥
 disjuncts_differ h = cc (owed h.2.1.1.0 x refl refl)
