@@ -1,18 +1,18 @@
 -- What the end of a time over the goals of a conjunction tells.
-use Rattle.std.specs.Prelude.{◌≡◌, ◌≤◌, ◌<◌, ◌+◌, ◌-◌, ℕ, suc, Bool, true, false, List, [], ◌∷◌, ◌++◌, length, refl}
-use Rattle.std.proofs.Common.{◌∙◌, ap, sym, subst, arith}
-use Rattle.std.proofs.lemmas.List.{length-append, append-nil}
+use Rattle.std.specs.Prelude.{◌≡◌, ◌≤◌, ◌<◌, ◌+◌, ℕ, suc, Bool, true, false, List, [], ◌∷◌, ◌++◌, length, refl}
+use Rattle.std.proofs.Common.{◌∙◌, sym, subst, arith}
+use Rattle.std.proofs.lemmas.List.{append-nil}
 use Rattle.merc_base.specs.declared.place.Span.{Span}
 use Rattle.merc_tree.specs.declared.declarations.ModeDecl.{ModeDecl}
-use Rattle.merc_goal_tree.specs.Nodes.{Node, Nodes, Conjunction, no_nodes, more_nodes, nodes_of}
-use Rattle.merc_order.specs.Bound.{Bound, with, Holds}
-use Rattle.merc_order.specs.Marks.{Marked, no_marks, more_marks, kept, move_of, left, IsSound, SoundLeft}
+use Rattle.merc_goal_tree.specs.Nodes.{Node, Nodes, Conjunction, no_nodes, nodes_of}
+use Rattle.merc_order.specs.Bound.{Bound, with}
+use Rattle.merc_order.specs.Marks.{Marked, kept, move_of, left, SoundLeft}
 use Rattle.merc_order.specs.Moves.{Move}
 use Rattle.merc_order.specs.Order.{from, moves}
 use Rattle.merc_order.specs.Ordered.{is_ready}
-use Rattle.merc_order.specs.Ways.{Removed, here, later, IsReady, Went, AllStuck, NoneReady}
+use Rattle.merc_order.specs.Ways.{here, later, Went, AllStuck, NoneReady}
 use Rattle.merc_order.proofs.Marks.{conjunction-ready, conjunction-stuck}
-use Rattle.merc_modes.specs.Asking.{flags_of, Fits, none, more, AreMarked}
+use Rattle.merc_modes.specs.Asking.{flags_of, Fits, more, AreMarked}
 use Rattle.merc_modes.specs.Sweeps.{new_one, AreGone, During, Closed, Swept, marked_bind}
 use Rattle.merc_modes.proofs.Ways.{now_is}
 

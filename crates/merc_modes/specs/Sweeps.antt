@@ -1,5 +1,5 @@
 -- How far one time over the goals of a conjunction, an `&` or a disjunction has come.
-use Rattle.std.specs.Prelude.{◌≡◌, ◌≤◌, ◌<◌, ◌+◌, ℕ, Bool, true, false, List, [], ◌∷◌, ◌++◌, ◌&&◌, ◌||◌, length}
+use Rattle.std.specs.Prelude.{◌≡◌, ◌≤◌, ◌<◌, ◌+◌, ℕ, Bool, true, false, List, [], ◌++◌, ◌&&◌, ◌||◌, length}
 use Rattle.merc_tree.specs.declared.declarations.ModeDecl.{ModeDecl}
 use Rattle.merc_goal_tree.specs.Nodes.{Node, Nodes, no_nodes, more_nodes}
 use Rattle.merc_goal_tree.specs.Parts.{parts_of}
@@ -10,7 +10,7 @@ use Rattle.merc_order.specs.Order.{binds, moves}
 use Rattle.merc_order.specs.Ordered.{are_ready}
 use Rattle.merc_order.specs.Ways.{Went, AllStuck}
 use Rattle.merc_modes.specs.Asking.{flags_of, Fits, AreKnown}
-use Rattle.merc_modes.specs.Facts.{subgoals, all_subgoals}
+use Rattle.merc_modes.specs.Facts.{all_subgoals}
 use Rattle.merc_modes.specs.declared.facts.Facts.{Facts}
 
 -- what is bound behind others
