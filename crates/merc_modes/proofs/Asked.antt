@@ -1,17 +1,17 @@
 -- A goal that is asked: by its own mark, or by its parts.
-use Rattle.std.specs.Prelude.{◌≡◌, ◌+◌, ℕ, suc, Bool, true, false, List, [], ◌∷◌, ◌++◌, length, take, drop, refl}
+use Rattle.std.specs.Prelude.{◌≡◌, ℕ, suc, Bool, true, false, List, [], ◌∷◌, ◌++◌, length, take, drop, refl}
 use Rattle.std.specs.List.{slice_index_or}
 use Rattle.std.proofs.Common.{◌∙◌, ap, sym, subst, arith, set}
-use Rattle.std.proofs.lemmas.List.{length-append, append-nil, get_or_at, take_at, drop_at, set_at}
+use Rattle.std.proofs.lemmas.List.{get_or_at, take_at, drop_at, set_at}
 use Rattle.merc_tree.specs.declared.declarations.ModeDecl.{ModeDecl}
-use Rattle.merc_goal_tree.specs.Nodes.{Node, Nodes}
+use Rattle.merc_goal_tree.specs.Nodes.{Node}
 use Rattle.merc_goal_tree.specs.Parts.{parts_of}
 use Rattle.merc_order.specs.Bound.{Bound}
 use Rattle.merc_order.specs.Marks.{Marked, part, IsSound}
 use Rattle.merc_order.specs.Order.{from}
 use Rattle.merc_order.specs.Ordered.{is_ready}
-use Rattle.merc_modes.specs.Asking.{flags_of, joined_by, Fits, IsMarked, AreMarked, AreKnown}
-use Rattle.merc_modes.proofs.Marking.{marks_length, parts_length, fits_length}
+use Rattle.merc_modes.specs.Asking.{flags_of, joined_by, Fits, IsMarked, AreMarked}
+use Rattle.merc_modes.proofs.Marking.{parts_length, fits_length}
 
 module _ (total : ℕ → ℕ) (modes : ℕ → List ModeDecl) where
   inner_length : (goal : Node) (inner : Marked) (own : ℕ) → Fits (joined_by goal) inner → suc own ≡ length (parts_of goal) → length (flags_of inner) ≡ own

@@ -1,5 +1,5 @@
 -- The goals of a conjunction that went are bound at once.
-use Rattle.std.specs.Prelude.{◌≡◌, ◌==◌, ◌≤◌, ◌+◌, ◌-◌, ◌&&◌, ◌||◌, ℕ, suc, Bool, true, false, List, [], ◌∷◌, ◌++◌, length, refl, if◌then◌else◌}
+use Rattle.std.specs.Prelude.{◌≡◌, ◌==◌, ◌+◌, ◌&&◌, ◌||◌, ℕ, suc, Bool, true, false, List, [], ◌∷◌, ◌++◌, length, refl, if◌then◌else◌}
 use Rattle.std.specs.List.{slice_index_or}
 use Rattle.std.proofs.Common.{◌∙◌, ap, sym, subst, arith, eqb-true}
 use Rattle.std.proofs.lemmas.List.{length-append, append_assoc, append-nil, get_or_at}
@@ -8,15 +8,15 @@ use Rattle.merc_tree.specs.declared.declarations.ModeDecl.{ModeDecl}
 use Rattle.merc_goal_tree.specs.Nodes.{Node, Nodes, no_nodes, more_nodes}
 use Rattle.merc_goal_tree.specs.Parts.{parts_of}
 use Rattle.merc_order.specs.Bound.{Bound, with, among}
-use Rattle.merc_order.specs.Marks.{Marked, no_marks, more_marks}
+use Rattle.merc_order.specs.Marks.{Marked}
 use Rattle.merc_order.specs.Order.{binds}
-use Rattle.merc_modes.specs.Asking.{flags_of, joined_by, Fits, none, more, AreKnown}
+use Rattle.merc_modes.specs.Asking.{flags_of, Fits, more, AreKnown}
 use Rattle.merc_modes.specs.Bounds.{behind, all_behind}
 use Rattle.merc_modes.specs.Facts.{subgoals, all_subgoals, AreFactsOf}
 use Rattle.merc_modes.specs.Sweeps.{Extends, AreKnownFrom, marked_bind, BindsFrom}
 use Rattle.merc_modes.specs.declared.facts.Facts.{Facts}
 use Rattle.merc_modes.proofs.Bounds.{or_assoc, or_false, among-append}
-use Rattle.merc_modes.proofs.Marking.{KnownParts, KnownGoal, known_split, known_goal, known_length, marks_length, parts_length, subgoals_length, own_mark}
+use Rattle.merc_modes.proofs.Marking.{known_split, known_goal, known_length, marks_length, subgoals_length, own_mark}
 
 -- binding is putting behind
 

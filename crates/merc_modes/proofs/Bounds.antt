@@ -1,12 +1,12 @@
 -- The table of bound variables and the list of them tell the same.
-use Rattle.std.specs.Prelude.{◌≡◌, ◌<◌, ◌==◌, ◌||◌, ℕ, zero, suc, Bool, true, false, not, List, [], ◌∷◌, ◌++◌, length, refl, if◌then◌else◌}
-use Rattle.std.specs.List.{list_any, slice_index_or}
+use Rattle.std.specs.Prelude.{◌≡◌, ◌<◌, ◌==◌, ◌||◌, ℕ, zero, suc, Bool, true, false, List, [], ◌∷◌, ◌++◌, length, refl}
+use Rattle.std.specs.List.{slice_index_or}
 use Rattle.std.proofs.Common.{◌∙◌, ◌≢◌, ap, sym, subst, arith, set, inl, inr}
 use Rattle.std.proofs.lemmas.Bool.{cases_eq}
 use Rattle.std.proofs.lemmas.Bool.Decides.{nat_tests}
-use Rattle.std.proofs.lemmas.List.{get_or-set_same, get_or-set_other, get_or_past, set_past}
+use Rattle.std.proofs.lemmas.List.{get_or-set_same, get_or-set_other}
 use Rattle.merc_order.specs.Bound.{among}
-use Rattle.merc_modes.specs.Bounds.{behind, all_behind, Tells, AreApart}
+use Rattle.merc_modes.specs.Bounds.{Tells, AreApart}
 
 pub or_assoc : (a b c : Bool) → ((a || b) || c) ≡ (a || (b || c))
 or_assoc true b c = refl

@@ -2,6 +2,7 @@ pub mod Asked
 pub mod Binding
 pub mod Bounds
 pub mod CallModes
+pub mod Conjunctions
 pub mod Marking
 pub mod Stepping
 pub mod Sweeping

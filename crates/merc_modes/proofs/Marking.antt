@@ -1,5 +1,5 @@
 -- How marks and facts of parts lie: those of a goal's parts in a row, the goal's own the last.
-use Rattle.std.specs.Prelude.{◌≡◌, ◌≤◌, ◌+◌, ◌-◌, ℕ, suc, Bool, true, false, List, [], ◌∷◌, ◌++◌, length, take, drop, refl}
+use Rattle.std.specs.Prelude.{◌≡◌, ◌+◌, ◌-◌, ℕ, suc, Bool, List, [], ◌∷◌, ◌++◌, length, take, drop, refl}
 use Rattle.std.specs.List.{slice_range, slice_index_or}
 use Rattle.std.proofs.Common.{◌∙◌, ap, sym, subst, arith}
 use Rattle.std.proofs.lemmas.List.{length-append, append_assoc, append-nil, take_at, drop_at, get_or_at}
@@ -7,9 +7,9 @@ use borrow.Rule.Slice.PartMut.{put_mid}
 use Rattle.merc_tree.specs.declared.declarations.ModeDecl.{ModeDecl}
 use Rattle.merc_goal_tree.specs.Nodes.{Node, Nodes, Simple, Conjunction, Parallel, Disjunction, Conditional, Negation, Quantified, no_nodes, more_nodes}
 use Rattle.merc_goal_tree.specs.Parts.{parts_of, all_parts}
-use Rattle.merc_order.specs.Marks.{Marked, no_marks, more_marks}
+use Rattle.merc_order.specs.Marks.{Marked}
 use Rattle.merc_modes.specs.Asking.{flags_of, joined_by, Fits, none, more, AreKnown}
-use Rattle.merc_modes.specs.Facts.{subgoals, all_subgoals, AreFactsOf, AreAllFacts}
+use Rattle.merc_modes.specs.Facts.{subgoals, all_subgoals, AreFactsOf}
 use Rattle.merc_modes.specs.declared.facts.Facts.{Facts}
 
 pub parts_length : (goal : Node) → length (parts_of goal) ≡ suc (length (all_parts (joined_by goal)))

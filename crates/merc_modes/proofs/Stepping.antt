@@ -1,22 +1,22 @@
 -- One goal of a conjunction more is asked.
-use Rattle.std.specs.Prelude.{◌≡◌, ◌+◌, ◌-◌, ℕ, suc, Bool, true, false, List, [], ◌∷◌, ◌++◌, length, refl}
+use Rattle.std.specs.Prelude.{◌≡◌, ◌+◌, ℕ, suc, Bool, true, false, List, [], ◌∷◌, ◌++◌, length}
 use Rattle.std.specs.List.{slice_range, slice_index_or}
 use Rattle.std.proofs.Common.{◌∙◌, ap, sym, subst, arith}
 use Rattle.std.proofs.lemmas.List.{length-append}
 use borrow.Rule.Slice.PartMut.{put_mid}
 use Rattle.merc_tree.specs.declared.declarations.ModeDecl.{ModeDecl}
-use Rattle.merc_goal_tree.specs.Nodes.{Node, Nodes, no_nodes, more_nodes}
+use Rattle.merc_goal_tree.specs.Nodes.{Node, Nodes, more_nodes}
 use Rattle.merc_goal_tree.specs.Parts.{parts_of}
 use Rattle.merc_order.specs.Bound.{Bound, with, among}
 use Rattle.merc_order.specs.Marks.{Marked, part, unless, IsSound}
 use Rattle.merc_order.specs.Order.{binds, from}
 use Rattle.merc_order.specs.Ordered.{is_ready}
-use Rattle.merc_modes.specs.Asking.{flags_of, joined_by, Fits, IsMarked, AreKnown}
+use Rattle.merc_modes.specs.Asking.{flags_of, IsMarked, AreKnown}
 use Rattle.merc_modes.specs.Bounds.{all_behind}
 use Rattle.merc_modes.specs.Facts.{subgoals, all_subgoals}
 use Rattle.merc_modes.specs.Sweeps.{During, AreKnownFrom}
 use Rattle.merc_modes.specs.declared.facts.Facts.{Facts}
-use Rattle.merc_modes.proofs.Binding.{NextKnown, next_known, own_facts, bound_behind}
+use Rattle.merc_modes.proofs.Binding.{next_known, own_facts, bound_behind}
 use Rattle.merc_modes.proofs.Marking.{marks_length, own_mark, middle, put_middle}
 use Rattle.merc_modes.proofs.Sweeping.{Open, taken_apart, pass_over, stays, goes}
 

@@ -1,19 +1,19 @@
 -- One time over the goals of a conjunction, from the left: what is kept.
-use Rattle.std.specs.Prelude.{◌≡◌, ◌≤◌, ◌<◌, ◌+◌, ℕ, suc, Bool, true, false, List, [], ◌∷◌, ◌++◌, length, refl}
+use Rattle.std.specs.Prelude.{◌≡◌, ◌≤◌, ◌<◌, ◌+◌, ℕ, Bool, true, false, List, [], ◌∷◌, ◌++◌, length}
 use Rattle.std.proofs.Common.{◌∙◌, ap, sym, subst, arith}
-use Rattle.std.proofs.lemmas.List.{length-append, append_assoc, append-nil}
+use Rattle.std.proofs.lemmas.List.{length-append, append_assoc}
 use Rattle.merc_tree.specs.declared.declarations.ModeDecl.{ModeDecl}
-use Rattle.merc_goal_tree.specs.Nodes.{Node, Nodes, no_nodes, more_nodes}
+use Rattle.merc_goal_tree.specs.Nodes.{Node, Nodes, more_nodes}
 use Rattle.merc_goal_tree.specs.Parts.{parts_of}
 use Rattle.merc_order.specs.Bound.{Bound, with, Holds}
-use Rattle.merc_order.specs.Marks.{Marked, no_marks, more_marks, unless, kept, move_of, left, IsSound, SoundLeft}
+use Rattle.merc_order.specs.Marks.{Marked, more_marks, unless, kept, move_of, left, IsSound, SoundLeft}
 use Rattle.merc_order.specs.Moves.{Move}
 use Rattle.merc_order.specs.Order.{binds, from, moves}
 use Rattle.merc_order.specs.Ordered.{is_ready}
-use Rattle.merc_order.specs.Ways.{Removed, here, later, Went, start, went, IsReady, AllStuck}
+use Rattle.merc_order.specs.Ways.{Removed, here, later, Went, went, AllStuck}
 use Rattle.merc_order.proofs.MoveLaws.{or_left}
 use Rattle.merc_order.proofs.Marks.{sound-more, left-more}
-use Rattle.merc_modes.specs.Asking.{flags_of, joined_by, Fits, none, more}
+use Rattle.merc_modes.specs.Asking.{flags_of, joined_by, Fits, more}
 use Rattle.merc_modes.specs.Sweeps.{new_one, Closed, During}
 use Rattle.merc_modes.proofs.Marking.{marks_length, regrouped}
 

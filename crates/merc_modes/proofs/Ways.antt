@@ -1,10 +1,10 @@
 -- What is bound where goals of a conjunction went, in whatever order they did.
-use Rattle.std.specs.Prelude.{◌≡◌, ◌≤◌, ◌<◌, ◌+◌, ◌&&◌, ◌||◌, ℕ, Bool, true, false, nat_lt, List, [], ◌∷◌, refl}
+use Rattle.std.specs.Prelude.{◌≡◌, ◌≤◌, ◌<◌, ◌+◌, ◌||◌, ℕ, Bool, true, false, nat_lt, List, [], ◌∷◌, refl}
 use Rattle.std.proofs.Common.{◌∙◌, ap, sym, arith}
 use Rattle.std.proofs.lemmas.Bool.Decides.{nat_tests}
 use mathlib.Core.Path.{fun_ext}
 use Rattle.merc_tree.specs.declared.declarations.ModeDecl.{ModeDecl}
-use Rattle.merc_goal_tree.specs.Nodes.{Node, Nodes, no_nodes, more_nodes}
+use Rattle.merc_goal_tree.specs.Nodes.{Nodes, no_nodes, more_nodes}
 use Rattle.merc_order.specs.Bound.{Bound, with}
 use Rattle.merc_order.specs.Marks.{Marked, no_marks, more_marks, left}
 use Rattle.merc_order.specs.Moves.{Move}

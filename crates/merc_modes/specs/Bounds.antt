@@ -1,5 +1,5 @@
 -- The variables that are bound, in the order in which they were bound, and the table that tells them.
-use Rattle.std.specs.Prelude.{◌≡◌, ℕ, Bool, true, false, List, [], ◌∷◌, ◌++◌, if◌then◌else◌}
+use Rattle.std.specs.Prelude.{◌≡◌, ℕ, Bool, false, List, [], ◌∷◌, ◌++◌, if◌then◌else◌}
 use Rattle.std.specs.List.{slice_index_or}
 use Rattle.merc_order.specs.Bound.{among}
 

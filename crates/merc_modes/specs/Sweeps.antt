@@ -1,5 +1,5 @@
 -- How far one time over the goals of a conjunction, an `&` or a disjunction has come.
-use Rattle.std.specs.Prelude.{◌≡◌, ◌≤◌, ◌<◌, ◌+◌, ℕ, Bool, true, false, List, [], ◌∷◌, ◌++◌, ◌&&◌, ◌||◌, length}
+use Rattle.std.specs.Prelude.{◌≡◌, ◌≤◌, ◌<◌, ◌+◌, ℕ, Bool, true, false, List, [], ◌++◌, ◌&&◌, ◌||◌, length}
 use Rattle.merc_tree.specs.declared.declarations.ModeDecl.{ModeDecl}
 use Rattle.merc_goal_tree.specs.Nodes.{Node, Nodes, no_nodes, more_nodes}
 use Rattle.merc_goal_tree.specs.Parts.{parts_of}
@@ -10,7 +10,7 @@ use Rattle.merc_order.specs.Order.{binds, moves}
 use Rattle.merc_order.specs.Ordered.{are_ready}
 use Rattle.merc_order.specs.Ways.{Went, AllStuck}
 use Rattle.merc_modes.specs.Asking.{flags_of, Fits, AreKnown}
-use Rattle.merc_modes.specs.Facts.{subgoals, all_subgoals}
+use Rattle.merc_modes.specs.Facts.{all_subgoals}
 use Rattle.merc_modes.specs.declared.facts.Facts.{Facts}
 
 -- what is bound behind others
@@ -117,3 +117,15 @@ module _ (total : ℕ → ℕ) (modes : ℕ → List ModeDecl) (goals : Nodes) (
     pub close : (others : Marked) → Fits rest others → SoundBeside total modes rest others now
         → (whole : Marked) × Fits goals whole × (flags_of whole ≡ front ++ flags_of others) × SoundBeside total modes goals whole bound
     pub ready : are_ready (beside 1 (moves total modes goals) bound) ≡ are_ready (beside number (moves total modes rest) now)
+
+-- All goals of a conjunction were asked that had not gone. Where none of them went none is ready.
+pub record Swept (total : ℕ → ℕ) (modes : ℕ → List ModeDecl) (goals : Nodes) (start : Bound) (flags : List Bool) (now : Bound) (is_new is_left : Bool) (count : ℕ) : Type 0 where
+  pub marked : Marked
+  pub fits : Fits goals marked
+  pub flags_are : flags ≡ flags_of marked
+  pub way : Went (moves total modes goals) start (left total modes goals marked) now
+  pub sound : SoundLeft total modes goals marked now
+  pub stuck : is_new ≡ false → AllStuck (left total modes goals marked) now
+  pub none_left : is_left ≡ false → left total modes goals marked ≡ []
+  pub some_left : is_left ≡ true → 0 < length (left total modes goals marked)
+  pub fewer : length (left total modes goals marked) + new_one is_new ≤ count

@@ -1,4 +1,4 @@
-use Rattle.merc_modes.proofs.Bounds.{Less, bound_less}
+use Rattle.merc_modes.proofs.Bounds.{bound_less}
 use Rattle.merc_modes.proofs.bound.unbind_last.Goals as goal
 
 pub bounds-table-number : goal.bounds-table-number

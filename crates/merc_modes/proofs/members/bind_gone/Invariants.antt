@@ -1,4 +1,4 @@
-use Rattle.std.proofs.Common.{◌≡◌, ◌+◌, ℕ, Bool, List, drop, length}
+use Rattle.std.proofs.Common.{◌≡◌, ◌+◌, ℕ, List, drop, length}
 use Rattle.merc_tree.specs.declared.declarations.ModeDecl.{ModeDecl}
 use Rattle.merc_goal_tree.specs.Nodes.{nodes_of}
 use Rattle.merc_goal_tree.specs.Parts.{all_parts}
