@@ -2,3 +2,4 @@ pub mod Bounds
 pub mod CallModes
 pub mod Reaches
 pub mod Occurring
+pub mod Outside

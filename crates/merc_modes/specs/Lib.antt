@@ -5,3 +5,4 @@ pub mod Facts
 pub mod Reaches
 pub mod Occurring
 pub mod OccurringExamples
+pub mod Outside

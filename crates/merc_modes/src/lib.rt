@@ -4,5 +4,6 @@
 mod bound;
 mod collecting;
 mod facts;
+mod finding;
 mod occurrences;
 mod simple;
