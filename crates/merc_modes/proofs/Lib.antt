@@ -9,3 +9,4 @@ pub mod Sweeping
 pub mod Ways
 pub mod Reaches
 pub mod Occurring
+pub mod Outside

@@ -8,3 +8,4 @@ pub mod Sweeps
 pub mod Reaches
 pub mod Occurring
 pub mod OccurringExamples
+pub mod Outside

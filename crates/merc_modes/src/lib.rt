@@ -5,5 +5,6 @@ mod bound;
 mod collecting;
 mod facts;
 mod members;
+mod finding;
 mod occurrences;
 mod simple;
