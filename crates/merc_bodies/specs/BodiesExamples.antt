@@ -82,3 +82,20 @@ without_clauses = refl
 -- a goal that is asked has no arguments
 asked : asked_body (first_form 5) ≡ Conjunction (nodes_of (Simple (Shape 0 (Constructor f 1) (1 ∷ [])) (at 5) ∷ Simple (Call 1 (1 ∷ [])) (at 8) ∷ [])) (at 5)
 asked = refl
+
+-- A body that is a disjunction stays one disjunct: `p(X) :- ( X = a ; X = b ). p(X) :- X = c.`, where a, b and c have the numbers 210, 211 and 212
+
+abbrev case : ℕ → Node
+case name = Simple (Shape 0 (Constructor name 0) []) no_span
+
+abbrev two_cases : Node
+two_cases = Disjunction (nodes_of (case 210 ∷ case 211 ∷ [])) (at 12)
+
+abbrev case_form : Clause → Node
+case_form found = if found.span.first == 5 then two_cases else case 212
+
+nested : body_of case_form (clause p 5 ∷ clause p 7 ∷ []) (predicate p) ≡ Disjunction (nodes_of (two_cases ∷ case 212 ∷ [])) (at 5)
+nested = refl
+
+nested_as_one : body_of case_form (clause p 5 ∷ clause p 7 ∷ []) (predicate p) ≡ Disjunction (nodes_of (case 210 ∷ case 211 ∷ case 212 ∷ [])) (at 5) → ⊥
+nested_as_one wrong = cc
