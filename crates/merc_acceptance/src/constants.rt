@@ -3,7 +3,8 @@ use crate::tally::Tally;
 use merc_base::{Name, Names};
 use std::io;
 
-const CONSTANTS: [(Name, &[u8]); 98] = [
+// The constants in three tables, since the proof of a loop over a table grows faster than the table.
+const FIRST_CONSTANTS: [(Name, &[u8]); 41] = [
     (Name::DIVISION_BY_ZERO, b"division by zero"),
     (Name::NIL, b"[]"),
     (Name::CONS, b"[|]"),
@@ -45,6 +46,9 @@ const CONSTANTS: [(Name, &[u8]); 98] = [
     (Name::LESS, b"<"),
     (Name::GREATER, b">"),
     (Name::AT_MOST, b"=<"),
+];
+
+const SECOND_CONSTANTS: [(Name, &[u8]); 41] = [
     (Name::AT_LEAST, b">="),
     (Name::PLUS, b"+"),
     (Name::MINUS, b"-"),
@@ -86,6 +90,10 @@ const CONSTANTS: [(Name, &[u8]); 98] = [
     (Name::UINT16, b"uint16"),
     (Name::UINT32, b"uint32"),
     (Name::UINT64, b"uint64"),
+];
+
+// The words of the library units.
+const LIBRARY_CONSTANTS: [(Name, &[u8]); 16] = [
     (Name::NO, b"no"),
     (Name::YES, b"yes"),
     (Name::APPEND, b"append"),
@@ -107,14 +115,45 @@ const CONSTANTS: [(Name, &[u8]); 98] = [
 /// Counts the constants that have their texts as cases that passed, and tells each other one.
 pub(crate) fn run<R: Print + AllocGlobal>(rt: &R, tally: &mut Tally) -> io::Result<()> {
     let names = Names::new(rt.alloc());
-    for (name, text) in CONSTANTS {
-        if names.text(name) == Some(text) {
-            tally.count(true);
-        } else {
-            tally.count(false);
-            let text = str::from_utf8(text).unwrap_or("?");
-            println!(rt; "constants: {text}")?;
-        }
+    run_first(rt, &names, tally)?;
+    run_second(rt, &names, tally)?;
+    run_library(rt, &names, tally)
+}
+
+fn run_first<R: Print>(rt: &R, names: &Names, tally: &mut Tally) -> io::Result<()> {
+    for (name, text) in FIRST_CONSTANTS {
+        count_one(rt, names, name, text, tally)?;
+    }
+    Ok(())
+}
+
+fn run_second<R: Print>(rt: &R, names: &Names, tally: &mut Tally) -> io::Result<()> {
+    for (name, text) in SECOND_CONSTANTS {
+        count_one(rt, names, name, text, tally)?;
+    }
+    Ok(())
+}
+
+fn run_library<R: Print>(rt: &R, names: &Names, tally: &mut Tally) -> io::Result<()> {
+    for (name, text) in LIBRARY_CONSTANTS {
+        count_one(rt, names, name, text, tally)?;
+    }
+    Ok(())
+}
+
+// Counts one constant, and tells it where it has another text.
+fn count_one<R: Print>(
+    rt: &R,
+    names: &Names,
+    name: Name,
+    text: &[u8],
+    tally: &mut Tally,
+) -> io::Result<()> {
+    let passed = names.text(name) == Some(text);
+    tally.count(passed);
+    if !passed {
+        let text = str::from_utf8(text).unwrap_or("?");
+        println!(rt; "constants: {text}")?;
     }
     Ok(())
 }

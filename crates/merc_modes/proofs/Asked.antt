@@ -55,11 +55,13 @@ module _ (total : ℕ → ℕ) (modes : ℕ → List ModeDecl) where
       → (marked : IsMarked total modes goal (set (new ++ drop own flags) own ready) bound) × (marked.went ≡ ready)
   marked_again goal flags new bound own ready h m is a =
       let tail : drop own flags ≡ m.went ∷ [] = ap (λ l. drop own l) m.flags_are ∙ drop_at (flags_of m.inner) (m.went ∷ []) own (inner_length goal m.inner own m.fits h) in
-      let long : length new ≡ own = ap length a.flags_are ∙ inner_length goal a.inner own a.fits h in
-      (record {
-        inner = a.inner;
-        went = ready;
-        fits = a.fits;
-        flags_are = ap (λ l. set (new ++ l) own ready) tail ∙ set_at new m.went [] ready own long ∙ ap (λ l. l ++ ready ∷ []) a.flags_are;
-        sound = part_by goal a.inner bound ready is a.sound;
-      }, refl)
+      let long : length new ≡ own = ap length a.flags_are ∙ inner_length goal a.inner own a.fits h in (
+        record {
+          inner = a.inner;
+          went = ready;
+          fits = a.fits;
+          flags_are = ap (λ l. set (new ++ l) own ready) tail ∙ set_at new m.went [] ready own long ∙ ap (λ l. l ++ ready ∷ []) a.flags_are;
+          sound = part_by goal a.inner bound ready is a.sound;
+        },
+        refl,
+      )

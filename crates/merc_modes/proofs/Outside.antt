@@ -38,12 +38,12 @@ outside_stretch total modes all start end inside variable stretch =
     let before = stretch.before in
     let after = stretch.after in
     let front : take start all ≡ before =
-      ap (λ n. take n all) (sym stretch.start_is) ∙ ap (λ l. take (length before) l) stretch.whole ∙ take-append_seam before (inside ++ after) in
+    ap (λ n. take n all) (sym stretch.start_is) ∙ ap (λ l. take (length before) l) stretch.whole ∙ take-append_seam before (inside ++ after) in
     let back : drop end all ≡ after =
-      ap (λ n. drop n all) (sym stretch.end_is ∙ sym (length-append before inside))
-      ∙ ap (λ l. drop (length (before ++ inside)) l) (stretch.whole ∙ sym (append_assoc before inside after)) ∙ drop-append_seam (before ++ inside) after in
+    ap (λ n. drop n all) (sym stretch.end_is ∙ sym (length-append before inside))
+    ∙ ap (λ l. drop (length (before ++ inside)) l) (stretch.whole ∙ sym (append_assoc before inside after)) ∙ drop-append_seam (before ++ inside) after in
     let counted : count variable all ≡ count variable before + (count variable inside + count variable after) =
-      ap (count variable) stretch.whole ∙ count-append variable before (inside ++ after) ∙ ap (λ n. count variable before + n) (count-append variable inside after) in
+    ap (count variable) stretch.whole ∙ count-append variable before (inside ++ after) ∙ ap (λ n. count variable before + n) (count-append variable inside after) in
     ap (λ l. among l variable || among (drop end all) variable) front ∙ ap (λ l. among before variable || among l variable) back
     ∙ ap (λ b. b || among after variable) (sym (occurs variable before)) ∙ ap (λ b. nat_lt 0 (count variable before) || b) (sym (occurs variable after))
     ∙ more_by (count variable before) (count variable inside) (count variable after)

@@ -142,7 +142,7 @@ module _ (total : ℕ → ℕ) (modes : ℕ → List ModeDecl) (goals : Nodes) (
   goes goal rest flags at now is_new is_left count o gone inner fits_inner ready =
       let holds_now : Holds now (with now (binds total modes goal)) = λ variable h. or_left (now variable) (binds total modes goal variable) h in
       let fewer : length (o.before ++ move_of total modes goal ∷ left total modes rest o.others) + new_one is_new ≤ count =
-          subst (λ b. length (o.before ++ kept b (move_of total modes goal) (left total modes rest o.others)) + new_one is_new ≤ count) gone o.fewer in
+      subst (λ b. length (o.before ++ kept b (move_of total modes goal) (left total modes rest o.others)) + new_one is_new ≤ count) gone o.fewer in
       record {
         front = o.front ++ (flags_of inner ++ true ∷ []);
         before = o.before;

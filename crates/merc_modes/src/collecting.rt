@@ -13,7 +13,11 @@ use std::alloc::Global;
 /// # Errors
 ///
 /// `NoMemory` where memory was refused.
-pub(crate) fn occurrences_of(alloc: Global, heads: &[Var], goal: &NodeRef<'_>) -> Result<Occurrences, NoMemory>
+pub(crate) fn occurrences_of(
+    alloc: Global,
+    heads: &[Var],
+    goal: &NodeRef<'_>,
+) -> Result<Occurrences, NoMemory>
     ensures { IfOk result (λ all. all ≡ heads.now ++ variables goal.now) }
 {
     let mut all = Occurrences::new(alloc);

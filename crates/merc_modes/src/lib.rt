@@ -4,7 +4,7 @@
 mod bound;
 mod collecting;
 mod facts;
-mod members;
 mod finding;
+mod members;
 mod occurrences;
 mod simple;

@@ -35,7 +35,7 @@ returns-clause-binds c = λ total modes rest target b.
     let own_is : suc (c.args.at + c.part_count.result - 1) ≡ c.args.at + length (parts_of c.args.goal.now) = omega arith in
     let mark : slice_index_or c.args.marks.now (c.args.at + c.part_count.result - 1) false ≡ true = c.if-not-marks-own.false in
     let set : c.bind_all.new.self ≡ all_behind c.args.bound.now c.index-facts-own.result.binds = c.in_ok-bind_all.ensures ∙ ap (λ l. all_behind c.args.bound.now l) c.as_slice.ensures
-        ∙ ap (λ (f : Facts). all_behind c.args.bound.now f.binds) (sym c.index-facts-own.is) in
+    ∙ ap (λ (f : Facts). all_behind c.args.bound.now f.binds) (sym c.index-facts-own.is) in
     subst (λ l. BindsFrom total modes rest c.args.facts.now c.args.marks.now (c.args.at + length (parts_of c.args.goal.now)) (among l) target) (sym set)
     (binds_on total modes c.args.goal.now rest c.args.facts.now c.args.marks.now c.args.at (c.args.at + c.part_count.result - 1) c.args.bound.now target c.index-facts-own.result
     b mark own_is c.index-facts-own.is)
