@@ -41,3 +41,7 @@ pub mod Spoiling
 pub mod Poisoning
 pub mod FinishedAt
 pub mod EndedAt
+pub mod ForkParts
+pub mod ForkRights
+pub mod ForkedAt
+pub mod Forks

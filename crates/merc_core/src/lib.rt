@@ -6,6 +6,7 @@ mod cell;
 mod course;
 mod ending;
 pub mod event;
+mod forking;
 pub mod laws;
 mod join;
 mod lists;
