@@ -23,6 +23,7 @@ pub mod Waiters
 mod CoreExamples
 mod WellFormedExamples
 mod HistoryExamples
+mod ForkExamples
 pub mod CoreLists
 pub mod StandingLaws
 pub mod Filters
