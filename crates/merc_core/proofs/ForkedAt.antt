@@ -86,10 +86,25 @@ module _ (items : List Item) (past : List ℕ) (root : Script) (course : IsCours
   module _ (v join : ℕ) (b : Branch) (cells : List Cell) (moves : List Move) (holds : ℕ → Option ℕ) where
     pub shows-newborn : (child place : ℕ) (first : Script) → StandsAt items place first
         → Shows items (newborn join child place (signals_at child cells moves)) (record {
-          join = join; child = child; name = b.name ++ ((b.passed, child) ∷ []); passed = 0; at = place; steps = 0;
-          signals = signals_at child cells moves; waits = Rattle.merc_core.specs.Rights.waits_at child cells moves; rest = first })
+          join = join;
+          child = child;
+          name = b.name ++ ((b.passed, child) ∷ []);
+          passed = 0;
+          at = place;
+          steps = 0;
+          signals = signals_at child cells moves;
+          waits = Rattle.merc_core.specs.Rights.waits_at child cells moves;
+          rest = first;
+        })
     shows-newborn child place first stands = record {
-      join = refl; child = refl; at = refl; steps = refl; signals = refl; left = stands; within = stands-within items place first stands; few = omega arith;
+      join = refl;
+      child = refl;
+      at = refl;
+      steps = refl;
+      signals = refl;
+      left = stands;
+      within = stands-within items place first stands;
+      few = omega arith;
     }
 
     -- children behind the list of a worker, the last of them first

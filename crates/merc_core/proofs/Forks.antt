@@ -159,15 +159,17 @@ module _ (items : List Item) (parts : Parts) (w : World) (mirrors : Mirrors item
   fork-room fork f =
       let t = λ (each : ℕ → List Cell → List Move → ℕ). still-takes each f.acts.gone.takes in
       let e = λ (each : ℕ → List Cell → List Move → ℕ). ap (made each) f.is in
-      let r = mirrors.has_room in let m = f.many in
-      ((let a = t branches_made in let b = e branches_made in let d = r.branches in omega (arith, a, b, d, m)),
-      (let a = t branches_made in let b = e branches_made in let d = r.outcomes in omega (arith, a, b, d, m)),
-      (let a = t rights_made in let b = e rights_made in let d = r.rights in omega (arith, a, b, d)),
-      (let s = f.fits.2 in omega (arith, s, m)))
+      let r = mirrors.has_room in let m = f.many in (
+        (let a = t branches_made in let b = e branches_made in let d = r.branches in omega (arith, a, b, d, m)),
+        (let a = t branches_made in let b = e branches_made in let d = r.outcomes in omega (arith, a, b, d, m)),
+        (let a = t rights_made in let b = e rights_made in let d = r.rights in omega (arith, a, b, d)),
+        (let s = f.fits.2 in omega (arith, s, m)),
+      )
 
   module _ (past : List ℕ) (root : Script) (course : IsCourse items past root) (fork : ForkData) (f : Forks fork) (k' : Worker) (held-same : k'.held ≡ k.held) where
     abbrev n : ℕ
     n = length w.joins
+
     abbrev b : Branch
     b = f.acts.gone.x.branch
 
@@ -233,10 +235,13 @@ module _ (items : List Item) (parts : Parts) (w : World) (mirrors : Mirrors item
 
       abbrev q0 : Key → List CoreBranch
       q0 = with_queue (Hand v) [] (queue parts)
+
       abbrev q1 : Key → List CoreBranch
       q1 = with_queue (Parent n) (q0 (Parent n) ++ (parent' ∷ [])) q0
+
       abbrev q2 : Key → List CoreBranch
       q2 = with_queue (Hand v) (q1 (Hand v) ++ (oldest ∷ [])) q1
+
       abbrev q3 : Key → List CoreBranch
       q3 = with_queue (Row v) (q2 (Row v) ++ back) q2
 
@@ -355,6 +360,6 @@ module _ (items : List Item) (parts : Parts) (w : World) (mirrors : Mirrors item
         forked w v f.acts.gone.x.branch f.acts.gone.others fork.limit fork.cells fork.moves f.children f.rest,
         runs-on items parts w mirrors v k stands f.c f.acts _ ∙ ap (λ s. fork_on w v s f.acts.gone.x.branch f.acts.gone.others) f.is,
         forked-shows past root course fork f k' held-same g.0 g.1 g.2 born born-is hand list j'
-        (parent-is ∙ ap (λ i. (record f.c { at = past_scripts past (f.c.at + 1) i; signals = signals_behind f.c.signals fork.moves }) ∷ []) f.many)
-        limit outcomes parts' workers cells joins room branches-left outcomes-left rights-left rights-less,
+            (parent-is ∙ ap (λ i. (record f.c { at = past_scripts past (f.c.at + 1) i; signals = signals_behind f.c.signals fork.moves }) ∷ []) f.many)
+            limit outcomes parts' workers cells joins room branches-left outcomes-left rights-left rights-less,
       )

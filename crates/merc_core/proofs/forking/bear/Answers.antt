@@ -14,7 +14,7 @@ loop-left-preserved c =
     record {
       born =
           ap (λ (l : List CoreBranch). born_from c.args.course.now.past.items c.args.join c.args.fork.now.cells c.args.fork.now.moves (c.loop-left.child + 1) c.past_script-at.result (c.loop-left.left - 1) l)
-              (c.put_branch.ensures.branches ∙ ap (λ s. newborn c.args.join c.loop-left.child c.loop-left.at s ∷ c.loop-left.born) c.rights_of.ensures.rights)
+          (c.put_branch.ensures.branches ∙ ap (λ s. newborn c.args.join c.loop-left.child c.loop-left.at s ∷ c.loop-left.born) c.rights_of.ensures.rights)
           ∙ ap (λ p. born_from c.args.course.now.past.items c.args.join c.args.fork.now.cells c.args.fork.now.moves (c.loop-left.child + 1) p (c.loop-left.left - 1) (newborn c.args.join c.loop-left.child c.loop-left.at (signals_at c.loop-left.child c.args.fork.now.cells c.args.fork.now.moves) ∷ c.loop-left.born)) c.past_script-at.ensures
           ∙ sym (born-on c.args.course.now.past.items c.args.join c.args.fork.now.cells c.args.fork.now.moves c.loop-left.child c.loop-left.at c.loop-left.left c.loop-left.born some)
           ∙ c.loop-left.invariant.born;
