@@ -18,7 +18,7 @@ use Rattle.merc_core.specs.Mirror.{Parts, Mirrors, AreFit, IsFit, IsFitAt}
 use Rattle.merc_core.specs.Stepping.{RunsNext, Finishes}
 use Rattle.merc_core.proofs.Acting.{acting, runs-on}
 
-module _ (items : List Item) (parts : Parts) (w : World) (mirrors : Mirrors items parts w) (fit : AreFit w.pool) (v : ℕ) (k : Worker) (stands : slice_get parts.workers v ≡ Some k) where
+module _ (items : List Item) (parts : Parts) (w : World) (mirrors : Mirrors items parts w) (fit : AreFit w) (v : ℕ) (k : Worker) (stands : slice_get parts.workers v ≡ Some k) where
   at-end : (o : Outcome) (rest : Script) → IsEnd o rest → rest ≡ Ends o
   at-end o (Ends other) is = ap Ends (sym is)
   at-end o (TickThen rest) is = absurd is

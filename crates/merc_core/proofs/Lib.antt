@@ -23,6 +23,7 @@ pub mod Waiters
 mod CoreExamples
 mod WellFormedExamples
 mod HistoryExamples
+mod ForkExamples
 pub mod CoreLists
 pub mod StandingLaws
 pub mod Filters
@@ -41,3 +42,7 @@ pub mod Spoiling
 pub mod Poisoning
 pub mod FinishedAt
 pub mod EndedAt
+pub mod ForkParts
+pub mod ForkRights
+pub mod ForkedAt
+pub mod Forks

@@ -29,7 +29,7 @@ pub map-as-is : (cs : List CoreBranch) → map (λ c. c) cs ≡ cs
 map-as-is [] = refl
 map-as-is (c ∷ cs) = ap (λ l. c ∷ l) (map-as-is cs)
 
-module _ (items : List Item) (parts : Parts) (w : World) (mirrors : Mirrors items parts w) (fit : AreFit w.pool) (v : ℕ) (k : Worker) (stands : slice_get parts.workers v ≡ Some k) where
+module _ (items : List Item) (parts : Parts) (w : World) (mirrors : Mirrors items parts w) (fit : AreFit w) (v : ℕ) (k : Worker) (stands : slice_get parts.workers v ≡ Some k) where
   pub record Signals (cell : ℕ) : Type 0 where
     pub c : CoreBranch
     pub acts : Acting items parts w mirrors v k stands None c

@@ -36,7 +36,7 @@ pub filter-length : {A : Type 0} (test : A → Bool) (xs : List A) → length (f
 filter-length test [] = omega arith
 filter-length test (x ∷ xs) = filter-longer (test x) x (filter test xs) (length xs) (filter-length test xs)
 
-module _ (items : List Item) (parts : Parts) (w : World) (mirrors : Mirrors items parts w) (fit : AreFit w.pool) (v : ℕ) (k : Worker) (stands : slice_get parts.workers v ≡ Some k) where
+module _ (items : List Item) (parts : Parts) (w : World) (mirrors : Mirrors items parts w) (fit : AreFit w) (v : ℕ) (k : Worker) (stands : slice_get parts.workers v ≡ Some k) where
   -- the branch is at a wait, with this left behind it
   pub record Waits (cell : ℕ) : Type 0 where
     pub c : CoreBranch

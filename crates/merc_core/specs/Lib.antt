@@ -7,6 +7,7 @@ pub mod Laws
 pub mod History
 pub mod Queues
 pub mod Standing
+pub mod Forking
 pub mod Mirror
 pub mod Stepping
 pub mod Outcomes

@@ -216,5 +216,7 @@ IsFitAt (Holds worker join) steps rest = Unit {0}
 IsFitAt (AtCell cell) steps rest = Unit {0}
 IsFitAt (AtJoin join) steps rest = Unit {0}
 
-abbrev pub AreFit : List Spot → Type 0
-AreFit pool = AllByRecursion (λ one. IsFitAt one.location one.branch.steps one.branch.rest) pool
+-- each branch that runs is fit, and what is stored is for joins that are there
+pub record AreFit (w : World) : Type 0 where
+  pub each : AllByRecursion (λ one. IsFitAt one.location one.branch.steps one.branch.rest) w.pool
+  pub stored : AllByRecursion (λ one. one.join < length w.joins) w.stored

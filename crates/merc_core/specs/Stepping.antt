@@ -13,6 +13,9 @@ use Rattle.merc_core.specs.declared.state.State.{State}
 use Rattle.merc_core.specs.declared.worker.Worker.{Worker}
 use Rattle.merc_core.specs.World.{World, Spot}
 use Rattle.merc_core.specs.Events.{happens, in_hand, finished}
+use Rattle.merc_core.specs.declared.event.Event.TheVariants.{Fork as ForkEvent}
+use Rattle.merc_core.specs.declared.course.Next.TheVariants.{Tick, Wait, Signal, Fork, End}
+use Rattle.merc_script.specs.declared.items.Fork.{Fork as ForkData}
 use Rattle.merc_core.specs.Standing.{IsLeft, IsNext}
 use Rattle.merc_core.specs.Mirror.{Parts, Mirrors, IsCourse, AreFit}
 
@@ -33,7 +36,7 @@ pub record IsKept (items : List Item) (past : List ℕ) (parts : Parts) : Type 0
   pub world : World
   pub course : IsCourse items past root
   pub mirrors : Mirrors items parts world
-  pub fit : AreFit world.pool
+  pub fit : AreFit world
 
 -- Where the event happens the new state shows what it leaves; else it is the old one.
 abbrev pub Answers : List Item → Event → World → State → Result (Unit {0}) NotNow → State → Type 0
@@ -42,7 +45,7 @@ Answers items event w old (Err refused) new = (happens w event ≡ Err refused) 
 
 abbrev pub Keeps : List Item → List ℕ → Event → State → Result (Unit {0}) NotNow → State → Type 0
 Keeps items past event old result new =
-    (root : Script) (w : World) → IsCourse items past root → Mirrors items (parts_of old) w → AreFit w.pool → Answers items event w old result new
+    (root : Script) (w : World) → IsCourse items past root → Mirrors items (parts_of old) w → AreFit w → Answers items event w old result new
 
 -- a worker that runs a branch which comes to this next
 pub record RunsNext (items : List Item) (worker : Worker) (next : Next) : Type 0 where
@@ -61,3 +64,15 @@ pub data IsIdle (worker : Worker) : Type 0 where
 abbrev pub Finishes : List Item → ℕ → Outcome → Parts → Parts → Type 0
 Finishes items worker o old new =
     (w : World) (x : Spot) (others : List Spot) → Mirrors items old w → in_hand worker w.pool ≡ Some (x, others) → Mirrors items new (finished w worker x.branch others o)
+
+abbrev pub IsForkNext : Next → ForkData → Type 0
+IsForkNext (Fork here) fork = here.now ≡ fork
+IsForkNext Tick fork = ⊥
+IsForkNext (Wait cell) fork = ⊥
+IsForkNext (Signal cell) fork = ⊥
+IsForkNext (End end) fork = ⊥
+
+-- the branch that a worker runs forks, and the new parts show that
+abbrev pub ForksTo : List Item → List ℕ → ℕ → ForkData → Parts → Parts → Type 0
+ForksTo items past worker fork old new =
+    (root : Script) (w : World) → IsCourse items past root → Mirrors items old w → AreFit w → (after : World) × (happens w (ForkEvent worker) ≡ Ok after) × Mirrors items new after

@@ -2,6 +2,7 @@
 ghost use Rattle.std.specs.Prelude.{◌≡◌, ◌+◌, ◌<◌, ℕ, length};
 ghost use Rattle.merc_script.specs.Script.{Script};
 ghost use Rattle.merc_core.specs.declared.branch.Branch.{Branch as CoreBranch};
+ghost use Rattle.merc_core.specs.Forking.{past_script};
 ghost use Rattle.merc_core.specs.Standing.{IsLeft, IsNext};
 
 use crate::branch::Branch;
@@ -39,6 +40,16 @@ impl Course {
             Item::Signal(cell) => Next::Signal(*cell),
             Item::Fork(fork) => Next::Fork(fork),
             Item::End(outcome) => Next::End(*outcome),
+        }
+    }
+
+    // The place past the script that starts at a place.
+    pub(crate) fn past_script(&self, place: usize) -> usize
+        ensures { result ≡ past_script self.now.past.items place }
+    {
+        match self.past.get(place) {
+            Some(past) => *past,
+            None => place,
         }
     }
 }

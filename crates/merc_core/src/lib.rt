@@ -6,6 +6,7 @@ mod cell;
 mod course;
 mod ending;
 pub mod event;
+mod forking;
 mod join;
 pub mod laws;
 mod lists;
