@@ -3,3 +3,5 @@ pub mod CallModes
 pub mod Reaches
 pub mod Occurring
 pub mod Outside
+pub mod Found
+pub mod Joined

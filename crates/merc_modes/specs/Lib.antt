@@ -6,3 +6,4 @@ pub mod Reaches
 pub mod Occurring
 pub mod OccurringExamples
 pub mod Outside
+pub mod Complete

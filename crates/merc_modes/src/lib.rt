@@ -3,7 +3,9 @@
 
 mod bound;
 mod collecting;
+mod complete;
 mod facts;
 mod finding;
+mod joining;
 mod occurrences;
 mod simple;
