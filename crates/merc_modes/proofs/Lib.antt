@@ -5,3 +5,4 @@ pub mod Occurring
 pub mod Outside
 pub mod Found
 pub mod Joined
+pub mod Arms

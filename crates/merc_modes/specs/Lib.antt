@@ -7,3 +7,5 @@ pub mod Occurring
 pub mod OccurringExamples
 pub mod Outside
 pub mod Complete
+pub mod Arms
+pub mod ArmsExamples

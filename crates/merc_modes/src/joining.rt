@@ -51,8 +51,8 @@ pub(crate) fn conjunction_facts(
     })
 }
 
-// The facts of a goal that is complete.
-fn facts_at(facts: &[Facts], complete: Complete) -> Option<&Facts>
+/// The facts of a goal that is complete.
+pub(crate) fn facts_at(facts: &[Facts], complete: Complete) -> Option<&Facts>
     ensures { option_map (λ found. found.now) result ≡ slice_get facts.now complete.part }
 {
     facts.get(complete.part)

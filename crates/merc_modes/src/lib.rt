@@ -2,6 +2,7 @@
 #![tactic(auto)]
 
 mod bound;
+mod choosing;
 mod collecting;
 mod complete;
 mod facts;

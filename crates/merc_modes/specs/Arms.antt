@@ -1,0 +1,12 @@
+-- Which arms count.
+use Rattle.std.specs.Prelude.{ℕ, Bool, ◌||◌, not, List, if◌then◌else◌}
+use Rattle.merc_modes.specs.declared.facts.Facts.{Facts}
+use Rattle.merc_modes.specs.Bounds.{all_behind}
+
+-- An arm counts whose end can be reached, and any where there is none.
+abbrev pub counts : Bool → Bool → Bool
+counts any_reached reached = reached || not any_reached
+
+-- what an arm binds behind others, each once, if it counts
+abbrev pub bound_with : Bool → List ℕ → Facts → List ℕ
+bound_with any_reached bound arm = if counts any_reached arm.reached then all_behind bound arm.binds else bound
