@@ -1,7 +1,7 @@
 -- Which arms count, and what they bind.
-use Rattle.std.specs.Prelude.{◌≡◌, true, false, ◌∷◌, [], refl}
+use Rattle.std.specs.Prelude.{◌≡◌, true, false, ◌∷◌, [], Some, None, refl}
 use Rattle.merc_modes.specs.declared.facts.Facts.{Facts}
-use Rattle.merc_modes.specs.Arms.{counts, bound_with}
+use Rattle.merc_modes.specs.Arms.{counts, bound_with, among_all}
 use Rattle.merc_modes.specs.Outside.{occurs_outside, IsStretch}
 use Rattle.merc_modes.specs.Complete.{AreKnown}
 use Rattle.merc_goal_tree.specs.Nodes.{no_nodes}
@@ -36,3 +36,9 @@ middle = record { before = 3 ∷ []; after = 3 ∷ []; whole = refl; start_is = 
 
 nothing_known : AreKnown (λ variable. 0) (λ predicate. []) [] [] no_nodes
 nothing_known = tt
+
+bound_by_no_arms : among_all None 3 ≡ true
+bound_by_no_arms = refl
+
+not_bound_by_all : among_all (Some (4 ∷ [])) 3 ≡ false
+not_bound_by_all = refl

@@ -1,11 +1,11 @@
 //! What is known of goals to choose from.
 ghost use Rattle.std.specs.Prelude.{◌≡◌, ◌&&◌, ◌||◌, not, ℕ, List, [], IfOk, OnOk};
-ghost use Rattle.std.specs.List.{list_any};
+ghost use Rattle.std.specs.List.{filter, list_all, list_any};
 ghost use Rattle.merc_tree.specs.declared.declarations.ModeDecl.{ModeDecl};
 ghost use Rattle.merc_goal_tree.specs.Nodes.{Nodes};
 ghost use Rattle.merc_order.specs.Bound.{among};
 ghost use Rattle.merc_order.specs.Order.{any_reached, arms};
-ghost use Rattle.merc_modes.specs.Arms.{counts, bound_with};
+ghost use Rattle.merc_modes.specs.Arms.{counts, bound_with, among_all};
 ghost use Rattle.merc_modes.specs.Complete.{AreKnown};
 
 use crate::bound::BoundSet;
@@ -14,7 +14,7 @@ use crate::facts::Facts;
 use crate::finding::put_all;
 use crate::joining::facts_at;
 use merc_base::NoMemory;
-use merc_goal_tree::Vars;
+use merc_goal_tree::{Var, Vars};
 use std::alloc::Global;
 
 /// Whether the end of some arm can be reached.
@@ -58,6 +58,71 @@ pub(crate) fn bound_by_some(
     }
     set.undo(0);
     Ok(bound)
+}
+
+/// The variables that all arms bind that count, None where there are no arms: then each variable is bound. The set has
+/// no variables, before and after.
+///
+/// # Errors
+///
+/// `NoMemory` where memory was refused.
+pub(crate) fn bound_by_all(
+    alloc: Global,
+    set: &mut BoundSet,
+    facts: &[Facts],
+    joined: &[Complete],
+    any_reached: bool,
+) -> Result<Option<Vars>, NoMemory>
+    requires { set.old ≡ [] }
+    ensures bound { IfOk result (λ bound. (total : ℕ → ℕ) (modes : ℕ → List ModeDecl) (goals : Nodes) (variable : ℕ) → AreKnown total modes facts.now joined.now goals → among_all bound variable ≡ list_all (λ arm. not (counts any_reached arm.reached) || arm.binds variable) (arms total modes goals)) }
+    ensures cleared { OnOk result (set.new ≡ []) }
+{
+    let mut bound: Option<Vars> = None;
+    let mut rest = joined;
+    while let [complete, others @ ..] = rest {
+        if let Some(found) = facts_at(facts, *complete) {
+            if is_counting(any_reached, found.reached) {
+                bound = Some(bound_by_both(alloc, set, bound, found.binds.as_slice())?);
+            }
+        }
+        rest = others;
+    }
+    Ok(bound)
+}
+
+// Those of the variables that an arm binds that all arms before it bind.
+fn bound_by_both(
+    alloc: Global,
+    set: &mut BoundSet,
+    bound: Option<Vars>,
+    binds: &[Var],
+) -> Result<Vars, NoMemory>
+    requires { set.old ≡ [] }
+    ensures bound { IfOk result (λ both. (variable : ℕ) → among both variable ≡ (among_all bound variable && among binds.now variable)) }
+    ensures cleared { OnOk result (set.new ≡ []) }
+{
+    match bound {
+        Some(bound) => {
+            set.bind_all(binds)?;
+            let both = those_in(alloc, set, bound.as_slice())?;
+            set.undo(0);
+            Ok(both)
+        }
+        None => Ok(Vars::from_vec(Vec::from_slice(alloc, binds)?)),
+    }
+}
+
+// Those of the variables that are bound.
+fn those_in(alloc: Global, set: &BoundSet, variables: &[Var]) -> Result<Vars, NoMemory>
+    ensures { IfOk result (λ both. both ≡ filter (λ variable. among set.now variable) variables.now) }
+{
+    let mut both = Vars::new(alloc);
+    for variable in variables {
+        if set.is_bound(*variable) {
+            both.push(*variable)?;
+        }
+    }
+    Ok(both)
 }
 
 // Puts the variables that an arm binds behind the others, those that are not among them, if the arm counts.
