@@ -3,14 +3,14 @@ use Rattle.std.specs.Prelude.{◌≡◌, ◌||◌, ◌&&◌, not, ℕ, Bool, tru
 use Rattle.std.specs.List.{filter, list_all, list_any}
 use Rattle.std.proofs.Common.{◌∙◌, ap, sym}
 use Rattle.merc_tree.specs.declared.declarations.ModeDecl.{ModeDecl}
-use Rattle.merc_goal_tree.specs.Nodes.{Node, Nodes, no_nodes, more_nodes}
+use Rattle.merc_goal_tree.specs.Nodes.{Nodes, no_nodes, more_nodes}
 use Rattle.merc_order.specs.Bound.{among}
 use Rattle.merc_order.specs.Order.{reached, binds, any_reached, arms}
 use Rattle.merc_modes.specs.declared.facts.Facts.{Facts}
 use Rattle.merc_modes.specs.declared.complete.Complete.{Complete}
-use Rattle.merc_modes.specs.Arms.{counts, bound_with, among_all}
+use Rattle.merc_modes.specs.Arms.{counts, bound_with}
 use Rattle.merc_modes.specs.Bounds.{all_behind}
-use Rattle.merc_modes.specs.Complete.{IsKnown, AreKnown}
+use Rattle.merc_modes.specs.Complete.{AreKnown}
 use Rattle.merc_modes.proofs.Bounds.{or_assoc, or_false}
 use Rattle.merc_modes.proofs.Found.{among-all_behind, among-filter}
 

@@ -1,7 +1,7 @@
 -- Facts of goals by what was found of the goals in them.
 use Rattle.std.specs.Prelude.{◌≡◌, ◌==◌, ◌||◌, ◌&&◌, not, ℕ, Bool, true, false, List, [], ◌∷◌, ◌++◌, refl, if◌then◌else◌}
 use Rattle.std.specs.List.{filter, list_all}
-use Rattle.std.proofs.Common.{◌∙◌, ◌≢◌, ◌⊎◌, ap, sym, subst, arith, inl, inr}
+use Rattle.std.proofs.Common.{◌∙◌, ◌≢◌, ◌⊎◌, ap, sym, arith, inl, inr}
 use Rattle.std.proofs.lemmas.Bool.{cases_eq, eqb-true}
 use Rattle.std.proofs.lemmas.Bool.Decides.{nat_tests}
 use Rattle.merc_base.specs.declared.place.Span.{Span}
@@ -10,10 +10,10 @@ use Rattle.merc_goal_tree.specs.declared.goal.SimpleGoal.{SimpleGoal}
 use Rattle.merc_goal_tree.specs.Nodes.{Node, Nodes, Simple, Conjunction, Parallel, Disjunction, Conditional, Negation, Quantified, no_nodes, more_nodes}
 use Rattle.merc_goal_tree.specs.Variables.{variables, all_variables, variables_of}
 use Rattle.merc_order.specs.Bound.{Bound, among, are_bound}
-use Rattle.merc_order.specs.Order.{outside, shared, is_simple_reached, reached, binds, some_bind, binds_inside}
+use Rattle.merc_order.specs.Order.{outside, is_simple_reached, binds, some_bind}
 use Rattle.merc_modes.specs.declared.facts.Facts.{Facts}
 use Rattle.merc_modes.specs.Bounds.{behind, all_behind}
-use Rattle.merc_modes.specs.Facts.{AreFactsOf, keeps_apart}
+use Rattle.merc_modes.specs.Facts.{AreFactsOf}
 use Rattle.merc_modes.specs.Outside.{occurs_outside, IsStretch}
 use Rattle.merc_modes.proofs.Bounds.{or_assoc, or_false, among-append}
 use Rattle.merc_modes.proofs.Outside.{outside_stretch}

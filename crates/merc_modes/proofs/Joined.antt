@@ -3,13 +3,13 @@ use Rattle.std.specs.Prelude.{◌≡◌, ◌<◌, length, ◌||◌, ◌&&◌, �
 use Rattle.std.proofs.Common.{◌∙◌, ap, sym, arith}
 use Rattle.merc_base.specs.declared.place.Span.{Span}
 use Rattle.merc_tree.specs.declared.declarations.ModeDecl.{ModeDecl}
-use Rattle.merc_goal_tree.specs.Nodes.{Node, Nodes, Conjunction, Parallel, no_nodes, more_nodes}
-use Rattle.merc_order.specs.Bound.{Bound, among, are_bound}
+use Rattle.merc_goal_tree.specs.Nodes.{Nodes, Conjunction, Parallel, no_nodes, more_nodes}
+use Rattle.merc_order.specs.Bound.{among, are_bound}
 use Rattle.merc_order.specs.Order.{reached, all_reached, binds, some_bind}
 use Rattle.merc_modes.specs.declared.facts.Facts.{Facts}
 use Rattle.merc_modes.specs.declared.complete.Complete.{Complete}
 use Rattle.merc_modes.specs.Bounds.{all_behind}
-use Rattle.merc_modes.specs.Complete.{IsKnown, AreKnown}
+use Rattle.merc_modes.specs.Complete.{AreKnown}
 use Rattle.merc_modes.specs.Facts.{AreFactsOf}
 use Rattle.merc_modes.proofs.Bounds.{or_assoc, or_false}
 use Rattle.merc_modes.proofs.Found.{among-all_behind}

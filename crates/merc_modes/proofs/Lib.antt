@@ -6,3 +6,4 @@ pub mod Outside
 pub mod Found
 pub mod Joined
 pub mod Arms
+pub mod ArmLaws

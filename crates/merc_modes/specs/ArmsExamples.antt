@@ -1,7 +1,7 @@
 -- Which arms count, and what they bind.
 use Rattle.std.specs.Prelude.{◌≡◌, true, false, ◌∷◌, [], Some, None, refl}
 use Rattle.merc_modes.specs.declared.facts.Facts.{Facts}
-use Rattle.merc_modes.specs.Arms.{counts, bound_with, among_all}
+use Rattle.merc_modes.specs.Arms.{counts, bound_with, among_all, all_of, those_bound, those_owed}
 use Rattle.merc_modes.specs.Outside.{occurs_outside, IsStretch}
 use Rattle.merc_modes.specs.Complete.{AreKnown}
 use Rattle.merc_goal_tree.specs.Nodes.{no_nodes}
@@ -42,3 +42,18 @@ bound_by_no_arms = refl
 
 not_bound_by_all : among_all (Some (4 ∷ [])) 3 ≡ false
 not_bound_by_all = refl
+
+all_of_no_arms : all_of (4 ∷ []) None ≡ 4 ∷ []
+all_of_no_arms = refl
+
+bound_behind : those_bound true (4 ∷ 2 ∷ []) (2 ∷ []) ≡ 4 ∷ 2 ∷ []
+bound_behind = refl
+
+bound_behind_failing : those_bound false (4 ∷ 2 ∷ []) (2 ∷ []) ≡ 2 ∷ []
+bound_behind_failing = refl
+
+owed_by_one : those_owed true (4 ∷ 2 ∷ []) (2 ∷ []) ≡ 4 ∷ []
+owed_by_one = refl
+
+not_owed : those_owed false (4 ∷ 2 ∷ []) (2 ∷ []) ≡ []
+not_owed = refl

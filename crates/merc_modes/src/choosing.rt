@@ -112,8 +112,8 @@ fn bound_by_both(
     }
 }
 
-// Those of the variables that are bound.
-fn those_in(alloc: Global, set: &BoundSet, variables: &[Var]) -> Result<Vars, NoMemory>
+/// Those of the variables that are bound.
+pub(crate) fn those_in(alloc: Global, set: &BoundSet, variables: &[Var]) -> Result<Vars, NoMemory>
     ensures { IfOk result (λ both. both ≡ filter (λ variable. among set.now variable) variables.now) }
 {
     let mut both = Vars::new(alloc);

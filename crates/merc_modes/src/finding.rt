@@ -175,8 +175,8 @@ fn put(set: &mut BoundSet, found: &mut Vars, variable: Var) -> Result<(), NoMemo
     Ok(())
 }
 
-// Those of the variables that occur outside the stretch from one place to another.
-fn those_outside(
+/// Those of the variables that occur outside the stretch from one place to another.
+pub(crate) fn those_outside(
     alloc: Global,
     all: &Occurrences,
     start: usize,

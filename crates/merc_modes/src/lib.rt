@@ -5,6 +5,7 @@ mod bound;
 mod choosing;
 mod collecting;
 mod complete;
+mod deciding;
 mod facts;
 mod finding;
 mod joining;

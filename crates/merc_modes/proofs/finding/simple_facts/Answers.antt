@@ -1,4 +1,4 @@
-use Rattle.std.proofs.Common.{◌∙◌, [], ap}
+use Rattle.std.proofs.Common.{◌∙◌, ap}
 use Rattle.merc_goal_tree.specs.Variables.{variables_of}
 use Rattle.merc_order.specs.Procedures.{modes_of}
 use Rattle.merc_modes.specs.Bounds.{all_behind}

@@ -1,4 +1,4 @@
-use Rattle.std.proofs.Common.{◌≡◌, ◌∙◌, true, [], ap, sym, arith}
+use Rattle.std.proofs.Common.{◌≡◌, ◌∙◌, [], ap, sym, arith}
 use Rattle.merc_modes.proofs.Joined.{reached_on, bound_on, none_left, conjunction_are, parallel_are}
 use Rattle.merc_modes.proofs.joining.conjunction_facts.Goals as goal
 
