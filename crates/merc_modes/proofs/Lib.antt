@@ -10,3 +10,7 @@ pub mod Ways
 pub mod Reaches
 pub mod Occurring
 pub mod Outside
+pub mod Found
+pub mod Joined
+pub mod Arms
+pub mod ArmLaws

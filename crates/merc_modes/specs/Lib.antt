@@ -9,3 +9,6 @@ pub mod Reaches
 pub mod Occurring
 pub mod OccurringExamples
 pub mod Outside
+pub mod Complete
+pub mod Arms
+pub mod ArmsExamples

@@ -151,8 +151,8 @@ fn put_goal(set: &mut BoundSet, found: &mut Vars, goal: &SimpleGoal) -> Result<(
     }
 }
 
-// Puts those variables behind the others that are not among them. The set has the same variables.
-fn put_all(set: &mut BoundSet, found: &mut Vars, variables: &[Var]) -> Result<(), NoMemory>
+/// Puts those variables behind the others that are not among them. The set has the same variables.
+pub(crate) fn put_all(set: &mut BoundSet, found: &mut Vars, variables: &[Var]) -> Result<(), NoMemory>
     requires { set.old ≡ found.old }
     ensures same { OnOk result (set.new ≡ found.new) }
     ensures found { OnOk result (found.new ≡ all_behind found.old variables.now) }
@@ -175,8 +175,8 @@ fn put(set: &mut BoundSet, found: &mut Vars, variable: Var) -> Result<(), NoMemo
     Ok(())
 }
 
-// Those of the variables that occur outside the stretch from one place to another.
-fn those_outside(
+/// Those of the variables that occur outside the stretch from one place to another.
+pub(crate) fn those_outside(
     alloc: Global,
     all: &Occurrences,
     start: usize,

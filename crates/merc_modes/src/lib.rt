@@ -2,9 +2,13 @@
 #![tactic(auto)]
 
 mod bound;
+mod choosing;
 mod collecting;
+mod complete;
+mod deciding;
 mod facts;
 mod finding;
 mod members;
+mod joining;
 mod occurrences;
 mod simple;

@@ -1,7 +1,6 @@
-use Rattle.std.proofs.Common.{◌≡◌, ◌<◌, ◌∙◌, ◌++◌, ◌∷◌, [], suc, ap, sym, subst, length, None, arith}
+use Rattle.std.proofs.Common.{◌≡◌, ◌<◌, ◌∙◌, ◌∷◌, [], ap, sym, subst, length, None, arith}
 use Rattle.std.specs.List.{slice_index_or}
 use Rattle.std.proofs.lemmas.List.{length-append}
-use Rattle.merc_modes.specs.Reaches.{reaching}
 use Rattle.merc_modes.proofs.Reaches.{occurrence_more}
 use Rattle.merc_modes.proofs.occurrences.Occurrences.push.Goals as goal
 
