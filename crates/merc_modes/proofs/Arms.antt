@@ -78,11 +78,11 @@ module _ (total : ℕ → ℕ) (modes : ℕ → List ModeDecl) (facts : List Fac
       ap (λ f. among (some_on facts any (some_with any known f) others) variable) one.there
       ∙ some_on_is others rest any (bound_with any known one.found) variable are
       ∙ ap (λ b. b || list_any (λ arm. counts any arm.reached && arm.binds variable) (arms total modes rest))
-        (among-bound_with (counts any one.found.reached) known one.found.binds variable
-        ∙ ap (λ b. among known variable || (counts any b && among one.found.binds variable)) one.are.reached_is
-        ∙ ap (λ b. among known variable || (counts any (reached total modes first) && b)) (one.are.binds_are variable))
+      (among-bound_with (counts any one.found.reached) known one.found.binds variable
+      ∙ ap (λ b. among known variable || (counts any b && among one.found.binds variable)) one.are.reached_is
+      ∙ ap (λ b. among known variable || (counts any (reached total modes first) && b)) (one.are.binds_are variable))
       ∙ or_assoc (among known variable) (counts any (reached total modes first) && binds total modes first variable)
-        (list_any (λ arm. counts any arm.reached && arm.binds variable) (arms total modes rest))
+      (list_any (λ arm. counts any arm.reached && arm.binds variable) (arms total modes rest))
 
   pub all_on_is : (joined : List Complete) (goals : Nodes) (any : Bool) (variable : ℕ) (known : Bool) → AreKnown total modes facts joined goals
       → all_on facts any variable known joined ≡ (known && list_all (λ arm. not (counts any arm.reached) || arm.binds variable) (arms total modes goals))
@@ -95,4 +95,4 @@ module _ (total : ℕ → ℕ) (modes : ℕ → List ModeDecl) (facts : List Fac
       ∙ ap (λ b. (known && (not (counts any b) || among one.found.binds variable)) && list_all (λ arm. not (counts any arm.reached) || arm.binds variable) (arms total modes rest)) one.are.reached_is
       ∙ ap (λ b. (known && (not (counts any (reached total modes first)) || b)) && list_all (λ arm. not (counts any arm.reached) || arm.binds variable) (arms total modes rest)) (one.are.binds_are variable)
       ∙ and_assoc known (not (counts any (reached total modes first)) || binds total modes first variable)
-        (list_all (λ arm. not (counts any arm.reached) || arm.binds variable) (arms total modes rest))
+      (list_all (λ arm. not (counts any arm.reached) || arm.binds variable) (arms total modes rest))

@@ -66,11 +66,7 @@ pub(crate) fn arms_facts(
 fn one_of<'a>(holds: bool, these: &'a [Var], others: &'a [Var]) -> &'a [Var]
     ensures { result.now ≡ (if holds then these.now else others.now) }
 {
-    if holds {
-        these
-    } else {
-        others
-    }
+    if holds { these } else { others }
 }
 
 // Those of the variables that are not bound.

@@ -152,7 +152,11 @@ fn put_goal(set: &mut BoundSet, found: &mut Vars, goal: &SimpleGoal) -> Result<(
 }
 
 /// Puts those variables behind the others that are not among them. The set has the same variables.
-pub(crate) fn put_all(set: &mut BoundSet, found: &mut Vars, variables: &[Var]) -> Result<(), NoMemory>
+pub(crate) fn put_all(
+    set: &mut BoundSet,
+    found: &mut Vars,
+    variables: &[Var],
+) -> Result<(), NoMemory>
     requires { set.old ≡ found.old }
     ensures same { OnOk result (set.new ≡ found.new) }
     ensures found { OnOk result (found.new ≡ all_behind found.old variables.now) }

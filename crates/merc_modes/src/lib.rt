@@ -8,7 +8,7 @@ mod complete;
 mod deciding;
 mod facts;
 mod finding;
-mod members;
 mod joining;
+mod members;
 mod occurrences;
 mod simple;
