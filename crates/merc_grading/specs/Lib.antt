@@ -1,0 +1,6 @@
+pub mod Categories
+pub mod Known
+pub mod Grading
+pub mod CategoriesExamples
+pub mod GradingExamples
+pub mod Laws
