@@ -1,7 +1,6 @@
 -- Goals with their categories, graded again.
-use Rattle.std.specs.Prelude.{◌≡◌, ℕ, List, [], ◌∷◌, Some, refl}
+use Rattle.std.specs.Prelude.{◌≡◌, ℕ, List, ◌∷◌, Some, refl}
 use Rattle.std.proofs.Common.{◌∙◌, ap}
-use Rattle.merc_base.specs.declared.place.Span.{Span}
 use Rattle.merc_tree.specs.Types.{TypeExpr}
 use Rattle.merc_tree.specs.declared.declarations.ModeDecl.{ModeDecl}
 use Rattle.merc_tree.specs.declared.declarations.TypeDef.{TypeDef}

@@ -4,7 +4,7 @@ use Rattle.merc_base.specs.declared.category.Category.{Category}
 use Rattle.merc_base.specs.declared.category.Category.TheVariants.{Det, Semidet, Multi, Nondet, Erroneous, Failure}
 use Rattle.merc_grading.specs.Categories.{conjunction_category, disjunction_category, switch_category, conditional_category, negation_category, once}
 
-abbrev all : List Category
+abbrev pub all : List Category
 all = Det ∷ Semidet ∷ Multi ∷ Nondet ∷ Erroneous ∷ Failure ∷ []
 
 -- two goals one after the other: the first is of this category

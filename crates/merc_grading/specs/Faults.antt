@@ -6,7 +6,6 @@ use Rattle.merc_base.specs.Places.{place_of}
 use Rattle.merc_base.specs.declared.category.Category.{Category}
 use Rattle.merc_base.specs.declared.category.Category.TheVariants.{Det, Semidet, Multi, Nondet, Erroneous, Failure}
 use Rattle.merc_base.specs.declared.category.Most.{Most}
-use Rattle.merc_base.specs.declared.category.Most.TheVariants.{Zero, One, Many}
 use Rattle.merc_base.specs.declared.place.Span.{Span}
 use Rattle.merc_base.specs.declared.refusal.Detail.TheVariants.{Categories, Conjunct}
 use Rattle.merc_base.specs.declared.refusal.Refusal.{Refusal}

@@ -11,7 +11,7 @@ use Rattle.merc_graded_tree.specs.declared.basic.BasicGoal.TheVariants.{True, Fa
 use Rattle.merc_graded_tree.specs.Nodes.{Node, node, Goal, Basic, Conjunction, Disjunction, Switch, Conditional, Negation, Quantified, Nodes, no_nodes, more_nodes, Arms, no_arms, more_arms, list_of, category_of}
 use Rattle.merc_graded_tree.specs.Roots.{symbols_of, bodies_of}
 use Rattle.merc_grading.specs.Categories.{conjunction_category, disjunction_category, switch_category, conditional_category, negation_category, once}
-use Rattle.merc_grading.specs.Known.{same_symbol, symbols_of_type, are_complete, is_single, Known, known_of, known_behind, known_behind_all}
+use Rattle.merc_grading.specs.Known.{same_symbol, symbols_of_type, are_complete, is_single, Known, known_of, known_behind}
 
 -- A split where the type has one symbol alone or not, by the symbol that is known.
 abbrev pub split_category : Bool → Symbol → Option Symbol → Category

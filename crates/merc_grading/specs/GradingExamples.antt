@@ -1,5 +1,5 @@
 -- Worked examples of categories, over the types `color ---> red ; green`, `box ---> box(int)` and `int`, and a predicate with a mode of each category.
-use Rattle.std.specs.Prelude.{◌≡◌, ℕ, ◌+◌, false, ◌==◌, List, [], ◌∷◌, length, pos, Option, Some, None, refl, if◌then◌else◌}
+use Rattle.std.specs.Prelude.{◌≡◌, ℕ, ◌+◌, false, ◌==◌, List, [], ◌∷◌, pos, Some, None, refl, if◌then◌else◌}
 use Rattle.merc_base.specs.declared.category.Category.{Category}
 use Rattle.merc_base.specs.declared.category.Category.TheVariants.{Det, Semidet, Multi, Nondet, Erroneous, Failure}
 use Rattle.merc_base.specs.declared.place.Span.{Span}
