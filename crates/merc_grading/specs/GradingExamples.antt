@@ -292,6 +292,10 @@ quantified_without = refl
 never_answers : gives (with_outputs [] (Conjunction Sequential (nodes_of (call 3 ∷ basic Fail ∷ [])))) ≡ Failure
 never_answers = refl
 
+-- `q(1)` over a predicate with the mode `q(out) is multi`
+multi_and_test : gives (with_outputs [] (Conjunction Sequential (nodes_of (call 2 ∷ basic (Test n m) ∷ [])))) ≡ Semidet
+multi_and_test = refl
+
 int_switch_is_not_complete : gives (of (Switch n (more_arms one (basic True) no_arms))) ≡ Det → ⊥
 int_switch_is_not_complete wrong = cc
 
