@@ -1,2 +1,3 @@
 pub mod Folding
 pub mod Regrading
+pub mod Choosing

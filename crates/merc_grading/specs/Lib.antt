@@ -4,6 +4,7 @@ pub mod Grading
 pub mod CategoriesExamples
 pub mod GradingExamples
 pub mod Switches
+pub mod Choices
 pub mod SwitchesExamples
 pub mod Faults
 pub mod FaultsExamples
