@@ -11,12 +11,16 @@ use Rattle.merc_grading.specs.Grading as grading
 module _ (declared : List TypeDef) (modes : ℕ → List ModeDecl) (types : ℕ → TypeExpr) where
   abbrev grade : Known → Node → Node
   grade = grading.graded declared modes types
+
   abbrev grade_goal : Known → Goal → Goal
   grade_goal = grading.graded_goal declared modes types
+
   abbrev grade_all : Known → Nodes → Nodes
   grade_all = grading.graded_all declared modes types
+
   abbrev grade_each : Known → Nodes → Nodes
   grade_each = grading.graded_each declared modes types
+
   abbrev grade_arms : Known → ℕ → Arms → Arms
   grade_arms = grading.graded_arms declared modes types
 

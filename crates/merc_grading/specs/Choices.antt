@@ -1,5 +1,5 @@
 -- When a variable is the one on which a disjunction is a switch.
-use Rattle.std.specs.Prelude.{◌≡◌, ℕ, ◌≤◌, Bool, true, false, List, Some}
+use Rattle.std.specs.Prelude.{◌≡◌, ℕ, ◌≤◌, true, false, List, Some}
 use Rattle.std.specs.List.{AllByRecursion}
 use Rattle.merc_tree.specs.Types.{TypeExpr}
 use Rattle.merc_tree.specs.declared.declarations.TypeDef.{TypeDef}

@@ -6,6 +6,7 @@ pub mod GradingExamples
 pub mod Switches
 pub mod Choices
 pub mod SwitchesExamples
+pub mod ChoicesExamples
 pub mod Faults
 pub mod FaultsExamples
 pub mod Laws
