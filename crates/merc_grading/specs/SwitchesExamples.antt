@@ -177,6 +177,17 @@ red_green = both (is_red c ∷ is_green d ∷ [])
 again : found (c ∷ d ∷ []) (one_of (red_red ∷ is_green c ∷ red_green ∷ [])) ≡ on c (inner (on d red_red red_green)) (is_green c)
 again = refl
 
+-- and once more, on `N`
+abbrev red_red_with : Symbol → Node
+red_red_with number = both (is_red c ∷ is_red d ∷ basic (Split n number []) ∷ [])
+
+abbrev by_number : Goal
+by_number = Switch n (more_arms one (red_red_with one) (more_arms two (red_red_with two) no_arms))
+
+once_more : found (c ∷ d ∷ n ∷ []) (one_of (red_red_with one ∷ red_green ∷ is_green c ∷ red_red_with two ∷ []))
+    ≡ on c (inner (on d (inner by_number) red_green)) (is_green c)
+once_more = refl
+
 -- the first symbol of a variable counts
 first_symbol : found (c ∷ []) (one_of (both (is_red c ∷ is_green c ∷ []) ∷ is_green c ∷ [])) ≡ on c (both (is_red c ∷ is_green c ∷ [])) (is_green c)
 first_symbol = refl
