@@ -1,0 +1,310 @@
+-- Worked examples of categories, over the types `color ---> red ; green`, `box ---> box(int)` and `int`, and a predicate with a mode of each category.
+use Rattle.std.specs.Prelude.{◌≡◌, ℕ, ◌+◌, false, ◌==◌, List, [], ◌∷◌, pos, Some, None, refl, if◌then◌else◌}
+use Rattle.merc_base.specs.declared.category.Category.{Category}
+use Rattle.merc_base.specs.declared.category.Category.TheVariants.{Det, Semidet, Multi, Nondet, Erroneous, Failure}
+use Rattle.merc_base.specs.declared.place.Span.{Span}
+use Rattle.merc_tree.specs.Types.{TypeExpr, TypeVariable, IntType, TextType, TypeApplication, no_types}
+use Rattle.merc_tree.specs.declared.declarations.ModeDecl.{ModeDecl}
+use Rattle.merc_tree.specs.declared.declarations.TypeDef.{TypeDef}
+use Rattle.merc_goal_tree.specs.declared.goal.Comparison.TheVariants.{Less}
+use Rattle.merc_goal_tree.specs.declared.goal.Operation.TheVariants.{Add}
+use Rattle.merc_goal_tree.specs.declared.goal.Symbol.{Symbol}
+use Rattle.merc_goal_tree.specs.declared.goal.Symbol.TheVariants.{Constructor, Integer, Text}
+use Rattle.merc_graded_tree.specs.declared.basic.BasicGoal.{BasicGoal}
+use Rattle.merc_graded_tree.specs.declared.basic.BasicGoal.TheVariants.{True, Fail, Assign, Test, Build, Split, Arithmetic, Compare, Raise, Call, Wait, Signal}
+use Rattle.merc_graded_tree.specs.declared.entries.Running.TheVariants.{Sequential, Parallel}
+use Rattle.merc_graded_tree.specs.Nodes.{Node, node, Goal, Basic, Conjunction, Disjunction, Switch, Conditional, Negation, Quantified, nodes_of, no_arms, more_arms}
+use Rattle.merc_grading.specs.Known.{same_symbol, symbols_of_type, are_complete}
+use Rattle.merc_grading.specs.Grading.{category_from, graded}
+
+abbrev pub at : ℕ → Span
+at byte = record { first = byte; past = byte + 1; line = 1 }
+
+-- Names, variables and their types.
+
+abbrev pub color : ℕ
+color = 50
+
+abbrev pub red : Symbol
+red = Constructor 51 0
+
+abbrev pub green : Symbol
+green = Constructor 52 0
+
+abbrev box_type : ℕ
+box_type = 53
+
+abbrev pub box : Symbol
+box = Constructor 54 1
+
+abbrev pub one : Symbol
+one = Integer (pos 1)
+
+abbrev pub declared : List TypeDef
+declared =
+    record { name = color; params = []; constructors = record { name = 51; args = [] } ∷ record { name = 52; args = [] } ∷ []; unit = None }
+    ∷ record { name = box_type; params = []; constructors = record { name = 54; args = IntType ∷ [] } ∷ []; unit = None } ∷ []
+
+-- variables of `color`, of `box` and of `int`
+
+abbrev pub c : ℕ
+c = 0
+
+abbrev pub d : ℕ
+d = 1
+
+abbrev pub b : ℕ
+b = 2
+
+abbrev pub n : ℕ
+n = 3
+
+abbrev pub m : ℕ
+m = 4
+
+abbrev pub types : ℕ → TypeExpr
+types variable =
+    if variable == c then TypeApplication color no_types else if variable == d then TypeApplication color no_types
+    else if variable == b then TypeApplication box_type no_types else IntType
+
+abbrev mode : Category → ModeDecl
+mode category = record { args = []; category = category; span = at 0 }
+
+abbrev pub modes : ℕ → List ModeDecl
+modes predicate = mode Det ∷ mode Semidet ∷ mode Multi ∷ mode Nondet ∷ mode Erroneous ∷ mode Failure ∷ []
+
+-- Goals.
+
+abbrev pub with_outputs : List ℕ → Goal → Node
+with_outputs outputs goal = node goal outputs None (at 10)
+
+-- with an output, so that nothing is capped
+abbrev pub of : Goal → Node
+of goal = with_outputs (9 ∷ []) goal
+
+abbrev pub basic : BasicGoal → Node
+basic goal = of (Basic goal)
+
+abbrev call : ℕ → Node
+call category = basic (Call (record { predicate = 7; mode = category }) [])
+
+abbrev pub both : List Node → Node
+both goals = of (Conjunction Sequential (nodes_of goals))
+
+abbrev pub is_red : ℕ → Node
+is_red variable = basic (Split variable red [])
+
+abbrev pub is_green : ℕ → Node
+is_green variable = basic (Split variable green [])
+
+abbrev gives : Node → Category
+gives = category_from declared modes types
+
+-- Goals that hold no others.
+
+truth : gives (basic True) ≡ Det
+truth = refl
+
+failing : gives (basic Fail) ≡ Failure
+failing = refl
+
+assignment : gives (basic (Assign c d)) ≡ Det
+assignment = refl
+
+construction : gives (basic (Build c red [])) ≡ Det
+construction = refl
+
+arithmetic : gives (basic (Arithmetic Add 5 n m)) ≡ Det
+arithmetic = refl
+
+raised : gives (basic (Raise 6)) ≡ Erroneous
+raised = refl
+
+comparison : gives (basic (Compare Less n m)) ≡ Semidet
+comparison = refl
+
+test : gives (basic (Test n m)) ≡ Semidet
+test = refl
+
+waits : gives (basic (Wait n 1)) ≡ Det
+waits = refl
+
+signals : gives (basic (Signal n 1)) ≡ Det
+signals = refl
+
+calls_det : gives (call 0) ≡ Det
+calls_det = refl
+
+calls_semidet : gives (call 1) ≡ Semidet
+calls_semidet = refl
+
+calls_multi : gives (call 2) ≡ Multi
+calls_multi = refl
+
+calls_nondet : gives (call 3) ≡ Nondet
+calls_nondet = refl
+
+calls_erroneous : gives (call 4) ≡ Erroneous
+calls_erroneous = refl
+
+calls_failure : gives (call 5) ≡ Failure
+calls_failure = refl
+
+split : gives (is_red c) ≡ Semidet
+split = refl
+
+split_of_single : gives (basic (Split b box (n ∷ []))) ≡ Det
+split_of_single = refl
+
+literal : gives (basic (Split n one [])) ≡ Semidet
+literal = refl
+
+-- Symbols that are known.
+
+built_before : gives (both (basic (Build c red []) ∷ is_red c ∷ [])) ≡ Det
+built_before = refl
+
+built_other : gives (both (basic (Build c green []) ∷ is_red c ∷ [])) ≡ Failure
+built_other = refl
+
+split_before : gives (both (is_red c ∷ is_red c ∷ [])) ≡ Semidet
+split_before = refl
+
+split_other : gives (both (is_red c ∷ is_green c ∷ [])) ≡ Failure
+split_other = refl
+
+other_variable : gives (both (basic (Build c red []) ∷ is_red d ∷ [])) ≡ Semidet
+other_variable = refl
+
+literal_known : gives (both (basic (Build n one []) ∷ basic (Split n one []) ∷ [])) ≡ Det
+literal_known = refl
+
+other_literal : gives (both (basic (Build n one []) ∷ basic (Split n (Integer (pos 2)) []) ∷ [])) ≡ Failure
+other_literal = refl
+
+assigned : gives (both (basic (Build c red []) ∷ basic (Assign d c) ∷ is_red d ∷ [])) ≡ Det
+assigned = refl
+
+-- an assignment hands on what is known at it, and nothing later or back
+
+learned_later : gives (both (basic (Assign d c) ∷ is_red c ∷ is_green d ∷ [])) ≡ Semidet
+learned_later = refl
+
+learned_back : gives (both (basic (Assign d c) ∷ is_red d ∷ is_green c ∷ [])) ≡ Semidet
+learned_back = refl
+
+beside : gives (of (Conjunction (Parallel None) (nodes_of (basic (Build c red []) ∷ is_red c ∷ [])))) ≡ Det
+beside = refl
+
+out_of_conjunction : gives (both (both (basic (Build c red []) ∷ []) ∷ is_red c ∷ [])) ≡ Det
+out_of_conjunction = refl
+
+out_of_quantified : gives (both (of (Quantified (8 ∷ []) (basic (Build c red []))) ∷ is_red c ∷ [])) ≡ Det
+out_of_quantified = refl
+
+into_negation : gives (both (basic (Build c red []) ∷ of (Negation (is_red c)) ∷ [])) ≡ Failure
+into_negation = refl
+
+into_disjuncts : gives (both (basic (Build c red []) ∷ of (Disjunction (nodes_of (is_red c ∷ is_green c ∷ []))) ∷ [])) ≡ Det
+into_disjuncts = refl
+
+-- `( C = red -> C = red ; C = green )`: known in the then part, and not in the else part
+condition_then : gives (of (Conditional (is_red c) (is_red c) (basic True))) ≡ Det
+condition_then = refl
+
+condition_else : gives (of (Conditional (is_red c) (basic True) (is_green c))) ≡ Semidet
+condition_else = refl
+
+-- it leaves no disjunction, switch, negation or if-then-else
+
+out_of_disjunction : gives (both (of (Disjunction (nodes_of (basic (Build c red []) ∷ []))) ∷ is_red c ∷ [])) ≡ Semidet
+out_of_disjunction = refl
+
+out_of_switch : gives (both (of (Switch d (more_arms red (basic (Build c red [])) (more_arms green (basic (Build c red [])) no_arms))) ∷ is_red c ∷ [])) ≡ Semidet
+out_of_switch = refl
+
+out_of_negation : gives (both (of (Negation (is_red c)) ∷ is_red c ∷ [])) ≡ Semidet
+out_of_negation = refl
+
+out_of_conditional : gives (both (of (Conditional (basic True) (basic (Build c red [])) (basic (Build c red []))) ∷ is_red c ∷ [])) ≡ Semidet
+out_of_conditional = refl
+
+disjuncts_apart : gives (of (Disjunction (nodes_of (basic (Build c red []) ∷ is_red c ∷ [])))) ≡ Multi
+disjuncts_apart = refl
+
+-- Switches.
+
+abbrev on_color : Node → Node → Node
+on_color first second = of (Switch c (more_arms red first (more_arms green second no_arms)))
+
+complete : gives (on_color (is_red c) (is_green c)) ≡ Det
+complete = refl
+
+arm_can_fail : gives (on_color (is_red c) (both (is_green c ∷ is_red d ∷ []))) ≡ Semidet
+arm_can_fail = refl
+
+arm_fails : gives (on_color (is_red c) (is_red c)) ≡ Semidet
+arm_fails = refl
+
+greatest_arm : gives (on_color (call 2) (call 0)) ≡ Multi
+greatest_arm = refl
+
+lacks_green : gives (of (Switch c (more_arms red (is_red c) no_arms))) ≡ Semidet
+lacks_green = refl
+
+never_complete : gives (of (Switch n (more_arms one (basic (Split n one [])) no_arms))) ≡ Semidet
+never_complete = refl
+
+text_is_endless : are_complete (symbols_of_type declared TextType) (Text 60 ∷ []) ≡ false
+text_is_endless = refl
+
+variable_type_is_endless : are_complete (symbols_of_type declared (TypeVariable 60)) [] ≡ false
+variable_type_is_endless = refl
+
+other_arity : same_symbol (Constructor 51 0) (Constructor 51 1) ≡ false
+other_arity = refl
+
+-- The others that join goals: with their parts' categories.
+
+conjunction : gives (both (call 2 ∷ call 1 ∷ [])) ≡ Nondet
+conjunction = refl
+
+disjunction : gives (of (Disjunction (nodes_of (call 0 ∷ call 0 ∷ [])))) ≡ Multi
+disjunction = refl
+
+conditional : gives (of (Conditional (call 3) (call 0) (call 1))) ≡ Nondet
+conditional = refl
+
+negation : gives (of (Negation (call 3))) ≡ Semidet
+negation = refl
+
+quantified : gives (of (Quantified (8 ∷ []) (call 3))) ≡ Nondet
+quantified = refl
+
+-- A goal without outputs.
+
+no_outputs : gives (with_outputs [] (Disjunction (nodes_of (call 0 ∷ call 0 ∷ [])))) ≡ Det
+no_outputs = refl
+
+quantified_without : gives (with_outputs [] (Quantified (8 ∷ []) (call 3))) ≡ Semidet
+quantified_without = refl
+
+never_answers : gives (with_outputs [] (Conjunction Sequential (nodes_of (call 3 ∷ basic Fail ∷ [])))) ≡ Failure
+never_answers = refl
+
+-- `q(1)` over a predicate with the mode `q(out) is multi`
+multi_and_test : gives (with_outputs [] (Conjunction Sequential (nodes_of (call 2 ∷ basic (Test n m) ∷ [])))) ≡ Semidet
+multi_and_test = refl
+
+int_switch_is_not_complete : gives (of (Switch n (more_arms one (basic True) no_arms))) ≡ Det → ⊥
+int_switch_is_not_complete wrong = cc
+
+unseen_symbol_is_not_known : gives (is_red c) ≡ Det → ⊥
+unseen_symbol_is_not_known wrong = cc
+
+-- each part has its category
+parts : graded declared modes types [] (both (basic (Build c red []) ∷ is_red c ∷ []))
+    ≡ node (Conjunction Sequential (nodes_of (
+    node (Basic (Build c red [])) (9 ∷ []) (Some Det) (at 10)
+    ∷ node (Basic (Split c red [])) (9 ∷ []) (Some Det) (at 10) ∷ []))) (9 ∷ []) (Some Det) (at 10)
+parts = refl

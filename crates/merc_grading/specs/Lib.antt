@@ -1,0 +1,12 @@
+pub mod Categories
+pub mod Known
+pub mod Grading
+pub mod CategoriesExamples
+pub mod GradingExamples
+pub mod Switches
+pub mod Choices
+pub mod SwitchesExamples
+pub mod ChoicesExamples
+pub mod Faults
+pub mod FaultsExamples
+pub mod Laws

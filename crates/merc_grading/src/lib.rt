@@ -1,0 +1,4 @@
+//! Switches and determinism categories of ordered goals: definitions and laws.
+#![tactic(auto)]
+
+pub mod laws;
