@@ -1,0 +1,2 @@
+//! What ordered goals mean: definitions and laws.
+#![tactic(auto)]
