@@ -1,1 +1,2 @@
 pub mod DepthLaw
+pub mod Stages

@@ -4,3 +4,4 @@ pub mod ArithmeticExamples
 pub mod Trace
 pub mod Steps
 pub mod Runs
+pub mod Truth
