@@ -5,3 +5,5 @@ pub mod Trace
 pub mod Steps
 pub mod Runs
 pub mod Truth
+pub mod RunExamples
+pub mod TruthExamples
