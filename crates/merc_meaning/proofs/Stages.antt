@@ -1,5 +1,5 @@
 -- Truth by stages: yes and no stay at each later stage, and no goal is both.
-use Rattle.std.proofs.Common.{◌⊎◌, inl, inr, ℕ, zero, suc, List, Option, Some, None}
+use Rattle.std.proofs.Common.{◌≡◌, subst, arith, ◌⊎◌, inl, inr, ℕ, zero, suc, ◌+◌, List, Option, Some, None}
 use Rattle.merc_graded_tree.specs.declared.basic.BasicGoal.{BasicGoal}
 use Rattle.merc_graded_tree.specs.declared.basic.BasicGoal.TheVariants.{True, Fail, Assign, Test, Build, Split, Arithmetic, Compare, Raise, Call, Wait, Signal}
 use Rattle.merc_graded_tree.specs.declared.basic.Procedure.{Procedure}
@@ -162,11 +162,27 @@ module _ (program : Program) where
     no-call-up zero p args s h = absurd h
     no-call-up (suc k) p args s h = body-no-up (YesCall program k) (NoCall program k) (YesCall program (suc k)) (NoCall program (suc k)) (yes-call-up k) (no-call-up k) (program p) args s h
 
-  pub yes-stays : (k : ℕ) (out : Outside) (goal : Node) (s : Assignment) → YesAt program k out goal s → YesAt program (suc k) out goal s
+  yes-stays : (k : ℕ) (out : Outside) (goal : Node) (s : Assignment) → YesAt program k out goal s → YesAt program (suc k) out goal s
   yes-stays k out goal s h = yes-up _ _ _ _ (yes-call-up k) (no-call-up k) goal out s h
 
-  pub no-stays : (k : ℕ) (out : Outside) (goal : Node) (s : Assignment) → NoAt program k out goal s → NoAt program (suc k) out goal s
+  no-stays : (k : ℕ) (out : Outside) (goal : Node) (s : Assignment) → NoAt program k out goal s → NoAt program (suc k) out goal s
   no-stays k out goal s h = no-up _ _ _ _ (yes-call-up k) (no-call-up k) goal out s h
+
+  pub yes-stays-later : (k further : ℕ) (out : Outside) (goal : Node) (s : Assignment) → YesAt program k out goal s → YesAt program (further + k) out goal s
+  yes-stays-later k zero out goal s h =
+      let here : k ≡ zero + k = omega arith in
+      subst (λ (stage : ℕ). YesAt program stage out goal s) here h
+  yes-stays-later k (suc further) out goal s h =
+      let next : suc (further + k) ≡ suc further + k = omega arith in
+      subst (λ (stage : ℕ). YesAt program stage out goal s) next (yes-stays (further + k) out goal s (yes-stays-later k further out goal s h))
+
+  pub no-stays-later : (k further : ℕ) (out : Outside) (goal : Node) (s : Assignment) → NoAt program k out goal s → NoAt program (further + k) out goal s
+  no-stays-later k zero out goal s h =
+      let here : k ≡ zero + k = omega arith in
+      subst (λ (stage : ℕ). NoAt program stage out goal s) here h
+  no-stays-later k (suc further) out goal s h =
+      let next : suc (further + k) ≡ suc further + k = omega arith in
+      subst (λ (stage : ℕ). NoAt program stage out goal s) next (no-stays (further + k) out goal s (no-stays-later k further out goal s h))
 
   apart-body : (y n : Judgement) → ((p : Procedure) (args : List ℕ) (s : Assignment) → IsAssignment s → y p args s → n p args s → ⊥) → (o : Option ProcedureBody) (args : List ℕ) (s : Assignment) → YesBody y n o args s → NoBody y n o args s → ⊥
   apart-body y n a None args s h k = h

@@ -1,4 +1,5 @@
 pub mod Values
+pub mod ValuesExamples
 pub mod Arithmetic
 pub mod ArithmeticExamples
 pub mod Trace
