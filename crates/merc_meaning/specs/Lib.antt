@@ -4,6 +4,7 @@ pub mod Arithmetic
 pub mod ArithmeticExamples
 pub mod Trace
 pub mod Steps
+pub mod TraceExamples
 pub mod Runs
 pub mod Truth
 pub mod RunExamples

@@ -2,7 +2,7 @@
 use Rattle.std.specs.Prelude.{◌≡◌, ℕ, pos, List, [], ◌∷◌, Option, Some, None, slice_get, refl}
 use Rattle.merc_base.specs.Names.{division_by_zero_name}
 use Rattle.merc_base.specs.declared.category.Category.{Category}
-use Rattle.merc_base.specs.declared.category.Category.TheVariants.{Det, Semidet, Multi, Failure}
+use Rattle.merc_base.specs.declared.category.Category.TheVariants.{Semidet, Multi, Failure}
 use Rattle.merc_base.specs.declared.place.Span.{Span}
 use Rattle.merc_tree.specs.declared.declarations.Arg.TheVariants.{Input, Output}
 use Rattle.merc_value.specs.Value.{Value, Int, Text, Con, none, more}
@@ -15,7 +15,7 @@ use Rattle.merc_graded_tree.specs.declared.basic.BasicGoal.TheVariants.{True, Fa
 use Rattle.merc_graded_tree.specs.declared.basic.Procedure.{Procedure}
 use Rattle.merc_graded_tree.specs.declared.entries.Running.TheVariants.{Sequential, Parallel}
 use Rattle.merc_graded_tree.specs.Nodes.{Node, node, Goal, Basic, Conjunction, Disjunction, Switch, Conditional, Negation, Quantified, nodes_of, Arms, no_arms, more_arms}
-use Rattle.merc_meaning.specs.Trace.{Env, Run, Ends, Tick, Answer, RunDone, RunRaised, LimitPassed}
+use Rattle.merc_meaning.specs.Trace.{Run, Ends, Tick, Answer, RunDone, RunRaised, LimitPassed}
 use Rattle.merc_meaning.specs.Runs.{Program, ProcedureBody, run}
 
 abbrev nowhere : Span
@@ -218,6 +218,12 @@ twice_true = Disjunction (nodes_of (is_int x 1 ∷ raising ∷ []))
 
 cut-at_most_one : run program (graded Semidet twice_true (x ∷ [])) 10 ≡ Answer (int 1 ∷ []) done
 cut-at_most_one = refl
+
+cut-failure : run program (graded Failure twice_true (x ∷ [])) 10 ≡ Answer (int 1 ∷ []) done
+cut-failure = refl
+
+cut-no_category : run program (goal twice_true []) 10 ≡ Answer (int 1 ∷ []) done
+cut-no_category = refl
 
 cut-no_outputs : run program (graded Multi twice_true []) 10 ≡ Answer (int 1 ∷ []) done
 cut-no_outputs = refl

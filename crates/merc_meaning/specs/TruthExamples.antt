@@ -6,7 +6,8 @@ use Rattle.merc_tree.specs.declared.declarations.Arg.TheVariants.{Input}
 use Rattle.merc_value.specs.Value.{Value, Text}
 use Rattle.merc_goal_tree.specs.declared.goal.Symbol.TheVariants.{Text as TextSymbol}
 use Rattle.merc_graded_tree.specs.declared.basic.BasicGoal.TheVariants.{True, Fail, Build, Raise, Call}
-use Rattle.merc_graded_tree.specs.Nodes.{Node, Goal, Basic, Conjunction, Disjunction, Conditional, Negation, nodes_of}
+use Rattle.merc_graded_tree.specs.declared.entries.Running.TheVariants.{Sequential}
+use Rattle.merc_graded_tree.specs.Nodes.{Node, Goal, Basic, Conjunction, Disjunction, Switch, Conditional, Negation, Quantified, nodes_of, no_arms, more_arms}
 use Rattle.merc_meaning.specs.Runs.{Program, ProcedureBody}
 use Rattle.merc_meaning.specs.Truth.{Assignment, IsAssignment, Outside, YesAt, NoAt}
 use Rattle.merc_meaning.specs.RunExamples.{goal, graded, basic, procedure}
@@ -66,10 +67,49 @@ no_solution-not_yes yes_at = yes_at.0 refl
 raise-no : NoAt program 0 all (basic (Raise x) []) (texts 7)
 raise-no = inr (λ others are agree. tt)
 
+seven : (outside : Outside) → YesAt program 0 outside (is 7) (texts 7)
+seven outside = ((λ h. h), (texts 7, texts-are_values 7, (λ variable is_outside. refl), refl))
+
 -- a negation exchanges yes and no
 
 negation-yes : YesAt program 0 all (goal (Negation (is 8)) []) (texts 7)
 negation-yes = ((λ h. h), (texts 7, texts-are_values 7, (λ variable outside. refl), unification-no))
+
+-- its own variables are "there is" inside it
+negation-own : NoAt program 0 nothing (goal (Negation (is 8)) []) (texts 7)
+negation-own = inr (λ others are agree. ((λ h. h), (texts 8, texts-are_values 8, (λ variable outside. absurd cc), refl)))
+
+quantified-yes : YesAt program 0 nothing (goal (Quantified (x ∷ []) (is 8)) []) (texts 7)
+quantified-yes = ((λ h. h), (texts 8, texts-are_values 8, (λ variable outside. absurd cc), ((λ h. h), (texts 8, texts-are_values 8, (λ variable outside. absurd cc), refl))))
+
+-- all members of a conjunction are yes, or one is no; they share their variables
+
+abbrev both : ℕ → ℕ → Node
+both text other = goal (Conjunction Sequential (nodes_of (is text ∷ is other ∷ []))) []
+
+conjunction-yes : YesAt program 0 all (both 7 7) (texts 7)
+conjunction-yes = ((λ h. h), (texts 7, texts-are_values 7, (λ variable outside. refl), (seven _, (seven _, tt))))
+
+conjunction-no : NoAt program 0 all (both 7 8) (texts 7)
+conjunction-no = inr (λ others are agree. inr (inl (inr (λ own are_own same_outside equal. let outer = agree x refl in let here = same_outside x refl in cc))))
+
+conjunction-shares : YesAt program 0 nothing (both 7 8) (texts 7) → ⊥
+conjunction-shares yes_at =
+    let first = yes_at.1.3.0.1 in
+    let second = yes_at.1.3.1.0.1 in
+    let here : first.0 x ≡ yes_at.1.0 x = first.2 x refl in
+    let there : second.0 x ≡ yes_at.1.0 x = second.2 x refl in
+    let is_first : first.0 x ≡ Text 7 = first.3 in
+    let is_second : second.0 x ≡ Text 8 = second.3 in
+    absurd cc
+
+-- a switch is as its arms are
+
+switch-yes : YesAt program 0 all (goal (Switch x (more_arms (TextSymbol 8) (is 8) (more_arms (TextSymbol 7) (is 7) no_arms))) []) (texts 7)
+switch-yes = ((λ h. h), (texts 7, texts-are_values 7, (λ variable outside. refl), inr (inl (seven _))))
+
+switch-no : NoAt program 0 all (goal (Switch x (more_arms (TextSymbol 8) (is 8) no_arms)) []) (texts 7)
+switch-no = inr (λ others are agree. (inr (λ own are_own same_outside equal. let outer = agree x refl in let here = same_outside x refl in cc), tt))
 
 -- one arm that is yes is enough
 
@@ -77,9 +117,6 @@ disjunction-yes : YesAt program 0 all (goal (Disjunction (nodes_of (is 8 ∷ is 
 disjunction-yes = ((λ h. h), (texts 7, texts-are_values 7, (λ variable outside. refl), inr (inl unification-yes)))
 
 -- the else part, where the condition has no solution
-
-seven : (outside : Outside) → YesAt program 0 outside (is 7) (texts 7)
-seven outside = ((λ h. h), (texts 7, texts-are_values 7, (λ variable is_outside. refl), refl))
 
 conditional-yes : YesAt program 0 all (goal (Conditional (is 8) (basic Fail []) (is 7)) []) (texts 7)
 conditional-yes =
