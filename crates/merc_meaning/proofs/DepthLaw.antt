@@ -8,7 +8,7 @@ use Rattle.merc_graded_tree.specs.Nodes.{Node, node, Goal, Basic, Conjunction, D
 use Rattle.merc_meaning.specs.Values.{fields}
 use Rattle.merc_meaning.specs.Trace.{Env, Trace, End, Ends, Tick, Answer, Done, Raised, TooDeep, after, each, taken_back, first_alone, choose, negated, cut}
 use Rattle.merc_meaning.specs.Steps.{value_at, entered, brought_back}
-use Rattle.merc_meaning.specs.Runs.{Program, ProcedureBody, is_left, answered, called, where_some, basic_trace, goal_trace, node_trace, all_trace, any_trace, arms_trace, body_trace, call_trace, run}
+use Rattle.merc_meaning.specs.Runs.{Program, ProcedureBody, answers_once, once_if, called, where_some, basic_trace, goal_trace, node_trace, all_trace, any_trace, arms_trace, body_trace, call_trace, run}
 
 -- two traces that are the same up to a limit of steps
 pub data Alike : ℕ → Trace → Trace → Type 0 where
@@ -79,9 +79,9 @@ first-alike stops = stops
 first-alike (ticks h) = ticks (first-alike h)
 first-alike (answers h) = answers ends
 
-answered-alike : {limit : ℕ} {l r : Trace} (is_left : Bool) → Alike limit l r → Alike limit (answered is_left l) (answered is_left r)
-answered-alike true h = first-alike h
-answered-alike false h = h
+once-alike : {limit : ℕ} {l r : Trace} (answers_once : Bool) → Alike limit l r → Alike limit (once_if answers_once l) (once_if answers_once r)
+once-alike true h = first-alike h
+once-alike false h = h
 
 where-alike : {limit : ℕ} {l r u w : Trace} (o : Option Values) → Alike limit l r → Alike limit u w → Alike limit (where_some o l u) (where_some o r w)
 where-alike None h k = k
@@ -117,7 +117,7 @@ module _ (program : Program) (limit : ℕ) (call other : Procedure → Env → T
     goal-alike (Quantified own n) env = node-alike n env
 
     node-alike : (n : Node) (env : Env) → Alike limit (node_trace program call n env) (node_trace program other n env)
-    node-alike (node g outputs category span) env = answered-alike (is_left outputs category) (goal-alike g env)
+    node-alike (node g outputs category span) env = once-alike (answers_once outputs category) (goal-alike g env)
 
     all-alike : (ns : Nodes) (env : Env) → Alike limit (all_trace program call ns env) (all_trace program other ns env)
     all-alike no_nodes env = alike-self limit _

@@ -5,7 +5,7 @@ use Rattle.merc_base.specs.declared.category.Category.{Category}
 use Rattle.merc_base.specs.declared.category.Category.TheVariants.{Semidet, Multi, Failure}
 use Rattle.merc_base.specs.declared.place.Span.{Span}
 use Rattle.merc_tree.specs.declared.declarations.Arg.TheVariants.{Input, Output}
-use Rattle.merc_value.specs.Value.{Value, Int, Text, Con, none, more}
+use Rattle.merc_value.specs.Value.{Value, Int, Con, none, more}
 use Rattle.merc_goal_tree.specs.declared.goal.Comparison.TheVariants.{Less}
 use Rattle.merc_goal_tree.specs.declared.goal.Operation.TheVariants.{Add, Quotient}
 use Rattle.merc_goal_tree.specs.declared.goal.Symbol.{Symbol}

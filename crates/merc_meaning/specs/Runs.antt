@@ -31,14 +31,14 @@ is_at_most_one One = true
 is_at_most_one Many = false
 
 -- A goal without outputs, or with at most one solution by its category, is not entered again after it answered.
-abbrev pub is_left : List ℕ → Option Category → Bool
-is_left [] category = true
-is_left (output ∷ outputs) None = false
-is_left (output ∷ outputs) (Some category) = is_at_most_one (most_of category)
+abbrev pub answers_once : List ℕ → Option Category → Bool
+answers_once [] category = true
+answers_once (output ∷ outputs) None = false
+answers_once (output ∷ outputs) (Some category) = is_at_most_one (most_of category)
 
-abbrev pub answered : Bool → Trace → Trace
-answered false trace = trace
-answered true trace = first_alone trace
+abbrev pub once_if : Bool → Trace → Trace
+once_if false trace = trace
+once_if true trace = first_alone trace
 
 -- a call of a procedure that is there; one that is not there fails
 abbrev pub called : (Env → Trace) → Option ProcedureBody → List ℕ → Env → Trace
@@ -83,7 +83,7 @@ module _ (program : Program) (call : Procedure → Env → Trace) where
     goal_trace (Quantified own goal) env = node_trace goal env
 
     pub node_trace : Node → Env → Trace
-    node_trace (node goal outputs category span) env = answered (is_left outputs category) (goal_trace goal env)
+    node_trace (node goal outputs category span) env = once_if (answers_once outputs category) (goal_trace goal env)
 
     -- each answer of the first goal is replaced by the trace of the others
     pub all_trace : Nodes → Env → Trace

@@ -5,7 +5,7 @@ use Rattle.merc_tree.specs.declared.declarations.Arg.{Arg}
 use Rattle.merc_tree.specs.declared.declarations.Arg.TheVariants.{Input, Output}
 use Rattle.merc_goal_tree.specs.declared.goal.Operation.{Operation}
 use Rattle.merc_goal_tree.specs.declared.goal.Symbol.{Symbol}
-use Rattle.merc_value.specs.Value.{Value, Int, Text, Con, Values, none, more}
+use Rattle.merc_value.specs.Value.{Value, Int, Text, Values, none, more}
 use Rattle.merc_meaning.specs.Values.{made, fields}
 use Rattle.merc_meaning.specs.Arithmetic.{Result, Gives, ZeroDivisor, arithmetic}
 use Rattle.merc_meaning.specs.Trace.{Env, Trace, Ends, Done, Raised, one_answer}

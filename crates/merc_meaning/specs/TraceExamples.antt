@@ -1,9 +1,9 @@
 -- Worked examples of traces, and of what one step does.
-use Rattle.std.specs.Prelude.{◌≡◌, ℕ, pos, List, [], ◌∷◌, Option, Some, None, true, false, refl}
+use Rattle.std.specs.Prelude.{◌≡◌, ℕ, pos, [], ◌∷◌, Option, Some, None, refl}
 use Rattle.merc_tree.specs.declared.declarations.Arg.TheVariants.{Input, Output}
 use Rattle.merc_goal_tree.specs.declared.goal.Operation.TheVariants.{Add}
 use Rattle.merc_goal_tree.specs.declared.goal.Symbol.TheVariants.{Constructor}
-use Rattle.merc_value.specs.Value.{Value, Int, Text, Con, Values, none, more}
+use Rattle.merc_value.specs.Value.{Value, Int, Text, none, more}
 use Rattle.merc_meaning.specs.Trace.{Env, Trace, Ends, Tick, Answer, Done, Raised, TooDeep, RunDone, RunRaised, LimitPassed, one_answer, after, each, taken_back, first_alone, choose, negated, cut}
 use Rattle.merc_meaning.specs.Steps.{value_at, bound, values_at, filled, split, operated, raised, entered, brought_back}
 

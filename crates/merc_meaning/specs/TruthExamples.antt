@@ -1,13 +1,13 @@
 -- Worked examples of truth by stages. `is(in)` is true of the text 7, `loop` calls itself; every variable has the text 7.
-use Rattle.std.specs.Prelude.{◌≡◌, ℕ, true, false, List, [], ◌∷◌, Option, Some, None, slice_get, refl}
+use Rattle.std.specs.Prelude.{◌≡◌, ℕ, true, false, [], ◌∷◌, slice_get, refl}
 use Rattle.std.proofs.Common.{inl, inr}
 use Rattle.merc_base.specs.declared.category.Category.TheVariants.{Failure}
 use Rattle.merc_tree.specs.declared.declarations.Arg.TheVariants.{Input}
-use Rattle.merc_value.specs.Value.{Value, Text}
+use Rattle.merc_value.specs.Value.{Text}
 use Rattle.merc_goal_tree.specs.declared.goal.Symbol.TheVariants.{Text as TextSymbol}
 use Rattle.merc_graded_tree.specs.declared.basic.BasicGoal.TheVariants.{True, Fail, Build, Raise, Call}
 use Rattle.merc_graded_tree.specs.declared.entries.Running.TheVariants.{Sequential}
-use Rattle.merc_graded_tree.specs.Nodes.{Node, Goal, Basic, Conjunction, Disjunction, Switch, Conditional, Negation, Quantified, nodes_of, no_arms, more_arms}
+use Rattle.merc_graded_tree.specs.Nodes.{Node, Basic, Conjunction, Disjunction, Switch, Conditional, Negation, Quantified, nodes_of, no_arms, more_arms}
 use Rattle.merc_meaning.specs.Runs.{Program, ProcedureBody}
 use Rattle.merc_meaning.specs.Truth.{Assignment, IsAssignment, Outside, YesAt, NoAt}
 use Rattle.merc_meaning.specs.RunExamples.{goal, graded, basic, procedure}

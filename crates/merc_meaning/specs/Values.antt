@@ -1,5 +1,5 @@
 -- Values as goals build, split and compare them.
-use Rattle.std.specs.Prelude.{ℕ, zero, suc, ℤ, Bool, true, false, ◌==◌, ◌&&◌, if◌then◌else◌, Option, Some, None}
+use Rattle.std.specs.Prelude.{ℕ, zero, suc, Bool, true, false, ◌==◌, ◌&&◌, if◌then◌else◌, Option, Some, None}
 use Rattle.std.specs.Ordering.{int_eq}
 use Rattle.merc_value.specs.Value.{Value, Int, Text, Con, Values, none, more}
 use Rattle.merc_goal_tree.specs.declared.goal.Symbol.{Symbol}

@@ -1,6 +1,6 @@
 -- Worked examples of values and their symbols.
-use Rattle.std.specs.Prelude.{◌≡◌, ℕ, pos, negsuc, true, false, Some, None, refl}
-use Rattle.merc_value.specs.Value.{Value, Int, Text, Con, Values, none, more}
+use Rattle.std.specs.Prelude.{◌≡◌, pos, negsuc, true, false, Some, None, refl}
+use Rattle.merc_value.specs.Value.{Int, Text, Con, Values, none, more}
 use Rattle.merc_goal_tree.specs.declared.goal.Symbol.TheVariants.{Constructor, Integer, Text as TextSymbol}
 use Rattle.merc_meaning.specs.Values.{count, made, fields, same}
 
