@@ -1,0 +1,3 @@
+pub mod DepthLaw
+pub mod Stages
+pub mod ValueLaws

@@ -1,0 +1,11 @@
+pub mod Values
+pub mod ValuesExamples
+pub mod Arithmetic
+pub mod ArithmeticExamples
+pub mod Trace
+pub mod Steps
+pub mod TraceExamples
+pub mod Runs
+pub mod Truth
+pub mod RunExamples
+pub mod TruthExamples

@@ -1,0 +1,4 @@
+//! What ordered goals mean: definitions and laws.
+#![tactic(auto)]
+
+pub mod laws;
