@@ -1,9 +1,12 @@
 //! Laws of what ordered goals mean.
-ghost use Rattle.std.specs.Prelude.{◌≡◌, ◌<◌, ◌+◌, ℕ, []};
+ghost use Rattle.std.specs.Prelude.{◌≡◌, ◌<◌, ◌+◌, ℕ, ℤ, FitsSigned, []};
 ghost use Rattle.std.specs.Bool.{Decides};
+ghost use Rattle.std.specs.Int.{w64};
+ghost use Rattle.merc_goal_tree.specs.declared.goal.Operation.{Operation};
 ghost use Rattle.merc_graded_tree.specs.Nodes.{Node};
 ghost use Rattle.merc_value.specs.Value.{Value};
 ghost use Rattle.merc_meaning.specs.Values.{same};
+ghost use Rattle.merc_meaning.specs.Arithmetic.{arithmetic, Gives};
 ghost use Rattle.merc_meaning.specs.Trace.{cut};
 ghost use Rattle.merc_meaning.specs.Runs.{Program, run, node_trace, call_trace};
 ghost use Rattle.merc_meaning.specs.Truth.{Assignment, IsAssignment, Outside, YesAt, NoAt};
@@ -11,6 +14,11 @@ ghost use Rattle.merc_meaning.specs.Truth.{Assignment, IsAssignment, Outside, Ye
 /// Values are told apart.
 pub fn values_are_told_apart()
     ensures { (one other : Value) → Decides (same one other) (one ≡ other) }
+{}
+
+/// What arithmetic gives is an integer of 64 bits.
+pub fn arithmetic_gives_integers()
+    ensures { (operation : Operation) (left right number : ℤ) → arithmetic operation left right ≡ Gives number → FitsSigned w64 number }
 {}
 
 /// A run is the goal's trace at each depth of calls that is greater than the limit, up to the limit of steps.
