@@ -9,7 +9,7 @@ ghost use Rattle.merc_meaning.specs.Values.{same};
 ghost use Rattle.merc_meaning.specs.Arithmetic.{arithmetic, Gives};
 ghost use Rattle.merc_meaning.specs.Trace.{cut};
 ghost use Rattle.merc_meaning.specs.Runs.{Program, run, node_trace, call_trace};
-ghost use Rattle.merc_meaning.specs.Truth.{Assignment, IsAssignment, Outside, YesAt, NoAt};
+ghost use Rattle.merc_meaning.specs.Truth.{Assignment, Outside, YesAt, NoAt};
 
 /// Values are told apart.
 pub fn values_are_told_apart()
@@ -28,7 +28,7 @@ pub fn run_at_any_depth()
 
 /// No goal is both yes and no at a stage, and what it is it stays at each later stage.
 pub fn truth_by_stages()
-    ensures apart { (program : Program) (stage : ℕ) (outside : Outside) (goal : Node) (values : Assignment) → IsAssignment values → YesAt program stage outside goal values → NoAt program stage outside goal values → ⊥ }
+    ensures apart { (program : Program) (stage : ℕ) (outside : Outside) (goal : Node) (values : Assignment) → YesAt program stage outside goal values → NoAt program stage outside goal values → ⊥ }
     ensures yes_stays { (program : Program) (stage further : ℕ) (outside : Outside) (goal : Node) (values : Assignment) → YesAt program stage outside goal values → YesAt program (further + stage) outside goal values }
     ensures no_stays { (program : Program) (stage further : ℕ) (outside : Outside) (goal : Node) (values : Assignment) → NoAt program stage outside goal values → NoAt program (further + stage) outside goal values }
 {}
