@@ -1,3 +1,4 @@
 pub mod DepthLaw
 pub mod Stages
 pub mod ValueLaws
+pub mod ArithmeticLaws

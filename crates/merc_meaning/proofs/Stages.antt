@@ -5,7 +5,7 @@ use Rattle.merc_graded_tree.specs.declared.basic.BasicGoal.TheVariants.{True, Fa
 use Rattle.merc_graded_tree.specs.declared.basic.Procedure.{Procedure}
 use Rattle.merc_graded_tree.specs.Nodes.{Node, node, Goal, Basic, Conjunction, Disjunction, Switch, Conditional, Negation, Quantified, Nodes, no_nodes, more_nodes, Arms, no_arms, more_arms}
 use Rattle.merc_meaning.specs.Runs.{Program, ProcedureBody}
-use Rattle.merc_meaning.specs.Truth.{Assignment, IsAssignment, Outside, Judgement, Yes, No, YesBasic, NoBasic, YesGoal, NoGoal, YesAll, YesAny, NoAll, NoAny, YesArm, NoArms, YesBody, NoBody, YesCall, NoCall, YesAt, NoAt}
+use Rattle.merc_meaning.specs.Truth.{Assignment, Outside, Judgement, Yes, No, YesBasic, NoBasic, YesGoal, NoGoal, YesAll, YesAny, NoAll, NoAny, YesArm, NoArms, YesBody, NoBody, YesCall, NoCall, YesAt, NoAt}
 
 either-to : {A B C D : Type 0} → (A → C) → (B → D) → A ⊎ B → C ⊎ D
 either-to f g (inl a) = inl (f a)
@@ -97,50 +97,50 @@ module _ (y n y' n' : Judgement) (up-yes : (p : Procedure) (args : List ℕ) (s 
     no-arms-up (more_arms t goal arms) out s h = (no-up goal _ s h.0, no-arms-up arms _ s h.1)
 
 -- Given are judgements of calls that are never both.
-module _ (y n : Judgement) (apart-calls : (p : Procedure) (args : List ℕ) (s : Assignment) → IsAssignment s → y p args s → n p args s → ⊥) where
-  not-both-basic : (g : BasicGoal) (s : Assignment) → IsAssignment s → YesBasic y n g s → NoBasic y n g s → ⊥
-  not-both-basic True s v h k = k
-  not-both-basic Fail s v h k = h
-  not-both-basic (Assign a b) s v h k = k h
-  not-both-basic (Test a b) s v h k = k h
-  not-both-basic (Build a b c) s v h k = k h
-  not-both-basic (Split a b c) s v h k = k h
-  not-both-basic (Arithmetic a b c d) s v h k = k h
-  not-both-basic (Compare a b c) s v h k = k h
-  not-both-basic (Raise a) s v h k = h
-  not-both-basic (Call p args) s v h k = apart-calls p args s v h k
-  not-both-basic (Wait a b) s v h k = k
-  not-both-basic (Signal a b) s v h k = k
+module _ (y n : Judgement) (apart-calls : (p : Procedure) (args : List ℕ) (s : Assignment) → y p args s → n p args s → ⊥) where
+  not-both-basic : (g : BasicGoal) (s : Assignment) → YesBasic y n g s → NoBasic y n g s → ⊥
+  not-both-basic True s h k = k
+  not-both-basic Fail s h k = h
+  not-both-basic (Assign a b) s h k = k h
+  not-both-basic (Test a b) s h k = k h
+  not-both-basic (Build a b c) s h k = k h
+  not-both-basic (Split a b c) s h k = k h
+  not-both-basic (Arithmetic a b c d) s h k = k h
+  not-both-basic (Compare a b c) s h k = k h
+  not-both-basic (Raise a) s h k = h
+  not-both-basic (Call p args) s h k = apart-calls p args s h k
+  not-both-basic (Wait a b) s h k = k
+  not-both-basic (Signal a b) s h k = k
 
   mutual
-    not-both : (goal : Node) (out : Outside) (s : Assignment) → IsAssignment s → Yes y n out goal s → No y n out goal s → ⊥
-    not-both (node g outs cat span) out s v h (inl k) = h.0 k
-    not-both (node g outs cat span) out s v h (inr k) = not-both-goal g out h.1.0 h.1.1 h.1.3 (k h.1.0 h.1.1 h.1.2)
+    not-both : (goal : Node) (out : Outside) (s : Assignment) → Yes y n out goal s → No y n out goal s → ⊥
+    not-both (node g outs cat span) out s h (inl k) = h.0 k
+    not-both (node g outs cat span) out s h (inr k) = not-both-goal g out h.1.0 h.1.3 (k h.1.0 h.1.1 h.1.2)
 
-    not-both-goal : (g : Goal) (out : Outside) (s : Assignment) → IsAssignment s → YesGoal y n out g s → NoGoal y n out g s → ⊥
-    not-both-goal (Basic g) out s v h k = not-both-basic g s v h k
-    not-both-goal (Conjunction running ns) out s v h k = all-not-any ns out s v h k
-    not-both-goal (Disjunction ns) out s v h k = any-not-all ns out s v h k
-    not-both-goal (Switch x arms) out s v h k = arm-not-all arms _ s v h k
-    not-both-goal (Conditional c t e) out s v (inl h) k = elim k.0 as (λ _. ⊥) [ inl m ↦ not-both c _ s v h.0 m | inr m ↦ not-both t _ s v h.1 m ]
-    not-both-goal (Conditional c t e) out s v (inr h) k = elim k.1 as (λ _. ⊥) [ inl m ↦ not-both e _ s v h.0 m | inr m ↦ not-both c _ s v m h.1 ]
-    not-both-goal (Negation goal) out s v h k = not-both goal out s v k h
-    not-both-goal (Quantified xs goal) out s v h k = not-both goal out s v h k
+    not-both-goal : (g : Goal) (out : Outside) (s : Assignment) → YesGoal y n out g s → NoGoal y n out g s → ⊥
+    not-both-goal (Basic g) out s h k = not-both-basic g s h k
+    not-both-goal (Conjunction running ns) out s h k = all-not-any ns out s h k
+    not-both-goal (Disjunction ns) out s h k = any-not-all ns out s h k
+    not-both-goal (Switch x arms) out s h k = arm-not-all arms _ s h k
+    not-both-goal (Conditional c t e) out s (inl h) k = elim k.0 as (λ _. ⊥) [ inl m ↦ not-both c _ s h.0 m | inr m ↦ not-both t _ s h.1 m ]
+    not-both-goal (Conditional c t e) out s (inr h) k = elim k.1 as (λ _. ⊥) [ inl m ↦ not-both e _ s h.0 m | inr m ↦ not-both c _ s m h.1 ]
+    not-both-goal (Negation goal) out s h k = not-both goal out s k h
+    not-both-goal (Quantified xs goal) out s h k = not-both goal out s h k
 
-    all-not-any : (ns : Nodes) (out : Outside) (s : Assignment) → IsAssignment s → YesAll y n out ns s → NoAny y n out ns s → ⊥
-    all-not-any no_nodes out s v h k = k
-    all-not-any (more_nodes goal ns) out s v h (inl k) = not-both goal _ s v h.0 k
-    all-not-any (more_nodes goal ns) out s v h (inr k) = all-not-any ns _ s v h.1 k
+    all-not-any : (ns : Nodes) (out : Outside) (s : Assignment) → YesAll y n out ns s → NoAny y n out ns s → ⊥
+    all-not-any no_nodes out s h k = k
+    all-not-any (more_nodes goal ns) out s h (inl k) = not-both goal _ s h.0 k
+    all-not-any (more_nodes goal ns) out s h (inr k) = all-not-any ns _ s h.1 k
 
-    any-not-all : (ns : Nodes) (out : Outside) (s : Assignment) → IsAssignment s → YesAny y n out ns s → NoAll y n out ns s → ⊥
-    any-not-all no_nodes out s v h k = h
-    any-not-all (more_nodes goal ns) out s v (inl h) k = not-both goal _ s v h k.0
-    any-not-all (more_nodes goal ns) out s v (inr h) k = any-not-all ns _ s v h k.1
+    any-not-all : (ns : Nodes) (out : Outside) (s : Assignment) → YesAny y n out ns s → NoAll y n out ns s → ⊥
+    any-not-all no_nodes out s h k = h
+    any-not-all (more_nodes goal ns) out s (inl h) k = not-both goal _ s h k.0
+    any-not-all (more_nodes goal ns) out s (inr h) k = any-not-all ns _ s h k.1
 
-    arm-not-all : (arms : Arms) (out : Outside) (s : Assignment) → IsAssignment s → YesArm y n out arms s → NoArms y n out arms s → ⊥
-    arm-not-all no_arms out s v h k = h
-    arm-not-all (more_arms t goal arms) out s v (inl h) k = not-both goal _ s v h k.0
-    arm-not-all (more_arms t goal arms) out s v (inr h) k = arm-not-all arms _ s v h k.1
+    arm-not-all : (arms : Arms) (out : Outside) (s : Assignment) → YesArm y n out arms s → NoArms y n out arms s → ⊥
+    arm-not-all no_arms out s h k = h
+    arm-not-all (more_arms t goal arms) out s (inl h) k = not-both goal _ s h k.0
+    arm-not-all (more_arms t goal arms) out s (inr h) k = arm-not-all arms _ s h k.1
 
 module _ (program : Program) where
   body-yes-up : (y n y' n' : Judgement) → ((p : Procedure) (args : List ℕ) (s : Assignment) → y p args s → y' p args s) → ((p : Procedure) (args : List ℕ) (s : Assignment) → n p args s → n' p args s)
@@ -184,13 +184,13 @@ module _ (program : Program) where
       let next : suc (further + k) ≡ suc further + k = omega arith in
       subst (λ (stage : ℕ). NoAt program stage out goal s) next (no-stays (further + k) out goal s (no-stays-later k further out goal s h))
 
-  apart-body : (y n : Judgement) → ((p : Procedure) (args : List ℕ) (s : Assignment) → IsAssignment s → y p args s → n p args s → ⊥) → (o : Option ProcedureBody) (args : List ℕ) (s : Assignment) → YesBody y n o args s → NoBody y n o args s → ⊥
+  apart-body : (y n : Judgement) → ((p : Procedure) (args : List ℕ) (s : Assignment) → y p args s → n p args s → ⊥) → (o : Option ProcedureBody) (args : List ℕ) (s : Assignment) → YesBody y n o args s → NoBody y n o args s → ⊥
   apart-body y n a None args s h k = h
-  apart-body y n a (Some p) args s h k = not-both y n a p.body _ h.0 h.1 h.3 (k h.0 h.1 h.2)
+  apart-body y n a (Some p) args s h k = not-both y n a p.body _ h.0 h.3 (k h.0 h.1 h.2)
 
-  apart-at : (k : ℕ) (p : Procedure) (args : List ℕ) (s : Assignment) → IsAssignment s → YesCall program k p args s → NoCall program k p args s → ⊥
-  apart-at zero p args s v h m = h
-  apart-at (suc k) p args s v h m = apart-body (YesCall program k) (NoCall program k) (apart-at k) (program p) args s h m
+  apart-at : (k : ℕ) (p : Procedure) (args : List ℕ) (s : Assignment) → YesCall program k p args s → NoCall program k p args s → ⊥
+  apart-at zero p args s h m = h
+  apart-at (suc k) p args s h m = apart-body (YesCall program k) (NoCall program k) (apart-at k) (program p) args s h m
 
-  pub apart : (k : ℕ) (out : Outside) (goal : Node) (s : Assignment) → IsAssignment s → YesAt program k out goal s → NoAt program k out goal s → ⊥
-  apart k out goal s v h m = not-both (YesCall program k) (NoCall program k) (apart-at k) goal out s v h m
+  pub apart : (k : ℕ) (out : Outside) (goal : Node) (s : Assignment) → YesAt program k out goal s → NoAt program k out goal s → ⊥
+  apart k out goal s h m = not-both (YesCall program k) (NoCall program k) (apart-at k) goal out s h m

@@ -1,6 +1,6 @@
 -- Arithmetic and comparisons of integers.
-use Rattle.std.specs.Prelude.{ℤ, pos, ◌-ℤ◌, ◌*ℤ◌, int_div, int_rem, int_lt, int_le, Bool, true, false, not, ◌&&◌, if◌then◌else◌, Option, Some, None}
-use Rattle.std.specs.Int.{w64, cast_signed, cast_unsigned, int_wrapping_add, int_wrapping_sub, int_wrapping_mul, is_negative}
+use Rattle.std.specs.Prelude.{ℕ, ◌^◌, ℤ, pos, unsigned_abs, ◌+ℤ◌, ◌-ℤ◌, ◌*ℤ◌, int_div, int_rem, int_lt, int_le, Bool, true, false, not, ◌&&◌, if◌then◌else◌, Option, Some, None}
+use Rattle.std.specs.Int.{w64, cast_signed, int_rem_euclid, is_negative}
 use Rattle.std.specs.Ordering.{int_eq}
 use Rattle.merc_value.specs.Value.{Value, Int, Text, Con}
 use Rattle.merc_goal_tree.specs.declared.goal.Operation.{Operation}
@@ -8,9 +8,13 @@ use Rattle.merc_goal_tree.specs.declared.goal.Operation.TheVariants.{Add, Subtra
 use Rattle.merc_goal_tree.specs.declared.goal.Comparison.{Comparison}
 use Rattle.merc_goal_tree.specs.declared.goal.Comparison.TheVariants.{Less, Greater, AtMost, AtLeast}
 
--- what is left in 64 bits of a quotient
+-- how many integers there are
+abbrev pub integer_count : ℕ
+integer_count = 2 ^ 64
+
+-- what is left of a number in 64 bits, read as a signed number
 abbrev pub wrapped : ℤ → ℤ
-wrapped number = cast_signed w64 (cast_unsigned w64 number)
+wrapped number = cast_signed w64 (unsigned_abs (int_rem_euclid number (pos integer_count)))
 
 -- Two signs differ.
 abbrev pub differ : Bool → Bool → Bool
@@ -32,16 +36,16 @@ pub data Result : Type 0 where
 
 -- a result where the divisor is not zero
 abbrev pub divided : ℤ → ℤ → Result
-divided right number = if int_eq right (pos 0) then ZeroDivisor else Gives number
+divided right number = if int_eq right (pos 0) then ZeroDivisor else Gives (wrapped number)
 
--- Results wrap round at 64 bits. `//` truncates, and `rem` is what it leaves; `div` rounds down, and `mod` is what it leaves.
+-- Every result wraps round at 64 bits. `//` truncates, and `rem` is what it leaves; `div` rounds down, and `mod` is what it leaves.
 abbrev pub arithmetic : Operation → ℤ → ℤ → Result
-arithmetic Add left right = Gives (int_wrapping_add w64 left right)
-arithmetic Subtract left right = Gives (int_wrapping_sub w64 left right)
-arithmetic Multiply left right = Gives (int_wrapping_mul w64 left right)
-arithmetic Quotient left right = divided right (wrapped (int_div left right))
+arithmetic Add left right = Gives (wrapped (left +ℤ right))
+arithmetic Subtract left right = Gives (wrapped (left -ℤ right))
+arithmetic Multiply left right = Gives (wrapped (left *ℤ right))
+arithmetic Quotient left right = divided right (int_div left right)
 arithmetic Rem left right = divided right (int_rem left right)
-arithmetic Div left right = divided right (wrapped (rounded_down left right))
+arithmetic Div left right = divided right (rounded_down left right)
 arithmetic Mod left right = divided right (left -ℤ (rounded_down left right *ℤ right))
 
 abbrev pub comparison : Comparison → ℤ → ℤ → Bool

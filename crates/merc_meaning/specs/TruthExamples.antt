@@ -119,9 +119,15 @@ disjunction-yes = ((λ h. h), (texts 7, texts-are_values 7, (λ variable outside
 -- the else part, where the condition has no solution
 
 conditional-yes : YesAt program 0 all (goal (Conditional (is 8) (basic Fail []) (is 7)) []) (texts 7)
-conditional-yes =
-    ((λ h. h), (texts 7, texts-are_values 7, (λ variable outside. refl),
-    inr (seven _, inr (λ others are agree equal. let here = agree x refl in cc))))
+conditional-yes = (
+  (λ h. h),
+  (
+    texts 7,
+    texts-are_values 7,
+    (λ variable outside. refl),
+    inr (seven _, inr (λ others are agree equal. let here = agree x refl in cc)),
+  ),
+)
 
 -- calls are open at stage 0, and decided as their bodies are at the stage before
 
@@ -136,9 +142,15 @@ call-not_no (inl no_solution) = no_solution
 call-not_no (inr each) = each (texts 7) (texts-are_values 7) (λ variable outside. refl)
 
 call-yes : YesAt program 1 all called (texts 7)
-call-yes =
-    ((λ h. h), (texts 7, texts-are_values 7, (λ variable outside. refl),
-    (texts 7, texts-are_values 7, (refl, tt), ((λ h. h), (texts 7, texts-are_values 7, (λ variable outside. refl), refl)))))
+call-yes = (
+  (λ h. h),
+  (
+    texts 7,
+    texts-are_values 7,
+    (λ variable outside. refl),
+    (texts 7, texts-are_values 7, (refl, tt), ((λ h. h), (texts 7, texts-are_values 7, (λ variable outside. refl), refl))),
+  ),
+)
 
 call-no : NoAt program 1 all called (texts 8)
 call-no = inr (λ others are agree inner values entered. inr (λ own are_own same_outside equal.
