@@ -9,7 +9,7 @@ use Rattle.merc_goals.specs.Roles.{role_of}
 use Rattle.merc_goals.specs.Numbers.{left_of, right_of}
 use Rattle.merc_goals.specs.Links.{sides, condition_sides, joins, chain}
 use Rattle.merc_goals.proofs.RoleLaws.{by_role, goal_at, goals_at, is_some, arrow_parts-sides, is_arrow-parts, written-by_role}
-use Rattle.merc_goals.specs.declared.numbers.Numbered.{Numbered}
+use Rattle.merc_goals.specs.Numbers.{NumberedTerm}
 use Rattle.merc_goals.specs.declared.roles.ChainKind.{ChainKind}
 use Rattle.merc_goals.specs.declared.roles.ChainKind.TheVariants.{Conjuncts, ParallelConjuncts, Disjuncts}
 use Rattle.merc_goals.specs.declared.roles.Role.{Role}
@@ -70,10 +70,10 @@ disjuncts-members (Quantified variables goal span) = refl
 disjuncts-members (WrongForm span) = refl
 disjuncts-members (OutsideProfile span) = refl
 
-abbrev pub goals_for : List Numbered → WrittenGoals
+abbrev pub goals_for : List NumberedTerm → WrittenGoals
 goals_for members = goals_of (map goal_at members)
 
-goals_for-append : (front back : List Numbered) → goals_for (front ++ back) ≡ joined (goals_for front) (goals_for back)
+goals_for-append : (front back : List NumberedTerm) → goals_for (front ++ back) ≡ joined (goals_for front) (goals_for back)
 goals_for-append [] back = refl
 goals_for-append (first ∷ rest) back = ap (more_goals (goal_at first)) (goals_for-append rest back)
 
@@ -93,7 +93,7 @@ only_conditional None else_part span kind = refl
 only_conditional (Some parts) else_part span kind = refl
 
 module _ (at name : ℕ) (left right : Term) (first second : Written) (if_then : Option (Written × Written)) (span : Span)
-    (front back : List Numbered) (self : Numbered) where
+    (front back : List NumberedTerm) (self : NumberedTerm) where
   abbrev whole : Role → Option (Written × Written) → Written
   whole role arrow = by_role role at name left right first second arrow if_then span
 
@@ -144,7 +144,7 @@ chain_goals kind at (Application name None (more first none) span) =
     only_if kind ((name == not_name) || (name == not_provable_name)) (Negated (written (at + 2) first) span) (if name == if_name then WrongForm span else call) refl
     (only_if kind (name == if_name) (WrongForm span) call refl refl)
 chain_goals kind at (Application name None (more left (more right none)) span) =
-    let self : Numbered = record { term = Application name None (more left (more right none)) span; at = at } in
+    let self : NumberedTerm = record { term = Application name None (more left (more right none)) span; at = at } in
     let arrow = goals_at (sides arrow_name (left_of at left)) in
     let front = chain kind (at + 2) left in
     let back = chain kind (at + 2 + parts left) right in

@@ -8,17 +8,17 @@ use Rattle.merc_goals.specs.Written.{parts}
 use Rattle.merc_goals.specs.Roles.{role_of}
 use Rattle.merc_goals.specs.Numbers.{left_of}
 use Rattle.merc_goals.specs.Links.{sides_of, sides, condition_sides, is_joined, link_of, chain}
-use Rattle.merc_goals.specs.declared.numbers.Numbered.{Numbered}
+use Rattle.merc_goals.specs.Numbers.{NumberedTerm}
 use Rattle.merc_goals.specs.declared.links.Both.{Both}
 use Rattle.merc_goals.specs.declared.roles.ChainKind.{ChainKind}
 
 -- the members of the chains on a stack, those of the last of them first
-abbrev pub stacked : ChainKind → List Numbered → List Numbered
+abbrev pub stacked : ChainKind → List NumberedTerm → List NumberedTerm
 stacked kind [] = []
 stacked kind (numbered ∷ rest) = stacked kind rest ++ chain kind numbered.at numbered.term
 
 -- how many numbers the parts of terms have
-abbrev pub parts_all : List Numbered → ℕ
+abbrev pub parts_all : List NumberedTerm → ℕ
 parts_all [] = 0
 parts_all (numbered ∷ rest) = parts numbered.term + parts_all rest
 
@@ -28,22 +28,22 @@ parts_some (Integer value span) = omega arith
 parts_some (Text text span) = omega arith
 parts_some (Application name qualifier arguments span) = omega arith
 
-pub parts_all-append : (front back : List Numbered) → parts_all (front ++ back) ≡ parts_all front + parts_all back
+pub parts_all-append : (front back : List NumberedTerm) → parts_all (front ++ back) ≡ parts_all front + parts_all back
 parts_all-append [] back = omega arith
 parts_all-append (first ∷ rest) back = omega (arith, parts_all-append rest back)
 
-pub stacked-push : (kind : ChainKind) (stack : List Numbered) (numbered : Numbered)
+pub stacked-push : (kind : ChainKind) (stack : List NumberedTerm) (numbered : NumberedTerm)
     → stacked kind (stack ++ numbered ∷ []) ≡ chain kind numbered.at numbered.term ++ stacked kind stack
 stacked-push kind [] numbered = sym (append-nil (chain kind numbered.at numbered.term))
 stacked-push kind (first ∷ rest) numbered =
     ap (λ l. l ++ chain kind first.at first.term) (stacked-push kind rest numbered)
     ∙ append_assoc (chain kind numbered.at numbered.term) (stacked kind rest) (chain kind first.at first.term)
 
-abbrev pub members_by : ChainKind → Numbered → Option Both → List Numbered
+abbrev pub members_by : ChainKind → NumberedTerm → Option Both → List NumberedTerm
 members_by kind numbered None = numbered ∷ []
 members_by kind numbered (Some both) = chain kind both.left.at both.left.term ++ chain kind both.right.at both.right.term
 
-two_links : (test : Bool) (kind : ChainKind) (numbered : Numbered) (both : Both)
+two_links : (test : Bool) (kind : ChainKind) (numbered : NumberedTerm) (both : Both)
     → (if test then chain kind both.left.at both.left.term ++ chain kind both.right.at both.right.term else numbered ∷ []) ≡ members_by kind numbered (if test then Some both else None)
 two_links true kind numbered both = refl
 two_links false kind numbered both = refl
@@ -60,7 +60,7 @@ chain-by_term kind at (Application name None (more left (more right none)) span)
 chain-by_term kind at (Application name None (more first (more second (more third rest))) span) = refl
 chain-by_term kind at (Application name (Some qualifier) arguments span) = refl
 
-pub chain-by : (kind : ChainKind) (numbered : Numbered) → chain kind numbered.at numbered.term ≡ members_by kind numbered (link_of kind numbered)
+pub chain-by : (kind : ChainKind) (numbered : NumberedTerm) → chain kind numbered.at numbered.term ≡ members_by kind numbered (link_of kind numbered)
 chain-by kind numbered = chain-by_term kind numbered.at numbered.term
 
 -- both sides of an operator are smaller than the whole
@@ -92,7 +92,7 @@ link_less kind at (Application name None (more left (more right none)) span) =
 link_less kind at (Application name None (more first (more second (more third rest))) span) = tt
 link_less kind at (Application name (Some qualifier) arguments span) = tt
 
-pub link_smaller : (kind : ChainKind) (numbered : Numbered) (both : Both) → Some both ≡ link_of kind numbered → parts both.left.term + parts both.right.term < parts numbered.term
+pub link_smaller : (kind : ChainKind) (numbered : NumberedTerm) (both : Both) → Some both ≡ link_of kind numbered → parts both.left.term + parts both.right.term < parts numbered.term
 link_smaller kind numbered both is =
     let P : Option Both → Type 0 = λ o. AreLess (parts numbered.term) o in subst P (sym is) (link_less kind numbered.at numbered.term)
 
@@ -121,9 +121,9 @@ condition_less at (Application name (Some qualifier) arguments span) = tt
 
 -- one step: a link gives way to its two sides, and a member joins those before it
 
-module _ (kind : ChainKind) (members old popped : List Numbered) (numbered : Numbered) (popping : old ≡ popped ++ numbered ∷ []) where
-  pub link_step : (once twice : List Numbered) (both : Both) → once ≡ popped ++ both.right ∷ [] → twice ≡ once ++ both.left ∷ []
-      → Some both ≡ link_of kind numbered → (whole : List Numbered) → members ++ stacked kind old ≡ whole → members ++ stacked kind twice ≡ whole
+module _ (kind : ChainKind) (members old popped : List NumberedTerm) (numbered : NumberedTerm) (popping : old ≡ popped ++ numbered ∷ []) where
+  pub link_step : (once twice : List NumberedTerm) (both : Both) → once ≡ popped ++ both.right ∷ [] → twice ≡ once ++ both.left ∷ []
+      → Some both ≡ link_of kind numbered → (whole : List NumberedTerm) → members ++ stacked kind old ≡ whole → members ++ stacked kind twice ≡ whole
   link_step once twice both one two is whole before =
       ap (λ l. members ++ l) (
       ap (stacked kind) (two ∙ ap (λ l. l ++ both.left ∷ []) one)
@@ -136,7 +136,7 @@ module _ (kind : ChainKind) (members old popped : List Numbered) (numbered : Num
       )
       ∙ before
 
-  pub link_size : (once twice : List Numbered) (both : Both) → once ≡ popped ++ both.right ∷ [] → twice ≡ once ++ both.left ∷ []
+  pub link_size : (once twice : List NumberedTerm) (both : Both) → once ≡ popped ++ both.right ∷ [] → twice ≡ once ++ both.left ∷ []
       → Some both ≡ link_of kind numbered → parts_all twice < parts_all old
   link_size once twice both one two is =
       omega (
@@ -150,8 +150,8 @@ module _ (kind : ChainKind) (members old popped : List Numbered) (numbered : Num
         link_smaller kind numbered both is,
       )
 
-  pub member_step : (more_members : List Numbered) → more_members ≡ members ++ numbered ∷ [] → None ≡ link_of kind numbered
-      → (whole : List Numbered) → members ++ stacked kind old ≡ whole → more_members ++ stacked kind popped ≡ whole
+  pub member_step : (more_members : List NumberedTerm) → more_members ≡ members ++ numbered ∷ [] → None ≡ link_of kind numbered
+      → (whole : List NumberedTerm) → members ++ stacked kind old ≡ whole → more_members ++ stacked kind popped ≡ whole
   member_step more_members pushing is whole before =
       ap (λ l. l ++ stacked kind popped) pushing
       ∙ append_assoc members (numbered ∷ []) (stacked kind popped)
@@ -162,12 +162,12 @@ module _ (kind : ChainKind) (members old popped : List Numbered) (numbered : Num
       )
       ∙ before
 
-pub member_size : (old popped : List Numbered) (numbered : Numbered) → old ≡ popped ++ numbered ∷ [] → parts_all popped < parts_all old
+pub member_size : (old popped : List NumberedTerm) (numbered : NumberedTerm) → old ≡ popped ++ numbered ∷ [] → parts_all popped < parts_all old
 member_size old popped numbered popping = omega (arith, ap parts_all popping, parts_all-append popped (numbered ∷ []), parts_some numbered.term)
 
 -- the members of a chain have no more parts than the whole
 
-at_most_if : (test : Bool) (limit : ℕ) (front back : List Numbered) → parts_all front ≤ limit → parts_all back ≤ limit → parts_all (if test then front else back) ≤ limit
+at_most_if : (test : Bool) (limit : ℕ) (front back : List NumberedTerm) → parts_all front ≤ limit → parts_all back ≤ limit → parts_all (if test then front else back) ≤ limit
 at_most_if true limit front back a b = a
 at_most_if false limit front back a b = b
 

@@ -6,7 +6,7 @@ use Rattle.merc_goals.specs.Written.{Written, WrittenGoals, no_goals, more_goals
 use Rattle.merc_goals.specs.Entries.{entries_of, all_entries, goal_list}
 use Rattle.merc_goals.specs.Faults.{wrong_forms, all_wrong_forms, outside_forms, all_outside_forms, earlier, first_span, first_of_both, first_fault, widest_parallel, widest_of_all}
 use Rattle.merc_goals.specs.Found.{wrong_span, outside_span, listed, wrong_spans, outside_spans, widest_of}
-use Rattle.merc_goals.specs.declared.goal.Entry.{Entry}
+use Rattle.merc_goals.specs.Entries.{GoalEntry}
 
 -- spans of entries
 
@@ -14,17 +14,17 @@ listed-append : (found : Option Span) (front back : List Span) → listed found 
 listed-append None front back = refl
 listed-append (Some span) front back = refl
 
-wrong_spans-append : (front back : List Entry) → wrong_spans (front ++ back) ≡ wrong_spans front ++ wrong_spans back
+wrong_spans-append : (front back : List GoalEntry) → wrong_spans (front ++ back) ≡ wrong_spans front ++ wrong_spans back
 wrong_spans-append [] back = refl
 wrong_spans-append (entry ∷ rest) back =
     ap (listed (wrong_span entry)) (wrong_spans-append rest back) ∙ listed-append (wrong_span entry) (wrong_spans rest) (wrong_spans back)
 
-outside_spans-append : (front back : List Entry) → outside_spans (front ++ back) ≡ outside_spans front ++ outside_spans back
+outside_spans-append : (front back : List GoalEntry) → outside_spans (front ++ back) ≡ outside_spans front ++ outside_spans back
 outside_spans-append [] back = refl
 outside_spans-append (entry ∷ rest) back =
     ap (listed (outside_span entry)) (outside_spans-append rest back) ∙ listed-append (outside_span entry) (outside_spans rest) (outside_spans back)
 
-widest_of-append : (front back : List Entry) → widest_of (front ++ back) ≡ max (widest_of front) (widest_of back)
+widest_of-append : (front back : List GoalEntry) → widest_of (front ++ back) ≡ max (widest_of front) (widest_of back)
 widest_of-append [] back = omega arith
 widest_of-append (entry ∷ rest) back = omega (arith, widest_of-append rest back)
 

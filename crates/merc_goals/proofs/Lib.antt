@@ -8,3 +8,4 @@ pub mod PlanWriting
 pub mod PlanSizes
 pub mod Lists
 pub mod EntryLaws
+pub mod NumberLaws

@@ -10,7 +10,7 @@ use Rattle.merc_goals.specs.Links.{sides_of, sides, condition_sides, is_arrow, j
 use Rattle.merc_goals.specs.Plans.{plan, plain_plan, call_plan, two_plan, arrow_plan, if_plan, some_by, all_by}
 use Rattle.merc_goals.proofs.RoleLaws.{goals_at, is_some, arrow_parts-sides, is_arrow-parts}
 use Rattle.merc_goals.proofs.ChainLaws.{parts_all, parts_some, AreLess, sides_less, condition_less, joined_less}
-use Rattle.merc_goals.specs.declared.numbers.Numbered.{Numbered}
+use Rattle.merc_goals.specs.Numbers.{NumberedTerm}
 use Rattle.merc_goals.specs.declared.links.Both.{Both}
 use Rattle.merc_goals.specs.declared.planning.Task.{Task}
 use Rattle.merc_goals.specs.declared.planning.Task.TheVariants.{Read, Put}
@@ -34,7 +34,7 @@ pub total-append : (front back : List Task) → total (front ++ back) ≡ total 
 total-append [] back = omega arith
 total-append (task ∷ rest) back = omega (arith, total-append rest back)
 
-total-members : (members : List Numbered) → total (map (λ n. Read n) members) ≡ 2 * parts_all members
+total-members : (members : List NumberedTerm) → total (map (λ n. Read n) members) ≡ 2 * parts_all members
 total-members [] = omega arith
 total-members (first ∷ rest) = omega (arith, total-members rest)
 
@@ -42,7 +42,7 @@ less_if : (test : Bool) (limit : ℕ) (tasks others : List Task) → total tasks
 less_if true limit tasks others a b = a
 less_if false limit tasks others a b = b
 
-module _ (start : ℕ) (whole : Numbered) (left right : Numbered) (size : ℕ) (sizes : 2 + parts left.term + parts right.term ≤ size) where
+module _ (start : ℕ) (whole : NumberedTerm) (left right : NumberedTerm) (size : ℕ) (sizes : 2 + parts left.term + parts right.term ≤ size) where
   alternatives_less : (found : Option Both) → AreLess (parts left.term) found → (found ≡ None → parts_all (chain Disjuncts whole.at whole.term) < size)
       → total (arrow_plan start whole found right) < 2 * size
   alternatives_less None less small = omega (arith, small refl, total-members (chain Disjuncts whole.at whole.term))
@@ -65,7 +65,7 @@ no_arrow : (at : ℕ) (left : Term) → sides arrow_name (left_of at left) ≡ N
 no_arrow at left is = is_arrow-parts (at + 2) left ∙ ap is_some (arrow_parts-sides (at + 2) left ∙ ap goals_at is)
 
 module _ (start at name : ℕ) (left right : Term) (span : Span) where
-  abbrev whole : Numbered
+  abbrev whole : NumberedTerm
   whole = record { term = Application name None (more left (more right none)) span; at = at }
 
   two_less : (role : Role) → ((kind : ChainKind) → joins role kind (is_arrow left) ≡ true → parts_all (chain kind whole.at whole.term) < parts whole.term)
@@ -105,12 +105,12 @@ term_less start at (Application name None (more left (more right none)) span) =
 term_less start at (Application name None (more first (more second (more third rest))) span) = omega arith
 term_less start at (Application name (Some qualifier) arguments span) = omega arith
 
-pub plan_less : (start : ℕ) (numbered : Numbered) → total (plan start numbered) < 2 * parts numbered.term
+pub plan_less : (start : ℕ) (numbered : NumberedTerm) → total (plan start numbered) < 2 * parts numbered.term
 plan_less start numbered = term_less start numbered.at numbered.term
 
 -- one step of the loop over tasks
 
-pub read_size : (start : ℕ) (tasks popped planned : List Task) (numbered : Numbered)
+pub read_size : (start : ℕ) (tasks popped planned : List Task) (numbered : NumberedTerm)
     → tasks ≡ popped ++ Read numbered ∷ [] → planned ≡ popped ++ plan start numbered → total planned < total tasks
 read_size start tasks popped planned numbered popping planning =
     omega (

@@ -12,7 +12,7 @@ use Rattle.merc_goals.specs.Plans.{plan, plain_plan, call_plan, two_plan, member
 use Rattle.merc_goals.proofs.RoleLaws.{by_role, goal_at, goals_at, written-by_role}
 use Rattle.merc_goals.proofs.ChainGoals.{members_of, goals_for, chain_goals}
 use Rattle.merc_goals.proofs.Writing.{Writes, writes_read, writes_before, writes_put, writes_leaf, writes_if, writes_members}
-use Rattle.merc_goals.specs.declared.numbers.Numbered.{Numbered}
+use Rattle.merc_goals.specs.Numbers.{NumberedTerm}
 use Rattle.merc_goals.specs.declared.links.Both.{Both}
 use Rattle.merc_goals.specs.declared.planning.Task.TheVariants.{Read, Put}
 use Rattle.merc_goals.specs.declared.goal.Form.TheVariants.{Truth as TruthForm, Failure as FailureForm, Equal as EqualForm, Compared as ComparedForm, Called as CalledForm, Conditional as ConditionalForm, Negated as NegatedForm, Quantified as QuantifiedForm, WrongForm as NoForm, OutsideProfile as OutsideForm}
@@ -21,12 +21,12 @@ use Rattle.merc_goals.specs.declared.roles.ChainKind.TheVariants.{Conjuncts, Par
 use Rattle.merc_goals.specs.declared.roles.Role.{Role}
 use Rattle.merc_goals.specs.declared.roles.Role.TheVariants.{Conjunction as ConjunctionRole, Parallel as ParallelRole, Disjunction as DisjunctionRole, Else, Misplaced, Existential, Universal, Equation, Inequation, Comparison, Unsupported, Call}
 
-length-goals : (members : List Numbered) → length members ≡ length (goal_list (goals_for members))
+length-goals : (members : List NumberedTerm) → length members ≡ length (goal_list (goals_for members))
 length-goals [] = refl
 length-goals (first ∷ rest) = ap suc (length-goals rest)
 
 -- a chain is one list of goals
-writes_chain : (start : ℕ) (kind : ChainKind) (span : Span) (members : List Numbered) (goals : WrittenGoals) → goals_for members ≡ goals
+writes_chain : (start : ℕ) (kind : ChainKind) (span : Span) (members : List NumberedTerm) (goals : WrittenGoals) → goals_for members ≡ goals
     → Writes start (members_plan start kind members span) (entry_before (chain_form kind (length (goal_list goals))) 0 span (all_entries goals))
 writes_chain start kind span members goals is =
     let count : length members ≡ length (goal_list goals) = length-goals members ∙ ap (λ g. length (goal_list g)) is in
@@ -34,30 +34,30 @@ writes_chain start kind span members goals is =
     let Q : ℕ → Type 0 = λ n. Writes start (members_plan start kind members span) (entry_before (chain_form kind n) 0 span (all_entries (goals_for members))) in
     subst P is (subst Q count (writes_put start (chain_form kind (length members)) 0 span _ _ (writes_members start members)))
 
-writes_conditional : (start : ℕ) (both : Both) (right : Numbered) (span : Span)
+writes_conditional : (start : ℕ) (both : Both) (right : NumberedTerm) (span : Span)
     → Writes start (conditional_plan start both right span)
     (entry_before ConditionalForm 0 span (entries_of (goal_at both.left) ++ (entries_of (goal_at both.right) ++ entries_of (goal_at right))))
 writes_conditional start both right span =
     writes_put start ConditionalForm 0 span _ _
     (writes_before start both.left _ _ (writes_before start both.right _ _ (writes_read start right)))
 
-writes_alternatives : (start : ℕ) (whole : Numbered) (found : Option Both) (right : Numbered) (first : Written)
+writes_alternatives : (start : ℕ) (whole : NumberedTerm) (found : Option Both) (right : NumberedTerm) (first : Written)
     → goals_for (chain Disjuncts whole.at whole.term) ≡ members_of (alternatives (goals_at found) first (goal_at right) (span_of whole.term)) Disjuncts
     → Writes start (arrow_plan start whole found right) (entries_of (alternatives (goals_at found) first (goal_at right) (span_of whole.term)))
 writes_alternatives start whole None right first is = writes_chain start Disjuncts (span_of whole.term) (chain Disjuncts whole.at whole.term) _ is
 writes_alternatives start whole (Some both) right first is = writes_conditional start both right (span_of whole.term)
 
-writes_else : (start : ℕ) (found : Option Both) (right : Numbered) (span : Span)
+writes_else : (start : ℕ) (found : Option Both) (right : NumberedTerm) (span : Span)
     → Writes start (if_plan start found right span) (entries_of (conditional (goals_at found) (goal_at right) span))
 writes_else start None right span = writes_leaf start NoForm 0 span
 writes_else start (Some both) right span = writes_conditional start both right span
 
-writes_some : (start : ℕ) (variables : Option (List ℕ)) (right : Numbered) (span : Span)
+writes_some : (start : ℕ) (variables : Option (List ℕ)) (right : NumberedTerm) (span : Span)
     → Writes start (some_by start variables right span) (entries_of (quantified false variables (goal_at right) span))
 writes_some start None right span = writes_leaf start NoForm 0 span
 writes_some start (Some variables) right span = writes_put start (QuantifiedForm variables) 0 span _ _ (writes_read start right)
 
-writes_all : (start : ℕ) (variables : Option (List ℕ)) (right : Numbered) (span : Span)
+writes_all : (start : ℕ) (variables : Option (List ℕ)) (right : NumberedTerm) (span : Span)
     → Writes start (all_by start variables right span) (entries_of (quantified true variables (goal_at right) span))
 writes_all start None right span = writes_leaf start NoForm 0 span
 writes_all start (Some variables) right span =
@@ -65,7 +65,7 @@ writes_all start (Some variables) right span =
     (writes_put start (QuantifiedForm variables) 0 span _ _ (writes_put start NegatedForm 0 span _ _ (writes_read start right)))
 
 module _ (start at name : ℕ) (left right : Term) (span : Span) where
-  abbrev whole : Numbered
+  abbrev whole : NumberedTerm
   whole = record { term = Application name None (more left (more right none)) span; at = at }
 
   abbrev goal_by : Role → Written
@@ -121,5 +121,5 @@ writes_term start at (Application name None (more first (more second (more third
 writes_term start at (Application name (Some qualifier) arguments span) =
     writes_leaf start (CalledForm (Application name (Some qualifier) arguments span)) at span
 
-pub writes_plan : (start : ℕ) (numbered : Numbered) → Writes start (plan start numbered) (entries_of (goal_at numbered))
+pub writes_plan : (start : ℕ) (numbered : NumberedTerm) → Writes start (plan start numbered) (entries_of (goal_at numbered))
 writes_plan start numbered = writes_term start numbered.at numbered.term

@@ -7,7 +7,7 @@ use Rattle.merc_goals.specs.Written.{Written, Equal, Compared, Called, Conjuncti
 use Rattle.merc_goals.specs.Roles.{role_of}
 use Rattle.merc_goals.specs.Numbers.{left_of, right_of}
 use Rattle.merc_goals.specs.Links.{sides, condition_sides, is_arrow}
-use Rattle.merc_goals.specs.declared.numbers.Numbered.{Numbered}
+use Rattle.merc_goals.specs.Numbers.{NumberedTerm}
 use Rattle.merc_goals.specs.declared.links.Both.{Both}
 use Rattle.merc_goals.specs.declared.roles.Role.{Role}
 use Rattle.merc_goals.specs.declared.roles.Role.TheVariants.{Conjunction as ConjunctionRole, Parallel as ParallelRole, Disjunction as DisjunctionRole, Else, Misplaced, Existential, Universal, Equation, Inequation, Comparison, Unsupported, Call}
@@ -47,7 +47,7 @@ binary-by_role at name left right first second arrow if_then span =
     (through f ((name == implies_name) || (name == equivalent_name) || (name == is_name) || (name == equal_equal_name) || (name == colon_colon_name)) _ _ _ _ refl refl))))))))))
 
 -- the goal of a term with its number
-abbrev pub goal_at : Numbered → Written
+abbrev pub goal_at : NumberedTerm → Written
 goal_at numbered = written numbered.at numbered.term
 
 abbrev pub both_goals : Both → Written × Written

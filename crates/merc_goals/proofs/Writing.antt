@@ -6,34 +6,34 @@ use Rattle.merc_goals.specs.Written.{Written}
 use Rattle.merc_goals.specs.Entries.{entry_before, entries_of, all_entries}
 use Rattle.merc_goals.proofs.RoleLaws.{goal_at}
 use Rattle.merc_goals.proofs.ChainGoals.{goals_for}
-use Rattle.merc_goals.specs.declared.numbers.Numbered.{Numbered}
+use Rattle.merc_goals.specs.Numbers.{NumberedTerm}
 use Rattle.merc_goals.specs.declared.planning.Task.{Task}
 use Rattle.merc_goals.specs.declared.planning.Task.TheVariants.{Read, Put}
 use Rattle.merc_goals.specs.declared.goal.Form.{Form}
-use Rattle.merc_goals.specs.declared.goal.Entry.{Entry}
+use Rattle.merc_goals.specs.Entries.{GoalEntry}
 
 -- what entries become by one task, and by all tasks, the last of them first
 
-abbrev pub act : Task → List Entry → List Entry
+abbrev pub act : Task → List GoalEntry → List GoalEntry
 act (Read numbered) entries = entries ++ reverse (entries_of (goal_at numbered))
 act (Put form at span start) entries = entries ++ record { form = form; at = at; span = span; size = length entries - start + 1 } ∷ []
 
-abbrev pub run : List Task → List Entry → List Entry
+abbrev pub run : List Task → List GoalEntry → List GoalEntry
 run [] entries = entries
 run (task ∷ tasks) entries = act task (run tasks entries)
 
-pub run-append : (front back : List Task) (entries : List Entry) → run (front ++ back) entries ≡ run front (run back entries)
+pub run-append : (front back : List Task) (entries : List GoalEntry) → run (front ++ back) entries ≡ run front (run back entries)
 run-append [] back entries = refl
 run-append (task ∷ tasks) back entries = ap (act task) (run-append tasks back entries)
 
 -- Tasks write these entries, in reverse order, where there are `start` entries already.
-pub record Writes (start : ℕ) (tasks : List Task) (written : List Entry) : Type 0 where
-  pub from : (entries : List Entry) → length entries ≡ start → run tasks entries ≡ entries ++ reverse written
+pub record Writes (start : ℕ) (tasks : List Task) (written : List GoalEntry) : Type 0 where
+  pub from : (entries : List GoalEntry) → length entries ≡ start → run tasks entries ≡ entries ++ reverse written
 
-pub writes_read : (start : ℕ) (numbered : Numbered) → Writes start (Read numbered ∷ []) (entries_of (goal_at numbered))
+pub writes_read : (start : ℕ) (numbered : NumberedTerm) → Writes start (Read numbered ∷ []) (entries_of (goal_at numbered))
 writes_read start numbered = record { from = λ entries is. refl }
 
-pub writes_before : (start : ℕ) (numbered : Numbered) (tasks : List Task) (written : List Entry)
+pub writes_before : (start : ℕ) (numbered : NumberedTerm) (tasks : List Task) (written : List GoalEntry)
     → Writes start tasks written → Writes start (Read numbered ∷ tasks) (entries_of (goal_at numbered) ++ written)
 writes_before start numbered tasks written writes =
     record {
@@ -43,10 +43,10 @@ writes_before start numbered tasks written writes =
           ∙ ap (λ l. entries ++ l) (sym (reverse-append (entries_of (goal_at numbered)) written));
     }
 
-put_size : (entries inner : List Entry) (start : ℕ) → length entries ≡ start → length (entries ++ reverse inner) - start + 1 ≡ length inner + 1
+put_size : (entries inner : List GoalEntry) (start : ℕ) → length entries ≡ start → length (entries ++ reverse inner) - start + 1 ≡ length inner + 1
 put_size entries inner start is = omega (arith, length-append entries (reverse inner), length-reverse inner)
 
-pub writes_put : (start : ℕ) (form : Form) (at : ℕ) (span : Span) (tasks : List Task) (inner : List Entry)
+pub writes_put : (start : ℕ) (form : Form) (at : ℕ) (span : Span) (tasks : List Task) (inner : List GoalEntry)
     → Writes start tasks inner → Writes start (Put form at span start ∷ tasks) (entry_before form at span inner)
 writes_put start form at span tasks inner writes =
     record {
@@ -69,15 +69,15 @@ pub writes_if : (start : ℕ) (test : Bool) (tasks others : List Task) (goal oth
 writes_if start true tasks others goal other a b = a
 writes_if start false tasks others goal other a b = b
 
-pub writes_members : (start : ℕ) (members : List Numbered) → Writes start (map (λ n. Read n) members) (all_entries (goals_for members))
+pub writes_members : (start : ℕ) (members : List NumberedTerm) → Writes start (map (λ n. Read n) members) (all_entries (goals_for members))
 writes_members start [] = writes_none start
 writes_members start (first ∷ rest) = writes_before start first (map (λ n. Read n) rest) (all_entries (goals_for rest)) (writes_members start rest)
 
 -- one step of the loop over tasks
 
-pub read_step : (start : ℕ) (tasks popped planned plan : List Task) (numbered : Numbered) (entries : List Entry) → length entries ≡ start
+pub read_step : (start : ℕ) (tasks popped planned plan : List Task) (numbered : NumberedTerm) (entries : List GoalEntry) → length entries ≡ start
     → tasks ≡ popped ++ Read numbered ∷ [] → planned ≡ popped ++ plan → Writes start plan (entries_of (goal_at numbered))
-    → (whole : List Entry) → run tasks entries ≡ whole → run planned entries ≡ whole
+    → (whole : List GoalEntry) → run tasks entries ≡ whole → run planned entries ≡ whole
 read_step start tasks popped planned plan numbered entries starting popping planning writes whole before =
     ap (λ l. run l entries) planning
     ∙ run-append popped plan entries
@@ -86,10 +86,10 @@ read_step start tasks popped planned plan numbered entries starting popping plan
     ∙ ap (λ l. run l entries) (sym popping)
     ∙ before
 
-pub put_step : (tasks popped : List Task) (form : Form) (at : ℕ) (span : Span) (start size : ℕ) (entries pushed : List Entry)
+pub put_step : (tasks popped : List Task) (form : Form) (at : ℕ) (span : Span) (start size : ℕ) (entries pushed : List GoalEntry)
     → tasks ≡ popped ++ Put form at span start ∷ [] → size ≡ length entries - start + 1
     → pushed ≡ entries ++ record { form = form; at = at; span = span; size = size } ∷ []
-    → (whole : List Entry) → run tasks entries ≡ whole → run popped pushed ≡ whole
+    → (whole : List GoalEntry) → run tasks entries ≡ whole → run popped pushed ≡ whole
 put_step tasks popped form at span start size entries pushed popping sizing pushing whole before =
     ap (run popped) (pushing ∙ ap (λ n. entries ++ record { form = form; at = at; span = span; size = n } ∷ []) sizing)
     ∙ sym (run-append popped (Put form at span start ∷ []) entries)
@@ -97,5 +97,5 @@ put_step tasks popped form at span start size entries pushed popping sizing push
     ∙ before
 
 -- the entries in order
-pub turned : (goal : Written) (backward forward : List Entry) → backward ≡ reverse (entries_of goal) → forward ≡ reverse backward → forward ≡ entries_of goal
+pub turned : (goal : Written) (backward forward : List GoalEntry) → backward ≡ reverse (entries_of goal) → forward ≡ reverse backward → forward ≡ entries_of goal
 turned goal backward forward is turning = turning ∙ ap reverse is ∙ reverse-reverse (entries_of goal)

@@ -3,9 +3,23 @@ use Rattle.std.specs.Prelude.{◌≡◌, ℕ, ◌+◌, List, [], ◌∷◌, ◌+
 use Rattle.merc_base.specs.declared.place.Span.{Span}
 use Rattle.merc_tree.specs.Term.{Term, Variable, Integer, Text, Application, no_span}
 use Rattle.merc_goals.specs.Written.{Written, WrittenGoals, no_goals, more_goals, Truth, Failure, Equal, Compared, Called, Conjunction, Parallel, Disjunction, Conditional, Negated, Quantified, WrongForm, OutsideProfile}
-use Rattle.merc_goals.specs.declared.goal.Entry.{Entry}
+use Rattle.merc_goals.specs.Numbers.{BothFit, Fits}
 use Rattle.merc_goals.specs.declared.goal.Form.{Form}
 use Rattle.merc_goals.specs.declared.goal.Form.TheVariants.{Truth as TruthForm, Failure as FailureForm, Equal as EqualForm, Compared as ComparedForm, Called as CalledForm, Conjunction as ConjunctionForm, Parallel as ParallelForm, Disjunction as DisjunctionForm, Conditional as ConditionalForm, Negated as NegatedForm, Quantified as QuantifiedForm, WrongForm as NoForm, OutsideProfile as OutsideForm}
+
+-- A goal at its root, as it lies in a list: its form, its number, where it stands, and how many entries it has.
+pub record GoalEntry : Type 0 where
+  pub form : Form
+  pub at : ℕ
+  pub span : Span
+  pub size : ℕ
+
+-- the numbers of a form's terms keep the limit, where the goal has this number
+abbrev pub FormFits : ℕ → Form → Type 0
+FormFits at (EqualForm left right) = BothFit at left right
+FormFits at (ComparedForm name left right) = BothFit at left right
+FormFits at (CalledForm term) = Fits at term
+FormFits at other = Unit {0}
 
 abbrev pub goals_of : List Written → WrittenGoals
 goals_of [] = no_goals
@@ -16,12 +30,12 @@ goal_list no_goals = []
 goal_list (more_goals first rest) = first ∷ goal_list rest
 
 -- an entry before those of its sub-goals
-abbrev pub entry_before : Form → ℕ → Span → List Entry → List Entry
+abbrev pub entry_before : Form → ℕ → Span → List GoalEntry → List GoalEntry
 entry_before form at span inner = record { form = form; at = at; span = span; size = length inner + 1 } ∷ inner
 
 abbrev mutual
   -- the entries of a goal
-  pub entries_of : Written → List Entry
+  pub entries_of : Written → List GoalEntry
   entries_of (Truth span) = entry_before TruthForm 0 span []
   entries_of (Failure span) = entry_before FailureForm 0 span []
   entries_of (Equal at left right span) = entry_before (EqualForm left right) at span []
@@ -38,7 +52,7 @@ abbrev mutual
   entries_of (OutsideProfile span) = entry_before OutsideForm 0 span []
 
   -- the entries of goals, one after the other
-  pub all_entries : WrittenGoals → List Entry
+  pub all_entries : WrittenGoals → List GoalEntry
   all_entries no_goals = []
   all_entries (more_goals first rest) = entries_of first ++ all_entries rest
 
@@ -78,7 +92,7 @@ with_form NoForm at span goals = WrongForm span ∷ goals
 with_form OutsideForm at span goals = OutsideProfile span ∷ goals
 
 -- the goals that entries stand for
-abbrev pub goals_in : List Entry → List Written
+abbrev pub goals_in : List GoalEntry → List Written
 goals_in [] = []
 goals_in (entry ∷ entries) = with_form entry.form entry.at entry.span (goals_in entries)
 
@@ -88,9 +102,9 @@ first_goal [] = Truth no_span
 first_goal (goal ∷ goals) = goal
 
 -- the goal that entries stand for
-abbrev pub written_of : List Entry → Written
+abbrev pub written_of : List GoalEntry → Written
 written_of entries = first_goal (goals_in entries)
 
 -- Entries are as those of the goal that they stand for.
-abbrev pub AreEntries : List Entry → Type 0
+abbrev pub AreEntries : List GoalEntry → Type 0
 AreEntries entries = entries_of (written_of entries) ≡ entries

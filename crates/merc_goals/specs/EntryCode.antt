@@ -6,7 +6,7 @@ use Rattle.std.proofs.Math.Seq.{take-append_seam, drop-append_seam}
 use Rattle.std.proofs.lemmas.List.{append_assoc, append-nil}
 use Rattle.merc_base.specs.declared.place.Span.{Span}
 use Rattle.merc_goals.specs.Written.{Written, WrittenGoals, no_goals, more_goals, Truth, Failure, Equal, Compared, Called, Conjunction, Parallel, Disjunction, Conditional, Negated, Quantified, WrongForm, OutsideProfile}
-use Rattle.merc_goals.specs.declared.goal.Entry.{Entry}
+use Rattle.merc_goals.specs.Entries.{GoalEntry}
 use Rattle.merc_goals.specs.declared.goal.Form.{Form}
 use Rattle.merc_goals.specs.declared.goal.Form.TheVariants.{Truth as TruthForm, Failure as FailureForm, Equal as EqualForm, Compared as ComparedForm, Called as CalledForm, Conjunction as ConjunctionForm, Parallel as ParallelForm, Disjunction as DisjunctionForm, Conditional as ConditionalForm, Negated as NegatedForm, Quantified as QuantifiedForm, WrongForm as NoForm, OutsideProfile as OutsideForm}
 use Rattle.merc_base.specs.contracts.place.Span as place_span
@@ -27,7 +27,7 @@ taken_front make goals behind =
     ∙ ap (λ g. make g ∷ behind) (goals_of-goal_list goals)
 
 mutual
-  pub goals_in-entries_of : (goal : Written) (behind : List Entry) → goals_in (entries_of goal ++ behind) ≡ goal ∷ goals_in behind
+  pub goals_in-entries_of : (goal : Written) (behind : List GoalEntry) → goals_in (entries_of goal ++ behind) ≡ goal ∷ goals_in behind
   goals_in-entries_of (Truth span) behind = refl
   goals_in-entries_of (Failure span) behind = refl
   goals_in-entries_of (Equal at left right span) behind = refl
@@ -53,7 +53,7 @@ mutual
   goals_in-entries_of (WrongForm span) behind = refl
   goals_in-entries_of (OutsideProfile span) behind = refl
 
-  pub goals_in-all_entries : (goals : WrittenGoals) (behind : List Entry) → goals_in (all_entries goals ++ behind) ≡ goal_list goals ++ goals_in behind
+  pub goals_in-all_entries : (goals : WrittenGoals) (behind : List GoalEntry) → goals_in (all_entries goals ++ behind) ≡ goal_list goals ++ goals_in behind
   goals_in-all_entries no_goals behind = refl
   goals_in-all_entries (more_goals first rest) behind =
       ap goals_in (append_assoc (entries_of first) (all_entries rest) behind)
@@ -170,7 +170,7 @@ form_of-form_parts OutsideForm = refl
 abbrev pub form_code : Coded Form
 form_code = code_by (ℕ × (List ℕ × List Term)) (coded× coded_ℕ (coded× (coded_list coded_ℕ) (coded_list term_code))) form_parts form_of form_of-form_parts
 
-abbrev pub entry_code : Coded Entry
+abbrev pub entry_code : Coded GoalEntry
 entry_code =
     code_by (Form × (ℕ × (Span × ℕ))) (coded× form_code (coded× coded_ℕ (coded× place_span.the_row.coded coded_ℕ)))
     (λ e. (e.form, (e.at, (e.span, e.size))))
@@ -179,4 +179,4 @@ entry_code =
 
 -- a goal is stored as its entries
 abbrev pub written_code : Coded Written
-written_code = code_by (List Entry) (coded_list entry_code) entries_of written_of written_of-entries_of
+written_code = code_by (List GoalEntry) (coded_list entry_code) entries_of written_of written_of-entries_of

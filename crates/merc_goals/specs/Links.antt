@@ -12,7 +12,7 @@ use Rattle.merc_goals.specs.declared.roles.Role.{Role}
 use Rattle.merc_goals.specs.declared.roles.Role.TheVariants.{Conjunction as ConjunctionRole, Parallel as ParallelRole, Disjunction as DisjunctionRole}
 use Rattle.merc_goals.specs.declared.roles.ChainKind.{ChainKind}
 use Rattle.merc_goals.specs.declared.roles.ChainKind.TheVariants.{Conjuncts, ParallelConjuncts, Disjuncts}
-use Rattle.merc_goals.specs.declared.numbers.Numbered.{Numbered}
+use Rattle.merc_goals.specs.Numbers.{NumberedTerm}
 use Rattle.merc_goals.specs.declared.links.Both.{Both}
 use Rattle.merc_goals.specs.declared.links.Cell.{Cell}
 
@@ -25,7 +25,7 @@ abbrev pub sides_by : ℕ → ℕ → Operands → Option Both
 sides_by operator at (Two name left right) = if name == operator then Some (sides_of at left right) else None
 sides_by operator at other = None
 
-abbrev pub sides : ℕ → Numbered → Option Both
+abbrev pub sides : ℕ → NumberedTerm → Option Both
 sides operator whole = sides_by operator whole.at (operands_of whole.term)
 
 -- the condition and the then part of `if C then T`
@@ -33,7 +33,7 @@ abbrev pub condition_by : ℕ → Operands → Option Both
 condition_by at (One name only) = if name == if_name then sides then_name (left_of at only) else None
 condition_by at other = None
 
-abbrev pub condition_sides : Numbered → Option Both
+abbrev pub condition_sides : NumberedTerm → Option Both
 condition_sides whole = condition_by whole.at (operands_of whole.term)
 
 -- `C -> T`
@@ -59,11 +59,11 @@ abbrev pub link_by : ChainKind → ℕ → Operands → Option Both
 link_by kind at (Two name left right) = if is_joined kind (role_of name) left then Some (sides_of at left right) else None
 link_by kind at other = None
 
-abbrev pub link_of : ChainKind → Numbered → Option Both
+abbrev pub link_of : ChainKind → NumberedTerm → Option Both
 link_of kind whole = link_by kind whole.at (operands_of whole.term)
 
 -- the members of a chain, from the left
-abbrev pub chain : ChainKind → ℕ → Term → List Numbered
+abbrev pub chain : ChainKind → ℕ → Term → List NumberedTerm
 chain kind at (Application name None (more left (more right none)) span) =
     if is_joined kind (role_of name) left
     then chain kind (at + 2) left ++ chain kind (at + 2 + parts left) right

@@ -40,7 +40,7 @@ pub enum Form<'a> {
     OutsideProfile,
 }
 
-/// A goal at its root, which stands before its sub-goals.
+/// A goal at its root, which stands before its sub-goals. The numbers of its terms and their parts are at most 2^62.
 #[derive(Drop)]
 pub struct Entry<'a> {
     pub form: Form<'a>,
@@ -52,6 +52,20 @@ pub struct Entry<'a> {
     /// How many entries the whole goal has, this one and those of all its sub-goals. So many further on in the list
     /// stands what follows the goal.
     pub size: usize,
+}
+
+impl<'a> Model for Entry<'a> {
+    ghost use Rattle.merc_goals.specs.Entries.{FormFits, GoalEntry};
+
+    ghost Value = { GoalEntry };
+
+    ghost use Rattle.merc_goals.specs.EntryCode.{entry_code};
+
+    ghost coded = { entry_code };
+
+    ghost view = { λ e. record { form = e.form; at = e.at; span = e.span; size = e.size } };
+
+    ghost invariant = { λ e. FormFits e.at e.form };
 }
 
 /// A goal as it is written. It lies in one list of entries, a goal before its sub-goals and these from the left, so

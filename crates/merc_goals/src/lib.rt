@@ -11,5 +11,5 @@ mod roles;
 
 pub use faults::earlier;
 pub use goal::{Entry, Form, WrittenGoal};
-pub use numbers::{Numbered, left_of, number_behind, number_past, right_of};
+pub use numbers::{Numbered, has_few_parts, left_of, number_behind, right_of};
 pub use reading::written_goal;

@@ -19,35 +19,35 @@ pub(crate) struct Both<'a> {
 }
 
 // Both sides of the operator, where the term is such an application.
-pub(crate) fn sides<'a>(operator: Name, whole: &Numbered<'a>) -> Result<Option<Both<'a>>, NoMemory>
-    ensures { IfOk result (λ found. found ≡ sides operator whole.now) }
+pub(crate) fn sides<'a>(operator: Name, whole: &Numbered<'a>) -> Option<Both<'a>>
+    ensures { result ≡ sides operator whole.now }
 {
     match operands_of(&whole.term) {
         Operands::Two(name, left, right) => {
             if name != operator {
-                return Ok(None);
+                return None;
             }
-            let right = right_of(whole.at, &left, right)?;
-            let left = left_of(whole.at, left)?;
-            Ok(Some(Both { left, right }))
+            let right = right_of(whole.at, &left, right);
+            let left = left_of(whole.at, left);
+            Some(Both { left, right })
         }
-        _ => Ok(None),
+        _ => None,
     }
 }
 
 // The condition and the then part of `if C then T`.
-pub(crate) fn condition_sides<'a>(whole: &Numbered<'a>) -> Result<Option<Both<'a>>, NoMemory>
-    ensures { IfOk result (λ found. found ≡ condition_sides whole.now) }
+pub(crate) fn condition_sides<'a>(whole: &Numbered<'a>) -> Option<Both<'a>>
+    ensures { result ≡ condition_sides whole.now }
 {
     match operands_of(&whole.term) {
         Operands::One(name, only) => {
             if name != Name::IF {
-                return Ok(None);
+                return None;
             }
-            let only = left_of(whole.at, only)?;
+            let only = left_of(whole.at, only);
             sides(Name::THEN, &only)
         }
-        _ => Ok(None),
+        _ => None,
     }
 }
 
@@ -74,19 +74,19 @@ pub(crate) fn is_arrow(term: &TermRef<'_>) -> bool
 }
 
 // Both sides of a term that goes on a chain.
-fn link_of<'a>(kind: ChainKind, whole: &Numbered<'a>) -> Result<Option<Both<'a>>, NoMemory>
-    ensures { IfOk result (λ found. found ≡ link_of kind whole.now) }
+fn link_of<'a>(kind: ChainKind, whole: &Numbered<'a>) -> Option<Both<'a>>
+    ensures { result ≡ link_of kind whole.now }
 {
     match operands_of(&whole.term) {
         Operands::Two(name, left, right) => {
             if !is_joined(kind, name, &left) {
-                return Ok(None);
+                return None;
             }
-            let right = right_of(whole.at, &left, right)?;
-            let left = left_of(whole.at, left)?;
-            Ok(Some(Both { left, right }))
+            let right = right_of(whole.at, &left, right);
+            let left = left_of(whole.at, left);
+            Some(Both { left, right })
         }
-        _ => Ok(None),
+        _ => None,
     }
 }
 
@@ -102,7 +102,7 @@ pub(crate) fn chain<'a>(
     let mut stack = Vec::new(alloc);
     stack.push(root.copy())?;
     while let Some(numbered) = stack.pop() {
-        match link_of(kind, &numbered)? {
+        match link_of(kind, &numbered) {
             Some(link) => {
                 stack.push(link.right)?;
                 stack.push(link.left)?;

@@ -1,19 +1,47 @@
 //! Numbers of the parts of a text.
-ghost use Rattle.std.specs.Prelude.{◌≡◌, ◌+◌, IfOk};
+ghost use Rattle.std.specs.Prelude.{◌≡◌, ◌+◌, ◌<◌, ◌≤◌, ◌^◌};
 ghost use Rattle.merc_goals.specs.Written.{parts};
-ghost use Rattle.merc_goals.specs.Numbers.{left_of, right_of};
+ghost use Rattle.merc_goals.specs.Numbers.{left_of, right_of, first_limit, number_limit, BothFit, Fits};
 
-use merc_base::NoMemory;
 use merc_tree::TermRef;
+use std::marker::Model;
 
-/// A term with its number among the parts of a text.
+/// A term with its number among the parts of a text. The numbers of all its parts are at most 2^62.
 #[derive(Drop)]
 pub struct Numbered<'a> {
     pub term: TermRef<'a>,
     pub at: usize,
 }
 
+impl<'a> Model for Numbered<'a> {
+    ghost use Rattle.merc_goals.specs.Numbers.{Fits, NumberedTerm, numbered_code};
+
+    ghost Value = { NumberedTerm };
+
+    ghost coded = { numbered_code };
+
+    ghost view = { λ n. record { term = n.term; at = n.at } };
+
+    ghost invariant = { λ n. Fits n.at n.term };
+}
+
 impl<'a> Numbered<'a> {
+    /// The term with the number from which its parts are numbered, which is at most 2^61.
+    pub fn first(term: TermRef<'a>, at: usize) -> Numbered<'a>
+        requires { at ≤ first_limit }
+        ensures { result ≡ record { term = term.entry; at = at } }
+    {
+        has_few_parts(&term);
+        Numbered { term, at }
+    }
+
+    /// The numbers of the term and its parts keep the limit.
+    pub fn keeps_limit(&self)
+        ensures { Fits self.now.at self.now.term }
+    {
+        let _ = &self.at;
+    }
+
     /// The same term with its number once more.
     pub fn copy(&self) -> Numbered<'a>
         ensures { result ≡ self.now }
@@ -25,48 +53,41 @@ impl<'a> Numbered<'a> {
     }
 }
 
-/// A number so much further on.
-///
-/// # Errors
-///
-/// `NoMemory` where it would pass the greatest `usize`, here and in the calls below. The numbers of no text that lies in
-/// memory do.
-pub fn number_past(at: usize, more: usize) -> Result<usize, NoMemory>
-    ensures { IfOk result (λ number. number ≡ at + more) }
+/// A term has fewer than 2^58 numbers, since each of its parts takes memory.
+#[tactic(auto, using(crate::proofs::PartCounts::parts_shapes))]
+pub fn has_few_parts(term: &TermRef<'_>)
+    ensures { parts term.now < 2 ^ 58 }
 {
-    match at.checked_add(more) {
-        Some(number) => Ok(number),
-        None => Err(NoMemory),
-    }
+    let _ = term.part_count();
 }
 
-/// The number behind those of a term and its parts.
+/// The number behind those of a term and its parts, of which the first is this.
 #[tactic(auto, using(crate::proofs::PartCounts::parts_shapes))]
-pub fn number_behind(at: usize, term: &TermRef<'_>) -> Result<usize, NoMemory>
-    ensures { IfOk result (λ number. number ≡ at + parts term.now) }
+pub fn number_behind(at: usize, term: &TermRef<'_>) -> usize
+    requires { at ≤ number_limit }
+    ensures number { result ≡ at + parts term.now }
+    ensures few { parts term.now < 2 ^ 58 }
 {
     let count = term.part_count();
-    let half = number_past(at, count)?;
-    number_past(half, count)
+    at + count + count
 }
 
 /// The first argument of the term with this number.
-pub fn left_of<'a>(at: usize, left: TermRef<'a>) -> Result<Numbered<'a>, NoMemory>
-    ensures { IfOk result (λ numbered. numbered ≡ left_of at left.entry) }
+pub fn left_of<'a>(at: usize, left: TermRef<'a>) -> Numbered<'a>
+    requires { Fits (at + 2) left }
+    ensures { result ≡ left_of at left.entry }
 {
-    let at = number_past(at, 2)?;
-    Ok(Numbered { term: left, at })
+    Numbered {
+        term: left,
+        at: at + 2,
+    }
 }
 
 /// The second argument of the term with this number, behind the first.
-pub fn right_of<'a>(
-    at: usize,
-    left: &TermRef<'a>,
-    right: TermRef<'a>,
-) -> Result<Numbered<'a>, NoMemory>
-    ensures { IfOk result (λ numbered. numbered ≡ right_of at left.now right.entry) }
+pub fn right_of<'a>(at: usize, left: &TermRef<'a>, right: TermRef<'a>) -> Numbered<'a>
+    requires { BothFit at left.now right }
+    ensures { result ≡ right_of at left.now right.entry }
 {
-    let first = number_past(at, 2)?;
-    let at = number_behind(first, left)?;
-    Ok(Numbered { term: right, at })
+    let at = number_behind(at + 2, left);
+    Numbered { term: right, at }
 }

@@ -1,7 +1,8 @@
 //! What is to be done to write down the entries of a goal, from its last entry to its first.
-ghost use Rattle.std.specs.Prelude.{◌≡◌, [], ◌∷◌, ◌++◌, map, OnOk};
+ghost use Rattle.std.specs.Prelude.{◌≡◌, ◌+◌, [], ◌∷◌, ◌++◌, map, OnOk};
 ghost use Rattle.merc_tree.specs.Term.{span_of};
 ghost use Rattle.merc_tree.specs.Shape.{shape_of};
+ghost use Rattle.merc_goals.specs.Numbers.{Fits};
 ghost use Rattle.merc_goals.specs.Roles.{role_of};
 ghost use Rattle.merc_goals.specs.Plans.{plan, plan_by, name_plan, unapplied_plan, one_plan, two_plan, chain_form, chain_plan, alternatives_plan, else_plan, conditional_plan, some_plan, all_plan, call_plan, plain_plan};
 
@@ -41,8 +42,8 @@ pub(crate) fn plan<'a>(
         Operands::Zero(name) => plan_name(tasks, whole, name, start),
         Operands::One(name, only) => plan_one(tasks, whole, name, only, start),
         Operands::Two(name, left, right) => {
-            let right = right_of(whole.at, &left, right)?;
-            let left = left_of(whole.at, left)?;
+            let right = right_of(whole.at, &left, right);
+            let left = left_of(whole.at, left);
             plan_two(alloc, tasks, whole, name, Both { left, right }, start)
         }
         Operands::Many(_) | Operands::Qualified => put_call(tasks, whole, start),
@@ -91,10 +92,11 @@ fn plan_one<'a>(
     only: TermRef<'a>,
     start: usize,
 ) -> Result<(), NoMemory>
+    requires { Fits (whole.now.at + 2) only }
     ensures { OnOk result (tasks.new.items ≡ tasks.old.items ++ one_plan start whole.now name only.entry) }
 {
     if name == Name::NOT || name == Name::NOT_PROVABLE {
-        let goal = left_of(whole.at, only)?;
+        let goal = left_of(whole.at, only);
         put_plain(tasks, Form::Negated, whole.term.span(), start)?;
         read(tasks, goal)
     } else if name == Name::IF {
@@ -179,7 +181,7 @@ fn plan_alternatives<'a>(
 ) -> Result<(), NoMemory>
     ensures { OnOk result (tasks.new.items ≡ tasks.old.items ++ alternatives_plan start whole.now both.entry) }
 {
-    match sides(Name::ARROW, &both.left)? {
+    match sides(Name::ARROW, &both.left) {
         Some(parts) => { plan_conditional(tasks, parts, both.right, whole.term.span(), start) }
         None => plan_chain(alloc, tasks, ChainKind::Disjuncts, whole, start),
     }
@@ -194,7 +196,7 @@ fn plan_else<'a>(
 ) -> Result<(), NoMemory>
     ensures { OnOk result (tasks.new.items ≡ tasks.old.items ++ else_plan start both.entry span) }
 {
-    match condition_sides(&both.left)? {
+    match condition_sides(&both.left) {
         Some(parts) => plan_conditional(tasks, parts, both.right, span, start),
         None => put_plain(tasks, Form::WrongForm, span, start),
     }

@@ -1,7 +1,8 @@
 //! How a term is read as a goal.
-ghost use Rattle.std.specs.Prelude.{◌≡◌, reverse, IfOk};
+ghost use Rattle.std.specs.Prelude.{◌≡◌, ◌≤◌, reverse, IfOk};
 ghost use Rattle.merc_goals.specs.Written.{written};
 ghost use Rattle.merc_goals.specs.Entries.{entries_of};
+ghost use Rattle.merc_goals.specs.Numbers.{first_limit};
 
 use crate::goal::{Entry, WrittenGoal};
 use crate::numbers::Numbered;
@@ -10,23 +11,20 @@ use merc_base::NoMemory;
 use merc_tree::TermRef;
 use std::alloc::Global;
 
-/// What a term is as a goal. `at` is the term's number among the parts of its text.
+/// What a term is as a goal. `at` is the term's number among the parts of its text, at most 2^61.
 ///
 /// # Errors
 ///
-/// `NoMemory` says that memory was refused, or that the numbers of the parts go past the greatest `usize`, which those of
-/// no text in memory do.
+/// `NoMemory` says that memory was refused.
 pub fn written_goal<'a>(
     alloc: Global,
     term: &TermRef<'a>,
     at: usize,
 ) -> Result<WrittenGoal<'a>, NoMemory>
+    requires { at ≤ first_limit }
     ensures { IfOk result (λ goal. goal ≡ written at term.now) }
 {
-    let root = Numbered {
-        term: term.copy(),
-        at,
-    };
+    let root = Numbered::first(term.copy(), at);
     let mut entries = backward_entries(alloc, root)?;
     entries.reverse();
     Ok(WrittenGoal { entries })
@@ -41,7 +39,10 @@ fn backward_entries<'a>(alloc: Global, root: Numbered<'a>) -> Result<Vec<Entry<'
     tasks.push(Task::Read(root))?;
     while let Some(task) = tasks.pop() {
         match task {
-            Task::Read(numbered) => plan(alloc, &mut tasks, &numbered, entries.len())?,
+            Task::Read(numbered) => {
+                numbered.keeps_limit();
+                plan(alloc, &mut tasks, &numbered, entries.len())?
+            }
             Task::Put {
                 form,
                 at,
