@@ -2,7 +2,7 @@
 use Rattle.std.specs.Prelude.{◌≡◌, ℕ, Bool, List, [], ◌∷◌}
 use Rattle.merc_goals.specs.Written.{Written, Quantified}
 use Rattle.merc_goals.specs.Entries.{first_goal, goals_in}
-use Rattle.merc_goals.specs.declared.goal.Entry.{Entry}
+use Rattle.merc_goals.specs.Entries.{GoalEntry}
 use Rattle.merc_scopes.specs.declared.occurrence.Occurrence.{Occurrence}
 use Rattle.merc_scopes.specs.Scopes.{at_of, free, introduced, own}
 
@@ -12,7 +12,7 @@ Gives blank (Quantified variables goal span) found = found ≡ own variables (fr
 Gives blank other found = (name : ℕ) → at_of name found ≡ at_of name (introduced blank other)
 
 -- such a list for each of a goal's entries
-abbrev pub AreBindings : (ℕ → Bool) → List Entry → List (List Occurrence) → Type 0
+abbrev pub AreBindings : (ℕ → Bool) → List GoalEntry → List (List Occurrence) → Type 0
 AreBindings blank [] [] = Unit {0}
 AreBindings blank [] (found ∷ rest) = ⊥
 AreBindings blank (entry ∷ entries) [] = ⊥

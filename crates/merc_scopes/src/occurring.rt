@@ -6,7 +6,7 @@ ghost use Rattle.merc_tree.specs.Shape.{arguments_of};
 ghost use Rattle.merc_goals.specs.Written.{parts};
 ghost use Rattle.merc_scopes.specs.Scopes.{at_of, is_blank, occurrence, occurrences, occurrences_of};
 ghost use Rattle.merc_scopes.specs.FirstPlaces.{place_in, IsInStep, Lists};
-ghost use Rattle.merc_goals.specs.Numbers.{numbered_from};
+ghost use Rattle.merc_goals.specs.Numbers.{numbered_from, BothFit, Fits};
 ghost use Rattle.merc_scopes.specs.Walking.{stacked};
 
 use crate::is_blank;
@@ -24,11 +24,12 @@ pub(crate) fn variables_of_sides(
     left: &TermRef<'_>,
     right: &TermRef<'_>,
 ) -> Result<Listing, NoMemory>
+    requires { BothFit at left.now right.now }
     ensures { IfOk result (λ found. Lists found (occurrences (is_blank names.now) (at + 2) left.now ++ occurrences (is_blank names.now) (at + 2 + parts left.now) right.now)) }
 {
     let mut stack = Vec::new(alloc);
-    stack.push(right_of(at, left, right.copy())?)?;
-    stack.push(left_of(at, left.copy())?)?;
+    stack.push(right_of(at, left, right.copy()))?;
+    stack.push(left_of(at, left.copy()))?;
     variables(alloc, names, stack)
 }
 
@@ -39,6 +40,7 @@ pub(crate) fn variables_of_arguments(
     at: usize,
     term: &TermRef<'_>,
 ) -> Result<Listing, NoMemory>
+    requires { Fits at term.now }
     ensures { IfOk result (λ found. Lists found (occurrences_of (is_blank names.now) (at + 2) (terms_of (arguments_of term.now)))) }
 {
     let mut stack = Vec::new(alloc);
@@ -82,10 +84,11 @@ fn push_arguments<'a>(
     at: usize,
     term: &TermRef<'a>,
 ) -> Result<(), NoMemory>
+    requires { Fits at term.now }
     ensures { OnOk result (stack.new.items ≡ stack.old.items ++ reverse (numbered_from (at + 2) (arguments_of term.now))) }
 {
     let mut rest = term.arguments();
-    let mut past = number_behind(at, term)?;
+    let mut past = number_behind(at, term);
     while let Some(last) = rest.take_last() {
         past = number_before(past, &last);
         stack.push(Numbered {
