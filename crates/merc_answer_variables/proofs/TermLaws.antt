@@ -1,5 +1,5 @@
 -- The variables of terms are those of their first term's root, and those of its arguments and the other terms.
-use Rattle.std.proofs.Common.{◌≡◌, ℕ, ◌+◌, ◌<◌, Bool, List, [], ◌∷◌, ◌++◌, reverse, refl, ap, sym, ◌∙◌, arith}
+use Rattle.std.proofs.Common.{◌≡◌, ℕ, ◌+◌, Bool, List, [], ◌∷◌, ◌++◌, reverse, refl, ap, sym, ◌∙◌, arith}
 use Rattle.std.proofs.lemmas.List.{append_assoc, reverse-append, reverse-reverse}
 use Rattle.merc_tree.specs.Term.{Term, Terms, Variable, Integer, Text, Application, none, more, list_of, terms_of}
 use Rattle.merc_tree.specs.Shape.{arguments_of}
@@ -10,8 +10,7 @@ use Rattle.merc_answer_variables.specs.Reading.{own_occurrence, listed}
 
 -- the numbers that terms have
 abbrev pub all_parts : List Term → ℕ
-all_parts [] = 0
-all_parts (first ∷ rest) = parts first + all_parts rest
+all_parts terms = parts_of (terms_of terms)
 
 listed-at : (blank : ℕ → Bool) (at other : ℕ) (terms : List Term) → at ≡ other → listed blank at terms ≡ listed blank other terms
 listed-at blank at other terms same = ap (λ n. listed blank n terms) same
@@ -37,11 +36,11 @@ parts-arguments : (arguments : Terms) (rest : List Term) → all_parts (list_of 
 parts-arguments none rest = omega arith
 parts-arguments (more first others) rest = omega (arith, parts-arguments others rest)
 
-fewer_parts : (term : Term) (rest : List Term) → all_parts (arguments_of term ++ rest) < all_parts (term ∷ rest)
-fewer_parts (Variable name span) rest = omega arith
-fewer_parts (Integer value span) rest = omega arith
-fewer_parts (Text name span) rest = omega arith
-fewer_parts (Application name qualifier arguments span) rest = omega (arith, parts-arguments arguments rest)
+root_parts : (term : Term) (rest : List Term) → all_parts (term ∷ rest) ≡ 2 + all_parts (arguments_of term ++ rest)
+root_parts (Variable name span) rest = omega arith
+root_parts (Integer value span) rest = omega arith
+root_parts (Text name span) rest = omega arith
+root_parts (Application name qualifier arguments span) rest = omega (arith, parts-arguments arguments rest)
 
 popped_reversed : (terms popped : List Term) (term : Term) → terms ≡ popped ++ term ∷ [] → reverse terms ≡ term ∷ reverse popped
 popped_reversed terms popped term popping = ap reverse popping ∙ reverse-append popped (term ∷ [])
@@ -61,13 +60,13 @@ term_step blank at terms popped pushed term found longer whole popping pushing f
     ∙ ap (λ l. found ++ listed blank at l) (sym (popped_reversed terms popped term popping))
     ∙ is
 
-pub term_smaller : (terms popped pushed : List Term) (term : Term) → terms ≡ popped ++ term ∷ [] → pushed ≡ popped ++ reverse (arguments_of term)
-    → all_parts (reverse pushed) < all_parts (reverse terms)
-term_smaller terms popped pushed term popping pushing =
-    let fewer = fewer_parts term (reverse popped) in
+pub term_parts : (terms popped pushed : List Term) (term : Term) → terms ≡ popped ++ term ∷ [] → pushed ≡ popped ++ reverse (arguments_of term)
+    → all_parts (reverse terms) ≡ 2 + all_parts (reverse pushed)
+term_parts terms popped pushed term popping pushing =
+    let root = root_parts term (reverse popped) in
     let left = ap all_parts (pushed_reversed popped pushed (arguments_of term) pushing) in
     let right = ap all_parts (popped_reversed terms popped term popping) in
-    omega (arith, fewer, left, right)
+    omega (arith, root, left, right)
 
 pub listed-terms : (blank : ℕ → Bool) (at : ℕ) (terms : List Term) → listed blank at terms ≡ occurrences_of blank at (terms_of terms)
 listed-terms blank at [] = refl

@@ -17,8 +17,7 @@ use std::alloc::Global;
 ///
 /// # Errors
 ///
-/// `NoMemory` where memory was refused, or where the numbers of the parts go past the greatest `usize`, which those of no
-/// text in memory do.
+/// `NoMemory` where memory was refused.
 pub fn answer_variables(
     alloc: Global,
     goal: &WrittenGoal<'_>,

@@ -1,13 +1,13 @@
 //! The variables of terms, in the order of the text.
-ghost use Rattle.std.specs.Prelude.{◌≡◌, ◌+◌, ◌++◌, reverse, IfOk, OnOk};
+ghost use Rattle.std.specs.Prelude.{◌≡◌, ◌≤◌, ◌+◌, ◌++◌, reverse, IfOk, OnOk};
 ghost use Rattle.merc_tree.specs.Term.{terms_of};
 ghost use Rattle.merc_tree.specs.Shape.{arguments_of};
-ghost use Rattle.merc_goals.specs.Written.{parts};
+ghost use Rattle.merc_goals.specs.Written.{parts, parts_of};
+ghost use Rattle.merc_goals.specs.Numbers.{number_limit, BothFit, Fits};
 ghost use Rattle.merc_scopes.specs.Scopes.{is_blank, occurrences, occurrences_of};
 ghost use Rattle.merc_answer_variables.specs.Reading.{own_occurrence, listed};
 
 use merc_base::{Names, NoMemory};
-use merc_goals::number_past;
 use merc_scopes::{Occurrence, is_blank};
 use merc_tree::{Arguments, Shape, TermRef};
 use std::alloc::Global;
@@ -20,12 +20,13 @@ pub(crate) fn side_variables(
     left: &TermRef<'_>,
     right: &TermRef<'_>,
 ) -> Result<Vec<Occurrence>, NoMemory>
+    requires { BothFit at left.now right.now }
     ensures { IfOk result (λ found. found.items ≡ occurrences (is_blank names.now) (at + 2) left.now ++ occurrences (is_blank names.now) (at + 2 + parts left.now) right.now) }
 {
     let mut terms = Vec::new(alloc);
     terms.push(right.copy())?;
     terms.push(left.copy())?;
-    term_variables(alloc, names, number_past(at, 2)?, terms)
+    term_variables(alloc, names, at + 2, terms)
 }
 
 /// The variables of the arguments of a term whose number is this.
@@ -35,11 +36,12 @@ pub(crate) fn argument_variables(
     at: usize,
     term: &TermRef<'_>,
 ) -> Result<Vec<Occurrence>, NoMemory>
+    requires { Fits at term.now }
     ensures { IfOk result (λ found. found.items ≡ occurrences_of (is_blank names.now) (at + 2) (terms_of (arguments_of term.now))) }
 {
     let mut terms = Vec::new(alloc);
     push_arguments(&mut terms, term.arguments())?;
-    term_variables(alloc, names, number_past(at, 2)?, terms)
+    term_variables(alloc, names, at + 2, terms)
 }
 
 // The variables of terms, from the last to the first of them. The last has this number.
@@ -49,6 +51,7 @@ fn term_variables(
     at: usize,
     mut terms: Vec<TermRef<'_>>,
 ) -> Result<Vec<Occurrence>, NoMemory>
+    requires { at + parts_of (terms_of (reverse terms.items)) ≤ number_limit }
     ensures { IfOk result (λ found. found.items ≡ listed (is_blank names.now) at (reverse terms.entry.items)) }
 {
     let mut found = Vec::new(alloc);
@@ -56,7 +59,7 @@ fn term_variables(
     while let Some(term) = terms.pop() {
         push_variable(names, &term, at, &mut found)?;
         push_arguments(&mut terms, term.arguments())?;
-        at = number_past(at, 2)?;
+        at += 2;
     }
     Ok(found)
 }

@@ -4,19 +4,19 @@ use Rattle.std.proofs.lemmas.Result.{IfOk-weaker}
 use Rattle.merc_goals.specs.Written.{Written}
 use Rattle.merc_goals.specs.Entries.{entries_of, goals_in}
 use Rattle.merc_goals.specs.EntryCode.{goals_in-entries_of}
-use Rattle.merc_goals.specs.declared.goal.Entry.{Entry}
+use Rattle.merc_goals.specs.Entries.{GoalEntry}
 use Rattle.merc_scopes.specs.Scopes.{is_blank}
 use Rattle.merc_answer_variables.specs.Reading.{IsRead}
 use Rattle.merc_answer_variables.proofs.answers.answer_variables.Goals as goal
 
-none_left : (rest : List Entry) → length rest < 1 → rest ≡ []
+none_left : (rest : List GoalEntry) → length rest < 1 → rest ≡ []
 none_left [] less = refl
 none_left (first ∷ rest) less = absurd (omega (arith, less))
 
 -- All entries are read: they stand for the goal alone.
-whole_goal : (goal : Written) (rest behind : List Entry) → length rest < 1 → rest ++ behind ≡ entries_of goal → goals_in behind ≡ goal ∷ []
+whole_goal : (goal : Written) (rest behind : List GoalEntry) → length rest < 1 → rest ++ behind ≡ entries_of goal → goals_in behind ≡ goal ∷ []
 whole_goal goal rest behind less whole =
-    ap goals_in (ap (λ (l : List Entry). l ++ behind) (sym (none_left rest less)) ∙ whole ∙ sym (append-nil (entries_of goal))) ∙ goals_in-entries_of goal []
+    ap goals_in (ap (λ (l : List GoalEntry). l ++ behind) (sym (none_left rest less)) ∙ whole ∙ sym (append-nil (entries_of goal))) ∙ goals_in-entries_of goal []
 
 pub loop-rest-init : goal.loop-rest-init
 loop-rest-init c = record {
