@@ -8,7 +8,7 @@ use Rattle.merc_goal_tree.specs.declared.goal.Comparison.{Comparison}
 use Rattle.merc_known.specs.declared.callee.Callee.{Callee}
 use Rattle.merc_known.specs.declared.callee.Callee.TheVariants.{Predicate, Error}
 use Rattle.merc_scopes.specs.declared.occurrence.Occurrence.{Occurrence}
-use Rattle.merc_goals.specs.declared.numbers.Numbered.{Numbered}
+use Rattle.merc_goals.specs.Numbers.{NumberedTerm}
 use Rattle.merc_flat_form.specs.declared.tasks.Task.{Task}
 use Rattle.merc_flat_form.specs.declared.tasks.Task.TheVariants.{Put}
 use Rattle.merc_flat_form.specs.FlatForm.{argument_terms, variable_at, variables_at, naming_all, call_of, called, compare, comparison_of, compared}
@@ -40,8 +40,8 @@ module _ (blank : ℕ → Bool) (scope : List Occurrence) where
       → performed blank scope (compared_plan blank scope name (record { term = left; at = at + 2 }) (record { term = right; at = at + 2 + parts left }))
       ≡ compared blank scope at name left right
   compared-performed at name left right =
-      let first : Numbered = record { term = left; at = at + 2 } in
-      let second : Numbered = record { term = right; at = at + 2 + parts left } in
+      let first : NumberedTerm = record { term = left; at = at + 2 } in
+      let second : NumberedTerm = record { term = right; at = at + 2 + parts left } in
       let operands : List SimpleGoal = compare (comparison_of name) (variable_for blank scope first) (variable_for blank scope second) in
       joined blank scope (map (λ goal. Put goal) operands) (argument_tasks (first ∷ second ∷ []))
       (naming_all blank scope (at + 2) (more left (more right none))) operands
@@ -50,7 +50,7 @@ module _ (blank : ℕ → Bool) (scope : List Occurrence) where
       ∙ ap (λ v. naming_all blank scope (at + 2) (more left (more right none)) ++ compare (comparison_of name) v (variable_for blank scope second)) (variable-is blank scope (at + 2) left)
       ∙ ap (λ v. naming_all blank scope (at + 2) (more left (more right none)) ++ compare (comparison_of name) (variable_at blank scope (at + 2) left) v) (variable-is blank scope (at + 2 + parts left) right)
 
-  pub compared-planned : (at name : ℕ) (left right : Term) (both : Numbered × Numbered) (tasks planned : List Task)
+  pub compared-planned : (at name : ℕ) (left right : Term) (both : NumberedTerm × NumberedTerm) (tasks planned : List Task)
       → both ≡ sides_of at left right → tasks ≡ [] → planned ≡ tasks ++ compared_plan blank scope name both.0 both.1
       → performed blank scope planned ≡ compared blank scope at name left right
   compared-planned at name left right both tasks planned siding empty planning =
@@ -58,7 +58,7 @@ module _ (blank : ℕ → Bool) (scope : List Occurrence) where
       ∙ compared-performed at name left right
 
   -- a call behind the tasks of its arguments
-  abbrev called_plan : Callee → List Numbered → List Task
+  abbrev called_plan : Callee → List NumberedTerm → List Task
   called_plan callee arguments = map (λ goal. Put goal) (call_of callee (map (variable_for blank scope) arguments)) ++ argument_tasks arguments
 
   over_terms : (at : ℕ) (callee : Callee) (terms : Terms)
@@ -71,7 +71,7 @@ module _ (blank : ℕ → Bool) (scope : List Occurrence) where
       (arguments_named blank scope (at + 2) terms)
       ∙ ap (λ l. naming_all blank scope (at + 2) terms ++ call_of callee l) (variables-are blank scope (at + 2) terms)
 
-  pub called-performed : (at : ℕ) (callee : Callee) (call copied : Term) (arguments : List Numbered) (operands : List ℕ) (tasks put pushed : List Task)
+  pub called-performed : (at : ℕ) (callee : Callee) (call copied : Term) (arguments : List NumberedTerm) (operands : List ℕ) (tasks put pushed : List Task)
       → copied ≡ call → arguments ≡ numbered_arguments (record { term = copied; at = at }) → operands ≡ map (variable_for blank scope) arguments
       → tasks ≡ [] → put ≡ tasks ++ map (λ goal. Put goal) (call_of callee operands) → pushed ≡ put ++ argument_tasks arguments
       → performed blank scope pushed ≡ called blank scope at callee (argument_terms call)

@@ -10,7 +10,7 @@ use Rattle.merc_goal_tree.specs.declared.goal.SimpleGoal.{SimpleGoal}
 use Rattle.merc_goal_tree.specs.declared.goal.SimpleGoal.TheVariants.{Same}
 use Rattle.merc_scopes.specs.declared.occurrence.Occurrence.{Occurrence}
 use Rattle.merc_scopes.specs.Scopes.{occurrences, occurrences_of}
-use Rattle.merc_goals.specs.declared.numbers.Numbered.{Numbered}
+use Rattle.merc_goals.specs.Numbers.{NumberedTerm}
 use Rattle.merc_flat_form.specs.declared.tasks.Task.{Task}
 use Rattle.merc_flat_form.specs.declared.tasks.Task.TheVariants.{Give, Put}
 use Rattle.merc_flat_form.specs.FlatForm.{argument_terms, variable_of, head_scope, head_goal, head_goals, naming}
@@ -21,7 +21,7 @@ use Rattle.merc_flat_form.specs.HeadTasks.{named, head_part, head_parts, head_sa
 use Rattle.merc_flat_form.proofs.TaskLaws.{joined, performed-append}
 use Rattle.merc_flat_form.proofs.GoalLaws.{arguments-listed}
 
-pub reversed_step : (left pushed : List Numbered) (rest popped : List Numbered) (last : Numbered) (whole : List Numbered)
+pub reversed_step : (left pushed : List NumberedTerm) (rest popped : List NumberedTerm) (last : NumberedTerm) (whole : List NumberedTerm)
     → rest ≡ popped ++ last ∷ [] → pushed ≡ left ++ last ∷ [] → left ++ reverse rest ≡ whole → pushed ++ reverse popped ≡ whole
 reversed_step left pushed rest popped last whole popping pushing before =
     ap (λ l. l ++ reverse popped) pushing
@@ -30,15 +30,15 @@ reversed_step left pushed rest popped last whole popping pushing before =
     ∙ before
 
 -- how many parts terms have
-abbrev pub sizes : List Numbered → ℕ
+abbrev pub sizes : List NumberedTerm → ℕ
 sizes [] = 0
 sizes (one ∷ rest) = parts one.term + sizes rest
 
-sizes-append : (front back : List Numbered) → sizes (front ++ back) ≡ sizes front + sizes back
+sizes-append : (front back : List NumberedTerm) → sizes (front ++ back) ≡ sizes front + sizes back
 sizes-append [] back = omega arith
 sizes-append (one ∷ rest) back = omega (arith, sizes-append rest back)
 
-sizes-reverse : (list : List Numbered) → sizes (reverse list) ≡ sizes list
+sizes-reverse : (list : List NumberedTerm) → sizes (reverse list) ≡ sizes list
 sizes-reverse [] = refl
 sizes-reverse (one ∷ rest) =
     omega (
@@ -59,7 +59,7 @@ arguments_less at (Text text span) = omega arith
 arguments_less at (Application name qualifier arguments span) =
     omega (arith, sizes-reverse (numbered_from (at + 2) (list_of arguments)), sizes-from (at + 2) arguments)
 
-pub part_less : (left popped pushed : List Numbered) (part : Numbered) → left ≡ popped ++ part ∷ []
+pub part_less : (left popped pushed : List NumberedTerm) (part : NumberedTerm) → left ≡ popped ++ part ∷ []
     → pushed ≡ popped ++ reverse (numbered_arguments part) → sizes pushed < sizes left
 part_less left popped pushed part popping pushing =
     omega (
@@ -77,16 +77,16 @@ some_parts (Integer value span) = omega arith
 some_parts (Text text span) = omega arith
 some_parts (Application name qualifier arguments span) = omega arith
 
-pub variable_less : (left popped : List Numbered) (part : Numbered) → left ≡ popped ++ part ∷ [] → sizes popped < sizes left
+pub variable_less : (left popped : List NumberedTerm) (part : NumberedTerm) → left ≡ popped ++ part ∷ [] → sizes popped < sizes left
 variable_less left popped part popping = omega (arith, ap sizes popping, sizes-append popped (part ∷ []), some_parts part.term)
 
 module _ (blank : ℕ → Bool) where
   -- the variables of terms on a stack, those of the last of them first
-  abbrev pub waiting : List Numbered → List Occurrence
+  abbrev pub waiting : List NumberedTerm → List Occurrence
   waiting [] = []
   waiting (one ∷ rest) = waiting rest ++ occurrences blank one.at one.term
 
-  waiting-append : (front back : List Numbered) → waiting (front ++ back) ≡ waiting back ++ waiting front
+  waiting-append : (front back : List NumberedTerm) → waiting (front ++ back) ≡ waiting back ++ waiting front
   waiting-append [] back = sym (append-nil (waiting back))
   waiting-append (one ∷ rest) back =
       ap (λ l. l ++ occurrences blank one.at one.term) (waiting-append rest back)
@@ -95,8 +95,8 @@ module _ (blank : ℕ → Bool) where
   waiting-reverse : (at : ℕ) (terms : Terms) → waiting (reverse (numbered_from at (list_of terms))) ≡ occurrences_of blank at terms
   waiting-reverse at none = refl
   waiting-reverse at (more first rest) =
-      let one : Numbered = record { term = first; at = at } in
-      let others : List Numbered = numbered_from (at + parts first) (list_of rest) in
+      let one : NumberedTerm = record { term = first; at = at } in
+      let others : List NumberedTerm = numbered_from (at + parts first) (list_of rest) in
       ap waiting (reverse-append (one ∷ []) others)
       ∙ waiting-append (reverse others) (one ∷ [])
       ∙ ap (λ l. occurrences blank at first ++ l) (waiting-reverse (at + parts first) rest)
@@ -114,7 +114,7 @@ module _ (blank : ℕ → Bool) where
   waiting-variable at name (Text text span) is = cc
   waiting-variable at name (Application other qualifier arguments span) is = cc
 
-  pub arguments_step : (left popped pushed : List Numbered) (part : Numbered) (found whole : List Occurrence) → left ≡ popped ++ part ∷ []
+  pub arguments_step : (left popped pushed : List NumberedTerm) (part : NumberedTerm) (found whole : List Occurrence) → left ≡ popped ++ part ∷ []
       → pushed ≡ popped ++ reverse (numbered_arguments part) → ((name : ℕ) → shape_of part.term ≡ VariableShape name → ⊥)
       → found ++ waiting left ≡ whole → found ++ waiting pushed ≡ whole
   arguments_step left popped pushed part found whole popping pushing other before =
@@ -123,7 +123,7 @@ module _ (blank : ℕ → Bool) where
       let first : waiting left ≡ occurrences blank part.at part.term ++ waiting popped = ap waiting popping ∙ waiting-append popped (part ∷ []) in
       ap (λ l. found ++ l) (after ∙ sym first) ∙ before
 
-  pub variable_step : (left popped : List Numbered) (part : Numbered) (name : ℕ) (found more_found whole : List Occurrence) → left ≡ popped ++ part ∷ []
+  pub variable_step : (left popped : List NumberedTerm) (part : NumberedTerm) (name : ℕ) (found more_found whole : List Occurrence) → left ≡ popped ++ part ∷ []
       → shape_of part.term ≡ VariableShape name → more_found ≡ found ++ named blank name part.at
       → found ++ waiting left ≡ whole → more_found ++ waiting popped ≡ whole
   variable_step left popped part name found more_found whole popping is pushing before =
@@ -141,12 +141,12 @@ module _ (blank : ℕ → Bool) where
       let first = Application name qualifier arguments span in
       ap (λ l. occurrences blank at first ++ l) (parts-named (number + 1) (at + parts first) rest)
 
-  pub scope-end : (items : List Numbered) (number : ℕ) (found : List Occurrence) → length items ≤ number
+  pub scope-end : (items : List NumberedTerm) (number : ℕ) (found : List Occurrence) → length items ≤ number
       → found ++ head_parts blank number (drop number items) ≡ head_parts blank 0 items → found ≡ head_parts blank 0 items
   scope-end items number found past before =
       sym (append-nil found) ∙ ap (λ l. found ++ head_parts blank number l) (sym (drop_all number items past)) ∙ before
 
-  pub scope-named : (at : ℕ) (head copied : Term) (arguments : List Numbered) → copied ≡ head
+  pub scope-named : (at : ℕ) (head copied : Term) (arguments : List NumberedTerm) → copied ≡ head
       → arguments ≡ numbered_arguments (record { term = copied; at = at })
       → head_parts blank 0 arguments ≡ head_scope blank 0 (at + 2) (argument_terms head)
   scope-named at head copied arguments copying listing =
@@ -155,7 +155,7 @@ module _ (blank : ℕ → Bool) where
 
 module _ (blank : ℕ → Bool) (scope : List Occurrence) where
   -- the last argument's task stands first
-  tasks-push : (number : ℕ) (front : List Numbered) (last : Numbered)
+  tasks-push : (number : ℕ) (front : List NumberedTerm) (last : NumberedTerm)
       → head_tasks blank scope number (front ++ last ∷ [])
       ≡ head_task blank scope (shape_of last.term) (number + length front) last ++ head_tasks blank scope number front
   tasks-push number [] last =
@@ -168,7 +168,7 @@ module _ (blank : ℕ → Bool) (scope : List Occurrence) where
       ∙ ap (λ n. head_task blank scope (shape_of last.term) n last ++ (head_tasks blank scope (number + 1) rest ++ head_task blank scope (shape_of first.term) number first))
       (omega arith)
 
-  pub head_step : (tasks pushed : List Task) (rest popped : List Numbered) (last : Numbered) (number : ℕ) (whole : List Task)
+  pub head_step : (tasks pushed : List Task) (rest popped : List NumberedTerm) (last : NumberedTerm) (number : ℕ) (whole : List Task)
       → rest ≡ popped ++ last ∷ [] → number ≡ length popped → pushed ≡ tasks ++ head_task blank scope (shape_of last.term) number last
       → tasks ++ head_tasks blank scope 0 rest ≡ whole → pushed ++ head_tasks blank scope 0 popped ≡ whole
   head_step tasks pushed rest popped last number whole popping counting pushing before =
@@ -198,7 +198,7 @@ module _ (blank : ℕ → Bool) (scope : List Occurrence) where
       (head_task blank scope (shape_of first) number (record { term = first; at = at })) _ _ (tasks-performed (number + 1) (at + parts first) rest)
       (task-performed number at first)
 
-  pub head-performed : (at : ℕ) (head copied : Term) (arguments : List Numbered) (tasks planned : List Task) → copied ≡ head
+  pub head-performed : (at : ℕ) (head copied : Term) (arguments : List NumberedTerm) (tasks planned : List Task) → copied ≡ head
       → arguments ≡ numbered_arguments (record { term = copied; at = at }) → tasks ≡ []
       → planned ≡ tasks ++ head_tasks blank scope 0 arguments → performed blank scope planned ≡ head_goals blank scope 0 (at + 2) (argument_terms head)
   head-performed at head copied arguments tasks planned copying listing empty planning =

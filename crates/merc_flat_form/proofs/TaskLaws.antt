@@ -14,7 +14,7 @@ use Rattle.merc_goal_tree.specs.declared.goal.Symbol.TheVariants.{Constructor, I
 use Rattle.merc_goal_tree.specs.declared.goal.Operation.{Operation}
 use Rattle.merc_goal_tree.specs.declared.goal.Operation.TheVariants.{Subtract}
 use Rattle.merc_scopes.specs.declared.occurrence.Occurrence.{Occurrence}
-use Rattle.merc_goals.specs.declared.numbers.Numbered.{Numbered}
+use Rattle.merc_goals.specs.Numbers.{NumberedTerm}
 use Rattle.merc_flat_form.specs.declared.tasks.Task.{Task}
 use Rattle.merc_flat_form.specs.declared.tasks.Task.TheVariants.{Give, Put}
 use Rattle.merc_flat_form.specs.FlatForm.{variable_at, variables_at, applied, naming, naming_all, is_negation, operation_of}
@@ -23,12 +23,12 @@ use Rattle.merc_flat_form.specs.Numbering.{numbered_arguments, is_negative}
 use Rattle.merc_flat_form.specs.Tasks.{argument_task, argument_tasks, arithmetic, applied_plan, negative_plan, variable_for, goals_of_task, performed, application_by, plan}
 
 -- the last argument's task comes last of all, and so stands first
-pub argument_tasks-push : (front : List Numbered) (last : Numbered) → argument_tasks (front ++ last ∷ []) ≡ argument_task last ++ argument_tasks front
+pub argument_tasks-push : (front : List NumberedTerm) (last : NumberedTerm) → argument_tasks (front ++ last ∷ []) ≡ argument_task last ++ argument_tasks front
 argument_tasks-push [] last = sym (append-nil (argument_task last))
 argument_tasks-push (first ∷ rest) last =
     ap (λ l. l ++ argument_task first) (argument_tasks-push rest last) ∙ append_assoc (argument_task last) (argument_tasks rest) (argument_task first)
 
-pub push_step : (tasks pushed : List Task) (left popped : List Numbered) (last : Numbered) (whole : List Task)
+pub push_step : (tasks pushed : List Task) (left popped : List NumberedTerm) (last : NumberedTerm) (whole : List Task)
     → left ≡ popped ++ last ∷ [] → pushed ≡ tasks ++ argument_task last → tasks ++ argument_tasks left ≡ whole → pushed ++ argument_tasks popped ≡ whole
 push_step tasks pushed left popped last whole popping pushing before =
     ap (λ l. l ++ argument_tasks popped) pushing
@@ -201,7 +201,7 @@ module _ (blank : ℕ → Bool) (scope : List Occurrence) where
 
   -- one step of the loop over tasks
 
-  pub give_step : (tasks popped planned : List Task) (variable : ℕ) (whole : Numbered) (goals all : List SimpleGoal)
+  pub give_step : (tasks popped planned : List Task) (variable : ℕ) (whole : NumberedTerm) (goals all : List SimpleGoal)
       → tasks ≡ popped ++ Give variable whole ∷ [] → planned ≡ popped ++ plan blank scope variable whole
       → goals ++ performed blank scope tasks ≡ all → goals ++ performed blank scope planned ≡ all
   give_step tasks popped planned variable whole goals all popping planning before =
@@ -220,7 +220,7 @@ module _ (blank : ℕ → Bool) (scope : List Occurrence) where
       ∙ ap (λ l. goals ++ l) (sym (ap (performed blank scope) popping ∙ performed-append popped (Put goal ∷ [])))
       ∙ before
 
-  pub give_size : (tasks popped planned : List Task) (variable : ℕ) (whole : Numbered)
+  pub give_size : (tasks popped planned : List Task) (variable : ℕ) (whole : NumberedTerm)
       → tasks ≡ popped ++ Give variable whole ∷ [] → planned ≡ popped ++ plan blank scope variable whole → total planned < total tasks
   give_size tasks popped planned variable whole popping planning =
       omega (

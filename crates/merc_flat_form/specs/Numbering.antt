@@ -4,14 +4,14 @@ use Rattle.merc_base.specs.Names.{minus_name}
 use Rattle.merc_tree.specs.Term.{Term, Variable, Integer, Text, Application}
 use Rattle.merc_tree.specs.Shape.{arguments_of}
 use Rattle.merc_goals.specs.Numbers.{left_of, numbered_from, right_of}
-use Rattle.merc_goals.specs.declared.numbers.Numbered.{Numbered}
+use Rattle.merc_goals.specs.Numbers.{NumberedTerm}
 
 -- the arguments of a term
-abbrev pub numbered_arguments : Numbered → List Numbered
+abbrev pub numbered_arguments : NumberedTerm → List NumberedTerm
 numbered_arguments whole = numbered_from (whole.at + 2) (arguments_of whole.term)
 
 -- both sides of the goal with this number
-abbrev pub sides_of : ℕ → Term → Term → Numbered × Numbered
+abbrev pub sides_of : ℕ → Term → Term → NumberedTerm × NumberedTerm
 sides_of at left right = (left_of at left, right_of at left right)
 
 abbrev pub is_variable : Term → Bool

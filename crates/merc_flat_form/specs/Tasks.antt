@@ -10,17 +10,17 @@ use Rattle.merc_goal_tree.specs.declared.goal.Symbol.TheVariants.{Constructor, I
 use Rattle.merc_goal_tree.specs.declared.goal.Operation.{Operation}
 use Rattle.merc_goal_tree.specs.declared.goal.Operation.TheVariants.{Subtract}
 use Rattle.merc_scopes.specs.declared.occurrence.Occurrence.{Occurrence}
-use Rattle.merc_goals.specs.declared.numbers.Numbered.{Numbered}
+use Rattle.merc_goals.specs.Numbers.{NumberedTerm}
 use Rattle.merc_flat_form.specs.declared.tasks.Task.{Task}
 use Rattle.merc_flat_form.specs.declared.tasks.Task.TheVariants.{Give, Put}
 use Rattle.merc_flat_form.specs.FlatForm.{naming, operation_of, variable_of, compare, comparison_of}
 use Rattle.merc_flat_form.specs.Numbering.{numbered_arguments, is_variable, is_negative}
 
 -- the variable of an argument gets its value, unless the argument is a variable itself
-abbrev pub argument_task : Numbered → List Task
+abbrev pub argument_task : NumberedTerm → List Task
 argument_task one = if is_variable one.term then [] else Give one.at one ∷ []
 
-abbrev pub argument_tasks : List Numbered → List Task
+abbrev pub argument_tasks : List NumberedTerm → List Task
 argument_tasks [] = []
 argument_tasks (first ∷ rest) = argument_tasks rest ++ argument_task first
 
@@ -54,7 +54,7 @@ module _ (blank : ℕ → Bool) (scope : List Occurrence) where
   variable_by at (TextShape text) = at
   variable_by at (ApplicationShape name qualifier arity) = at
 
-  abbrev pub variable_for : Numbered → ℕ
+  abbrev pub variable_for : NumberedTerm → ℕ
   variable_for one = variable_by one.at (shape_of one.term)
 
   abbrev pub goals_of_task : Task → List SimpleGoal
@@ -66,33 +66,33 @@ module _ (blank : ℕ → Bool) (scope : List Occurrence) where
   performed [] = []
   performed (task ∷ rest) = performed rest ++ goals_of_task task
 
-  abbrev pub application_by : Bool → ℕ → ℕ → Option ℕ → ℕ → List Numbered → List Task
+  abbrev pub application_by : Bool → ℕ → ℕ → Option ℕ → ℕ → List NumberedTerm → List Task
   application_by negative variable name qualifier at arguments =
       if negative
       then negative_plan variable name at (map variable_for arguments) (argument_tasks arguments)
       else applied_plan (if is_none qualifier then operation_of name else None) variable name (map variable_for arguments) (argument_tasks arguments)
 
-  abbrev pub application_plan : ℕ → ℕ → Option ℕ → ℕ → List Numbered → List Task
+  abbrev pub application_plan : ℕ → ℕ → Option ℕ → ℕ → List NumberedTerm → List Task
   application_plan variable name qualifier at arguments =
       application_by (is_negative name (is_none qualifier) (length arguments)) variable name qualifier at arguments
 
   -- a variable gets the value of a term of this shape
-  abbrev pub plan_by : Shape → ℕ → Numbered → List Task
+  abbrev pub plan_by : Shape → ℕ → NumberedTerm → List Task
   plan_by (VariableShape name) variable whole = Put (Same variable (variable_for whole)) ∷ []
   plan_by (IntegerShape value) variable whole = Put (ShapeGoal variable (IntegerSymbol value) []) ∷ []
   plan_by (TextShape text) variable whole = Put (ShapeGoal variable (TextSymbol text) []) ∷ []
   plan_by (ApplicationShape name qualifier arity) variable whole = application_plan variable name qualifier whole.at (numbered_arguments whole)
 
-  abbrev pub plan : ℕ → Numbered → List Task
+  abbrev pub plan : ℕ → NumberedTerm → List Task
   plan variable whole = plan_by (shape_of whole.term) variable whole
 
   -- `L = R`
-  abbrev pub equal_plan : ℕ → Numbered → Numbered → List Task
+  abbrev pub equal_plan : ℕ → NumberedTerm → NumberedTerm → List Task
   equal_plan at left right =
       if is_variable left.term then Give (variable_for left) right ∷ []
       else if is_variable right.term then Give (variable_for right) left ∷ []
       else Give at right ∷ Give at left ∷ []
 
-  abbrev pub compared_plan : ℕ → Numbered → Numbered → List Task
+  abbrev pub compared_plan : ℕ → NumberedTerm → NumberedTerm → List Task
   compared_plan name left right =
       map (λ goal. Put goal) (compare (comparison_of name) (variable_for left) (variable_for right)) ++ argument_tasks (left ∷ right ∷ [])

@@ -1,6 +1,7 @@
 //! How goals are brought into flat form.
-ghost use Rattle.std.specs.Prelude.{◌≡◌, ◌+◌, ◌++◌, ◌∷◌, [], IfOk, OnOk};
+ghost use Rattle.std.specs.Prelude.{◌≡◌, ◌≤◌, ◌+◌, ◌++◌, ◌∷◌, [], IfOk, OnOk};
 ghost use Rattle.merc_goals.specs.Entries.{entries_of};
+ghost use Rattle.merc_goals.specs.Numbers.{clause_limit};
 ghost use Rattle.merc_goals.specs.Written.{parts, written_span};
 ghost use Rattle.merc_known.specs.Known.{callee_in};
 ghost use Rattle.merc_scopes.specs.Scopes.{is_blank};
@@ -29,8 +30,7 @@ use std::alloc::Global;
 ///
 /// # Errors
 ///
-/// `NoMemory` says that memory was refused, or that the numbers of the parts go past the greatest `usize`, which those of
-/// no text in memory do; here and in the call below. The goals are of no use then.
+/// `NoMemory` says that memory was refused; here and in the call below. The goals are of no use then.
 pub fn goal_form(
     alloc: Global,
     goal: &WrittenGoal<'_>,
@@ -49,7 +49,7 @@ pub fn goal_form(
 }
 
 /// Puts the flat form of a clause behind other goals, as one goal: the unifications of its head, then those of its body.
-/// The arguments of the predicate have the numbers from 0; the parts of the clause are numbered from `at` on.
+/// The arguments of the predicate have the numbers from 0; the parts of the clause are numbered from `at` on, at most 2^60.
 pub fn clause_form(
     alloc: Global,
     clause: &Clause,
@@ -58,6 +58,7 @@ pub fn clause_form(
     names: &Names,
     nodes: &mut Nodes,
 ) -> Result<(), NoMemory>
+    requires { at ≤ clause_limit }
     ensures { OnOk result (nodes.new ≡ nodes.old ++ clause_goal (is_blank names.now) (callee_in known.now) at clause.now.head clause.now.body clause.now.span ∷ []) }
 {
     let head = clause.head.as_ref();
@@ -80,6 +81,7 @@ fn put_body(
     names: &Names,
     nodes: &mut Nodes,
 ) -> Result<(), NoMemory>
+    requires { at ≤ clause_limit }
     ensures { OnOk result (nodes.new ≡ nodes.old ++ body_goals (is_blank names.now) (callee_in known.now) (scope_of stack.old) (at + parts clause.now.head) clause.now.body) }
 {
     let body = match &clause.body {
@@ -87,7 +89,7 @@ fn put_body(
         None => return Ok(()),
     };
     let head = clause.head.as_ref();
-    let at = number_behind(at, &head)?;
+    let at = number_behind(at, &head);
     let goal = written_goal(alloc, &body, at)?;
     let found = bindings(alloc, &goal, names)?;
     flatten(alloc, &goal, &found, stack, known, names, nodes)

@@ -1,6 +1,7 @@
 //! The heads of clauses.
-ghost use Rattle.std.specs.Prelude.{◌≡◌, ◌+◌, ◌++◌, reverse, OnOk, IfOk};
+ghost use Rattle.std.specs.Prelude.{◌≡◌, ◌≤◌, ◌+◌, ◌++◌, reverse, OnOk, IfOk};
 ghost use Rattle.merc_tree.specs.Shape.{shape_of};
+ghost use Rattle.merc_goals.specs.Numbers.{first_limit};
 ghost use Rattle.merc_scopes.specs.Scopes.{is_blank, occurrences};
 ghost use Rattle.merc_flat_form.specs.Levels.{scope_of};
 ghost use Rattle.merc_flat_form.specs.FlatForm.{argument_terms, head_goals, head_scope};
@@ -23,12 +24,10 @@ pub(crate) fn head_scope(
     at: usize,
     head: &TermRef<'_>,
 ) -> Result<Vec<Occurrence>, NoMemory>
+    requires { at ≤ first_limit }
     ensures { IfOk result (λ found. found.items ≡ head_scope (is_blank names.now) 0 (at + 2) (argument_terms head.now)) }
 {
-    let whole = Numbered {
-        term: head.copy(),
-        at,
-    };
+    let whole = Numbered::first(head.copy(), at);
     let arguments = numbered_arguments(alloc, &whole)?;
     let mut found = Vec::new(alloc);
     for (number, argument) in arguments.iter().enumerate() {
@@ -45,12 +44,10 @@ pub(crate) fn head_goals(
     at: usize,
     head: &TermRef<'_>,
 ) -> Result<Vec<SimpleGoal>, NoMemory>
+    requires { at ≤ first_limit }
     ensures { IfOk result (λ goals. goals.items ≡ head_goals (is_blank names.now) (scope_of stack.now) 0 (at + 2) (argument_terms head.now)) }
 {
-    let whole = Numbered {
-        term: head.copy(),
-        at,
-    };
+    let whole = Numbered::first(head.copy(), at);
     let arguments = numbered_arguments(alloc, &whole)?;
     let mut tasks = Vec::new(alloc);
     plan_head(stack, names, &mut tasks, arguments)?;

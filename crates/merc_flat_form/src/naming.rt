@@ -1,5 +1,6 @@
 //! The goals by which variables have the values of terms.
 ghost use Rattle.std.specs.Prelude.{◌≡◌, [], ◌∷◌, ◌++◌, map, OnOk, IfOk};
+ghost use Rattle.merc_goals.specs.Numbers.{BothFit, Fits};
 ghost use Rattle.merc_scopes.specs.Scopes.{is_blank};
 ghost use Rattle.merc_flat_form.specs.Levels.{scope_of};
 ghost use Rattle.merc_flat_form.specs.FlatForm.{argument_terms, call_of, called, compare, compared, comparison_of, equal};
@@ -28,9 +29,10 @@ pub(crate) fn equal(
     left: &TermRef<'_>,
     right: &TermRef<'_>,
 ) -> Result<Vec<SimpleGoal>, NoMemory>
+    requires { BothFit at left.now right.now }
     ensures { IfOk result (λ goals. goals.items ≡ equal (is_blank names.now) (scope_of stack.now) at left.now right.now) }
 {
-    let (left, right) = sides(at, left, right)?;
+    let (left, right) = sides(at, left, right);
     let mut tasks = Vec::new(alloc);
     plan_equal(stack, names, &mut tasks, at, left, right)?;
     perform(alloc, stack, names, tasks)
@@ -46,9 +48,10 @@ pub(crate) fn compared(
     left: &TermRef<'_>,
     right: &TermRef<'_>,
 ) -> Result<Vec<SimpleGoal>, NoMemory>
+    requires { BothFit at left.now right.now }
     ensures { IfOk result (λ goals. goals.items ≡ compared (is_blank names.now) (scope_of stack.now) at name left.now right.now) }
 {
-    let (left, right) = sides(at, left, right)?;
+    let (left, right) = sides(at, left, right);
     let mut tasks = Vec::new(alloc);
     plan_compared(stack, names, &mut tasks, name, left, right)?;
     perform(alloc, stack, names, tasks)
@@ -63,6 +66,7 @@ pub(crate) fn called(
     callee: Callee,
     call: &TermRef<'_>,
 ) -> Result<Vec<SimpleGoal>, NoMemory>
+    requires { Fits at call.now }
     ensures { IfOk result (λ goals. goals.items ≡ called (is_blank names.now) (scope_of stack.now) at callee (argument_terms call.now)) }
 {
     let whole = Numbered {
@@ -82,12 +86,13 @@ fn sides<'a>(
     at: usize,
     left: &TermRef<'a>,
     right: &TermRef<'a>,
-) -> Result<(Numbered<'a>, Numbered<'a>), NoMemory>
-    ensures { IfOk result (λ both. both ≡ sides_of at left.now right.now) }
+) -> (Numbered<'a>, Numbered<'a>)
+    requires { BothFit at left.now right.now }
+    ensures { result ≡ sides_of at left.now right.now }
 {
-    let right = right_of(at, left, right.copy())?;
-    let left = left_of(at, left.copy())?;
-    Ok((left, right))
+    let right = right_of(at, left, right.copy());
+    let left = left_of(at, left.copy());
+    (left, right)
 }
 
 // A variable gets the value of the other side, or one of its own those of both.

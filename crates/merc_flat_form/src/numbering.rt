@@ -1,10 +1,12 @@
 //! Terms with their numbers among the parts of a text.
-ghost use Rattle.std.specs.Prelude.{◌≡◌, IfOk};
-ghost use Rattle.merc_goals.specs.Numbers.{numbered_from};
+ghost use Rattle.std.specs.Prelude.{◌≡◌, ◌≤◌, ◌+◌, IfOk};
+ghost use Rattle.merc_tree.specs.Term.{terms_of};
+ghost use Rattle.merc_goals.specs.Written.{parts_of};
+ghost use Rattle.merc_goals.specs.Numbers.{number_limit, numbered_from};
 ghost use Rattle.merc_flat_form.specs.Numbering.{is_variable, numbered_arguments};
 
 use merc_base::NoMemory;
-use merc_goals::{Numbered, number_behind, number_past};
+use merc_goals::{Numbered, number_behind};
 use merc_operands::arguments;
 use merc_tree::{Shape, TermRef};
 use std::alloc::Global;
@@ -17,8 +19,7 @@ pub(crate) fn numbered_arguments<'a>(
     ensures { IfOk result (λ found. found.items ≡ numbered_arguments whole.now) }
 {
     let terms = arguments(alloc, &whole.term)?;
-    let first = number_past(whole.at, 2)?;
-    number_from(alloc, first, &terms)
+    number_from(alloc, whole.at + 2, &terms)
 }
 
 // Terms one after the other, of which the first has this number.
@@ -27,6 +28,7 @@ fn number_from<'a>(
     first: usize,
     terms: &[TermRef<'a>],
 ) -> Result<Vec<Numbered<'a>>, NoMemory>
+    requires { first + parts_of (terms_of terms.now) ≤ number_limit }
     ensures { IfOk result (λ found. found.items ≡ numbered_from first terms.now) }
 {
     let mut at = first;
@@ -36,7 +38,7 @@ fn number_from<'a>(
             term: term.copy(),
             at,
         })?;
-        at = number_behind(at, term)?;
+        at = number_behind(at, term);
     }
     Ok(found)
 }

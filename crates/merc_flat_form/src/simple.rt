@@ -1,5 +1,6 @@
 //! Goals without sub-goals.
 ghost use Rattle.std.specs.Prelude.{◌≡◌, ◌++◌, ◌∷◌, [], ℕ, List, IfOk, OnOk};
+ghost use Rattle.merc_goals.specs.Numbers.{Fits};
 ghost use Rattle.merc_known.specs.Known.{callee_in};
 ghost use Rattle.merc_scopes.specs.Scopes.{at_of, is_blank};
 ghost use Rattle.merc_scopes.specs.declared.occurrence.Occurrence.{Occurrence as SeenOccurrence};
@@ -84,6 +85,7 @@ fn call_goals(
     known: &Known<'_>,
     names: &Names,
 ) -> Result<Vec<SimpleGoal>, NoMemory>
+    requires { Fits at term.now }
     ensures { IfOk result (λ goals. goals.items ≡ call_goals (is_blank names.now) (callee_in known.now) at (scope_of stack.now) term.now) }
 {
     match term.shape() {

@@ -1,5 +1,6 @@
 //! What is to be done for the goals of terms.
-ghost use Rattle.std.specs.Prelude.{◌≡◌, [], ◌∷◌, ◌++◌, map, OnOk, IfOk, if◌then◌else◌};
+ghost use Rattle.std.specs.Prelude.{◌≡◌, ◌≤◌, [], ◌∷◌, ◌++◌, map, OnOk, IfOk, if◌then◌else◌};
+ghost use Rattle.merc_goals.specs.Numbers.{number_limit};
 ghost use Rattle.merc_scopes.specs.Scopes.{is_blank};
 ghost use Rattle.merc_flat_form.specs.Levels.{scope_of};
 ghost use Rattle.merc_flat_form.specs.FlatForm.{operation_of, variable_of};
@@ -11,7 +12,7 @@ use crate::operations::operation_of;
 use crate::scope_stack::ScopeStack;
 use merc_base::{Name, Names, NoMemory};
 use merc_goal_tree::{Operation, SimpleGoal, Symbol, Var, Vars};
-use merc_goals::{Numbered, number_past};
+use merc_goals::Numbered;
 use merc_scopes::is_blank;
 use merc_tree::Shape;
 use std::alloc::Global;
@@ -112,9 +113,10 @@ fn plan_negative<'a>(
     mut operands: Vec<Var>,
     arguments: Vec<Numbered<'a>>,
 ) -> Result<(), NoMemory>
+    requires { at ≤ number_limit }
     ensures { OnOk result (tasks.new.items ≡ tasks.old.items ++ negative_plan variable name at operands.items (argument_tasks arguments.entry.items)) }
 {
-    let zero = Var::new(number_past(at, 1)?);
+    let zero = Var::new(at + 1);
     operands.insert(0, zero)?;
     let subtraction = Some(Operation::Subtract);
     plan_applied(tasks, subtraction, variable, name, operands, arguments)?;

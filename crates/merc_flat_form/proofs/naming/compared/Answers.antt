@@ -9,6 +9,6 @@ pub returns : goal.returns
 returns c =
     let goals =
     compared-planned (is_blank c.args.names.now) (scope_of c.args.stack.now) c.args.at c.args.name c.args.left.now c.args.right.now
-    (c.in_ok-left.left, c.in_ok-left.right) c.new-tasks.result.items c.plan_compared.new.tasks.items
-    c.in_ok-left.ensures c.new-tasks.ensures.items c.in_ok-plan_compared.ensures in
+    c.sides-left.result c.new-tasks.result.items c.plan_compared.new.tasks.items
+    c.sides-left.ensures c.new-tasks.ensures.items c.in_ok-plan_compared.ensures in
     IfOk-weaker c.perform.result _ _ (λ found is. is ∙ goals) c.perform.ensures
