@@ -1,46 +1,22 @@
 -- Declared types as equations.
-use Rattle.std.proofs.Common.{◌≡◌, ℕ, zero, suc, ◌+◌, ◌-◌, ◌<◌, ◌≤◌, List, [], ◌∷◌, ◌++◌, length, map, take, drop, refl, sym, ap, subst, ◌∙◌, arith, length-append, append_assoc}
-use Rattle.std.proofs.lemmas.List.{map-append, take-map, drop-map}
-use Rattle.merc_tree.specs.Types.{TypeExpr, TypeExprs, TypeVariable, IntType, TextType, TypeApplication, no_types, more_types, types_of, type_list, replaced, replaced_all}
-use Rattle.merc_tree.specs.declared.types.TypeShape.TheVariants.{Variable as VariableShape, Int as IntShape, Text as TextShape, Application as ApplicationShape}
-use Rattle.merc_tree.specs.TypeShape.{type_shape_of, type_arguments_of}
+use Rattle.std.proofs.Common.{◌≡◌, ℕ, ◌+◌, ◌<◌, ◌≤◌, true, false, Option, Some, None, List, [], ◌∷◌, ◌++◌, length, map, refl, sym, ap, subst, ◌∙◌, arith}
+use Rattle.std.specs.Option.{IfSome}
+use Rattle.std.specs.Ordering.{nat_cmp}
+use Rattle.std.specs.BTreeMap.{BTreeMap, IsEmpty, get}
+use Rattle.std.proofs.lemmas.List.{map-append}
+use Rattle.merc_tree.specs.Types.{TypeExpr, TypeVariable, IntType, TextType, TypeApplication, no_types, more_types, types_of, replaced, replaced_all}
+use Rattle.merc_type_table.specs.declared.node.TypeNode.{TypeNode}
+use Rattle.merc_type_table.specs.declared.node.TypeNode.TheVariants.{Variable, Int, Text, Name, With}
+use Rattle.merc_type_table.specs.Table.{type_at, with_first, is_application, is_closed, made, IsComplete}
+use Rattle.merc_type_table.specs.Frames.{with_all}
 use Rattle.merc_type_graph.specs.Changes.{AllWithin}
-use Rattle.merc_type_check.specs.declared.building.Task.{Task}
-use Rattle.merc_type_check.specs.declared.building.Task.TheVariants.{Visit, Apply}
+use Rattle.merc_type_check.specs.declared.building.Frame.{Frame}
 use Rattle.merc_type_check.specs.declared.checker.Checker.{Checker}
-use Rattle.merc_type_check.specs.Building.{performed, finished, visits, type_weight, types_weight, task_weight, weight, instances_of, Builds}
+use Rattle.merc_type_check.specs.Building.{instance_at, instances_of, AreBuilt, Finds, Finishes, IsFilled, HasMore, AreWaiting, IsSplit, IsUnderWay, type_weight, frames_weight}
 use Rattle.merc_type_check.specs.Progress.{Types, Step, Nothing, Stands, AllStand, Places}
-use Rattle.merc_type_check.proofs.Steps.{all_stand_on}
-
-pub finished-append : (tasks later : List Task) (types : List TypeExpr) → finished (tasks ++ later) types ≡ finished tasks (finished later types)
-finished-append [] later types = refl
-finished-append (task ∷ rest) later types = ap (performed task) (finished-append rest later types)
-
-pub finished-visits : (arguments types : List TypeExpr) → finished (visits arguments) types ≡ types ++ arguments
-finished-visits [] types = sym (append-nil types)
-  where
-    append-nil : (l : List TypeExpr) → l ++ [] ≡ l
-    append-nil [] = refl
-    append-nil (x ∷ xs) = ap (λ (l : List TypeExpr). x ∷ l) (append-nil xs)
-finished-visits (first ∷ rest) types =
-    finished-append (visits rest) (Visit first ∷ []) types ∙ finished-visits rest (types ++ first ∷ []) ∙ append_assoc types (first ∷ []) rest
-
-pub visits-push : (arguments : List TypeExpr) (last : TypeExpr) → visits (arguments ++ last ∷ []) ≡ Visit last ∷ visits arguments
-visits-push [] last = refl
-visits-push (first ∷ rest) last = ap (λ (l : List Task). l ++ Visit first ∷ []) (visits-push rest last)
-
-pub weight-append : (tasks later : List Task) → weight (tasks ++ later) ≡ weight tasks + weight later
-weight-append [] later = omega arith
-weight-append (task ∷ rest) later = let e = weight-append rest later in omega arith
-
-weight-visits : (arguments : TypeExprs) → weight (visits (type_list arguments)) ≡ types_weight arguments
-weight-visits no_types = refl
-weight-visits (more_types first rest) =
-    let a = weight-append (visits (type_list rest)) (Visit first ∷ []) in let b = weight-visits rest in omega arith
-
-types_of-type_list : (arguments : TypeExprs) → types_of (type_list arguments) ≡ arguments
-types_of-type_list no_types = refl
-types_of-type_list (more_types first rest) = ap (more_types first) (types_of-type_list rest)
+use Rattle.merc_type_check.proofs.Steps.{stands_on, all_stand_on, grow_grow}
+use Rattle.merc_type_check.proofs.Places.{MapUpdates, all_more}
+use Rattle.merc_type_check.proofs.Numbers.{replaced_closed}
 
 replaced_all-types_of : (instance : Types) (types : List TypeExpr) → replaced_all instance (types_of types) ≡ types_of (map (replaced instance) types)
 replaced_all-types_of instance [] = refl
@@ -49,16 +25,6 @@ replaced_all-types_of instance (first ∷ rest) = ap (more_types (replaced insta
 within-append : (listed more : List ℕ) (count : ℕ) → AllWithin count listed → AllWithin count more → AllWithin count (listed ++ more)
 within-append [] more count one other = other
 within-append (first ∷ rest) more count one other = (one.0, within-append rest more count one.1 other)
-
-within-take : (n : ℕ) (listed : List ℕ) (count : ℕ) → AllWithin count listed → AllWithin count (take n listed)
-within-take zero listed count within = tt
-within-take (suc n) [] count within = tt
-within-take (suc n) (first ∷ rest) count within = (within.0, within-take n rest count within.1)
-
-pub within-drop : (n : ℕ) (listed : List ℕ) (count : ℕ) → AllWithin count listed → AllWithin count (drop n listed)
-within-drop zero listed count within = within
-within-drop (suc n) [] count within = tt
-within-drop (suc n) (first ∷ rest) count within = within-drop n rest count within.1
 
 -- one more place behind others
 pub stand_push : (checker : Checker) (listed : List ℕ) (place : ℕ) (Meant : Types → Types → List TypeExpr) (One : Types → Types → TypeExpr)
@@ -78,223 +44,312 @@ stand_as checker listed Meant Other same stand = record {
   meant = λ places types instance fits. stand.meant places types instance fits ∙ same types instance;
 }
 
-built_one : (checker : Checker) (listed : List ℕ) (place : ℕ) (built : List TypeExpr) (one : TypeExpr) → AllStand checker listed (instances_of built)
-    → Stands checker place (λ types instance. replaced instance one) → AllStand checker (listed ++ place ∷ []) (instances_of (built ++ one ∷ []))
-built_one checker listed place built one stand stands =
-    stand_as checker (listed ++ place ∷ []) (λ types instance. instances_of built types instance ++ replaced instance one ∷ []) (instances_of (built ++ one ∷ []))
-    (λ types instance. sym (map-append (replaced instance) built (one ∷ [])))
-    (stand_push checker listed place (instances_of built) (λ types instance. replaced instance one) stand stands)
-
--- a type that has no arguments
-pub built_leaf : (old new : Checker) (tasks : List Task) (listed : List ℕ) (place : ℕ) (declared whole : TypeExpr)
-    → Places old new place (λ types instance. replaced instance declared) → Builds old (tasks ++ Visit declared ∷ []) listed whole
-    → Builds new tasks (listed ++ place ∷ []) whole
-built_leaf old new tasks listed place declared whole places builds = record {
-  built = builds.built ++ declared ∷ [];
-  stand = built_one new listed place builds.built declared (all_stand_on old new Nothing listed (instances_of builds.built) places.grows builds.stand) places.stands;
-  count = length-append listed (place ∷ []) ∙ ap (λ n. n + 1) builds.count ∙ sym (length-append builds.built (declared ∷ []));
-  rest = sym (finished-append tasks (Visit declared ∷ []) builds.built) ∙ builds.rest;
+stands_as : (checker : Checker) (place : ℕ) (Meant Other : Types → Types → TypeExpr) → ((types instance : Types) → Meant types instance ≡ Other types instance)
+    → Stands checker place Meant → Stands checker place Other
+stands_as checker place Meant Other same stands = record {
+  there = stands.there;
+  meant = λ places types instance fits. stands.meant places types instance fits ∙ same types instance;
 }
 
-pub shape_variable : (declared : TypeExpr) (name : ℕ) → VariableShape name ≡ type_shape_of declared → declared ≡ TypeVariable name
-shape_variable (TypeVariable other) name e = cc
-shape_variable IntType name e = cc
-shape_variable TextType name e = cc
-shape_variable (TypeApplication other arguments) name e = cc
+-- arguments put before others one by one
+with_all-push : (arguments : List TypeExpr) (first rest : TypeExpr) → with_all (arguments ++ first ∷ []) rest ≡ with_all arguments (with_first first rest)
+with_all-push [] first rest = refl
+with_all-push (one ∷ others) first rest = ap (with_first one) (with_all-push others first rest)
 
-pub shape_int : (declared : TypeExpr) → IntShape ≡ type_shape_of declared → declared ≡ IntType
-shape_int (TypeVariable other) e = cc
-shape_int IntType e = refl
-shape_int TextType e = cc
-shape_int (TypeApplication other arguments) e = cc
+with_all-name : (name : ℕ) (arguments : List TypeExpr) → with_all arguments (TypeApplication name no_types) ≡ TypeApplication name (types_of arguments)
+with_all-name name [] = refl
+with_all-name name (first ∷ rest) = ap (with_first first) (with_all-name name rest)
 
-pub shape_text : (declared : TypeExpr) → TextShape ≡ type_shape_of declared → declared ≡ TextType
-shape_text (TypeVariable other) e = cc
-shape_text IntType e = cc
-shape_text TextType e = refl
-shape_text (TypeApplication other arguments) e = cc
+filled_push : (checker : Checker) (places : List ℕ) (place : ℕ) (first rest whole : TypeExpr) → IsFilled checker places (with_first first rest) whole
+    → Stands checker place (λ types instance. replaced instance first) → IsFilled checker (places ++ place ∷ []) rest whole
+filled_push checker places place first rest whole filled stands = record {
+  arguments = filled.arguments ++ first ∷ [];
+  stand = stand_as checker (places ++ place ∷ []) (λ types instance. instances_of filled.arguments types instance ++ replaced instance first ∷ [])
+      (instances_of (filled.arguments ++ first ∷ [])) (λ types instance. sym (map-append (replaced instance) filled.arguments (first ∷ [])))
+      (stand_push checker places place (instances_of filled.arguments) (λ types instance. replaced instance first) filled.stand stands);
+  is = with_all-push filled.arguments first rest ∙ filled.is;
+}
 
-pub leaf_weight : (declared : TypeExpr) → 1 ≤ type_weight declared
-leaf_weight (TypeVariable name) = omega arith
-leaf_weight IntType = omega arith
-leaf_weight TextType = omega arith
-leaf_weight (TypeApplication name arguments) = omega arith
+filled_on : (old new : Checker) (places : List ℕ) (rest whole : TypeExpr) → Step old new Nothing → IsFilled old places rest whole → IsFilled new places rest whole
+filled_on old new places rest whole step filled = record {
+  arguments = filled.arguments;
+  stand = all_stand_on old new Nothing places (instances_of filled.arguments) step filled.stand;
+  is = filled.is;
+}
 
-take-front : (front back : List TypeExpr) → take (length front) (front ++ back) ≡ front
-take-front [] back = refl
-take-front (x ∷ xs) back = ap (λ (l : List TypeExpr). x ∷ l) (take-front xs back)
+filled_none : (checker : Checker) (type : TypeExpr) → IsFilled checker [] type type
+filled_none checker type = record {
+  arguments = [];
+  stand = record { there = tt; meant = λ places types instance fits. refl };
+  is = refl;
+}
 
-drop-front : (front back : List TypeExpr) → drop (length front) (front ++ back) ≡ back
-drop-front [] back = refl
-drop-front (x ∷ xs) back = drop-front xs back
+-- the places that are built stay
+built_on : (table : List TypeExpr) (old new : Checker) (built : BTreeMap ℕ ℕ) → Step old new Nothing → AreBuilt table old built → AreBuilt table new built
+built_on table old new built step all = λ number. at (get nat_cmp built number) (instance_at table number) (all number)
+  where
+    at : (o : Option ℕ) (Meant : Types → Types → TypeExpr) → IfSome o (λ place. Stands old place Meant) → IfSome o (λ place. Stands new place Meant)
+    at None Meant none = none
+    at (Some place) Meant stands = stands_on old new Nothing place Meant step stands
 
-applied_again : (name : ℕ) (types arguments : List TypeExpr) → performed (Apply name (length arguments)) (types ++ arguments) ≡ types ++ TypeApplication name (types_of arguments) ∷ []
-applied_again name types arguments =
-    let kept : length (types ++ arguments) - length arguments ≡ length types = omega (arith, length-append types arguments) in
-    ap (λ (n : ℕ). take n (types ++ arguments) ++ TypeApplication name (types_of (drop n (types ++ arguments))) ∷ []) kept
-    ∙ ap (λ (l : List TypeExpr). l ++ TypeApplication name (types_of (drop (length types) (types ++ arguments))) ∷ []) (take-front types arguments)
-    ∙ ap (λ (l : List TypeExpr). types ++ TypeApplication name (types_of l) ∷ []) (drop-front types arguments)
+waiting_on : (table : List TypeExpr) (old new : Checker) (type whole : TypeExpr) (frames : List Frame) → Step old new Nothing
+    → AreWaiting table old type frames whole → AreWaiting table new type frames whole
+waiting_on table old new type whole [] step waiting = waiting
+waiting_on table old new type whole (frame ∷ frames) step waiting = (
+  waiting.0,
+  waiting.1,
+  filled_on old new frame.places.items (with_first type (type_at table frame.rest)) (type_at table frame.number) step waiting.2,
+  waiting_on table old new (type_at table frame.number) whole frames step waiting.3,
+)
 
--- a type that has arguments is left to do
-pub built_application : (checker : Checker) (tasks now : List Task) (listed : List ℕ) (declared whole : TypeExpr) (name arity : ℕ)
-    → ApplicationShape name arity ≡ type_shape_of declared → now ≡ (tasks ++ Apply name arity ∷ []) ++ visits (type_arguments_of declared)
-    → Builds checker (tasks ++ Visit declared ∷ []) listed whole → Builds checker now listed whole
-built_application checker tasks now listed (TypeVariable other) whole name arity shape pushed builds = absurd (cc)
-built_application checker tasks now listed IntType whole name arity shape pushed builds = absurd (cc)
-built_application checker tasks now listed TextType whole name arity shape pushed builds = absurd (cc)
-built_application checker tasks now listed (TypeApplication other arguments) whole name arity shape pushed builds =
-    let list : List TypeExpr = type_list arguments in
-    let same_name : name ≡ other = cc in
-    let same_arity : arity ≡ length list = cc in
-    let types : List TypeExpr = builds.built in
-    let one : finished ((tasks ++ Apply name arity ∷ []) ++ visits list) types ≡ finished (tasks ++ Apply name arity ∷ []) (types ++ list) =
-    finished-append (tasks ++ Apply name arity ∷ []) (visits list) types ∙ ap (finished (tasks ++ Apply name arity ∷ [])) (finished-visits list types) in
-    let two : performed (Apply name arity) (types ++ list) ≡ types ++ TypeApplication other arguments ∷ [] =
-    ap (λ (n : ℕ). performed (Apply n arity) (types ++ list)) same_name ∙ ap (λ (n : ℕ). performed (Apply other n) (types ++ list)) same_arity
-    ∙ applied_again other types list ∙ ap (λ (a : TypeExprs). types ++ TypeApplication other a ∷ []) (types_of-type_list arguments) in
+pub none_built : (table : List TypeExpr) (checker : Checker) (built : BTreeMap ℕ ℕ) → IsEmpty built → AreBuilt table checker built
+none_built table checker built none = λ number. rw (none) tt
+
+-- a part that was built before
+pub found_built : (old : Checker) (built : BTreeMap ℕ ℕ) (number place : ℕ) → Step old old Nothing → AreBuilt old.graph.table old built → get nat_cmp built number ≡ Some place
+    → Finds old old built number (Some place)
+found_built old built number place same all known = record {
+  grows = same;
+  parts = all;
+  stands = subst (λ (o : Option ℕ). IfSome o (λ p. Stands old p (instance_at old.graph.table number))) known (all number);
+}
+
+-- a part without type variables
+pub found_closed : (old new : Checker) (built more : BTreeMap ℕ ℕ) (number place : ℕ) → AreBuilt old.graph.table old built → is_closed (type_at old.graph.table number) ≡ true
+    → Places old new place (λ types instance. type_at old.graph.table number) → MapUpdates built more number place → Finds old new more number (Some place)
+found_closed old new built more number place all closed placed updates =
+    let table : List TypeExpr = old.graph.table in
+    let stands : Stands new place (instance_at table number) =
+    stands_as new place (λ types instance. type_at table number) (instance_at table number) (λ types instance. sym (replaced_closed instance (type_at table number) closed))
+    placed.stands in
     record {
-      built = types;
-      stand = builds.stand;
-      count = builds.count;
-      rest = ap (λ (l : List Task). finished l types) pushed ∙ one ∙ finished-append tasks (Apply name arity ∷ []) (types ++ list) ∙ ap (finished tasks) two
-          ∙ sym (finished-append tasks (Visit (TypeApplication other arguments) ∷ []) types) ∙ builds.rest;
+      grows = placed.grows;
+      parts = all_more (λ n p. Stands new p (instance_at table n)) built more number place updates (built_on table old new built placed.grows all) stands;
+      stands = stands;
     }
 
-pub application_weight : (tasks now : List Task) (declared : TypeExpr) (name arity : ℕ) → ApplicationShape name arity ≡ type_shape_of declared
-    → now ≡ (tasks ++ Apply name arity ∷ []) ++ visits (type_arguments_of declared) → weight now < weight tasks + type_weight declared
-application_weight tasks now (TypeVariable other) name arity shape pushed = absurd (cc)
-application_weight tasks now IntType name arity shape pushed = absurd (cc)
-application_weight tasks now TextType name arity shape pushed = absurd (cc)
-application_weight tasks now (TypeApplication other arguments) name arity shape pushed =
-    let a = ap weight pushed in
-    let b = weight-append (tasks ++ Apply name arity ∷ []) (visits (type_list arguments)) in
-    let c = weight-append tasks (Apply name arity ∷ []) in
-    let d = weight-visits arguments in
+-- a type variable
+pub found_variable : (old new : Checker) (built : BTreeMap ℕ ℕ) (number place name : ℕ) → AreBuilt old.graph.table old built
+    → type_at old.graph.table number ≡ TypeVariable name → Places old new place (λ types instance. instance name) → Finds old new built number (Some place)
+found_variable old new built number place name all is placed = record {
+  grows = placed.grows;
+  parts = built_on old.graph.table old new built placed.grows all;
+  stands = stands_as new place (λ types instance. instance name) (instance_at old.graph.table number) (λ types instance. ap (replaced instance) (sym is)) placed.stands;
+}
+
+with_application : (first rest : TypeExpr) → is_application rest ≡ true → is_application (with_first first rest) ≡ true
+with_application first (TypeVariable name) e = absurd (cc)
+with_application first IntType e = absurd (cc)
+with_application first TextType e = absurd (cc)
+with_application first (TypeApplication name arguments) e = refl
+
+-- another part has arguments
+pub found_none : (old : Checker) (built : BTreeMap ℕ ℕ) (number : ℕ) (node : TypeNode) → Step old old Nothing → AreBuilt old.graph.table old built
+    → type_at old.graph.table number ≡ made old.graph.table node → IsComplete old.graph.table node → is_closed (type_at old.graph.table number) ≡ false
+    → ((name : ℕ) → node ≡ Variable name → ⊥) → Finds old old built number None
+found_none old built number node same all is complete left apart = record {
+  grows = same;
+  parts = all;
+  stands = ap is_application is ∙ by node complete (sym (ap is_closed is) ∙ left) apart;
+}
+  where
+    by : (n : TypeNode) → IsComplete old.graph.table n → is_closed (made old.graph.table n) ≡ false → ((name : ℕ) → n ≡ Variable name → ⊥)
+        → is_application (made old.graph.table n) ≡ true
+    by (Variable name) full shut other = absurd (other name refl)
+    by Int full shut other = absurd (cc)
+    by Text full shut other = absurd (cc)
+    by (Name name) full shut other = refl
+    by (With first rest) full shut other = with_application (type_at old.graph.table first) (type_at old.graph.table rest) full
+
+-- a type whose arguments have places
+pub finished : (old new : Checker) (built more : BTreeMap ℕ ℕ) (frame : Frame) (listed : List ℕ) (name place : ℕ) → listed ≡ frame.places.items → AreBuilt old.graph.table old built
+    → IsFilled old frame.places.items (TypeApplication name no_types) (type_at old.graph.table frame.number)
+    → ((Meant : Types → Types → List TypeExpr) → AllStand old listed Meant → Places old new place (λ types instance. TypeApplication name (types_of (Meant types instance))))
+    → MapUpdates built more frame.number place → Finishes old new more frame.number place
+finished old new built more frame listed name place listed_is all filled applied updates =
+    let table : List TypeExpr = old.graph.table in
+    let placed = applied (instances_of filled.arguments) (subst (λ (l : List ℕ). AllStand old l (instances_of filled.arguments)) (sym listed_is) filled.stand) in
+    let stands : Stands new place (instance_at table frame.number) =
+    stands_as new place (λ types instance. TypeApplication name (types_of (instances_of filled.arguments types instance))) (instance_at table frame.number)
+    (λ types instance. ap (TypeApplication name) (sym (replaced_all-types_of instance filled.arguments))
+    ∙ ap (replaced instance) (sym (with_all-name name filled.arguments) ∙ filled.is)) placed.stands in
+    record {
+      grows = placed.grows;
+      parts = all_more (λ n p. Stands new p (instance_at table n)) built more frame.number place updates (built_on table old new built placed.grows all) stands;
+      stands = stands;
+    }
+
+-- the first frame
+pub under_way_first : (start now : Checker) (built : BTreeMap ℕ ℕ) (top : Frame) (number : ℕ) → number < length start.graph.table → Finds start now built number None
+    → top.number ≡ number → top.rest ≡ number → top.places.items ≡ [] → IsUnderWay start now built top [] (type_at start.graph.table number)
+under_way_first start now built top number here finds number_is rest_is none =
+    let table : List TypeExpr = start.graph.table in
+    let rest : type_at table top.rest ≡ type_at table number = ap (type_at table) rest_is in
+    record {
+      grows = finds.grows;
+      parts = finds.parts;
+      here = omega arith;
+      named = ap is_application rest ∙ finds.stands;
+      filled = subst (λ (l : List ℕ). IsFilled now l (type_at table top.rest) (type_at table top.number)) (sym none)
+          (subst (λ (t : TypeExpr). IsFilled now [] (type_at table top.rest) t) (ap (type_at table) (rest_is ∙ sym number_is)) (filled_none now (type_at table top.rest)));
+      waiting = ap (type_at table) number_is;
+    }
+
+-- what is known of the declared types where a step begins, at the start
+split_at : (start old : Checker) (number first rest : ℕ) → old.graph.table ≡ start.graph.table → IsSplit old.graph.table number first rest → IsSplit start.graph.table number first rest
+split_at start old number first rest same split = subst (λ (t : List TypeExpr). IsSplit t number first rest) same split
+
+-- an argument has its place
+pub under_way_found : (start old new : Checker) (built more : BTreeMap ℕ ℕ) (frame top : Frame) (below : List Frame) (first rest place : ℕ) (whole : TypeExpr)
+    → IsSplit old.graph.table frame.rest first rest → Finds old new more first (Some place) → top.number ≡ frame.number → top.rest ≡ rest
+    → top.places.items ≡ frame.places.items ++ place ∷ [] → IsUnderWay start old built frame below whole → IsUnderWay start new more top below whole
+under_way_found start old new built more frame top below first rest place whole split_old finds number_is rest_is places_are is =
+    let table : List TypeExpr = start.graph.table in
+    let same : old.graph.table ≡ table = is.grows.same_table in
+    let split : IsSplit table frame.rest first rest = split_at start old frame.rest first rest same split_old in
+    let stands : Stands new place (λ types instance. replaced instance (type_at table first)) =
+    subst (λ (t : List TypeExpr). Stands new place (λ types instance. replaced instance (type_at t first))) same finds.stands in
+    let before : IsFilled new frame.places.items (with_first (type_at table first) (type_at table rest)) (type_at table frame.number) =
+    subst (λ (t : TypeExpr). IsFilled new frame.places.items t (type_at table frame.number)) split.is
+    (filled_on old new frame.places.items (type_at table frame.rest) (type_at table frame.number) finds.grows is.filled) in
+    record {
+      grows = grow_grow start old new is.grows finds.grows;
+      parts = subst (λ (t : List TypeExpr). AreBuilt t new more) same finds.parts;
+      here = let less = split.rest_there in omega arith;
+      named = ap (λ (n : ℕ). is_application (type_at table n)) rest_is ∙ split.complete;
+      filled = rw (number_is, rest_is, places_are)
+          (filled_push new frame.places.items place (type_at table first) (type_at table rest) (type_at table frame.number) before stands);
+      waiting = subst (λ (n : ℕ). AreWaiting table new (type_at table n) below whole) (sym number_is)
+          (waiting_on table old new (type_at table frame.number) whole below finds.grows is.waiting);
+    }
+
+-- an argument has to be built
+pub under_way_argument : (start old new : Checker) (built more : BTreeMap ℕ ℕ) (frame waits top : Frame) (below : List Frame) (first rest : ℕ) (whole : TypeExpr)
+    → IsSplit old.graph.table frame.rest first rest → Finds old new more first None → waits.number ≡ frame.number → waits.rest ≡ rest
+    → waits.places.items ≡ frame.places.items → top.number ≡ first → top.rest ≡ first → top.places.items ≡ []
+    → IsUnderWay start old built frame below whole → IsUnderWay start new more top (waits ∷ below) whole
+under_way_argument start old new built more frame waits top below first rest whole split_old finds number_is rest_is places_are first_is all_is none is =
+    let table : List TypeExpr = start.graph.table in
+    let same : old.graph.table ≡ table = is.grows.same_table in
+    let split : IsSplit table frame.rest first rest = split_at start old frame.rest first rest same split_old in
+    let before : IsFilled new frame.places.items (with_first (type_at table first) (type_at table rest)) (type_at table frame.number) =
+    subst (λ (t : TypeExpr). IsFilled new frame.places.items t (type_at table frame.number)) split.is
+    (filled_on old new frame.places.items (type_at table frame.rest) (type_at table frame.number) finds.grows is.filled) in
+    let at_first : type_at table top.number ≡ type_at table first = ap (type_at table) first_is in
+    record {
+      grows = grow_grow start old new is.grows finds.grows;
+      parts = subst (λ (t : List TypeExpr). AreBuilt t new more) same finds.parts;
+      here = let less = split.first_there in omega arith;
+      named = ap (λ (n : ℕ). is_application (type_at table n)) all_is ∙ ap (λ (t : List TypeExpr). is_application (type_at t first)) (sym same) ∙ finds.stands;
+      filled = subst (λ (l : List ℕ). IsFilled new l (type_at table top.rest) (type_at table top.number)) (sym none)
+          (subst (λ (t : TypeExpr). IsFilled new [] (type_at table top.rest) t) (ap (type_at table) (all_is ∙ sym first_is)) (filled_none new (type_at table top.rest)));
+      waiting = (
+        (let less = split.rest_there in omega arith),
+        ap (λ (n : ℕ). is_application (type_at table n)) rest_is ∙ split.complete,
+        rw (number_is, rest_is, places_are, first_is) before,
+        subst (λ (n : ℕ). AreWaiting table new (type_at table n) below whole) (sym number_is)
+            (waiting_on table old new (type_at table frame.number) whole below finds.grows is.waiting),
+      );
+    }
+
+-- a type is finished, and the frame below goes on
+pub under_way_finished : (start old new : Checker) (built more : BTreeMap ℕ ℕ) (top frame next : Frame) (below : List Frame) (place : ℕ) (whole : TypeExpr)
+    → Finishes old new more top.number place → HasMore frame next place → IsUnderWay start old built top (frame ∷ below) whole → IsUnderWay start new more next below whole
+under_way_finished start old new built more top frame next below place whole finishes has is =
+    let table : List TypeExpr = start.graph.table in
+    let same : old.graph.table ≡ table = is.grows.same_table in
+    let stands : Stands new place (λ types instance. replaced instance (type_at table top.number)) =
+    subst (λ (t : List TypeExpr). Stands new place (instance_at t top.number)) same finishes.stands in
+    let before : IsFilled new frame.places.items (with_first (type_at table top.number) (type_at table frame.rest)) (type_at table frame.number) =
+    filled_on old new frame.places.items (with_first (type_at table top.number) (type_at table frame.rest)) (type_at table frame.number) finishes.grows is.waiting.2 in
+    record {
+      grows = grow_grow start old new is.grows finishes.grows;
+      parts = subst (λ (t : List TypeExpr). AreBuilt t new more) same finishes.parts;
+      here = let less = is.waiting.0 in let e = has.same_rest in omega arith;
+      named = ap (λ (n : ℕ). is_application (type_at table n)) has.same_rest ∙ is.waiting.1;
+      filled = rw (has.same_number, has.same_rest, has.more_places)
+          (filled_push new frame.places.items place (type_at table top.number) (type_at table frame.rest) (type_at table frame.number) before stands);
+      waiting = subst (λ (n : ℕ). AreWaiting table new (type_at table n) below whole) (sym has.same_number)
+          (waiting_on table old new (type_at table frame.number) whole below finishes.grows is.waiting.3);
+    }
+
+-- all is finished
+pub under_way_last : (start old new : Checker) (built more : BTreeMap ℕ ℕ) (top : Frame) (below : List Frame) (place : ℕ) (whole : TypeExpr)
+    → below ≡ [] → Finishes old new more top.number place → IsUnderWay start old built top below whole → Places start new place (λ types instance. replaced instance whole)
+under_way_last start old new built more top below place whole none finishes is =
+    let table : List TypeExpr = start.graph.table in
+    let same : old.graph.table ≡ table = is.grows.same_table in
+    let whole_is : type_at table top.number ≡ whole = subst (λ (l : List Frame). AreWaiting table old (type_at table top.number) l whole) none is.waiting in
+    record {
+      grows = grow_grow start old new is.grows finishes.grows;
+      stands = stands_as new place (instance_at table top.number) (λ types instance. replaced instance whole) (λ types instance. ap (replaced instance) whole_is)
+          (subst (λ (t : List TypeExpr). Stands new place (instance_at t top.number)) same finishes.stands);
+    }
+
+-- what is left to build grows less
+some_weight : (table : List TypeExpr) (type : TypeExpr) → 1 ≤ type_weight table type
+some_weight table (TypeVariable name) = omega arith
+some_weight table IntType = omega arith
+some_weight table TextType = omega arith
+some_weight table (TypeApplication name arguments) = omega arith
+
+split_weight : (table : List TypeExpr) (first rest : TypeExpr) → is_application rest ≡ true
+    → type_weight table (with_first first rest) ≡ type_weight table first + 1 + type_weight table rest
+split_weight table first (TypeVariable name) e = absurd (cc)
+split_weight table first IntType e = absurd (cc)
+split_weight table first TextType e = absurd (cc)
+split_weight table first (TypeApplication name arguments) e = omega arith
+
+pub less_found : (table : List TypeExpr) (frame top : Frame) (below : List Frame) (first rest : ℕ) → IsSplit table frame.rest first rest → top.rest ≡ rest
+    → frames_weight table top below < frames_weight table frame below
+less_found table frame top below first rest split rest_is =
+    let a = ap (type_weight table) split.is ∙ split_weight table (type_at table first) (type_at table rest) split.complete in
+    let b = ap (λ (n : ℕ). type_weight table (type_at table n)) rest_is in
     omega arith
 
--- the last places become arguments
-pub built_apply : (old new : Checker) (tasks : List Task) (listed now : List ℕ) (place name arity : ℕ) (whole : TypeExpr)
-    → now ≡ take (length listed - arity) listed ++ place ∷ []
-    → ((Meant : Types → Types → List TypeExpr) → AllStand old (drop (length listed - arity) listed) Meant
-    → Places old new place (λ types instance. TypeApplication name (types_of (Meant types instance))))
-    → Builds old (tasks ++ Apply name arity ∷ []) listed whole → Step old new Nothing × Builds new tasks now whole
-built_apply old new tasks listed now place name arity whole now_is applied builds =
-    let kept : ℕ = length listed - arity in
-    let types : List TypeExpr = builds.built in
-    let same : length types - arity ≡ kept = ap (λ (n : ℕ). n - arity) (sym builds.count) in
-    let back : AllStand old (drop kept listed) (instances_of (drop kept types)) = record {
-      there = within-drop kept listed (length old.graph.entries) builds.stand.there;
-      meant = λ places kinds instance fits.
-          sym (drop-map places kept listed) ∙ ap (drop kept) (builds.stand.meant places kinds instance fits) ∙ drop-map (replaced instance) kept types;
-    } in
-    let front : AllStand old (take kept listed) (instances_of (take kept types)) = record {
-      there = within-take kept listed (length old.graph.entries) builds.stand.there;
-      meant = λ places kinds instance fits.
-          sym (take-map places kept listed) ∙ ap (take kept) (builds.stand.meant places kinds instance fits) ∙ take-map (replaced instance) kept types;
-    } in
-    let one : TypeExpr = TypeApplication name (types_of (drop kept types)) in
-    let placed = applied (instances_of (drop kept types)) back in
-    let stands : Stands new place (λ kinds instance. replaced instance one) = record {
-      there = placed.stands.there;
-      meant = λ places kinds instance fits.
-          placed.stands.meant places kinds instance fits ∙ ap (TypeApplication name) (sym (replaced_all-types_of instance (drop kept types)));
-    } in
-    let lengths : length (take kept listed) ≡ length (take kept types) = take_alike kept listed types builds.count in
-    let done : performed (Apply name arity) types ≡ take kept types ++ one ∷ [] =
-    ap (λ (n : ℕ). take n types ++ TypeApplication name (types_of (drop n types)) ∷ []) same in (
-      placed.grows,
-      record {
-        built = take kept types ++ one ∷ [];
-        stand = subst (λ (l : List ℕ). AllStand new l (instances_of (take kept types ++ one ∷ []))) (sym now_is)
-            (built_one new (take kept listed) place (take kept types) one (all_stand_on old new Nothing (take kept listed) (instances_of (take kept types)) placed.grows front) stands);
-        count = ap length now_is ∙ length-append (take kept listed) (place ∷ []) ∙ ap (λ n. n + 1) lengths ∙ sym (length-append (take kept types) (one ∷ []));
-        rest = ap (finished tasks) (sym done) ∙ sym (finished-append tasks (Apply name arity ∷ []) types) ∙ builds.rest;
-      },
-    )
-  where
-    take_alike : (n : ℕ) (xs : List ℕ) (ys : List TypeExpr) → length xs ≡ length ys → length (take n xs) ≡ length (take n ys)
-    take_alike zero xs ys e = refl
-    take_alike (suc n) [] [] e = refl
-    take_alike (suc n) [] (y ∷ ys) e = absurd (omega arith)
-    take_alike (suc n) (x ∷ xs) [] e = absurd (omega arith)
-    take_alike (suc n) (x ∷ xs) (y ∷ ys) e = let less : length xs ≡ length ys = omega arith in ap suc (take_alike n xs ys less)
+pub less_argument : (table : List TypeExpr) (frame waits top : Frame) (below : List Frame) (first rest : ℕ) → IsSplit table frame.rest first rest → waits.rest ≡ rest
+    → top.rest ≡ first → frames_weight table top (waits ∷ below) < frames_weight table frame below
+less_argument table frame waits top below first rest split rest_is first_is =
+    let a = ap (type_weight table) split.is ∙ split_weight table (type_at table first) (type_at table rest) split.complete in
+    let b = ap (λ (n : ℕ). type_weight table (type_at table n)) rest_is in
+    let c = ap (λ (n : ℕ). type_weight table (type_at table n)) first_is in
+    omega arith
 
--- one task is there, and nothing is built
-pub built_first : (checker : Checker) (declared : TypeExpr) → Builds checker (Visit declared ∷ []) [] declared
-built_first checker declared = record {
-  built = [];
-  stand = record { there = tt; meant = λ places types instance fits. refl };
-  count = refl;
-  rest = refl;
-}
+pub less_finished : (table : List TypeExpr) (top frame next : Frame) (below : List Frame) (place : ℕ) → HasMore frame next place
+    → frames_weight table next below < frames_weight table top (frame ∷ below)
+less_finished table top frame next below place has =
+    let some = some_weight table (type_at table top.rest) in
+    let b = ap (λ (n : ℕ). type_weight table (type_at table n)) has.same_rest in
+    omega arith
 
--- no task is left
-pub built_last : (checker : Checker) (front listed : List ℕ) (place : ℕ) (whole : TypeExpr) → Builds checker [] listed whole → listed ≡ front ++ place ∷ []
-    → Stands checker place (λ types instance. replaced instance whole)
-built_last checker (first ∷ rest) listed place whole builds listed_is =
-    let a = builds.count in
-    let b = ap length builds.rest in
-    let c = ap length listed_is in
-    let d = length-append rest (place ∷ []) in
-    absurd (omega arith)
-built_last checker [] listed place whole builds listed_is =
-    let stand : AllStand checker (place ∷ []) (instances_of (whole ∷ [])) =
-    subst (λ (l : List ℕ). AllStand checker l (instances_of (whole ∷ []))) listed_is
-    (subst (λ (b : List TypeExpr). AllStand checker listed (instances_of b)) builds.rest builds.stand) in
+-- what a step begins with, where so much is under way
+pub begun_there : (start old : Checker) (built : BTreeMap ℕ ℕ) (top : Frame) (below : List Frame) (whole : TypeExpr) → IsUnderWay start old built top below whole
+    → top.rest < length old.graph.table
+begun_there start old built top below whole is = subst (λ (t : List TypeExpr). top.rest < length t) (sym is.grows.same_table) is.here
+
+pub begun_parts : (start old : Checker) (built : BTreeMap ℕ ℕ) (top : Frame) (below : List Frame) (whole : TypeExpr) → IsUnderWay start old built top below whole
+    → AreBuilt old.graph.table old built
+begun_parts start old built top below whole is = subst (λ (t : List TypeExpr). AreBuilt t old built) (sym is.grows.same_table) is.parts
+
+pub begun_named : (start old : Checker) (built : BTreeMap ℕ ℕ) (top : Frame) (below : List Frame) (whole : TypeExpr) → IsUnderWay start old built top below whole
+    → is_application (type_at old.graph.table top.rest) ≡ true
+begun_named start old built top below whole is = ap (λ (t : List TypeExpr). is_application (type_at t top.rest)) is.grows.same_table ∙ is.named
+
+pub begun_split : (start old : Checker) (built : BTreeMap ℕ ℕ) (top : Frame) (below : List Frame) (whole : TypeExpr) (first rest : ℕ) → IsUnderWay start old built top below whole
+    → type_at old.graph.table top.rest ≡ with_first (type_at old.graph.table first) (type_at old.graph.table rest) → (first < top.rest) × (rest < top.rest)
+    → is_application (type_at old.graph.table rest) ≡ true → IsSplit old.graph.table top.rest first rest
+begun_split start old built top below whole first rest is made_is before complete =
+    let there = begun_there start old built top below whole is in
     record {
-      there = stand.there.0;
-      meant = λ places types instance fits. first_alike (stand.meant places types instance fits);
+      first_there = let less = before.0 in omega arith;
+      rest_there = let less = before.1 in omega arith;
+      complete = complete;
+      is = made_is;
     }
-  where
-    first_alike : {a b : TypeExpr} → a ∷ [] ≡ b ∷ [] → a ≡ b
-    first_alike e = cc
 
--- the last argument is put behind the tasks
-pub one_visit : (tasks now whole : List Task) (arguments rest : List TypeExpr) (last : TypeExpr) → now ≡ tasks ++ Visit last ∷ [] → arguments ≡ rest ++ last ∷ []
-    → tasks ++ visits arguments ≡ whole → now ++ visits rest ≡ whole
-one_visit tasks now whole arguments rest last now_is arguments_are before =
-    ap (λ (l : List Task). l ++ visits rest) now_is ∙ append_assoc tasks (Visit last ∷ []) (visits rest) ∙ ap (λ (l : List Task). tasks ++ l) (sym (visits-push rest last))
-    ∙ ap (λ (l : List TypeExpr). tasks ++ visits l) (sym arguments_are) ∙ before
-
-pub as_variable : (old new : Checker) (place name : ℕ) (declared : TypeExpr) → VariableShape name ≡ type_shape_of declared
-    → Places old new place (λ types instance. instance name) → Places old new place (λ types instance. replaced instance declared)
-as_variable old new place name declared shape placed =
-    subst (λ (d : TypeExpr). Places old new place (λ types instance. replaced instance d)) (sym (shape_variable declared name shape)) placed
-
-pub as_int : (old new : Checker) (place : ℕ) (declared : TypeExpr) → IntShape ≡ type_shape_of declared
-    → Places old new place (λ types instance. IntType) → Places old new place (λ types instance. replaced instance declared)
-as_int old new place declared shape placed =
-    subst (λ (d : TypeExpr). Places old new place (λ types instance. replaced instance d)) (sym (shape_int declared shape)) placed
-
-pub as_text : (old new : Checker) (place : ℕ) (declared : TypeExpr) → TextShape ≡ type_shape_of declared
-    → Places old new place (λ types instance. TextType) → Places old new place (λ types instance. replaced instance declared)
-as_text old new place declared shape placed =
-    subst (λ (d : TypeExpr). Places old new place (λ types instance. replaced instance d)) (sym (shape_text declared shape)) placed
-
-pub built_leaf_at : (old new : Checker) (tasks : List Task) (listed now : List ℕ) (place : ℕ) (declared : TypeExpr)
-    → Places old new place (λ types instance. replaced instance declared) → now ≡ listed ++ place ∷ []
-    → (whole : TypeExpr) → Builds old (tasks ++ Visit declared ∷ []) listed whole → Step old new Nothing × Builds new tasks now whole
-built_leaf_at old new tasks listed now place declared placed now_is whole builds =
-    (placed.grows, subst (λ (l : List ℕ). Builds new tasks l whole) (sym now_is) (built_leaf old new tasks listed place declared whole placed builds))
-
-pub pushed_arguments : (tasks middle now : List Task) (arguments : List TypeExpr) (declared : TypeExpr) (task : Task) → middle ≡ tasks ++ task ∷ []
-    → arguments ≡ type_arguments_of declared → now ≡ middle ++ visits arguments → now ≡ (tasks ++ task ∷ []) ++ visits (type_arguments_of declared)
-pushed_arguments tasks middle now arguments declared task middle_is arguments_are now_is =
-    now_is ∙ ap (λ (l : List Task). l ++ visits arguments) middle_is ∙ ap (λ (l : List TypeExpr). (tasks ++ task ∷ []) ++ visits l) arguments_are
-
-pub kept_places : (listed view middle now : List ℕ) (count kept arity place : ℕ) → count ≡ length listed → kept ≡ count - arity → middle ≡ take kept listed
-    → now ≡ middle ++ place ∷ [] → now ≡ take (length listed - arity) listed ++ place ∷ []
-kept_places listed view middle now count kept arity place count_is kept_is middle_is now_is =
-    now_is ∙ ap (λ (l : List ℕ). l ++ place ∷ []) (middle_is ∙ ap (λ (n : ℕ). take n listed) (kept_is ∙ ap (λ (n : ℕ). n - arity) count_is))
-
-pub dropped_places : (listed view dropped : List ℕ) (count kept arity : ℕ) → count ≡ length listed → kept ≡ count - arity → view ≡ listed → dropped ≡ drop kept view
-    → dropped ≡ drop (length listed - arity) listed
-dropped_places listed view dropped count kept arity count_is kept_is view_is dropped_is =
-    dropped_is ∙ ap (drop kept) view_is ∙ ap (λ (n : ℕ). drop n listed) (kept_is ∙ ap (λ (n : ℕ). n - arity) count_is)
-
-pub weight-push : (tasks : List Task) (task : Task) → weight (tasks ++ task ∷ []) ≡ weight tasks + task_weight task
-weight-push tasks task = let e = weight-append tasks (task ∷ []) in omega arith
-
--- a task that was not there
-pub no_tasks : (tasks now : List Task) (count : ℕ) → count ≡ 0 → now ≡ take (count - 1) tasks → tasks ≡ now ++ [] → tasks ≡ []
-no_tasks tasks now count none now_is tasks_are = tasks_are ∙ ap (λ (l : List Task). l ++ []) (now_is ∙ ap (λ (n : ℕ). take (n - 1) tasks) none)
+pub begun_filled : (start old : Checker) (built : BTreeMap ℕ ℕ) (top : Frame) (below : List Frame) (whole : TypeExpr) (name : ℕ) → IsUnderWay start old built top below whole
+    → type_at old.graph.table top.rest ≡ TypeApplication name no_types → IsFilled old top.places.items (TypeApplication name no_types) (type_at old.graph.table top.number)
+begun_filled start old built top below whole name is made_is =
+    let same : old.graph.table ≡ start.graph.table = is.grows.same_table in
+    subst (λ (t : TypeExpr). IsFilled old top.places.items t (type_at old.graph.table top.number)) made_is
+    (subst (λ (t : List TypeExpr). IsFilled old top.places.items (type_at t top.rest) (type_at t top.number)) (sym same) is.filled)

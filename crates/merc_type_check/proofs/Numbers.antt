@@ -52,17 +52,25 @@ type_there (t ∷ ts) zero type e = (omega arith, cc)
 type_there (t ∷ ts) (suc number) type e = let rest = type_there ts number type e in (let less = rest.0 in omega arith, rest.1)
 
 -- a variable is given a declared type that is the same in each instance
-pub given_whole : (done : Bool) (first second third : Checker) (place variable number : ℕ) (declared : TypeExpr) (table : List TypeExpr) → slice_get table number ≡ Some declared
-    → is_closed (type_at table number) ≡ true → Places first second place (λ types instance. types variable)
-    → ((Meant : Types → Types → TypeExpr) → Stands second place Meant → Takes done second third (λ types instance. Meant types instance ≡ type_at table number))
-    → Takes done first third (λ types instance. types variable ≡ replaced instance declared)
-given_whole done first second third place variable number declared table there closed placed takes =
-    let at : type_at table number ≡ declared = (type_there table number declared there).1 in
-    let none : is_closed declared ≡ true = sym (ap is_closed at) ∙ closed in
-    takes_as done first third (λ types instance. types variable ≡ type_at table number) (λ types instance. types variable ≡ replaced instance declared)
-    (λ types instance same. same ∙ at ∙ sym (replaced_closed instance declared none))
-    (λ types instance same. same ∙ replaced_closed instance declared none ∙ sym at)
-    (grow_takes done first second third (λ types instance. types variable ≡ type_at table number) placed.grows (takes (λ types instance. types variable) placed.stands))
+pub given_whole : (done : Bool) (first second third : Checker) (place variable number : ℕ) (table : List TypeExpr) → second.graph.table ≡ table
+    → is_closed (type_at second.graph.table number) ≡ true → Places first second place (λ types instance. types variable)
+    → ((Meant : Types → Types → TypeExpr) → Stands second place Meant → Takes done second third (λ types instance. Meant types instance ≡ type_at second.graph.table number))
+    → Takes done first third (λ types instance. types variable ≡ replaced instance (type_at table number))
+given_whole done first second third place variable number table same closed placed takes =
+    let whole : TypeExpr = type_at second.graph.table number in
+    let at : whole ≡ type_at table number = ap (λ (t : List TypeExpr). type_at t number) same in
+    subst (λ (t : TypeExpr). Takes done first third (λ types instance. types variable ≡ replaced instance t)) at
+    (takes_as done first third (λ types instance. types variable ≡ whole) (λ types instance. types variable ≡ replaced instance whole)
+    (λ types instance is. is ∙ sym (replaced_closed instance whole closed)) (λ types instance is. is ∙ replaced_closed instance whole closed)
+    (grow_takes done first second third (λ types instance. types variable ≡ whole) placed.grows (takes (λ types instance. types variable) placed.stands)))
+
+-- a variable has the declared type at a number
+pub given_declared : (done : Bool) (old new : Checker) (table : List TypeExpr) (variable number : ℕ) (declared : TypeExpr) → old.graph.table ≡ table
+    → slice_get table number ≡ Some declared → Takes done old new (λ types instance. types variable ≡ replaced instance (type_at old.graph.table number))
+    → Takes done old new (λ types instance. types variable ≡ replaced instance declared)
+given_declared done old new table variable number declared same there takes =
+    subst (λ (t : TypeExpr). Takes done old new (λ types instance. types variable ≡ replaced instance t))
+    (ap (λ (t : List TypeExpr). type_at t number) same ∙ (type_there table number declared there).1) takes
 
 pub given_fixed : (done : Bool) (first second third : Checker) (place variable number : ℕ) (type : TypeExpr) (table : List TypeExpr) → slice_get table number ≡ Some type
     → Places first second place (λ types instance. types variable)
@@ -97,18 +105,6 @@ numbers_push table numbers types number type here are =
     ∙ ap (λ (l : List (Option TypeExpr)). l ++ slice_get table number ∷ []) are
     ∙ ap (λ (o : Option TypeExpr). map Some types ++ o ∷ []) here
     ∙ sym (map-append Some types (type ∷ []))
-
-pub number_at : (table : List TypeExpr) (numbers : List ℕ) (types : List TypeExpr) (i d : ℕ) (type : TypeExpr) → AreNumbers table numbers types → slice_get types i ≡ Some type
-    → (i < length numbers) × (slice_get table (get_or numbers i d) ≡ Some type)
-number_at table numbers [] i d type are e = absurd (cc)
-number_at table [] (t ∷ ts) i d type are e = absurd (cc)
-number_at table (n ∷ ns) (t ∷ ts) zero d type are e =
-    let first : slice_get table n ≡ Some t = cc in
-    (omega arith, first ∙ e)
-number_at table (n ∷ ns) (t ∷ ts) (suc i) d type are e =
-    let others : map (slice_get table) ns ≡ map Some ts = cc in
-    let rest = number_at table ns ts i d type others e in
-    (let less = rest.0 in omega arith, rest.1)
 
 pub type_of_number : (table : List TypeExpr) (numbers : List ℕ) (types : List TypeExpr) (i d : ℕ) → AreNumbers table numbers types → i < length numbers
     → (type : TypeExpr) × ((slice_get types i ≡ Some type) × (slice_get table (get_or numbers i d) ≡ Some type))

@@ -143,8 +143,11 @@ agrees_less found more number place places types absent updates agrees = λ othe
         let same : get nat_cmp more other ≡ get nat_cmp found other = updates other ∙ ap (λ (b : Bool). cond b (Some place) (get nat_cmp found other)) e in
         subst (λ (o : Option ℕ). IfSome o (λ p. places p ≡ types other)) same (agrees other)
 
+abbrev pub MapUpdates : BTreeMap ℕ ℕ → BTreeMap ℕ ℕ → ℕ → ℕ → Type 0
+MapUpdates found more number place = (other : ℕ) → get nat_cmp more other ≡ cond (is_eq (nat_cmp number other)) (Some place) (get nat_cmp found other)
+
 -- what holds of the old numbers' places, and of the new one's, holds of all
-all_more : (Q : ℕ → ℕ → Type 0) (found more : BTreeMap ℕ ℕ) (number place : ℕ)
+pub all_more : (Q : ℕ → ℕ → Type 0) (found more : BTreeMap ℕ ℕ) (number place : ℕ)
     → ((other : ℕ) → get nat_cmp more other ≡ cond (is_eq (nat_cmp number other)) (Some place) (get nat_cmp found other))
     → ((other : ℕ) → IfSome (get nat_cmp found other) (Q other)) → Q number place → (other : ℕ) → IfSome (get nat_cmp more other) (Q other)
 all_more Q found more number place updates all one = λ other. at other (is_eq (nat_cmp number other)) refl
@@ -161,9 +164,6 @@ here : (found more : BTreeMap ℕ ℕ) (number place : ℕ)
     → ((other : ℕ) → get nat_cmp more other ≡ cond (is_eq (nat_cmp number other)) (Some place) (get nat_cmp found other))
     → get nat_cmp more number ≡ Some place
 here found more number place updates = updates number ∙ ap (λ (b : Bool). cond b (Some place) (get nat_cmp found number)) (number-same number)
-
-abbrev MapUpdates : BTreeMap ℕ ℕ → BTreeMap ℕ ℕ → ℕ → ℕ → Type 0
-MapUpdates found more number place = (other : ℕ) → get nat_cmp more other ≡ cond (is_eq (nat_cmp number other)) (Some place) (get nat_cmp found other)
 
 -- the place of a variable that was met before
 pub variable_known : (old : Checker) (number place : ℕ) → IsSound old → get nat_cmp old.variables number ≡ Some place

@@ -1,54 +1,95 @@
--- How a declared type is built with a stack of what is left to do.
-use Rattle.std.specs.Prelude.{◌≡◌, ℕ, ◌+◌, ◌-◌, List, [], ◌∷◌, ◌++◌, length, map, take, drop}
-use Rattle.merc_tree.specs.Types.{TypeExpr, TypeExprs, TypeVariable, IntType, TextType, TypeApplication, no_types, more_types, types_of, replaced}
-use Rattle.merc_type_check.specs.declared.building.Task.{Task}
-use Rattle.merc_type_check.specs.declared.building.Task.TheVariants.{Visit, Apply}
+-- How a declared type is built, part by part.
+use Rattle.std.specs.Prelude.{◌≡◌, ℕ, ◌+◌, ◌<◌, true, List, [], ◌∷◌, ◌++◌, length, map, Option, Some, None}
+use Rattle.std.specs.Option.{IfSome}
+use Rattle.std.specs.Ordering.{nat_cmp}
+use Rattle.std.specs.BTreeMap.{BTreeMap, get}
+use Rattle.merc_tree.specs.Types.{TypeExpr, TypeExprs, TypeVariable, IntType, TextType, TypeApplication, no_types, more_types, replaced}
+use Rattle.merc_type_table.specs.Table.{type_at, with_first, is_application}
+use Rattle.merc_type_table.specs.Frames.{with_all}
+use Rattle.merc_type_check.specs.declared.building.Frame.{Frame}
 use Rattle.merc_type_check.specs.declared.checker.Checker.{Checker}
-use Rattle.merc_type_check.specs.Progress.{Types, AllStand}
+use Rattle.merc_type_check.specs.Progress.{Types, Step, Nothing, Stands, AllStand}
 
--- what a task makes of the types that are built
-abbrev pub performed : Task → List TypeExpr → List TypeExpr
-performed (Visit declared) types = types ++ declared ∷ []
-performed (Apply name arity) types =
-    let kept = length types - arity in take kept types ++ TypeApplication name (types_of (drop kept types)) ∷ []
+-- the declared type at a number, in which type variables are what they stand for
+abbrev pub instance_at : List TypeExpr → ℕ → Types → Types → TypeExpr
+instance_at table number types instance = replaced instance (type_at table number)
 
--- what tasks make of them, the last one first
-abbrev pub finished : List Task → List TypeExpr → List TypeExpr
-finished [] types = types
-finished (task ∷ later) types = performed task (finished later types)
-
--- the tasks to visit types, the first one last
-abbrev pub visits : List TypeExpr → List Task
-visits [] = []
-visits (first ∷ rest) = visits rest ++ Visit first ∷ []
-
--- how much is left to do
-abbrev mutual
-  pub type_weight : TypeExpr → ℕ
-  type_weight (TypeVariable name) = 1
-  type_weight IntType = 1
-  type_weight TextType = 1
-  type_weight (TypeApplication name arguments) = 2 + types_weight arguments
-
-  pub types_weight : TypeExprs → ℕ
-  types_weight no_types = 0
-  types_weight (more_types first rest) = type_weight first + types_weight rest
-
-abbrev pub task_weight : Task → ℕ
-task_weight (Visit declared) = type_weight declared
-task_weight (Apply name arity) = 1
-
-abbrev pub weight : List Task → ℕ
-weight [] = 0
-weight (task ∷ rest) = task_weight task + weight rest
-
--- these declared types, in which type variables are what they stand for
+-- these declared types
 abbrev pub instances_of : List TypeExpr → Types → Types → List TypeExpr
 instances_of declared types instance = map (replaced instance) declared
 
--- At these places stand types that the tasks make one declared type of.
-pub record Builds (checker : Checker) (tasks : List Task) (listed : List ℕ) (whole : TypeExpr) : Type 0 where
-  pub built : List TypeExpr
-  pub stand : AllStand checker listed (instances_of built)
-  pub count : length listed ≡ length built
-  pub rest : finished tasks built ≡ whole ∷ []
+-- at the places of numbers stand their types
+abbrev pub AreBuilt : List TypeExpr → Checker → BTreeMap ℕ ℕ → Type 0
+AreBuilt table checker built = (number : ℕ) → IfSome (get nat_cmp built number) (λ place. Stands checker place (instance_at table number))
+
+-- a type stands at a place, or its arguments have to be built
+abbrev pub IsFound : Checker → TypeExpr → Option ℕ → Type 0
+IsFound checker type None = is_application type ≡ true
+IsFound checker type (Some place) = Stands checker place (λ types instance. replaced instance type)
+
+pub record Finds (old new : Checker) (built : BTreeMap ℕ ℕ) (number : ℕ) (found : Option ℕ) : Type 0 where
+  pub grows : Step old new Nothing
+  pub parts : AreBuilt old.graph.table new built
+  pub stands : IsFound new (type_at old.graph.table number) found
+
+pub record Finishes (old new : Checker) (built : BTreeMap ℕ ℕ) (number place : ℕ) : Type 0 where
+  pub grows : Step old new Nothing
+  pub parts : AreBuilt old.graph.table new built
+  pub stands : Stands new place (instance_at old.graph.table number)
+
+-- At these places stand the first arguments of a whole type, of which the rest is its name over the others.
+pub record IsFilled (checker : Checker) (places : List ℕ) (rest whole : TypeExpr) : Type 0 where
+  pub arguments : List TypeExpr
+  pub stand : AllStand checker places (instances_of arguments)
+  pub is : with_all arguments rest ≡ whole
+
+-- one more place
+pub record HasMore (old new : Frame) (place : ℕ) : Type 0 where
+  pub same_number : new.number ≡ old.number
+  pub same_rest : new.rest ≡ old.rest
+  pub more_places : new.places.items ≡ old.places.items ++ place ∷ []
+
+-- Given are the declared types, by numbers.
+module _ (table : List TypeExpr) where
+  -- a frame lacks this type as its next argument, the next one lacks what becomes of that, and so on up to the whole
+  abbrev pub AreWaiting : Checker → TypeExpr → List Frame → TypeExpr → Type 0
+  AreWaiting checker type [] whole = type ≡ whole
+  AreWaiting checker type (frame ∷ frames) whole =
+      (frame.rest < length table) × (is_application (type_at table frame.rest) ≡ true)
+      × IsFilled checker frame.places.items (with_first type (type_at table frame.rest)) (type_at table frame.number)
+      × AreWaiting checker (type_at table frame.number) frames whole
+
+  -- how much is left to build
+  abbrev mutual
+    pub type_weight : TypeExpr → ℕ
+    type_weight (TypeVariable name) = 1
+    type_weight IntType = 1
+    type_weight TextType = 1
+    type_weight (TypeApplication name arguments) = 1 + types_weight arguments
+
+    pub types_weight : TypeExprs → ℕ
+    types_weight no_types = 0
+    types_weight (more_types first rest) = type_weight first + 1 + types_weight rest
+
+  abbrev pub waiting_weight : List Frame → ℕ
+  waiting_weight [] = 0
+  waiting_weight (frame ∷ frames) = type_weight (type_at table frame.rest) + waiting_weight frames
+
+  abbrev pub frames_weight : Frame → List Frame → ℕ
+  frames_weight top below = type_weight (type_at table top.rest) + waiting_weight below
+
+-- a type's name over arguments is the first one before the others
+pub record IsSplit (table : List TypeExpr) (number first rest : ℕ) : Type 0 where
+  pub first_there : first < length table
+  pub rest_there : rest < length table
+  pub complete : is_application (type_at table rest) ≡ true
+  pub is : type_at table number ≡ with_first (type_at table first) (type_at table rest)
+
+-- a whole type is built: the frame in work, and those that wait for it, the last one first
+pub record IsUnderWay (start now : Checker) (built : BTreeMap ℕ ℕ) (top : Frame) (below : List Frame) (whole : TypeExpr) : Type 0 where
+  pub grows : Step start now Nothing
+  pub parts : AreBuilt start.graph.table now built
+  pub here : top.rest < length start.graph.table
+  pub named : is_application (type_at start.graph.table top.rest) ≡ true
+  pub filled : IsFilled now top.places.items (type_at start.graph.table top.rest) (type_at start.graph.table top.number)
+  pub waiting : AreWaiting start.graph.table now (type_at start.graph.table top.number) below whole

@@ -1,100 +1,146 @@
 //! Declared types as equations.
-ghost use Rattle.std.specs.Prelude.{◌≡◌, ◌+◌, ◌<◌, ◌++◌, ◌∷◌, [], List, length, map, IfOk, OnOk};
-ghost use Rattle.merc_tree.specs.Types.{TypeApplication, TypeExpr, replaced, types_of};
-ghost use Rattle.merc_type_graph.specs.Changes.{AllWithin};
-ghost use Rattle.merc_type_check.specs.declared.building.Task.{Task as TaskValue};
-ghost use Rattle.merc_type_check.specs.Building.{Builds, task_weight, type_weight, visits, weight};
-ghost use Rattle.merc_type_check.specs.Progress.{IsSound, Nothing, Places, Step};
+ghost use Rattle.std.specs.Prelude.{◌≡◌, ◌<◌, List, length, map, reverse, IfOk, OnOk};
+ghost use Rattle.merc_tree.specs.Types.{TypeApplication, TypeExpr, no_types, replaced, types_of};
+ghost use Rattle.merc_type_table.specs.Table.{type_at};
+ghost use Rattle.merc_type_check.specs.Building.{frames_weight, AreBuilt, Finds, Finishes, HasMore, IsFilled, IsSplit, IsUnderWay};
+ghost use Rattle.merc_type_check.specs.Progress.{IsSound, Places};
+ghost use Rattle.merc_type_check.specs.declared.checker.Checker.{Checker as CheckerValue};
 
 use crate::checker::Checker;
 use merc_base::{Name, NoMemory};
-use merc_tree::{TypeArguments, TypeDef, TypeRef, TypeShape};
+use merc_tree::TypeDef;
 use merc_type_graph::Place;
+use merc_type_table::{TypeNode, TypeNumber};
 use std::alloc::Global;
+use std::collections::BTreeMap;
 
-// What is left to do: to visit a type, or to apply a type's name to the last places.
+// A declared type: the places of its first arguments, and its name over the others.
 #[derive(Drop)]
-pub(crate) enum Task<'a> {
-    Visit(TypeRef<'a>),
-    Apply(Name, usize),
+pub(crate) struct Frame {
+    pub(crate) number: TypeNumber,
+    pub(crate) rest: TypeNumber,
+    pub(crate) places: Vec<Place>,
 }
 
 impl<'a> Checker<'a> {
-    /// A place for a declared type, in which type variables are what they stand for.
-    pub(crate) fn declared(
+    /// A place for a declared type, in which type variables are what they stand for. Each part of it that holds a type
+    /// variable has one place, however often it occurs, and each greatest part without one has one place too.
+    pub(crate) fn declared(&mut self, alloc: Global, number: TypeNumber) -> Result<Place, NoMemory>
+        requires sound { IsSound self.old }
+        requires there { number < length self.old.graph.table }
+        ensures { IfOk result (λ place. Places self.old self.new place (λ types instance. replaced instance (type_at self.old.graph.table number))) }
+    {
+        let mut built = BTreeMap::new(alloc);
+        if let Some(place) = self.part(number, &mut built)? {
+            return Ok(place);
+        }
+        let mut top = Frame {
+            number,
+            rest: number,
+            places: Vec::new(alloc),
+        };
+        let mut below = Vec::new(alloc);
+        loop {
+            top = match self.node(top.rest) {
+                TypeNode::With { first, rest } => {
+                    self.argument(alloc, top, first, rest, &mut below, &mut built)?
+                }
+                TypeNode::Name(name) => {
+                    let place = self.finish(&top, name, &mut built)?;
+                    match below.pop() {
+                        Some(frame) => with_place(frame, place)?,
+                        None => return Ok(place),
+                    }
+                }
+                TypeNode::Variable(_) | TypeNode::Int | TypeNode::Text => unreachable!(),
+            };
+        }
+    }
+
+    // The place of a part of a declared type, None where its arguments have to be built first.
+    fn part(
+        &mut self,
+        number: TypeNumber,
+        built: &mut BTreeMap<TypeNumber, Place>,
+    ) -> Result<Option<Place>, NoMemory>
+        requires sound { IsSound self.old }
+        requires there { number < length self.old.graph.table }
+        requires built { AreBuilt self.old.graph.table self.old built.old }
+        ensures { IfOk result (λ found. Finds self.old self.new built.new number found) }
+    {
+        if let Some(place) = built.get(&number).copied() {
+            return Ok(Some(place));
+        }
+        if self.is_closed(number) {
+            let place = self.whole_place(number)?;
+            built.insert(number, place)?;
+            return Ok(Some(place));
+        }
+        match self.node(number) {
+            TypeNode::Variable(name) => {
+                let place = self.type_variable(name)?;
+                Ok(Some(place))
+            }
+            _ => Ok(None),
+        }
+    }
+
+    // Puts the place of one more argument into a frame, or puts the frame below and begins with the argument.
+    fn argument(
         &mut self,
         alloc: Global,
-        declared: &TypeRef<'_>,
-    ) -> Result<Place, NoMemory>
-        requires { IsSound self.old }
-        ensures { IfOk result (λ place. Places self.old self.new place (λ types instance. replaced instance declared.now)) }
-    {
-        let mut tasks = Vec::new(alloc);
-        let mut places = Vec::new(alloc);
-        tasks.push(Task::Visit(declared.copy()))?;
-        while let Some(task) = tasks.pop() {
-            self.perform(task, &mut tasks, &mut places)?;
-        }
-        match places.pop() {
-            Some(place) => Ok(place),
-            None => unreachable!(),
-        }
-    }
-
-    // Does one task.
-    fn perform<'b>(
-        &mut self,
-        task: Task<'b>,
-        tasks: &mut Vec<Task<'b>>,
-        places: &mut Vec<Place>,
-    ) -> Result<(), NoMemory>
+        frame: Frame,
+        first: TypeNumber,
+        rest: TypeNumber,
+        below: &mut Vec<Frame>,
+        built: &mut BTreeMap<TypeNumber, Place>,
+    ) -> Result<Frame, NoMemory>
         requires sound { IsSound self.old }
-        requires within { AllWithin (length self.old.graph.entries) places.old.items }
-        ensures builds { OnOk result ((whole : TypeExpr) → Builds self.old (tasks.old.items ++ task.entry ∷ []) places.old.items whole → Step self.old self.new Nothing × Builds self.new tasks.new.items places.new.items whole) }
-        ensures less { OnOk result (weight tasks.new.items < weight tasks.old.items + task_weight task.entry) }
+        requires built { AreBuilt self.old.graph.table self.old built.old }
+        requires split { IsSplit self.old.graph.table frame.rest first rest }
+        ensures under_way { IfOk result (λ top. (start : CheckerValue) (whole : TypeExpr) → IsUnderWay start self.old built.old frame (reverse below.old.items) whole → IsUnderWay start self.new built.new top (reverse below.new.items) whole) }
+        ensures less { IfOk result (λ top. frames_weight self.old.graph.table top (reverse below.new.items) < frames_weight self.old.graph.table frame (reverse below.old.items)) }
     {
-        match task {
-            Task::Visit(declared) => self.visit(declared, tasks, places),
-            Task::Apply(name, arity) => self.apply(name, arity, places),
-        }
-    }
-
-    // Puts the place of a type behind the others, or what is to be done for that.
-    fn visit<'b>(
-        &mut self,
-        declared: TypeRef<'b>,
-        tasks: &mut Vec<Task<'b>>,
-        places: &mut Vec<Place>,
-    ) -> Result<(), NoMemory>
-        requires { IsSound self.old }
-        ensures builds { OnOk result ((whole : TypeExpr) → Builds self.old (tasks.old.items ++ TaskValue.Visit declared.entry ∷ []) places.old.items whole → Step self.old self.new Nothing × Builds self.new tasks.new.items places.new.items whole) }
-        ensures less { OnOk result (weight tasks.new.items < weight tasks.old.items + type_weight declared.entry) }
-    {
-        let place = match declared.shape() {
-            TypeShape::Variable(name) => self.type_variable(name)?,
-            TypeShape::Int => self.int_place()?,
-            TypeShape::Text => self.text_place()?,
-            TypeShape::Application { name, arity } => {
-                tasks.push(Task::Apply(name, arity))?;
-                return push_visits(declared.arguments(), tasks);
+        let mut places = frame.places;
+        match self.part(first, built)? {
+            Some(place) => {
+                places.push(place)?;
+                Ok(Frame {
+                    number: frame.number,
+                    rest,
+                    places,
+                })
             }
-        };
-        places.push(place)?;
-        Ok(())
+            None => {
+                below.push(Frame {
+                    number: frame.number,
+                    rest,
+                    places,
+                })?;
+                Ok(Frame {
+                    number: first,
+                    rest: first,
+                    places: Vec::new(alloc),
+                })
+            }
+        }
     }
 
-    // Puts the place of a type's name over the types at the last places in place of these.
-    fn apply(&mut self, name: Name, arity: usize, places: &mut Vec<Place>) -> Result<(), NoMemory>
+    // The place of a type whose arguments have places.
+    fn finish(
+        &mut self,
+        frame: &Frame,
+        name: Name,
+        built: &mut BTreeMap<TypeNumber, Place>,
+    ) -> Result<Place, NoMemory>
         requires sound { IsSound self.old }
-        requires within { AllWithin (length self.old.graph.entries) places.old.items }
-        ensures { OnOk result ((whole : TypeExpr) (tasks : List TaskValue) → Builds self.old (tasks ++ Task.Apply name arity ∷ []) places.old.items whole → Step self.old self.new Nothing × Builds self.new tasks places.new.items whole) }
+        requires built { AreBuilt self.old.graph.table self.old built.old }
+        requires filled { IsFilled self.old frame.now.places.items (TypeApplication name no_types) (type_at self.old.graph.table frame.now.number) }
+        ensures { IfOk result (λ place. Finishes self.old self.new built.new frame.now.number place) }
     {
-        let kept = places.len().saturating_sub(arity);
-        let (_, arguments) = places.split_at(kept);
-        let place = self.applied(name, arguments)?;
-        places.truncate(kept);
-        places.push(place)?;
-        Ok(())
+        let place = self.applied(name, &frame.places)?;
+        built.insert(frame.number, place)?;
+        Ok(place)
     }
 
     /// A place for a declared type over what its parameters stand for.
@@ -111,15 +157,15 @@ impl<'a> Checker<'a> {
     }
 }
 
-// Puts the visits of arguments behind the tasks, so that the first one is visited first.
-fn push_visits<'a>(
-    mut arguments: TypeArguments<'a>,
-    tasks: &mut Vec<Task<'a>>,
-) -> Result<(), NoMemory>
-    ensures { OnOk result (tasks.new.items ≡ tasks.old.items ++ visits arguments.entry) }
+// Puts the place of one more argument into a frame.
+fn with_place(frame: Frame, place: Place) -> Result<Frame, NoMemory>
+    ensures { IfOk result (λ full. HasMore frame full place) }
 {
-    while let Some(last) = arguments.take_last() {
-        tasks.push(Task::Visit(last))?;
-    }
-    Ok(())
+    let mut places = frame.places;
+    places.push(place)?;
+    Ok(Frame {
+        number: frame.number,
+        rest: frame.rest,
+        places,
+    })
 }

@@ -1,14 +1,14 @@
 //! What is known of types while the parts of a goal are gone through.
 ghost use Rattle.std.specs.Prelude.{◌≡◌, ◌<◌, List, length, slice_get, IfOk, Some};
 ghost use Rattle.merc_tree.specs.Types.{TypeExpr, IntType, TextType, TypeApplication, types_of};
-ghost use Rattle.merc_type_table.specs.Table.{is_closed, type_at};
+ghost use Rattle.merc_type_table.specs.Table.{is_closed, made, type_at, IsBefore, IsComplete};
 ghost use Rattle.merc_type_graph.specs.Changes.{AllWithin, Decides};
 ghost use Rattle.merc_type_check.specs.Progress.{AllStand, Fits, IsCleared, IsSound, Places, Stands, Takes, Types};
 
 use merc_base::{Name, NoMemory};
 use merc_goal_tree::Var;
 use merc_type_graph::{Place, TypeGraph};
-use merc_type_table::{TypeNumber, TypeTable};
+use merc_type_table::{TypeNode, TypeNumber, TypeTable};
 use std::alloc::Global;
 use std::collections::BTreeMap;
 
@@ -101,21 +101,23 @@ impl<'a> Checker<'a> {
         self.table.is_closed(number)
     }
 
-    /// A place for the type `int`.
-    pub(crate) fn int_place(&mut self) -> Result<Place, NoMemory>
-        requires { IsSound self.old }
-        ensures { IfOk result (λ place. Places self.old self.new place (λ types instance. IntType)) }
+    /// What a declared type is made of.
+    pub(crate) fn node(&self, number: TypeNumber) -> TypeNode
+        requires sound { IsSound self.now }
+        requires declared { number < length self.now.graph.table }
+        ensures is { type_at self.now.graph.table number ≡ made self.now.graph.table result }
+        ensures before { IsBefore number result }
+        ensures complete { IsComplete self.now.graph.table result }
     {
-        let number = self.int();
-        self.graph.add_whole(number)
+        self.table.node(number)
     }
 
-    /// A place for the type `string`.
-    pub(crate) fn text_place(&mut self) -> Result<Place, NoMemory>
-        requires { IsSound self.old }
-        ensures { IfOk result (λ place. Places self.old self.new place (λ types instance. TextType)) }
+    /// A place for a declared type, in which type variables stand for themselves.
+    pub(crate) fn whole_place(&mut self, number: TypeNumber) -> Result<Place, NoMemory>
+        requires sound { IsSound self.old }
+        requires declared { number < length self.old.graph.table }
+        ensures { IfOk result (λ place. Places self.old self.new place (λ types instance. type_at self.old.graph.table number)) }
     {
-        let number = self.text();
         self.graph.add_whole(number)
     }
 

@@ -18,8 +18,9 @@ use std::alloc::Global;
 /// own.
 ///
 /// Declared types of the predicate's arguments, and those without type variables, are taken as a whole, and two of them are
-/// compared by their numbers. With n parts of the goal and of the other declared types that it uses, each counted at each
-/// use, this takes time of the order of n log n, however large the types are that solve it.
+/// compared by their numbers. With n parts of the goal and of the other declared types that it uses, where of each use the
+/// different parts with type variables are counted, with their arguments, this takes time of the order of n log n, however
+/// large the types are that solve it.
 ///
 /// # Errors
 ///

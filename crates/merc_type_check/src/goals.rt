@@ -1,5 +1,5 @@
 //! What goals ask of the types of their variables.
-ghost use Rattle.std.specs.Prelude.{◌≡◌, map, slice_get, IfOk, Some};
+ghost use Rattle.std.specs.Prelude.{◌≡◌, ◌<◌, length, map, slice_get, IfOk};
 ghost use Rattle.merc_tree.specs.Types.{IntType, TextType, replaced};
 ghost use Rattle.merc_type_table.specs.Table.{type_at};
 ghost use Rattle.merc_type_check.specs.TypeNumbers.{AreDeclared, AreNumbers, AreWithin};
@@ -13,7 +13,7 @@ use crate::declared::DeclaredTypes;
 use merc_base::{Name, NoMemory};
 use merc_goal_tree::{Predicate, Root, SimpleGoal, Symbol, Var};
 use merc_known::Known;
-use merc_tree::{Constructor, TypeDef, TypeExprs, TypeRef};
+use merc_tree::{Constructor, TypeDef, TypeExprs};
 use merc_type_table::TypeNumber;
 use std::alloc::Global;
 
@@ -173,14 +173,9 @@ impl<'a> Checker<'a> {
             return Ok(false);
         }
         for (index, variable) in variables.iter().enumerate() {
-            match declared.get(index) {
-                Some(one) => {
-                    let done = self.has_type(alloc, *variable, &one, numbers[index])?;
-                    if !done {
-                        return Ok(false);
-                    }
-                }
-                None => unreachable!(),
+            let done = self.has_type(alloc, *variable, numbers[index])?;
+            if !done {
+                return Ok(false);
             }
         }
         Ok(true)
@@ -207,18 +202,17 @@ impl<'a> Checker<'a> {
         &mut self,
         alloc: Global,
         variable: Var,
-        declared: &TypeRef<'_>,
         number: TypeNumber,
     ) -> Result<bool, NoMemory>
         requires sound { IsSound self.old }
-        requires number { slice_get self.old.graph.table number ≡ Some declared.now }
-        ensures { IfOk result (λ done. Takes done self.old self.new (λ types instance. types variable ≡ replaced instance declared.now)) }
+        requires number { number < length self.old.graph.table }
+        ensures { IfOk result (λ done. Takes done self.old self.new (λ types instance. types variable ≡ replaced instance (type_at self.old.graph.table number))) }
     {
         let place = self.variable(variable)?;
         if self.is_closed(number) {
             return self.make_whole(place, number);
         }
-        let other = self.declared(alloc, declared)?;
+        let other = self.declared(alloc, number)?;
         self.make_equal(place, other)
     }
 

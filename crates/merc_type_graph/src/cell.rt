@@ -8,7 +8,7 @@ use merc_base::Name;
 use merc_type_table::TypeNumber;
 
 /// What is known of the type at a place.
-#[derive(Clone, Copy, Debug)]
+#[derive(Clone, Copy)]
 pub(crate) enum Known {
     Nothing,
     /// A declared type, in which type variables stand for themselves.
@@ -24,7 +24,7 @@ pub(crate) enum Known {
 }
 
 /// What is known at a place, and its rank, which is below that of a place that it is the same as.
-#[derive(Clone, Copy, Debug)]
+#[derive(Clone, Copy)]
 pub(crate) struct Cell {
     pub(crate) known: Known,
     pub(crate) rank: usize,

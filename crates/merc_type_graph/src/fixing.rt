@@ -14,7 +14,7 @@ use merc_type_table::{TypeNode, TypeNumber, TypeTable};
 use std::alloc::Global;
 
 /// A place that is to have a whole type.
-#[derive(Clone, Copy, Debug)]
+#[derive(Clone, Copy)]
 pub(crate) struct Fixing {
     pub(crate) place: Place,
     pub(crate) whole: TypeNumber,

@@ -12,7 +12,7 @@ use merc_base::NoMemory;
 use std::alloc::Global;
 
 /// How far the visit of a place is.
-#[derive(Clone, Copy, Debug, PartialEq, Eq)]
+#[derive(Clone, Copy, PartialEq, Eq)]
 pub(crate) enum Mark {
     New,
     /// Places that it needs are being visited.

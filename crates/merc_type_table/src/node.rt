@@ -3,7 +3,7 @@ use crate::TypeNumber;
 use merc_base::Name;
 
 /// A type over the numbers of types that stand before it in a table.
-#[derive(Clone, Copy, Debug)]
+#[derive(Clone, Copy)]
 pub enum TypeNode {
     /// A type variable.
     Variable(Name),
@@ -18,7 +18,7 @@ pub enum TypeNode {
 }
 
 // One more argument, and the type that it is added to.
-#[derive(Clone, Copy, Debug, PartialEq, Eq, PartialOrd, Ord)]
+#[derive(Clone, Copy, PartialEq, Eq, PartialOrd, Ord)]
 pub(crate) struct Pair {
     pub(crate) first: TypeNumber,
     pub(crate) rest: TypeNumber,

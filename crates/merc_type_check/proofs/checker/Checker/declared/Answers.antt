@@ -1,34 +1,101 @@
-use Rattle.std.proofs.Common.{◌≡◌, List, [], ◌∷◌, ◌++◌, ◌+◌, ap, subst, ◌∙◌, arith, vec_len}
-use Rattle.merc_type_check.specs.declared.building.Task.{Task}
-use Rattle.merc_type_check.specs.Building.{Builds, weight, task_weight}
-use Rattle.merc_type_check.proofs.Steps.{grow_grow}
-use Rattle.merc_type_check.proofs.Built.{weight-push, built_last, no_tasks}
+use Rattle.std.proofs.Common.{◌≡◌, ℕ, ◌-◌, ◌<◌, List, ◌∷◌, ◌++◌, [], take, ◌⊎◌, inl, inr, true, None, Some, Option, refl, ap, sym, subst, ◌∙◌, reverse, vec_len}
+use Rattle.std.proofs.lemmas.List.{reverse-append}
+use Rattle.merc_tree.specs.Types.{TypeExpr}
+use Rattle.merc_type_table.specs.declared.node.TypeNode.{TypeNode}
+use Rattle.merc_type_table.specs.declared.node.TypeNode.TheVariants.{Variable, Int, Text, Name, With}
+use Rattle.merc_type_table.specs.Table.{type_at, made, is_application}
+use Rattle.merc_type_check.specs.declared.building.Frame.{Frame}
+use Rattle.merc_type_check.specs.Building.{frames_weight, IsUnderWay, Finds}
+use Rattle.merc_type_check.proofs.Built.{none_built, under_way_first, under_way_finished, under_way_last, less_finished, begun_there, begun_parts, begun_named, begun_split, begun_filled}
 use Rattle.merc_type_check.proofs.checker.Checker.declared.Goals as goal
 
-pub loop-task-smaller : goal.loop-task-smaller
-loop-task-smaller c =
-    let less = c.in_ok-perform.ensures.less in
-    let whole : weight c.loop-task.tasks.items ≡ weight c.pop.new.self.items + task_weight c.in-Some.task =
-    ap weight c.in-Some.ensures.items ∙ weight-push c.pop.new.self.items c.in-Some.task in
-    omega (arith, less, whole)
+popped : (below now : List Frame) (frame : Frame) → below ≡ now ++ frame ∷ [] → reverse below ≡ frame ∷ reverse now
+popped below now frame items = ap reverse items ∙ reverse-append now (frame ∷ [])
 
-pub loop-task-preserved : goal.loop-task-preserved
-loop-task-preserved c =
-    let before : Builds c.loop-task.self (c.pop.new.self.items ++ c.in-Some.task ∷ []) c.loop-task.places.items c.args.declared.now =
-    subst (λ (l : List Task). Builds c.loop-task.self l c.loop-task.places.items c.args.declared.now) c.in-Some.ensures.items c.loop-task.invariant.builds in
-    let after = c.in_ok-perform.ensures.builds c.args.declared.now before in
-    record {
-      grows = grow_grow c.args.self.now c.loop-task.self c.perform.new.self c.loop-task.invariant.grows after.0;
-      builds = after.1;
-    }
+none_left : (below now : List Frame) (count : ℕ) → count ≡ 0 → now ≡ take (count - 1) below → below ≡ now ++ [] → reverse below ≡ []
+none_left below now count none now_is items = ap reverse (items ∙ ap (λ (l : List Frame). l ++ []) (now_is ∙ ap (λ (n : ℕ). take (n - 1) below) none))
 
-pub returns : goal.returns
-returns c =
-    let none : c.loop-task.tasks.items ≡ [] = no_tasks c.loop-task.tasks.items c.pop.new.self.items (vec_len c.loop-task.tasks) c.in_default.ensures.cases.0 c.pop.ensures.rest
-    c.in_default.ensures.items in
-    let done : Builds c.loop-task.self [] c.loop-task.places.items c.args.declared.now =
-    subst (λ (l : List Task). Builds c.loop-task.self l c.loop-task.places.items c.args.declared.now) none c.loop-task.invariant.builds in
-    record {
-      grows = c.loop-task.invariant.grows;
-      stands = built_last c.loop-task.self c.pop-2.new.self.items c.loop-task.places.items c.in-Some-pop.place c.args.declared.now done c.in-Some-pop.ensures.items;
-    }
+no_some : (o : Option ℕ) → ((place : ℕ) → o ≡ Some place → ⊥) → o ≡ None
+no_some None apart = refl
+no_some (Some place) apart = absurd (apart place refl)
+
+not_named : (table : List TypeExpr) (node : TypeNode) → is_application (made table node) ≡ true
+    → ((name : ℕ) × (node ≡ Variable name)) ⊎ ((node ≡ Int) ⊎ (node ≡ Text)) → ⊥
+not_named table (Variable name) app other = cc
+not_named table Int app other = cc
+not_named table Text app other = cc
+not_named table (Name name) app other = elim other [
+  | inl found ↦ let e = found.1 in absurd (cc)
+  | inr found ↦ elim found [
+    | inl e ↦ absurd (cc)
+    | inr e ↦ absurd (cc)
+  ]
+]
+not_named table (With first rest) app other = elim other [
+  | inl found ↦ let e = found.1 in absurd (cc)
+  | inr found ↦ elim found [
+    | inl e ↦ absurd (cc)
+    | inr e ↦ absurd (cc)
+  ]
+]
+
+pub returns-in-None : goal.returns-in-None
+returns-in-None c =
+    under_way_last c.args.self.now c.loop-first.self c.finish.new.self c.loop-first.built c.finish.new.built c.loop-first.top (reverse c.loop-first.below.items)
+    c.in_ok-place-in-Name.place (type_at c.args.self.now.graph.table c.args.number)
+    (none_left c.loop-first.below.items c.pop.new.self.items (vec_len c.loop-first.below) c.in-None.ensures.cases.0 c.pop.ensures.rest c.in-None.ensures.items)
+    c.in_ok-place-in-Name.ensures c.loop-first.invariant
+
+pub loop-first-preserved : goal.loop-first-preserved
+loop-first-preserved c =
+    under_way_finished c.args.self.now c.loop-first.self c.finish.new.self c.loop-first.built c.finish.new.built c.loop-first.top c.in-Some-pop.frame c.in_ok-top-in-Some-pop.top
+    (reverse c.pop.new.self.items) c.in_ok-place-in-Name.place (type_at c.args.self.now.graph.table c.args.number) c.in_ok-place-in-Name.ensures c.in_ok-top-in-Some-pop.ensures
+    (subst (λ (l : List Frame). IsUnderWay c.args.self.now c.loop-first.self c.loop-first.built c.loop-first.top l (type_at c.args.self.now.graph.table c.args.number))
+    (popped c.loop-first.below.items c.pop.new.self.items c.in-Some-pop.frame c.in-Some-pop.ensures.items) c.loop-first.invariant)
+
+pub loop-first-smaller : goal.loop-first-smaller
+loop-first-smaller c =
+    let table : List TypeExpr = c.args.self.now.graph.table in
+    subst (λ (l : List Frame). frames_weight table c.in_ok-top-in-Some-pop.top (reverse c.pop.new.self.items) < frames_weight table c.loop-first.top l)
+    (sym (popped c.loop-first.below.items c.pop.new.self.items c.in-Some-pop.frame c.in-Some-pop.ensures.items))
+    (less_finished table c.loop-first.top c.in-Some-pop.frame c.in_ok-top-in-Some-pop.top (reverse c.pop.new.self.items) c.in_ok-place-in-Name.place c.in_ok-top-in-Some-pop.ensures)
+
+pub part-requires-clause-built : goal.part-requires-clause-built
+part-requires-clause-built c = none_built c.args.self.now.graph.table c.args.self.now c.new-built.result c.new-built.ensures.empty
+
+pub argument-requires-clause-built : goal.argument-requires-clause-built
+argument-requires-clause-built c =
+    begun_parts c.args.self.now c.loop-first.self c.loop-first.built c.loop-first.top (reverse c.loop-first.below.items) (type_at c.args.self.now.graph.table c.args.number) c.loop-first.invariant
+
+pub argument-requires-clause-split : goal.argument-requires-clause-split
+argument-requires-clause-split c =
+    begun_split c.args.self.now c.loop-first.self c.loop-first.built c.loop-first.top (reverse c.loop-first.below.items) (type_at c.args.self.now.graph.table c.args.number)
+    c.in-With.first c.in-With.rest c.loop-first.invariant c.in-With.ensures.is c.in-With.ensures.before c.in-With.ensures.complete
+
+pub finish-requires-clause-built : goal.finish-requires-clause-built
+finish-requires-clause-built c =
+    begun_parts c.args.self.now c.loop-first.self c.loop-first.built c.loop-first.top (reverse c.loop-first.below.items) (type_at c.args.self.now.graph.table c.args.number) c.loop-first.invariant
+
+pub finish-requires-clause-filled : goal.finish-requires-clause-filled
+finish-requires-clause-filled c =
+    begun_filled c.args.self.now c.loop-first.self c.loop-first.built c.loop-first.top (reverse c.loop-first.below.items) (type_at c.args.self.now.graph.table c.args.number)
+    c.in-Name.name c.loop-first.invariant c.in-Name.ensures.is
+
+pub node-requires-clause-declared : goal.node-requires-clause-declared
+node-requires-clause-declared c =
+    begun_there c.args.self.now c.loop-first.self c.loop-first.built c.loop-first.top (reverse c.loop-first.below.items) (type_at c.args.self.now.graph.table c.args.number) c.loop-first.invariant
+
+pub unreachable-requires : goal.unreachable-requires
+unreachable-requires c =
+    let named = begun_named c.args.self.now c.loop-first.self c.loop-first.built c.loop-first.top (reverse c.loop-first.below.items) (type_at c.args.self.now.graph.table c.args.number)
+    c.loop-first.invariant in
+    not_named c.loop-first.self.graph.table c.node.result (sym (ap is_application c.node.ensures.is) ∙ named) c.in-Variable.is
+
+pub loop-first-init : goal.loop-first-init
+loop-first-init c =
+    let top : Frame = record { number = c.args.number; rest = c.args.number; places = c.new.result } in
+    subst (λ (l : List Frame). IsUnderWay c.args.self.now c.part.new.self c.part.new.built top l (type_at c.args.self.now.graph.table c.args.number))
+    (sym (ap reverse c.new-below.ensures.items))
+    (under_way_first c.args.self.now c.part.new.self c.part.new.built top c.args.number c.requires.there
+    (subst (λ (o : Option ℕ). Finds c.args.self.now c.part.new.self c.part.new.built c.args.number o) (no_some c.in_ok-place.field-0 c.in_default.not-Some) c.in_ok-place.ensures)
+    refl refl c.new.ensures.items)

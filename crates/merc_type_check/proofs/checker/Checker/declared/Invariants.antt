@@ -1,9 +1,10 @@
-use Rattle.merc_type_check.specs.Building.{Builds, weight}
-use Rattle.merc_type_check.specs.Progress.{Nothing, Step}
+use Rattle.std.proofs.Common.{reverse}
+use Rattle.merc_type_table.specs.Table.{type_at}
+use Rattle.merc_type_check.specs.Building.{frames_weight, IsUnderWay}
 use Rattle.merc_type_check.proofs.checker.Checker.declared.Given as goal
 
-abbrev pub invariant-loop-task : goal.invariant-loop-task
-invariant-loop-task l = record { grows : Step l.fn.self l.self Nothing; builds : Builds l.self l.tasks.items l.places.items l.declared }
+abbrev pub invariant-loop-first : goal.invariant-loop-first
+invariant-loop-first l = IsUnderWay l.fn.self l.self l.built l.top (reverse l.below.items) (type_at l.fn.self.graph.table l.fn.number)
 
-abbrev pub decreases-loop-task : goal.decreases-loop-task
-decreases-loop-task l = weight l.tasks.items
+abbrev pub decreases-loop-first : goal.decreases-loop-first
+decreases-loop-first l = frames_weight l.fn.self.graph.table l.top (reverse l.below.items)
