@@ -75,7 +75,7 @@ room-worker parts v k pool joins room =
     record { branches = room.branches; outcomes = room.outcomes; rights = room.rights; joins = room.joins; crowd = room.crowd; many = room.many }
 
 -- what holds of each in a list holds of one that is taken out of it
-filter-one : (Fact : Spot → Type 0) (test : Spot → Bool) {pool : List Spot} {x : Spot} {others : List Spot} → Takes pool x others → test x ≡ true → AllByRecursion Fact (filter test pool) → Fact x
+pub filter-one : (Fact : Spot → Type 0) (test : Spot → Bool) {pool : List Spot} {x : Spot} {others : List Spot} → Takes pool x others → test x ≡ true → AllByRecursion Fact (filter test pool) → Fact x
 filter-one Fact test (here x xs) is all = (let both : AllByRecursion Fact (x ∷ filter test xs) = subst (AllByRecursion Fact) (filter-yes test x xs is) all in both.0)
 filter-one Fact test (there x y xs ys takes) is all = elim (each_way (test x)) [
   | inl p ↦ (let both : AllByRecursion Fact (x ∷ filter test xs) = subst (AllByRecursion Fact) (filter-yes test x xs p) all in filter-one Fact test takes is both.1)

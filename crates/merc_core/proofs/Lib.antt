@@ -46,3 +46,7 @@ pub mod ForkParts
 pub mod ForkRights
 pub mod ForkedAt
 pub mod Forks
+pub mod Fits
+pub mod Turns
+pub mod Unknown
+pub mod Replays

@@ -12,3 +12,5 @@ pub mod Mirror
 pub mod Stepping
 pub mod Outcomes
 pub mod Roomy
+pub mod Execution
+pub mod Replaying
