@@ -10,6 +10,7 @@ mod forking;
 mod join;
 pub mod laws;
 mod lists;
+mod making;
 mod resuming;
 mod rights;
 mod running;
