@@ -87,6 +87,7 @@ fn past_scripts(course: &Course, place: usize, scripts: usize) -> usize
 // The state in which the root's branch runs on worker 0.
 fn first_state(alloc: Global, items: &[Item], workers: u32) -> Result<State, NoMemory>
     requires some { 1 ≤ workers }
+    requires small { length items.now < 2 ^ 63 }
     ensures { (root : MeantScript) → items.now ≡ items_of root → IfOk result (λ state. Mirrors items.now (parts_of state) (start root workers)) }
 {
     Ok(State {
@@ -180,7 +181,8 @@ fn make_joins(alloc: Global, forks: usize) -> Result<Vec<Join>, NoMemory>
 
 // The number of forks among items.
 fn count_forks(items: &[Item]) -> usize
-    ensures { result ≡ made_among joins_made items.now }
+    ensures made { result ≡ made_among joins_made items.now }
+    ensures few { result ≤ length items.now }
 {
     let mut forks = 0;
     for item in items {
@@ -223,11 +225,7 @@ fn add_spare(alloc: Global, spare: &mut Spare, fork: &Fork) -> Result<(), NoMemo
 }
 
 // Puts so many branches behind a list.
-fn add_branches(
-    alloc: Global,
-    list: &mut LinkedList<Branch>,
-    count: usize,
-) -> Result<(), NoMemory>
+fn add_branches(alloc: Global, list: &mut LinkedList<Branch>, count: usize) -> Result<(), NoMemory>
     ensures { OnOk result (length list.new ≡ length list.old + count) }
 {
     for _ in 0..count {
