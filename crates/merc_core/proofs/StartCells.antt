@@ -1,5 +1,5 @@
 -- Cells for the Waits among items.
-use Rattle.std.proofs.Common.{◌≡◌, ℕ, suc, ◌+◌, ◌≤◌, ◌<◌, inl, inr, cond, true, false, Bool, List, Some, None, refl, ap, sym, ◌∙◌, subst, arith, length}
+use Rattle.std.proofs.Common.{◌≡◌, ℕ, suc, ◌≤◌, ◌<◌, inl, inr, cond, true, false, Bool, List, Some, None, refl, ap, sym, ◌∙◌, subst, arith, length}
 use Rattle.std.specs.Prelude.{Option, slice_get, IsSome}
 use Rattle.std.proofs.lemmas.Option.{slice_get_within}
 use Rattle.merc_script.specs.declared.items.Item.{Item}

@@ -1,12 +1,14 @@
 -- The start of a run of a root that forks into two children, of which the first signals cell 5 and the second waits for it.
-use Rattle.std.proofs.Common.{◌≡◌, ℕ, true, false, List, [], ◌∷◌, Some, None, refl}
+use Rattle.std.proofs.Common.{◌≡◌, ℕ, true, false, List, [], ◌∷◌, Some, None, refl, ap, arith}
 use Rattle.merc_script.specs.declared.outcome.Outcome.TheVariants.{Ok as Fine}
 use Rattle.merc_script.specs.declared.items.Item.{Item}
-use Rattle.merc_script.specs.declared.items.Item.TheVariants.{Wait, Signal}
-use Rattle.merc_script.specs.Script.{Script, Ends, WaitThen, SignalThen, ForkThen, NoChild, Child}
+use Rattle.merc_script.specs.declared.items.Item.TheVariants.{Tick, Wait, Signal, End}
+use Rattle.merc_script.specs.Script.{Script, Ends, TickThen, WaitThen, SignalThen, ForkThen, NoChild, Child}
 use Rattle.merc_script.specs.Items.{items_of}
+use Rattle.merc_core.specs.declared.cell.Cell.{Cell}
 use Rattle.merc_core.specs.Mirror.{branches_made, rights_made, joins_made}
-use Rattle.merc_core.specs.Starting.{past_item, made_among, root_branch, worker_with, first_workers, IsOpen, AreOpen, IsPast}
+use Rattle.merc_core.specs.Starting.{past_item, made_among, root_branch, worker_with, first_workers, open_cell, IsOpen, AreOpen, IsPast}
+use Rattle.merc_core.proofs.StartPlaces.{past-nowhere, past-everywhere, past-more}
 
 abbrev root : Script
 root =
@@ -26,6 +28,13 @@ past_signal = refl
 
 past_wait : past_item past (Wait 5) 4 ≡ 5
 past_wait = refl
+
+-- a script with one step
+one_step : IsPast (items_of (TickThen (Ends (Fine 3)))) (2 ∷ 2 ∷ [])
+one_step =
+    let short = items_of (TickThen (Ends (Fine 3))) in
+    past-everywhere short (2 ∷ 2 ∷ []) 0 (omega arith)
+    (past-more short (0 ∷ 2 ∷ []) 0 1 Tick refl (omega arith) refl refl (past-more short (0 ∷ 0 ∷ []) 1 2 (End (Fine 3)) refl (omega arith) refl refl (past-nowhere short (0 ∷ 0 ∷ []) 2 (omega arith))))
 
 -- where the first child were past only at the second's end, the table would be wrong
 not_past : IsPast items (6 ∷ 5 ∷ 3 ∷ 5 ∷ 5 ∷ 6 ∷ []) → ⊥
@@ -49,6 +58,9 @@ three = refl
 no_cells : AreOpen items (λ cell. None) → ⊥
 no_cells opened = absurd (cc (opened.waits 3 5 refl))
 
--- a cell that is full is not open
+-- an open cell, and one that is full
+one_open : IsOpen (Some open_cell)
+one_open = refl
+
 full : IsOpen (Some (record { is_full = true; is_poisoned = false; waiting = [] })) → ⊥
-full opened = absurd (cc (opened))
+full opened = let e : true ≡ false = ap (λ (c : Cell). c.is_full) opened in absurd (cc (e))

@@ -11,7 +11,7 @@ use Rattle.merc_script.specs.Items.{items_of, items_in}
 use Rattle.merc_core.specs.Standing.{StandsAt, StandAt}
 use Rattle.merc_core.specs.Forking.{place_or, past_script, past_scripts}
 use Rattle.merc_core.specs.Starting.{past_item, IsPast}
-use Rattle.merc_core.proofs.StandingLaws.{there, behind_items, length-items_in}
+use Rattle.merc_core.proofs.StandingLaws.{behind_items, length-items_in}
 use Rattle.merc_core.proofs.Simple.{stands-within}
 use Rattle.merc_core.proofs.ForkedAt.{first-stands, more-stand}
 use Rattle.merc_core.proofs.Acting.{get-set-here, get-set-there, nat-is}

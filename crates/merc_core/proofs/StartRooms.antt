@@ -1,10 +1,9 @@
 -- What a script's Forks make, counted over its items.
-use Rattle.std.proofs.Common.{◌≡◌, ℕ, suc, ◌+◌, ◌≤◌, ◌<◌, List, [], ◌∷◌, ◌++◌, refl, ap, sym, ◌∙◌, arith, length, drop}
+use Rattle.std.proofs.Common.{◌≡◌, ℕ, suc, ◌+◌, ◌≤◌, List, [], ◌∷◌, ◌++◌, refl, ap, arith, drop}
 use Rattle.merc_script.specs.declared.items.Item.{Item}
-use Rattle.merc_script.specs.declared.items.Item.TheVariants.{Tick, Wait, Signal, Fork, End}
 use Rattle.merc_script.specs.Script.{Script, Ends, TickThen, WaitThen, SignalThen, ForkThen, Children, NoChild, Child, Cell, Move, count, size, sizes}
 use Rattle.merc_script.specs.Items.{items_of, items_in}
-use Rattle.merc_core.specs.Mirror.{made, made_in, branches_made, joins_made}
+use Rattle.merc_core.specs.Mirror.{made, made_in, branches_made}
 use Rattle.merc_core.specs.Starting.{made_at, made_among}
 
 module _ (each : ℕ → List Cell → List Move → ℕ) where

@@ -1,7 +1,6 @@
-use Rattle.std.proofs.Common.{◌≡◌, ◌+◌, ◌-◌, ◌<◌, length, refl, ap, sym, subst, arith, length-set}
+use Rattle.std.proofs.Common.{◌-◌, ◌<◌, length, refl, ap, sym, subst, arith, length-set}
 use Rattle.std.proofs.Math.ListN.{set}
-use Rattle.merc_core.specs.Starting.{past_item}
-use Rattle.merc_core.proofs.StartPlaces.{IsPastFrom, past-nowhere, past-everywhere, past-more, at-place}
+use Rattle.merc_core.proofs.StartPlaces.{IsPastFrom, past-nowhere, past-more, at-place}
 use Rattle.merc_core.proofs.making.course_of.Goals as goal
 
 pub loop-place-init : goal.loop-place-init

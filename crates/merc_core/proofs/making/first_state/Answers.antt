@@ -1,4 +1,4 @@
-use Rattle.std.proofs.Common.{◌≡◌, ap, sym, ◌∙◌, arith, length}
+use Rattle.std.proofs.Common.{arith}
 use Rattle.merc_core.specs.Stepping.{parts_of}
 use Rattle.merc_core.proofs.Starts.{first-shown}
 use Rattle.merc_core.proofs.making.first_state.Goals as goal

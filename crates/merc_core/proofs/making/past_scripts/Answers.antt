@@ -1,4 +1,4 @@
-use Rattle.std.proofs.Common.{◌≡◌, ◌-◌, ap, sym, ◌∙◌}
+use Rattle.std.proofs.Common.{◌-◌, ap, sym, ◌∙◌}
 use Rattle.merc_core.specs.Forking.{past_scripts}
 use Rattle.merc_core.proofs.ForkParts.{past-on}
 use Rattle.merc_core.proofs.making.past_scripts.Goals as goal
