@@ -29,7 +29,7 @@ past_signal = refl
 past_wait : past_item past (Wait 5) 4 ≡ 5
 past_wait = refl
 
--- a script with one step
+-- a script of one step
 one_step : IsPast (items_of (TickThen (Ends (Fine 3)))) (2 ∷ 2 ∷ [])
 one_step =
     let short = items_of (TickThen (Ends (Fine 3))) in

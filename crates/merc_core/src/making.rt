@@ -30,7 +30,7 @@ pub(crate) struct Started {
     pub(crate) state: State,
 }
 
-// The start of a run by so many workers. All memory that the run needs is taken here.
+// The start of a run by so many workers. All memory that the state will need is taken here.
 pub(crate) fn begin(alloc: Global, root: Script, workers: u32) -> Result<Started, NoMemory>
     requires well { WellFormed root }
     requires some { 1 ≤ workers }
