@@ -24,12 +24,12 @@ use Rattle.merc_core.proofs.Rooms.{room-back}
 abbrev pub with_worker : Parts → ℕ → Worker → Parts
 with_worker parts v k = record parts { workers = set parts.workers v k }
 
-get-set-here : {A : Type 0} (xs : List A) (i : ℕ) (x : A) → i < length xs → slice_get (set xs i x) i ≡ Some x
+pub get-set-here : {A : Type 0} (xs : List A) (i : ℕ) (x : A) → i < length xs → slice_get (set xs i x) i ≡ Some x
 get-set-here [] i x in_range = absurd (omega arith)
 get-set-here (y ∷ ys) zero x in_range = refl
 get-set-here (y ∷ ys) (suc i) x in_range = get-set-here ys i x (omega arith)
 
-get-set-there : {A : Type 0} (xs : List A) (i j : ℕ) (x : A) → (i ≡ j → ⊥) → slice_get (set xs i x) j ≡ slice_get xs j
+pub get-set-there : {A : Type 0} (xs : List A) (i j : ℕ) (x : A) → (i ≡ j → ⊥) → slice_get (set xs i x) j ≡ slice_get xs j
 get-set-there [] i j x apart = refl
 get-set-there (y ∷ ys) zero zero x apart = absurd (apart refl)
 get-set-there (y ∷ ys) zero (suc j) x apart = refl

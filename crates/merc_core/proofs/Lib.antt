@@ -30,6 +30,11 @@ pub mod Filters
 pub mod PoolShows
 pub mod PoolMoves
 pub mod Rooms
+pub mod StartPlaces
+pub mod StartRooms
+pub mod StartCells
+pub mod Starts
+mod StartExamples
 pub mod Acting
 pub mod Simple
 pub mod TakingUp

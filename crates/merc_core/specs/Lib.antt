@@ -8,6 +8,7 @@ pub mod History
 pub mod Queues
 pub mod Standing
 pub mod Forking
+pub mod Starting
 pub mod Mirror
 pub mod Stepping
 pub mod Outcomes
