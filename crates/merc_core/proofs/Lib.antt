@@ -20,7 +20,7 @@ pub mod Hands
 pub mod Single
 pub mod Histories
 pub mod Waiters
-mod CoreExamples
+pub mod CoreExamples
 mod WellFormedExamples
 mod HistoryExamples
 mod ForkExamples
@@ -55,3 +55,4 @@ pub mod Fits
 pub mod Turns
 pub mod Unknown
 pub mod Replays
+mod ExecutionExamples

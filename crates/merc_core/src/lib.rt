@@ -26,3 +26,6 @@ mod worker;
 
 pub use event::{Event, NotNow};
 pub use executing::Core;
+
+#[cfg(test)]
+mod tests;
