@@ -24,12 +24,12 @@ use Rattle.merc_core.proofs.Rooms.{room-back}
 abbrev pub with_worker : Parts → ℕ → Worker → Parts
 with_worker parts v k = record parts { workers = set parts.workers v k }
 
-get-set-here : {A : Type 0} (xs : List A) (i : ℕ) (x : A) → i < length xs → slice_get (set xs i x) i ≡ Some x
+pub get-set-here : {A : Type 0} (xs : List A) (i : ℕ) (x : A) → i < length xs → slice_get (set xs i x) i ≡ Some x
 get-set-here [] i x in_range = absurd (omega arith)
 get-set-here (y ∷ ys) zero x in_range = refl
 get-set-here (y ∷ ys) (suc i) x in_range = get-set-here ys i x (omega arith)
 
-get-set-there : {A : Type 0} (xs : List A) (i j : ℕ) (x : A) → (i ≡ j → ⊥) → slice_get (set xs i x) j ≡ slice_get xs j
+pub get-set-there : {A : Type 0} (xs : List A) (i j : ℕ) (x : A) → (i ≡ j → ⊥) → slice_get (set xs i x) j ≡ slice_get xs j
 get-set-there [] i j x apart = refl
 get-set-there (y ∷ ys) zero zero x apart = absurd (apart refl)
 get-set-there (y ∷ ys) zero (suc j) x apart = refl
@@ -75,7 +75,7 @@ room-worker parts v k pool joins room =
     record { branches = room.branches; outcomes = room.outcomes; rights = room.rights; joins = room.joins; crowd = room.crowd; many = room.many }
 
 -- what holds of each in a list holds of one that is taken out of it
-filter-one : (Fact : Spot → Type 0) (test : Spot → Bool) {pool : List Spot} {x : Spot} {others : List Spot} → Takes pool x others → test x ≡ true → AllByRecursion Fact (filter test pool) → Fact x
+pub filter-one : (Fact : Spot → Type 0) (test : Spot → Bool) {pool : List Spot} {x : Spot} {others : List Spot} → Takes pool x others → test x ≡ true → AllByRecursion Fact (filter test pool) → Fact x
 filter-one Fact test (here x xs) is all = (let both : AllByRecursion Fact (x ∷ filter test xs) = subst (AllByRecursion Fact) (filter-yes test x xs is) all in both.0)
 filter-one Fact test (there x y xs ys takes) is all = elim (each_way (test x)) [
   | inl p ↦ (let both : AllByRecursion Fact (x ∷ filter test xs) = subst (AllByRecursion Fact) (filter-yes test x xs p) all in filter-one Fact test takes is both.1)

@@ -20,7 +20,7 @@ pub mod Hands
 pub mod Single
 pub mod Histories
 pub mod Waiters
-mod CoreExamples
+pub mod CoreExamples
 mod WellFormedExamples
 mod HistoryExamples
 mod ForkExamples
@@ -30,6 +30,11 @@ pub mod Filters
 pub mod PoolShows
 pub mod PoolMoves
 pub mod Rooms
+pub mod StartPlaces
+pub mod StartRooms
+pub mod StartCells
+pub mod Starts
+mod StartExamples
 pub mod Acting
 pub mod Simple
 pub mod TakingUp
@@ -46,3 +51,8 @@ pub mod ForkParts
 pub mod ForkRights
 pub mod ForkedAt
 pub mod Forks
+pub mod Fits
+pub mod Turns
+pub mod Unknown
+pub mod Replays
+mod ExecutionExamples

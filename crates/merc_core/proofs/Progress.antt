@@ -126,14 +126,14 @@ wait-ok w v cell b rest others false false = (_, refl)
 running-is : (w : World) (v : ℕ) (b : Branch) (others : List Spot) (go : Branch → List Spot → Answer) → nat_lt v w.workers ≡ true → in_hand v w.pool ≡ Some (spot (Runs v) b, others) → running w v go ≡ go b others
 running-is w v b others go worker hand = rw (worker, hand)
 
-runs-ok : (w : World) (v : ℕ) (b : Branch) (rest : Script) (others : List Spot) → nat_lt v w.workers ≡ true → in_hand v w.pool ≡ Some (spot (Runs v) (record b { rest = rest }), others) → Accepted w (event_at v rest)
+pub runs-ok : (w : World) (v : ℕ) (b : Branch) (rest : Script) (others : List Spot) → nat_lt v w.workers ≡ true → in_hand v w.pool ≡ Some (spot (Runs v) (record b { rest = rest }), others) → Accepted w (event_at v rest)
 runs-ok w v b (Ends o) others worker hand = is-ok w (End v) _ (running-is w v (record b { rest = Ends o }) others (λ b others. end_on w v b.rest b others) worker hand) (_, refl)
 runs-ok w v b (TickThen rest) others worker hand = is-ok w (Tick v) _ (running-is w v (record b { rest = TickThen rest }) others (λ b others. tick_on w v b.rest b others) worker hand) (_, refl)
 runs-ok w v b (WaitThen cell rest) others worker hand = is-ok w (Wait v) _ (running-is w v (record b { rest = WaitThen cell rest }) others (λ b others. wait_on w v b.rest b others) worker hand) (wait-ok w v cell (record b { rest = WaitThen cell rest }) rest others (has cell w.full) (has_in cell w.poisoned))
 runs-ok w v b (SignalThen cell rest) others worker hand = is-ok w (Signal v) _ (running-is w v (record b { rest = SignalThen cell rest }) others (λ b others. signal_on w v b.rest b others) worker hand) (_, refl)
 runs-ok w v b (ForkThen limit cells moves children rest) others worker hand = is-ok w (Fork v) _ (running-is w v (record b { rest = ForkThen limit cells moves children rest }) others (λ b others. fork_on w v b.rest b others) worker hand) (_, refl)
 
-holds-ok : (w : World) (v number : ℕ) (b : Branch) (others : List Spot) → nat_lt v w.workers ≡ true → in_hand v w.pool ≡ Some (spot (Holds v number) b, others)
+pub holds-ok : (w : World) (v number : ℕ) (b : Branch) (others : List Spot) → nat_lt v w.workers ≡ true → in_hand v w.pool ≡ Some (spot (Holds v number) b, others)
     → (join : Join) → slice_get w.joins number ≡ Some join → (os : List Outcome) → gathered w.stored number 1 join.children ≡ Some os → Accepted w (Resume v)
 holds-ok w v number b others worker hand join is os all = record { next = put_back w (Runs v) (go_behind (joined join.limit os) b) others; is = rw (worker, hand, is, all) }
 

@@ -8,7 +8,10 @@ pub mod History
 pub mod Queues
 pub mod Standing
 pub mod Forking
+pub mod Starting
 pub mod Mirror
 pub mod Stepping
 pub mod Outcomes
 pub mod Roomy
+pub mod Execution
+pub mod Replaying

@@ -23,3 +23,12 @@ abbrev pub joined_on : ℕ → Outcome → List (Option Outcome) → Option Outc
 joined_on limit before [] = Some before
 joined_on limit before (None ∷ rest) = None
 joined_on limit before (Some next ∷ rest) = joined_on limit (joined_with limit before next) rest
+
+-- what is stored for the first child, and for that of the first join
+abbrev pub stored_first : List (Option Outcome) → Option Outcome
+stored_first [] = None
+stored_first (first ∷ rest) = first
+
+abbrev pub outermost_outcome : List Join → Option Outcome
+outermost_outcome [] = None
+outermost_outcome (first ∷ rest) = stored_first first.outcomes

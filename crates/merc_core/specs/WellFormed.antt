@@ -9,6 +9,10 @@ use Rattle.merc_script.specs.Joining.{joined, later}
 use Rattle.merc_value.specs.Value.{Value}
 use Rattle.merc_core.specs.Rights.{has, without, numbers_of, moved, signals_at, waits_at, signals_behind, waits_behind}
 
+-- the most workers
+abbrev pub most_workers : ℕ
+most_workers = 64
+
 -- the most children of a Fork
 abbrev pub most_children : ℕ
 most_children = 64

@@ -1,6 +1,6 @@
 //! Joins as the core keeps them.
 ghost use Rattle.std.specs.Prelude.{◌≡◌};
-ghost use Rattle.merc_core.specs.Outcomes.{joined_at};
+ghost use Rattle.merc_core.specs.Outcomes.{joined_at, outermost_outcome};
 
 use crate::branch::Branch;
 use merc_script::{Outcome, join_next};
@@ -27,5 +27,18 @@ impl Join {
             }
         }
         Some(before)
+    }
+}
+
+// What is stored for the child of the outermost join.
+pub(crate) fn outermost_outcome(joins: &[Join]) -> Option<Outcome>
+    ensures { result ≡ outermost_outcome joins.now }
+{
+    match joins.first() {
+        Some(outermost) => match outermost.outcomes.front() {
+            Some(stored) => *stored,
+            None => None,
+        },
+        None => None,
     }
 }

@@ -6,10 +6,14 @@ mod cell;
 mod course;
 mod ending;
 pub mod event;
+pub mod executing;
 mod forking;
+mod happening;
 mod join;
 pub mod laws;
 mod lists;
+mod making;
+mod readying;
 mod resuming;
 mod rights;
 mod running;
@@ -21,3 +25,7 @@ mod waiting;
 mod worker;
 
 pub use event::{Event, NotNow};
+pub use executing::Core;
+
+#[cfg(test)]
+mod tests;

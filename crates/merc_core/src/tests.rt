@@ -1,0 +1,91 @@
+//! A core with two workers over a fork whose first child hands a value to the second.
+ghost use Rattle.std.specs.Prelude.{◌≡◌, IfOk, Some, pos};
+ghost use Rattle.merc_value.specs.Value.{Int};
+ghost use Rattle.merc_script.specs.Cells.{value_shown};
+ghost use Rattle.merc_core.specs.WellFormed.{WellFormed};
+
+use crate::{Core, Event, NotNow};
+use merc_base::{NoMemory, Sequence};
+use merc_script::{CellId, Fork, Item, Outcome, Script, ScriptCell};
+use merc_value::{Block, Word};
+use std::alloc::Global;
+use std::test::Fail;
+
+// The value of the cell.
+fn seven(alloc: Global) -> Result<Block, NoMemory>
+    ensures { IfOk result (λ block. value_shown (Some block) ≡ Some (Int (pos 7))) }
+{
+    let mut value = Block::new(alloc);
+    value.add_root(Word::Int(7))?;
+    Ok(value)
+}
+
+// The first child makes a step and signals, the second waits and makes a step.
+fn handing_over(alloc: Global) -> Result<Script, NoMemory>
+    ensures { IfOk result (λ script. WellFormed script) }
+{
+    let cell = CellId::new(5);
+    let cells = vec![in alloc; ScriptCell::new(cell, 1, 2, Some(seven(alloc)?))]?;
+    let fork = Fork {
+        limit: 9,
+        children: 2,
+        cells: Sequence::from_vec(cells),
+        moves: Sequence::new(alloc),
+    };
+    let items = vec![in alloc;
+        Item::Fork(fork),
+        Item::Tick,
+        Item::Signal(cell),
+        Item::End(Outcome::Ok(1)),
+        Item::Wait(cell),
+        Item::Tick,
+        Item::End(Outcome::Ok(1)),
+        Item::End(Outcome::Ok(2)),
+    ]?;
+    match Script::from_items(items) {
+        Some(script) => Ok(script),
+        None => Err(NoMemory),
+    }
+}
+
+#[test]
+fn hands_a_value_over(rt: HostRuntime) -> Result<(), Fail> {
+    let alloc = rt.alloc();
+    let mut core = Core::new(alloc, handing_over(alloc)?, 2)?;
+    let events = [
+        Event::Fork(0),
+        Event::Steal(1, 0),
+        Event::Wait(1),
+        Event::Tick(0),
+        Event::Signal(0),
+        Event::End(0),
+        Event::Pop(0),
+        Event::Tick(0),
+        Event::End(0),
+        Event::Resume(0),
+        Event::End(0),
+    ];
+    for event in &events {
+        assert_eq!(rt; core.outcome(), None);
+        assert_eq!(rt; core.step(*event), Ok(()));
+    }
+    assert_eq!(rt; core.outcome(), Some(Outcome::Ok(2)));
+    assert_eq!(rt; core.ready_event(), None);
+    Ok(())
+}
+
+#[test]
+fn refuses_and_changes_nothing(rt: HostRuntime) -> Result<(), Fail> {
+    let alloc = rt.alloc();
+    let mut core = Core::new(alloc, handing_over(alloc)?, 2)?;
+    let accepted = [Event::Fork(0), Event::Steal(1, 0), Event::Wait(1)];
+    for event in &accepted {
+        assert_eq!(rt; core.step(*event), Ok(()));
+    }
+    assert_eq!(rt; core.step(Event::Pop(1)), Err(NotNow::ListEmpty));
+    assert_eq!(rt; core.step(Event::Tick(1)), Err(NotNow::Idle));
+    assert_eq!(rt; core.step(Event::Steal(1, 1)), Err(NotNow::SameWorker));
+    assert_eq!(rt; core.events(), accepted.as_slice());
+    assert_eq!(rt; core.step(Event::Tick(0)), Ok(()));
+    Ok(())
+}
