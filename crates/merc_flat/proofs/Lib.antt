@@ -1,3 +1,4 @@
 pub mod CountLaws
+pub mod ArityLaws
 pub mod FormLaws
 pub mod UnknownLaws

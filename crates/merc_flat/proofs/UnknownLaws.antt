@@ -10,7 +10,7 @@ use Rattle.merc_operands.proofs.Chains.{size, size_all, stack_size, stack_size-p
 use Rattle.merc_goals.specs.Written.{Written, WrittenGoals, no_goals, more_goals, Truth, Failure, Equal, Compared, Called, Conjunction, Parallel, Disjunction, Conditional, Negated, Quantified, WrongForm, OutsideProfile}
 use Rattle.merc_goals.specs.Entries.{entries_of, all_entries}
 use Rattle.merc_goals.specs.Faults.{earlier, first_span}
-use Rattle.merc_goals.specs.declared.goal.Entry.{Entry}
+use Rattle.merc_goals.specs.Entries.{GoalEntry}
 use Rattle.merc_goals.proofs.FoundLaws.{earlier-assoc}
 use Rattle.merc_known.specs.Known.{callee_in, is_callee, is_constructor}
 use Rattle.merc_flat_form.specs.FlatForm.{argument_terms, operation_of}
@@ -144,7 +144,7 @@ walk_arguments known stack term is =
 
 -- entries
 
-entries_unknown-append : (known : Module) (front back : List Entry) → entries_unknown known (front ++ back) ≡ entries_unknown known front ++ entries_unknown known back
+entries_unknown-append : (known : Module) (front back : List GoalEntry) → entries_unknown known (front ++ back) ≡ entries_unknown known front ++ entries_unknown known back
 entries_unknown-append known [] back = refl
 entries_unknown-append known (entry ∷ rest) back =
     ap (λ l. entry_unknown known entry ++ l) (entries_unknown-append known rest back)

@@ -7,7 +7,7 @@ use Rattle.merc_base.specs.declared.refusal.Rule.TheVariants.{UnknownName}
 use Rattle.merc_base.specs.declared.refusal.Detail.TheVariants.{Plain}
 use Rattle.merc_tree.specs.Term.{Term, Variable, Integer, Text, Application, list_of, span_of}
 use Rattle.merc_tree.specs.declared.declarations.Module.{Module}
-use Rattle.merc_goals.specs.declared.goal.Entry.{Entry}
+use Rattle.merc_goals.specs.Entries.{GoalEntry}
 use Rattle.merc_goals.specs.declared.goal.Form.{Form}
 use Rattle.merc_goals.specs.declared.goal.Form.TheVariants.{Equal as EqualForm, Compared as ComparedForm, Called as CalledForm}
 use Rattle.merc_base.specs.Places.{place_of}
@@ -61,9 +61,9 @@ module _ (known : Module) where
   unknown_at (CalledForm term) span = (if is_unknown_call term then span ∷ [] else []) ++ unknown_among known (argument_terms term)
   unknown_at other span = []
 
-  abbrev pub entry_unknown : Entry → List Span
+  abbrev pub entry_unknown : GoalEntry → List Span
   entry_unknown entry = unknown_at entry.form entry.span
 
-  abbrev pub entries_unknown : List Entry → List Span
+  abbrev pub entries_unknown : List GoalEntry → List Span
   entries_unknown [] = []
   entries_unknown (entry ∷ rest) = entry_unknown entry ++ entries_unknown rest

@@ -1,6 +1,7 @@
 //! What is wrong with a clause.
-ghost use Rattle.std.specs.Prelude.{◌≡◌, ◌+◌, IfOk};
+ghost use Rattle.std.specs.Prelude.{◌≡◌, ◌≤◌, ◌+◌, IfOk};
 ghost use Rattle.merc_goals.specs.Faults.{first_span};
+ghost use Rattle.merc_goals.specs.Numbers.{clause_limit};
 ghost use Rattle.merc_goals.specs.Written.{parts, written};
 ghost use Rattle.merc_flat.specs.GoalFaults.{unknown};
 ghost use Rattle.merc_flat.specs.Flat.{arity_of, goal_of};
@@ -10,24 +11,26 @@ use crate::faults::{form_fault, size_fault};
 use crate::unknown::{first_in_arguments, first_unknown, name_fault};
 use merc_base::{NoMemory, Refusal, Span};
 use merc_goal_tree::NodeRef;
-use merc_goals::{WrittenGoal, earlier, number_behind, written_goal};
+use merc_goals::{WrittenGoal, earlier, has_few_parts, number_behind, written_goal};
 use merc_known::Known;
 use merc_tree::{Clause, Term};
 use std::alloc::Global;
 
 /// How many arguments a clause has.
 pub(crate) fn arity_of(clause: &Clause) -> usize
-    ensures { result ≡ arity_of clause.now }
+    ensures value { result ≡ arity_of clause.now }
+    ensures few { result ≤ clause_limit }
 {
-    clause.head.as_ref().arguments().len()
+    let head = clause.head.as_ref();
+    has_few_parts(&head);
+    head.arguments().len()
 }
 
 /// What is wrong with the form of a clause and its size, where `flat` is its flat form.
 ///
 /// # Errors
 ///
-/// `NoMemory` says that memory was refused, or that the numbers of the parts go past the greatest `usize`, which those of
-/// no text in memory do; here and in the calls below.
+/// `NoMemory` says that memory was refused, here and in the calls below.
 pub(crate) fn clause_form_fault(
     alloc: Global,
     clause: &Clause,
@@ -84,6 +87,6 @@ fn body_goal<'a>(
 ) -> Result<WrittenGoal<'a>, NoMemory>
     ensures { IfOk result (λ goal. goal ≡ written (arity_of clause.now + parts clause.now.head) body.now) }
 {
-    let at = number_behind(arity_of(clause), &clause.head.as_ref())?;
-    written_goal(alloc, &body.as_ref(), at)
+    let behind = number_behind(0, &clause.head.as_ref());
+    written_goal(alloc, &body.as_ref(), arity_of(clause) + behind)
 }

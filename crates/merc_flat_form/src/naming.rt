@@ -82,11 +82,7 @@ pub(crate) fn called(
 }
 
 // Both sides of a goal with their numbers.
-fn sides<'a>(
-    at: usize,
-    left: &TermRef<'a>,
-    right: &TermRef<'a>,
-) -> (Numbered<'a>, Numbered<'a>)
+fn sides<'a>(at: usize, left: &TermRef<'a>, right: &TermRef<'a>) -> (Numbered<'a>, Numbered<'a>)
     requires { BothFit at left.now right.now }
     ensures { result ≡ sides_of at left.now right.now }
 {
