@@ -1,5 +1,4 @@
 pub mod Asking
-pub mod Bodies
 pub mod Bounds
 pub mod BoundsExamples
 pub mod CallModeCode
@@ -12,3 +11,5 @@ pub mod Outside
 pub mod Complete
 pub mod Arms
 pub mod ArmsExamples
+pub mod Told
+pub mod Walking

@@ -25,8 +25,8 @@ pub(crate) fn those_of_all<'a>(some: &'a [Var], every: &'a Option<Vars>) -> &'a 
     }
 }
 
-/// The facts of a goal with arms, of which some bind these variables and all bind those. The set has no variables, before
-/// and after.
+/// The facts of a goal with arms, of which some bind these variables and all bind those, and in which variables occur so
+/// often. The set has no variables, before and after.
 ///
 /// # Errors
 ///
@@ -40,11 +40,13 @@ pub(crate) fn arms_facts(
     reached: bool,
     some: &[Var],
     every: &[Var],
+    occurrences: usize,
 ) -> Result<Facts, NoMemory>
     requires { set.old ≡ [] }
     ensures reached { IfOk result (λ found. found.reached ≡ reached) }
     ensures binds { IfOk result (λ found. found.binds ≡ filter (λ variable. occurs_outside all.now start end variable) (those_bound reached some.now (all_behind [] every.now))) }
     ensures owed { IfOk result (λ found. found.owed ≡ filter (λ variable. occurs_outside all.now start end variable) (those_owed reached some.now (all_behind [] every.now))) }
+    ensures occurrences { IfOk result (λ found. found.occurrences ≡ occurrences) }
     ensures condition { IfOk result (λ found. found.owed_by_condition ≡ []) }
     ensures cleared { OnOk result (set.new ≡ []) }
 {
@@ -59,6 +61,7 @@ pub(crate) fn arms_facts(
         binds: those_outside(alloc, all, start, end, bound)?,
         owed: those_outside(alloc, all, start, end, owed)?,
         owed_by_condition: Vars::new(alloc),
+        occurrences,
     })
 }
 
