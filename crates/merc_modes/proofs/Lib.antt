@@ -14,3 +14,6 @@ pub mod Found
 pub mod Joined
 pub mod Arms
 pub mod ArmLaws
+pub mod CompleteGoals
+pub mod Disjunctions
+pub mod Decisions
