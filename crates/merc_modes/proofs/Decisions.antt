@@ -1,5 +1,5 @@
 -- Facts of an if-then-else: those of a disjunction of the condition and the then part together and the else part.
-use Rattle.std.specs.Prelude.{◌≡◌, ◌+◌, ◌-◌, ◌||◌, ◌&&◌, not, ℕ, Bool, true, false, List, [], ◌∷◌, ◌++◌, length, refl}
+use Rattle.std.specs.Prelude.{◌≡◌, ◌+◌, ◌-◌, ◌||◌, ◌&&◌, ℕ, Bool, true, false, List, [], ◌∷◌, ◌++◌, length, refl}
 use Rattle.std.specs.List.{filter}
 use Rattle.std.proofs.Common.{◌∙◌, ap, sym, subst, arith}
 use Rattle.std.proofs.lemmas.List.{append_assoc, append-nil, length-append}
@@ -8,7 +8,7 @@ use Rattle.merc_base.specs.declared.place.Span.{Span}
 use Rattle.merc_tree.specs.declared.declarations.ModeDecl.{ModeDecl}
 use Rattle.merc_goal_tree.specs.Nodes.{Node, Nodes, Conjunction, Disjunction, Conditional, no_nodes, more_nodes}
 use Rattle.merc_goal_tree.specs.Variables.{variables, all_variables}
-use Rattle.merc_order.specs.Bound.{Bound, among, are_bound, with}
+use Rattle.merc_order.specs.Bound.{among, are_bound, with}
 use Rattle.merc_order.specs.Order.{Arm, arms, arms_bind, agree, decision_arms, shared, reached, binds}
 use Rattle.merc_modes.specs.declared.facts.Facts.{Facts}
 use Rattle.merc_modes.specs.declared.complete.Complete.{Complete}

@@ -1,14 +1,14 @@
 -- Facts of disjunctions by what their arms bind.
-use Rattle.std.specs.Prelude.{◌≡◌, ◌-◌, ◌||◌, ◌&&◌, not, ℕ, Bool, true, false, List, [], ◌∷◌, length, Option, Result, Ok, Err, IfOk, if◌then◌else◌, refl}
+use Rattle.std.specs.Prelude.{◌≡◌, ◌-◌, ◌||◌, ◌&&◌, not, ℕ, Bool, true, false, List, [], Option, Result, Ok, Err, IfOk, if◌then◌else◌, refl}
 use Rattle.std.specs.List.{filter, list_all, list_any}
-use Rattle.std.proofs.Common.{◌∙◌, ◌⊎◌, ap, sym, arith, inl, inr}
+use Rattle.std.proofs.Common.{◌∙◌, ap, sym, arith, inl, inr}
 use Rattle.merc_base.specs.declared.memory.NoMemory.{NoMemory}
 use Rattle.merc_base.specs.declared.place.Span.{Span}
 use Rattle.merc_tree.specs.declared.declarations.ModeDecl.{ModeDecl}
 use Rattle.merc_goal_tree.specs.Nodes.{Nodes, Disjunction, no_nodes, more_nodes}
 use Rattle.merc_goal_tree.specs.Variables.{all_variables}
 use Rattle.merc_order.specs.Bound.{Bound, among, are_bound}
-use Rattle.merc_order.specs.Order.{Arm, any_reached, counting, all_bind, differ_on, outside, shared, reached, some_reached, binds, some_bind, arms}
+use Rattle.merc_order.specs.Order.{Arm, any_reached, counting, all_bind, differ_on, shared, reached, some_reached, binds, some_bind, arms}
 use Rattle.merc_modes.specs.declared.facts.Facts.{Facts}
 use Rattle.merc_modes.specs.declared.complete.Complete.{Complete}
 use Rattle.merc_modes.specs.Arms.{counts, among_all, all_of, those_bound, those_owed}

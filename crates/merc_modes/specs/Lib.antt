@@ -9,6 +9,8 @@ pub mod Occurring
 pub mod OccurringExamples
 pub mod Outside
 pub mod Complete
+pub mod Knowing
+pub mod KnowingExamples
 pub mod Arms
 pub mod ArmsExamples
 pub mod Told
