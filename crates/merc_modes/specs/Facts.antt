@@ -1,5 +1,5 @@
 -- What is known of the parts of a body before any of them is ordered.
-use Rattle.std.specs.Prelude.{◌≡◌, ℕ, Bool, true, List, [], ◌∷◌, ◌++◌, length, Some, slice_get}
+use Rattle.std.specs.Prelude.{◌≡◌, ℕ, Bool, true, List, [], ◌∷◌, ◌++◌, length}
 use Rattle.merc_tree.specs.declared.declarations.ModeDecl.{ModeDecl}
 use Rattle.merc_goal_tree.specs.Nodes.{Node, Nodes, Simple, Conjunction, Parallel, Disjunction, Conditional, Negation, Quantified, no_nodes, more_nodes}
 use Rattle.merc_goal_tree.specs.Variables.{variables, all_variables}
@@ -44,8 +44,4 @@ module _ (total : ℕ → ℕ) (modes : ℕ → List ModeDecl) where
     pub binds_are : (variable : ℕ) → among facts.binds variable ≡ binds total modes goal variable
     pub owed_are : (bound : Bound) → are_bound bound facts.owed ≡ keeps_apart goal bound
     pub owed_by_condition_are : (bound : Bound) → are_bound bound facts.owed_by_condition ≡ condition_keeps_apart goal bound
-
-  -- there are facts of each part of a goal
-  pub record AreAllFacts (goal : Node) (facts : List Facts) : Type 0 where
-    pub count : length facts ≡ length (subgoals goal)
-    pub each : (index : ℕ) (part : Node) (found : Facts) → slice_get (subgoals goal) index ≡ Some part → slice_get facts index ≡ Some found → AreFactsOf part found
+    pub occurrences_are : facts.occurrences ≡ length (variables goal)

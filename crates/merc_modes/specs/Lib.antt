@@ -1,5 +1,4 @@
 pub mod Asking
-pub mod Bodies
 pub mod Bounds
 pub mod BoundsExamples
 pub mod CallModeCode
@@ -10,5 +9,9 @@ pub mod Occurring
 pub mod OccurringExamples
 pub mod Outside
 pub mod Complete
+pub mod Knowing
+pub mod KnowingExamples
 pub mod Arms
 pub mod ArmsExamples
+pub mod Told
+pub mod Walking

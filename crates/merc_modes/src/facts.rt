@@ -14,4 +14,6 @@ pub(crate) struct Facts {
     pub(crate) owed: Vars,
     /// The same of the condition of an if-then-else.
     pub(crate) owed_by_condition: Vars,
+    /// How often variables occur in it.
+    pub(crate) occurrences: usize,
 }

@@ -1,5 +1,5 @@
 //! What is known of each part of a body.
-ghost use Rattle.std.specs.Prelude.{◌≡◌, ◌||◌, ℕ, List, [], ◌∷◌, IfOk, OnOk};
+ghost use Rattle.std.specs.Prelude.{◌≡◌, ◌||◌, ℕ, List, [], ◌∷◌, length, IfOk, OnOk};
 ghost use Rattle.std.specs.List.{filter};
 ghost use Rattle.merc_base.specs.declared.place.Span.{Span};
 ghost use Rattle.merc_tree.specs.declared.declarations.ModeDecl.{ModeDecl};
@@ -44,6 +44,7 @@ pub(crate) fn simple_facts(
         binds,
         owed: Vars::new(alloc),
         owed_by_condition: Vars::new(alloc),
+        occurrences: occurrence_count(goal),
     })
 }
 
@@ -67,6 +68,7 @@ pub(crate) fn negation_facts(
         binds: Vars::new(alloc),
         owed,
         owed_by_condition: Vars::new(alloc),
+        occurrences: inner.occurrences,
     })
 }
 
@@ -90,7 +92,22 @@ pub(crate) fn quantified_facts(
         binds,
         owed: Vars::new(alloc),
         owed_by_condition: Vars::new(alloc),
+        occurrences: inner.occurrences,
     })
+}
+
+// How often variables occur in a goal.
+fn occurrence_count(goal: &SimpleGoal) -> usize
+    ensures { result ≡ length (variables_of goal.now) }
+{
+    match goal {
+        SimpleGoal::True | SimpleGoal::Fail => 0,
+        SimpleGoal::Raise(_) => 1,
+        SimpleGoal::Same(_, _) | SimpleGoal::Compare(_, _, _) => 2,
+        SimpleGoal::Arithmetic(_, _, _, _) => 3,
+        SimpleGoal::Shape(_, _, arguments) => arguments.as_slice().len() + 1,
+        SimpleGoal::Call(_, arguments) => arguments.as_slice().len(),
+    }
 }
 
 // Whether the end of a goal that holds no others can be reached.

@@ -1,9 +1,10 @@
 //! What is known of goals in sequence or side by side.
-ghost use Rattle.std.specs.Prelude.{◌≡◌, ℕ, List, [], ◌∷◌, ◌&&◌, IfOk, OnOk, slice_get};
+ghost use Rattle.std.specs.Prelude.{◌≡◌, ℕ, List, [], ◌∷◌, ◌&&◌, IfOk, OnOk, length, slice_get};
 ghost use Rattle.std.specs.Option.{option_map};
 ghost use Rattle.merc_base.specs.declared.place.Span.{Span};
 ghost use Rattle.merc_tree.specs.declared.declarations.ModeDecl.{ModeDecl};
 ghost use Rattle.merc_goal_tree.specs.Nodes.{Nodes, Conjunction, Parallel};
+ghost use Rattle.merc_goal_tree.specs.Variables.{all_variables};
 ghost use Rattle.merc_modes.specs.Complete.{AreKnown};
 ghost use Rattle.merc_modes.specs.Facts.{AreFactsOf};
 
@@ -15,8 +16,8 @@ use merc_base::NoMemory;
 use merc_goal_tree::Vars;
 use std::alloc::Global;
 
-/// The facts of a conjunction, be it in sequence or side by side, by those of the goals that it joins. The set has no
-/// variables, before and after.
+/// The facts of a conjunction, be it in sequence or side by side, by those of the goals that it joins, in which variables
+/// occur so often. The set has no variables, before and after.
 ///
 /// # Errors
 ///
@@ -26,10 +27,11 @@ pub(crate) fn conjunction_facts(
     set: &mut BoundSet,
     facts: &[Facts],
     joined: &[Complete],
+    occurrences: usize,
 ) -> Result<Facts, NoMemory>
     requires { set.old ≡ [] }
-    ensures sequence { IfOk result (λ found. (total : ℕ → ℕ) (modes : ℕ → List ModeDecl) (goals : Nodes) (span : Span) → AreKnown total modes facts.now joined.now goals → AreFactsOf total modes (Conjunction goals span) found) }
-    ensures parallel { IfOk result (λ found. (total : ℕ → ℕ) (modes : ℕ → List ModeDecl) (goals : Nodes) (span : Span) → AreKnown total modes facts.now joined.now goals → AreFactsOf total modes (Parallel goals span) found) }
+    ensures sequence { IfOk result (λ found. (total : ℕ → ℕ) (modes : ℕ → List ModeDecl) (goals : Nodes) (span : Span) → AreKnown total modes facts.now joined.now goals → occurrences ≡ length (all_variables goals) → AreFactsOf total modes (Conjunction goals span) found) }
+    ensures parallel { IfOk result (λ found. (total : ℕ → ℕ) (modes : ℕ → List ModeDecl) (goals : Nodes) (span : Span) → AreKnown total modes facts.now joined.now goals → occurrences ≡ length (all_variables goals) → AreFactsOf total modes (Parallel goals span) found) }
     ensures cleared { OnOk result (set.new ≡ []) }
 {
     let mut reached = true;
@@ -48,6 +50,7 @@ pub(crate) fn conjunction_facts(
         binds,
         owed: Vars::new(alloc),
         owed_by_condition: Vars::new(alloc),
+        occurrences,
     })
 }
 

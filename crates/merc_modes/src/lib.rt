@@ -1,6 +1,7 @@
 //! The order of the goals of procedures.
 #![tactic(auto)]
 
+mod asking;
 mod bound;
 mod choosing;
 mod collecting;
@@ -9,6 +10,13 @@ mod deciding;
 mod facts;
 mod finding;
 mod joining;
+mod knowing;
 mod members;
 mod occurrences;
+mod ordering;
 mod simple;
+mod walking;
+mod writing;
+mod written;
+
+pub use ordering::{order, order_query};

@@ -37,6 +37,15 @@ abbrev pub fault_of : Outcome → List Refusal
 fault_of (Ready ordered) = []
 fault_of (Stuck fault) = fault ∷ []
 
+-- the number behind all of these
+abbrev pub beyond : List ℕ → ℕ
+beyond [] = 0
+beyond (variable ∷ variables) = max (suc variable) (beyond variables)
+
+-- the first fresh variable of a body with these head variables
+abbrev pub first_fresh : List ℕ → Node → ℕ
+first_fresh heads goal = beyond (heads ++ variables goal)
+
 -- Given are the modes of each predicate.
 module _ (modes : ℕ → List ModeDecl) where
   -- From what is bound, all of these are bound at the goal's end, if it can be reached.
@@ -67,6 +76,21 @@ module _ (modes : ℕ → List ModeDecl) where
   procedure_faults (declared ∷ rest) [] = []
   procedure_faults (declared ∷ rest) (goal ∷ goals) = mode_faults (length declared.args) declared.modes goal ++ procedure_faults rest goals
 
+  -- the tree of a body with these head variables, if it can be ordered
+  abbrev pub tree_of : List ℕ → Node → Outcome → List OrderedNode
+  tree_of heads goal (Ready ordered) = spelt modes (first_fresh heads goal) ordered ∷ []
+  tree_of heads goal (Stuck fault) = []
+
+  -- the trees of a predicate's modes, in their order
+  abbrev pub mode_trees : ℕ → List ModeDecl → Node → List OrderedNode
+  mode_trees arity own goal = flat_map (λ mode. tree_of (numbers_below arity) goal (procedure_from arity mode goal)) own
+
+  -- the trees of predicates of these bodies, in their order
+  abbrev pub procedure_trees : List PredDecl → List Node → List OrderedNode
+  procedure_trees [] goals = []
+  procedure_trees (declared ∷ rest) [] = []
+  procedure_trees (declared ∷ rest) (goal ∷ goals) = mode_trees (length declared.args) declared.modes goal ++ procedure_trees rest goals
+
 abbrev pub modes_in : Option PredDecl → List ModeDecl
 modes_in None = []
 modes_in (Some declared) = declared.modes
@@ -78,15 +102,6 @@ modes_of predicates number = modes_in (slice_get predicates number)
 -- The fault of a module's procedures: the first by its place, then its rule, then the number of its mode. The predicates have these bodies.
 abbrev pub order_fault : List PredDecl → List Node → Option Refusal
 order_fault predicates goals = first_of_faults (procedure_faults (modes_of predicates) predicates goals)
-
--- the number behind all of these
-abbrev pub beyond : List ℕ → ℕ
-beyond [] = 0
-beyond (variable ∷ variables) = max (suc variable) (beyond variables)
-
--- the first fresh variable of a body with these head variables
-abbrev pub first_fresh : List ℕ → Node → ℕ
-first_fresh heads goal = beyond (heads ++ variables goal)
 
 -- A tree is the ordered body of a procedure: a predicate in one of its modes, or a goal that is asked.
 

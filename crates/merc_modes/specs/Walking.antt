@@ -1,0 +1,36 @@
+-- Goals written out in their order.
+use Rattle.std.specs.Prelude.{◌≡◌, ℕ, ◌+◌, List, [], ◌∷◌, ◌++◌, length, Result, Ok, Err}
+use Rattle.merc_base.specs.declared.refusal.Fault.{Fault}
+use Rattle.merc_base.specs.declared.refusal.Fault.TheVariants.{Refused, NoMemory}
+use Rattle.merc_tree.specs.declared.declarations.ModeDecl.{ModeDecl}
+use Rattle.merc_tree.specs.declared.declarations.PredDecl.{PredDecl}
+use Rattle.merc_goal_tree.specs.Nodes.{Node}
+use Rattle.merc_goal_tree.specs.Variables.{variables}
+use Rattle.merc_order.specs.Bound.{among}
+use Rattle.merc_order.specs.Order.{from}
+use Rattle.merc_order.specs.Ordered.{Ordered, Outcome, Ready, Stuck}
+use Rattle.merc_order.specs.Procedures.{modes_of}
+use Rattle.merc_order.specs.Spelt.{spelt, twins}
+use Rattle.merc_modes.specs.Asking.{AreKnown}
+use Rattle.merc_modes.specs.Facts.{subgoals}
+use Rattle.merc_modes.specs.Outside.{IsStretch}
+use Rattle.merc_modes.specs.declared.facts.Facts.{Facts}
+use Rattle.merc_modes.specs.declared.written.Written.{Written}
+
+-- An ordered goal stands behind those that were written before, its fresh variables numbered on.
+pub record IsWritten (modes : ℕ → List ModeDecl) (ordered : Ordered) (old new : Written) : Type 0 where
+  pub nodes : new.nodes ≡ old.nodes ++ spelt modes old.fresh ordered ∷ []
+  pub fresh : new.fresh ≡ old.fresh + length (twins ordered)
+  pub seen : new.seen ≡ old.seen
+
+-- What becomes of a goal is written, or its fault is given.
+abbrev pub Gives : (ℕ → List ModeDecl) → Outcome → Written → Written → Result (Unit {0}) Fault → Type 0
+Gives modes outcome old new (Ok done) = (ordered : Ordered) × (outcome ≡ Ready ordered) × IsWritten modes ordered old new
+Gives modes outcome old new (Err (Refused refusal)) = outcome ≡ Stuck refusal
+Gives modes outcome old new (Err NoMemory) = Unit {0}
+
+-- A goal is ordered from what is bound, by the facts of its parts. Its variables occur from this place on among all of the body.
+abbrev pub Orders : List PredDecl → Node → List Facts → List ℕ → ℕ → List ℕ → Written → Written → Result (Unit {0}) Fault → Type 0
+Orders predicates goal facts all start bound old new result =
+    (total : ℕ → ℕ) → AreKnown total (modes_of predicates) (subgoals goal) facts → IsStretch total all start (start + length (variables goal)) (variables goal)
+    → Gives (modes_of predicates) (from total (modes_of predicates) goal (among bound)) old new result

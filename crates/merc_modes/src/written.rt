@@ -1,0 +1,13 @@
+//! Goals as they are written out in their order.
+use crate::bound::BoundSet;
+use merc_graded_tree::Nodes;
+
+/// Goals that were written out in their order.
+#[derive(Drop)]
+pub(crate) struct Written {
+    pub(crate) nodes: Nodes,
+    /// The number of the next fresh variable.
+    pub(crate) fresh: usize,
+    /// No variables: a set to look up variables in, empty again afterwards.
+    pub(crate) seen: BoundSet,
+}
