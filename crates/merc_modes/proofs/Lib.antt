@@ -10,6 +10,7 @@ pub mod Ways
 pub mod Reaches
 pub mod Occurring
 pub mod Outside
+pub mod Outputs
 pub mod Found
 pub mod Joined
 pub mod Arms

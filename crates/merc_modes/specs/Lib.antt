@@ -8,6 +8,7 @@ pub mod Reaches
 pub mod Occurring
 pub mod OccurringExamples
 pub mod Outside
+pub mod Outputs
 pub mod Complete
 pub mod Arms
 pub mod ArmsExamples
