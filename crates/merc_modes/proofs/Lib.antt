@@ -6,6 +6,7 @@ pub mod Conjunctions
 pub mod Marking
 pub mod Stepping
 pub mod Sweeping
+pub mod Tests
 pub mod Ways
 pub mod Reaches
 pub mod Occurring

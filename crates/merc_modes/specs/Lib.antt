@@ -4,11 +4,13 @@ pub mod BoundsExamples
 pub mod CallModeCode
 pub mod Facts
 pub mod Sweeps
+pub mod Testing
 pub mod Reaches
 pub mod Occurring
 pub mod OccurringExamples
 pub mod Outside
 pub mod Outputs
+pub mod Putting
 pub mod Complete
 pub mod Arms
 pub mod ArmsExamples

@@ -1,26 +1,36 @@
 //! Goals that hold no others, written out with their tests, and the outputs of goals.
-ghost use Rattle.std.specs.Prelude.{◌≡◌, ◌+◌, ◌≤◌, ℕ, List, [], length, take, drop, IfOk, OnOk};
+ghost use Rattle.std.specs.Prelude.{◌≡◌, ◌+◌, ◌≤◌, ℕ, List, [], None, length, take, drop, slice_get, IfOk, OnOk};
 ghost use Rattle.std.specs.List.{filter};
 ghost use Rattle.merc_tree.specs.declared.declarations.ModeDecl.{ModeDecl};
 ghost use Rattle.merc_goal_tree.specs.Nodes.{Node};
 ghost use Rattle.merc_goal_tree.specs.Variables.{variables};
+ghost use Rattle.merc_graded_tree.specs.Nodes.{node, Basic};
 ghost use Rattle.merc_order.specs.Bound.{among, each_once};
+ghost use Rattle.merc_order.specs.Faults.{never_ready};
 ghost use Rattle.merc_order.specs.Order.{outputs_of, simple_from};
 ghost use Rattle.merc_order.specs.Procedures.{modes_of};
+ghost use Rattle.merc_order.specs.Spelt.{inputs_in, with_tests};
 ghost use Rattle.merc_modes.specs.Facts.{AreFactsOf};
 ghost use Rattle.merc_modes.specs.Bounds.{all_behind};
 ghost use Rattle.merc_modes.specs.Outside.{IsStretch};
 ghost use Rattle.merc_modes.specs.Outputs.{is_output, kept};
+ghost use Rattle.merc_modes.specs.Putting.{IsPut, PutsIf};
 ghost use Rattle.merc_modes.specs.Reaches.{first_since};
 ghost use Rattle.merc_modes.specs.Walking.{Gives};
 
 use crate::bound::BoundSet;
 use crate::facts::Facts;
 use crate::occurrences::Occurrences;
+use crate::simple::{mode_taken, modes_at};
+use crate::testing::{
+    call_tested, inner_outputs, push_tests, replaced, tested, tested_places, untested_places,
+    writes_of,
+};
 use crate::written::Written;
-use merc_base::{Fault, NoMemory, Span};
-use merc_goal_tree::{SimpleGoal, Var, Vars};
-use merc_tree::PredDecl;
+use merc_base::{Detail, Fault, NoMemory, Refusal, Rule, Span};
+use merc_goal_tree::{Operation, Predicate, SimpleGoal, Symbol, Var, Vars};
+use merc_graded_tree::{BasicGoal, Procedure, Running};
+use merc_tree::{Arg, ModeDecl, PredDecl};
 use std::alloc::Global;
 
 /// The outputs of a goal with these facts from what is bound, in the order of the text: what it binds that is not bound
@@ -48,8 +58,12 @@ pub(crate) fn outputs_of(
     Ok(outputs)
 }
 
-// A number so much further on. `NoMemory` where it would pass the greatest `usize`, as no number in a text in memory does.
-fn number_past(at: usize, more: usize) -> Result<usize, NoMemory>
+/// A number so much further on.
+///
+/// # Errors
+///
+/// `NoMemory` where it would pass the greatest `usize`. The numbers of no text that lies in memory do.
+pub(crate) fn number_past(at: usize, more: usize) -> Result<usize, NoMemory>
     ensures { IfOk result (λ number. number ≡ at + more) }
 {
     match at.checked_add(more) {
@@ -114,6 +128,15 @@ fn next_found(all: &Occurrences, start: usize, place: usize, seen: &BoundSet) ->
     }
 }
 
+/// What a goal has besides what it is.
+#[derive(Drop)]
+struct Frame {
+    /// Its outputs.
+    outputs: Vars,
+    /// Where it stands in its text.
+    span: Span,
+}
+
 /// Writes a goal that holds no others out, from what is bound, with these outputs: with a fresh variable in place of each
 /// variable that it would write and that has a value by then, and a test for each of these behind it.
 ///
@@ -133,5 +156,229 @@ pub(crate) fn order_simple(
     requires { written.old.seen ≡ [] }
     ensures { (total : ℕ → ℕ) → Gives (modes_of predicates.now) (simple_from total (modes_of predicates.now) goal.now outputs span (among bound.now)) written.old written.new result }
 {
-    Err(Fault::NoMemory)
+    let frame = Frame { outputs, span };
+    match goal {
+        SimpleGoal::True => put_if(true, BasicGoal::True, frame, written),
+        SimpleGoal::Fail => put_if(true, BasicGoal::Fail, frame, written),
+        SimpleGoal::Same(one, other) => order_same(*one, *other, frame, bound, written),
+        SimpleGoal::Shape(whole, symbol, arguments) => {
+            order_shape(
+                alloc,
+                *whole,
+                *symbol,
+                arguments.as_slice(),
+                frame,
+                bound,
+                written,
+            )
+        }
+        SimpleGoal::Arithmetic(operation, target, left, right) => {
+            let operands = (*left, *right);
+            order_arithmetic(alloc, *operation, *target, operands, frame, bound, written)
+        }
+        SimpleGoal::Compare(comparison, left, right) => {
+            let is_ready = bound.is_bound(*left) && bound.is_bound(*right);
+            let goal = BasicGoal::Compare(*comparison, *left, *right);
+            put_if(is_ready, goal, frame, written)
+        }
+        SimpleGoal::Raise(text) => {
+            put_if(
+                bound.is_bound(*text),
+                BasicGoal::Raise(*text),
+                frame,
+                written,
+            )
+        }
+        SimpleGoal::Call(predicate, arguments) => {
+            let modes = modes_at(predicates, *predicate);
+            order_call(
+                alloc,
+                modes,
+                *predicate,
+                arguments.as_slice(),
+                frame,
+                bound,
+                written,
+            )
+        }
+    }
+}
+
+// Two variables: a test where both are bound, an assignment where one is.
+fn order_same(
+    one: Var,
+    other: Var,
+    frame: Frame,
+    bound: &BoundSet,
+    written: &mut Written,
+) -> Result<(), Fault>
+    ensures { (total : ℕ → ℕ) (modes : ℕ → List ModeDecl) → Gives modes (simple_from total modes (SimpleGoal.Same one other) frame.outputs frame.span (among bound.now)) written.old written.new result }
+{
+    let is_bound = bound.is_bound(other);
+    if !bound.is_bound(one) {
+        return put_if(is_bound, BasicGoal::Assign(one, other), frame, written);
+    }
+    let goal = if is_bound {
+        BasicGoal::Test(one, other)
+    } else {
+        BasicGoal::Assign(other, one)
+    };
+    put_if(true, goal, frame, written)
+}
+
+// A variable that has a symbol's value over others: a split where it is bound, or it is built.
+fn order_shape(
+    alloc: Global,
+    whole: Var,
+    symbol: Symbol,
+    arguments: &[Var],
+    frame: Frame,
+    bound: &BoundSet,
+    written: &mut Written,
+) -> Result<(), Fault>
+    requires { written.old.seen ≡ [] }
+    ensures { (total : ℕ → ℕ) (modes : ℕ → List ModeDecl) → Gives modes (simple_from total modes (SimpleGoal.Shape whole symbol arguments.now) frame.outputs frame.span (among bound.now)) written.old written.new result }
+{
+    if !bound.is_bound(whole) {
+        let parts = Vars::from_vec(Vec::from_slice(alloc, arguments)?);
+        let goal = BasicGoal::Build(whole, symbol, parts);
+        return put_if(bound.are_bound(arguments), goal, frame, written);
+    }
+    let tests = tested(alloc, arguments, bound, &mut written.seen)?;
+    let parts = replaced(alloc, written.fresh, arguments, &tests)?;
+    let writes = untested_places(alloc, arguments, &tests)?;
+    let testing = tested_places(alloc, arguments, &tests)?;
+    let goal = BasicGoal::Split(whole, symbol, parts);
+    put_with_tests(
+        alloc,
+        goal,
+        writes.as_slice(),
+        testing.as_slice(),
+        frame,
+        written,
+    )?;
+    Ok(())
+}
+
+// Arithmetic, which gives its target the result for both operands.
+fn order_arithmetic(
+    alloc: Global,
+    operation: Operation,
+    target: Var,
+    operands: (Var, Var),
+    frame: Frame,
+    bound: &BoundSet,
+    written: &mut Written,
+) -> Result<(), Fault>
+    requires { written.old.seen ≡ [] }
+    ensures { (total : ℕ → ℕ) (modes : ℕ → List ModeDecl) → Gives modes (simple_from total modes (SimpleGoal.Arithmetic operation target operands.0 operands.1) frame.outputs frame.span (among bound.now)) written.old written.new result }
+{
+    let (left, right) = operands;
+    if !bound.is_bound(left) || !bound.is_bound(right) {
+        return Err(never_ready(frame.span));
+    }
+    if !bound.is_bound(target) {
+        let goal = BasicGoal::Arithmetic(operation, target, left, right);
+        return put_if(true, goal, frame, written);
+    }
+    let fresh = Var::new(written.fresh);
+    let goal = BasicGoal::Arithmetic(operation, fresh, left, right);
+    put_with_tests(alloc, goal, &[], &[target], frame, written)?;
+    Ok(())
+}
+
+// A call of a predicate with these modes.
+fn order_call(
+    alloc: Global,
+    modes: &[ModeDecl],
+    predicate: Predicate,
+    arguments: &[Var],
+    frame: Frame,
+    bound: &BoundSet,
+    written: &mut Written,
+) -> Result<(), Fault>
+    requires { written.old.seen ≡ [] }
+    ensures { (total : ℕ → ℕ) (all : ℕ → List ModeDecl) → all predicate ≡ modes.now → Gives all (simple_from total all (SimpleGoal.Call predicate arguments.now) frame.outputs frame.span (among bound.now)) written.old written.new result }
+{
+    match mode_taken(modes, arguments, bound) {
+        Some(mode) => {
+            let places = places_at(modes, mode);
+            let tests = call_tested(alloc, places, arguments, bound, &mut written.seen)?;
+            let operands = replaced(alloc, written.fresh, arguments, &tests)?;
+            let writes = writes_of(alloc, places, arguments, &tests)?;
+            let testing = tested_places(alloc, arguments, &tests)?;
+            let goal = BasicGoal::Call(Procedure { predicate, mode }, operands);
+            put_with_tests(
+                alloc,
+                goal,
+                writes.as_slice(),
+                testing.as_slice(),
+                frame,
+                written,
+            )?;
+            Ok(())
+        }
+        None => Err(never_ready(frame.span)),
+    }
+}
+
+// The places of the mode of this number.
+fn places_at(modes: &[ModeDecl], mode: usize) -> &[Arg]
+    ensures { result.now ≡ inputs_in (slice_get modes.now mode) }
+{
+    match modes.get(mode) {
+        Some(declared) => declared.args.as_slice(),
+        None => &[],
+    }
+}
+
+// Puts a goal behind the others that writes these variables, with a test behind it for each of those in `testing`: its
+// fresh variables stand for them.
+fn put_with_tests(
+    alloc: Global,
+    goal: BasicGoal,
+    writes: &[Var],
+    testing: &[Var],
+    frame: Frame,
+    written: &mut Written,
+) -> Result<(), NoMemory>
+    requires { written.old.seen ≡ [] }
+    ensures { OnOk result (IsPut (with_tests written.old.fresh goal writes.now testing.now frame.outputs frame.span) (length testing.now) written.old written.new) }
+{
+    if testing.is_empty() {
+        return written.nodes.push(goal, frame.outputs, frame.span);
+    }
+    let at = written.fresh;
+    let outputs = frame.outputs.as_slice();
+    let inner = inner_outputs(alloc, at, outputs, writes, testing, &mut written.seen)?;
+    written.nodes.push(goal, inner, frame.span)?;
+    push_tests(alloc, at, testing, frame.span, &mut written.nodes)?;
+    let count = number_past(testing.len(), 1)?;
+    written
+        .nodes
+        .conjoin(Running::Sequential, count, frame.outputs, frame.span)?;
+    written.fresh = number_past(at, testing.len())?;
+    Ok(())
+}
+
+// Puts a goal that is ready behind the others.
+fn put_if(is_ready: bool, goal: BasicGoal, frame: Frame, written: &mut Written) -> Result<(), Fault>
+    ensures { PutsIf is_ready (node (Basic goal) frame.outputs None frame.span) frame.span written.old written.new result }
+{
+    if !is_ready {
+        return Err(never_ready(frame.span));
+    }
+    written.nodes.push(goal, frame.outputs, frame.span)?;
+    Ok(())
+}
+
+/// A goal that is never ready.
+pub(crate) fn never_ready(span: Span) -> Fault
+    ensures { result ≡ Fault.Refused (never_ready span) }
+{
+    Fault::Refused(Refusal {
+        rule: Rule::NeverReady,
+        place: span.start(),
+        detail: Detail::Plain,
+    })
 }
