@@ -12,6 +12,7 @@ pub mod Reaches
 pub mod Occurring
 pub mod Outside
 pub mod Outputs
+pub mod Putting
 pub mod Found
 pub mod Joined
 pub mod Arms

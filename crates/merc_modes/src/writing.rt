@@ -1,5 +1,5 @@
 //! Goals that hold no others, written out with their tests, and the outputs of goals.
-ghost use Rattle.std.specs.Prelude.{◌≡◌, ◌+◌, ◌≤◌, ℕ, List, [], None, length, take, drop, slice_get, IfOk, OnOk};
+ghost use Rattle.std.specs.Prelude.{◌≡◌, ◌+◌, ◌≤◌, ◌&&◌, ℕ, List, [], None, length, take, drop, slice_get, IfOk, OnOk};
 ghost use Rattle.std.specs.List.{filter};
 ghost use Rattle.merc_tree.specs.declared.declarations.ModeDecl.{ModeDecl};
 ghost use Rattle.merc_goal_tree.specs.Nodes.{Node};
@@ -177,7 +177,7 @@ pub(crate) fn order_simple(
             order_arithmetic(alloc, *operation, *target, operands, frame, bound, written)
         }
         SimpleGoal::Compare(comparison, left, right) => {
-            let is_ready = bound.is_bound(*left) && bound.is_bound(*right);
+            let is_ready = are_both_bound(bound, *left, *right);
             let goal = BasicGoal::Compare(*comparison, *left, *right);
             put_if(is_ready, goal, frame, written)
         }
@@ -202,6 +202,12 @@ pub(crate) fn order_simple(
             )
         }
     }
+}
+
+fn are_both_bound(bound: &BoundSet, one: Var, other: Var) -> bool
+    ensures { result ≡ (among bound.now one && among bound.now other) }
+{
+    bound.is_bound(one) && bound.is_bound(other)
 }
 
 // Two variables: a test where both are bound, an assignment where one is.
@@ -274,7 +280,7 @@ fn order_arithmetic(
     ensures { (total : ℕ → ℕ) (modes : ℕ → List ModeDecl) → Gives modes (simple_from total modes (SimpleGoal.Arithmetic operation target operands.0 operands.1) frame.outputs frame.span (among bound.now)) written.old written.new result }
 {
     let (left, right) = operands;
-    if !bound.is_bound(left) || !bound.is_bound(right) {
+    if !are_both_bound(bound, left, right) {
         return Err(never_ready(frame.span));
     }
     if !bound.is_bound(target) {
