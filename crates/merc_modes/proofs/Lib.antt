@@ -13,6 +13,7 @@ pub mod Occurring
 pub mod Outside
 pub mod Outputs
 pub mod Putting
+pub mod FaultOrder
 pub mod Found
 pub mod Joined
 pub mod Arms

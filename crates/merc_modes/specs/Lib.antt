@@ -15,4 +15,6 @@ pub mod Complete
 pub mod Arms
 pub mod ArmsExamples
 pub mod Told
+pub mod ToldExamples
 pub mod Walking
+pub mod WalkingExamples

@@ -3,8 +3,10 @@ ghost use Rattle.std.specs.Prelude.{◌≡◌, ◌<◌, ◌++◌, ◌∷◌, [],
 ghost use Rattle.std.specs.List.{slice_index_or};
 ghost use Rattle.merc_goal_tree.specs.Variables.{variables, variables_of};
 ghost use Rattle.merc_order.specs.Bound.{among};
+ghost use Rattle.merc_order.specs.Procedures.{beyond};
 ghost use Rattle.merc_modes.specs.Reaches.{reaching, end_of, first_since};
 
+use crate::writing::number_past;
 use merc_base::NoMemory;
 use merc_goal_tree::Var;
 use std::alloc::Global;
@@ -78,6 +80,24 @@ impl Occurrences {
             return None;
         }
         Some(variable)
+    }
+
+    /// The number behind those of all variables that occur.
+    ///
+    /// # Errors
+    ///
+    /// `NoMemory` where that would pass the greatest `usize`. The numbers of no text that lies in memory do.
+    pub(crate) fn number_beyond(&self) -> Result<usize, NoMemory>
+        ensures { IfOk result (λ number. number ≡ beyond self.now) }
+    {
+        let mut number = 0;
+        let mut index = self.all.len();
+        while 0 < index {
+            index -= 1;
+            let behind = number_past(self.all[index].number(), 1)?;
+            number = number.max(behind);
+        }
+        Ok(number)
     }
 
     /// Puts an occurrence behind the others.
