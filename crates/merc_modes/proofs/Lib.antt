@@ -6,10 +6,14 @@ pub mod Conjunctions
 pub mod Marking
 pub mod Stepping
 pub mod Sweeping
+pub mod Tests
 pub mod Ways
 pub mod Reaches
 pub mod Occurring
 pub mod Outside
+pub mod Outputs
+pub mod Putting
+pub mod FaultOrder
 pub mod Found
 pub mod Joined
 pub mod Arms

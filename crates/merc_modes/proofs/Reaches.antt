@@ -1,13 +1,13 @@
 -- The table of reaches and the list of occurrences tell the same.
-use Rattle.std.specs.Prelude.{◌≡◌, ◌<◌, ◌==◌, ◌||◌, ◌-◌, ◌+◌, nat_lt, ℕ, zero, suc, Bool, true, false, List, [], ◌∷◌, ◌++◌, length, take, drop, Option, Some, None, refl}
+use Rattle.std.specs.Prelude.{◌≡◌, ◌<◌, ◌≤◌, ◌==◌, ◌||◌, ◌-◌, ◌+◌, nat_lt, ℕ, zero, suc, Bool, true, false, List, [], ◌∷◌, ◌++◌, length, take, drop, slice_get, Option, Some, None, refl}
 use Rattle.std.specs.List.{slice_index_or}
-use Rattle.std.proofs.Common.{◌∙◌, ◌≢◌, ap, sym, subst, arith, set, inl, inr}
-use Rattle.std.proofs.lemmas.Bool.{cases_eq}
+use Rattle.std.proofs.Common.{◌∙◌, ◌≢◌, ◌⊎◌, ap, sym, subst, arith, set, inl, inr}
+use Rattle.std.proofs.lemmas.Bool.{cases_eq, cases_lt}
 use Rattle.std.proofs.lemmas.Bool.Decides.{nat_tests}
-use Rattle.std.proofs.lemmas.List.{get_or-set_same, get_or-set_other}
+use Rattle.std.proofs.lemmas.List.{get_or-set_same, get_or-set_other, get_or_at, get_or_append_left, take_at, take-append-le, length-append}
 use Rattle.merc_order.specs.Bound.{among}
 use Rattle.merc_modes.specs.declared.occurrences.Reach.{Reach}
-use Rattle.merc_modes.specs.Reaches.{starts_before, ends_behind, reaching, TellsReaches}
+use Rattle.merc_modes.specs.Reaches.{starts_before, ends_behind, reaching, end_of, TellsReaches, TellsEarlier}
 use Rattle.merc_modes.proofs.Bounds.{or_assoc, among-append}
 
 same_is : (variable : ℕ) → (variable == variable) ≡ true
@@ -149,3 +149,69 @@ pub outside_is : (table : List (Option Reach)) (all : List ℕ) (variable start 
 outside_is table all variable start end reach r tells =
     ap (λ s. starts_before s start || ends_behind s end) r ∙ ap (λ b. b || ends_behind (slice_index_or table variable None) end) (tells.before variable start)
     ∙ ap (λ b. among (take start all) variable || b) (tells.behind variable end)
+
+-- The occurrence before one.
+
+get_short : (all back : List ℕ) (place : ℕ) → place < length all → slice_get (all ++ back) place ≡ slice_get all place
+get_short [] back place short = absurd (omega arith)
+get_short (first ∷ rest) back zero short = refl
+get_short (first ∷ rest) back (suc place) short = get_short rest back place (omega (arith, short))
+
+get_last : (all : List ℕ) (variable : ℕ) → slice_get (all ++ variable ∷ []) (length all) ≡ Some variable
+get_last [] variable = refl
+get_last (first ∷ rest) variable = get_last rest variable
+
+get_past : (all : List ℕ) (place : ℕ) → length all ≤ place → slice_get all place ≡ None
+get_past [] zero past = refl
+get_past [] (suc place) past = refl
+get_past (first ∷ rest) zero past = absurd (omega arith)
+get_past (first ∷ rest) (suc place) past = get_past rest place (omega (arith, past))
+
+end_behind : (reach : Option Reach) (place : ℕ) → nat_lt place (end_of reach) ≡ ends_behind reach place
+end_behind None place = let h : nat_lt place 0 ≡ false = grind (arith, nat_tests) in h
+end_behind (Some reach) place = refl
+
+same_value : (one other : ℕ) → Some one ≡ Some other → one ≡ other
+same_value one other same = cc
+
+earlier_last : (table : List ℕ) (all : List ℕ) (variable end start other : ℕ) → length table ≡ length all → ((place : ℕ) → nat_lt place end ≡ among (drop place all) variable)
+    → slice_get (all ++ variable ∷ []) (length all) ≡ Some other → nat_lt start (slice_index_or (table ++ end ∷ []) (length all) 0) ≡ among (drop start (take (length all) (all ++ variable ∷ []))) other
+earlier_last table all variable end start other long told there =
+    ap (λ n. nat_lt start n) (get_or_at table end [] 0 (length all) long) ∙ told start
+    ∙ ap (λ l. among (drop start l) variable) (sym (take_at all (variable ∷ []) (length all) refl))
+    ∙ ap (λ v. among (drop start (take (length all) (all ++ variable ∷ []))) v) (same_value variable other (sym (get_last all variable) ∙ there))
+
+earlier_short : (table : List ℕ) (all : List ℕ) (variable end start place other : ℕ) → TellsEarlier table all → place < length all
+    → slice_get (all ++ variable ∷ []) place ≡ Some other → nat_lt start (slice_index_or (table ++ end ∷ []) place 0) ≡ among (drop start (take place (all ++ variable ∷ []))) other
+earlier_short table all variable end start place other tells short there =
+    ap (λ n. nat_lt start n) (get_or_append_left table (end ∷ []) 0 place (let l = tells.long in omega arith))
+    ∙ tells.earlier start place other (sym (get_short all (variable ∷ []) place short) ∙ there)
+    ∙ ap (λ l. among (drop start l) other) (sym (take-append-le place all (variable ∷ []) (omega arith)))
+
+pub earlier_more : (table : List ℕ) (old new : List ℕ) (variable : ℕ) (reach : Option Reach) → TellsEarlier table old → new ≡ old ++ variable ∷ []
+    → ((place : ℕ) → ends_behind reach place ≡ among (drop place old) variable) → TellsEarlier (table ++ end_of reach ∷ []) new
+earlier_more table old new variable reach tells same told =
+    subst (λ l. TellsEarlier (table ++ end_of reach ∷ []) l) (sym same) (record {
+      long = length-append table (end_of reach ∷ []) ∙ ap (λ n. n + 1) tells.long ∙ sym (length-append old (variable ∷ []));
+      earlier = λ start place other there. elim (cases_lt place (length old)) as (λ _. nat_lt start (slice_index_or (table ++ end_of reach ∷ []) place 0) ≡ among (drop start (take place (old ++ variable ∷ []))) other) [
+        | inl short ↦ earlier_short table old variable (end_of reach) start place other tells short there
+        | inr past ↦ by_place start place other there past (cases_lt (length old) place)
+      ];
+    })
+  where
+    by_place : (start place other : ℕ) → slice_get (old ++ variable ∷ []) place ≡ Some other → length old ≤ place → (length old < place) ⊎ (place ≤ length old)
+        → nat_lt start (slice_index_or (table ++ end_of reach ∷ []) place 0) ≡ among (drop start (take place (old ++ variable ∷ []))) other
+    by_place start place other there past (inl far) =
+        let none : slice_get (old ++ variable ∷ []) place ≡ None = get_past (old ++ variable ∷ []) place (let n = length-append old (variable ∷ []) in omega arith) in
+        let wrong = sym none ∙ there in cc
+    by_place start place other there past (inr near) =
+        let here : length old ≡ place = omega arith in
+        subst (λ p. nat_lt start (slice_index_or (table ++ end_of reach ∷ []) p 0) ≡ among (drop start (take p (old ++ variable ∷ []))) other) here
+        (earlier_last table old variable (end_of reach) start other tells.long (λ p. end_behind reach p ∙ told p)
+        (subst (λ p. slice_get (old ++ variable ∷ []) p ≡ Some other) (sym here) there))
+
+pub earlier_pushed : (reaches : List (Option Reach)) (before after : List ℕ) (old new : List ℕ) (variable : ℕ) (reach : Option Reach) (end : ℕ) → TellsReaches reaches old × TellsEarlier before old
+    → new ≡ old ++ variable ∷ [] → after ≡ before ++ end ∷ [] → end ≡ end_of reach → reach ≡ slice_index_or reaches variable None → TellsEarlier after new
+earlier_pushed reaches before after old new variable reach end (tells, kept) n a e r =
+    subst (λ t. TellsEarlier t new) (sym (a ∙ ap (λ i. before ++ i ∷ []) e))
+    (earlier_more before old new variable reach kept n (λ place. ap (λ o. ends_behind o place) r ∙ tells.behind variable place))

@@ -15,6 +15,7 @@ mod members;
 mod occurrences;
 mod ordering;
 mod simple;
+mod testing;
 mod walking;
 mod writing;
 mod written;

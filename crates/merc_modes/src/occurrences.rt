@@ -3,8 +3,10 @@ ghost use Rattle.std.specs.Prelude.{◌≡◌, ◌<◌, ◌++◌, ◌∷◌, [],
 ghost use Rattle.std.specs.List.{slice_index_or};
 ghost use Rattle.merc_goal_tree.specs.Variables.{variables, variables_of};
 ghost use Rattle.merc_order.specs.Bound.{among};
-ghost use Rattle.merc_modes.specs.Reaches.{reaching};
+ghost use Rattle.merc_order.specs.Procedures.{beyond};
+ghost use Rattle.merc_modes.specs.Reaches.{reaching, end_of, first_since};
 
+use crate::writing::number_past;
 use merc_base::NoMemory;
 use merc_goal_tree::Var;
 use std::alloc::Global;
@@ -23,19 +25,21 @@ pub(crate) struct Reach {
 #[derive(Drop)]
 pub(crate) struct Occurrences {
     all: Vec<Var>,
+    // by the place, the place behind that where its variable occurs last before it, 0 where it does not
+    earlier: Vec<usize>,
     // by the variable's number; those past its end do not occur
     reaches: Vec<Option<Reach>>,
 }
 
 impl Model for Occurrences {
     ghost use Rattle.std.specs.Prelude.{ℕ, List};
-    ghost use Rattle.merc_modes.specs.Reaches.{TellsReaches};
+    ghost use Rattle.merc_modes.specs.Reaches.{TellsReaches, TellsEarlier};
 
     ghost Value = { List ℕ };
 
     ghost view = { λ o. o.all.items };
 
-    ghost invariant = { λ o. TellsReaches o.reaches.items o.all.items };
+    ghost invariant = { λ o. TellsReaches o.reaches.items o.all.items × TellsEarlier o.earlier.items o.all.items };
 }
 
 impl Occurrences {
@@ -45,6 +49,7 @@ impl Occurrences {
     {
         Occurrences {
             all: Vec::new(alloc),
+            earlier: Vec::new(alloc),
             reaches: Vec::new(alloc),
         }
     }
@@ -66,6 +71,35 @@ impl Occurrences {
         }
     }
 
+    /// The variable at a place, if it does not occur from `start` on before that place.
+    pub(crate) fn first_since(&self, start: usize, place: usize) -> Option<Var>
+        ensures { result ≡ first_since start self.now place }
+    {
+        let variable = *self.all.get(place)?;
+        if start < earlier_at(&self.earlier, place) {
+            return None;
+        }
+        Some(variable)
+    }
+
+    /// The number behind those of all variables that occur.
+    ///
+    /// # Errors
+    ///
+    /// `NoMemory` where that would pass the greatest `usize`. The numbers of no text that lies in memory do.
+    pub(crate) fn number_beyond(&self) -> Result<usize, NoMemory>
+        ensures { IfOk result (λ number. number ≡ beyond self.now) }
+    {
+        let mut number = 0;
+        let mut index = self.all.len();
+        while 0 < index {
+            index -= 1;
+            let behind = number_past(self.all[index].number(), 1)?;
+            number = number.max(behind);
+        }
+        Ok(number)
+    }
+
     /// Puts an occurrence behind the others.
     ///
     /// # Errors
@@ -76,8 +110,8 @@ impl Occurrences {
         ensures err { OnErr result (self.new ≡ self.old) }
     {
         make_room(&mut self.reaches, variable.number())?;
-        self.all.push(variable)?;
         let reach = reach_at(&self.reaches, variable.number());
+        put(&mut self.all, &mut self.earlier, variable, end_of(reach))?;
         self.reaches[variable.number()] = Some(extended(reach, self.all.len()));
         Ok(())
     }
@@ -107,6 +141,26 @@ fn reach_at(reaches: &[Option<Reach>], number: usize) -> Option<Reach>
     }
 }
 
+// Behind which place the variable at this place occurs last before it.
+fn earlier_at(earlier: &[usize], place: usize) -> usize
+    ensures { result ≡ slice_index_or earlier.now place 0 }
+{
+    match earlier.get(place) {
+        Some(end) => *end,
+        None => 0,
+    }
+}
+
+// The place behind that where a variable that reaches so occurs last, 0 where it does not occur.
+fn end_of(reach: Option<Reach>) -> usize
+    ensures { result ≡ end_of reach }
+{
+    match reach {
+        Some(reach) => reach.end,
+        None => 0,
+    }
+}
+
 // How a variable reaches that occurs once more, at the last place before this one.
 fn extended(reach: Option<Reach>, end: usize) -> Reach
     requires { 0 < end }
@@ -122,6 +176,23 @@ fn extended(reach: Option<Reach>, end: usize) -> Reach
             end,
         },
     }
+}
+
+// Puts a variable behind the others, and behind which place it occurs last. Where memory is refused nothing changes.
+fn put(
+    all: &mut Vec<Var>,
+    earlier: &mut Vec<usize>,
+    variable: Var,
+    end: usize,
+) -> Result<(), NoMemory>
+    ensures all { OnOk result (all.new.items ≡ all.old.items ++ variable ∷ []) }
+    ensures earlier { OnOk result (earlier.new.items ≡ earlier.old.items ++ end ∷ []) }
+    ensures err { OnErr result ((all.new.items ≡ all.old.items) × (earlier.new.items ≡ earlier.old.items)) }
+{
+    earlier.reserve(1)?;
+    all.push(variable)?;
+    earlier.push(end).unwrap();
+    Ok(())
 }
 
 // Makes the table long enough for the number.

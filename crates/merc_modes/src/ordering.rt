@@ -1,10 +1,11 @@
 //! The order of the goals of procedures.
-ghost use Rattle.std.specs.Prelude.{◌≡◌, ℕ, [], ◌∷◌, length, IfOk};
+ghost use Rattle.std.specs.Prelude.{◌≡◌, ℕ, List, [], ◌∷◌, ◌++◌, Some, length, IfOk};
+ghost use Rattle.merc_base.specs.FirstFault.{first_of_faults};
 ghost use Rattle.merc_graded_tree.specs.Nodes.{Node as OrderedNode};
 ghost use Rattle.merc_order.specs.Procedures.{modes_of, order_fault, procedure_trees, query_from, IsQuery};
 ghost use Rattle.merc_modes.specs.Told.{IsTold, fault_in};
 
-use merc_base::Fault;
+use merc_base::{Fault, Refusal};
 use merc_goal_tree::{NodeRef, Nodes as FlatNodes, Var};
 use merc_graded_tree::Nodes;
 use merc_tree::PredDecl;
@@ -46,4 +47,20 @@ pub fn order_query(
     ensures tree { IfOk result (λ trees. (tree : OrderedNode) × (trees ≡ tree ∷ []) × IsQuery (modes_of predicates.now) answers.now goal.now tree) }
 {
     Err(Fault::NoMemory)
+}
+
+// The first of the faults that were found, with one more behind them.
+fn first_fault(found: Option<Refusal>, fault: Refusal) -> Refusal
+    ensures { (faults : List Refusal) → found ≡ first_of_faults faults → first_of_faults (faults ++ fault ∷ []) ≡ Some result }
+{
+    match found {
+        Some(other) => {
+            if other.comes_first(&fault) {
+                other
+            } else {
+                fault
+            }
+        }
+        None => fault,
+    }
 }

@@ -1,22 +1,36 @@
 //! Goals that hold no others, written out with their tests, and the outputs of goals.
-ghost use Rattle.std.specs.Prelude.{◌≡◌, ◌+◌, ◌≤◌, ℕ, List, [], length, IfOk, OnOk};
+ghost use Rattle.std.specs.Prelude.{◌≡◌, ◌+◌, ◌≤◌, ◌&&◌, ℕ, List, [], None, length, take, drop, slice_get, IfOk, OnOk};
+ghost use Rattle.std.specs.List.{filter};
 ghost use Rattle.merc_tree.specs.declared.declarations.ModeDecl.{ModeDecl};
 ghost use Rattle.merc_goal_tree.specs.Nodes.{Node};
 ghost use Rattle.merc_goal_tree.specs.Variables.{variables};
-ghost use Rattle.merc_order.specs.Bound.{among};
+ghost use Rattle.merc_graded_tree.specs.Nodes.{node, Basic};
+ghost use Rattle.merc_order.specs.Bound.{among, each_once};
+ghost use Rattle.merc_order.specs.Faults.{never_ready};
 ghost use Rattle.merc_order.specs.Order.{outputs_of, simple_from};
 ghost use Rattle.merc_order.specs.Procedures.{modes_of};
+ghost use Rattle.merc_order.specs.Spelt.{inputs_in, with_tests};
 ghost use Rattle.merc_modes.specs.Facts.{AreFactsOf};
+ghost use Rattle.merc_modes.specs.Bounds.{all_behind};
 ghost use Rattle.merc_modes.specs.Outside.{IsStretch};
+ghost use Rattle.merc_modes.specs.Outputs.{is_output, kept};
+ghost use Rattle.merc_modes.specs.Putting.{IsPut, PutsIf};
+ghost use Rattle.merc_modes.specs.Reaches.{first_since};
 ghost use Rattle.merc_modes.specs.Walking.{Gives};
 
 use crate::bound::BoundSet;
 use crate::facts::Facts;
 use crate::occurrences::Occurrences;
+use crate::simple::{mode_taken, modes_at};
+use crate::testing::{
+    call_tested, inner_outputs, push_tests, replaced, tested, tested_places, untested_places,
+    writes_of,
+};
 use crate::written::Written;
-use merc_base::{Fault, NoMemory, Span};
-use merc_goal_tree::{SimpleGoal, Vars};
-use merc_tree::PredDecl;
+use merc_base::{Detail, Fault, NoMemory, Refusal, Rule, Span};
+use merc_goal_tree::{Operation, Predicate, SimpleGoal, Symbol, Var, Vars};
+use merc_graded_tree::{BasicGoal, Procedure, Running};
+use merc_tree::{Arg, ModeDecl, PredDecl};
 use std::alloc::Global;
 
 /// The outputs of a goal with these facts from what is bound, in the order of the text: what it binds that is not bound
@@ -37,7 +51,90 @@ pub(crate) fn outputs_of(
     ensures outputs { IfOk result (λ outputs. (total : ℕ → ℕ) (modes : ℕ → List ModeDecl) (goal : Node) → AreFactsOf total modes goal facts.now → IsStretch total all.now start (start + length (variables goal)) (variables goal) → outputs ≡ outputs_of total modes (among bound.now) goal) }
     ensures cleared { OnOk result (seen.new ≡ []) }
 {
-    Err(NoMemory)
+    let end = number_past(start, facts.occurrences)?;
+    see_outputs(all, facts.binds.as_slice(), start, end, bound, seen)?;
+    let outputs = in_order(alloc, all, start, end, seen)?;
+    seen.undo(0);
+    Ok(outputs)
+}
+
+/// A number so much further on.
+///
+/// # Errors
+///
+/// `NoMemory` where it would pass the greatest `usize`. The numbers of no text that lies in memory do.
+pub(crate) fn number_past(at: usize, more: usize) -> Result<usize, NoMemory>
+    ensures { IfOk result (λ number. number ≡ at + more) }
+{
+    match at.checked_add(more) {
+        Some(number) => Ok(number),
+        None => Err(NoMemory),
+    }
+}
+
+// Puts those of the variables into the set that are not bound and occur outside the stretch from one place to another.
+fn see_outputs(
+    all: &Occurrences,
+    variables: &[Var],
+    start: usize,
+    end: usize,
+    bound: &BoundSet,
+    seen: &mut BoundSet,
+) -> Result<(), NoMemory>
+    ensures { OnOk result (seen.new ≡ all_behind seen.old (filter (λ variable. is_output (among bound.now) all.now start end variable) variables.now)) }
+{
+    for variable in variables {
+        if !bound.is_bound(*variable) && all.is_outside(start, end, *variable) {
+            seen.bind(*variable)?;
+        }
+    }
+    Ok(())
+}
+
+// Those in the set that occur from one place to another, in the order in which they occur there first. It looks no
+// further than where all of them were found.
+fn in_order(
+    alloc: Global,
+    all: &Occurrences,
+    start: usize,
+    end: usize,
+    seen: &BoundSet,
+) -> Result<Vars, NoMemory>
+    requires { start ≤ end }
+    ensures { IfOk result (λ found. found ≡ each_once (filter (among seen.now) (drop start (take end all.now)))) }
+{
+    let mut found = Vars::new(alloc);
+    let mut left = seen.mark();
+    let mut place = start;
+    while 0 < left && place < end {
+        if let Some(variable) = next_found(all, start, place, seen) {
+            found.push(variable)?;
+            left -= 1;
+        }
+        place += 1;
+    }
+    Ok(found)
+}
+
+// The variable at a place, if it is in the set and does not occur from `start` on before that place.
+fn next_found(all: &Occurrences, start: usize, place: usize, seen: &BoundSet) -> Option<Var>
+    ensures { result ≡ kept (among seen.now) (first_since start all.now place) }
+{
+    let variable = all.first_since(start, place)?;
+    if seen.is_bound(variable) {
+        Some(variable)
+    } else {
+        None
+    }
+}
+
+/// What a goal has besides what it is.
+#[derive(Drop)]
+struct Frame {
+    /// Its outputs.
+    outputs: Vars,
+    /// Where it stands in its text.
+    span: Span,
 }
 
 /// Writes a goal that holds no others out, from what is bound, with these outputs: with a fresh variable in place of each
@@ -59,5 +156,235 @@ pub(crate) fn order_simple(
     requires { written.old.seen ≡ [] }
     ensures { (total : ℕ → ℕ) → Gives (modes_of predicates.now) (simple_from total (modes_of predicates.now) goal.now outputs span (among bound.now)) written.old written.new result }
 {
-    Err(Fault::NoMemory)
+    let frame = Frame { outputs, span };
+    match goal {
+        SimpleGoal::True => put_if(true, BasicGoal::True, frame, written),
+        SimpleGoal::Fail => put_if(true, BasicGoal::Fail, frame, written),
+        SimpleGoal::Same(one, other) => order_same(*one, *other, frame, bound, written),
+        SimpleGoal::Shape(whole, symbol, arguments) => {
+            order_shape(
+                alloc,
+                *whole,
+                *symbol,
+                arguments.as_slice(),
+                frame,
+                bound,
+                written,
+            )
+        }
+        SimpleGoal::Arithmetic(operation, target, left, right) => {
+            let operands = (*left, *right);
+            order_arithmetic(alloc, *operation, *target, operands, frame, bound, written)
+        }
+        SimpleGoal::Compare(comparison, left, right) => {
+            let is_ready = are_both_bound(bound, *left, *right);
+            let goal = BasicGoal::Compare(*comparison, *left, *right);
+            put_if(is_ready, goal, frame, written)
+        }
+        SimpleGoal::Raise(text) => {
+            put_if(
+                bound.is_bound(*text),
+                BasicGoal::Raise(*text),
+                frame,
+                written,
+            )
+        }
+        SimpleGoal::Call(predicate, arguments) => {
+            let modes = modes_at(predicates, *predicate);
+            order_call(
+                alloc,
+                modes,
+                *predicate,
+                arguments.as_slice(),
+                frame,
+                bound,
+                written,
+            )
+        }
+    }
+}
+
+fn are_both_bound(bound: &BoundSet, one: Var, other: Var) -> bool
+    ensures { result ≡ (among bound.now one && among bound.now other) }
+{
+    bound.is_bound(one) && bound.is_bound(other)
+}
+
+// Two variables: a test where both are bound, an assignment where one is.
+fn order_same(
+    one: Var,
+    other: Var,
+    frame: Frame,
+    bound: &BoundSet,
+    written: &mut Written,
+) -> Result<(), Fault>
+    ensures { (total : ℕ → ℕ) (modes : ℕ → List ModeDecl) → Gives modes (simple_from total modes (SimpleGoal.Same one other) frame.outputs frame.span (among bound.now)) written.old written.new result }
+{
+    let is_bound = bound.is_bound(other);
+    if !bound.is_bound(one) {
+        return put_if(is_bound, BasicGoal::Assign(one, other), frame, written);
+    }
+    let goal = if is_bound {
+        BasicGoal::Test(one, other)
+    } else {
+        BasicGoal::Assign(other, one)
+    };
+    put_if(true, goal, frame, written)
+}
+
+// A variable that has a symbol's value over others: a split where it is bound, or it is built.
+fn order_shape(
+    alloc: Global,
+    whole: Var,
+    symbol: Symbol,
+    arguments: &[Var],
+    frame: Frame,
+    bound: &BoundSet,
+    written: &mut Written,
+) -> Result<(), Fault>
+    requires { written.old.seen ≡ [] }
+    ensures { (total : ℕ → ℕ) (modes : ℕ → List ModeDecl) → Gives modes (simple_from total modes (SimpleGoal.Shape whole symbol arguments.now) frame.outputs frame.span (among bound.now)) written.old written.new result }
+{
+    if !bound.is_bound(whole) {
+        let parts = Vars::from_vec(Vec::from_slice(alloc, arguments)?);
+        let goal = BasicGoal::Build(whole, symbol, parts);
+        return put_if(bound.are_bound(arguments), goal, frame, written);
+    }
+    let tests = tested(alloc, arguments, bound, &mut written.seen)?;
+    let parts = replaced(alloc, written.fresh, arguments, &tests)?;
+    let writes = untested_places(alloc, arguments, &tests)?;
+    let testing = tested_places(alloc, arguments, &tests)?;
+    let goal = BasicGoal::Split(whole, symbol, parts);
+    put_with_tests(
+        alloc,
+        goal,
+        writes.as_slice(),
+        testing.as_slice(),
+        frame,
+        written,
+    )?;
+    Ok(())
+}
+
+// Arithmetic, which gives its target the result for both operands.
+fn order_arithmetic(
+    alloc: Global,
+    operation: Operation,
+    target: Var,
+    operands: (Var, Var),
+    frame: Frame,
+    bound: &BoundSet,
+    written: &mut Written,
+) -> Result<(), Fault>
+    requires { written.old.seen ≡ [] }
+    ensures { (total : ℕ → ℕ) (modes : ℕ → List ModeDecl) → Gives modes (simple_from total modes (SimpleGoal.Arithmetic operation target operands.0 operands.1) frame.outputs frame.span (among bound.now)) written.old written.new result }
+{
+    let (left, right) = operands;
+    if !are_both_bound(bound, left, right) {
+        return Err(never_ready(frame.span));
+    }
+    if !bound.is_bound(target) {
+        let goal = BasicGoal::Arithmetic(operation, target, left, right);
+        return put_if(true, goal, frame, written);
+    }
+    let fresh = Var::new(written.fresh);
+    let goal = BasicGoal::Arithmetic(operation, fresh, left, right);
+    put_with_tests(alloc, goal, &[], &[target], frame, written)?;
+    Ok(())
+}
+
+// A call of a predicate with these modes.
+fn order_call(
+    alloc: Global,
+    modes: &[ModeDecl],
+    predicate: Predicate,
+    arguments: &[Var],
+    frame: Frame,
+    bound: &BoundSet,
+    written: &mut Written,
+) -> Result<(), Fault>
+    requires { written.old.seen ≡ [] }
+    ensures { (total : ℕ → ℕ) (all : ℕ → List ModeDecl) → all predicate ≡ modes.now → Gives all (simple_from total all (SimpleGoal.Call predicate arguments.now) frame.outputs frame.span (among bound.now)) written.old written.new result }
+{
+    match mode_taken(modes, arguments, bound) {
+        Some(mode) => {
+            let places = places_at(modes, mode);
+            let tests = call_tested(alloc, places, arguments, bound, &mut written.seen)?;
+            let operands = replaced(alloc, written.fresh, arguments, &tests)?;
+            let writes = writes_of(alloc, places, arguments, &tests)?;
+            let testing = tested_places(alloc, arguments, &tests)?;
+            let goal = BasicGoal::Call(Procedure { predicate, mode }, operands);
+            put_with_tests(
+                alloc,
+                goal,
+                writes.as_slice(),
+                testing.as_slice(),
+                frame,
+                written,
+            )?;
+            Ok(())
+        }
+        None => Err(never_ready(frame.span)),
+    }
+}
+
+// The places of the mode of this number.
+fn places_at(modes: &[ModeDecl], mode: usize) -> &[Arg]
+    ensures { result.now ≡ inputs_in (slice_get modes.now mode) }
+{
+    match modes.get(mode) {
+        Some(declared) => declared.args.as_slice(),
+        None => &[],
+    }
+}
+
+// Puts a goal behind the others that writes these variables, with a test behind it for each of those in `testing`: its
+// fresh variables stand for them.
+fn put_with_tests(
+    alloc: Global,
+    goal: BasicGoal,
+    writes: &[Var],
+    testing: &[Var],
+    frame: Frame,
+    written: &mut Written,
+) -> Result<(), NoMemory>
+    requires { written.old.seen ≡ [] }
+    ensures { OnOk result (IsPut (with_tests written.old.fresh goal writes.now testing.now frame.outputs frame.span) (length testing.now) written.old written.new) }
+{
+    if testing.is_empty() {
+        return written.nodes.push(goal, frame.outputs, frame.span);
+    }
+    let at = written.fresh;
+    let outputs = frame.outputs.as_slice();
+    let inner = inner_outputs(alloc, at, outputs, writes, testing, &mut written.seen)?;
+    written.nodes.push(goal, inner, frame.span)?;
+    push_tests(alloc, at, testing, frame.span, &mut written.nodes)?;
+    let count = number_past(testing.len(), 1)?;
+    written
+        .nodes
+        .conjoin(Running::Sequential, count, frame.outputs, frame.span)?;
+    written.fresh = number_past(at, testing.len())?;
+    Ok(())
+}
+
+// Puts a goal that is ready behind the others.
+fn put_if(is_ready: bool, goal: BasicGoal, frame: Frame, written: &mut Written) -> Result<(), Fault>
+    ensures { PutsIf is_ready (node (Basic goal) frame.outputs None frame.span) frame.span written.old written.new result }
+{
+    if !is_ready {
+        return Err(never_ready(frame.span));
+    }
+    written.nodes.push(goal, frame.outputs, frame.span)?;
+    Ok(())
+}
+
+/// A goal that is never ready.
+pub(crate) fn never_ready(span: Span) -> Fault
+    ensures { result ≡ Fault.Refused (never_ready span) }
+{
+    Fault::Refused(Refusal {
+        rule: Rule::NeverReady,
+        place: span.start(),
+        detail: Detail::Plain,
+    })
 }

@@ -9,14 +9,14 @@ use Rattle.merc_tree.specs.declared.declarations.ModeDecl.{ModeDecl}
 use Rattle.merc_tree.specs.declared.declarations.PredDecl.{PredDecl}
 use Rattle.merc_goal_tree.specs.declared.goal.SimpleGoal.TheVariants.{True, Fail, Same, Shape, Call}
 use Rattle.merc_goal_tree.specs.Nodes.{Node, Simple, Conjunction, nodes_of}
-use Rattle.merc_graded_tree.specs.declared.basic.BasicGoal.TheVariants.{Assign as AssignGoal, Test as TestGoal, Build as BuildGoal, Split as SplitGoal, Call as CallGoal}
+use Rattle.merc_graded_tree.specs.declared.basic.BasicGoal.TheVariants.{True as TrueGoal, Assign as AssignGoal, Test as TestGoal, Build as BuildGoal, Split as SplitGoal, Call as CallGoal}
 use Rattle.merc_graded_tree.specs.declared.entries.Running.TheVariants.{Sequential}
 use Rattle.merc_graded_tree.specs.Nodes.{Node as OrderedNode, node, Basic, Conjunction as OrderedConjunction, nodes_of as ordered_nodes}
 use Rattle.merc_order.specs.Faults.{never_ready, unbound_output}
 use Rattle.merc_order.specs.Ordered.{Ordered, put, Failure, Split, Called, Sequence, no_goals, more_goals, Ready, Stuck}
 use Rattle.merc_order.specs.OrderExamples.{at, mode, modes, f, p, append, x, y, z, one, pair, is_one, call, both, built}
 use Rattle.merc_order.specs.Spelt.{spelt, twins}
-use Rattle.merc_order.specs.Procedures.{bound_at, numbers_below, procedure_from, query_from, order_fault, first_fresh, IsProcedure}
+use Rattle.merc_order.specs.Procedures.{bound_at, numbers_below, procedure_from, query_from, order_fault, first_fresh, tree_of, procedure_trees, IsProcedure}
 
 inputs : bound_at (Output ∷ Input ∷ []) 1 ≡ true
 inputs = refl
@@ -111,3 +111,21 @@ no_fault = refl
 
 each_mode : order_fault (declared (in_at 5 ∷ out_at 6 ∷ []) 5 ∷ []) (Simple True (at 20) ∷ []) ≡ Some (unbound_output (at 6))
 each_mode = refl
+
+-- Trees: none of a body that cannot be ordered.
+
+forward_alone : tree_of modes (numbers_below 2) body (procedure_from modes 2 (mode (Input ∷ Output ∷ []) Det) body)
+    ≡ node (Basic (CallGoal (record { predicate = f; mode = 0 }) (x ∷ y ∷ []))) (y ∷ []) None (at 10) ∷ []
+forward_alone = refl
+
+none_backward : tree_of modes (numbers_below 2) body (procedure_from modes 2 (mode (Output ∷ Input ∷ []) Det) body) ≡ []
+none_backward = refl
+
+-- `q(X) :- X = 1.` in the modes `(in)` and `(out)`: the first splits, the second builds
+tree_of_each : procedure_trees modes (declared (in_at 5 ∷ out_at 6 ∷ []) 5 ∷ []) (is_one x 20 ∷ [])
+    ≡ node (Basic (SplitGoal x one [])) [] None (at 20) ∷ node (Basic (BuildGoal x one [])) (x ∷ []) None (at 20) ∷ []
+tree_of_each = refl
+
+-- `q(X) :- true.` in the same modes: the second leaves the argument unbound
+first_alone : procedure_trees modes (declared (in_at 5 ∷ out_at 6 ∷ []) 5 ∷ []) (Simple True (at 20) ∷ []) ≡ node (Basic TrueGoal) [] None (at 20) ∷ []
+first_alone = refl
