@@ -46,8 +46,8 @@ impl Model for Core {
 }
 
 impl Core {
-    /// The start: the root's script runs on worker 0. It takes the memory of all events, and `NoMemory` says that there
-    /// is not so much. The script has to be well formed, and there are 1 to 64 workers.
+    /// The start: the root's script runs on worker 0. The script has to be well formed, and there are 1 to 64 workers.
+    /// `NoMemory`: there was no memory for all that the steps will need, which is taken here.
     pub fn new(alloc: Global, root: Script, workers: u32) -> Result<Core, NoMemory>
         requires well { WellFormed root }
         requires some { 1 ≤ workers }
@@ -63,8 +63,10 @@ impl Core {
         })
     }
 
-    /// The event happens, or the first of its conditions that fails is told and nothing changes. It takes no memory, and
-    /// no more time than a constant beside the branches that it moves and the cells and outcomes of their joins.
+    /// The event happens, or the first of its conditions that fails is told and nothing changes. It takes no memory. Its
+    /// time is constant, but for these: a cell is found in time logarithmic in their number; a Fork looks at its cells and
+    /// moves once for each child; and a Signal, an End, and each right that a Fork moves, goes over the cells that the
+    /// branch has to signal.
     pub fn step(&mut self, event: Event) -> Result<(), NotNow>
         ensures answer { result ≡ told (state_of (with_event event self.old)) }
         ensures ok { OnOk result (self.new ≡ with_event event self.old) }
@@ -77,7 +79,7 @@ impl Core {
     }
 
     /// An event that the next step accepts, and never `Lost`; `None` exactly where the outcome is there. It looks at
-    /// each worker twice at most.
+    /// each worker twice at most, and takes no memory.
     pub fn ready_event(&self) -> Option<Event>
         ensures none { is_none result ≡ is_some (outcome_of (state_of self.now)) }
         ensures accepted { IfSome result (λ event. IsAccepted (with_event event self.now)) }
@@ -92,8 +94,8 @@ impl Core {
         }
     }
 
-    /// The outcome of the whole; `None` as long as the root's script has not ended. It is the script's own end, however
-    /// the events fell, unless one of them was `Lost`.
+    /// The outcome of the whole; `None` as long as the root's script has not ended. It is the script's own end, whichever
+    /// events were accepted, unless one of them was `Lost`. It takes no memory, and constant time.
     pub fn outcome(&self) -> Option<Outcome>
         ensures outcome { result ≡ outcome_of (state_of self.now) }
         ensures whole { IfSome result (λ o. AllByRecursion IsKept self.now.events → o ≡ end_of self.now.root) }
