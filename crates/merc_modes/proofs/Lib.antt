@@ -5,7 +5,7 @@ pub mod CallModes
 pub mod Conjunctions
 pub mod Marking
 pub mod Stepping
-pub mod Sweeping
+pub mod Rounds
 pub mod Ways
 pub mod Reaches
 pub mod Occurring
@@ -14,3 +14,8 @@ pub mod Found
 pub mod Joined
 pub mod Arms
 pub mod ArmLaws
+pub mod Links
+pub mod ChainLaws
+pub mod Each
+pub mod Inner
+pub mod Asks

@@ -4,6 +4,7 @@ pub mod BoundsExamples
 pub mod CallModeCode
 pub mod Facts
 pub mod Sweeps
+pub mod Chains
 pub mod Reaches
 pub mod Occurring
 pub mod OccurringExamples

@@ -3,6 +3,7 @@
 
 mod asking;
 mod bound;
+mod chains;
 mod choosing;
 mod collecting;
 mod complete;
@@ -15,6 +16,7 @@ mod members;
 mod occurrences;
 mod ordering;
 mod simple;
+mod sweeping;
 mod walking;
 mod writing;
 mod written;
