@@ -17,7 +17,7 @@ use Rattle.merc_modes.specs.Chains.{Links, no_links, more_links, around, ends, i
 use Rattle.merc_modes.specs.Facts.{subgoals, AreFactsOf}
 use Rattle.merc_modes.specs.Sweeps.{AreKnownFrom}
 use Rattle.merc_modes.specs.declared.facts.Facts.{Facts}
-use Rattle.merc_modes.proofs.Links.{LinkMarked, link_marked, told_link, not_by_arm, not_by_else, by_agreement, arms_agree, arm_length, flags_length, KnownOn, known_on, KnownHere, known_here}
+use Rattle.merc_modes.proofs.Links.{arm_parts, LinkMarked, link_marked, told_link, not_by_arm, not_by_else, by_agreement, arms_agree, arm_length, flags_length, KnownOn, known_on, KnownHere, known_here}
 use Rattle.merc_modes.proofs.Marking.{marks_length, middle, put_middle, own_mark, subgoals_length}
 
 regroup : {X : Type 0} (before arm own : List X) (x : X) (after : List X) → before ++ ((arm ++ (own ++ x ∷ [])) ++ after) ≡ (before ++ arm) ++ (own ++ x ∷ after)
@@ -73,13 +73,6 @@ module _ (total : ℕ → ℕ) (modes : ℕ → List ModeDecl) where
       append_assoc (subgoals condition ++ subgoals then_part ++ subgoals else_part) (Conditional condition then_part else_part span ∷ []) others
       ∙ append_assoc (subgoals condition ++ subgoals then_part) (subgoals else_part) (Conditional condition then_part else_part span ∷ others)
 
-  arm_parts : (condition then_part : Node) (n : ℕ) → n ≡ length (parts_of condition) + length (parts_of then_part) → n ≡ length (subgoals condition ++ subgoals then_part)
-  arm_parts condition then_part n h =
-      let one = subgoals_length condition in
-      let two = subgoals_length then_part in
-      let both = length-append (subgoals condition) (subgoals then_part) in
-      omega arith
-
   opened : (goal condition then_part else_part : Node) (span : Span) (flags : List Bool) (facts : List Facts) (at end next : ℕ) (bound : Bound)
       → IsOpen total modes goal (Conditional condition then_part else_part span) flags facts at bound
       → end ≡ at + length (parts_of (Conditional condition then_part else_part span)) → slice_index_or flags (end - 1) false ≡ false
@@ -103,7 +96,7 @@ module _ (total : ℕ → ℕ) (modes : ℕ → List ModeDecl) where
       let arm_long = arm_length total modes condition then_part parts.arm bound parts.arm_marked in
       let known = known_on total modes (subgoals condition ++ subgoals then_part) (subgoals else_part ++ link ∷ ends o.links link) facts at next
           (subst (λ l. AreKnownFrom total modes l facts at) (link_parts condition then_part else_part span (ends o.links link)) o.known)
-          (let total_is = arm_parts condition then_part (length (parts_of condition) + length (parts_of then_part)) refl in omega arith) in
+          (let total_is = arm_parts total modes condition then_part (length (parts_of condition) + length (parts_of then_part)) refl in omega arith) in
       record {
         links = o.links;
         front = o.front;

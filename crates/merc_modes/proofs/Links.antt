@@ -249,3 +249,80 @@ module _ (total : ℕ → ℕ) (modes : ℕ → List ModeDecl) where
           is ∙ ap (λ l. slice_index_or l own found) (cut.facts_are ∙ ap (λ l. l ++ cut.back) g.facts_are ∙ append_assoc g.inner (g.own ∷ []) cut.back)
           ∙ get_or_at g.inner g.own cut.back found own place in
       ap (λ (f : Facts). among (all_behind old f.binds)) same ∙ bound_behind total modes goal g.own old g.own_known
+
+  -- An if-then-else that is not marked, with the marks and facts of its two arms.
+
+  pub arm_parts : (condition then_part : Node) (n : ℕ) → n ≡ length (parts_of condition) + length (parts_of then_part) → n ≡ length (subgoals condition ++ subgoals then_part)
+  arm_parts condition then_part n h =
+      let one = subgoals_length condition in
+      let two = subgoals_length then_part in
+      let both = length-append (subgoals condition) (subgoals then_part) in
+      omega arith
+
+  pub decision_known : (condition then_part else_part : Node) (facts : List Facts) (first : ℕ)
+      → AreKnown total modes (all_subgoals (more_nodes condition (more_nodes then_part (more_nodes else_part no_nodes)))) facts
+      → first ≡ length (parts_of condition) + length (parts_of then_part) → KnownBoth (subgoals condition ++ subgoals then_part) (subgoals else_part) facts first
+  decision_known condition then_part else_part facts first known h =
+      known_both (subgoals condition ++ subgoals then_part) (subgoals else_part) facts first
+      (subst (λ l. AreKnown total modes l facts)
+      (ap (λ l. subgoals condition ++ (subgoals then_part ++ l)) (append-nil (subgoals else_part)) ∙ sym (append_assoc (subgoals condition) (subgoals then_part) (subgoals else_part))) known)
+      (arm_parts condition then_part first h)
+
+  pub record DecisionMarked (condition then_part else_part : Node) (flags : List Bool) (first : ℕ) (bound : Bound) : Type 0 where
+    pub arm_marked : AreArmMarked total modes condition then_part (take first flags) bound
+    pub else_marked : IsMarked total modes else_part (drop first flags) bound
+
+  pub decision_marked : (condition then_part else_part : Node) (span : Span) (flags : List Bool) (first : ℕ) (bound : Bound)
+      → AreMarked total modes (Conditional condition then_part else_part span) flags bound → first ≡ length (parts_of condition) + length (parts_of then_part)
+      → DecisionMarked condition then_part else_part flags first bound
+  decision_marked condition then_part else_part span flags first bound m h =
+      let l = link_marked condition then_part else_part span flags bound m in
+      let long : length l.arm ≡ first = arm_length condition then_part l.arm bound l.arm_marked ∙ sym h in
+      record {
+        arm_marked = subst (λ k. AreArmMarked total modes condition then_part k bound) (sym (ap (λ k. take first k) l.flags_are ∙ take_at l.arm l.rest first long)) l.arm_marked;
+        else_marked = subst (λ k. IsMarked total modes else_part k bound) (sym (ap (λ k. drop first k) l.flags_are ∙ drop_at l.arm l.rest first long)) l.else_marked;
+      }
+
+  -- The condition or the then part is not ready.
+  pub decision_by_arm : (condition then_part else_part : Node) (span : Span) (arm rest : List Bool) (bound : Bound) → is_arm_ready total modes condition then_part bound ≡ false
+      → AreArmMarked total modes condition then_part arm bound → IsMarked total modes else_part rest bound
+      → (is_ready (from total modes (Conditional condition then_part else_part span) bound) ≡ false) × AreMarked total modes (Conditional condition then_part else_part span) (arm ++ rest) bound
+  decision_by_arm condition then_part else_part span arm rest bound h a m =
+      (not_by_arm condition then_part else_part span bound h, marked_link condition then_part else_part span arm rest bound a m)
+
+  -- The else part is not ready.
+  pub decision_by_else : (condition then_part else_part : Node) (span : Span) (arm rest : List Bool) (bound : Bound) → is_ready (from total modes else_part bound) ≡ false
+      → AreArmMarked total modes condition then_part arm bound → IsMarked total modes else_part rest bound
+      → (is_ready (from total modes (Conditional condition then_part else_part span) bound) ≡ false) × AreMarked total modes (Conditional condition then_part else_part span) (arm ++ rest) bound
+  decision_by_else condition then_part else_part span arm rest bound h a m =
+      (not_by_else condition then_part else_part span bound h, marked_link condition then_part else_part span arm rest bound a m)
+
+  -- Both are ready.
+  pub decision_by_both : (condition then_part else_part : Node) (span : Span) (arm rest : List Bool) (bound : Bound) (ready : Bool) → is_arm_ready total modes condition then_part bound ≡ true
+      → is_ready (from total modes else_part bound) ≡ true → arms_agree condition then_part else_part span bound ≡ ready
+      → AreArmMarked total modes condition then_part arm bound → IsMarked total modes else_part rest bound
+      → (is_ready (from total modes (Conditional condition then_part else_part span) bound) ≡ ready) × AreMarked total modes (Conditional condition then_part else_part span) (arm ++ rest) bound
+  decision_by_both condition then_part else_part span arm rest bound ready arm_is else_is agrees a m =
+      (by_agreement condition then_part else_part span bound ready arm_is else_is agrees, marked_link condition then_part else_part span arm rest bound a m)
+
+  -- where a condition and a then part stand
+
+  pub arm_by_condition : (condition then_part : Node) (bound : Bound) → is_ready (from total modes condition bound) ≡ false → is_arm_ready total modes condition then_part bound ≡ false
+  arm_by_condition condition then_part bound h =
+      ap (λ b. b && (binds_inside total modes bound (variables condition ++ variables then_part) (variables condition) (binds total modes condition)
+      && is_ready (from total modes then_part (with bound (binds total modes condition))))) h
+
+  pub arm_by_owed : (condition then_part : Node) (bound : Bound)
+      → binds_inside total modes bound (variables condition ++ variables then_part) (variables condition) (binds total modes condition) ≡ false
+      → is_arm_ready total modes condition then_part bound ≡ false
+  arm_by_owed condition then_part bound h =
+      ap (λ b. is_ready (from total modes condition bound) && (b && is_ready (from total modes then_part (with bound (binds total modes condition))))) h
+      ∙ and_false (is_ready (from total modes condition bound))
+
+  pub arm_by_then : (condition then_part : Node) (bound : Bound) (ready : Bool) → is_ready (from total modes condition bound) ≡ true
+      → binds_inside total modes bound (variables condition ++ variables then_part) (variables condition) (binds total modes condition) ≡ true
+      → is_ready (from total modes then_part (with bound (binds total modes condition))) ≡ ready → is_arm_ready total modes condition then_part bound ≡ ready
+  arm_by_then condition then_part bound ready one two h =
+      ap (λ b. b && (binds_inside total modes bound (variables condition ++ variables then_part) (variables condition) (binds total modes condition)
+      && is_ready (from total modes then_part (with bound (binds total modes condition))))) one
+      ∙ ap (λ b. b && is_ready (from total modes then_part (with bound (binds total modes condition)))) two ∙ h
