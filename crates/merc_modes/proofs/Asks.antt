@@ -27,10 +27,15 @@ pub rest_nodes : (goals : List Node) (index : ℕ) (goal : Node) → index < len
     → nodes_of (drop index goals) ≡ more_nodes goal (nodes_of (drop (index + 1) goals))
 rest_nodes goals index goal room is = ap nodes_of (drop_more goals index goal room ∙ ap (λ g. g ∷ drop (index + 1) goals) (sym is))
 
+pub rest_length : (goals : List Node) (index : ℕ) (goal : Node) → index < length goals → goal ≡ slice_index_or goals index goal
+    → length (all_parts (nodes_of (drop index goals))) ≡ length (parts_of goal) + length (all_parts (nodes_of (drop (index + 1) goals)))
+rest_length goals index goal room is =
+    ap (λ n. length (all_parts n)) (rest_nodes goals index goal room is) ∙ length-append (parts_of goal) (all_parts (nodes_of (drop (index + 1) goals)))
+
 pub no_rest : (goals : List Node) (index : ℕ) → length goals ≤ index → nodes_of (drop index goals) ≡ no_nodes
 no_rest goals index h = ap nodes_of (drop_all index goals h)
 
-list_length : (goals : List Node) → length (list_of (nodes_of goals)) ≡ length goals
+pub list_length : (goals : List Node) → length (list_of (nodes_of goals)) ≡ length goals
 list_length [] = refl
 list_length (goal ∷ goals) = ap suc (list_length goals)
 

@@ -24,6 +24,10 @@ regroup : {X : Type 0} (before arm own : List X) (x : X) (after : List X) → be
 regroup before arm own x after =
     ap (λ l. before ++ l) (append_assoc arm (own ++ x ∷ []) after ∙ ap (λ l. arm ++ l) (append_assoc own (x ∷ []) after)) ∙ sym (append_assoc before arm (own ++ x ∷ after))
 
+pub conditional_length : (condition then_part else_part : Node) (span : Span) → length (parts_of (Conditional condition then_part else_part span))
+    ≡ suc (length (parts_of condition) + length (parts_of then_part) + length (parts_of else_part))
+conditional_length condition then_part else_part span = simp length-append (omega arith)
+
 module _ (total : ℕ → ℕ) (modes : ℕ → List ModeDecl) where
   -- Where the last else part is not ready, none of the chain is.
   pub close_stuck : (links : Links) (last : Node) (front own back : List Bool) (bound : Bound) → AreLinked total modes links front back bound → Told total modes last own bound false

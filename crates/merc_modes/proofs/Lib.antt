@@ -19,3 +19,5 @@ pub mod ChainLaws
 pub mod Each
 pub mod Inner
 pub mod Asks
+pub mod Turns
+pub mod Halves

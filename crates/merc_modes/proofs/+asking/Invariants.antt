@@ -72,7 +72,6 @@ abbrev pub invariant-chains::advance_links-loop-link : goal.invariant-chains::ad
 invariant-chains::advance_links-loop-link l = record {
   end_is : l.end ≡ l.at + length (parts_of l.last);
   room : l.end ≤ length l.facts;
-  long : length l.marks ≡ length l.facts;
   same : l.bound ≡ l.fn.bound;
   chain : (total : ℕ → ℕ) → AreKnown total (modes_of l.predicates) (subgoals l.goal) l.facts → IsMarked total (modes_of l.predicates) l.goal l.fn.marks (among l.fn.bound)
       → IsOpen total (modes_of l.predicates) l.goal l.last l.marks l.facts l.at (among l.fn.bound);
