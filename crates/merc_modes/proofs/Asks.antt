@@ -1,5 +1,5 @@
 -- What a goal is asked with, and what is told of it.
-use Rattle.std.specs.Prelude.{◌≡◌, ◌≤◌, ◌<◌, ◌+◌, ◌-◌, ℕ, suc, Bool, true, false, List, [], ◌∷◌, ◌++◌, length, take, drop, refl}
+use Rattle.std.specs.Prelude.{◌≡◌, ◌≤◌, ◌<◌, ◌+◌, ◌-◌, ℕ, suc, Bool, true, false, not, List, [], ◌∷◌, ◌++◌, length, take, drop, refl}
 use Rattle.std.specs.List.{slice_index_or}
 use Rattle.std.proofs.Common.{◌∙◌, ap, sym, subst, arith}
 use Rattle.std.proofs.lemmas.List.{length-append, take_at, get_or_at, drop_more, drop_all}
@@ -17,6 +17,14 @@ use Rattle.merc_modes.specs.Sweeps.{Extends, BindsGone, AreGone, Swept, marked_b
 use Rattle.merc_modes.specs.declared.facts.Facts.{Facts}
 use Rattle.merc_modes.proofs.Conjunctions.{gone_of, left_length, go_on, marked_of_gone, swept_ready, swept_stuck, gone_ready}
 use Rattle.merc_modes.proofs.Marking.{known_goal, known_length, all_subgoals_length, parts_length}
+
+pub not_true : (b : Bool) → not b ≡ true → b ≡ false
+not_true true h = cc
+not_true false h = refl
+
+pub not_false : (b : Bool) → not b ≡ false → b ≡ true
+not_false true h = refl
+not_false false h = cc
 
 -- What was bound since is unbound.
 pub undone : (old new : List ℕ) (mark : ℕ) → Extends old new → mark ≡ length old → take mark new ≡ old

@@ -8,11 +8,11 @@ use Rattle.merc_order.specs.Procedures.{modes_of}
 use Rattle.merc_modes.specs.Asking.{Asked, AskedParts}
 use Rattle.merc_modes.specs.Bounds.{all_behind}
 use Rattle.merc_modes.specs.Chains.{AskedArm, AskedLinks, IsOpen, IsReached, Told}
-use Rattle.merc_modes.specs.Facts.{AreFactsOf, all_subgoals}
+use Rattle.merc_modes.specs.Facts.{all_subgoals}
 use Rattle.merc_modes.specs.Sweeps.{Extends, AreGone, AreKnownFrom, During, DuringArms, DuringBeside}
 use Rattle.merc_modes.specs.declared.facts.Facts.{Facts}
 use Rattle.merc_modes.proofs.Asked.{asked_marked, parts_marked, marked_again}
-use Rattle.merc_modes.proofs.Asks.{undone, rest_nodes, rest_length, no_rest, list_length, own_known, gone_at_first, all_went, none_went, no_time_left}
+use Rattle.merc_modes.proofs.Asks.{not_true, not_false, undone, rest_nodes, rest_length, no_rest, list_length, own_known, gone_at_first, all_went, none_went, no_time_left}
 use Rattle.merc_modes.proofs.Binding.{extends_same, extends_on, extends_all, next_known}
 use Rattle.merc_modes.proofs.ChainLaws.{begin_chain, conditional_length}
 use Rattle.merc_modes.proofs.Conjunctions.{begin_sweep, end_sweep}
@@ -43,8 +43,7 @@ asking::advance-returns-clause-asked t c = λ total known m.
     let h = parts_length c.args.goal.now in
     let own_is : suc (c.part_count-own.result - 1) ≡ length (parts_of c.args.goal.now) = omega arith in
     let k = own_known total (modes_of c.args.predicates.now) c.args.goal.now c.args.facts.now (c.part_count-own.result - 1) c.index-facts-own.result known own_is c.index-facts-own.is in
-    let own_facts = subst (λ (f : Facts). AreFactsOf total (modes_of c.args.predicates.now) c.args.goal.now f) c.index-facts-own.is k.own_known in
-    let (is, marked) = c.in_ok-ready.ensures.asked total k.parts_known own_facts (parts_marked total (modes_of c.args.predicates.now) c.args.goal.now c.args.marks.now (among c.args.bound.now) (c.part_count-own.result - 1) own_is c.if-marks-own.false m) in
+    let (is, marked) = c.in_ok-ready.ensures.asked total k.parts_known k.own_known (parts_marked total (modes_of c.args.predicates.now) c.args.goal.now c.args.marks.now (among c.args.bound.now) (c.part_count-own.result - 1) own_is c.if-marks-own.false m) in
     (is, marked_again total (modes_of c.args.predicates.now) c.args.goal.now c.args.marks.now c.advance_parts.new.marks (among c.args.bound.now) (c.part_count-own.result - 1) c.in_ok-ready.ready own_is m is marked)
 
 pub asking::advance_arms-returns-then-not-branch-clause-asked : goal.asking::advance_arms-returns-then-not-branch-clause-asked
@@ -90,7 +89,7 @@ asking::advance_arms-returns-clause-asked t c = λ span total known own_known m.
 
 pub asking::advance_beside-loop-goal-init : goal.asking::advance_beside-loop-goal-init
 asking::advance_beside-loop-goal-init t c = record {
-  at_is = refl;
+  at_is = omega arith;
   extends = extends_same c.args.bound.now;
   during = λ total span known m. (
     record { front = []; back = c.args.facts.now; at_is = refl; facts_are = refl; known = known },
@@ -292,9 +291,7 @@ chains::advance_links-returns-then-not-branch-clause-asked t c = λ total known 
     let asked =
         subst (λ r. AskedArm c.args.predicates.now c.in-Some.link.condition c.in-Some.link.then_part (slice_range c.args.facts.now c.loop-link.at (c.loop-link.at + c.part_count.result + c.part_count-in-Some.result)) c.index-facts-end.result (slice_range c.loop-link.marks c.loop-link.at (c.loop-link.at + c.part_count.result + c.part_count-in-Some.result)) c.advance_arm.new.marks (among c.args.bound.now) r) c.if-not-branch.true
         (subst (λ b. AskedArm c.args.predicates.now c.in-Some.link.condition c.in-Some.link.then_part (slice_range c.args.facts.now c.loop-link.at (c.loop-link.at + c.part_count.result + c.part_count-in-Some.result)) c.index-facts-end.result (slice_range c.loop-link.marks c.loop-link.at (c.loop-link.at + c.part_count.result + c.part_count-in-Some.result)) c.advance_arm.new.marks (among b)
-        c.in_ok-advance_arm.field-0) c.loop-link.invariant.same
-        (subst (λ (f : Facts). AskedArm c.args.predicates.now c.in-Some.link.condition c.in-Some.link.then_part (slice_range c.args.facts.now c.loop-link.at (c.loop-link.at + c.part_count.result + c.part_count-in-Some.result)) f (slice_range c.loop-link.marks c.loop-link.at (c.loop-link.at + c.part_count.result + c.part_count-in-Some.result)) c.advance_arm.new.marks (among c.loop-link.bound)
-        c.in_ok-advance_arm.field-0) (sym c.index-facts-end.is) c.in_ok-advance_arm.ensures.asked)) in
+        c.in_ok-advance_arm.field-0) c.loop-link.invariant.same c.in_ok-advance_arm.ensures.asked) in
     link_stops c.args.predicates.now c.args.goal.now c.loop-link.last c.in-Some.link.condition c.in-Some.link.then_part c.in-Some.link.else_part (span_of c.loop-link.last) c.args.facts.now c.loop-link.marks c.advance_arm.new.marks c.loop-link.at c.loop-link.end (c.loop-link.at + c.part_count.result + c.part_count-in-Some.result) ((c.loop-link.at + c.part_count.result + c.part_count-in-Some.result) - c.loop-link.at) (among c.args.bound.now) c.index-facts-end.result
     last_is end_is c.in-Some.ensures.0 next_is size_is own_is c.index-facts-end.is asked total (c.loop-link.invariant.chain total known m)
 
@@ -312,9 +309,7 @@ chains::advance_links-loop-link-preserved t c =
     let asked =
         subst (λ r. AskedArm c.args.predicates.now c.in-Some.link.condition c.in-Some.link.then_part (slice_range c.args.facts.now c.loop-link.at (c.loop-link.at + c.part_count.result + c.part_count-in-Some.result)) c.index-facts-end.result (slice_range c.loop-link.marks c.loop-link.at (c.loop-link.at + c.part_count.result + c.part_count-in-Some.result)) c.advance_arm.new.marks (among c.args.bound.now) r) c.if-not-branch.false
         (subst (λ b. AskedArm c.args.predicates.now c.in-Some.link.condition c.in-Some.link.then_part (slice_range c.args.facts.now c.loop-link.at (c.loop-link.at + c.part_count.result + c.part_count-in-Some.result)) c.index-facts-end.result (slice_range c.loop-link.marks c.loop-link.at (c.loop-link.at + c.part_count.result + c.part_count-in-Some.result)) c.advance_arm.new.marks (among b)
-        c.in_ok-advance_arm.field-0) c.loop-link.invariant.same
-        (subst (λ (f : Facts). AskedArm c.args.predicates.now c.in-Some.link.condition c.in-Some.link.then_part (slice_range c.args.facts.now c.loop-link.at (c.loop-link.at + c.part_count.result + c.part_count-in-Some.result)) f (slice_range c.loop-link.marks c.loop-link.at (c.loop-link.at + c.part_count.result + c.part_count-in-Some.result)) c.advance_arm.new.marks (among c.loop-link.bound)
-        c.in_ok-advance_arm.field-0) (sym c.index-facts-end.is) c.in_ok-advance_arm.ensures.asked)) in
+        c.in_ok-advance_arm.field-0) c.loop-link.invariant.same c.in_ok-advance_arm.ensures.asked) in
     record {
       end_is = own_is;
       room = let room = c.loop-link.invariant.room in omega arith;
@@ -396,13 +391,13 @@ pub sweeping::sweep_all-returns-then-not-swept-clause-asked : goal.sweeping::swe
 sweeping::sweep_all-returns-then-not-swept-clause-asked t c = λ total start span known gone.
     all_went total (modes_of c.args.predicates.now) (nodes_of c.args.goals.now) start c.sweep_once.new.marks (among c.sweep_once.new.bound) c.in_ok-swept.swept.is_new c.in_ok-swept.swept.is_left (length c.args.goals.now - c.loop-round._round) span
     (c.in_ok-swept.ensures.sweeps total start (length c.args.goals.now - c.loop-round._round) known
-    (c.loop-round.invariant.gone total start known (subst (λ n. AreGone total (modes_of c.args.predicates.now) (nodes_of c.args.goals.now) start c.args.marks.now (among c.args.bound.now) n) (list_length c.args.goals.now) gone))) c.if-not-swept.true
+    (c.loop-round.invariant.gone total start known (subst (λ n. AreGone total (modes_of c.args.predicates.now) (nodes_of c.args.goals.now) start c.args.marks.now (among c.args.bound.now) n) (list_length c.args.goals.now) gone))) (not_true c.in_ok-swept.swept.is_left c.if-not-swept.true)
 
 pub sweeping::sweep_all-returns-then-not-swept-2-clause-asked : goal.sweeping::sweep_all-returns-then-not-swept-2-clause-asked
 sweeping::sweep_all-returns-then-not-swept-2-clause-asked t c = λ total start span known gone.
     none_went total (modes_of c.args.predicates.now) (nodes_of c.args.goals.now) start c.sweep_once.new.marks (among c.sweep_once.new.bound) c.in_ok-swept.swept.is_new c.in_ok-swept.swept.is_left (length c.args.goals.now - c.loop-round._round) span
     (c.in_ok-swept.ensures.sweeps total start (length c.args.goals.now - c.loop-round._round) known
-    (c.loop-round.invariant.gone total start known (subst (λ n. AreGone total (modes_of c.args.predicates.now) (nodes_of c.args.goals.now) start c.args.marks.now (among c.args.bound.now) n) (list_length c.args.goals.now) gone))) c.if-not-swept.false c.if-not-swept-2.true
+    (c.loop-round.invariant.gone total start known (subst (λ n. AreGone total (modes_of c.args.predicates.now) (nodes_of c.args.goals.now) start c.args.marks.now (among c.args.bound.now) n) (list_length c.args.goals.now) gone))) (not_false c.in_ok-swept.swept.is_left c.if-not-swept.false) (not_true c.in_ok-swept.swept.is_new c.if-not-swept-2.true)
 
 pub sweeping::sweep_all-returns-clause-asked : goal.sweeping::sweep_all-returns-clause-asked
 sweeping::sweep_all-returns-clause-asked t c = λ total start span known gone.
@@ -411,7 +406,7 @@ sweeping::sweep_all-returns-clause-asked t c = λ total start span known gone.
 
 pub sweeping::sweep_once-loop-goal-init : goal.sweeping::sweep_once-loop-goal-init
 sweeping::sweep_once-loop-goal-init t c = record {
-  at_is = refl;
+  at_is = omega arith;
   extends = extends_same c.args.bound.now;
   during = λ total start count known gone. (
     record { front = []; back = c.args.facts.now; at_is = refl; facts_are = refl; known = known },
