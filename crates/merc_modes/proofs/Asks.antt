@@ -58,10 +58,10 @@ module _ (total : ℕ → ℕ) (modes : ℕ → List ModeDecl) where
   own_known goal facts own found known h is =
       let g = known_goal total modes goal facts known in
       let place : length g.inner ≡ own =
-          let one = known_length total modes (all_subgoals (joined_by goal)) g.inner g.inner_known in
-          let two = all_subgoals_length (joined_by goal) in
-          let three = parts_length goal in
-          omega arith in
+      let one = known_length total modes (all_subgoals (joined_by goal)) g.inner g.inner_known in
+      let two = all_subgoals_length (joined_by goal) in
+      let three = parts_length goal in
+      omega arith in
       let same : found ≡ g.own = is ∙ ap (λ l. slice_index_or l own found) g.facts_are ∙ get_or_at g.inner g.own [] found own place in
       record {
         parts_known = subst (λ l. AreKnown total modes (all_subgoals (joined_by goal)) l) (sym (ap (λ l. take own l) g.facts_are ∙ take_at g.inner (g.own ∷ []) own place)) g.inner_known;

@@ -90,7 +90,7 @@ module _ (total : ℕ → ℕ) (modes : ℕ → List ModeDecl) where
       let front_is = o.at_is in
       let place : length o.front + length (flags_of m.inner) ≡ end - 1 = omega arith in
       let went : m.went ≡ false =
-          sym (ap (λ l. slice_index_or l (end - 1) false) whole ∙ own_mark o.front (flags_of m.inner) m.went o.back (end - 1) false place) ∙ mark in
+      sym (ap (λ l. slice_index_or l (end - 1) false) whole ∙ own_mark o.front (flags_of m.inner) m.went o.back (end - 1) false place) ∙ mark in
       let parts = link_marked total modes condition then_part else_part span (flags_of m.inner) bound (record {
         inner = m.inner;
         fits = m.fits;
@@ -99,8 +99,8 @@ module _ (total : ℕ → ℕ) (modes : ℕ → List ModeDecl) where
       }) in
       let arm_long = arm_length total modes condition then_part parts.arm bound parts.arm_marked in
       let known = known_on total modes (subgoals condition ++ subgoals then_part) (subgoals else_part ++ link ∷ ends o.links link) facts at next
-          (subst (λ l. AreKnownFrom total modes l facts at) (link_parts condition then_part else_part span (ends o.links link)) o.known)
-          (let total_is = arm_parts total modes condition then_part (length (parts_of condition) + length (parts_of then_part)) refl in omega arith) in
+      (subst (λ l. AreKnownFrom total modes l facts at) (link_parts condition then_part else_part span (ends o.links link)) o.known)
+      (let total_is = arm_parts total modes condition then_part (length (parts_of condition) + length (parts_of then_part)) refl in omega arith) in
       record {
         links = o.links;
         front = o.front;
@@ -161,8 +161,8 @@ module _ (total : ℕ → ℕ) (modes : ℕ → List ModeDecl) where
       let told = told_link total modes condition then_part else_part span new o.rest bound false marked o.else_marked (not_by_arm total modes condition then_part else_part span bound not_ready) in
       let all = close_stuck o.links link o.front (new ++ (o.rest ++ false ∷ [])) o.back bound o.linked told in
       let same : o.front ++ ((new ++ (o.rest ++ false ∷ [])) ++ o.back) ≡ put_mid at size flags new =
-          ap (λ l. o.front ++ l) (append_assoc new (o.rest ++ false ∷ []) o.back ∙ ap (λ l. new ++ l) (append_assoc o.rest (false ∷ []) o.back))
-          ∙ sym (arm_put goal condition then_part else_part span flags facts at next size bound new o h) in
+      ap (λ l. o.front ++ l) (append_assoc new (o.rest ++ false ∷ []) o.back ∙ ap (λ l. new ++ l) (append_assoc o.rest (false ∷ []) o.back))
+      ∙ sym (arm_put goal condition then_part else_part span flags facts at next size bound new o h) in
       subst (λ l. Told total modes goal l bound false) same
       (subst (λ n. Told total modes n (o.front ++ ((new ++ (o.rest ++ false ∷ [])) ++ o.back)) bound false) (sym o.goal_is) all)
 

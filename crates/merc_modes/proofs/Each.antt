@@ -173,9 +173,9 @@ module _ (total : ℕ → ℕ) (modes : ℕ → List ModeDecl) where
   arm_stuck goals span bound goal rest flags at size new d h is m =
       let n = next_arm goals bound goal rest flags at d in
       let (whole, whole_fits, whole_flags, whole_sound) =
-          n.close (more_marks m.went m.inner n.next.others) (more goal rest m.went m.inner n.next.others m.fits n.next.fits_others) (m.sound, n.sound_others) in (
+      n.close (more_marks m.went m.inner n.next.others) (more goal rest m.went m.inner n.next.others m.fits n.next.fits_others) (m.sound, n.sound_others) in (
         disjunction_ready goals span bound
-        ∙ ap (λ b. b && agree total modes bound (all_variables goals) (arms total modes goals)) (n.ready ∙ first_stuck (from total modes goal bound) (each_from (moves total modes rest) bound) is),
+            ∙ ap (λ b. b && agree total modes bound (all_variables goals) (arms total modes goals)) (n.ready ∙ first_stuck (from total modes goal bound) (each_from (moves total modes rest) bound) is),
         record {
           inner = whole;
           fits = whole_fits;
@@ -265,9 +265,9 @@ module _ (total : ℕ → ℕ) (modes : ℕ → List ModeDecl) where
   stuck_beside goals span bound goal rest flags at size now new d h is m =
       let n = next_beside goals bound goal rest flags at now d in
       let (whole, whole_fits, whole_flags, whole_sound) =
-          n.close (more_marks m.went m.inner n.next.others) (more goal rest m.went m.inner n.next.others m.fits n.next.fits_others) (m.sound, n.sound_others) in (
+      n.close (more_marks m.went m.inner n.next.others) (more goal rest m.went m.inner n.next.others m.fits n.next.fits_others) (m.sound, n.sound_others) in (
         parallel_ready goals span bound ∙ n.ready
-        ∙ beside_stuck n.number (move_of total modes goal) (moves total modes rest) now (from total modes goal now) (beside (n.number + 1) (moves total modes rest) (with now (binds total modes goal))) is,
+            ∙ beside_stuck n.number (move_of total modes goal) (moves total modes rest) now (from total modes goal now) (beside (n.number + 1) (moves total modes rest) (with now (binds total modes goal))) is,
         record {
           inner = whole;
           fits = whole_fits;

@@ -74,16 +74,16 @@ then_asked predicates condition then_part facts own found flags new later first 
     let (is, told) = asked total k.first_known (arm_first total modes condition then_part flags (among old) first m h) in
     let long : length new ≡ first = flags_length total modes condition new (among old) told.0 ∙ sym h in
     let behind : among (all_behind old found.binds) ≡ with (among old) (binds total modes condition) =
-        bound_by_first total modes condition (subgoals then_part) facts (first - 1) old found known own_is found_is in
+    bound_by_first total modes condition (subgoals then_part) facts (first - 1) old found known own_is found_is in
     let then_known = subst (λ l. AreKnown total modes (subgoals then_part) l) (sym (take_rest facts first)) k.rest_known in
     let then_marked = subst (λ b. IsMarked total modes then_part (slice_range (new ++ drop first flags) first (length (new ++ drop first flags))) b) (sym behind)
-        (subst (λ l. IsMarked total modes then_part l (with (among old) (binds total modes condition))) (sym (behind_is new (drop first flags) first long))
-        (arm_second total modes condition then_part flags (among old) first m h)) in
+    (subst (λ l. IsMarked total modes then_part l (with (among old) (binds total modes condition))) (sym (behind_is new (drop first flags) first long))
+    (arm_second total modes condition then_part flags (among old) first m h)) in
     let (then_is, then_new) = then_told total then_known then_marked in (
       arm_by_then total modes condition then_part (among old) ready is (sym (own_known.owed_by_condition_are (among old)) ∙ owed)
-      (subst (λ b. is_ready (from total modes then_part b) ≡ ready) behind then_is),
+          (subst (λ b. is_ready (from total modes then_part b) ≡ ready) behind then_is),
       subst (λ l. AreArmMarked total modes condition then_part l (among old)) (sym (put_behind new (drop first flags) later first long))
-      (both_marked total modes condition then_part new later (among old) told.0 (subst (λ b. IsMarked total modes then_part later b) behind then_new.0)),
+          (both_marked total modes condition then_part new later (among old) told.0 (subst (λ b. IsMarked total modes then_part later b) behind then_new.0)),
     )
 
 -- an if-then-else by its two arms
@@ -150,7 +150,7 @@ negation_asked predicates goal span facts own flags new bound ready owed asked t
     let modes = modes_of predicates in
     let (is, told) = asked total (inner_known total modes goal facts known) (negation_inner total modes goal span flags bound m) in (
       negation_ready total modes goal span bound ∙ ap (λ b. b && binds_inside total modes bound (variables goal) (variables goal) (binds total modes goal)) is
-      ∙ sym (own_known.owed_are bound) ∙ owed,
+          ∙ sym (own_known.owed_are bound) ∙ owed,
       negation_marked total modes goal span new bound told.0,
     )
 

@@ -57,10 +57,10 @@ module _ (total : ℕ → ℕ) (modes : ℕ → List ModeDecl) where
       let k = binds_inside total modes bound (variables condition ++ variables then_part) (variables condition) (binds total modes condition) in
       let c = is_ready (from total modes condition bound) in
       ready_then (from total modes condition bound) _ (k && (t && (e && a)))
-          (λ first. ready_in k (t && (e && a)) _ (binds_outer (span_of condition))
-          (ready_then (from total modes then_part (with bound (binds total modes condition))) _ (e && a)
-          (λ second. ready_then (from total modes else_part bound) _ a
-          (λ third. ready_in a true _ (unbound_output span) refl ∙ and_true a))))
+      (λ first. ready_in k (t && (e && a)) _ (binds_outer (span_of condition))
+      (ready_then (from total modes then_part (with bound (binds total modes condition))) _ (e && a)
+      (λ second. ready_then (from total modes else_part bound) _ a
+      (λ third. ready_in a true _ (unbound_output span) refl ∙ and_true a))))
       ∙ sym (and_assoc c (k && t) (e && a) ∙ ap (λ b. c && b) (and_assoc k t (e && a)))
 
   -- marks of an arm, and how many they are
@@ -125,14 +125,19 @@ module _ (total : ℕ → ℕ) (modes : ℕ → List ModeDecl) where
       → IsMarked total modes else_part rest bound → is_ready (from total modes (Conditional condition then_part else_part span) bound) ≡ ready
       → Told total modes (Conditional condition then_part else_part span) (arm ++ (rest ++ ready ∷ [])) bound ready
   told_link condition then_part else_part span arm rest bound ready a m is =
-      let both = marked_link condition then_part else_part span arm rest bound a m in
-      (is, (record {
-        inner = both.inner;
-        went = ready;
-        fits = both.fits;
-        flags_are = sym (append_assoc arm rest (ready ∷ [])) ∙ ap (λ l. l ++ ready ∷ []) both.flags_are;
-        sound = part_by total modes (Conditional condition then_part else_part span) both.inner bound ready is both.sound;
-      }, refl))
+      let both = marked_link condition then_part else_part span arm rest bound a m in (
+        is,
+        (
+          record {
+            inner = both.inner;
+            went = ready;
+            fits = both.fits;
+            flags_are = sym (append_assoc arm rest (ready ∷ [])) ∙ ap (λ l. l ++ ready ∷ []) both.flags_are;
+            sound = part_by total modes (Conditional condition then_part else_part span) both.inner bound ready is both.sound;
+          },
+          refl,
+        ),
+      )
 
   -- What its parts tell of it.
 
@@ -246,8 +251,8 @@ module _ (total : ℕ → ℕ) (modes : ℕ → List ModeDecl) where
       let long : length cut.front ≡ length (parts_of goal) = known_length total modes (subgoals goal) cut.front cut.first_known ∙ subgoals_length goal in
       let place : length g.inner ≡ own = let one = ap length g.facts_are ∙ length-append g.inner (g.own ∷ []) in omega arith in
       let same : found ≡ g.own =
-          is ∙ ap (λ l. slice_index_or l own found) (cut.facts_are ∙ ap (λ l. l ++ cut.back) g.facts_are ∙ append_assoc g.inner (g.own ∷ []) cut.back)
-          ∙ get_or_at g.inner g.own cut.back found own place in
+      is ∙ ap (λ l. slice_index_or l own found) (cut.facts_are ∙ ap (λ l. l ++ cut.back) g.facts_are ∙ append_assoc g.inner (g.own ∷ []) cut.back)
+      ∙ get_or_at g.inner g.own cut.back found own place in
       ap (λ (f : Facts). among (all_behind old f.binds)) same ∙ bound_behind total modes goal g.own old g.own_known
 
   -- An if-then-else that is not marked, with the marks and facts of its two arms.

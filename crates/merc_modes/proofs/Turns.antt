@@ -38,7 +38,7 @@ arm_stops predicates arms index arm facts flags new at end size bound room item 
     let k = subst (λ n. AreKnownFrom total (modes_of predicates) (all_subgoals n) facts at) cut known in
     let d = subst (λ n. DuringArms total (modes_of predicates) (nodes_of arms) bound n flags at) cut during in
     let (is, told) = asked total (facts_of_next total (modes_of predicates) arm rest facts at end k end_is)
-        (arm_marked total (modes_of predicates) (nodes_of arms) bound arm rest flags at end d end_is) in
+    (arm_marked total (modes_of predicates) (nodes_of arms) bound arm rest flags at end d end_is) in
     arm_stuck total (modes_of predicates) (nodes_of arms) span bound arm rest flags at size new d size_is is told.0
 
 pub arm_goes : (predicates : List PredDecl) (arms : List Node) (index : ℕ) (arm : Node) (facts : List Facts) (flags new : List Bool) (at end size : ℕ) (bound : Bound)
@@ -54,10 +54,10 @@ arm_goes predicates arms index arm facts flags new at end size bound room item e
     let k = subst (λ n. AreKnownFrom total (modes_of predicates) (all_subgoals n) facts at) cut known in
     let d = subst (λ n. DuringArms total (modes_of predicates) (nodes_of arms) bound n flags at) cut during in
     let (is, told) = asked total (facts_of_next total (modes_of predicates) arm rest facts at end k end_is)
-        (arm_marked total (modes_of predicates) (nodes_of arms) bound arm rest flags at end d end_is) in (
+    (arm_marked total (modes_of predicates) (nodes_of arms) bound arm rest flags at end d end_is) in (
       subst (λ n. AreKnownFrom total (modes_of predicates) (all_subgoals rest) facts n) (sym end_is) (next_known total (modes_of predicates) arm rest facts at k).others_known,
       subst (λ n. DuringArms total (modes_of predicates) (nodes_of arms) bound rest (put_mid at size flags new) n) (sym end_is)
-      (arm_on total (modes_of predicates) (nodes_of arms) bound arm rest flags at size new d size_is is told.0),
+          (arm_on total (modes_of predicates) (nodes_of arms) bound arm rest flags at size new d size_is is told.0),
     )
 
 -- a goal in parallel
@@ -75,7 +75,7 @@ beside_stops predicates goals index goal facts flags new at end size bound now r
     let k = subst (λ n. AreKnownFrom total (modes_of predicates) (all_subgoals n) facts at) cut known in
     let d = subst (λ n. DuringBeside total (modes_of predicates) (nodes_of goals) bound n flags at now) cut during in
     let (is, told) = asked total (facts_of_next total (modes_of predicates) goal rest facts at end k end_is)
-        (beside_marked total (modes_of predicates) (nodes_of goals) bound goal rest flags at end now d end_is) in
+    (beside_marked total (modes_of predicates) (nodes_of goals) bound goal rest flags at end now d end_is) in
     stuck_beside total (modes_of predicates) (nodes_of goals) span bound goal rest flags at size now new d size_is is told.0
 
 pub beside_goes : (predicates : List PredDecl) (goals : List Node) (index : ℕ) (goal : Node) (facts : List Facts) (flags new : List Bool) (at end size : ℕ) (bound : Bound) (old : List ℕ)
@@ -92,12 +92,12 @@ beside_goes predicates goals index goal facts flags new at end size bound old fo
     let k = subst (λ n. AreKnownFrom total (modes_of predicates) (all_subgoals n) facts at) cut known in
     let d = subst (λ n. DuringBeside total (modes_of predicates) (nodes_of goals) bound n flags at (among old)) cut during in
     let (is, told) = asked total (facts_of_next total (modes_of predicates) goal rest facts at end k end_is)
-        (beside_marked total (modes_of predicates) (nodes_of goals) bound goal rest flags at end (among old) d end_is) in (
+    (beside_marked total (modes_of predicates) (nodes_of goals) bound goal rest flags at end (among old) d end_is) in (
       subst (λ n. AreKnownFrom total (modes_of predicates) (all_subgoals rest) facts n) (sym end_is) (next_known total (modes_of predicates) goal rest facts at k).others_known,
       subst (λ n. DuringBeside total (modes_of predicates) (nodes_of goals) bound rest (put_mid at size flags new) n (among (all_behind old found.binds))) (sym end_is)
-      (subst (λ b. DuringBeside total (modes_of predicates) (nodes_of goals) bound rest (put_mid at size flags new) (at + length (parts_of goal)) b)
-      (sym (bound_by_next total (modes_of predicates) goal rest facts at (end - 1) old found k own_is found_is))
-      (beside_on total (modes_of predicates) (nodes_of goals) bound goal rest flags at size (among old) new d size_is is told.0)),
+          (subst (λ b. DuringBeside total (modes_of predicates) (nodes_of goals) bound rest (put_mid at size flags new) (at + length (parts_of goal)) b)
+          (sym (bound_by_next total (modes_of predicates) goal rest facts at (end - 1) old found k own_is found_is))
+          (beside_on total (modes_of predicates) (nodes_of goals) bound goal rest flags at size (among old) new d size_is is told.0)),
     )
 
 -- a link of a chain
@@ -111,8 +111,8 @@ pub link_stops : (predicates : List PredDecl) (goal last condition then_part els
 link_stops predicates goal last condition then_part else_part span facts flags new at end next size bound found last_is end_is mark next_is size_is own_is found_is asked total open_chain =
     let o = open_link total (modes_of predicates) goal last condition then_part else_part span flags facts at end next bound open_chain last_is end_is mark next_is in
     let (is, marked) = asked total else_part span o.arm_known
-        (link_facts total (modes_of predicates) goal condition then_part else_part span flags facts at next (end - 1) bound found o own_is found_is)
-        (arm_marks total (modes_of predicates) goal condition then_part else_part span flags facts at next bound o) in
+    (link_facts total (modes_of predicates) goal condition then_part else_part span flags facts at next (end - 1) bound found o own_is found_is)
+    (arm_marks total (modes_of predicates) goal condition then_part else_part span flags facts at next bound o) in
     link_stuck total (modes_of predicates) goal condition then_part else_part span flags facts at next size bound new o size_is is marked
 
 pub link_goes : (predicates : List PredDecl) (goal last condition then_part else_part : Node) (span : Span) (facts : List Facts) (flags new : List Bool) (at end next size : ℕ) (bound : Bound)
@@ -124,8 +124,8 @@ pub link_goes : (predicates : List PredDecl) (goal last condition then_part else
 link_goes predicates goal last condition then_part else_part span facts flags new at end next size bound found last_is end_is mark next_is size_is own_is found_is asked total open_chain =
     let o = open_link total (modes_of predicates) goal last condition then_part else_part span flags facts at end next bound open_chain last_is end_is mark next_is in
     let (is, marked) = asked total else_part span o.arm_known
-        (link_facts total (modes_of predicates) goal condition then_part else_part span flags facts at next (end - 1) bound found o own_is found_is)
-        (arm_marks total (modes_of predicates) goal condition then_part else_part span flags facts at next bound o) in
+    (link_facts total (modes_of predicates) goal condition then_part else_part span flags facts at next (end - 1) bound found o own_is found_is)
+    (arm_marks total (modes_of predicates) goal condition then_part else_part span flags facts at next bound o) in
     link_on total (modes_of predicates) goal condition then_part else_part span flags facts at next size bound new o size_is is marked
 
 -- the last else part
@@ -154,7 +154,7 @@ pub member_stays : (predicates : List PredDecl) (goal : Node) (facts : List Fact
     → During total (modes_of predicates) goals start rest (put_mid at size flags new) (at + length (parts_of goal)) now is_new true count
 member_stays predicates goal facts flags new at own end size now is_new is_left own_is end_is size_is mark asked total goals rest start count known d =
     let (is, told) = asked total (facts_of_next total (modes_of predicates) goal rest facts at end known end_is)
-        (marks_of_next total (modes_of predicates) goals start goal rest flags at now is_new is_left count own end d own_is end_is mark) in
+    (marks_of_next total (modes_of predicates) goals start goal rest flags at now is_new is_left count own end d own_is end_is mark) in
     step_left total (modes_of predicates) goals start goal rest flags at now is_new is_left count own size new d own_is mark size_is is told.0 told.1
 
 pub member_goes : (predicates : List PredDecl) (goal : Node) (facts : List Facts) (flags new : List Bool) (at own end size : ℕ) (old : List ℕ) (found : Facts) (is_new is_left : Bool)
@@ -165,7 +165,7 @@ pub member_goes : (predicates : List PredDecl) (goal : Node) (facts : List Facts
     → During total (modes_of predicates) goals start rest (put_mid at size flags new) (at + length (parts_of goal)) (among (all_behind old found.binds)) true is_left count
 member_goes predicates goal facts flags new at own end size old found is_new is_left own_is end_is size_is mark found_is asked total goals rest start count known d =
     let (is, told) = asked total (facts_of_next total (modes_of predicates) goal rest facts at end known end_is)
-        (marks_of_next total (modes_of predicates) goals start goal rest flags at (among old) is_new is_left count own end d own_is end_is mark) in
+    (marks_of_next total (modes_of predicates) goals start goal rest flags at (among old) is_new is_left count own end d own_is end_is mark) in
     subst (λ b. During total (modes_of predicates) goals start rest (put_mid at size flags new) (at + length (parts_of goal)) b true is_left count)
     (sym (bound_by_next total (modes_of predicates) goal rest facts at own old found known own_is found_is))
     (step_on total (modes_of predicates) goals start goal rest flags at (among old) is_new is_left count own size new d own_is mark size_is is told.0 told.1)

@@ -5,6 +5,7 @@ pub mod CallModeCode
 pub mod Facts
 pub mod Sweeps
 pub mod Chains
+pub mod ChainsExamples
 pub mod Reaches
 pub mod Occurring
 pub mod OccurringExamples

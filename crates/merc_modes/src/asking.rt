@@ -43,7 +43,15 @@ pub(crate) fn advance(
     if marks[own] {
         return Ok(true);
     }
-    let ready = advance_parts(alloc, predicates, goal, &facts[..own], &facts[own], &mut marks[..own], bound)?;
+    let ready = advance_parts(
+        alloc,
+        predicates,
+        goal,
+        &facts[..own],
+        &facts[own],
+        &mut marks[..own],
+        bound,
+    )?;
     marks[own] = ready;
     Ok(ready)
 }
@@ -87,7 +95,10 @@ fn advance_parts(
             advance_decision(alloc, predicates, &link, facts, own, marks, bound)
         }
         NodeView::Negation(inner) => {
-            Ok(advance(alloc, predicates, &inner, facts, marks, bound)? && bound.are_bound(own.owed.as_slice()))
+            Ok(
+                advance(alloc, predicates, &inner, facts, marks, bound)?
+                    && bound.are_bound(own.owed.as_slice()),
+            )
         }
         NodeView::Quantified(_, inner) => advance(alloc, predicates, &inner, facts, marks, bound),
     }
@@ -112,7 +123,14 @@ fn advance_beside(
     let mut at = 0;
     for goal in goals {
         let end = at + goal.part_count();
-        if !advance(alloc, predicates, goal, &facts[at..end], &mut marks[at..end], bound)? {
+        if !advance(
+            alloc,
+            predicates,
+            goal,
+            &facts[at..end],
+            &mut marks[at..end],
+            bound,
+        )? {
             bound.undo(before);
             return Ok(false);
         }
@@ -142,7 +160,14 @@ fn advance_arms(
     let mut at = 0;
     for arm in arms {
         let end = at + arm.part_count();
-        if !advance(alloc, predicates, arm, &facts[at..end], &mut marks[at..end], bound)? {
+        if !advance(
+            alloc,
+            predicates,
+            arm,
+            &facts[at..end],
+            &mut marks[at..end],
+            bound,
+        )? {
             return Ok(false);
         }
         at = end;

@@ -44,16 +44,31 @@ pub(crate) fn advance_decision(
     ensures asked { IfOk result (λ ready. (span : Span) → AskedParts predicates.now (Conditional link.now.condition link.now.then_part link.now.else_part span) facts.now own.now marks.old marks.new (among bound.old) ready) }
 {
     let first = link.condition.part_count() + link.then_part.part_count();
-    if !advance_arm(alloc, predicates, link, &facts[..first], own, &mut marks[..first], bound)? {
+    if !advance_arm(
+        alloc,
+        predicates,
+        link,
+        &facts[..first],
+        own,
+        &mut marks[..first],
+        bound,
+    )? {
         return Ok(false);
     }
-    if !advance_chain(alloc, predicates, &link.else_part, &facts[first..], &mut marks[first..], bound)? {
+    if !advance_chain(
+        alloc,
+        predicates,
+        &link.else_part,
+        &facts[first..],
+        &mut marks[first..],
+        bound,
+    )? {
         return Ok(false);
     }
     Ok(bound.are_bound(own.owed.as_slice()))
 }
 
-// Asks the condition and, where that is bound what it binds, the then part. The condition may not bind what is owed.
+// Asks the condition and, where what it binds is bound too, the then part. What the condition owes has to be bound.
 #[cycle(asking)]
 fn advance_arm(
     alloc: Global,
@@ -70,7 +85,14 @@ fn advance_arm(
     ensures asked { IfOk result (λ ready. AskedArm predicates.now link.now.condition link.now.then_part facts.now own.now marks.old marks.new (among bound.old) ready) }
 {
     let first = link.condition.part_count();
-    if !advance(alloc, predicates, &link.condition, &facts[..first], &mut marks[..first], bound)? {
+    if !advance(
+        alloc,
+        predicates,
+        &link.condition,
+        &facts[..first],
+        &mut marks[..first],
+        bound,
+    )? {
         return Ok(false);
     }
     if !bound.are_bound(own.owed_by_condition.as_slice()) {
@@ -78,7 +100,14 @@ fn advance_arm(
     }
     let before = bound.mark();
     bound.bind_all(facts[first - 1].binds.as_slice())?;
-    let ready = advance(alloc, predicates, &link.then_part, &facts[first..], &mut marks[first..], bound)?;
+    let ready = advance(
+        alloc,
+        predicates,
+        &link.then_part,
+        &facts[first..],
+        &mut marks[first..],
+        bound,
+    )?;
     bound.undo(before);
     Ok(ready)
 }
@@ -105,8 +134,8 @@ fn advance_chain(
     }
 }
 
-// Asks the conditions and then parts of a chain, and the last else part. The index behind the marks of the else part behind
-// which nothing is left to be asked, None where one is not ready.
+// Asks the conditions and then parts of a chain, from the first on, and its last else part. None where one is not ready,
+// else the index from which on the if-then-elses have their own marks that are still to be asked.
 #[cycle(asking)]
 fn advance_links(
     alloc: Global,
@@ -127,13 +156,28 @@ fn advance_links(
     while let Some(link) = open_link(&last, marks[end - 1]) {
         let next = at + link.condition.part_count() + link.then_part.part_count();
         end -= 1;
-        if !advance_arm(alloc, predicates, &link, &facts[at..next], &facts[end], &mut marks[at..next], bound)? {
+        if !advance_arm(
+            alloc,
+            predicates,
+            &link,
+            &facts[at..next],
+            &facts[end],
+            &mut marks[at..next],
+            bound,
+        )? {
             return Ok(None);
         }
         at = next;
         last = link.else_part;
     }
-    if advance(alloc, predicates, &last, &facts[at..end], &mut marks[at..end], bound)? {
+    if advance(
+        alloc,
+        predicates,
+        &last,
+        &facts[at..end],
+        &mut marks[at..end],
+        bound,
+    )? {
         Ok(Some(end))
     } else {
         Ok(None)
@@ -157,8 +201,8 @@ fn open_link<'a>(goal: &NodeRef<'a>, is_marked: bool) -> Option<Link<'a>>
     }
 }
 
-// Whether the if-then-elses of a chain are ready whose parts are, from the last to the first. Their own marks stand from this
-// index on.
+// Whether the if-then-elses of a chain are ready whose parts are: from the last to the first, as their own marks stand from
+// this index on.
 fn close_links(facts: &[Facts], marks: &mut [bool], bound: &BoundSet, end: usize) -> bool
     requires { length facts.now ≡ length marks.old }
     ensures { Closes facts.now marks.old marks.new (among bound.now) end result }

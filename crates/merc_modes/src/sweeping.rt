@@ -129,7 +129,14 @@ fn ask_member(
     if marks[own] {
         return Ok(swept);
     }
-    if !advance(alloc, predicates, goal, &facts[at..end], &mut marks[at..end], bound)? {
+    if !advance(
+        alloc,
+        predicates,
+        goal,
+        &facts[at..end],
+        &mut marks[at..end],
+        bound,
+    )? {
         return Ok(Sweep {
             is_new: swept.is_new,
             is_left: true,

@@ -53,9 +53,9 @@ asking::advance_arms-returns-then-not-branch-clause-asked t c = λ span total kn
     let size_is : c.loop-arm.at + c.part_count.result - c.loop-arm.at ≡ length (parts_of c.arm-item.result) = let same = c.part_count.ensures in omega arith in
     let (k, d) = c.loop-arm.invariant.during total span known m in
     let asked =
-        subst (λ r. Asked c.args.predicates.now c.arm-item.result (slice_range c.args.facts.now c.loop-arm.at (c.loop-arm.at + c.part_count.result)) (slice_range c.loop-arm.marks c.loop-arm.at (c.loop-arm.at + c.part_count.result)) c.advance.new.marks (among c.args.bound.now) r) c.if-not-branch.true
-        (subst (λ b. Asked c.args.predicates.now c.arm-item.result (slice_range c.args.facts.now c.loop-arm.at (c.loop-arm.at + c.part_count.result)) (slice_range c.loop-arm.marks c.loop-arm.at (c.loop-arm.at + c.part_count.result))
-        c.advance.new.marks (among b) c.in_ok-advance.field-0) c.loop-arm.invariant.same c.in_ok-advance.ensures.asked) in
+    subst (λ r. Asked c.args.predicates.now c.arm-item.result (slice_range c.args.facts.now c.loop-arm.at (c.loop-arm.at + c.part_count.result)) (slice_range c.loop-arm.marks c.loop-arm.at (c.loop-arm.at + c.part_count.result)) c.advance.new.marks (among c.args.bound.now) r) c.if-not-branch.true
+    (subst (λ b. Asked c.args.predicates.now c.arm-item.result (slice_range c.args.facts.now c.loop-arm.at (c.loop-arm.at + c.part_count.result)) (slice_range c.loop-arm.marks c.loop-arm.at (c.loop-arm.at + c.part_count.result))
+    c.advance.new.marks (among b) c.in_ok-advance.field-0) c.loop-arm.invariant.same c.in_ok-advance.ensures.asked) in
     arm_stops c.args.predicates.now c.args.arms.now c.loop-arm.arm-index c.arm-item.result c.args.facts.now c.loop-arm.marks c.advance.new.marks c.loop-arm.at (c.loop-arm.at + c.part_count.result) (c.loop-arm.at + c.part_count.result - c.loop-arm.at) (among c.args.bound.now)
     room c.arm-item.is end_is size_is asked total span k d
 
@@ -65,9 +65,9 @@ asking::advance_arms-loop-arm-preserved t c =
     let end_is : c.loop-arm.at + c.part_count.result ≡ c.loop-arm.at + length (parts_of c.arm-item.result) = ap (λ n. c.loop-arm.at + n) c.part_count.ensures in
     let size_is : c.loop-arm.at + c.part_count.result - c.loop-arm.at ≡ length (parts_of c.arm-item.result) = let same = c.part_count.ensures in omega arith in
     let asked =
-        subst (λ r. Asked c.args.predicates.now c.arm-item.result (slice_range c.args.facts.now c.loop-arm.at (c.loop-arm.at + c.part_count.result)) (slice_range c.loop-arm.marks c.loop-arm.at (c.loop-arm.at + c.part_count.result)) c.advance.new.marks (among c.args.bound.now) r) c.if-not-branch.false
-        (subst (λ b. Asked c.args.predicates.now c.arm-item.result (slice_range c.args.facts.now c.loop-arm.at (c.loop-arm.at + c.part_count.result)) (slice_range c.loop-arm.marks c.loop-arm.at (c.loop-arm.at + c.part_count.result))
-        c.advance.new.marks (among b) c.in_ok-advance.field-0) c.loop-arm.invariant.same c.in_ok-advance.ensures.asked) in
+    subst (λ r. Asked c.args.predicates.now c.arm-item.result (slice_range c.args.facts.now c.loop-arm.at (c.loop-arm.at + c.part_count.result)) (slice_range c.loop-arm.marks c.loop-arm.at (c.loop-arm.at + c.part_count.result)) c.advance.new.marks (among c.args.bound.now) r) c.if-not-branch.false
+    (subst (λ b. Asked c.args.predicates.now c.arm-item.result (slice_range c.args.facts.now c.loop-arm.at (c.loop-arm.at + c.part_count.result)) (slice_range c.loop-arm.marks c.loop-arm.at (c.loop-arm.at + c.part_count.result))
+    c.advance.new.marks (among b) c.in_ok-advance.field-0) c.loop-arm.invariant.same c.in_ok-advance.ensures.asked) in
     record {
       at_is = let parts = rest_length c.args.arms.now c.loop-arm.arm-index c.arm-item.result room c.arm-item.is in let at_is = c.loop-arm.invariant.at_is in omega arith;
       same = c.in_ok-advance.ensures.same ∙ c.loop-arm.invariant.same;
@@ -84,7 +84,7 @@ asking::advance_arms-returns-clause-asked t c = λ span total known own_known m.
     let last = subst (λ n. DuringArms total (modes_of c.args.predicates.now) (nodes_of c.args.arms.now) (among c.args.bound.now) n c.loop-arm.marks c.loop-arm.at) none_left d in
     let (is, marked) = end_arms total (modes_of c.args.predicates.now) (nodes_of c.args.arms.now) span (among c.args.bound.now) c.loop-arm.marks c.loop-arm.at last in
     let told : are_bound (among c.args.bound.now) c.args.own.now.owed ≡ c.are_bound.result =
-        sym (c.are_bound.ensures ∙ ap (λ l. are_bound (among c.loop-arm.bound) l) c.as_slice.ensures ∙ ap (λ b. are_bound (among b) c.args.own.now.owed) c.loop-arm.invariant.same) in
+    sym (c.are_bound.ensures ∙ ap (λ l. are_bound (among c.loop-arm.bound) l) c.as_slice.ensures ∙ ap (λ b. are_bound (among b) c.args.own.now.owed) c.loop-arm.invariant.same) in
     (is ∙ sym (own_known.owed_are (among c.args.bound.now)) ∙ told, marked)
 
 pub asking::advance_beside-loop-goal-init : goal.asking::advance_beside-loop-goal-init
@@ -104,7 +104,7 @@ asking::advance_beside-returns-then-not-branch-clause-asked t c = λ span own to
     let size_is : c.loop-goal.at + c.part_count.result - c.loop-goal.at ≡ length (parts_of c.goal-item.result) = let same = c.part_count.ensures in omega arith in
     let (k, d) = c.loop-goal.invariant.during total span known m in
     let asked =
-        subst (λ r. Asked c.args.predicates.now c.goal-item.result (slice_range c.args.facts.now c.loop-goal.at (c.loop-goal.at + c.part_count.result)) (slice_range c.loop-goal.marks c.loop-goal.at (c.loop-goal.at + c.part_count.result)) c.advance.new.marks (among c.loop-goal.bound) r) c.if-not-branch.true c.in_ok-advance.ensures.asked in
+    subst (λ r. Asked c.args.predicates.now c.goal-item.result (slice_range c.args.facts.now c.loop-goal.at (c.loop-goal.at + c.part_count.result)) (slice_range c.loop-goal.marks c.loop-goal.at (c.loop-goal.at + c.part_count.result)) c.advance.new.marks (among c.loop-goal.bound) r) c.if-not-branch.true c.in_ok-advance.ensures.asked in
     beside_stops c.args.predicates.now c.args.goals.now c.loop-goal.goal-index c.goal-item.result c.args.facts.now c.loop-goal.marks c.advance.new.marks c.loop-goal.at (c.loop-goal.at + c.part_count.result) (c.loop-goal.at + c.part_count.result - c.loop-goal.at) (among c.args.bound.now) (among c.loop-goal.bound)
     room c.goal-item.is end_is size_is asked total span k d
 
@@ -128,10 +128,10 @@ asking::advance_beside-loop-goal-preserved t c =
     let h = parts_length c.goal-item.result in
     let own_is : suc (c.loop-goal.at + c.part_count.result - 1) ≡ c.loop-goal.at + length (parts_of c.goal-item.result) = let same = c.part_count.ensures in omega arith in
     let asked =
-        subst (λ r. Asked c.args.predicates.now c.goal-item.result (slice_range c.args.facts.now c.loop-goal.at (c.loop-goal.at + c.part_count.result)) (slice_range c.loop-goal.marks c.loop-goal.at (c.loop-goal.at + c.part_count.result)) c.advance.new.marks (among c.loop-goal.bound) r) c.if-not-branch.false c.in_ok-advance.ensures.asked in
+    subst (λ r. Asked c.args.predicates.now c.goal-item.result (slice_range c.args.facts.now c.loop-goal.at (c.loop-goal.at + c.part_count.result)) (slice_range c.loop-goal.marks c.loop-goal.at (c.loop-goal.at + c.part_count.result)) c.advance.new.marks (among c.loop-goal.bound) r) c.if-not-branch.false c.in_ok-advance.ensures.asked in
     let set : c.bind_all.new.self ≡ all_behind c.loop-goal.bound c.index-facts-end.result.binds =
-        c.in_ok-bind_all.ensures ∙ ap (λ b. all_behind b c.as_slice.result.now) c.in_ok-advance.ensures.same ∙ ap (λ l. all_behind c.loop-goal.bound l) c.as_slice.ensures
-        ∙ ap (λ (f : Facts). all_behind c.loop-goal.bound f.binds) (sym c.index-facts-end.is) in
+    c.in_ok-bind_all.ensures ∙ ap (λ b. all_behind b c.as_slice.result.now) c.in_ok-advance.ensures.same ∙ ap (λ l. all_behind c.loop-goal.bound l) c.as_slice.ensures
+    ∙ ap (λ (f : Facts). all_behind c.loop-goal.bound f.binds) (sym c.index-facts-end.is) in
     record {
       at_is = let parts = rest_length c.args.goals.now c.loop-goal.goal-index c.goal-item.result room c.goal-item.is in let at_is = c.loop-goal.invariant.at_is in let same = c.part_count.ensures in omega arith;
       extends = extends_on c.args.bound.now c.loop-goal.bound c.bind_all.new.self c.loop-goal.invariant.extends
@@ -139,9 +139,11 @@ asking::advance_beside-loop-goal-preserved t c =
       during = λ total span known m.
           let (k, d) = c.loop-goal.invariant.during total span known m in
           let (on, going) = beside_goes c.args.predicates.now c.args.goals.now c.loop-goal.goal-index c.goal-item.result c.args.facts.now c.loop-goal.marks c.advance.new.marks c.loop-goal.at (c.loop-goal.at + c.part_count.result) (c.loop-goal.at + c.part_count.result - c.loop-goal.at) (among c.args.bound.now) c.loop-goal.bound c.index-facts-end.result
-              room c.goal-item.is end_is size_is own_is c.index-facts-end.is asked total k d in
-          (on, subst (λ b. DuringBeside total (modes_of c.args.predicates.now) (nodes_of c.args.goals.now) (among c.args.bound.now) (nodes_of (drop (c.loop-goal.goal-index + 1) c.args.goals.now))
-          (put_mid c.loop-goal.at (c.loop-goal.at + c.part_count.result - c.loop-goal.at) c.loop-goal.marks c.advance.new.marks) (c.loop-goal.at + c.part_count.result) (among b)) (sym set) going);
+          room c.goal-item.is end_is size_is own_is c.index-facts-end.is asked total k d in (
+            on,
+            subst (λ b. DuringBeside total (modes_of c.args.predicates.now) (nodes_of c.args.goals.now) (among c.args.bound.now) (nodes_of (drop (c.loop-goal.goal-index + 1) c.args.goals.now))
+                (put_mid c.loop-goal.at (c.loop-goal.at + c.part_count.result - c.loop-goal.at) c.loop-goal.marks c.advance.new.marks) (c.loop-goal.at + c.part_count.result) (among b)) (sym set) going,
+          );
     }
 
 pub asking::advance_beside-returns-clause-asked : goal.asking::advance_beside-returns-clause-asked
@@ -154,21 +156,21 @@ asking::advance_beside-returns-clause-asked t c = λ span own total known own_kn
 pub asking::advance_parts-returns-in_ok-goals-in-Conjunction-clause-asked : goal.asking::advance_parts-returns-in_ok-goals-in-Conjunction-clause-asked
 asking::advance_parts-returns-in_ok-goals-in-Conjunction-clause-asked t c =
     let same : Conjunction (nodes_of c.deref.result.now) (span_of c.args.goal.now) ≡ c.args.goal.now =
-        ap (λ l. Conjunction (nodes_of l) (span_of c.args.goal.now)) (c.deref.ensures.value ∙ c.in_ok-goals-in-Conjunction.ensures) ∙ c.in-Conjunction.ensures in
+    ap (λ l. Conjunction (nodes_of l) (span_of c.args.goal.now)) (c.deref.ensures.value ∙ c.in_ok-goals-in-Conjunction.ensures) ∙ c.in-Conjunction.ensures in
     IfOk-weaker c.advance_all.result _ _
     (λ ready told. subst (λ (g : Node). AskedParts c.args.predicates.now g c.args.facts.now c.args.own.now c.args.marks.now c.advance_all.new.marks (among c.args.bound.now) ready) same (told (span_of c.args.goal.now) c.args.own.now)) c.advance_all.ensures.asked
 
 pub asking::advance_parts-returns-in_ok-goals-in-Parallel-clause-asked : goal.asking::advance_parts-returns-in_ok-goals-in-Parallel-clause-asked
 asking::advance_parts-returns-in_ok-goals-in-Parallel-clause-asked t c =
     let same : Parallel (nodes_of c.deref-in-Parallel.result.now) (span_of c.args.goal.now) ≡ c.args.goal.now =
-        ap (λ l. Parallel (nodes_of l) (span_of c.args.goal.now)) (c.deref-in-Parallel.ensures.value ∙ c.in_ok-goals-in-Parallel.ensures) ∙ c.in-Parallel.ensures in
+    ap (λ l. Parallel (nodes_of l) (span_of c.args.goal.now)) (c.deref-in-Parallel.ensures.value ∙ c.in_ok-goals-in-Parallel.ensures) ∙ c.in-Parallel.ensures in
     IfOk-weaker c.advance_beside.result _ _
     (λ ready told. subst (λ (g : Node). AskedParts c.args.predicates.now g c.args.facts.now c.args.own.now c.args.marks.now c.advance_beside.new.marks (among c.args.bound.now) ready) same (told (span_of c.args.goal.now) c.args.own.now)) c.advance_beside.ensures.asked
 
 pub asking::advance_parts-returns-then-branch-clause-asked : goal.asking::advance_parts-returns-then-branch-clause-asked
 asking::advance_parts-returns-then-branch-clause-asked t c =
     let owed : are_bound (among c.args.bound.now) c.args.own.now.owed ≡ c.are_bound.result =
-        sym (c.are_bound.ensures ∙ ap (λ l. are_bound (among c.advance.new.bound) l) c.as_slice.ensures ∙ ap (λ b. are_bound (among b) c.args.own.now.owed) c.in_ok-advance-in-Negation.ensures.same) in
+    sym (c.are_bound.ensures ∙ ap (λ l. are_bound (among c.advance.new.bound) l) c.as_slice.ensures ∙ ap (λ b. are_bound (among b) c.args.own.now.owed) c.in_ok-advance-in-Negation.ensures.same) in
     subst (λ (g : Node). AskedParts c.args.predicates.now g c.args.facts.now c.args.own.now c.args.marks.now c.advance.new.marks (among c.args.bound.now) c.are_bound.result) c.in-Negation.ensures
     (negation_asked c.args.predicates.now c.in-Negation.inner (span_of c.args.goal.now) c.args.facts.now c.args.own.now c.args.marks.now c.advance.new.marks (among c.args.bound.now) c.are_bound.result owed
     (subst (λ r. Asked c.args.predicates.now c.in-Negation.inner c.args.facts.now c.args.marks.now c.advance.new.marks (among c.args.bound.now) r) c.if-branch.true c.in_ok-advance-in-Negation.ensures.asked))
@@ -192,8 +194,8 @@ chains::advance_arm-returns-then-not-branch-clause-asked t c = λ total else_par
 pub chains::advance_arm-returns-then-not-are_bound-clause-asked : goal.chains::advance_arm-returns-then-not-are_bound-clause-asked
 chains::advance_arm-returns-then-not-are_bound-clause-asked t c =
     let owed : are_bound (among c.args.bound.now) c.args.own.now.owed_by_condition ≡ false =
-        sym (c.are_bound.ensures ∙ ap (λ l. are_bound (among c.advance.new.bound) l) c.as_slice.ensures ∙ ap (λ b. are_bound (among b) c.args.own.now.owed_by_condition) c.in_ok-advance.ensures.same)
-        ∙ c.if-not-are_bound.true in
+    sym (c.are_bound.ensures ∙ ap (λ l. are_bound (among c.advance.new.bound) l) c.as_slice.ensures ∙ ap (λ b. are_bound (among b) c.args.own.now.owed_by_condition) c.in_ok-advance.ensures.same)
+    ∙ c.if-not-are_bound.true in
     owed_stops c.args.predicates.now c.args.link.now.condition c.args.link.now.then_part c.args.facts.now c.args.own.now c.args.marks.now c.advance.new.marks c.part_count-first.result (among c.args.bound.now) c.part_count-first.ensures
     (subst (λ r. Asked c.args.predicates.now c.args.link.now.condition (take c.part_count-first.result c.args.facts.now) (take c.part_count-first.result c.args.marks.now) c.advance.new.marks (among c.args.bound.now) r) c.if-not-branch.false c.in_ok-advance.ensures.asked) owed
 
@@ -214,11 +216,11 @@ chains::advance_arm-returns-clause-asked t c =
     let h = parts_length c.args.link.now.condition in
     let own_is : c.part_count-first.result - 1 + 1 ≡ length (parts_of c.args.link.now.condition) = let same = c.part_count-first.ensures in omega arith in
     let owed : are_bound (among c.args.bound.now) c.args.own.now.owed_by_condition ≡ true =
-        sym (c.are_bound.ensures ∙ ap (λ l. are_bound (among c.advance.new.bound) l) c.as_slice.ensures ∙ ap (λ b. are_bound (among b) c.args.own.now.owed_by_condition) c.in_ok-advance.ensures.same)
-        ∙ c.if-not-are_bound.false in
+    sym (c.are_bound.ensures ∙ ap (λ l. are_bound (among c.advance.new.bound) l) c.as_slice.ensures ∙ ap (λ b. are_bound (among b) c.args.own.now.owed_by_condition) c.in_ok-advance.ensures.same)
+    ∙ c.if-not-are_bound.false in
     let set : c.bind_all.new.self ≡ all_behind c.args.bound.now c.index-facts-first.result.binds =
-        c.in_ok-bind_all.ensures ∙ ap (λ b. all_behind b c.as_slice-2.result.now) c.in_ok-advance.ensures.same ∙ ap (λ l. all_behind c.args.bound.now l) c.as_slice-2.ensures
-        ∙ ap (λ (f : Facts). all_behind c.args.bound.now f.binds) (sym c.index-facts-first.is) in
+    c.in_ok-bind_all.ensures ∙ ap (λ b. all_behind b c.as_slice-2.result.now) c.in_ok-advance.ensures.same ∙ ap (λ l. all_behind c.args.bound.now l) c.as_slice-2.ensures
+    ∙ ap (λ (f : Facts). all_behind c.args.bound.now f.binds) (sym c.index-facts-first.is) in
     then_asked c.args.predicates.now c.args.link.now.condition c.args.link.now.then_part c.args.facts.now c.args.own.now c.index-facts-first.result c.args.marks.now c.advance.new.marks c.advance-2.new.marks c.part_count-first.result c.args.bound.now c.in_ok-ready.ready
     c.part_count-first.ensures own_is c.index-facts-first.is
     (subst (λ r. Asked c.args.predicates.now c.args.link.now.condition (take c.part_count-first.result c.args.facts.now) (take c.part_count-first.result c.args.marks.now) c.advance.new.marks (among c.args.bound.now) r) c.if-not-branch.false c.in_ok-advance.ensures.asked) owed
@@ -255,8 +257,8 @@ pub chains::advance_decision-returns-clause-asked : goal.chains::advance_decisio
 chains::advance_decision-returns-clause-asked t c = λ span.
     let first_is : (c.part_count.result + c.part_count-2.result) ≡ length (parts_of c.args.link.now.condition) + length (parts_of c.args.link.now.then_part) = let one = c.part_count.ensures in let two = c.part_count-2.ensures in omega arith in
     let owed : are_bound (among c.args.bound.now) c.args.own.now.owed ≡ c.are_bound.result =
-        sym (c.are_bound.ensures ∙ ap (λ l. are_bound (among c.advance_chain.new.bound) l) c.as_slice.ensures
-        ∙ ap (λ b. are_bound (among b) c.args.own.now.owed) (c.in_ok-advance_chain.ensures.same ∙ c.in_ok-advance_arm.ensures.same)) in
+    sym (c.are_bound.ensures ∙ ap (λ l. are_bound (among c.advance_chain.new.bound) l) c.as_slice.ensures
+    ∙ ap (λ b. are_bound (among b) c.args.own.now.owed) (c.in_ok-advance_chain.ensures.same ∙ c.in_ok-advance_arm.ensures.same)) in
     decision_asked c.args.predicates.now c.args.link.now.condition c.args.link.now.then_part c.args.link.now.else_part span c.args.facts.now c.args.own.now c.args.marks.now c.advance_arm.new.marks c.advance_chain.new.marks (c.part_count.result + c.part_count-2.result) (among c.args.bound.now) c.are_bound.result first_is
     (subst (λ r. AskedArm c.args.predicates.now c.args.link.now.condition c.args.link.now.then_part (take (c.part_count.result + c.part_count-2.result) c.args.facts.now) c.args.own.now (take (c.part_count.result + c.part_count-2.result) c.args.marks.now) c.advance_arm.new.marks (among c.args.bound.now) r) c.if-not-branch.false c.in_ok-advance_arm.ensures.asked)
     (subst (λ r. Asked c.args.predicates.now c.args.link.now.else_part (slice_range c.args.facts.now (c.part_count.result + c.part_count-2.result) (length c.args.facts.now)) (slice_range (c.advance_arm.new.marks ++ drop (c.part_count.result + c.part_count-2.result) c.args.marks.now) (c.part_count.result + c.part_count-2.result) (length (c.advance_arm.new.marks ++ drop (c.part_count.result + c.part_count-2.result) c.args.marks.now))) c.advance_chain.new.marks (among c.args.bound.now) r) c.if-not-branch-2.false
@@ -281,7 +283,7 @@ pub chains::advance_links-returns-then-not-branch-clause-asked : goal.chains::ad
 chains::advance_links-returns-then-not-branch-clause-asked t c = λ total known m.
     let last_is = c.in-Some.ensures.1 in
     let parts : length (parts_of c.loop-link.last) ≡ suc (length (parts_of c.in-Some.link.condition) + length (parts_of c.in-Some.link.then_part) + length (parts_of c.in-Some.link.else_part)) =
-        ap (λ n. length (parts_of n)) last_is ∙ conditional_length c.in-Some.link.condition c.in-Some.link.then_part c.in-Some.link.else_part (span_of c.loop-link.last) in
+    ap (λ n. length (parts_of n)) last_is ∙ conditional_length c.in-Some.link.condition c.in-Some.link.then_part c.in-Some.link.else_part (span_of c.loop-link.last) in
     let one = c.part_count.ensures in
     let two = c.part_count-in-Some.ensures in
     let end_is = c.loop-link.invariant.end_is in
@@ -289,9 +291,9 @@ chains::advance_links-returns-then-not-branch-clause-asked t c = λ total known 
     let size_is : (c.loop-link.at + c.part_count.result + c.part_count-in-Some.result) ≡ c.loop-link.at + ((c.loop-link.at + c.part_count.result + c.part_count-in-Some.result) - c.loop-link.at) = omega arith in
     let own_is : c.loop-link.end - 1 ≡ (c.loop-link.at + c.part_count.result + c.part_count-in-Some.result) + length (parts_of c.in-Some.link.else_part) = omega arith in
     let asked =
-        subst (λ r. AskedArm c.args.predicates.now c.in-Some.link.condition c.in-Some.link.then_part (slice_range c.args.facts.now c.loop-link.at (c.loop-link.at + c.part_count.result + c.part_count-in-Some.result)) c.index-facts-end.result (slice_range c.loop-link.marks c.loop-link.at (c.loop-link.at + c.part_count.result + c.part_count-in-Some.result)) c.advance_arm.new.marks (among c.args.bound.now) r) c.if-not-branch.true
-        (subst (λ b. AskedArm c.args.predicates.now c.in-Some.link.condition c.in-Some.link.then_part (slice_range c.args.facts.now c.loop-link.at (c.loop-link.at + c.part_count.result + c.part_count-in-Some.result)) c.index-facts-end.result (slice_range c.loop-link.marks c.loop-link.at (c.loop-link.at + c.part_count.result + c.part_count-in-Some.result)) c.advance_arm.new.marks (among b)
-        c.in_ok-advance_arm.field-0) c.loop-link.invariant.same c.in_ok-advance_arm.ensures.asked) in
+    subst (λ r. AskedArm c.args.predicates.now c.in-Some.link.condition c.in-Some.link.then_part (slice_range c.args.facts.now c.loop-link.at (c.loop-link.at + c.part_count.result + c.part_count-in-Some.result)) c.index-facts-end.result (slice_range c.loop-link.marks c.loop-link.at (c.loop-link.at + c.part_count.result + c.part_count-in-Some.result)) c.advance_arm.new.marks (among c.args.bound.now) r) c.if-not-branch.true
+    (subst (λ b. AskedArm c.args.predicates.now c.in-Some.link.condition c.in-Some.link.then_part (slice_range c.args.facts.now c.loop-link.at (c.loop-link.at + c.part_count.result + c.part_count-in-Some.result)) c.index-facts-end.result (slice_range c.loop-link.marks c.loop-link.at (c.loop-link.at + c.part_count.result + c.part_count-in-Some.result)) c.advance_arm.new.marks (among b)
+    c.in_ok-advance_arm.field-0) c.loop-link.invariant.same c.in_ok-advance_arm.ensures.asked) in
     link_stops c.args.predicates.now c.args.goal.now c.loop-link.last c.in-Some.link.condition c.in-Some.link.then_part c.in-Some.link.else_part (span_of c.loop-link.last) c.args.facts.now c.loop-link.marks c.advance_arm.new.marks c.loop-link.at c.loop-link.end (c.loop-link.at + c.part_count.result + c.part_count-in-Some.result) ((c.loop-link.at + c.part_count.result + c.part_count-in-Some.result) - c.loop-link.at) (among c.args.bound.now) c.index-facts-end.result
     last_is end_is c.in-Some.ensures.0 next_is size_is own_is c.index-facts-end.is asked total (c.loop-link.invariant.chain total known m)
 
@@ -299,7 +301,7 @@ pub chains::advance_links-loop-link-preserved : goal.chains::advance_links-loop-
 chains::advance_links-loop-link-preserved t c =
     let last_is = c.in-Some.ensures.1 in
     let parts : length (parts_of c.loop-link.last) ≡ suc (length (parts_of c.in-Some.link.condition) + length (parts_of c.in-Some.link.then_part) + length (parts_of c.in-Some.link.else_part)) =
-        ap (λ n. length (parts_of n)) last_is ∙ conditional_length c.in-Some.link.condition c.in-Some.link.then_part c.in-Some.link.else_part (span_of c.loop-link.last) in
+    ap (λ n. length (parts_of n)) last_is ∙ conditional_length c.in-Some.link.condition c.in-Some.link.then_part c.in-Some.link.else_part (span_of c.loop-link.last) in
     let one = c.part_count.ensures in
     let two = c.part_count-in-Some.ensures in
     let end_is = c.loop-link.invariant.end_is in
@@ -307,9 +309,9 @@ chains::advance_links-loop-link-preserved t c =
     let size_is : (c.loop-link.at + c.part_count.result + c.part_count-in-Some.result) ≡ c.loop-link.at + ((c.loop-link.at + c.part_count.result + c.part_count-in-Some.result) - c.loop-link.at) = omega arith in
     let own_is : c.loop-link.end - 1 ≡ (c.loop-link.at + c.part_count.result + c.part_count-in-Some.result) + length (parts_of c.in-Some.link.else_part) = omega arith in
     let asked =
-        subst (λ r. AskedArm c.args.predicates.now c.in-Some.link.condition c.in-Some.link.then_part (slice_range c.args.facts.now c.loop-link.at (c.loop-link.at + c.part_count.result + c.part_count-in-Some.result)) c.index-facts-end.result (slice_range c.loop-link.marks c.loop-link.at (c.loop-link.at + c.part_count.result + c.part_count-in-Some.result)) c.advance_arm.new.marks (among c.args.bound.now) r) c.if-not-branch.false
-        (subst (λ b. AskedArm c.args.predicates.now c.in-Some.link.condition c.in-Some.link.then_part (slice_range c.args.facts.now c.loop-link.at (c.loop-link.at + c.part_count.result + c.part_count-in-Some.result)) c.index-facts-end.result (slice_range c.loop-link.marks c.loop-link.at (c.loop-link.at + c.part_count.result + c.part_count-in-Some.result)) c.advance_arm.new.marks (among b)
-        c.in_ok-advance_arm.field-0) c.loop-link.invariant.same c.in_ok-advance_arm.ensures.asked) in
+    subst (λ r. AskedArm c.args.predicates.now c.in-Some.link.condition c.in-Some.link.then_part (slice_range c.args.facts.now c.loop-link.at (c.loop-link.at + c.part_count.result + c.part_count-in-Some.result)) c.index-facts-end.result (slice_range c.loop-link.marks c.loop-link.at (c.loop-link.at + c.part_count.result + c.part_count-in-Some.result)) c.advance_arm.new.marks (among c.args.bound.now) r) c.if-not-branch.false
+    (subst (λ b. AskedArm c.args.predicates.now c.in-Some.link.condition c.in-Some.link.then_part (slice_range c.args.facts.now c.loop-link.at (c.loop-link.at + c.part_count.result + c.part_count-in-Some.result)) c.index-facts-end.result (slice_range c.loop-link.marks c.loop-link.at (c.loop-link.at + c.part_count.result + c.part_count-in-Some.result)) c.advance_arm.new.marks (among b)
+    c.in_ok-advance_arm.field-0) c.loop-link.invariant.same c.in_ok-advance_arm.ensures.asked) in
     record {
       end_is = own_is;
       room = let room = c.loop-link.invariant.room in omega arith;
@@ -381,8 +383,8 @@ sweeping::ask_member-returns-clause-steps t c = λ total goals rest start count 
     let end_is : (c.args.at + c.part_count.result) ≡ c.args.at + length (parts_of c.args.goal.now) = omega arith in
     let size_is : (c.args.at + c.part_count.result - c.args.at) ≡ length (parts_of c.args.goal.now) = omega arith in
     let set : c.bind_all.new.self ≡ all_behind c.args.bound.now c.index-facts-own.result.binds =
-        c.in_ok-bind_all.ensures ∙ ap (λ b. all_behind b c.as_slice.result.now) c.in_ok-advance.ensures.same ∙ ap (λ l. all_behind c.args.bound.now l) c.as_slice.ensures
-        ∙ ap (λ (f : Facts). all_behind c.args.bound.now f.binds) (sym c.index-facts-own.is) in
+    c.in_ok-bind_all.ensures ∙ ap (λ b. all_behind b c.as_slice.result.now) c.in_ok-advance.ensures.same ∙ ap (λ l. all_behind c.args.bound.now l) c.as_slice.ensures
+    ∙ ap (λ (f : Facts). all_behind c.args.bound.now f.binds) (sym c.index-facts-own.is) in
     subst (λ b. During total (modes_of c.args.predicates.now) goals start rest (put_mid c.args.at (c.args.at + c.part_count.result - c.args.at) c.args.marks.now c.advance.new.marks) (c.args.at + length (parts_of c.args.goal.now)) (among b) true c.args.swept.is_left count) (sym set)
     (member_goes c.args.predicates.now c.args.goal.now c.args.facts.now c.args.marks.now c.advance.new.marks c.args.at (c.args.at + c.part_count.result - 1) (c.args.at + c.part_count.result) (c.args.at + c.part_count.result - c.args.at) c.args.bound.now c.index-facts-own.result c.args.swept.is_new c.args.swept.is_left own_is end_is size_is c.if-marks-own.false
     c.index-facts-own.is (subst (λ r. Asked c.args.predicates.now c.args.goal.now (slice_range c.args.facts.now c.args.at (c.args.at + c.part_count.result)) (slice_range c.args.marks.now c.args.at (c.args.at + c.part_count.result)) c.advance.new.marks (among c.args.bound.now) r) c.if-not-branch.false c.in_ok-advance.ensures.asked) total goals rest start count known d)
@@ -427,10 +429,10 @@ sweeping::sweep_once-loop-goal-preserved t c =
           let rest = nodes_of (drop (c.loop-goal.goal-index + 1) c.args.goals.now) in
           let here = subst (λ n. AreKnownFrom total (modes_of c.args.predicates.now) (all_subgoals n) c.args.facts.now c.loop-goal.at) cut k in
           let steps = c.in_ok-swept.ensures.steps total (nodes_of c.args.goals.now) rest start count here
-              (subst (λ n. During total (modes_of c.args.predicates.now) (nodes_of c.args.goals.now) start n c.loop-goal.marks c.loop-goal.at (among c.loop-goal.bound) c.loop-goal.swept.is_new c.loop-goal.swept.is_left count) cut d) in (
+          (subst (λ n. During total (modes_of c.args.predicates.now) (nodes_of c.args.goals.now) start n c.loop-goal.marks c.loop-goal.at (among c.loop-goal.bound) c.loop-goal.swept.is_new c.loop-goal.swept.is_left count) cut d) in (
             subst (λ n. AreKnownFrom total (modes_of c.args.predicates.now) (all_subgoals rest) c.args.facts.now (c.loop-goal.at + n)) (sym count_is) (next_known total (modes_of c.args.predicates.now) c.goal-item.result rest c.args.facts.now c.loop-goal.at here).others_known,
             subst (λ n. During total (modes_of c.args.predicates.now) (nodes_of c.args.goals.now) start rest c.ask_member.new.marks (c.loop-goal.at + n) (among c.ask_member.new.bound) c.in_ok-swept.swept.is_new c.in_ok-swept.swept.is_left count)
-            (sym count_is) steps,
+                (sym count_is) steps,
           );
     }
 

@@ -9,7 +9,7 @@ pub returns-then-not-are_bound : goal.returns-then-not-are_bound
 returns-then-not-are_bound c = λ total modes goal r.
     let room : c.loop-own.own < length c.loop-own.marks = omega arith in
     let owed : are_bound (among c.args.bound.now) c.index-facts-own.result.owed ≡ false =
-        ap (λ (f : Facts). are_bound (among c.args.bound.now) f.owed) c.index-facts-own.is ∙ ap (λ l. are_bound (among c.args.bound.now) l) (sym c.as_slice.ensures) ∙ sym c.are_bound.ensures ∙ c.if-not-are_bound.true in
+    ap (λ (f : Facts). are_bound (among c.args.bound.now) f.owed) c.index-facts-own.is ∙ ap (λ l. are_bound (among c.args.bound.now) l) (sym c.as_slice.ensures) ∙ sym c.are_bound.ensures ∙ c.if-not-are_bound.true in
     reached_stuck total modes goal c.loop-own.marks c.args.facts.now c.loop-own.own (among c.args.bound.now) c.index-facts-own.result
     (c.loop-own.invariant.reached total modes goal r) room c.index-facts-own.is owed
 
@@ -19,7 +19,7 @@ loop-own-preserved c = record {
   reached = λ total modes goal r.
       let room : c.loop-own.own < length c.loop-own.marks = omega arith in
       let owed : are_bound (among c.args.bound.now) c.index-facts-own.result.owed ≡ true =
-          ap (λ (f : Facts). are_bound (among c.args.bound.now) f.owed) c.index-facts-own.is ∙ ap (λ l. are_bound (among c.args.bound.now) l) (sym c.as_slice.ensures) ∙ sym c.are_bound.ensures ∙ c.if-not-are_bound.false in
+      ap (λ (f : Facts). are_bound (among c.args.bound.now) f.owed) c.index-facts-own.is ∙ ap (λ l. are_bound (among c.args.bound.now) l) (sym c.as_slice.ensures) ∙ sym c.are_bound.ensures ∙ c.if-not-are_bound.false in
       reached_on total modes goal c.loop-own.marks c.args.facts.now c.loop-own.own (among c.args.bound.now) c.index-facts-own.result
       (c.loop-own.invariant.reached total modes goal r) room c.index-facts-own.is owed;
 }
