@@ -1,5 +1,5 @@
 -- What a goal is asked with, and what is told of it.
-use Rattle.std.specs.Prelude.{◌≡◌, ◌≤◌, ◌<◌, ◌+◌, ◌-◌, ℕ, suc, Bool, true, false, not, List, [], ◌∷◌, ◌++◌, length, take, drop, refl}
+use Rattle.std.specs.Prelude.{◌≡◌, ◌≤◌, ◌<◌, ◌+◌, ◌-◌, ℕ, suc, Bool, true, false, not, List, [], ◌∷◌, length, take, drop, refl}
 use Rattle.std.specs.List.{slice_index_or}
 use Rattle.std.proofs.Common.{◌∙◌, ap, sym, subst, arith}
 use Rattle.std.proofs.lemmas.List.{length-append, take_at, get_or_at, drop_more, drop_all}
@@ -7,13 +7,13 @@ use Rattle.merc_base.specs.declared.place.Span.{Span}
 use Rattle.merc_tree.specs.declared.declarations.ModeDecl.{ModeDecl}
 use Rattle.merc_goal_tree.specs.Nodes.{Node, Nodes, Conjunction, no_nodes, more_nodes, nodes_of, list_of}
 use Rattle.merc_goal_tree.specs.Parts.{parts_of, all_parts}
-use Rattle.merc_order.specs.Bound.{Bound, with, among}
+use Rattle.merc_order.specs.Bound.{Bound, among}
 use Rattle.merc_order.specs.Marks.{left}
 use Rattle.merc_order.specs.Order.{from}
 use Rattle.merc_order.specs.Ordered.{is_ready}
-use Rattle.merc_modes.specs.Asking.{joined_by, IsMarked, AreMarked, AreKnown}
+use Rattle.merc_modes.specs.Asking.{joined_by, AreMarked, AreKnown}
 use Rattle.merc_modes.specs.Facts.{subgoals, all_subgoals, AreFactsOf}
-use Rattle.merc_modes.specs.Sweeps.{Extends, BindsGone, AreGone, Swept, marked_bind, new_one}
+use Rattle.merc_modes.specs.Sweeps.{Extends, BindsGone, AreGone, Swept}
 use Rattle.merc_modes.specs.declared.facts.Facts.{Facts}
 use Rattle.merc_modes.proofs.Conjunctions.{gone_of, left_length, go_on, marked_of_gone, swept_ready, swept_stuck, gone_ready}
 use Rattle.merc_modes.proofs.Marking.{known_goal, known_length, all_subgoals_length, parts_length}
@@ -94,11 +94,6 @@ module _ (total : ℕ → ℕ) (modes : ℕ → List ModeDecl) where
       → is_left ≡ true → is_new ≡ false → (is_ready (from total modes (Conjunction goals span) start) ≡ false) × AreMarked total modes (Conjunction goals span) flags start
   none_went goals start flags now is_new is_left count span s h n =
       (swept_stuck total modes goals start flags now is_new is_left count span s h n, ended goals start flags now is_new is_left count span s)
-
-  pub one_went : (goals : Nodes) (start : Bound) (flags : List Bool) (now : Bound) (is_new is_left : Bool) (count less : ℕ) → Swept total modes goals start flags now is_new is_left count
-      → is_new ≡ true → count ≤ less + 1 → AreGone total modes goals start flags now less
-  one_went goals start flags now is_new is_left count less s n h =
-      go_on total modes goals start flags now is_new is_left count less s (subst (λ b. count ≤ less + new_one b) (sym n) h)
 
   pub no_time_left : (goals : Nodes) (start : Bound) (flags : List Bool) (now : Bound) (count : ℕ) (span : Span) → AreGone total modes goals start flags now count → count ≡ 0
       → (is_ready (from total modes (Conjunction goals span) start) ≡ true) × AreMarked total modes (Conjunction goals span) flags start

@@ -1,21 +1,20 @@
 -- Arms, and goals in parallel, that are asked from the left.
-use Rattle.std.specs.Prelude.{◌≡◌, ◌+◌, ◌-◌, ◌&&◌, ℕ, Bool, true, false, List, [], ◌∷◌, ◌++◌, length, refl, if◌then◌else◌}
+use Rattle.std.specs.Prelude.{◌≡◌, ◌+◌, ◌-◌, ◌&&◌, ℕ, Bool, true, false, List, [], ◌∷◌, ◌++◌, length, refl}
 use Rattle.std.specs.List.{slice_range}
-use Rattle.std.proofs.Common.{◌∙◌, ap, sym, subst, arith}
+use Rattle.std.proofs.Common.{◌∙◌, ap, sym}
 use Rattle.std.proofs.lemmas.List.{length-append, append_assoc}
 use borrow.Rule.Slice.PartMut.{put_mid}
 use Rattle.merc_base.specs.declared.place.Span.{Span}
-use Rattle.merc_base.specs.declared.refusal.Refusal.{Refusal}
 use Rattle.merc_tree.specs.declared.declarations.ModeDecl.{ModeDecl}
-use Rattle.merc_goal_tree.specs.Nodes.{Node, Nodes, Parallel, Disjunction, no_nodes, more_nodes, span_of}
+use Rattle.merc_goal_tree.specs.Nodes.{Node, Nodes, Parallel, Disjunction, no_nodes, more_nodes}
 use Rattle.merc_goal_tree.specs.Parts.{parts_of}
 use Rattle.merc_goal_tree.specs.Variables.{all_variables}
 use Rattle.merc_order.specs.Bound.{Bound, with}
 use Rattle.merc_order.specs.Faults.{unbound_output}
 use Rattle.merc_order.specs.Marks.{Marked, more_marks, part, move_of, IsSound, SoundEach, SoundBeside}
 use Rattle.merc_order.specs.Moves.{Move, beside, beside_next, each_from}
-use Rattle.merc_order.specs.Order.{agree, arms, binds, from, moves, outputs_of}
-use Rattle.merc_order.specs.Ordered.{Ordered, Ordereds, Outcome, Ready, Stuck, is_ready, Outcomes, AllReady, OneStuck, are_ready, and_all, if_all_ready}
+use Rattle.merc_order.specs.Order.{agree, arms, binds, from, moves}
+use Rattle.merc_order.specs.Ordered.{Ordereds, Outcome, Ready, Stuck, is_ready, Outcomes, AllReady, OneStuck, are_ready, and_all, if_all_ready}
 use Rattle.merc_order.proofs.MoveLaws.{then_all-ready}
 use Rattle.merc_modes.specs.Asking.{flags_of, joined_by, Fits, more, IsMarked, AreMarked}
 use Rattle.merc_modes.specs.Sweeps.{DuringArms, DuringBeside}
@@ -107,18 +106,6 @@ module _ (total : ℕ → ℕ) (modes : ℕ → List ModeDecl) where
       length-append front new ∙ ap (λ n. n + length new) h ∙ ap (λ n. at + n) (ap length m.flags_are ∙ marks_length goal m.inner m.went m.fits)
 
   -- the arms of a disjunction
-
-  pub begin_arms : (goals : Nodes) (span : Span) (flags : List Bool) (bound : Bound) → AreMarked total modes (Disjunction goals span) flags bound → DuringArms total modes goals bound goals flags 0
-  begin_arms goals span flags bound m = record {
-    front = [];
-    marked = m.inner;
-    at_is = refl;
-    flags_are = m.flags_are;
-    fits = m.fits;
-    sound = m.sound;
-    close = λ others fits sound. (others, fits, refl, sound);
-    ready = refl;
-  }
 
   pub record NextArm (goals : Nodes) (bound : Bound) (goal : Node) (rest : Nodes) (flags : List Bool) (at : ℕ) : Type 0 where
     pub next : NextMarks goal rest flags at

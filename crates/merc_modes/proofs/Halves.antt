@@ -6,20 +6,20 @@ use Rattle.std.proofs.lemmas.List.{length-append, append-nil, drop_at, take_rest
 use borrow.Rule.Slice.PartMut.{put_mid}
 use Rattle.merc_base.specs.declared.place.Span.{Span}
 use Rattle.merc_tree.specs.declared.declarations.PredDecl.{PredDecl}
-use Rattle.merc_goal_tree.specs.Nodes.{Node, Conditional, Negation, Quantified, no_nodes, more_nodes}
+use Rattle.merc_goal_tree.specs.Nodes.{Node, Conditional, Negation, Quantified}
 use Rattle.merc_goal_tree.specs.Parts.{parts_of}
 use Rattle.merc_goal_tree.specs.Variables.{variables}
 use Rattle.merc_order.specs.Bound.{Bound, with, among, are_bound}
 use Rattle.merc_order.specs.Order.{binds, binds_inside, from}
 use Rattle.merc_order.specs.Ordered.{is_ready}
 use Rattle.merc_order.specs.Procedures.{modes_of}
-use Rattle.merc_modes.specs.Asking.{joined_by, IsMarked, AreMarked, AreKnown, Asked, AskedParts}
+use Rattle.merc_modes.specs.Asking.{IsMarked, AreMarked, AreKnown, Asked, AskedParts}
 use Rattle.merc_modes.specs.Bounds.{all_behind}
 use Rattle.merc_modes.specs.Chains.{is_arm_ready, AreArmMarked, AskedArm}
-use Rattle.merc_modes.specs.Facts.{subgoals, all_subgoals, AreFactsOf}
+use Rattle.merc_modes.specs.Facts.{subgoals, AreFactsOf}
 use Rattle.merc_modes.specs.declared.facts.Facts.{Facts}
 use Rattle.merc_modes.proofs.Inner.{negation_ready, quantified_ready, inner_known, negation_inner, negation_marked, quantified_inner, quantified_marked}
-use Rattle.merc_modes.proofs.Links.{and_false, arm_first, arm_second, both_marked, arm_length, flags_length, known_both, bound_by_first, arm_by_condition, arm_by_owed, arm_by_then, arms_agree, decision_known, decision_marked, decision_by_arm, decision_by_else, decision_by_both}
+use Rattle.merc_modes.proofs.Links.{arm_first, arm_second, both_marked, arm_length, flags_length, known_both, bound_by_first, arm_by_condition, arm_by_owed, arm_by_then, arms_agree, decision_known, decision_marked, decision_by_arm, decision_by_else, decision_by_both}
 use Rattle.merc_modes.proofs.Marking.{put_middle, subgoals_length}
 
 -- the end of a list anew

@@ -1,6 +1,6 @@
 -- A goal that joins one goal: its marks are those of that goal.
-use Rattle.std.specs.Prelude.{◌≡◌, ◌&&◌, ℕ, Bool, true, false, List, [], ◌∷◌, ◌++◌, length, refl, if◌then◌else◌}
-use Rattle.std.proofs.Common.{◌∙◌, ap, sym, subst}
+use Rattle.std.specs.Prelude.{◌≡◌, ◌&&◌, ℕ, Bool, true, false, List, refl, if◌then◌else◌}
+use Rattle.std.proofs.Common.{◌∙◌, subst}
 use Rattle.std.proofs.lemmas.List.{append-nil}
 use Rattle.merc_base.specs.declared.place.Span.{Span}
 use Rattle.merc_base.specs.declared.refusal.Refusal.{Refusal}
@@ -9,11 +9,11 @@ use Rattle.merc_goal_tree.specs.Nodes.{Node, Negation, Quantified, no_nodes, mor
 use Rattle.merc_goal_tree.specs.Variables.{variables}
 use Rattle.merc_order.specs.Bound.{Bound}
 use Rattle.merc_order.specs.Faults.{binds_outer}
-use Rattle.merc_order.specs.Marks.{Marked, no_marks, more_marks, part, IsSound}
+use Rattle.merc_order.specs.Marks.{Marked, no_marks, more_marks, IsSound}
 use Rattle.merc_order.specs.Order.{binds, binds_inside, from}
 use Rattle.merc_order.specs.Ordered.{Ordered, Outcome, Ready, Stuck, is_ready, if_ready}
 use Rattle.merc_modes.specs.Asking.{flags_of, Fits, none, more, IsMarked, AreMarked, AreKnown}
-use Rattle.merc_modes.specs.Facts.{subgoals, all_subgoals, AreFactsOf}
+use Rattle.merc_modes.specs.Facts.{subgoals, all_subgoals}
 use Rattle.merc_modes.specs.declared.facts.Facts.{Facts}
 
 pub ready_then : (outcome : Outcome) (made : Ordered → Outcome) (b : Bool) → ((goal : Ordered) → is_ready (made goal) ≡ b) → is_ready (if_ready outcome made) ≡ (is_ready outcome && b)

@@ -6,15 +6,15 @@ use Rattle.std.proofs.lemmas.List.{length-append, append_assoc, append-nil, take
 use Rattle.merc_base.specs.declared.place.Span.{Span}
 use Rattle.merc_base.specs.declared.refusal.Refusal.{Refusal}
 use Rattle.merc_tree.specs.declared.declarations.ModeDecl.{ModeDecl}
-use Rattle.merc_goal_tree.specs.Nodes.{Node, Nodes, Conditional, no_nodes, more_nodes, span_of}
+use Rattle.merc_goal_tree.specs.Nodes.{Node, Conditional, no_nodes, more_nodes, span_of}
 use Rattle.merc_goal_tree.specs.Parts.{parts_of}
 use Rattle.merc_goal_tree.specs.Variables.{variables}
 use Rattle.merc_order.specs.Bound.{Bound, with, among}
 use Rattle.merc_order.specs.Faults.{binds_outer, unbound_output}
 use Rattle.merc_order.specs.Marks.{Marked, no_marks, more_marks, IsSound}
-use Rattle.merc_order.specs.Order.{agree, binds, binds_inside, decision_arms, from, outputs_of}
-use Rattle.merc_order.specs.Ordered.{Ordered, put, Decision, Outcome, Ready, Stuck, is_ready, if_ready}
-use Rattle.merc_modes.specs.Asking.{flags_of, joined_by, Fits, none, more, IsMarked, AreMarked, AreKnown}
+use Rattle.merc_order.specs.Order.{agree, binds, binds_inside, decision_arms, from}
+use Rattle.merc_order.specs.Ordered.{Outcome, Stuck, is_ready}
+use Rattle.merc_modes.specs.Asking.{flags_of, Fits, none, more, IsMarked, AreMarked, AreKnown}
 use Rattle.merc_modes.specs.Bounds.{all_behind}
 use Rattle.merc_modes.specs.Chains.{is_arm_ready, AreArmMarked, Told}
 use Rattle.merc_modes.specs.Facts.{subgoals, all_subgoals, AreFactsOf}

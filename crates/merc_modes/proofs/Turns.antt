@@ -1,13 +1,13 @@
 -- The next of several goals is asked: what is kept.
 use Rattle.std.specs.Prelude.{◌≡◌, ◌<◌, ◌+◌, ◌-◌, ℕ, suc, Bool, true, false, List, length, drop}
 use Rattle.std.specs.List.{slice_range, slice_index_or}
-use Rattle.std.proofs.Common.{◌∙◌, ap, sym, subst, arith}
+use Rattle.std.proofs.Common.{sym, subst}
 use borrow.Rule.Slice.PartMut.{put_mid}
 use Rattle.merc_base.specs.declared.place.Span.{Span}
 use Rattle.merc_tree.specs.declared.declarations.PredDecl.{PredDecl}
 use Rattle.merc_goal_tree.specs.Nodes.{Node, Nodes, Parallel, Disjunction, Conditional, more_nodes, nodes_of}
 use Rattle.merc_goal_tree.specs.Parts.{parts_of}
-use Rattle.merc_order.specs.Bound.{Bound, with, among}
+use Rattle.merc_order.specs.Bound.{Bound, among}
 use Rattle.merc_order.specs.Order.{binds, from}
 use Rattle.merc_order.specs.Ordered.{is_ready}
 use Rattle.merc_order.specs.Procedures.{modes_of}

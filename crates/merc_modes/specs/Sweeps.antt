@@ -1,5 +1,5 @@
 -- How far one time over the goals of a conjunction, an `&` or a disjunction has come.
-use Rattle.std.specs.Prelude.{◌≡◌, ◌≤◌, ◌<◌, ◌+◌, ℕ, Bool, true, false, List, [], ◌∷◌, ◌++◌, ◌&&◌, ◌||◌, length}
+use Rattle.std.specs.Prelude.{◌≡◌, ◌≤◌, ◌<◌, ◌+◌, ℕ, Bool, true, false, List, [], ◌++◌, ◌&&◌, ◌||◌, length}
 use Rattle.merc_tree.specs.declared.declarations.ModeDecl.{ModeDecl}
 use Rattle.merc_tree.specs.declared.declarations.PredDecl.{PredDecl}
 use Rattle.merc_base.specs.declared.place.Span.{Span}
@@ -13,7 +13,7 @@ use Rattle.merc_order.specs.Ordered.{is_ready, are_ready}
 use Rattle.merc_order.specs.Procedures.{modes_of}
 use Rattle.merc_order.specs.Ways.{Went, AllStuck}
 use Rattle.merc_modes.specs.Asking.{flags_of, Fits, AreMarked, AreKnown}
-use Rattle.merc_modes.specs.Facts.{subgoals, all_subgoals}
+use Rattle.merc_modes.specs.Facts.{all_subgoals}
 use Rattle.merc_modes.specs.declared.sweeping.Sweep.{Sweep}
 use Rattle.merc_modes.specs.declared.facts.Facts.{Facts}
 

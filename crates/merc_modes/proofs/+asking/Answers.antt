@@ -1,4 +1,4 @@
-use Rattle.std.proofs.Common.{◌≡◌, ◌∙◌, ◌+◌, ◌-◌, ◌<◌, ◌≤◌, ◌++◌, [], suc, ap, sym, subst, refl, true, false, length, take, drop, slice_range, arith}
+use Rattle.std.proofs.Common.{◌≡◌, ◌∙◌, ◌+◌, ◌-◌, ◌<◌, ◌++◌, [], suc, ap, sym, subst, refl, true, false, length, take, drop, slice_range, arith}
 use Rattle.std.proofs.lemmas.Result.{IfOk-weaker}
 use borrow.Rule.Slice.PartMut.{put_mid}
 use Rattle.merc_goal_tree.specs.Nodes.{Node, Conjunction, Parallel, nodes_of, span_of}

@@ -1,6 +1,6 @@
-use Rattle.std.proofs.Common.{◌≡◌, ◌+◌, ◌*◌, ◌-◌, ◌≤◌, ℕ, Bool, List, drop, length}
+use Rattle.std.proofs.Common.{◌≡◌, ◌+◌, ◌*◌, ◌-◌, ◌≤◌, ℕ, drop, length}
 use Rattle.merc_base.specs.declared.place.Span.{Span}
-use Rattle.merc_goal_tree.specs.Nodes.{Node, Parallel, Disjunction, nodes_of}
+use Rattle.merc_goal_tree.specs.Nodes.{Parallel, Disjunction, nodes_of}
 use Rattle.merc_goal_tree.specs.Parts.{parts_of, all_parts}
 use Rattle.merc_order.specs.Bound.{Bound, among}
 use Rattle.merc_order.specs.Procedures.{modes_of}

@@ -1,4 +1,4 @@
-use Rattle.std.proofs.Common.{◌≡◌, ◌∙◌, ◌+◌, ◌<◌, ◌≤◌, ap, sym, true, false, length, arith}
+use Rattle.std.proofs.Common.{◌≡◌, ◌∙◌, ◌<◌, ◌≤◌, ap, sym, true, false, length, arith}
 use Rattle.std.proofs.lemmas.List.{length-set}
 use Rattle.merc_order.specs.Bound.{among, are_bound}
 use Rattle.merc_modes.specs.declared.facts.Facts.{Facts}
