@@ -44,7 +44,7 @@ module _ (total : ℕ → ℕ) (modes : ℕ → List ModeDecl) where
         sound = subst (λ b. part b (is_ready (from total modes goal bound) ≡ true) (IsSound total modes goal m.inner bound)) went m.sound;
       }
 
-  part_by : (goal : Node) (inner : Marked) (bound : Bound) (ready : Bool) → is_ready (from total modes goal bound) ≡ ready → IsSound total modes goal inner bound
+  pub part_by : (goal : Node) (inner : Marked) (bound : Bound) (ready : Bool) → is_ready (from total modes goal bound) ≡ ready → IsSound total modes goal inner bound
       → part ready (is_ready (from total modes goal bound) ≡ true) (IsSound total modes goal inner bound)
   part_by goal inner bound true is sound = is
   part_by goal inner bound false is sound = sound

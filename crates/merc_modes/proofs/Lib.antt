@@ -7,6 +7,7 @@ pub mod Marking
 pub mod Stepping
 pub mod Sweeping
 pub mod Tests
+pub mod Rounds
 pub mod Ways
 pub mod Reaches
 pub mod Occurring
@@ -25,3 +26,10 @@ pub mod PartFacts
 pub mod PartByPart
 pub mod Disjunctions
 pub mod Decisions
+pub mod Links
+pub mod ChainLaws
+pub mod Each
+pub mod Inner
+pub mod Asks
+pub mod Turns
+pub mod Halves

@@ -18,7 +18,7 @@ use Rattle.merc_modes.specs.Sweeps.{During, AreKnownFrom}
 use Rattle.merc_modes.specs.declared.facts.Facts.{Facts}
 use Rattle.merc_modes.proofs.Binding.{next_known, own_facts, bound_behind}
 use Rattle.merc_modes.proofs.Marking.{marks_length, own_mark, middle, put_middle}
-use Rattle.merc_modes.proofs.Sweeping.{Open, taken_apart, pass_over, stays, goes}
+use Rattle.merc_modes.proofs.Rounds.{Open, taken_apart, pass_over, stays, goes}
 
 module _ (total : ℕ → ℕ) (modes : ℕ → List ModeDecl) (goals : Nodes) (start : Bound) where
   -- the next goal's own mark

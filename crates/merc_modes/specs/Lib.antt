@@ -5,6 +5,8 @@ pub mod CallModeCode
 pub mod Facts
 pub mod Sweeps
 pub mod Testing
+pub mod Chains
+pub mod ChainsExamples
 pub mod Reaches
 pub mod Occurring
 pub mod OccurringExamples

@@ -1,16 +1,20 @@
 -- How far one time over the goals of a conjunction, an `&` or a disjunction has come.
 use Rattle.std.specs.Prelude.{◌≡◌, ◌≤◌, ◌<◌, ◌+◌, ℕ, Bool, true, false, List, [], ◌++◌, ◌&&◌, ◌||◌, length}
 use Rattle.merc_tree.specs.declared.declarations.ModeDecl.{ModeDecl}
-use Rattle.merc_goal_tree.specs.Nodes.{Node, Nodes, no_nodes, more_nodes}
+use Rattle.merc_tree.specs.declared.declarations.PredDecl.{PredDecl}
+use Rattle.merc_base.specs.declared.place.Span.{Span}
+use Rattle.merc_goal_tree.specs.Nodes.{Node, Nodes, Conjunction, no_nodes, more_nodes, list_of}
 use Rattle.merc_goal_tree.specs.Parts.{parts_of}
 use Rattle.merc_order.specs.Bound.{Bound, with, among, Holds}
 use Rattle.merc_order.specs.Marks.{Marked, no_marks, more_marks, left, SoundLeft, SoundEach, SoundBeside}
 use Rattle.merc_order.specs.Moves.{Move, beside, each_from}
-use Rattle.merc_order.specs.Order.{binds, moves}
-use Rattle.merc_order.specs.Ordered.{are_ready}
+use Rattle.merc_order.specs.Order.{binds, from, moves}
+use Rattle.merc_order.specs.Ordered.{is_ready, are_ready}
+use Rattle.merc_order.specs.Procedures.{modes_of}
 use Rattle.merc_order.specs.Ways.{Went, AllStuck}
-use Rattle.merc_modes.specs.Asking.{flags_of, Fits, AreKnown}
+use Rattle.merc_modes.specs.Asking.{flags_of, Fits, AreMarked, AreKnown}
 use Rattle.merc_modes.specs.Facts.{all_subgoals}
+use Rattle.merc_modes.specs.declared.sweeping.Sweep.{Sweep}
 use Rattle.merc_modes.specs.declared.facts.Facts.{Facts}
 
 -- what is bound behind others
@@ -118,6 +122,13 @@ module _ (total : ℕ → ℕ) (modes : ℕ → List ModeDecl) (goals : Nodes) (
         → (whole : Marked) × Fits goals whole × (flags_of whole ≡ front ++ flags_of others) × SoundBeside total modes goals whole bound
     pub ready : are_ready (beside 1 (moves total modes goals) bound) ≡ are_ready (beside number (moves total modes rest) now)
 
+-- One goal of a conjunction more was asked.
+abbrev pub Steps : List PredDecl → Node → List Facts → List Bool → List Bool → ℕ → List ℕ → List ℕ → Sweep → Sweep → Type 0
+Steps predicates goal facts old new at bound after before now =
+    (total : ℕ → ℕ) (goals rest : Nodes) (start : Bound) (count : ℕ) → AreKnownFrom total (modes_of predicates) (all_subgoals (more_nodes goal rest)) facts at
+    → During total (modes_of predicates) goals start (more_nodes goal rest) old at (among bound) before.is_new before.is_left count
+    → During total (modes_of predicates) goals start rest new (at + length (parts_of goal)) (among after) now.is_new now.is_left count
+
 -- All goals of a conjunction were asked that had not gone. Where none of them went none is ready.
 pub record Swept (total : ℕ → ℕ) (modes : ℕ → List ModeDecl) (goals : Nodes) (start : Bound) (flags : List Bool) (now : Bound) (is_new is_left : Bool) (count : ℕ) : Type 0 where
   pub marked : Marked
@@ -129,3 +140,17 @@ pub record Swept (total : ℕ → ℕ) (modes : ℕ → List ModeDecl) (goals : 
   pub none_left : is_left ≡ false → left total modes goals marked ≡ []
   pub some_left : is_left ≡ true → 0 < length (left total modes goals marked)
   pub fewer : length (left total modes goals marked) + new_one is_new ≤ count
+
+abbrev pub Sweeps : List PredDecl → Nodes → List Facts → List Bool → List Bool → List ℕ → List ℕ → Sweep → Type 0
+Sweeps predicates goals facts old new bound after swept =
+    (total : ℕ → ℕ) (start : Bound) (count : ℕ) → AreKnown total (modes_of predicates) (all_subgoals goals) facts
+    → AreGone total (modes_of predicates) goals start old (among bound) count
+    → Swept total (modes_of predicates) goals start new (among after) swept.is_new swept.is_left count
+
+-- The goals of a conjunction were asked, from what was bound, as often as one of them went.
+abbrev pub SweepsAll : List PredDecl → Nodes → List Facts → List Bool → List Bool → List ℕ → List ℕ → Bool → Type 0
+SweepsAll predicates goals facts old new bound after ready =
+    (total : ℕ → ℕ) (start : Bound) (span : Span) → AreKnown total (modes_of predicates) (all_subgoals goals) facts
+    → AreGone total (modes_of predicates) goals start old (among bound) (length (list_of goals))
+    → (is_ready (from total (modes_of predicates) (Conjunction goals span) start) ≡ ready)
+    × AreMarked total (modes_of predicates) (Conjunction goals span) new start

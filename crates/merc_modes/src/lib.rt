@@ -3,6 +3,7 @@
 
 mod asking;
 mod bound;
+mod chains;
 mod choosing;
 mod collecting;
 mod complete;
@@ -16,6 +17,7 @@ mod occurrences;
 mod ordering;
 mod simple;
 mod testing;
+mod sweeping;
 mod walking;
 mod writing;
 mod written;
