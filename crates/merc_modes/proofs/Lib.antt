@@ -5,7 +5,6 @@ pub mod CallModes
 pub mod Conjunctions
 pub mod Marking
 pub mod Stepping
-pub mod Sweeping
 pub mod Tests
 pub mod Rounds
 pub mod Ways

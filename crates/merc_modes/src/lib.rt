@@ -16,10 +16,7 @@ mod members;
 mod occurrences;
 mod ordering;
 mod simple;
-mod testing;
 mod sweeping;
-mod walking;
+mod testing;
 mod writing;
 mod written;
-
-pub use ordering::{order, order_query};
