@@ -1,10 +1,12 @@
 -- The facts of a disjunction by what its arms bind.
-use Rattle.std.specs.Prelude.{◌≡◌, ◌||◌, ◌&&◌, not, ℕ, Bool, true, false, List, [], ◌∷◌, if◌then◌else◌, refl}
+use Rattle.std.specs.Prelude.{◌≡◌, ◌||◌, ◌&&◌, not, ℕ, Bool, true, false, List, [], ◌∷◌, Option, Some, None, if◌then◌else◌, refl}
 use Rattle.std.specs.List.{filter, list_all, list_any}
-use Rattle.std.proofs.Common.{◌∙◌, ap}
+use Rattle.std.proofs.Common.{◌∙◌, ap, sym}
 use Rattle.merc_order.specs.Order.{Arm, any_reached, counting}
-use Rattle.merc_modes.specs.Arms.{counts, those_bound, those_owed}
 use Rattle.merc_order.specs.Bound.{Bound, among}
+use Rattle.merc_modes.specs.Arms.{counts, among_all, all_of, those_bound, those_owed}
+use Rattle.merc_modes.specs.Bounds.{all_behind}
+use Rattle.merc_modes.proofs.Found.{among-filter, among-all_behind}
 
 -- the arms that count, told one by one
 
@@ -69,3 +71,56 @@ pub owed_is : (outer : Bound) (reached : Bool) (some apart slice set every owed 
     → apart ≡ filter (λ variable. not (among set variable)) some → set ≡ every → result ≡ filter outer (those_owed reached some every)
 owed_is outer reached some apart slice set every owed result r b l s e =
     r ∙ ap (filter outer) (b ∙ ap (λ x. if reached then x else []) (l ∙ s ∙ ap (λ x. filter (λ variable. not (among x variable)) some) e))
+
+and_true : (one : Bool) → (one && true) ≡ one
+and_true true = refl
+and_true false = refl
+
+and_false : (one : Bool) → (one && false) ≡ false
+and_false true = refl
+and_false false = refl
+
+and_same : (one : Bool) → (one && one) ≡ (one && true)
+and_same true = refl
+and_same false = refl
+
+-- truth values of what is bound behind arms: by some, by all, in the goal, outside
+
+pub bound_of : (any some every listed within outer : Bool) → (some ≡ true → within ≡ true) → (any ≡ false → within ≡ true → every ≡ true → some ≡ true) → (some && listed) ≡ (some && every)
+    → ((if any then some else (some && listed)) && outer) ≡ ((within && outer) && (if any then some else every))
+bound_of true true every listed true outer w n l = sym (and_true outer)
+bound_of true true every listed false outer w n l = let h = w refl in cc
+bound_of true false every listed within outer w n l = sym (and_false (within && outer))
+bound_of false true true listed true outer w n l = ap (λ b. b && outer) l ∙ sym (and_true outer)
+bound_of false true false listed true outer w n l = ap (λ b. b && outer) l ∙ sym (and_false outer)
+bound_of false true every listed false outer w n l = let h = w refl in cc
+bound_of false false true listed true outer w n l = let h = n refl refl refl in cc
+bound_of false false false listed true outer w n l = sym (and_false outer)
+bound_of false false every listed false outer w n l = refl
+
+pub owed_of : (any some every listed : Bool) → (some && listed) ≡ (some && every) → (if any then (some && not listed) else false) ≡ (any && some && not every)
+owed_of false some every listed l = refl
+owed_of true false every listed l = refl
+owed_of true true every listed l = ap not l
+
+pub owed_by_some : (any some every : Bool) → (any && some && not every) ≡ true → some ≡ true
+owed_by_some true true every is = refl
+owed_by_some true false every is = is
+owed_by_some false some every is = cc
+
+-- a variable among what is bound behind arms, and what is owed
+
+pub among-those_bound : (reached : Bool) (some every : List ℕ) (variable : ℕ) → among (those_bound reached some every) variable ≡ (if reached then among some variable else (among some variable && among every variable))
+among-those_bound true some every variable = refl
+among-those_bound false some every variable = among-filter (λ v. among every v) some variable
+
+pub among-those_owed : (reached : Bool) (some every : List ℕ) (variable : ℕ) → among (those_owed reached some every) variable ≡ (if reached then (among some variable && not (among every variable)) else false)
+among-those_owed true some every variable = among-filter (λ v. not (among every v)) some variable
+among-those_owed false some every variable = refl
+
+among-all_of : (some : List ℕ) (every : Option (List ℕ)) (variable : ℕ) → (among some variable && among (all_of some every) variable) ≡ (among some variable && among_all every variable)
+among-all_of some None variable = and_same (among some variable)
+among-all_of some (Some variables) variable = refl
+
+pub listed_is : (some : List ℕ) (every : Option (List ℕ)) (variable : ℕ) → (among some variable && among (all_behind [] (all_of some every)) variable) ≡ (among some variable && among_all every variable)
+listed_is some every variable = ap (λ b. among some variable && b) (among-all_behind [] (all_of some every) variable) ∙ among-all_of some every variable

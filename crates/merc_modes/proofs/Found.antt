@@ -1,5 +1,5 @@
 -- Facts of goals by what was found of the goals in them.
-use Rattle.std.specs.Prelude.{◌≡◌, ◌==◌, ◌||◌, ◌&&◌, not, ℕ, Bool, true, false, List, [], ◌∷◌, ◌++◌, refl, if◌then◌else◌}
+use Rattle.std.specs.Prelude.{◌≡◌, ◌==◌, ◌||◌, ◌&&◌, not, ℕ, Bool, true, false, List, [], ◌∷◌, ◌++◌, length, refl, if◌then◌else◌}
 use Rattle.std.specs.List.{filter, list_all}
 use Rattle.std.proofs.Common.{◌∙◌, ◌≢◌, ◌⊎◌, ap, sym, arith, inl, inr}
 use Rattle.std.proofs.lemmas.Bool.{cases_eq, eqb-true}
@@ -25,11 +25,11 @@ same_truth true other to from = sym (to refl)
 same_truth false true to from = from refl
 same_truth false false to from = refl
 
-both_true : (one other : Bool) → (one && other) ≡ true → (one ≡ true) × (other ≡ true)
+pub both_true : (one other : Bool) → (one && other) ≡ true → (one ≡ true) × (other ≡ true)
 both_true true other is = (refl, is)
 both_true false other is = cc
 
-either_true : (one other : Bool) → (one || other) ≡ true → (one ≡ true) ⊎ (other ≡ true)
+pub either_true : (one other : Bool) → (one || other) ≡ true → (one ≡ true) ⊎ (other ≡ true)
 either_true true other is = inl refl
 either_true false other is = inr is
 
@@ -41,11 +41,11 @@ and_false : (one : Bool) → (one && false) ≡ false
 and_false true = refl
 and_false false = refl
 
-or_left : (one other : Bool) → one ≡ true → (one || other) ≡ true
+pub or_left : (one other : Bool) → one ≡ true → (one || other) ≡ true
 or_left true other is = refl
 or_left false other is = cc
 
-or_right : (one other : Bool) → other ≡ true → (one || other) ≡ true
+pub or_right : (one other : Bool) → other ≡ true → (one || other) ≡ true
 or_right true other is = refl
 or_right false other is = is
 
@@ -167,22 +167,25 @@ module _ (total : ℕ → ℕ) (modes : ℕ → List ModeDecl) where
       (sym (outside_stretch total modes all start end inside variable stretch) ∙ h.1)))
 
   pub simple_are : (goal : SimpleGoal) (span : Span) (facts : Facts) → facts.reached ≡ is_simple_reached total modes goal → facts.binds ≡ all_behind [] (variables_of goal)
-      → facts.owed ≡ [] → facts.owed_by_condition ≡ [] → AreFactsOf total modes (Simple goal span) facts
-  simple_are goal span facts r b o c = record {
+      → facts.owed ≡ [] → facts.owed_by_condition ≡ [] → facts.occurrences ≡ length (variables_of goal) → AreFactsOf total modes (Simple goal span) facts
+  simple_are goal span facts r b o c n = record {
     reached_is = r;
     binds_are = λ variable. ap (λ l. among l variable) b ∙ among-all_behind [] (variables_of goal) variable;
     owed_are = λ bound. ap (are_bound bound) o;
     owed_by_condition_are = λ bound. ap (are_bound bound) c;
+    occurrences_are = n;
   }
 
   pub negation_are : (goal : Node) (span : Span) (all : List ℕ) (start end : ℕ) (inner facts : Facts) → IsStretch total all start end (variables goal) → AreFactsOf total modes goal inner
-      → facts.reached ≡ true → facts.binds ≡ [] → facts.owed ≡ filter (λ variable. occurs_outside all start end variable) inner.binds → facts.owed_by_condition ≡ [] → AreFactsOf total modes (Negation goal span) facts
-  negation_are goal span all start end inner facts stretch known r b o c = record {
+      → facts.reached ≡ true → facts.binds ≡ [] → facts.owed ≡ filter (λ variable. occurs_outside all start end variable) inner.binds → facts.owed_by_condition ≡ []
+      → facts.occurrences ≡ inner.occurrences → AreFactsOf total modes (Negation goal span) facts
+  negation_are goal span all start end inner facts stretch known r b o c n = record {
     reached_is = r;
     binds_are = λ variable. ap (λ l. among l variable) b;
     owed_are = λ bound. ap (are_bound bound) o
         ∙ owed_by all start end (variables goal) (variables goal) inner.binds (binds total modes goal) bound stretch known.binds_are (binds_within goal);
     owed_by_condition_are = λ bound. ap (are_bound bound) c;
+    occurrences_are = n ∙ known.occurrences_are;
   }
 
   -- what is shared and bound, of what was found to be bound
@@ -193,8 +196,9 @@ module _ (total : ℕ → ℕ) (modes : ℕ → List ModeDecl) where
   shared_by false false outer h = refl
 
   pub quantified_are : (own : List ℕ) (goal : Node) (span : Span) (all : List ℕ) (start end : ℕ) (inner facts : Facts) → IsStretch total all start end (variables goal) → AreFactsOf total modes goal inner
-      → facts.reached ≡ inner.reached → facts.binds ≡ filter (λ variable. occurs_outside all start end variable) inner.binds → facts.owed ≡ [] → facts.owed_by_condition ≡ [] → AreFactsOf total modes (Quantified own goal span) facts
-  quantified_are own goal span all start end inner facts stretch known r b o c = record {
+      → facts.reached ≡ inner.reached → facts.binds ≡ filter (λ variable. occurs_outside all start end variable) inner.binds → facts.owed ≡ [] → facts.owed_by_condition ≡ []
+      → facts.occurrences ≡ inner.occurrences → AreFactsOf total modes (Quantified own goal span) facts
+  quantified_are own goal span all start end inner facts stretch known r b o c n = record {
     reached_is = r ∙ known.reached_is;
     binds_are = λ variable. ap (λ l. among l variable) b ∙ among-filter (λ v. occurs_outside all start end v) inner.binds variable
         ∙ ap (λ t. t && occurs_outside all start end variable) (known.binds_are variable)
@@ -202,4 +206,5 @@ module _ (total : ℕ → ℕ) (modes : ℕ → List ModeDecl) where
         ∙ shared_by (among (variables goal) variable) (binds total modes goal variable) (outside total modes (variables goal) variable) (binds_within goal variable);
     owed_are = λ bound. ap (are_bound bound) o;
     owed_by_condition_are = λ bound. ap (are_bound bound) c;
+    occurrences_are = n ∙ known.occurrences_are;
   }

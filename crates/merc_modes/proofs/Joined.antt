@@ -4,6 +4,7 @@ use Rattle.std.proofs.Common.{◌∙◌, ap, sym, arith}
 use Rattle.merc_base.specs.declared.place.Span.{Span}
 use Rattle.merc_tree.specs.declared.declarations.ModeDecl.{ModeDecl}
 use Rattle.merc_goal_tree.specs.Nodes.{Nodes, Conjunction, Parallel, no_nodes, more_nodes}
+use Rattle.merc_goal_tree.specs.Variables.{all_variables}
 use Rattle.merc_order.specs.Bound.{among, are_bound}
 use Rattle.merc_order.specs.Order.{reached, all_reached, binds, some_bind}
 use Rattle.merc_modes.specs.declared.facts.Facts.{Facts}
@@ -64,21 +65,23 @@ module _ (total : ℕ → ℕ) (modes : ℕ → List ModeDecl) (facts : List Fac
       ∙ or_assoc (among known variable) (binds total modes first variable) (some_bind total modes rest variable)
 
   pub conjunction_are : (joined : List Complete) (goals : Nodes) (span : Span) (found : Facts) → found.reached ≡ reached_on facts true joined → found.binds ≡ bound_on facts [] joined
-      → found.owed ≡ [] → found.owed_by_condition ≡ [] → AreKnown total modes facts joined goals → AreFactsOf total modes (Conjunction goals span) found
-  conjunction_are joined goals span found r b o c are = record {
+      → found.owed ≡ [] → found.owed_by_condition ≡ [] → AreKnown total modes facts joined goals → found.occurrences ≡ length (all_variables goals) → AreFactsOf total modes (Conjunction goals span) found
+  conjunction_are joined goals span found r b o c are n = record {
     reached_is = r ∙ reached_on_is joined goals true are;
     binds_are = λ variable. ap (λ l. among l variable) b ∙ bound_on_is joined goals [] variable are;
     owed_are = λ bound. ap (are_bound bound) o;
     owed_by_condition_are = λ bound. ap (are_bound bound) c;
+    occurrences_are = n;
   }
 
   pub parallel_are : (joined : List Complete) (goals : Nodes) (span : Span) (found : Facts) → found.reached ≡ reached_on facts true joined → found.binds ≡ bound_on facts [] joined
-      → found.owed ≡ [] → found.owed_by_condition ≡ [] → AreKnown total modes facts joined goals → AreFactsOf total modes (Parallel goals span) found
-  parallel_are joined goals span found r b o c are = record {
+      → found.owed ≡ [] → found.owed_by_condition ≡ [] → AreKnown total modes facts joined goals → found.occurrences ≡ length (all_variables goals) → AreFactsOf total modes (Parallel goals span) found
+  parallel_are joined goals span found r b o c are n = record {
     reached_is = r ∙ reached_on_is joined goals true are;
     binds_are = λ variable. ap (λ l. among l variable) b ∙ bound_on_is joined goals [] variable are;
     owed_are = λ bound. ap (are_bound bound) o;
     owed_by_condition_are = λ bound. ap (are_bound bound) c;
+    occurrences_are = n;
   }
 
 -- none is left where there are fewer than one

@@ -18,3 +18,10 @@ pub mod Found
 pub mod Joined
 pub mod Arms
 pub mod ArmLaws
+pub mod CompleteGoals
+pub mod Joins
+pub mod Completing
+pub mod PartFacts
+pub mod PartByPart
+pub mod Disjunctions
+pub mod Decisions

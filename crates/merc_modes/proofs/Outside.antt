@@ -12,7 +12,7 @@ use Rattle.merc_order.specs.Bound.{among}
 use Rattle.merc_order.specs.Order.{outside}
 use Rattle.merc_modes.specs.Outside.{occurs_outside, IsStretch}
 
-count-append : (variable : ℕ) (front back : List ℕ) → count variable (front ++ back) ≡ count variable front + count variable back
+pub count-append : (variable : ℕ) (front back : List ℕ) → count variable (front ++ back) ≡ count variable front + count variable back
 count-append variable front back =
     ap (λ l. length l) (filter-append (λ other. other == variable) front back) ∙ length-append (filter (λ other. other == variable) front) (filter (λ other. other == variable) back)
 

@@ -12,6 +12,8 @@ pub mod Outside
 pub mod Outputs
 pub mod Putting
 pub mod Complete
+pub mod Knowing
+pub mod KnowingExamples
 pub mod Arms
 pub mod ArmsExamples
 pub mod Told

@@ -8,4 +8,4 @@ use Rattle.merc_modes.proofs.finding.simple_facts.Goals as goal
 pub returns-clause-facts : goal.returns-clause-facts
 returns-clause-facts c = λ total span.
     simple_are total (modes_of c.args.predicates.now) c.args.goal.now span _ (c.is_simple_reached.ensures total)
-    (c.in_ok-put_goal.ensures.found ∙ ap (λ l. all_behind l (variables_of c.args.goal.now)) c.new-binds.ensures) c.new.ensures c.new-2.ensures
+    (c.in_ok-put_goal.ensures.found ∙ ap (λ l. all_behind l (variables_of c.args.goal.now)) c.new-binds.ensures) c.new.ensures c.new-2.ensures c.occurrence_count.ensures
