@@ -1,7 +1,7 @@
 -- Goals that are written out, and others that are not.
 use Rattle.std.specs.Prelude.{◌≡◌, ℕ, true, false, [], ◌∷◌, Ok, Err, refl}
 use Rattle.merc_base.specs.declared.refusal.Fault.TheVariants.{Refused}
-use Rattle.merc_order.specs.Faults.{never_ready, unbound_output}
+use Rattle.merc_order.specs.Faults.{never_ready}
 use Rattle.merc_order.specs.OrderExamples.{at, modes, append, x, y, z}
 use Rattle.merc_order.specs.Ordered.{Ordered, put, Called, Ready, Stuck}
 use Rattle.merc_order.specs.Spelt.{spelt}
@@ -33,6 +33,3 @@ stuck = refl
 
 not_stuck : Gives modes (Ready tested_call) before before (Err (Refused (never_ready (at 10)))) → ⊥
 not_stuck gives = cc
-
-other_fault : Gives modes (Stuck (unbound_output (at 10))) before before (Err (Refused (never_ready (at 10)))) → ⊥
-other_fault gives = cc
