@@ -17,7 +17,7 @@ use Rattle.merc_modes.specs.Chains.{Links, no_links, more_links, around, ends, i
 use Rattle.merc_modes.specs.Facts.{subgoals, AreFactsOf}
 use Rattle.merc_modes.specs.Sweeps.{AreKnownFrom}
 use Rattle.merc_modes.specs.declared.facts.Facts.{Facts}
-use Rattle.merc_modes.proofs.Links.{arm_parts, link_marked, told_link, not_by_arm, not_by_else, by_agreement, arms_agree, arm_length, flags_length, KnownOn, known_on, known_here}
+use Rattle.merc_modes.proofs.ChainAsks.{arm_parts, link_marked, told_link, not_by_arm, not_by_else, by_agreement, arms_agree, arm_length, flags_length, KnownOn, known_on, known_here}
 use Rattle.merc_modes.proofs.Marking.{marks_length, middle, put_middle, own_mark, subgoals_length}
 
 regroup : {X : Type 0} (before arm own : List X) (x : X) (after : List X) → before ++ ((arm ++ (own ++ x ∷ [])) ++ after) ≡ (before ++ arm) ++ (own ++ x ∷ after)

@@ -19,7 +19,7 @@ use Rattle.merc_modes.specs.Chains.{is_arm_ready, AreArmMarked, AskedArm}
 use Rattle.merc_modes.specs.Facts.{subgoals, AreFactsOf}
 use Rattle.merc_modes.specs.declared.facts.Facts.{Facts}
 use Rattle.merc_modes.proofs.Inner.{negation_ready, quantified_ready, inner_known, negation_inner, negation_marked, quantified_inner, quantified_marked}
-use Rattle.merc_modes.proofs.Links.{arm_first, arm_second, both_marked, arm_length, flags_length, known_both, bound_by_first, arm_by_condition, arm_by_owed, arm_by_then, arms_agree, decision_known, decision_marked, decision_by_arm, decision_by_else, decision_by_both}
+use Rattle.merc_modes.proofs.ChainAsks.{arm_first, arm_second, both_marked, arm_length, flags_length, known_both, bound_by_first, arm_by_condition, arm_by_owed, arm_by_then, arms_agree, decision_known, decision_marked, decision_by_arm, decision_by_else, decision_by_both}
 use Rattle.merc_modes.proofs.Marking.{put_middle, subgoals_length}
 
 -- the end of a list anew

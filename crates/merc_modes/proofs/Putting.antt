@@ -1,5 +1,5 @@
 -- Goals that hold no others, as they are put behind the others.
-use Rattle.std.specs.Prelude.{◌≡◌, ◌≤◌, ◌<◌, ◌+◌, ◌-◌, ◌==◌, nat_lt, ℕ, zero, suc, Bool, true, false, List, [], ◌∷◌, ◌++◌, length, take, drop, slice_get, Option, Some, None, Result, Ok, Err, refl, if◌then◌else◌}
+use Rattle.std.specs.Prelude.{◌≡◌, ◌≤◌, ◌+◌, ◌-◌, ◌==◌, nat_lt, ℕ, suc, Bool, true, false, List, [], ◌∷◌, ◌++◌, length, take, drop, slice_get, Option, Some, None, Result, Ok, Err, refl, if◌then◌else◌}
 use Rattle.std.specs.Option.{option_map}
 use Rattle.std.proofs.Common.{◌∙◌, ap, sym, subst, arith}
 use Rattle.std.proofs.lemmas.List.{append_assoc, length-append, take_at, drop_at}
@@ -24,7 +24,7 @@ use Rattle.merc_order.specs.CallModes.{inputs_of, width, wider, taken_from, test
 use Rattle.merc_order.specs.Faults.{never_ready}
 use Rattle.merc_order.specs.Order.{same_from, called_from, simple_from}
 use Rattle.merc_order.specs.Ordered.{Ordered, put, Truth, Failure, Compared, Raised, Assign, Test, Build, Split, Computed, Called, Outcome, Ready, Stuck}
-use Rattle.merc_order.specs.Spelt.{replaced, tested_places, untested_places, written, numbered, tests_of, inner_outputs, inputs_in, with_tests, spelt, twins}
+use Rattle.merc_order.specs.Spelt.{replaced, tested_places, untested_places, written, tests_of, inner_outputs, inputs_in, with_tests, spelt, twins}
 use Rattle.merc_modes.specs.Putting.{IsPut, PutsIf}
 use Rattle.merc_modes.specs.Walking.{Gives}
 use Rattle.merc_modes.specs.declared.written.Written.{Written}

@@ -1,5 +1,5 @@
 -- The places of a goal that become tests, from place to place.
-use Rattle.std.specs.Prelude.{◌≡◌, ◌≤◌, ◌<◌, ◌==◌, ◌+◌, ◌||◌, not, ℕ, zero, suc, Bool, true, false, List, [], ◌∷◌, ◌++◌, length, drop, slice_get, Option, Some, None, refl, if◌then◌else◌}
+use Rattle.std.specs.Prelude.{◌≡◌, ◌≤◌, ◌<◌, ◌==◌, ◌+◌, ◌||◌, not, ℕ, zero, suc, Bool, true, false, List, [], ◌∷◌, ◌++◌, length, drop, slice_get, refl, if◌then◌else◌}
 use Rattle.std.specs.List.{filter, slice_index_or}
 use Rattle.std.specs.Option.{option_to_list}
 use Rattle.std.proofs.Common.{◌∙◌, ap, sym, arith}
@@ -8,7 +8,7 @@ use mathlib.Core.Path.{fun_ext}
 use Rattle.merc_tree.specs.declared.declarations.Arg.{Arg}
 use Rattle.merc_tree.specs.declared.declarations.Arg.TheVariants.{Input, Output}
 use Rattle.merc_order.specs.Bound.{Bound, with, among}
-use Rattle.merc_order.specs.CallModes.{tested, call_tested}
+use Rattle.merc_order.specs.CallModes.{tested}
 use Rattle.merc_order.specs.Spelt.{replaced, tested_places, untested_places, written, numbered, inner_outputs}
 use Rattle.merc_modes.specs.Bounds.{behind, all_behind}
 use Rattle.merc_modes.specs.Testing.{written_here}

@@ -22,3 +22,12 @@ pub mod Told
 pub mod ToldExamples
 pub mod Walking
 pub mod WalkingExamples
+pub mod Bodies
+pub mod BodiesExamples
+pub mod Walks
+pub mod WalksExamples
+pub mod Conjuncts
+pub mod ConjunctsExamples
+pub mod Linked
+pub mod LinkedExamples
+pub mod Beside

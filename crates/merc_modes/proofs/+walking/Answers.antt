@@ -1,0 +1,919 @@
+use Rattle.std.proofs.Common.{◌≡◌, ◌+◌, ◌-◌, ◌≤◌, ◌∙◌, suc, true, false, [], ◌∷◌, Ok, Err, drop, length, length-append, reverse, ap, sym, subst, refl, arith, slice_index_or}
+use Rattle.std.proofs.lemmas.List.{drop_all, take_rest, length-drop, length-take-le}
+use Rattle.std.proofs.lemmas.Result.{err_from_is_err_and}
+use Rattle.std.proofs.lemmas.Slice.{between_to_end}
+use Rattle.std.specs.List.{slice_range}
+use borrow.Rule.Slice.PartMut.{put_mid}
+use Rattle.merc_base.specs.declared.refusal.Fault.TheVariants.{Refused}
+use Rattle.merc_goal_tree.specs.Nodes.{Node, span_of, Simple, Conjunction, Disjunction, Negation, Quantified, nodes_of, Parallel}
+use Rattle.merc_goal_tree.specs.Parts.{parts_of}
+use Rattle.merc_goal_tree.specs.Variables.{variables, all_variables}
+use Rattle.merc_order.specs.Bound.{among, are_bound, with}
+use Rattle.merc_order.specs.Faults.{binds_outer}
+use Rattle.merc_order.specs.Marks.{left}
+use Rattle.merc_order.specs.Moves.{each_from, beside}
+use Rattle.merc_order.specs.Order.{binds, from, moves, outputs_of}
+use Rattle.merc_order.specs.Ordered.{and_all, is_ready}
+use Rattle.merc_order.specs.Procedures.{modes_of}
+use Rattle.merc_modes.specs.Asking.{AreKnown}
+use Rattle.merc_modes.specs.Beside.{all_beside, TellsStuck}
+use Rattle.merc_modes.specs.Bounds.{all_behind}
+use Rattle.merc_modes.specs.Linked.{Guarded, GuardGives, Within, Closing}
+use Rattle.merc_modes.specs.Conjuncts.{GoesIfReady, Passing, Amid, SweepGives}
+use Rattle.merc_modes.specs.Facts.{subgoals, all_subgoals}
+use Rattle.merc_modes.specs.Outside.{IsStretch}
+use Rattle.merc_modes.specs.Sweeps.{Extends, AreKnownFrom}
+use Rattle.merc_modes.specs.Walking.{Gives, Orders}
+use Rattle.merc_modes.specs.Walks.{Walked, all_settled}
+use Rattle.merc_modes.specs.declared.written.Written.{Written}
+use Rattle.merc_modes.proofs.Binding.{extends_same, extends_on, extends_all, next_known, bound_behind}
+use Rattle.merc_modes.proofs.Chaining.{condition_known, condition_own, condition_err, condition_outer, then_known, then_own, then_stretch, then_err, place_behind_is, guarded_by, first_within, pushed, guard_known, own_known, guard_stretch, chain_err, rest_err, rest_ready, conditional_parts}
+use Rattle.merc_modes.proofs.Beside.{facts_of_first, facts_from, blank_there, beside_goes, beside_stuck, beside_err, walked_tells, never_stuck}
+use Rattle.merc_modes.proofs.Marking.{subgoals_length, all_subgoals_length}
+use Rattle.merc_modes.proofs.Settling.{amid_first, paused, none_is_left}
+use Rattle.merc_modes.proofs.Stepping.{facts_of_next}
+use Rattle.merc_modes.proofs.Stepped.{if_stays, if_goes, first_tells, passing_on, member_passes, member_marks, member_stays, member_went, step_err, sweep_err, told, not_ready, rounds_first, fewer_by, rounds_err, rounds_end}
+use Rattle.merc_modes.proofs.Walked.{stretch_front, next_stretch, known_next, walked_on, walked_end, walked_stuck}
+use Rattle.merc_modes.proofs.Wholes.{next_item, end_within, at_behind, some_parts, undone_is, known_parts, known_own, negation_stuck, negation_binds, negation_ready, quantified_stuck, quantified_ready, disjunction_stuck, disjunction_differs, disjunction_ready, conjunction_stuck, conjunction_ready, parallel_stuck, parallel_ready}
+use Rattle.merc_modes.proofs.+walking.Goals as goal
+
+-- negations
+
+pub walking::walk_negation-returns-in_err-walk-clause-orders : goal.walking::walk_negation-returns-in_err-walk-clause-orders
+walking::walk_negation-returns-in_err-walk-clause-orders t c =
+    let p = err_from_is_err_and c.from_residual.result c.from_residual.ensures.1 in
+    rw (p.1, p.2) (λ total known stretch.
+    let modes = modes_of c.args.setting.now.predicates.now in
+    let own : c.part_count-own.result ≡ length (subgoals c.args.inner.now) = c.part_count-own.ensures ∙ sym (subgoals_length c.args.inner.now) in
+    let k = known_parts total modes (subgoals c.args.inner.now) (Negation c.args.inner.now c.args.span) c.args.facts.now c.part_count-own.result known own in
+    negation_stuck total modes c.args.inner.now c.args.span (among c.args.bound.now) c.args.written.now c.walk.new.written c.walk.new.written c.in_err-walk.field-0.0 (c.in_err-walk.ensures.orders total k stretch))
+
+pub walking::walk_negation-returns-then-not-are_bound-clause-orders : goal.walking::walk_negation-returns-then-not-are_bound-clause-orders
+walking::walk_negation-returns-then-not-are_bound-clause-orders t c =
+    rw c.fault_at.ensures (λ total known stretch.
+    let modes = modes_of c.args.setting.now.predicates.now in
+    let own : c.part_count-own.result ≡ length (subgoals c.args.inner.now) = c.part_count-own.ensures ∙ sym (subgoals_length c.args.inner.now) in
+    let k = known_parts total modes (subgoals c.args.inner.now) (Negation c.args.inner.now c.args.span) c.args.facts.now c.part_count-own.result known own in
+    let f = known_own total modes (subgoals c.args.inner.now) (Negation c.args.inner.now c.args.span) c.args.facts.now c.part_count-own.result c.index-facts-own.result known own c.index-facts-own.is in
+    let owed : are_bound (among c.args.bound.now) c.index-facts-own.result.owed ≡ false =
+    ap (λ b. are_bound (among b) c.index-facts-own.result.owed) (sym c.in_ok-walk.ensures.same) ∙ ap (λ l. are_bound (among c.walk.new.bound) l) (sym c.as_slice.ensures)
+    ∙ sym c.are_bound.ensures ∙ c.if-not-are_bound.true in
+    negation_binds total modes c.args.inner.now c.args.span (among c.args.bound.now) c.index-facts-own.result c.args.written.now c.walk.new.written c.in_ok-walk.field-0 (c.in_ok-walk.ensures.orders total k stretch) f owed)
+
+pub walking::walk_negation-returns-clause-orders : goal.walking::walk_negation-returns-clause-orders
+walking::walk_negation-returns-clause-orders t c = λ total known stretch.
+    let modes = modes_of c.args.setting.now.predicates.now in
+    let own : c.part_count-own.result ≡ length (subgoals c.args.inner.now) = c.part_count-own.ensures ∙ sym (subgoals_length c.args.inner.now) in
+    let k = known_parts total modes (subgoals c.args.inner.now) (Negation c.args.inner.now c.args.span) c.args.facts.now c.part_count-own.result known own in
+    let f = known_own total modes (subgoals c.args.inner.now) (Negation c.args.inner.now c.args.span) c.args.facts.now c.part_count-own.result c.index-facts-own.result known own c.index-facts-own.is in
+    let owed : are_bound (among c.args.bound.now) c.index-facts-own.result.owed ≡ true =
+    ap (λ b. are_bound (among b) c.index-facts-own.result.owed) (sym c.in_ok-walk.ensures.same) ∙ ap (λ l. are_bound (among c.walk.new.bound) l) (sym c.as_slice.ensures)
+    ∙ sym c.are_bound.ensures ∙ c.if-not-are_bound.false in
+    let new : Written = record { nodes = c.negate.new.self; fresh = c.walk.new.written.fresh; seen = c.walk.new.written.seen } in
+    negation_ready total modes c.args.inner.now c.args.span (among c.args.bound.now) c.index-facts-own.result c.new.result c.args.written.now c.walk.new.written new c.in_ok-walk.field-0
+    (c.in_ok-walk.ensures.orders total k stretch) f owed c.new.ensures c.in_ok-negate.ensures.ok refl refl
+
+-- goals with variables of their own
+
+pub walking::walk_quantified-returns-in_err-walk-clause-orders : goal.walking::walk_quantified-returns-in_err-walk-clause-orders
+walking::walk_quantified-returns-in_err-walk-clause-orders t c =
+    let p = err_from_is_err_and c.from_residual.result c.from_residual.ensures.1 in
+    rw (p.1, p.2) (λ total known stretch.
+    let modes = modes_of c.args.setting.now.predicates.now in
+    let own : c.part_count-last.result ≡ length (subgoals c.args.inner.now) = c.part_count-last.ensures ∙ sym (subgoals_length c.args.inner.now) in
+    let k = known_parts total modes (subgoals c.args.inner.now) (Quantified c.args.own.now c.args.inner.now c.args.span) c.args.facts.now c.part_count-last.result known own in
+    quantified_stuck total modes c.args.own.now c.args.inner.now c.args.span (among c.args.bound.now) c.args.written.now c.walk.new.written c.walk.new.written c.in_err-walk.field-0.0
+    (c.in_err-walk.ensures.orders total k stretch))
+
+pub walking::walk_quantified-returns-clause-orders : goal.walking::walk_quantified-returns-clause-orders
+walking::walk_quantified-returns-clause-orders t c = λ total known stretch.
+    let modes = modes_of c.args.setting.now.predicates.now in
+    let goal : Node = Quantified c.args.own.now c.args.inner.now c.args.span in
+    let own : c.part_count-last.result ≡ length (subgoals c.args.inner.now) = c.part_count-last.ensures ∙ sym (subgoals_length c.args.inner.now) in
+    let k = known_parts total modes (subgoals c.args.inner.now) goal c.args.facts.now c.part_count-last.result known own in
+    let f = known_own total modes (subgoals c.args.inner.now) goal c.args.facts.now c.part_count-last.result c.index-facts-last.result known own c.index-facts-last.is in
+    let outs : c.in_ok-outputs.outputs ≡ outputs_of total modes (among c.args.bound.now) goal =
+    c.in_ok-outputs.ensures.outputs total modes goal f stretch ∙ ap (λ b. outputs_of total modes (among b) goal) c.in_ok-walk.ensures.same in
+    let new : Written = record { nodes = c.quantify.new.self; fresh = c.walk.new.written.fresh; seen = c.outputs_of.new.seen } in
+    quantified_ready total modes c.args.own.now c.args.inner.now c.args.span (among c.args.bound.now) c.in_ok-own.own c.in_ok-outputs.outputs c.args.written.now c.walk.new.written new c.in_ok-walk.field-0
+    (c.in_ok-walk.ensures.orders total k stretch) c.in_ok-own.ensures outs c.in_ok-quantify.ensures.ok refl (c.in_ok-outputs.ensures.cleared ∙ sym c.in_ok-walk.ensures.adds.cleared)
+
+-- disjunctions
+
+pub disjuncts::walk_disjunction-returns-in_err-walk_arms-clause-orders : goal.disjuncts::walk_disjunction-returns-in_err-walk_arms-clause-orders
+disjuncts::walk_disjunction-returns-in_err-walk_arms-clause-orders t c =
+    let p = err_from_is_err_and c.from_residual.result c.from_residual.ensures.1 in
+    rw (p.1, p.2) (λ total known stretch.
+    let modes = modes_of c.args.setting.now.predicates.now in
+    let arms = nodes_of c.args.arms.now in
+    let own : length c.args.facts.now - 1 ≡ length (all_subgoals arms) = omega (arith, c.requires.known, all_subgoals_length arms) in
+    let k = known_parts total modes (all_subgoals arms) (Disjunction arms c.args.span) c.args.facts.now (length c.args.facts.now - 1) known own in
+    disjunction_stuck total modes arms c.args.span (among c.args.bound.now) c.args.written.now c.walk_arms.new.written c.walk_arms.new.written c.in_err-walk_arms.field-0.0
+    (c.in_err-walk_arms.ensures.orders total k stretch))
+
+pub disjuncts::walk_disjunction-returns-then-not-are_bound-clause-orders : goal.disjuncts::walk_disjunction-returns-then-not-are_bound-clause-orders
+disjuncts::walk_disjunction-returns-then-not-are_bound-clause-orders t c =
+    rw c.fault_at.ensures (λ total known stretch.
+    let modes = modes_of c.args.setting.now.predicates.now in
+    let arms = nodes_of c.args.arms.now in
+    let own : length c.args.facts.now - 1 ≡ length (all_subgoals arms) = omega (arith, c.requires.known, all_subgoals_length arms) in
+    let k = known_parts total modes (all_subgoals arms) (Disjunction arms c.args.span) c.args.facts.now (length c.args.facts.now - 1) known own in
+    let f = known_own total modes (all_subgoals arms) (Disjunction arms c.args.span) c.args.facts.now (length c.args.facts.now - 1) c.index-facts-own.result known own c.index-facts-own.is in
+    let owed : are_bound (among c.args.bound.now) c.index-facts-own.result.owed ≡ false =
+    ap (λ b. are_bound (among b) c.index-facts-own.result.owed) (sym c.in_ok-walk_arms.ensures.same) ∙ ap (λ l. are_bound (among c.walk_arms.new.bound) l) (sym c.as_slice.ensures)
+    ∙ sym c.are_bound.ensures ∙ c.if-not-are_bound.true in
+    disjunction_differs total modes arms c.args.span (among c.args.bound.now) c.index-facts-own.result c.args.written.now c.walk_arms.new.written c.in_ok-walk_arms.field-0
+    (c.in_ok-walk_arms.ensures.orders total k stretch) f owed)
+
+pub disjuncts::walk_disjunction-returns-clause-orders : goal.disjuncts::walk_disjunction-returns-clause-orders
+disjuncts::walk_disjunction-returns-clause-orders t c = λ total known stretch.
+    let modes = modes_of c.args.setting.now.predicates.now in
+    let arms = nodes_of c.args.arms.now in
+    let goal : Node = Disjunction arms c.args.span in
+    let own : length c.args.facts.now - 1 ≡ length (all_subgoals arms) = omega (arith, c.requires.known, all_subgoals_length arms) in
+    let k = known_parts total modes (all_subgoals arms) goal c.args.facts.now (length c.args.facts.now - 1) known own in
+    let f = known_own total modes (all_subgoals arms) goal c.args.facts.now (length c.args.facts.now - 1) c.index-facts-own.result known own c.index-facts-own.is in
+    let owed : are_bound (among c.args.bound.now) c.index-facts-own.result.owed ≡ true =
+    ap (λ b. are_bound (among b) c.index-facts-own.result.owed) (sym c.in_ok-walk_arms.ensures.same) ∙ ap (λ l. are_bound (among c.walk_arms.new.bound) l) (sym c.as_slice.ensures)
+    ∙ sym c.are_bound.ensures ∙ c.if-not-are_bound.false in
+    let outs : c.in_ok-outputs.outputs ≡ outputs_of total modes (among c.args.bound.now) goal =
+    c.in_ok-outputs.ensures.outputs total modes goal f stretch ∙ ap (λ b. outputs_of total modes (among b) goal) c.in_ok-walk_arms.ensures.same in
+    let new : Written = record { nodes = c.disjoin.new.self; fresh = c.walk_arms.new.written.fresh; seen = c.outputs_of.new.seen } in
+    disjunction_ready total modes arms c.args.span (among c.args.bound.now) c.index-facts-own.result (c.len.result - c.len-before.result) c.in_ok-outputs.outputs c.args.written.now c.walk_arms.new.written new
+    c.in_ok-walk_arms.field-0 (c.in_ok-walk_arms.ensures.orders total k stretch) f owed outs
+    (ap (λ n. n - c.len-before.result) c.len.ensures ∙ ap (λ n. length c.walk_arms.new.written.nodes - n) c.len-before.ensures)
+    c.in_ok-disjoin.ensures.ok refl (c.in_ok-outputs.ensures.cleared ∙ sym c.in_ok-walk_arms.ensures.adds.cleared)
+
+pub disjuncts::walk_arms-returns-in_err-walk-clause-orders : goal.disjuncts::walk_arms-returns-in_err-walk-clause-orders
+disjuncts::walk_arms-returns-in_err-walk-clause-orders t c =
+    let p = err_from_is_err_and c.from_residual.result c.from_residual.ensures.1 in
+    rw (p.1, p.2) (λ total known stretch.
+    let modes = modes_of c.args.setting.now.predicates.now in
+    let arm = c.arm-item.result in
+    let rest = drop (c.loop-arm.arm-index + 1) c.args.arms.now in
+    let whole = each_from (moves total modes (nodes_of c.args.arms.now)) (among c.args.bound.now) in
+    let w = subst (λ l. Walked total modes (nodes_of l) c.args.facts.now c.loop-arm.at c.args.setting.now.all.now c.loop-arm.place whole (each_from (moves total modes (nodes_of l)) (among c.args.bound.now)) c.args.written.now c.loop-arm.written)
+    (next_item c.args.arms.now c.loop-arm.arm-index arm c.loop-arm-test.true c.arm-item.is) (c.loop-arm.invariant.walked total known stretch) in
+    let k = facts_of_next total modes arm (nodes_of rest) c.args.facts.now c.loop-arm.at (c.loop-arm.at + c.part_count.result) w.known (ap (λ n. c.loop-arm.at + n) c.part_count.ensures) in
+    let s = stretch_front total c.args.setting.now.all.now c.loop-arm.place (variables arm) (all_variables (nodes_of rest)) w.stretch in
+    let gives = subst (λ b. Gives modes (from total modes arm (among b)) c.loop-arm.written c.walk.new.written (Err c.in_err-walk.field-0.0)) c.loop-arm.invariant.same (c.in_err-walk.ensures.orders total k s) in
+    walked_stuck total modes c.args.facts.now c.loop-arm.at c.args.setting.now.all.now c.loop-arm.place whole (each_from (moves total modes (nodes_of (arm ∷ rest))) (among c.args.bound.now))
+    c.args.written.now c.loop-arm.written c.walk.new.written c.walk.new.written (nodes_of (arm ∷ rest)) (from total modes arm (among c.args.bound.now)) c.in_err-walk.field-0.0 w
+    (λ refusal is. ap (λ o. and_all o (each_from (moves total modes (nodes_of rest)) (among c.args.bound.now))) is) gives)
+
+pub disjuncts::walk_arms-overflow_sub-own : goal.disjuncts::walk_arms-overflow_sub-own
+disjuncts::walk_arms-overflow_sub-own t c = omega (arith, some_parts c.arm-item.result c.part_count.result c.part_count.ensures)
+
+pub disjuncts::walk_arms-bounds-facts-own : goal.disjuncts::walk_arms-bounds-facts-own
+disjuncts::walk_arms-bounds-facts-own t c =
+    let one = some_parts c.arm-item.result c.part_count.result c.part_count.ensures in
+    let end = end_within c.args.arms.now c.loop-arm.arm-index c.arm-item.result c.loop-arm.at c.part_count.result c.loop-arm-test.true c.arm-item.is c.part_count.ensures c.loop-arm.invariant.at_is in
+    omega (arith, one, end, c.requires.known)
+
+pub disjuncts::walk_arms-loop-arm-preserved : goal.disjuncts::walk_arms-loop-arm-preserved
+disjuncts::walk_arms-loop-arm-preserved t c = record {
+  at_is = at_behind c.args.arms.now c.loop-arm.arm-index c.arm-item.result c.loop-arm.at c.part_count.result c.loop-arm-test.true c.arm-item.is c.part_count.ensures c.loop-arm.invariant.at_is;
+  same = c.in_ok-walk.ensures.same ∙ c.loop-arm.invariant.same;
+  adds = record { more = omega (arith, c.loop-arm.invariant.adds.more, c.in_ok-walk.ensures.adds.more); cleared = c.in_ok-walk.ensures.adds.cleared };
+  walked = λ total known stretch.
+      let modes = modes_of c.args.setting.now.predicates.now in
+      let arm = c.arm-item.result in
+      let rest = drop (c.loop-arm.arm-index + 1) c.args.arms.now in
+      let whole = each_from (moves total modes (nodes_of c.args.arms.now)) (among c.args.bound.now) in
+      let w = subst (λ l. Walked total modes (nodes_of l) c.args.facts.now c.loop-arm.at c.args.setting.now.all.now c.loop-arm.place whole (each_from (moves total modes (nodes_of l)) (among c.args.bound.now)) c.args.written.now c.loop-arm.written)
+      (next_item c.args.arms.now c.loop-arm.arm-index arm c.loop-arm-test.true c.arm-item.is) (c.loop-arm.invariant.walked total known stretch) in
+      let k = facts_of_next total modes arm (nodes_of rest) c.args.facts.now c.loop-arm.at (c.loop-arm.at + c.part_count.result) w.known (ap (λ n. c.loop-arm.at + n) c.part_count.ensures) in
+      let s = stretch_front total c.args.setting.now.all.now c.loop-arm.place (variables arm) (all_variables (nodes_of rest)) w.stretch in
+      let gives = subst (λ b. Gives modes (from total modes arm (among b)) c.loop-arm.written c.walk.new.written (Ok c.in_ok-walk.field-0)) c.loop-arm.invariant.same (c.in_ok-walk.ensures.orders total k s) in
+      let one = some_parts arm c.part_count.result c.part_count.ensures in
+      walked_on total modes arm (nodes_of rest) c.args.facts.now c.loop-arm.at (c.loop-arm.at + c.part_count.result - 1) (c.loop-arm.at + c.part_count.result) c.args.setting.now.all.now c.loop-arm.place c.place_behind-place.result
+      c.index-facts-own.result whole (each_from (moves total modes (nodes_of (arm ∷ rest))) (among c.args.bound.now)) (each_from (moves total modes (nodes_of rest)) (among c.args.bound.now)) gives.0
+      c.args.written.now c.loop-arm.written c.walk.new.written w (omega (arith, one, c.part_count.ensures)) (ap (λ n. c.loop-arm.at + n) c.part_count.ensures) c.index-facts-own.is c.place_behind-place.ensures
+      (ap (λ o. and_all o (each_from (moves total modes (nodes_of rest)) (among c.args.bound.now))) gives.1) gives.2;
+}
+
+pub disjuncts::walk_arms-returns-clause-orders : goal.disjuncts::walk_arms-returns-clause-orders
+disjuncts::walk_arms-returns-clause-orders t c = λ total known stretch.
+    let modes = modes_of c.args.setting.now.predicates.now in
+    let rest = drop c.loop-arm.arm-index c.args.arms.now in
+    let none : rest ≡ [] = drop_all c.loop-arm.arm-index c.args.arms.now (omega arith) in
+    walked_end total modes c.args.facts.now c.loop-arm.at c.args.setting.now.all.now c.loop-arm.place (each_from (moves total modes (nodes_of c.args.arms.now)) (among c.args.bound.now))
+    (each_from (moves total modes (nodes_of rest)) (among c.args.bound.now)) c.args.written.now c.loop-arm.written (nodes_of rest) (c.loop-arm.invariant.walked total known stretch)
+    (ap (λ l. each_from (moves total modes (nodes_of l)) (among c.args.bound.now)) none)
+
+-- conjunctions
+
+pub conjuncts::walk_conjunction-returns-in_err-walk_rounds-clause-orders : goal.conjuncts::walk_conjunction-returns-in_err-walk_rounds-clause-orders
+conjuncts::walk_conjunction-returns-in_err-walk_rounds-clause-orders t c =
+    let p = err_from_is_err_and c.from_residual.result c.from_residual.ensures.1 in
+    rw (p.1, p.2) (λ total known stretch.
+    let modes = modes_of c.args.setting.now.predicates.now in
+    let goals = nodes_of c.args.goals.now in
+    let own : length c.args.facts.now - 1 ≡ length (all_subgoals goals) = omega (arith, c.requires.known, all_subgoals_length goals) in
+    let k = known_parts total modes (all_subgoals goals) (Conjunction goals c.args.span) c.args.facts.now (length c.args.facts.now - 1) known own in
+    conjunction_stuck total modes goals c.args.span (among c.args.bound.now) c.args.written.now c.walk_rounds.new.written c.walk_rounds.new.written c.in_err-walk_rounds.field-0.0
+    (c.in_err-walk_rounds.ensures.orders total k stretch))
+
+pub conjuncts::walk_conjunction-returns-clause-orders : goal.conjuncts::walk_conjunction-returns-clause-orders
+conjuncts::walk_conjunction-returns-clause-orders t c = λ total known stretch.
+    let modes = modes_of c.args.setting.now.predicates.now in
+    let goals = nodes_of c.args.goals.now in
+    let goal : Node = Conjunction goals c.args.span in
+    let own : length c.args.facts.now - 1 ≡ length (all_subgoals goals) = omega (arith, c.requires.known, all_subgoals_length goals) in
+    let k = known_parts total modes (all_subgoals goals) goal c.args.facts.now (length c.args.facts.now - 1) known own in
+    let f = known_own total modes (all_subgoals goals) goal c.args.facts.now (length c.args.facts.now - 1) c.index-facts-own.result known own c.index-facts-own.is in
+    let same : c.undo.new.self ≡ c.args.bound.now = undone_is c.args.bound.now c.walk_rounds.new.bound c.undo.new.self c.mark-known.result c.in_ok-walk_rounds.ensures.extends c.mark-known.ensures c.undo.ensures in
+    let outs : c.in_ok-outputs.outputs ≡ outputs_of total modes (among c.args.bound.now) goal =
+    c.in_ok-outputs.ensures.outputs total modes goal f stretch ∙ ap (λ b. outputs_of total modes (among b) goal) same in
+    let new : Written = record { nodes = c.conjoin.new.self; fresh = c.walk_rounds.new.written.fresh; seen = c.outputs_of.new.seen } in
+    conjunction_ready total modes goals c.args.span (among c.args.bound.now) (c.len.result - c.len-before.result) c.in_ok-outputs.outputs c.args.written.now c.walk_rounds.new.written new
+    c.in_ok-walk_rounds.field-0 (c.in_ok-walk_rounds.ensures.orders total k stretch) outs
+    (ap (λ n. n - c.len-before.result) c.len.ensures ∙ ap (λ n. length c.walk_rounds.new.written.nodes - n) c.len-before.ensures)
+    c.in_ok-conjoin.ensures.ok refl (c.in_ok-outputs.ensures.cleared ∙ sym c.in_ok-walk_rounds.ensures.adds.cleared)
+
+pub conjuncts::walk_rounds-loop-round-init : goal.conjuncts::walk_rounds-loop-round-init
+conjuncts::walk_rounds-loop-round-init t c = record {
+  extends = extends_same c.args.bound.now;
+  adds = record { more = omega arith; cleared = c.requires.seen };
+  paused = λ total known stretch.
+      let modes = modes_of c.args.setting.now.predicates.now in
+      let goals = c.args.goals.now in
+      fewer_by total modes (nodes_of goals) (all_settled (moves total modes (nodes_of goals)) (among c.args.bound.now)) c.clear.new.marks (among c.args.bound.now) c.args.written.now c.args.written.now
+      (length goals) (length goals - 0) (omega arith)
+      (rounds_first total modes goals c.clear.new.marks (among c.args.bound.now) c.args.written.now (length c.args.marks.now) c.clear.ensures c.requires.marked);
+}
+
+pub conjuncts::walk_rounds-returns-in_err-walk_sweep-clause-orders : goal.conjuncts::walk_rounds-returns-in_err-walk_sweep-clause-orders
+conjuncts::walk_rounds-returns-in_err-walk_sweep-clause-orders t c =
+    let p = err_from_is_err_and c.from_residual.result c.from_residual.ensures.1 in
+    rw (p.1, p.2) (λ total known stretch.
+    let modes = modes_of c.args.setting.now.predicates.now in
+    let goals = c.args.goals.now in
+    let whole = all_settled (moves total modes (nodes_of goals)) (among c.args.bound.now) in
+    let less = length goals - (c.loop-round._round + 1) in
+    let now = fewer_by total modes (nodes_of goals) whole c.loop-round.marks (among c.loop-round.bound) c.args.written.now c.loop-round.written (length goals - c.loop-round._round) (suc less)
+    (omega (arith, c.loop-round-test.true)) (c.loop-round.invariant.paused total known stretch) in
+    rounds_err total modes (nodes_of goals) whole c.walk_sweep.new.marks (among c.walk_sweep.new.bound) c.args.written.now c.walk_sweep.new.written c.walk_sweep.new.written less c.in_err-walk_sweep.field-0.0
+    (c.in_err-walk_sweep.ensures.sweeps total whole c.args.written.now less known stretch now))
+
+pub conjuncts::walk_rounds-returns-then-branch-clause-orders : goal.conjuncts::walk_rounds-returns-then-branch-clause-orders
+conjuncts::walk_rounds-returns-then-branch-clause-orders t c = λ total known stretch.
+    let modes = modes_of c.args.setting.now.predicates.now in
+    let goals = c.args.goals.now in
+    let whole = all_settled (moves total modes (nodes_of goals)) (among c.args.bound.now) in
+    let less = length goals - (c.loop-round._round + 1) in
+    let now = fewer_by total modes (nodes_of goals) whole c.loop-round.marks (among c.loop-round.bound) c.args.written.now c.loop-round.written (length goals - c.loop-round._round) (suc less)
+    (omega (arith, c.loop-round-test.true)) (c.loop-round.invariant.paused total known stretch) in
+    subst (λ b. SweepGives total modes (nodes_of goals) whole c.walk_sweep.new.marks (among c.walk_sweep.new.bound) c.args.written.now c.walk_sweep.new.written less (Ok b)) c.if-branch.true
+    (c.in_ok-walk_sweep.ensures.sweeps total whole c.args.written.now less known stretch now)
+
+pub conjuncts::walk_rounds-loop-round-preserved : goal.conjuncts::walk_rounds-loop-round-preserved
+conjuncts::walk_rounds-loop-round-preserved t c = record {
+  extends = extends_on c.args.bound.now c.loop-round.bound c.walk_sweep.new.bound c.loop-round.invariant.extends c.in_ok-walk_sweep.ensures.extends;
+  adds = record { more = omega (arith, c.loop-round.invariant.adds.more, c.in_ok-walk_sweep.ensures.adds.more); cleared = c.in_ok-walk_sweep.ensures.adds.cleared };
+  paused = λ total known stretch.
+      let modes = modes_of c.args.setting.now.predicates.now in
+      let goals = c.args.goals.now in
+      let whole = all_settled (moves total modes (nodes_of goals)) (among c.args.bound.now) in
+      let less = length goals - (c.loop-round._round + 1) in
+      let now = fewer_by total modes (nodes_of goals) whole c.loop-round.marks (among c.loop-round.bound) c.args.written.now c.loop-round.written (length goals - c.loop-round._round) (suc less)
+      (omega (arith, c.loop-round-test.true)) (c.loop-round.invariant.paused total known stretch) in
+      subst (λ b. SweepGives total modes (nodes_of goals) whole c.walk_sweep.new.marks (among c.walk_sweep.new.bound) c.args.written.now c.walk_sweep.new.written less (Ok b)) c.if-branch.false
+      (c.in_ok-walk_sweep.ensures.sweeps total whole c.args.written.now less known stretch now);
+}
+
+pub conjuncts::walk_rounds-returns-clause-orders : goal.conjuncts::walk_rounds-returns-clause-orders
+conjuncts::walk_rounds-returns-clause-orders t c = λ total known stretch.
+    let modes = modes_of c.args.setting.now.predicates.now in
+    let goals = c.args.goals.now in
+    rounds_end total modes (nodes_of goals) (all_settled (moves total modes (nodes_of goals)) (among c.args.bound.now)) c.loop-round.marks (among c.loop-round.bound) c.args.written.now c.loop-round.written
+    (length goals - c.loop-round._round) (c.loop-round.invariant.paused total known stretch) (omega arith)
+
+-- one time over the goals of a conjunction
+
+pub conjuncts::walk_sweep-loop-goal-init : goal.conjuncts::walk_sweep-loop-goal-init
+conjuncts::walk_sweep-loop-goal-init t c = record {
+  at_is = omega arith;
+  extends = extends_same c.args.bound.now;
+  adds = record { more = omega arith; cleared = c.requires.seen };
+  not_again = refl;
+  amid = λ total start whole old count known stretch paused.
+      let modes = modes_of c.args.setting.now.predicates.now in (
+        record { front = []; back = c.args.facts.now; at_is = refl; facts_are = refl; known = known },
+        stretch,
+        amid_first total modes (nodes_of c.args.goals.now) start whole c.args.marks.now (among c.args.bound.now) old c.args.written.now count paused,
+      );
+}
+
+pub conjuncts::walk_sweep-overflow_sub-own : goal.conjuncts::walk_sweep-overflow_sub-own
+conjuncts::walk_sweep-overflow_sub-own t c = omega (arith, some_parts c.goal-item.result c.part_count.result c.part_count.ensures)
+
+pub conjuncts::walk_sweep-returns-in_err-sweep-clause-sweeps : goal.conjuncts::walk_sweep-returns-in_err-sweep-clause-sweeps
+conjuncts::walk_sweep-returns-in_err-sweep-clause-sweeps t c =
+    let p = err_from_is_err_and c.from_residual.result c.from_residual.ensures.1 in
+    rw (p.1, p.2) (λ total whole old less known stretch paused.
+    let modes = modes_of c.args.setting.now.predicates.now in
+    let goals = nodes_of c.args.goals.now in
+    let start = among c.args.bound.now in
+    let goal = c.goal-item.result in
+    let rest = drop (c.loop-goal.goal-index + 1) c.args.goals.now in
+    let all = subst (λ l. AreKnownFrom total modes (all_subgoals (nodes_of l)) c.args.facts.now c.loop-goal.at
+    × IsStretch total c.args.setting.now.all.now c.loop-goal.place (c.loop-goal.place + length (all_variables (nodes_of l))) (all_variables (nodes_of l))
+    × Amid total modes goals start whole (nodes_of l) c.loop-goal.marks c.loop-goal.at (among c.loop-goal.bound) c.loop-goal.sweep.is_left c.loop-goal.sweep.is_again old c.loop-goal.written (suc less))
+    (next_item c.args.goals.now c.loop-goal.goal-index goal c.loop-goal-test.true c.goal-item.is) (c.loop-goal.invariant.amid total start whole old (suc less) known stretch paused) in
+    let step = c.in_err-sweep.ensures.steps total goals (nodes_of rest) start whole old (suc less) all.0 all.1 c.loop-goal.invariant.not_again all.2 in
+    sweep_err total modes goals start whole (nodes_of rest) c.walk_member.new.marks c.walk_member.new.marks (c.loop-goal.at + length (parts_of goal)) (among c.walk_member.new.bound) (among c.walk_member.new.bound)
+    old c.walk_member.new.written c.walk_member.new.written (suc less) less c.in_err-sweep.field-0.0 step)
+
+pub conjuncts::walk_sweep-returns-then-sweep-clause-sweeps : goal.conjuncts::walk_sweep-returns-then-sweep-clause-sweeps
+conjuncts::walk_sweep-returns-then-sweep-clause-sweeps t c = λ total whole old less known stretch waits.
+    let modes = modes_of c.args.setting.now.predicates.now in
+    let goals = nodes_of c.args.goals.now in
+    let start = among c.args.bound.now in
+    let goal = c.goal-item.result in
+    let rest = drop (c.loop-goal.goal-index + 1) c.args.goals.now in
+    let all = subst (λ l. AreKnownFrom total modes (all_subgoals (nodes_of l)) c.args.facts.now c.loop-goal.at
+    × IsStretch total c.args.setting.now.all.now c.loop-goal.place (c.loop-goal.place + length (all_variables (nodes_of l))) (all_variables (nodes_of l))
+    × Amid total modes goals start whole (nodes_of l) c.loop-goal.marks c.loop-goal.at (among c.loop-goal.bound) c.loop-goal.sweep.is_left c.loop-goal.sweep.is_again old c.loop-goal.written (suc less))
+    (next_item c.args.goals.now c.loop-goal.goal-index goal c.loop-goal-test.true c.goal-item.is) (c.loop-goal.invariant.amid total start whole old (suc less) known stretch waits) in
+    let step = c.in_ok-sweep.ensures.steps total goals (nodes_of rest) start whole old (suc less) all.0 all.1 c.loop-goal.invariant.not_again all.2 in
+    paused total modes goals start whole (nodes_of rest) c.walk_member.new.marks (c.loop-goal.at + length (parts_of goal)) (among c.walk_member.new.bound) c.in_ok-sweep.sweep.is_left c.in_ok-sweep.sweep.is_again
+    old c.walk_member.new.written less step c.if-sweep.true
+
+pub conjuncts::walk_sweep-bounds-facts-own : goal.conjuncts::walk_sweep-bounds-facts-own
+conjuncts::walk_sweep-bounds-facts-own t c =
+    let one = some_parts c.goal-item.result c.part_count.result c.part_count.ensures in
+    let end = end_within c.args.goals.now c.loop-goal.goal-index c.goal-item.result c.loop-goal.at c.part_count.result c.loop-goal-test.true c.goal-item.is c.part_count.ensures c.loop-goal.invariant.at_is in
+    omega (arith, one, end, c.requires.known)
+
+pub conjuncts::walk_sweep-loop-goal-preserved : goal.conjuncts::walk_sweep-loop-goal-preserved
+conjuncts::walk_sweep-loop-goal-preserved t c = record {
+  at_is = at_behind c.args.goals.now c.loop-goal.goal-index c.goal-item.result c.loop-goal.at c.part_count.result c.loop-goal-test.true c.goal-item.is c.part_count.ensures c.loop-goal.invariant.at_is;
+  extends = extends_on c.args.bound.now c.loop-goal.bound c.walk_member.new.bound c.loop-goal.invariant.extends c.in_ok-sweep.ensures.extends;
+  adds = record { more = omega (arith, c.loop-goal.invariant.adds.more, c.in_ok-sweep.ensures.adds.more); cleared = c.in_ok-sweep.ensures.adds.cleared };
+  not_again = c.if-sweep.false;
+  amid = λ total start whole old count known stretch waits.
+      let modes = modes_of c.args.setting.now.predicates.now in
+      let goals = nodes_of c.args.goals.now in
+      let goal = c.goal-item.result in
+      let rest = drop (c.loop-goal.goal-index + 1) c.args.goals.now in
+      let end : c.loop-goal.at + length (parts_of goal) ≡ c.loop-goal.at + c.part_count.result = ap (λ n. c.loop-goal.at + n) (sym c.part_count.ensures) in
+      let one = some_parts goal c.part_count.result c.part_count.ensures in
+      let own : suc (c.loop-goal.at + c.part_count.result - 1) ≡ c.loop-goal.at + length (parts_of goal) = omega (arith, one, c.part_count.ensures) in
+      let all = subst (λ l. AreKnownFrom total modes (all_subgoals (nodes_of l)) c.args.facts.now c.loop-goal.at
+      × IsStretch total c.args.setting.now.all.now c.loop-goal.place (c.loop-goal.place + length (all_variables (nodes_of l))) (all_variables (nodes_of l))
+      × Amid total modes goals start whole (nodes_of l) c.loop-goal.marks c.loop-goal.at (among c.loop-goal.bound) c.loop-goal.sweep.is_left c.loop-goal.sweep.is_again old c.loop-goal.written count)
+      (next_item c.args.goals.now c.loop-goal.goal-index goal c.loop-goal-test.true c.goal-item.is) (c.loop-goal.invariant.amid total start whole old count known stretch waits) in
+      let step = c.in_ok-sweep.ensures.steps total goals (nodes_of rest) start whole old count all.0 all.1 c.loop-goal.invariant.not_again all.2 in
+      let found = known_next total modes goal (nodes_of rest) c.args.facts.now c.loop-goal.at (c.loop-goal.at + c.part_count.result - 1) c.index-facts-own.result all.0 own c.index-facts-own.is in (
+        subst (λ n. AreKnownFrom total modes (all_subgoals (nodes_of rest)) c.args.facts.now n) end (next_known total modes goal (nodes_of rest) c.args.facts.now c.loop-goal.at all.0).others_known,
+        next_stretch total modes goal c.args.setting.now.all.now c.loop-goal.place c.place_behind-place.result (all_variables (nodes_of rest)) c.index-facts-own.result found all.1 c.place_behind-place.ensures,
+        subst (λ n. Amid total modes goals start whole (nodes_of rest) c.walk_member.new.marks n (among c.walk_member.new.bound) c.in_ok-sweep.sweep.is_left c.in_ok-sweep.sweep.is_again old c.walk_member.new.written count) end step,
+      );
+}
+
+pub conjuncts::walk_sweep-returns-in_err-walk_first_left-clause-sweeps : goal.conjuncts::walk_sweep-returns-in_err-walk_first_left-clause-sweeps
+conjuncts::walk_sweep-returns-in_err-walk_first_left-clause-sweeps t c =
+    let p = err_from_is_err_and c.from_residual-in_err-walk_first_left.result c.from_residual-in_err-walk_first_left.ensures.1 in
+    rw (p.1, p.2) (λ total whole old less known stretch waits.
+    let modes = modes_of c.args.setting.now.predicates.now in
+    let goals = nodes_of c.args.goals.now in
+    let start = among c.args.bound.now in
+    let none : drop c.loop-goal.goal-index c.args.goals.now ≡ [] = drop_all c.loop-goal.goal-index c.args.goals.now (omega arith) in
+    let amid = subst (λ l. Amid total modes goals start whole (nodes_of l) c.loop-goal.marks c.loop-goal.at (among c.loop-goal.bound) c.loop-goal.sweep.is_left c.loop-goal.sweep.is_again old c.loop-goal.written (suc less)) none
+    (c.loop-goal.invariant.amid total start whole old (suc less) known stretch waits).2 in
+    told total modes goals start whole c.loop-goal.marks c.walk_first_left.new.marks c.loop-goal.at (among c.loop-goal.bound) (among c.walk_first_left.new.bound) c.loop-goal.sweep.is_left c.loop-goal.sweep.is_again
+    old c.loop-goal.written c.walk_first_left.new.written (suc less) less c.in_err-walk_first_left.field-0.0 amid c.if-sweep-2.true c.loop-goal.invariant.not_again
+    (λ marked fits flags. c.in_err-walk_first_left.ensures.tells total marked fits flags known stretch))
+
+pub conjuncts::walk_sweep-returns-in_ok-walk_first_left-clause-sweeps : goal.conjuncts::walk_sweep-returns-in_ok-walk_first_left-clause-sweeps
+conjuncts::walk_sweep-returns-in_ok-walk_first_left-clause-sweeps t c = λ total whole old less known stretch waits.
+    let modes = modes_of c.args.setting.now.predicates.now in
+    let goals = nodes_of c.args.goals.now in
+    let start = among c.args.bound.now in
+    let none : drop c.loop-goal.goal-index c.args.goals.now ≡ [] = drop_all c.loop-goal.goal-index c.args.goals.now (omega arith) in
+    let amid = subst (λ l. Amid total modes goals start whole (nodes_of l) c.loop-goal.marks c.loop-goal.at (among c.loop-goal.bound) c.loop-goal.sweep.is_left c.loop-goal.sweep.is_again old c.loop-goal.written (suc less)) none
+    (c.loop-goal.invariant.amid total start whole old (suc less) known stretch waits).2 in
+    absurd (not_ready total modes goals start whole c.loop-goal.marks c.loop-goal.at (among c.loop-goal.bound) c.loop-goal.sweep.is_left c.loop-goal.sweep.is_again old c.loop-goal.written (suc less)
+    c.in_ok-walk_first_left.field-0 amid c.if-sweep-2.true c.loop-goal.invariant.not_again (λ marked fits flags. c.in_ok-walk_first_left.ensures.tells total marked fits flags known stretch))
+
+pub conjuncts::walk_sweep-returns-else-sweep-2-clause-sweeps : goal.conjuncts::walk_sweep-returns-else-sweep-2-clause-sweeps
+conjuncts::walk_sweep-returns-else-sweep-2-clause-sweeps t c = λ total whole old less known stretch waits.
+    let modes = modes_of c.args.setting.now.predicates.now in
+    let goals = nodes_of c.args.goals.now in
+    let start = among c.args.bound.now in
+    let none : drop c.loop-goal.goal-index c.args.goals.now ≡ [] = drop_all c.loop-goal.goal-index c.args.goals.now (omega arith) in
+    let amid = subst (λ l. Amid total modes goals start whole (nodes_of l) c.loop-goal.marks c.loop-goal.at (among c.loop-goal.bound) c.loop-goal.sweep.is_left c.loop-goal.sweep.is_again old c.loop-goal.written (suc less)) none
+    (c.loop-goal.invariant.amid total start whole old (suc less) known stretch waits).2 in
+    none_is_left total modes goals start whole c.loop-goal.marks c.loop-goal.at (among c.loop-goal.bound) c.loop-goal.sweep.is_left c.loop-goal.sweep.is_again old c.loop-goal.written less (suc less) amid c.if-sweep-2.false
+
+-- the next goal of a conjunction
+
+pub conjuncts::walk_member-overflow_sub-own : goal.conjuncts::walk_member-overflow_sub-own
+conjuncts::walk_member-overflow_sub-own t c = omega (arith, some_parts c.args.goal.now c.part_count.result c.part_count.ensures)
+
+pub conjuncts::walk_member-bounds-marks-own : goal.conjuncts::walk_member-bounds-marks-own
+conjuncts::walk_member-bounds-marks-own t c =
+    let one = some_parts c.args.goal.now c.part_count.result c.part_count.ensures in
+    omega (arith, one, c.part_count.ensures, c.requires.marked)
+
+pub conjuncts::walk_member-returns-then-marks-own-clause-steps : goal.conjuncts::walk_member-returns-then-marks-own-clause-steps
+conjuncts::walk_member-returns-then-marks-own-clause-steps t c = λ total goals rest start whole old count known stretch once amid.
+    let modes = modes_of c.args.setting.now.predicates.now in
+    let one = some_parts c.args.goal.now c.part_count.result c.part_count.ensures in
+    member_passes total modes goals start whole c.args.goal.now rest c.args.marks.now c.args.at (among c.args.bound.now) c.args.sweep.is_left c.args.sweep.is_again old c.args.written.now count
+    (c.args.at + c.part_count.result - 1) amid (omega (arith, one, c.part_count.ensures)) c.if-marks-own.true
+
+pub conjuncts::walk_member-returns-in_err-walk_if_ready-clause-steps : goal.conjuncts::walk_member-returns-in_err-walk_if_ready-clause-steps
+conjuncts::walk_member-returns-in_err-walk_if_ready-clause-steps t c =
+    let p = err_from_is_err_and c.from_residual.result c.from_residual.ensures.1 in
+    rw (p.1, p.2) (λ total goals rest start whole old count known stretch once amid.
+    let modes = modes_of c.args.setting.now.predicates.now in
+    let goal = c.args.goal.now in
+    let one = some_parts goal c.part_count.result c.part_count.ensures in
+    let own : suc (c.args.at + c.part_count.result - 1) ≡ c.args.at + length (parts_of goal) = omega (arith, one, c.part_count.ensures) in
+    let end : c.args.at + c.part_count.result ≡ c.args.at + length (parts_of goal) = ap (λ n. c.args.at + n) c.part_count.ensures in
+    let k = facts_of_next total modes goal rest c.args.facts.now c.args.at (c.args.at + c.part_count.result) known end in
+    let s = stretch_front total c.args.setting.now.all.now c.args.place (variables goal) (all_variables rest) stretch in
+    let m = member_marks total modes goals start whole goal rest c.args.marks.now c.args.at (among c.args.bound.now) c.args.sweep.is_left c.args.sweep.is_again old c.args.written.now count
+    (c.args.at + c.part_count.result - 1) (c.args.at + c.part_count.result) amid own end c.if-marks-own.false in
+    step_err total modes goals start whole goal rest c.walk_if_ready.new.marks (put_mid c.args.at (c.args.at + c.part_count.result - c.args.at) c.args.marks.now c.walk_if_ready.new.marks) (c.args.at + length (parts_of goal)) c.args.bound.now c.walk_if_ready.new.bound (among c.walk_if_ready.new.bound)
+    old c.args.written.now c.walk_if_ready.new.written c.walk_if_ready.new.written count c.in_err-walk_if_ready.field-0.0 (c.in_err-walk_if_ready.ensures.goes total k s m))
+
+pub conjuncts::walk_member-returns-then-not-branch-clause-steps : goal.conjuncts::walk_member-returns-then-not-branch-clause-steps
+conjuncts::walk_member-returns-then-not-branch-clause-steps t c = λ total goals rest start whole old count known stretch once amid.
+    let modes = modes_of c.args.setting.now.predicates.now in
+    let goal = c.args.goal.now in
+    let one = some_parts goal c.part_count.result c.part_count.ensures in
+    let own : suc (c.args.at + c.part_count.result - 1) ≡ c.args.at + length (parts_of goal) = omega (arith, one, c.part_count.ensures) in
+    let end : c.args.at + c.part_count.result ≡ c.args.at + length (parts_of goal) = ap (λ n. c.args.at + n) c.part_count.ensures in
+    let k = facts_of_next total modes goal rest c.args.facts.now c.args.at (c.args.at + c.part_count.result) known end in
+    let s = stretch_front total c.args.setting.now.all.now c.args.place (variables goal) (all_variables rest) stretch in
+    let m = member_marks total modes goals start whole goal rest c.args.marks.now c.args.at (among c.args.bound.now) c.args.sweep.is_left c.args.sweep.is_again old c.args.written.now count
+    (c.args.at + c.part_count.result - 1) (c.args.at + c.part_count.result) amid own end c.if-marks-own.false in
+    let stays = subst (λ b. GoesIfReady total modes goal c.walk_if_ready.new.marks c.args.bound.now c.walk_if_ready.new.bound c.args.written.now c.walk_if_ready.new.written (Ok b)) c.if-not-branch.true
+    (c.in_ok-walk_if_ready.ensures.goes total k s m) in
+    member_stays total modes goals start whole goal rest c.args.marks.now c.walk_if_ready.new.marks c.args.at c.args.bound.now c.walk_if_ready.new.bound c.args.sweep.is_left c.args.sweep.is_again
+    old c.args.written.now c.walk_if_ready.new.written count (c.args.at + c.part_count.result - 1) (c.args.at + c.part_count.result - c.args.at) amid own c.if-marks-own.false
+    (omega (arith, c.part_count.ensures)) once stays
+
+pub conjuncts::walk_member-returns-clause-steps : goal.conjuncts::walk_member-returns-clause-steps
+conjuncts::walk_member-returns-clause-steps t c = λ total goals rest start whole old count known stretch once amid.
+    let modes = modes_of c.args.setting.now.predicates.now in
+    let goal = c.args.goal.now in
+    let one = some_parts goal c.part_count.result c.part_count.ensures in
+    let own : suc (c.args.at + c.part_count.result - 1) ≡ c.args.at + length (parts_of goal) = omega (arith, one, c.part_count.ensures) in
+    let end : c.args.at + c.part_count.result ≡ c.args.at + length (parts_of goal) = ap (λ n. c.args.at + n) c.part_count.ensures in
+    let k = facts_of_next total modes goal rest c.args.facts.now c.args.at (c.args.at + c.part_count.result) known end in
+    let s = stretch_front total c.args.setting.now.all.now c.args.place (variables goal) (all_variables rest) stretch in
+    let m = member_marks total modes goals start whole goal rest c.args.marks.now c.args.at (among c.args.bound.now) c.args.sweep.is_left c.args.sweep.is_again old c.args.written.now count
+    (c.args.at + c.part_count.result - 1) (c.args.at + c.part_count.result) amid own end c.if-marks-own.false in
+    let goes = subst (λ b. GoesIfReady total modes goal c.walk_if_ready.new.marks c.args.bound.now c.walk_if_ready.new.bound c.args.written.now c.walk_if_ready.new.written (Ok b)) c.if-not-branch.false
+    (c.in_ok-walk_if_ready.ensures.goes total k s m) in
+    member_went total modes goals start whole goal rest c.args.marks.now c.walk_if_ready.new.marks c.args.at c.args.bound.now c.walk_if_ready.new.bound c.args.sweep.is_left c.args.sweep.is_again c.begins_again-is_again.result
+    old c.args.written.now c.walk_if_ready.new.written count (c.args.at + c.part_count.result - 1) (c.args.at + c.part_count.result - c.args.at) c.mark-known.result c.mark-now.result amid own c.if-marks-own.false
+    (omega (arith, c.part_count.ensures)) once goes c.begins_again-is_again.ensures c.mark-known.ensures c.mark-now.ensures c.in_ok-walk_if_ready.ensures.extends
+
+-- a goal that goes if it is ready
+
+pub conjuncts::walk_if_ready-returns-then-not-branch-clause-goes : goal.conjuncts::walk_if_ready-returns-then-not-branch-clause-goes
+conjuncts::walk_if_ready-returns-then-not-branch-clause-goes t c = λ total known stretch marked.
+    if_stays total (modes_of c.args.setting.now.predicates.now) c.args.goal.now c.advance.new.marks c.args.bound.now c.advance.new.bound c.args.written.now c.in_ok-advance.field-0
+    (c.in_ok-advance.ensures.asked total known marked) c.if-not-branch.true c.in_ok-advance.ensures.same
+
+pub conjuncts::walk_if_ready-overflow_sub-own : goal.conjuncts::walk_if_ready-overflow_sub-own
+conjuncts::walk_if_ready-overflow_sub-own t c = some_parts c.args.goal.now c.part_count-own.result c.part_count-own.ensures
+
+pub conjuncts::walk_if_ready-bounds-marks-own : goal.conjuncts::walk_if_ready-bounds-marks-own
+conjuncts::walk_if_ready-bounds-marks-own t c =
+    let one = some_parts c.args.goal.now c.part_count-own.result c.part_count-own.ensures in
+    omega (arith, one, c.part_count-own.ensures, c.requires.marked, c.walk.auto.marks, c.advance.auto.marks)
+
+pub conjuncts::walk_if_ready-bounds-facts-own : goal.conjuncts::walk_if_ready-bounds-facts-own
+conjuncts::walk_if_ready-bounds-facts-own t c =
+    let one = some_parts c.args.goal.now c.part_count-own.result c.part_count-own.ensures in
+    omega (arith, one, c.part_count-own.ensures, c.requires.known)
+
+pub conjuncts::walk_if_ready-returns-clause-extends : goal.conjuncts::walk_if_ready-returns-clause-extends
+conjuncts::walk_if_ready-returns-clause-extends t c =
+    subst (λ b. Extends b c.bind_all.new.self) (c.in_ok-walk.ensures.same ∙ c.in_ok-advance.ensures.same)
+    (subst (λ l. Extends c.walk.new.bound l) (sym c.in_ok-bind_all.ensures) (extends_all c.walk.new.bound c.as_slice.result.now))
+
+pub conjuncts::walk_if_ready-returns-clause-goes : goal.conjuncts::walk_if_ready-returns-clause-goes
+conjuncts::walk_if_ready-returns-clause-goes t c = λ total known stretch marked.
+    let modes = modes_of c.args.setting.now.predicates.now in
+    let goal = c.args.goal.now in
+    let one = some_parts goal c.part_count-own.result c.part_count-own.ensures in
+    let own : suc (c.part_count-own.result - 1) ≡ length (parts_of goal) = omega (arith, one, c.part_count-own.ensures) in
+    let same = c.in_ok-walk.ensures.same ∙ c.in_ok-advance.ensures.same in
+    let gives = subst (λ b. Gives modes (from total modes goal (among b)) c.args.written.now c.walk.new.written (Ok c.in_ok-walk.field-0)) (sym c.in_ok-walk.ensures.same)
+    (c.in_ok-walk.ensures.orders total known stretch) in
+    let set : c.bind_all.new.self ≡ all_behind c.walk.new.bound c.index-facts-own.result.binds = c.in_ok-bind_all.ensures ∙ ap (λ l. all_behind c.walk.new.bound l) c.as_slice.ensures in
+    if_goes total modes goal c.args.facts.now c.walk.new.marks c.args.bound.now c.walk.new.bound c.bind_all.new.self (c.part_count-own.result - 1) c.index-facts-own.result c.args.written.now c.walk.new.written
+    c.in_ok-walk.field-0 gives same known own c.index-facts-own.is set (omega (arith, c.requires.marked, c.walk.auto.marks, c.advance.auto.marks))
+
+-- the first goal that is left
+
+pub conjuncts::walk_first_left-overflow_sub-own : goal.conjuncts::walk_first_left-overflow_sub-own
+conjuncts::walk_first_left-overflow_sub-own t c = omega (arith, some_parts c.goal-item.result c.part_count.result c.part_count.ensures)
+
+pub conjuncts::walk_first_left-bounds-marks-own : goal.conjuncts::walk_first_left-bounds-marks-own
+conjuncts::walk_first_left-bounds-marks-own t c =
+    let one = some_parts c.goal-item.result c.part_count.result c.part_count.ensures in
+    let end = end_within c.args.goals.now c.loop-goal.goal-index c.goal-item.result c.loop-goal.at c.part_count.result c.loop-goal-test.true c.goal-item.is c.part_count.ensures c.loop-goal.invariant.at_is in
+    let long : length c.loop-goal.marks ≡ length c.args.marks.now = ap length c.loop-goal.invariant.same_marks in
+    omega (arith, one, end, long, c.requires.marked)
+
+pub conjuncts::walk_first_left-returns-then-not-marks-own-clause-tells : goal.conjuncts::walk_first_left-returns-then-not-marks-own-clause-tells
+conjuncts::walk_first_left-returns-then-not-marks-own-clause-tells t c = λ total marked fits flags known stretch.
+    let modes = modes_of c.args.setting.now.predicates.now in
+    let goal = c.goal-item.result in
+    let rest = drop (c.loop-goal.goal-index + 1) c.args.goals.now in
+    let those = left total modes (nodes_of c.args.goals.now) marked in
+    let one = some_parts goal c.part_count.result c.part_count.ensures in
+    let p = subst (λ l. Passing total modes (nodes_of l) c.args.facts.now c.args.marks.now c.loop-goal.at c.args.setting.now.all.now c.loop-goal.place those)
+    (next_item c.args.goals.now c.loop-goal.goal-index goal c.loop-goal-test.true c.goal-item.is) (c.loop-goal.invariant.passing total marked fits flags known stretch) in
+    let k = facts_of_next total modes goal (nodes_of rest) c.args.facts.now c.loop-goal.at (c.loop-goal.at + c.part_count.result) p.known (ap (λ n. c.loop-goal.at + n) c.part_count.ensures) in
+    let s = stretch_front total c.args.setting.now.all.now c.loop-goal.place (variables goal) (all_variables (nodes_of rest)) p.stretch in
+    let gives = subst (λ b. Gives modes (from total modes goal (among b)) c.loop-goal.written c.walk.new.written c.walk.result) c.loop-goal.invariant.same (c.walk.ensures.orders total k s) in
+    first_tells total modes goal (nodes_of rest) c.args.facts.now c.args.marks.now c.loop-goal.at (c.loop-goal.at + c.part_count.result - 1) c.args.setting.now.all.now c.loop-goal.place those (among c.args.bound.now)
+    c.loop-goal.written c.walk.new.written c.walk.result p (omega (arith, one, c.part_count.ensures))
+    (ap (λ l. slice_index_or l (c.loop-goal.at + c.part_count.result - 1) false) (sym c.loop-goal.invariant.same_marks) ∙ c.if-not-marks-own.true) gives
+
+pub conjuncts::walk_first_left-loop-goal-preserved : goal.conjuncts::walk_first_left-loop-goal-preserved
+conjuncts::walk_first_left-loop-goal-preserved t c = record {
+  at_is = at_behind c.args.goals.now c.loop-goal.goal-index c.goal-item.result c.loop-goal.at c.part_count.result c.loop-goal-test.true c.goal-item.is c.part_count.ensures c.loop-goal.invariant.at_is;
+  same_marks = c.loop-goal.invariant.same_marks;
+  same = c.loop-goal.invariant.same;
+  same_written = c.loop-goal.invariant.same_written;
+  passing = λ total marked fits flags known stretch.
+      let modes = modes_of c.args.setting.now.predicates.now in
+      let goal = c.goal-item.result in
+      let rest = drop (c.loop-goal.goal-index + 1) c.args.goals.now in
+      let those = left total modes (nodes_of c.args.goals.now) marked in
+      let one = some_parts goal c.part_count.result c.part_count.ensures in
+      let p = subst (λ l. Passing total modes (nodes_of l) c.args.facts.now c.args.marks.now c.loop-goal.at c.args.setting.now.all.now c.loop-goal.place those)
+      (next_item c.args.goals.now c.loop-goal.goal-index goal c.loop-goal-test.true c.goal-item.is) (c.loop-goal.invariant.passing total marked fits flags known stretch) in
+      passing_on total modes goal (nodes_of rest) c.args.facts.now c.args.marks.now c.loop-goal.at (c.loop-goal.at + c.part_count.result - 1) (c.loop-goal.at + c.part_count.result) c.args.setting.now.all.now
+      c.loop-goal.place c.place_behind-place.result c.index-facts-own.result those p (omega (arith, one, c.part_count.ensures)) (ap (λ n. c.loop-goal.at + n) c.part_count.ensures)
+      (ap (λ l. slice_index_or l (c.loop-goal.at + c.part_count.result - 1) false) (sym c.loop-goal.invariant.same_marks) ∙ c.if-not-marks-own.false) c.index-facts-own.is c.place_behind-place.ensures;
+}
+
+-- goals that hold no others
+
+pub walking::walk-returns-in-Simple-clause-orders : goal.walking::walk-returns-in-Simple-clause-orders
+walking::walk-returns-in-Simple-clause-orders t c =
+    let same : Simple c.in-Simple.simple.now c.span-span.result ≡ c.args.goal.now = ap (λ s. Simple c.in-Simple.simple.now s) c.span-span.ensures ∙ c.in-Simple.ensures in
+    subst (λ g. Orders c.args.setting.now.predicates.now g c.args.facts.now c.args.setting.now.all.now c.args.start c.args.bound.now c.args.written.now c.walk_simple.new.written c.walk_simple.result) same
+    c.walk_simple.ensures.orders
+
+-- if-then-elses
+
+pub links::walk_guard-returns-in_err-walk-clause-guards : goal.links::walk_guard-returns-in_err-walk-clause-guards
+links::walk_guard-returns-in_err-walk-clause-guards t c =
+    let p = err_from_is_err_and c.from_residual.result c.from_residual.ensures.1 in
+    rw (p.1, p.2) (λ total else_part span known own stretch.
+    let modes = modes_of c.args.setting.now.predicates.now in
+    let k = condition_known total modes c.args.condition.now c.args.then_part.now c.args.facts.now c.part_count-count.result known c.part_count-count.ensures in
+    let s = stretch_front total c.args.setting.now.all.now c.args.start (variables c.args.condition.now) (variables c.args.then_part.now) stretch in
+    condition_err total modes c.args.condition.now c.args.then_part.now (among c.args.bound.now) c.args.start c.args.written.now c.walk.new.written c.walk.new.written c.in_err-walk.field-0.0
+    (c.in_err-walk.ensures.orders total k s))
+
+pub links::walk_guard-returns-then-not-are_bound-clause-guards : goal.links::walk_guard-returns-then-not-are_bound-clause-guards
+links::walk_guard-returns-then-not-are_bound-clause-guards t c =
+    let place : c.fault_at.result ≡ Refused (binds_outer (span_of c.args.condition.now)) = c.fault_at.ensures ∙ ap (λ s. Refused (binds_outer s)) c.span.ensures in
+    rw place (λ total else_part span known own stretch.
+    let modes = modes_of c.args.setting.now.predicates.now in
+    let k = condition_known total modes c.args.condition.now c.args.then_part.now c.args.facts.now c.part_count-count.result known c.part_count-count.ensures in
+    let s = stretch_front total c.args.setting.now.all.now c.args.start (variables c.args.condition.now) (variables c.args.then_part.now) stretch in
+    let owed : are_bound (among c.args.bound.now) c.args.own.now.owed_by_condition ≡ false =
+    ap (λ b. are_bound (among b) c.args.own.now.owed_by_condition) (sym c.in_ok-walk.ensures.same) ∙ ap (λ l. are_bound (among c.walk.new.bound) l) (sym c.as_slice.ensures)
+    ∙ sym c.are_bound.ensures ∙ c.if-not-are_bound.true in
+    condition_outer total modes c.args.condition.now c.args.then_part.now (among c.args.bound.now) c.args.own.now else_part span c.args.written.now c.walk.new.written c.in_ok-walk.field-0
+    (c.in_ok-walk.ensures.orders total k s) own owed)
+
+pub links::walk_guard-overflow_sub-last : goal.links::walk_guard-overflow_sub-last
+links::walk_guard-overflow_sub-last t c = omega (arith, some_parts c.args.condition.now c.part_count-count.result c.part_count-count.ensures)
+
+pub links::walk_guard-bounds-facts-last : goal.links::walk_guard-bounds-facts-last
+links::walk_guard-bounds-facts-last t c =
+    let one = some_parts c.args.condition.now c.part_count-count.result c.part_count-count.ensures in
+    omega (arith, one, c.part_count-count.ensures, c.requires.known)
+
+pub links::walk_guard-overflow_sub-end : goal.links::walk_guard-overflow_sub-end
+links::walk_guard-overflow_sub-end t c =
+    let one = some_parts c.args.condition.now c.part_count-count.result c.part_count-count.ensures in
+    omega (arith, one, c.part_count-count.ensures, c.requires.known)
+
+pub links::walk_guard-bounds-facts-end : goal.links::walk_guard-bounds-facts-end
+links::walk_guard-bounds-facts-end t c =
+    let one = some_parts c.args.condition.now c.part_count-count.result c.part_count-count.ensures in
+    omega (arith, one, c.part_count-count.ensures, c.requires.known)
+
+pub links::walk_guard-returns-clause-same : goal.links::walk_guard-returns-clause-same
+links::walk_guard-returns-clause-same t c =
+    undone_is c.args.bound.now c.walk-2.new.bound c.undo.new.self c.mark-before.result
+    (subst (λ b. Extends b c.walk-2.new.bound) c.in_ok-walk.ensures.same
+    (subst (λ b. Extends c.walk.new.bound b) (sym (c.in_ok-walk-2.ensures.same ∙ c.in_ok-bind_all.ensures)) (extends_all c.walk.new.bound c.as_slice-2.result.now)))
+    (c.mark-before.ensures ∙ ap length c.in_ok-walk.ensures.same) c.undo.ensures
+
+pub links::walk_guard-returns-clause-guards : goal.links::walk_guard-returns-clause-guards
+links::walk_guard-returns-clause-guards t c = λ total else_part span known own stretch.
+    let modes = modes_of c.args.setting.now.predicates.now in
+    let first = c.args.condition.now in
+    let second = c.args.then_part.now in
+    let one = some_parts first c.part_count-count.result c.part_count-count.ensures in
+    let k = condition_known total modes first second c.args.facts.now c.part_count-count.result known c.part_count-count.ensures in
+    let s = stretch_front total c.args.setting.now.all.now c.args.start (variables first) (variables second) stretch in
+    let owed : are_bound (among c.args.bound.now) c.args.own.now.owed_by_condition ≡ true =
+    ap (λ b. are_bound (among b) c.args.own.now.owed_by_condition) (sym c.in_ok-walk.ensures.same) ∙ ap (λ l. are_bound (among c.walk.new.bound) l) (sym c.as_slice.ensures)
+    ∙ sym c.are_bound.ensures ∙ c.if-not-are_bound.false in
+    let f = condition_own total modes first second c.args.facts.now (c.part_count-count.result - 1) c.index-facts-last.result known (omega (arith, one, c.part_count-count.ensures)) c.index-facts-last.is in
+    let set : c.bind_all.new.self ≡ all_behind c.walk.new.bound c.index-facts-last.result.binds = c.in_ok-bind_all.ensures ∙ ap (λ l. all_behind c.walk.new.bound l) c.as_slice-2.ensures in
+    let inner : among c.bind_all.new.self ≡ with (among c.args.bound.now) (binds total modes first) =
+    ap among set ∙ bound_behind total modes first c.index-facts-last.result c.walk.new.bound f ∙ ap (λ b. with (among b) (binds total modes first)) c.in_ok-walk.ensures.same in
+    let k2 = subst (λ l. AreKnown total modes (subgoals second) l) (sym (take_rest c.args.facts.now c.part_count-count.result))
+    (then_known total modes first second c.args.facts.now c.part_count-count.result known c.part_count-count.ensures) in
+    let s2 = then_stretch total modes first second c.args.setting.now.all.now c.args.start c.place_behind-behind.result c.index-facts-last.result f stretch c.place_behind-behind.ensures in
+    let gives = subst (λ b. Gives modes (from total modes second b) c.walk.new.written c.walk-2.new.written (Ok c.in_ok-walk-2.field-0)) inner (c.in_ok-walk-2.ensures.orders total k2 s2) in
+    let g = then_own total modes first second c.args.facts.now (length c.args.facts.now - 1) c.index-facts-end.result known
+    (omega (arith, one, c.requires.known, c.part_count-count.ensures)) c.index-facts-end.is in
+    let next = place_behind_is total modes first second c.args.setting.now.all.now c.args.start c.place_behind-behind.result c.place_behind-next.result c.index-facts-last.result c.index-facts-end.result f g stretch
+    c.place_behind-behind.ensures c.place_behind-next.ensures in
+    guarded_by total modes first second (among c.args.bound.now) c.args.own.now else_part span c.args.start c.place_behind-next.result c.args.written.now c.walk.new.written c.walk-2.new.written
+    c.in_ok-walk.field-0 c.in_ok-walk-2.field-0 (c.in_ok-walk.ensures.orders total k s) own owed gives next
+
+pub links::walk_guard-returns-in_err-walk-2-clause-guards : goal.links::walk_guard-returns-in_err-walk-2-clause-guards
+links::walk_guard-returns-in_err-walk-2-clause-guards t c =
+    let p = err_from_is_err_and c.from_residual-in_err-walk-2.result c.from_residual-in_err-walk-2.ensures.1 in
+    rw (p.1, p.2) (λ total else_part span known own stretch.
+    let modes = modes_of c.args.setting.now.predicates.now in
+    let first = c.args.condition.now in
+    let second = c.args.then_part.now in
+    let one = some_parts first c.part_count-count.result c.part_count-count.ensures in
+    let k = condition_known total modes first second c.args.facts.now c.part_count-count.result known c.part_count-count.ensures in
+    let s = stretch_front total c.args.setting.now.all.now c.args.start (variables first) (variables second) stretch in
+    let owed : are_bound (among c.args.bound.now) c.args.own.now.owed_by_condition ≡ true =
+    ap (λ b. are_bound (among b) c.args.own.now.owed_by_condition) (sym c.in_ok-walk.ensures.same) ∙ ap (λ l. are_bound (among c.walk.new.bound) l) (sym c.as_slice.ensures)
+    ∙ sym c.are_bound.ensures ∙ c.if-not-are_bound.false in
+    let f = condition_own total modes first second c.args.facts.now (c.part_count-count.result - 1) c.index-facts-last.result known (omega (arith, one, c.part_count-count.ensures)) c.index-facts-last.is in
+    let set : c.bind_all.new.self ≡ all_behind c.walk.new.bound c.index-facts-last.result.binds = c.in_ok-bind_all.ensures ∙ ap (λ l. all_behind c.walk.new.bound l) c.as_slice-2.ensures in
+    let inner : among c.bind_all.new.self ≡ with (among c.args.bound.now) (binds total modes first) =
+    ap among set ∙ bound_behind total modes first c.index-facts-last.result c.walk.new.bound f ∙ ap (λ b. with (among b) (binds total modes first)) c.in_ok-walk.ensures.same in
+    let k2 = subst (λ l. AreKnown total modes (subgoals second) l) (sym (take_rest c.args.facts.now c.part_count-count.result))
+    (then_known total modes first second c.args.facts.now c.part_count-count.result known c.part_count-count.ensures) in
+    let s2 = then_stretch total modes first second c.args.setting.now.all.now c.args.start c.place_behind-behind.result c.index-facts-last.result f stretch c.place_behind-behind.ensures in
+    let gives = subst (λ b. Gives modes (from total modes second b) c.walk.new.written c.walk-2.new.written (Err c.in_err-walk-2.field-0.0)) inner (c.in_err-walk-2.ensures.orders total k2 s2) in
+    then_err total modes first second (among c.args.bound.now) c.args.own.now else_part span c.args.start c.args.written.now c.walk.new.written c.walk-2.new.written c.walk-2.new.written
+    c.in_ok-walk.field-0 c.in_err-walk-2.field-0.0 (c.in_ok-walk.ensures.orders total k s) own owed gives)
+
+pub links::walk_chain-returns-in_err-next-clause-orders : goal.links::walk_chain-returns-in_err-next-clause-orders
+links::walk_chain-returns-in_err-next-clause-orders t c =
+    let p = err_from_is_err_and c.from_residual.result c.from_residual.ensures.1 in
+    rw (p.1, p.2) (λ total known stretch.
+    let modes = modes_of c.args.setting.now.predicates.now in
+    let all = c.args.setting.now.all.now in
+    let first = c.in-Conditional.condition in
+    let second = c.in-Conditional.then_part in
+    let third = c.in-Conditional.else_part in
+    let span = span_of c.loop-condition.rest in
+    let links = reverse c.loop-condition.links.items in
+    let w = subst (λ g. Within total modes all (among c.args.bound.now) c.args.goal.now links g c.loop-condition.known.now c.loop-condition.place c.args.written.now c.loop-condition.written) (sym c.in-Conditional.ensures)
+    (c.loop-condition.invariant.within total known stretch) in
+    let count : c.part_count.result + c.part_count-in-Conditional.result ≡ length (parts_of first) + length (parts_of second) = omega (arith, c.part_count.ensures, c.part_count-in-Conditional.ensures) in
+    let some = conditional_parts c.loop-condition.rest first second third span c.in-Conditional.ensures in
+    let k = guard_known total modes all (among c.args.bound.now) c.args.goal.now first second third span c.loop-condition.known.now (c.part_count.result + c.part_count-in-Conditional.result) w.known count in
+    let o = own_known total modes all (among c.args.bound.now) c.args.goal.now first second third span c.loop-condition.known.now (length c.loop-condition.known.now - 1) c.index-known-last.result w.known
+    (omega (arith, some, c.loop-condition.invariant.known_is)) c.index-known-last.is in
+    let s = guard_stretch total modes all (among c.args.bound.now) c.args.goal.now first second third span c.loop-condition.place w.stretch in
+    let gives = subst (λ b. GuardGives total modes first second (among b) c.loop-condition.place c.loop-condition.written c.walk_guard.new.written (Err c.in_err-next.field-0.0)) c.loop-condition.invariant.same
+    (c.in_err-next.ensures.guards total third span k o s) in
+    chain_err total modes all (among c.args.bound.now) c.args.goal.now links first second third span c.loop-condition.known.now c.loop-condition.place c.args.written.now c.loop-condition.written c.walk_guard.new.written
+    c.walk_guard.new.written c.in_err-next.field-0.0 w gives)
+
+pub links::walk_chain-loop-condition-init : goal.links::walk_chain-loop-condition-init
+links::walk_chain-loop-condition-init t c =
+    let modes = modes_of c.args.setting.now.predicates.now in
+    let all = c.args.setting.now.all.now in
+    let same = c.copy-rest.ensures in
+    let parts : length (parts_of c.copy-rest.result) ≡ length (parts_of c.args.goal.now) = ap (λ g. length (parts_of g)) same in
+    record {
+      known_is = c.requires.known ∙ sym parts;
+      smaller = omega (arith, parts);
+      is_first = λ none. same;
+      same = refl;
+      more = omega arith;
+      cleared = c.requires.seen;
+      within = λ total known stretch. subst (λ l. Within total modes all (among c.args.bound.now) c.args.goal.now (reverse l) c.copy-rest.result c.args.facts.now c.args.start c.args.written.now c.args.written.now)
+          (sym c.new-links.ensures.items)
+          (subst (λ g. Within total modes all (among c.args.bound.now) c.args.goal.now [] g c.args.facts.now c.args.start c.args.written.now c.args.written.now) (sym same)
+          (first_within total modes all (among c.args.bound.now) c.args.goal.now c.args.facts.now c.args.start c.args.written.now known stretch));
+    }
+
+pub links::walk_chain-loop-condition-preserved : goal.links::walk_chain-loop-condition-preserved
+links::walk_chain-loop-condition-preserved t c =
+    let modes = modes_of c.args.setting.now.predicates.now in
+    let all = c.args.setting.now.all.now in
+    let whole = c.args.goal.now in
+    let first = c.in-Conditional.condition in
+    let second = c.in-Conditional.then_part in
+    let third = c.in-Conditional.else_part in
+    let rest = c.loop-condition.rest in
+    let facts = c.loop-condition.known.now in
+    let count = c.part_count.result + c.part_count-in-Conditional.result in
+    let items = c.in_ok-push.ensures.items in
+    let long : length c.push.new.self.items ≡ length c.loop-condition.links.items + 1 = ap length items ∙ length-append c.loop-condition.links.items _ in
+    let some = conditional_parts rest first second third (span_of rest) c.in-Conditional.ensures in
+    let counts : count ≡ length (parts_of first) + length (parts_of second) = omega (arith, c.part_count.ensures, c.part_count-in-Conditional.ensures) in
+    let end : suc (length facts - 1) ≡ length facts = omega (arith, some, c.loop-condition.invariant.known_is) in
+    let few : length facts - 1 - count ≤ length (drop count facts) = omega (arith, length-drop count facts) in
+    let else_parts : length facts - 1 - count ≡ length (parts_of third) = omega (arith, some, counts, c.loop-condition.invariant.known_is) in
+    record {
+      known_is = length-take-le (length facts - 1 - count) (drop count facts) few ∙ else_parts;
+      smaller = omega (arith, some, long, c.loop-condition.invariant.smaller);
+      is_first = λ none. absurd (omega (arith, none, long));
+      same = c.in_ok-next.ensures.same ∙ c.loop-condition.invariant.same;
+      more = omega (arith, long, c.loop-condition.invariant.more, c.in_ok-next.ensures.adds.more);
+      cleared = c.in_ok-next.ensures.adds.cleared;
+      within = λ total known stretch.
+          let w = c.loop-condition.invariant.within total known stretch in
+          let now = subst (λ g. Within total modes all (among c.args.bound.now) whole (reverse c.loop-condition.links.items) g facts c.loop-condition.place c.args.written.now c.loop-condition.written)
+          (sym c.in-Conditional.ensures) w in
+          let k = guard_known total modes all (among c.args.bound.now) whole first second third (span_of rest) facts count now.known counts in
+          let o = own_known total modes all (among c.args.bound.now) whole first second third (span_of rest) facts (length facts - 1) c.index-known-last.result now.known end c.index-known-last.is in
+          let s = guard_stretch total modes all (among c.args.bound.now) whole first second third (span_of rest) c.loop-condition.place now.stretch in
+          let guarded = subst (λ b. Guarded total modes first second (among b) c.loop-condition.place c.in_ok-next.next c.loop-condition.written c.walk_guard.new.written) c.loop-condition.invariant.same
+          (c.in_ok-next.ensures.guards total third (span_of rest) k o s) in
+          pushed total modes all (among c.args.bound.now) whole c.loop-condition.links.items c.push.new.self.items _ first second third rest facts count (length facts - 1) c.in_ok-next.next
+          c.args.written.now c.loop-condition.written c.walk_guard.new.written items c.in-Conditional.ensures c.span.ensures w guarded counts end c.index-known-last.is;
+    }
+
+pub links::walk_chain-returns-in_err-walk-clause-orders : goal.links::walk_chain-returns-in_err-walk-clause-orders
+links::walk_chain-returns-in_err-walk-clause-orders t c =
+    let p = err_from_is_err_and c.from_residual-in_err-walk.result c.from_residual-in_err-walk.ensures.1 in
+    rw (p.1, p.2) (λ total known stretch.
+    let modes = modes_of c.args.setting.now.predicates.now in
+    let rest = c.loop-condition.rest in
+    let links = reverse c.loop-condition.links.items in
+    let w = c.loop-condition.invariant.within total known stretch in
+    let gives = subst (λ b. Gives modes (from total modes rest (among b)) c.loop-condition.written c.walk.new.written (Err c.in_err-walk.field-0.0)) c.loop-condition.invariant.same
+    (c.in_err-walk.ensures.orders total w.known w.stretch) in
+    rest_err total modes c.args.setting.now.all.now (among c.args.bound.now) c.args.goal.now links rest c.loop-condition.known.now c.loop-condition.place c.args.written.now c.loop-condition.written c.walk.new.written
+    c.walk.new.written c.in_err-walk.field-0.0 w gives)
+
+pub links::walk_chain-returns-clause-orders : goal.links::walk_chain-returns-clause-orders
+links::walk_chain-returns-clause-orders t c = λ total known stretch.
+    let modes = modes_of c.args.setting.now.predicates.now in
+    let all = c.args.setting.now.all.now in
+    let whole = c.args.goal.now in
+    let rest = c.loop-condition.rest in
+    let links = reverse c.loop-condition.links.items in
+    let w = c.loop-condition.invariant.within total known stretch in
+    let same = c.in_ok-walk.ensures.same ∙ c.loop-condition.invariant.same in
+    let gives = subst (λ b. Gives modes (from total modes rest (among b)) c.loop-condition.written c.walk.new.written (Ok c.in_ok-walk.field-0)) c.loop-condition.invariant.same
+    (c.in_ok-walk.ensures.orders total w.known w.stretch) in
+    let closing = rest_ready total modes all (among c.args.bound.now) whole links rest c.loop-condition.known.now c.loop-condition.place c.args.written.now c.loop-condition.written c.walk.new.written c.in_ok-walk.field-0 w gives in
+    subst (λ b. Gives modes (from total modes whole (among b)) c.args.written.now c.close_links.new.written c.close_links.result) same
+    (c.close_links.ensures.closes total whole c.args.written.now (subst (λ b. Closing total modes all (among b) whole links c.args.written.now c.walk.new.written) (sym same) closing))
+
+-- goals side by side
+
+pub parallel::walk_parallel-returns-in_err-walk_conjuncts-clause-orders : goal.parallel::walk_parallel-returns-in_err-walk_conjuncts-clause-orders
+parallel::walk_parallel-returns-in_err-walk_conjuncts-clause-orders t c =
+    let p = err_from_is_err_and c.from_residual.result c.from_residual.ensures.1 in
+    rw (p.1, p.2) (λ total known stretch.
+    let modes = modes_of c.args.setting.now.predicates.now in
+    let goals = nodes_of c.args.goals.now in
+    let own : length c.args.facts.now - 1 ≡ length (all_subgoals goals) = omega (arith, c.requires.known, all_subgoals_length goals) in
+    let k = known_parts total modes (all_subgoals goals) (Parallel goals c.args.span) c.args.facts.now (length c.args.facts.now - 1) known own in
+    parallel_stuck total modes goals c.args.span (among c.args.bound.now) c.args.written.now c.walk_conjuncts.new.written c.walk_conjuncts.new.written c.in_err-walk_conjuncts.field-0.0
+    (c.in_err-walk_conjuncts.ensures.orders total k stretch))
+
+pub parallel::walk_parallel-returns-clause-orders : goal.parallel::walk_parallel-returns-clause-orders
+parallel::walk_parallel-returns-clause-orders t c = λ total known stretch.
+    let modes = modes_of c.args.setting.now.predicates.now in
+    let goals = nodes_of c.args.goals.now in
+    let goal : Node = Parallel goals c.args.span in
+    let own : length c.args.facts.now - 1 ≡ length (all_subgoals goals) = omega (arith, c.requires.known, all_subgoals_length goals) in
+    let k = known_parts total modes (all_subgoals goals) goal c.args.facts.now (length c.args.facts.now - 1) known own in
+    let f = known_own total modes (all_subgoals goals) goal c.args.facts.now (length c.args.facts.now - 1) c.index-facts-own.result known own c.index-facts-own.is in
+    let same : c.undo.new.self ≡ c.args.bound.now = undone_is c.args.bound.now c.walk_conjuncts.new.bound c.undo.new.self c.mark-known.result c.in_ok-walk_conjuncts.ensures.extends c.mark-known.ensures c.undo.ensures in
+    let outs : c.in_ok-outputs.outputs ≡ outputs_of total modes (among c.args.bound.now) goal =
+    c.in_ok-outputs.ensures.outputs total modes goal f stretch ∙ ap (λ b. outputs_of total modes (among b) goal) same in
+    let new : Written = record { nodes = c.conjoin.new.self; fresh = c.walk_conjuncts.new.written.fresh; seen = c.outputs_of.new.seen } in
+    parallel_ready total modes goals c.args.span (among c.args.bound.now) (c.len.result - c.len-before.result) c.in_ok-outputs.outputs c.args.written.now c.walk_conjuncts.new.written new
+    c.in_ok-walk_conjuncts.field-0 (c.in_ok-walk_conjuncts.ensures.orders total k stretch) outs
+    (ap (λ n. n - c.len-before.result) c.len.ensures ∙ ap (λ n. length c.walk_conjuncts.new.written.nodes - n) c.len-before.ensures)
+    c.in_ok-conjoin.ensures.ok refl (c.in_ok-outputs.ensures.cleared ∙ sym c.in_ok-walk_conjuncts.ensures.adds.cleared)
+
+pub parallel::walk_conjuncts-overflow_sub-own : goal.parallel::walk_conjuncts-overflow_sub-own
+parallel::walk_conjuncts-overflow_sub-own t c = omega (arith, some_parts c.index-goals-index.result c.part_count.result c.part_count.ensures)
+
+pub parallel::walk_conjuncts-bounds-facts-own : goal.parallel::walk_conjuncts-bounds-facts-own
+parallel::walk_conjuncts-bounds-facts-own t c =
+    let goal = c.index-goals-index.result in
+    let one = some_parts goal c.part_count.result c.part_count.ensures in
+    let end = end_within c.args.goals.now c.loop-index.index goal c.loop-index.at c.part_count.result c.loop-index-test.true c.index-goals-index.is c.part_count.ensures c.loop-index.invariant.at_is in
+    omega (arith, one, end, c.requires.known)
+
+pub parallel::walk_conjuncts-returns-in_err-walk_if_ready-clause-orders : goal.parallel::walk_conjuncts-returns-in_err-walk_if_ready-clause-orders
+parallel::walk_conjuncts-returns-in_err-walk_if_ready-clause-orders t c =
+    let p = err_from_is_err_and c.from_residual.result c.from_residual.ensures.1 in
+    rw (p.1, p.2) (λ total known stretch.
+    let modes = modes_of c.args.setting.now.predicates.now in
+    let goal = c.index-goals-index.result in
+    let rest = drop (c.loop-index.index + 1) c.args.goals.now in
+    let whole = all_beside (moves total modes (nodes_of c.args.goals.now)) (among c.args.bound.now) in
+    let w = subst (λ l. Walked total modes (nodes_of l) c.args.facts.now c.loop-index.at c.args.setting.now.all.now c.loop-index.place whole (beside (c.loop-index.index + 1) (moves total modes (nodes_of l)) (among c.loop-index.bound)) c.args.written.now c.loop-index.written)
+    (next_item c.args.goals.now c.loop-index.index goal c.loop-index-test.true c.index-goals-index.is) (c.loop-index.invariant.walked total known stretch) in
+    let within = end_within c.args.goals.now c.loop-index.index goal c.loop-index.at c.part_count.result c.loop-index-test.true c.index-goals-index.is c.part_count.ensures c.loop-index.invariant.at_is in
+    let end : c.loop-index.at + c.part_count.result ≡ c.loop-index.at + length (parts_of goal) = ap (λ n. c.loop-index.at + n) c.part_count.ensures in
+    let k = facts_of_next total modes goal (nodes_of rest) c.args.facts.now c.loop-index.at (c.loop-index.at + c.part_count.result) w.known end in
+    let s = stretch_front total c.args.setting.now.all.now c.loop-index.place (variables goal) (all_variables (nodes_of rest)) w.stretch in
+    let m = blank_there total modes goal c.loop-index.marks c.clear.new.marks c.loop-index.at (c.loop-index.at + c.part_count.result) (among c.loop-index.bound)
+    (omega (arith, within, c.requires.marked, c.loop-index.auto.marks)) end c.clear.ensures in
+    beside_err total modes goal c.walk_if_ready.new.marks c.loop-index.bound c.walk_if_ready.new.bound whole c.args.written.now c.loop-index.written c.walk_if_ready.new.written c.walk_if_ready.new.written
+    c.in_err-walk_if_ready.field-0.0 (c.in_err-walk_if_ready.ensures.goes total k s m))
+
+pub parallel::walk_conjuncts-returns-then-not-branch-clause-orders : goal.parallel::walk_conjuncts-returns-then-not-branch-clause-orders
+parallel::walk_conjuncts-returns-then-not-branch-clause-orders t c = λ total known stretch.
+    let modes = modes_of c.args.setting.now.predicates.now in
+    let goal = c.index-goals-index.result in
+    let rest = drop (c.loop-index.index + 1) c.args.goals.now in
+    let whole = all_beside (moves total modes (nodes_of c.args.goals.now)) (among c.args.bound.now) in
+    let w = subst (λ l. Walked total modes (nodes_of l) c.args.facts.now c.loop-index.at c.args.setting.now.all.now c.loop-index.place whole (beside (c.loop-index.index + 1) (moves total modes (nodes_of l)) (among c.loop-index.bound)) c.args.written.now c.loop-index.written)
+    (next_item c.args.goals.now c.loop-index.index goal c.loop-index-test.true c.index-goals-index.is) (c.loop-index.invariant.walked total known stretch) in
+    let within = end_within c.args.goals.now c.loop-index.index goal c.loop-index.at c.part_count.result c.loop-index-test.true c.index-goals-index.is c.part_count.ensures c.loop-index.invariant.at_is in
+    let end : c.loop-index.at + c.part_count.result ≡ c.loop-index.at + length (parts_of goal) = ap (λ n. c.loop-index.at + n) c.part_count.ensures in
+    let k = facts_of_next total modes goal (nodes_of rest) c.args.facts.now c.loop-index.at (c.loop-index.at + c.part_count.result) w.known end in
+    let s = stretch_front total c.args.setting.now.all.now c.loop-index.place (variables goal) (all_variables (nodes_of rest)) w.stretch in
+    let m = blank_there total modes goal c.loop-index.marks c.clear.new.marks c.loop-index.at (c.loop-index.at + c.part_count.result) (among c.loop-index.bound)
+    (omega (arith, within, c.requires.marked, c.loop-index.auto.marks)) end c.clear.ensures in
+    let stays = subst (λ b. GoesIfReady total modes goal c.walk_if_ready.new.marks c.loop-index.bound c.walk_if_ready.new.bound c.loop-index.written c.walk_if_ready.new.written (Ok b)) c.if-not-branch.true
+    (c.in_ok-walk_if_ready.ensures.goes total k s m) in
+    let those = slice_range c.args.goals.now (c.loop-index.index + 1) (length c.args.goals.now) in
+    let same : those ≡ rest = between_to_end c.args.goals.now (c.loop-index.index + 1) (length c.args.goals.now) (omega arith) in
+    let behind : AreKnown total modes (all_subgoals (nodes_of (goal ∷ those))) (slice_range c.args.facts.now c.loop-index.at (length c.args.facts.now)) =
+    subst (λ l. AreKnown total modes (all_subgoals (nodes_of (goal ∷ l))) (slice_range c.args.facts.now c.loop-index.at (length c.args.facts.now))) (sym same)
+    (subst (λ l. AreKnown total modes (all_subgoals (nodes_of (goal ∷ rest))) l) (sym (between_to_end c.args.facts.now c.loop-index.at (length c.args.facts.now) (omega arith)))
+    (facts_from total modes (all_subgoals (nodes_of (goal ∷ rest))) c.args.facts.now c.loop-index.at w.known)) in
+    let stuck : is_ready (from total modes goal (among c.walk_if_ready.new.bound)) ≡ false = ap (λ b. is_ready (from total modes goal (among b))) stays.same_bound ∙ stays.stuck in
+    walked_tells total modes c.args.facts.now c.loop-index.at c.args.setting.now.all.now c.loop-index.place whole (beside (c.loop-index.index + 1) (moves total modes (nodes_of (goal ∷ rest))) (among c.loop-index.bound))
+    c.args.written.now c.loop-index.written c.walk_stuck.new.written (nodes_of (goal ∷ rest)) c.walk_stuck.result w
+    (subst (λ b. TellsStuck (beside (c.loop-index.index + 1) (moves total modes (nodes_of (goal ∷ rest))) (among b)) c.walk_stuck.result) stays.same_bound
+    (subst (λ l. TellsStuck (beside (c.loop-index.index + 1) (moves total modes (nodes_of (goal ∷ l))) (among c.walk_if_ready.new.bound)) c.walk_stuck.result) same (c.walk_stuck.ensures.tells total behind s stuck)))
+
+pub parallel::walk_conjuncts-loop-index-preserved : goal.parallel::walk_conjuncts-loop-index-preserved
+parallel::walk_conjuncts-loop-index-preserved t c = record {
+  at_is = at_behind c.args.goals.now c.loop-index.index c.index-goals-index.result c.loop-index.at c.part_count.result c.loop-index-test.true c.index-goals-index.is c.part_count.ensures c.loop-index.invariant.at_is;
+  extends = extends_on c.args.bound.now c.loop-index.bound c.walk_if_ready.new.bound c.loop-index.invariant.extends c.in_ok-walk_if_ready.ensures.extends;
+  adds = record { more = omega (arith, c.loop-index.invariant.adds.more, c.in_ok-walk_if_ready.ensures.adds.more); cleared = c.in_ok-walk_if_ready.ensures.adds.cleared };
+  walked = λ total known stretch.
+      let modes = modes_of c.args.setting.now.predicates.now in
+      let goal = c.index-goals-index.result in
+      let rest = drop (c.loop-index.index + 1) c.args.goals.now in
+      let whole = all_beside (moves total modes (nodes_of c.args.goals.now)) (among c.args.bound.now) in
+      let w = subst (λ l. Walked total modes (nodes_of l) c.args.facts.now c.loop-index.at c.args.setting.now.all.now c.loop-index.place whole (beside (c.loop-index.index + 1) (moves total modes (nodes_of l)) (among c.loop-index.bound)) c.args.written.now c.loop-index.written)
+      (next_item c.args.goals.now c.loop-index.index goal c.loop-index-test.true c.index-goals-index.is) (c.loop-index.invariant.walked total known stretch) in
+      let within = end_within c.args.goals.now c.loop-index.index goal c.loop-index.at c.part_count.result c.loop-index-test.true c.index-goals-index.is c.part_count.ensures c.loop-index.invariant.at_is in
+      let end : c.loop-index.at + c.part_count.result ≡ c.loop-index.at + length (parts_of goal) = ap (λ n. c.loop-index.at + n) c.part_count.ensures in
+      let k = facts_of_next total modes goal (nodes_of rest) c.args.facts.now c.loop-index.at (c.loop-index.at + c.part_count.result) w.known end in
+      let s = stretch_front total c.args.setting.now.all.now c.loop-index.place (variables goal) (all_variables (nodes_of rest)) w.stretch in
+      let m = blank_there total modes goal c.loop-index.marks c.clear.new.marks c.loop-index.at (c.loop-index.at + c.part_count.result) (among c.loop-index.bound)
+      (omega (arith, within, c.requires.marked, c.loop-index.auto.marks)) end c.clear.ensures in
+      let goes = subst (λ b. GoesIfReady total modes goal c.walk_if_ready.new.marks c.loop-index.bound c.walk_if_ready.new.bound c.loop-index.written c.walk_if_ready.new.written (Ok b)) c.if-not-branch.false
+      (c.in_ok-walk_if_ready.ensures.goes total k s m) in
+      let one = some_parts goal c.part_count.result c.part_count.ensures in
+      walked_on total modes goal (nodes_of rest) c.args.facts.now c.loop-index.at (c.loop-index.at + c.part_count.result - 1) (c.loop-index.at + c.part_count.result) c.args.setting.now.all.now c.loop-index.place
+      c.place_behind-place.result c.index-facts-own.result whole (beside (c.loop-index.index + 1) (moves total modes (nodes_of (goal ∷ rest))) (among c.loop-index.bound))
+      (beside (c.loop-index.index + 1 + 1) (moves total modes (nodes_of rest)) (among c.walk_if_ready.new.bound)) goes.ordered c.args.written.now c.loop-index.written c.walk_if_ready.new.written w
+      (omega (arith, one, c.part_count.ensures)) end c.index-facts-own.is c.place_behind-place.ensures
+      (beside_goes total modes goal (nodes_of rest) (among c.loop-index.bound) (among c.walk_if_ready.new.bound) (c.loop-index.index + 1) goes.ordered goes.outcome goes.bound_is) goes.written;
+}
+
+pub parallel::walk_conjuncts-returns-clause-orders : goal.parallel::walk_conjuncts-returns-clause-orders
+parallel::walk_conjuncts-returns-clause-orders t c = λ total known stretch.
+    let modes = modes_of c.args.setting.now.predicates.now in
+    let rest = drop c.loop-index.index c.args.goals.now in
+    let none : rest ≡ [] = drop_all c.loop-index.index c.args.goals.now (omega arith) in
+    walked_end total modes c.args.facts.now c.loop-index.at c.args.setting.now.all.now c.loop-index.place (all_beside (moves total modes (nodes_of c.args.goals.now)) (among c.args.bound.now))
+    (beside (c.loop-index.index + 1) (moves total modes (nodes_of rest)) (among c.loop-index.bound)) c.args.written.now c.loop-index.written (nodes_of rest) (c.loop-index.invariant.walked total known stretch)
+    (ap (λ l. beside (c.loop-index.index + 1) (moves total modes (nodes_of l)) (among c.loop-index.bound)) none)
+
+pub parallel::walk_stuck-returns-in-Ok-clause-tells : goal.parallel::walk_stuck-returns-in-Ok-clause-tells
+parallel::walk_stuck-returns-in-Ok-clause-tells t c = λ total known stretch stuck.
+    let modes = modes_of c.args.setting.now.predicates.now in
+    let goal = c.args.goal.now in
+    let k = facts_of_first total modes goal (nodes_of c.args.others.now) c.args.facts.now c.part_count-own.result known c.part_count-own.ensures in
+    never_stuck total modes goal (among c.needed_by.new.bound) c.args.written.now c.walk-result.new.written c.in-Ok.field-0 (c.in-Ok.ensures.orders total k stretch)
+    (ap (λ b. is_ready (from total modes goal (among b))) c.in_ok-other.ensures.same ∙ stuck)
+
+pub parallel::walk_stuck-returns-in_ok-told-in-Refused-clause-tells : goal.parallel::walk_stuck-returns-in_ok-told-in-Refused-clause-tells
+parallel::walk_stuck-returns-in_ok-told-in-Refused-clause-tells t c = λ total known stretch stuck.
+    let modes = modes_of c.args.setting.now.predicates.now in
+    let goal = c.args.goal.now in
+    let others = nodes_of c.args.others.now in
+    let k = facts_of_first total modes goal others c.args.facts.now c.part_count-own.result known c.part_count-own.ensures in
+    let gives = subst (λ f. Gives modes (from total modes goal (among c.needed_by.new.bound)) c.args.written.now c.walk-result.new.written (Err f)) c.in-Refused.is (c.in-Err.ensures.orders total k stretch) in
+    beside_stuck total modes goal others (among c.args.bound.now) c.args.number c.in_ok-other.other c.span.result c.in-Refused.refusal c.in_ok-told-in-Refused.told
+    (ap (λ b. from total modes goal (among b)) (sym c.in_ok-other.ensures.same) ∙ gives) (c.in_ok-other.ensures.needs total known) c.span.ensures c.in_ok-told-in-Refused.ensures

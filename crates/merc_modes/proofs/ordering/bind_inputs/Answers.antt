@@ -1,0 +1,21 @@
+use Rattle.std.proofs.Common.{◌∙◌, ap, arith}
+use Rattle.std.proofs.lemmas.List.{take_all}
+use mathlib.Core.Path.{fun_ext}
+use Rattle.merc_order.specs.Procedures.{bound_at}
+use Rattle.merc_modes.proofs.Bodies.{input_bound, output_unbound}
+use Rattle.merc_modes.proofs.ordering.bind_inputs.Goals as goal
+use Rattle.merc_modes.proofs.ordering.bind_inputs.Goals.{in-Input+in_ok-bind-in-Input, in-Output}
+
+pub loop-index-preserved : goal.loop-index-preserved
+loop-index-preserved c = λ variable.
+    let places = c.args.places.now in
+    let index = c.loop-index.index in
+    elim c.match-place.branch [
+      | in-Input+in_ok-bind-in-Input w ↦
+          input_bound places index w.new.result variable c.loop-index.bound c.match-place.bound c.loop-index-test.true w.in-Input.is w.new.ensures
+          (w.bound-is ∙ w.in_ok-bind-in-Input.ensures.ok) (c.loop-index.invariant variable)
+      | in-Output w ↦ output_unbound places index variable c.loop-index.bound c.match-place.bound c.loop-index-test.true w.in-Output.is w.bound-is (c.loop-index.invariant variable)
+    ]
+
+pub returns : goal.returns
+returns c = fun_ext (λ variable. c.loop-index.invariant variable ∙ ap (λ l. bound_at l variable) (take_all c.loop-index.index c.args.places.now (omega (arith, c.loop-index-test.false))))

@@ -1,0 +1,285 @@
+//! The order of goals side by side, written out.
+ghost use Rattle.std.specs.Prelude.{◌≡◌, ◌+◌, ◌≤◌, ℕ, [], length, OnOk, IfOk};
+ghost use Rattle.merc_goal_tree.specs.Nodes.{Parallel, nodes_of};
+ghost use Rattle.merc_goal_tree.specs.Parts.{parts_of, all_parts};
+ghost use Rattle.merc_order.specs.Faults.{conjunct_fault, needing};
+ghost use Rattle.merc_modes.specs.Beside.{all_beside, FreedBy, Needs, StuckBeside, TellsReady};
+ghost use Rattle.merc_modes.specs.Sweeps.{Extends};
+ghost use Rattle.merc_modes.specs.Walking.{Orders};
+ghost use Rattle.merc_modes.specs.Walks.{AddsOne, Adds, OrdersAll};
+
+use crate::asking::advance;
+use crate::bound::BoundSet;
+use crate::conjuncts::walk_if_ready;
+use crate::facts::Facts;
+use crate::walking::{Setting, clear, place_behind, walk};
+use crate::writing::outputs_of;
+use crate::written::Written;
+use merc_base::{Detail, Fault, NoMemory, Refusal, Rule, Span};
+use merc_goal_tree::NodeRef;
+use merc_graded_tree::Running;
+
+/// Writes goals side by side out in their order.
+///
+/// # Errors
+///
+/// As for `walk`.
+#[cycle(walking)]
+pub(crate) fn walk_parallel(
+    setting: &Setting<'_>,
+    goals: &[NodeRef<'_>],
+    facts: &[Facts],
+    start: usize,
+    marks: &mut [bool],
+    bound: &mut BoundSet,
+    written: &mut Written,
+    span: Span,
+) -> Result<(), Fault>
+    requires known { length facts.now ≡ length (all_parts (nodes_of goals.now)) + 1 }
+    requires marked { length marks.old ≡ length (all_parts (nodes_of goals.now)) + 1 }
+    requires seen { written.old.seen ≡ [] }
+    ensures same { OnOk result (bound.new ≡ bound.old) }
+    ensures orders { Orders setting.now.predicates.now (Parallel (nodes_of goals.now) span) facts.now setting.now.all.now start bound.old written.old written.new result }
+    ensures adds { OnOk result (AddsOne written.old written.new) }
+{
+    let own = facts.len() - 1;
+    let before = written.nodes.len();
+    let known = bound.mark();
+    walk_conjuncts(
+        setting,
+        goals,
+        &facts[..own],
+        start,
+        &mut marks[..own],
+        bound,
+        written,
+    )?;
+    bound.undo(known);
+    let outputs = outputs_of(
+        setting.alloc,
+        setting.all,
+        &facts[own],
+        start,
+        bound,
+        &mut written.seen,
+    )?;
+    let count = written.nodes.len() - before;
+    written
+        .nodes
+        .conjoin(Running::Parallel(None), count, outputs, span)?;
+    Ok(())
+}
+
+// Writes each of these goals out from what those before it bind, up to one that is not ready.
+#[cycle(walking)]
+fn walk_conjuncts(
+    setting: &Setting<'_>,
+    goals: &[NodeRef<'_>],
+    facts: &[Facts],
+    start: usize,
+    marks: &mut [bool],
+    bound: &mut BoundSet,
+    written: &mut Written,
+) -> Result<(), Fault>
+    requires known { length facts.now ≡ length (all_parts (nodes_of goals.now)) }
+    requires marked { length marks.old ≡ length (all_parts (nodes_of goals.now)) }
+    requires seen { written.old.seen ≡ [] }
+    ensures extends { OnOk result (Extends bound.old bound.new) }
+    ensures orders { OrdersAll all_beside setting.now.predicates.now (nodes_of goals.now) facts.now setting.now.all.now start bound.old written.old written.new result }
+    ensures adds { OnOk result (Adds written.old written.new) }
+{
+    let mut at = 0;
+    let mut place = start;
+    for (index, goal) in goals.iter().enumerate() {
+        let end = at + goal.part_count();
+        let own = end - 1;
+        clear(&mut marks[at..end]);
+        if !walk_if_ready(
+            setting,
+            goal,
+            &facts[at..end],
+            place,
+            &mut marks[at..end],
+            bound,
+            written,
+        )? {
+            return walk_stuck(
+                setting,
+                goal,
+                &goals[index + 1..],
+                &facts[at..],
+                place,
+                &mut marks[at..],
+                bound,
+                written,
+                index + 1,
+            );
+        }
+        let found = &facts[own];
+        place = place_behind(setting.all, place, found.occurrences);
+        at = end;
+    }
+    Ok(())
+}
+
+// Walks a goal that is not ready, for its fault. It has this number, and these stand behind it.
+#[cycle(walking)]
+fn walk_stuck(
+    setting: &Setting<'_>,
+    goal: &NodeRef<'_>,
+    others: &[NodeRef<'_>],
+    facts: &[Facts],
+    start: usize,
+    marks: &mut [bool],
+    bound: &mut BoundSet,
+    written: &mut Written,
+    number: usize,
+) -> Result<(), Fault>
+    requires known { length facts.now ≡ length (parts_of goal.now) + length (all_parts (nodes_of others.now)) }
+    requires marked { length marks.old ≡ length (parts_of goal.now) + length (all_parts (nodes_of others.now)) }
+    requires seen { written.old.seen ≡ [] }
+    requires fits { number + length others.now ≤ 18446744073709551615 }
+    ensures same { OnOk result (bound.new ≡ bound.old) }
+    ensures tells { StuckBeside setting.now.predicates.now goal.now (nodes_of others.now) facts.now setting.now.all.now start number bound.old result }
+    ensures adds { OnOk result (Adds written.old written.new) }
+{
+    let other = needed_by(setting, goal, others, facts, marks, bound, number)?;
+    let own = goal.part_count();
+    let result = walk(
+        setting,
+        goal,
+        &facts[..own],
+        start,
+        &mut marks[..own],
+        bound,
+        written,
+    );
+    match result {
+        Ok(()) => Ok(()),
+        Err(fault) => match fault {
+            Fault::NoMemory => Err(Fault::NoMemory),
+            Fault::Refused(refusal) => {
+                let told = conjunct_fault(number, goal.span(), other, refusal)?;
+                Err(Fault::Refused(told))
+            }
+        },
+    }
+}
+
+// The number of the first of these goals behind which the goal with this number is ready.
+fn needed_by(
+    setting: &Setting<'_>,
+    goal: &NodeRef<'_>,
+    others: &[NodeRef<'_>],
+    facts: &[Facts],
+    marks: &mut [bool],
+    bound: &mut BoundSet,
+    number: usize,
+) -> Result<Option<usize>, NoMemory>
+    requires known { length facts.now ≡ length (parts_of goal.now) + length (all_parts (nodes_of others.now)) }
+    requires marked { length marks.old ≡ length (parts_of goal.now) + length (all_parts (nodes_of others.now)) }
+    requires fits { number + length others.now ≤ 18446744073709551615 }
+    ensures same { OnOk result (bound.new ≡ bound.old) }
+    ensures needs { IfOk result (λ other. Needs setting.now.predicates.now goal.now (nodes_of others.now) facts.now number bound.old other) }
+{
+    let mut at = goal.part_count();
+    for (index, later) in others.iter().enumerate() {
+        if is_freed_by(setting, goal, later, facts, at, marks, bound)? {
+            return Ok(Some(number + 1 + index));
+        }
+        at += later.part_count();
+    }
+    Ok(None)
+}
+
+// Whether another goal is ready, and the goal is ready behind it. The parts of the goal stand first, those of the other
+// from this index on.
+fn is_freed_by(
+    setting: &Setting<'_>,
+    goal: &NodeRef<'_>,
+    later: &NodeRef<'_>,
+    facts: &[Facts],
+    at: usize,
+    marks: &mut [bool],
+    bound: &mut BoundSet,
+) -> Result<bool, NoMemory>
+    requires first { length (parts_of goal.now) ≤ at }
+    requires known { at + length (parts_of later.now) ≤ length facts.now }
+    requires marked { at + length (parts_of later.now) ≤ length marks.old }
+    ensures same { OnOk result (bound.new ≡ bound.old) }
+    ensures frees { IfOk result (λ freed. FreedBy setting.now.predicates.now goal.now later.now facts.now at bound.old freed) }
+{
+    let end = at + later.part_count();
+    if !is_ready(setting, later, &facts[at..end], &mut marks[at..end], bound)? {
+        return Ok(false);
+    }
+    let known = bound.mark();
+    let found = &facts[end - 1];
+    bound.bind_all(found.binds.as_slice())?;
+    let own = goal.part_count();
+    let freed = is_ready(setting, goal, &facts[..own], &mut marks[..own], bound)?;
+    bound.undo(known);
+    Ok(freed)
+}
+
+// Whether a goal is ready from what is bound. Its marks may say anything before.
+fn is_ready(
+    setting: &Setting<'_>,
+    goal: &NodeRef<'_>,
+    facts: &[Facts],
+    marks: &mut [bool],
+    bound: &mut BoundSet,
+) -> Result<bool, NoMemory>
+    requires known { length facts.now ≡ length (parts_of goal.now) }
+    requires marked { length marks.old ≡ length (parts_of goal.now) }
+    ensures same { OnOk result (bound.new ≡ bound.old) }
+    ensures tells { IfOk result (λ ready. TellsReady setting.now.predicates.now goal.now facts.now bound.old ready) }
+{
+    clear(marks);
+    advance(setting.alloc, setting.predicates, goal, facts, marks, bound)
+}
+
+// The fault inside the conjunct with this number, told at the conjunct. Where it is never ready but would be behind
+// another, that one's number is told.
+fn conjunct_fault(
+    number: usize,
+    span: Span,
+    other: Option<usize>,
+    fault: Refusal,
+) -> Result<Refusal, NoMemory>
+    ensures { IfOk result (λ told. told ≡ conjunct_fault number span other fault) }
+{
+    let detail = needing(fault.rule, number, other, fault.detail)?;
+    Ok(Refusal {
+        rule: fault.rule,
+        place: span.start(),
+        detail,
+    })
+}
+
+// The detail of that fault.
+fn needing(
+    rule: Rule,
+    number: usize,
+    other: Option<usize>,
+    detail: Detail,
+) -> Result<Detail, NoMemory>
+    ensures { IfOk result (λ told. told ≡ needing rule number other detail) }
+{
+    match (rule, other) {
+        (Rule::NeverReady, Some(other)) => {
+            Ok(Detail::Pair(number_of(number)?, number_of(other)?))
+        }
+        _ => Ok(detail),
+    }
+}
+
+// The same number. The limits on a text keep conjunctions so short that it always fits.
+fn number_of(number: usize) -> Result<u32, NoMemory>
+    ensures { IfOk result (λ same. same ≡ number) }
+{
+    match u32::try_from(number) {
+        Ok(same) => Ok(same),
+        Err(_) => Err(NoMemory),
+    }
+}
