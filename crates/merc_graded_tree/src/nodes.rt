@@ -1,7 +1,7 @@
 //! Goals in the order in which they go, as they are built.
 ghost use Rattle.std.specs.Prelude.{◌≡◌, ◌≤◌, ◌<◌, [], ◌∷◌, ◌++◌, length, take, slice_get, None, OnOk, OnErr};
 ghost use Rattle.merc_graded_tree.specs.Nodes.{node, Basic};
-ghost use Rattle.merc_graded_tree.specs.Roots.{arity_of, joined};
+ghost use Rattle.merc_graded_tree.specs.Roots.{arity_of, joined, last_joined};
 
 use crate::entries::{Entry, entries_between, start_of};
 use crate::{BasicGoal, Label, NodeRef, Root, Running};
@@ -144,21 +144,15 @@ impl Nodes {
         })
     }
 
-    // Puts a root behind the others, which joins the last ones.
-    fn join(&mut self, root: Root, outputs: Vars, span: Span) -> Result<(), NoMemory>
-        requires { arity_of root ≤ length self.old }
-        ensures ok { OnOk result (self.new ≡ joined root outputs span self.old) }
+    /// Puts a goal with this label behind the others. It joins the last ones, as many as its root says.
+    pub fn put(&mut self, label: Label) -> Result<(), NoMemory>
+        requires { arity_of label.root ≤ length self.old }
+        ensures ok { OnOk result (self.new ≡ last_joined label self.old) }
         ensures err { OnErr result (self.new ≡ self.old) }
     {
-        let kept = self.starts.len() - root.arity();
+        let kept = self.starts.len() - label.root.arity();
         let start = start_of(&self.starts, kept, self.entries.len());
         let size = self.entries.len() - start + 1;
-        let label = Label {
-            root,
-            outputs,
-            category: None,
-            span,
-        };
         put_entry(
             &mut self.entries,
             &mut self.starts,
@@ -167,6 +161,20 @@ impl Nodes {
             start,
         )?;
         Ok(())
+    }
+
+    // Puts a root behind the others, which joins the last ones, without a category.
+    fn join(&mut self, root: Root, outputs: Vars, span: Span) -> Result<(), NoMemory>
+        requires { arity_of root ≤ length self.old }
+        ensures ok { OnOk result (self.new ≡ joined root outputs span self.old) }
+        ensures err { OnErr result (self.new ≡ self.old) }
+    {
+        self.put(Label {
+            root,
+            outputs,
+            category: None,
+            span,
+        })
     }
 }
 

@@ -261,6 +261,11 @@ text_is_endless = refl
 variable_type_is_endless : are_complete (symbols_of_type declared (TypeVariable 60)) [] ≡ false
 variable_type_is_endless = refl
 
+-- The type `box/0` is not the type `box/1`, which is of the same name and is declared before it.
+told_apart : symbols_of_type (record { name = box_type; params = 9 ∷ []; constructors = record { name = 55; args = [] } ∷ []; unit = None } ∷ declared) (TypeApplication box_type no_types)
+    ≡ Some (box ∷ [])
+told_apart = refl
+
 other_arity : same_symbol (Constructor 51 0) (Constructor 51 1) ≡ false
 other_arity = refl
 

@@ -2,7 +2,7 @@
 use Rattle.std.specs.Prelude.{ℕ, Bool, true, false, ◌==◌, ◌&&◌, List, [], ◌∷◌, length, map, Option, Some, None, if◌then◌else◌}
 use Rattle.std.specs.List.{list_all, list_any}
 use Rattle.std.specs.Ordering.{int_eq}
-use Rattle.merc_tree.specs.Types.{TypeExpr, TypeVariable, IntType, TextType, TypeApplication}
+use Rattle.merc_tree.specs.Types.{TypeExpr, TypeVariable, IntType, TextType, TypeApplication, type_list}
 use Rattle.merc_tree.specs.declared.declarations.Constructor.{Constructor}
 use Rattle.merc_tree.specs.declared.declarations.TypeDef.{TypeDef}
 use Rattle.merc_goal_tree.specs.declared.goal.Symbol.{Symbol}
@@ -27,17 +27,18 @@ same_symbol (Text text) (Text other) = text == other
 abbrev pub symbol_of : Constructor → Symbol
 symbol_of constructor = ConstructorSymbol constructor.name (length constructor.args)
 
--- the symbols of the declared type of a name
-abbrev pub symbols_named : List TypeDef → ℕ → Option (List Symbol)
-symbols_named [] name = None
-symbols_named (first ∷ rest) name = if first.name == name then Some (map symbol_of first.constructors) else symbols_named rest name
+-- the symbols of the declared type of a name with so many parameters
+abbrev pub symbols_named : List TypeDef → ℕ → ℕ → Option (List Symbol)
+symbols_named [] name arity = None
+symbols_named (first ∷ rest) name arity =
+    if (first.name == name) && (length first.params == arity) then Some (map symbol_of first.constructors) else symbols_named rest name arity
 
 -- the symbols of a type, none where they have no end
 abbrev pub symbols_of_type : List TypeDef → TypeExpr → Option (List Symbol)
 symbols_of_type declared (TypeVariable name) = None
 symbols_of_type declared IntType = None
 symbols_of_type declared TextType = None
-symbols_of_type declared (TypeApplication name arguments) = symbols_named declared name
+symbols_of_type declared (TypeApplication name arguments) = symbols_named declared name (length (type_list arguments))
 
 abbrev pub has_symbol : List Symbol → Symbol → Bool
 has_symbol symbols symbol = list_any (λ other. same_symbol symbol other) symbols

@@ -7,6 +7,8 @@ pub mod Switches
 pub mod Choices
 pub mod SwitchesExamples
 pub mod ChoicesExamples
+pub mod Fitting
+pub mod FittingExamples
 pub mod Faults
 pub mod FaultsExamples
 pub mod Laws

@@ -4,7 +4,7 @@ use Rattle.merc_graded_tree.specs.declared.entries.Label.{Label}
 use Rattle.merc_graded_tree.specs.Roots.{arity_of, last_joined}
 use Rattle.merc_graded_tree.specs.Entries.{nodes_from}
 use Rattle.merc_graded_tree.proofs.EntryLaws.{length-starts_from, start_within, behind}
-use Rattle.merc_graded_tree.proofs.nodes.Nodes.join.Goals as goal
+use Rattle.merc_graded_tree.proofs.nodes.Nodes.put.Goals as goal
 
 pub overflow_sub-kept : goal.overflow_sub-kept
 overflow_sub-kept c =
@@ -30,7 +30,7 @@ invariant_of-self-2 c =
     let goals = nodes_from entries in
     let starts = c.self.inside.starts.items in
     let kept = c.len.result - c.arity.result in
-    let label : Label = record { root = c.args.root; outputs = c.args.outputs; category = None; span = c.args.span } in
+    let label : Label = c.args.label in
     let enough : arity_of label.root ≤ length goals = omega (arith, c.requires, ap length c.self.view_is) in
     let count : vec_len c.self.inside.starts ≡ length goals = c.self.inside.starts.ok.0 ∙ ap length c.self.invariant.1 ∙ length-starts_from 0 goals in
     let kept_is : kept ≡ length goals - arity_of label.root = counted _ _ _ _ _ c.len.ensures count c.arity.ensures in
@@ -47,7 +47,7 @@ returns-clause-ok c =
     let goals = nodes_from entries in
     let starts = c.self.inside.starts.items in
     let kept = c.len.result - c.arity.result in
-    let label : Label = record { root = c.args.root; outputs = c.args.outputs; category = None; span = c.args.span } in
+    let label : Label = c.args.label in
     let enough : arity_of label.root ≤ length goals = omega (arith, c.requires, ap length c.self.view_is) in
     let count : vec_len c.self.inside.starts ≡ length goals = c.self.inside.starts.ok.0 ∙ ap length c.self.invariant.1 ∙ length-starts_from 0 goals in
     let kept_is : kept ≡ length goals - arity_of label.root = counted _ _ _ _ _ c.len.ensures count c.arity.ensures in
