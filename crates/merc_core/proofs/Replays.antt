@@ -60,8 +60,8 @@ module _ (items : List Item) (past : List ℕ) (parts : Parts) (events : List Ev
   abbrev workers : ℕ
   workers = length parts.workers
 
-  pub fit : AreFit replays.world
-  fit = are-fit root workers events replays.world replays.well replays.some replays.leads
+  pub fit : AreFit items replays.world
+  fit = are-fit items workers events replays.world replays.well replays.some replays.leads
 
   pub kept : IsKeptState items past parts
   kept = record { root = root; world = replays.world; course = replays.course; mirrors = replays.mirrors; fit = fit }

@@ -161,7 +161,7 @@ found_with others x = Some (x, others)
 located : (x : Spot) (others : List Spot) (location : Location) → x.location ≡ location → found_with others x ≡ found_with others (spot location x.branch)
 located x others location is = ap (λ (l : Location). found_with others (spot l x.branch)) is
 
-module _ (items : List Item) (parts : Parts) (w : World) (mirrors : Mirrors items parts w) (fit : AreFit w) (due : ℕ → ℕ) (root : Script) (live : Live due root w) where
+module _ (items : List Item) (parts : Parts) (w : World) (mirrors : Mirrors items parts w) (fit : AreFit items w) (due : ℕ → ℕ) (root : Script) (live : Live due root w) where
   held-turn : (v join : ℕ) (k : Worker) → slice_get parts.workers v ≡ Some k → k.held ≡ Some join → (l : List CoreBranch) → k.hand ≡ l → 0 < length l → Accepted w (Resume v)
   held-turn v join k stands held [] is some = absurd (omega arith)
   held-turn v join k stands held (c ∷ more) is some =
