@@ -1,7 +1,6 @@
 -- What a well-formed script says of branches that run, after every list of events.
-use Rattle.std.proofs.Common.{◌≡◌, ℕ, ◌≤◌, ◌<◌, ◌⊎◌, inl, inr, List, [], Some, subst, sym}
-use Rattle.std.specs.Prelude.{Option, slice_get}
-use Rattle.std.specs.List.{AllByRecursion}
+use Rattle.std.proofs.Common.{ℕ, ◌≤◌, inl, inr, List, subst, sym}
+use Rattle.std.specs.Prelude.{Option}
 use Rattle.merc_script.specs.declared.outcome.Outcome.{Outcome}
 use Rattle.merc_script.specs.declared.outcome.Outcome.TheVariants.{Ok as Fine, Raise, Limit, Starved, NoMemory}
 use Rattle.merc_script.specs.Script.{Script, Ends, TickThen, WaitThen, SignalThen, ForkThen}
@@ -10,12 +9,12 @@ use Rattle.merc_script.specs.declared.items.Item.{Item}
 use Rattle.merc_script.specs.Items.{script_of}
 use Rattle.merc_value.specs.Value.{Value}
 use Rattle.merc_core.specs.declared.event.Event.{Event}
-use Rattle.merc_core.specs.World.{Branch, Location, Listed, Runs, Holds, AtCell, AtJoin, Spot, Join, Stored, World}
+use Rattle.merc_core.specs.World.{Branch, Location, Listed, Runs, Holds, AtCell, AtJoin, Join, Stored, World}
 use Rattle.merc_core.specs.WellFormed.{Formed, EndsWell, WellFormed, value_in, cells_of}
 use Rattle.merc_core.specs.Laws.{LeadsTo, IsCutEnd}
 use Rattle.merc_core.specs.Mirror.{IsFit, IsFitAt, AreFit}
 use Rattle.merc_core.proofs.Pool.{each-weaker}
-use Rattle.merc_core.proofs.Truth.{Honest, IsCut, StateAt, Good}
+use Rattle.merc_core.proofs.Truth.{IsCut, StateAt, Good}
 use Rattle.merc_core.proofs.Losses.{Excused, Spoiled, truth-lost}
 use Rattle.merc_core.specs.Given.{IsOpenAt}
 use Rattle.merc_core.proofs.Live.{Stuck, StuckAt}

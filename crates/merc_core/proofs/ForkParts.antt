@@ -1,13 +1,11 @@
 -- What is made at a Fork, and the room for it.
-use Rattle.std.proofs.Common.{◌≡◌, ℕ, zero, suc, ◌+◌, ◌-◌, ◌≤◌, ◌<◌, inl, inr, true, false, not, List, [], ◌∷◌, ◌++◌, refl, ap, sym, ◌∙◌, subst, arith, length, length-append, append_assoc, take, drop, get_or}
+use Rattle.std.proofs.Common.{◌≡◌, ℕ, zero, suc, ◌+◌, ◌-◌, ◌≤◌, ◌<◌, true, List, [], ◌∷◌, ◌++◌, refl, ap, sym, ◌∙◌, subst, arith, length, length-append, append_assoc, get_or}
 use Rattle.std.proofs.lemmas.Bool.Decides.{nat_tests}
-use Rattle.std.specs.Prelude.{nat_eq, ◌&&◌, ◌||◌, filter, if◌then◌else◌}
+use Rattle.std.specs.Prelude.{nat_eq, ◌&&◌, filter, if◌then◌else◌}
 use Rattle.merc_script.specs.Script.{Cell, Move}
 use Rattle.merc_core.specs.declared.branch.Branch.{Branch as CoreBranch}
-use Rattle.merc_core.specs.Rights.{has, without, numbers_of, cells_moved, moved, made_by, moved_to, signals_at, signals_behind}
+use Rattle.merc_core.specs.Rights.{numbers_of, cells_moved, made_by, moved_to, signals_at}
 use Rattle.merc_core.specs.Forking.{past_script, past_scripts, newborn, born_from, rights_wanted}
-use Rattle.merc_core.proofs.Pool.{each_way}
-use Rattle.merc_core.proofs.Filters.{filter-yes, filter-no}
 
 -- where nothing is lost, there are nodes for all that is to come
 pub nodes-left : {A : Type 0} (a x b y : List A) (s t : ℕ) → a ++ x ≡ b ++ y → length a + s ≡ length b + t → length y ≤ t → length x ≤ s

@@ -1,8 +1,6 @@
 -- The rights that branches are given, in a root script with a Fork inside a Fork.
-use Rattle.std.proofs.Common.{◌≡◌, ℕ, inl, inr, true, false, List, [], ◌∷◌, Some, None, refl, arith}
-use Rattle.std.specs.Prelude.{Option}
+use Rattle.std.proofs.Common.{◌≡◌, ℕ, inl, inr, true, List, [], ◌∷◌, Some, None, refl, arith}
 use Rattle.merc_script.specs.declared.outcome.Outcome.TheVariants.{Limit}
-use Rattle.merc_script.specs.declared.cells.Move.{Move}
 use Rattle.merc_script.specs.Script.{Script, Ends, SignalThen, ForkThen, Children, NoChild, Child, Cell}
 use Rattle.merc_core.specs.World.{AtCell, AtJoin, Runs, Join}
 use Rattle.merc_core.specs.Given.{given, IsSettled, IsGone, AreLeft, nothing, stays, goes, AllSettled, IsOpenAt}

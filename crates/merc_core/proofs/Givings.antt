@@ -1,5 +1,5 @@
 -- What is left of the rights that a branch was given.
-use Rattle.std.proofs.Common.{◌≡◌, ℕ, suc, ◌≤◌, ◌⊎◌, inl, inr, Bool, true, false, not, List, [], ◌∷◌, ◌++◌, Some, None, refl, ap, sym, ◌∙◌, subst}
+use Rattle.std.proofs.Common.{◌≡◌, ℕ, ◌≤◌, ◌⊎◌, inl, inr, Bool, true, false, not, List, [], ◌∷◌, ◌++◌, refl, ap, sym, ◌∙◌, subst}
 use Rattle.std.proofs.lemmas.List.{append-nil}
 use Rattle.std.specs.Prelude.{Option, filter, map, nat_eq, if◌then◌else◌, ◌||◌, ◌&&◌}
 use Rattle.std.specs.List.{AllByRecursion}
@@ -11,7 +11,7 @@ use Rattle.merc_core.specs.Rights.{has, has_in, without, moved, moved_to}
 use Rattle.merc_core.specs.Events.{acts_at, parked, parked_at, ended, woken, wake, poison}
 use Rattle.merc_core.specs.WellFormed.{MoveFits}
 use Rattle.merc_core.specs.Given.{given_by, given_from, IsSettled, IsGone, AreLeft, nothing, stays, goes, IsOpenAt}
-use Rattle.merc_core.proofs.Pool.{each_way, each-append, each-filter, each-always}
+use Rattle.merc_core.proofs.Pool.{each_way, each-append, each-filter}
 use Rattle.merc_core.proofs.TruthSteps.{is_same, test_same, either_true}
 use Rattle.merc_core.proofs.Anys.{or-left, or-right}
 use Rattle.merc_core.proofs.Filters.{filter-yes, filter-no}

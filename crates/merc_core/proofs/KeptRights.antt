@@ -1,5 +1,5 @@
 -- No right is forgotten: each accepted event keeps what is said of the rights that branches were given.
-use Rattle.std.proofs.Common.{◌≡◌, ℕ, suc, ◌+◌, ◌≤◌, ◌<◌, ◌⊎◌, inl, inr, Bool, true, false, not, List, [], ◌∷◌, ◌++◌, Some, None, refl, ap, sym, ◌∙◌, subst, arith, length}
+use Rattle.std.proofs.Common.{◌≡◌, ℕ, suc, ◌+◌, ◌≤◌, ◌<◌, inl, inr, true, not, List, [], ◌∷◌, ◌++◌, Some, None, refl, ap, sym, ◌∙◌, subst, arith, length}
 use Rattle.std.proofs.lemmas.Bool.Decides.{nat_tests}
 use Rattle.std.specs.Prelude.{Option, slice_get, if◌then◌else◌, nat_eq, filter, map, ◌&&◌}
 use Rattle.std.specs.List.{AllByRecursion}
@@ -7,13 +7,13 @@ use Rattle.merc_value.specs.Value.{Value}
 use Rattle.merc_script.specs.declared.outcome.Outcome.{Outcome}
 use Rattle.merc_script.specs.declared.outcome.Outcome.TheVariants.{Ok as Fine, Raise, Limit, Starved, NoMemory}
 use Rattle.merc_script.specs.declared.cells.Move.{Move}
-use Rattle.merc_script.specs.Script.{Script, Ends, TickThen, WaitThen, SignalThen, ForkThen, Children, NoChild, Child, Cell, count, size, sizes}
+use Rattle.merc_script.specs.Script.{Script, SignalThen, ForkThen, Children, NoChild, Child, Cell, count, size, sizes}
 use Rattle.merc_script.specs.Places.{left_in, script_named}
 use Rattle.merc_script.specs.Joining.{joined}
 use Rattle.merc_core.specs.declared.event.Event.{Event}
-use Rattle.merc_core.specs.World.{Branch, Location, Listed, Runs, Holds, AtCell, AtJoin, Spot, spot, Join, Parent, Stored, World, start, stored_at, with_first, gathered, outcomes_of}
+use Rattle.merc_core.specs.World.{Branch, Location, Listed, Runs, Holds, AtCell, AtJoin, Spot, spot, Join, Stored, World, start, stored_at, with_first, gathered, outcomes_of}
 use Rattle.merc_core.specs.Events.{parked, parked_at, awaits, awaits_at, past_tick, past_signal, past_wait, ended, go_behind, spawned, listed_backwards, placed, parent_behind, woken, wake, unchanged, poison, hold_one, hold_if, forked, signalled, finished, stored_with}
-use Rattle.merc_core.specs.Rights.{has, has_in, without, moved, moved_to, made_by, signals_at}
+use Rattle.merc_core.specs.Rights.{has, moved, moved_to, made_by, signals_at}
 use Rattle.merc_core.specs.WellFormed.{WellFormed, MoveFits, value_in, cells_of}
 use Rattle.merc_core.specs.Laws.{LeadsTo, child_name, IsNamedIn, Carries, Stands, AllStand}
 use Rattle.merc_core.specs.Given.{given, IsSettled, IsPassedOn, IsGone, AreLeft, nothing, HasLeft, AllSettled, KeepsRights}
