@@ -102,7 +102,7 @@ module _ (items : List Item) (parts : Parts) (w : World) (mirrors : Mirrors item
     pub location : gone.x.location ≡ in_hand_at v o
     pub fit : IsFitAt gone.x.location gone.x.branch.steps gone.x.branch.rest
 
-  pub acting : (o : Option ℕ) (c : CoreBranch) (more : List CoreBranch) → k.held ≡ o → k.hand ≡ c ∷ more → AreFit w → Acting o c
+  pub acting : (o : Option ℕ) (c : CoreBranch) (more : List CoreBranch) → k.held ≡ o → k.hand ≡ c ∷ more → AreFit items w → Acting o c
   acting o c more held is fit =
       let few : length (queue parts (Hand v)) ≤ 1 = mirrors.pool.single (Hand v) tt in
       let none : more ≡ [] = nothing more (let e = ap length (hand-is ∙ is) in omega (arith, e, few)) in
@@ -129,7 +129,7 @@ module _ (items : List Item) (parts : Parts) (w : World) (mirrors : Mirrors item
       ∙ ap (λ l. if_runs l a.gone.x.branch a.gone.others go) a.location
 
   -- .. and of one that runs none
-  pub runs-none : AreFit w → IsIdle k → (go : Branch → List Spot → Answer) → running w v go ≡ Err Idle
+  pub runs-none : AreFit items w → IsIdle k → (go : Branch → List Spot → Answer) → running w v go ≡ Err Idle
   runs-none fit (empty none) go =
       ap (λ t. if t then if_found (in_hand v w.pool) go else Err NoWorker) knows
       ∙ ap (λ f. if_found f go) (gone-none items (queue parts) (λ u. held_of (slice_get parts.workers u)) w.pool mirrors.pool (Hand v) (hand-is ∙ none))

@@ -18,7 +18,7 @@ use Rattle.merc_core.specs.Mirror.{Parts, Mirrors, AreFit, IsFit, IsFitAt}
 use Rattle.merc_core.specs.Stepping.{RunsNext, Finishes}
 use Rattle.merc_core.proofs.Acting.{acting, runs-on}
 
-module _ (items : List Item) (parts : Parts) (w : World) (mirrors : Mirrors items parts w) (fit : AreFit w) (v : ℕ) (k : Worker) (stands : slice_get parts.workers v ≡ Some k) where
+module _ (items : List Item) (parts : Parts) (w : World) (mirrors : Mirrors items parts w) (fit : AreFit items w) (v : ℕ) (k : Worker) (stands : slice_get parts.workers v ≡ Some k) where
   at-end : (o : Outcome) (rest : Script) → IsEnd o rest → rest ≡ Ends o
   at-end o (Ends other) is = ap Ends (sym is)
   at-end o (TickThen rest) is = absurd is
@@ -39,13 +39,13 @@ module _ (items : List Item) (parts : Parts) (w : World) (mirrors : Mirrors item
       let comes : IsEnd o a.gone.x.branch.rest = subst (λ (n : Next). IsNext items runs.branch.at n a.gone.x.branch.rest) is (runs.comes a.gone.x.branch.rest a.gone.one.left) in (
         finished w v a.gone.x.branch a.gone.others o,
         runs-on items parts w mirrors v k stands runs.branch a _ ∙ ap (λ s. end_on w v s a.gone.x.branch a.gone.others) (at-end o a.gone.x.branch.rest comes),
-        finishes w a.gone.x a.gone.others mirrors a.gone.is,
+        finishes w a.gone.x a.gone.others mirrors fit a.gone.is,
       )
 
   pub lose-done : (next : Next) → RunsNext items k next → (new : Parts) → Finishes items v NoMemory parts new → (after : World) × (happens w (Lost v) ≡ Ok after) × Mirrors items new after
   lose-done next runs new finishes =
       let a = acting items parts w mirrors v k stands None runs.branch runs.more runs.free runs.hand fit in
-      (finished w v a.gone.x.branch a.gone.others NoMemory, runs-on items parts w mirrors v k stands runs.branch a _, finishes w a.gone.x a.gone.others mirrors a.gone.is)
+      (finished w v a.gone.x.branch a.gone.others NoMemory, runs-on items parts w mirrors v k stands runs.branch a _, finishes w a.gone.x a.gone.others mirrors fit a.gone.is)
 
   no-end : (place : ℕ) (next : Next) (left : Script) (b : Branch) (others : List Spot) → ((o : Outcome) → next ≡ EndNext o → ⊥) → IsNext items place next left → end_on w v left b others ≡ Err NotAtEnd
   no-end place next (TickThen rest) b others apart at = refl

@@ -16,19 +16,32 @@ use Rattle.merc_core.specs.declared.join.Join.{Join as CoreJoin}
 use Rattle.merc_core.specs.declared.worker.Worker.{Worker}
 use Rattle.merc_core.specs.World.{Spot, Join, Stored, World, stored_at, with_first, gathered, outcomes_of}
 use Rattle.merc_core.specs.Events.{in_hand, finished, stored_with, poison, hold_if, hold}
+use Rattle.merc_script.specs.Items.{script_of}
+use Rattle.merc_core.specs.Given.{IsSettled, IsGone, AreLeft, HasLeft, IsOpenAt}
 use Rattle.merc_core.specs.Outcomes.{all_stored, joined_if, joined_at}
 use Rattle.merc_core.specs.Queues.{waiting_of, cells_after, list_after, stored_from}
-use Rattle.merc_core.specs.Mirror.{Key, Hand, Row, Waiting, Parent, queue, held, held_of, hand_of, row_of, parents_of, stored_for, FewIf, IsJoin, ShowsJoin, Parts, ShowsPool, ShowsCell, Mirrors, still_made, HasRoom, branches_made, rights_made, joins_made}
-use Rattle.merc_core.proofs.Pool.{each_way}
+use Rattle.merc_core.specs.Mirror.{Key, Hand, Row, Waiting, Parent, queue, held, held_of, hand_of, row_of, parents_of, stored_for, FewIf, IsJoin, ShowsJoin, Parts, ShowsPool, ShowsCell, Mirrors, AreFit, still_made, HasRoom, branches_made, rights_made, joins_made}
+use Rattle.merc_core.proofs.Pool.{each_way, takes-one, takes-others}
+use Rattle.merc_core.proofs.Givings.{left-weaker, acting-settled, poison-left}
 use Rattle.merc_core.proofs.Acting.{with_worker, held-there, held-here, nat-is, replaced}
 use Rattle.merc_core.proofs.PoolShows.{nat-self, with_queue, queue-same, same-queues, Gone, gone-first, held-changed}
 use Rattle.merc_core.proofs.PoolMoves.{held_queues, hold-shows}
 use Rattle.merc_core.proofs.Rooms.{still-takes, takes-length}
 use Rattle.merc_core.proofs.Poisoning.{after_queues, poison-shows, after-hand, after-parent, after-other, after-row, after-cell, poisoned-shows, some-after, still-poison, length-poison, still-hold, length-hold, stored-apart, stored-here, few-stored}
 
-module _ (items : List Item) (parts : Parts) (w : World) (mirrors : Mirrors items parts w) (v : ℕ) (k : Worker) (stands : slice_get parts.workers v ≡ Some k) (c : CoreBranch) (only : k.hand ≡ c ∷ []) where
+module _ (items : List Item) (parts : Parts) (w : World) (mirrors : Mirrors items parts w) (fit : AreFit items w) (v : ℕ) (k : Worker) (stands : slice_get parts.workers v ≡ Some k) (c : CoreBranch) (only : k.hand ≡ c ∷ []) where
   pub taken-out : Gone items (queue parts) (λ u. held_of (slice_get parts.workers u)) w.pool (in_hand v w.pool) (Hand v) c []
   taken-out = gone-first items (queue parts) (λ u. held_of (slice_get parts.workers u)) w.pool mirrors.pool (Hand v) c [] (ap (λ o. hand_of o) stands ∙ only)
+
+  -- of the rights that it was given it has some left, and the cells of the others are settled
+  rights-left : AreLeft (IsSettled w.full w.poisoned) c.signals taken-out.x.branch.signals
+  rights-left = subst (λ (had : List ℕ). AreLeft (IsSettled w.full w.poisoned) had taken-out.x.branch.signals) (sym taken-out.one.signals)
+      (left-weaker (IsGone (script_of items) w.full w.poisoned w.joins taken-out.x.location) (IsSettled w.full w.poisoned)
+      (λ cell gone. acting-settled (script_of items) w.full w.poisoned w.joins v taken-out.x.location taken-out.stands cell gone)
+      (takes-one (HasLeft (script_of items) w.full w.poisoned w.joins) taken-out.takes fit.rights))
+
+  pub poison-same : poison taken-out.x.branch.signals v taken-out.others ≡ poison c.signals v taken-out.others
+  poison-same = sym (poison-left w.full w.poisoned rights-left v taken-out.others (takes-others (λ one. IsOpenAt w.full w.poisoned one.location) taken-out.takes fit.opened))
 
   near-v : v < length parts.workers
   near-v = slice_get_within parts.workers v k stands
@@ -104,11 +117,9 @@ module _ (items : List Item) (parts : Parts) (w : World) (mirrors : Mirrors item
         (hold-shows items behind_queues (λ u. held (with_worker parts v k') u) (poison c.signals v taken-out.others) ready v join empty (held-here parts v k' near-v ∙ holds))
 
     -- what else the world shows
-    cells-show : (signals : List ℕ) → c.signals ≡ signals → (other : ℕ) → ShowsCell other w.full (w.poisoned ++ (signals ∷ [])) (cells' other)
-    cells-show signals is other =
-        subst (ShowsCell other w.full (w.poisoned ++ (signals ∷ []))) (sym (cells-are other))
-        (subst (λ (l : List ℕ). ShowsCell other w.full (w.poisoned ++ (l ∷ [])) (cells_after c.signals parts.cells other)) is
-        (poisoned-shows c.signals parts.cells other w.full w.poisoned (mirrors.cells other)))
+    cells-show : (other : ℕ) → ShowsCell other w.full (w.poisoned ++ (taken-out.x.branch.signals ∷ [])) (cells' other)
+    cells-show other =
+        subst (ShowsCell other w.full (w.poisoned ++ (taken-out.x.branch.signals ∷ []))) (sym (cells-are other)) (poisoned-shows w.full w.poisoned rights-left parts.cells other (mirrors.cells other))
 
     cells-there : (other : ℕ) → IsSome (parts.cells other) → IsSome (cells' other)
     cells-there other some = subst IsSome (sym (cells-are other)) (some-after c.signals parts.cells other some)
@@ -139,7 +150,7 @@ module _ (items : List Item) (parts : Parts) (w : World) (mirrors : Mirrors item
           record {
             workers = length-set parts.workers v k' ∙ mirrors.workers;
             pool = subst (ShowsPool items (queue parts') (held parts')) (sym is-pool) shows;
-            cells = cells-show taken-out.x.branch.signals taken-out.one.signals;
+            cells = cells-show;
             waits = λ place other item. cells-there other (mirrors.waits place other item);
             joins = joins;
             count = many ∙ mirrors.count;
@@ -213,10 +224,10 @@ both-none stored stored' number None None is is' = tt
 both-none stored stored' number None (Some join) is is' = absurd (cc)
 both-none stored stored' number (Some one) join is is' = absurd (cc)
 
-module _ (items : List Item) (parts : Parts) (w : World) (mirrors : Mirrors items parts w) (v : ℕ) (k : Worker) (stands : slice_get parts.workers v ≡ Some k) (c : CoreBranch) (only : k.hand ≡ c ∷ []) (o : Outcome) (few : HasFewSteps o)
+module _ (items : List Item) (parts : Parts) (w : World) (mirrors : Mirrors items parts w) (fit : AreFit items w) (v : ℕ) (k : Worker) (stands : slice_get parts.workers v ≡ Some k) (c : CoreBranch) (only : k.hand ≡ c ∷ []) (o : Outcome) (few : HasFewSteps o)
     (k' : Worker) (list : k'.list ≡ list_after c.signals parts.cells k.list) (cells' : ℕ → Option CoreCell) (cells-are : (other : ℕ) → cells' other ≡ cells_after c.signals parts.cells other) where
   abbrev T : Gone items (queue parts) (λ u. held_of (slice_get parts.workers u)) w.pool (in_hand v w.pool) (Hand v) c []
-  T = taken-out items parts w mirrors v k stands c only
+  T = taken-out items parts w mirrors fit v k stands c only
 
   abbrev new_stored : Stored
   new_stored = record { join = T.x.branch.join; child = T.x.branch.child; outcome = o }
@@ -225,10 +236,10 @@ module _ (items : List Item) (parts : Parts) (w : World) (mirrors : Mirrors item
   done-past beyond hand free =
       let none : slice_get parts.joins c.join ≡ None = slice_get_past parts.joins c.join beyond in
       let spec-none : slice_get w.joins T.x.branch.join ≡ None = ap (slice_get w.joins) (sym T.one.join) ∙ join-none w.stored c.join _ _ (mirrors.joins c.join) none in
-      finished-by items parts w mirrors v k stands c only k' list cells' cells-are parts.joins o (poison c.signals v T.others)
-      (ap (λ j. hold_if v T.x.branch.join (poison T.x.branch.signals v T.others) (outcomes_of (stored_with w T.x.branch o) T.x.branch.join j)) spec-none ∙ ap (λ s. poison s v T.others) (sym T.one.signals))
-      (quiet-pool items parts w mirrors v k stands c only k' list cells' cells-are parts.joins hand free (λ j. refl))
-      (room-poisoned items parts w mirrors v k stands c only k' list cells' cells-are parts.joins (poison c.signals v T.others) (λ each. refl) refl)
+      finished-by items parts w mirrors fit v k stands c only k' list cells' cells-are parts.joins o (poison c.signals v T.others)
+      (ap (λ j. hold_if v T.x.branch.join (poison T.x.branch.signals v T.others) (outcomes_of (stored_with w T.x.branch o) T.x.branch.join j)) spec-none ∙ poison-same items parts w mirrors fit v k stands c only)
+      (quiet-pool items parts w mirrors fit v k stands c only k' list cells' cells-are parts.joins hand free (λ j. refl))
+      (room-poisoned items parts w mirrors fit v k stands c only k' list cells' cells-are parts.joins (poison c.signals v T.others) (λ each. refl) refl)
       (λ number. elim (each_way (nat_eq T.x.branch.join number)) [
         | inl same ↦ (let e : T.x.branch.join ≡ number = nat-is T.x.branch.join number same in let f : c.join ≡ number = T.one.join ∙ e in
             both-none w.stored (stored_with w T.x.branch o) number _ _ (ap (slice_get parts.joins) (sym f) ∙ none) (ap (slice_get w.joins) (sym e) ∙ spec-none))
@@ -269,33 +280,33 @@ module _ (items : List Item) (parts : Parts) (w : World) (mirrors : Mirrors item
     pub done-waits : j'.parent ≡ j.parent → None ≡ joined_at j' → k'.hand ≡ [] → k'.held ≡ k.held
         → Mirrors items (record (with_worker parts v k') { cells = cells'; joins = set parts.joins c.join j' }) (finished w v T.x.branch T.others o)
     done-waits parent waits hand free =
-        finished-by items parts w mirrors v k stands c only k' list cells' cells-are (set parts.joins c.join j') o (poison c.signals v T.others)
-        (ap (hold_if v T.x.branch.join (poison T.x.branch.signals v T.others)) (gathers ∙ none-joined j'.limit (all_stored j'.outcomes) waits) ∙ ap (λ s. poison s v T.others) (sym T.one.signals))
-        (quiet-pool items parts w mirrors v k stands c only k' list cells' cells-are (set parts.joins c.join j') hand free
+        finished-by items parts w mirrors fit v k stands c only k' list cells' cells-are (set parts.joins c.join j') o (poison c.signals v T.others)
+        (ap (hold_if v T.x.branch.join (poison T.x.branch.signals v T.others)) (gathers ∙ none-joined j'.limit (all_stored j'.outcomes) waits) ∙ poison-same items parts w mirrors fit v k stands c only)
+        (quiet-pool items parts w mirrors fit v k stands c only k' list cells' cells-are (set parts.joins c.join j') hand free
         (λ i. elim (each_way (nat_eq c.join i)) [
           | inl same ↦ (let e : c.join ≡ i = nat-is c.join i same in
               subst (λ (n : ℕ). parents_of (slice_get parts.joins n) ≡ parents_of (slice_get (set parts.joins c.join j') n)) e
               (ap (λ s. parents_of s) at ∙ sym parent ∙ sym (ap (λ s. parents_of s) (get-set-here' parts.joins c.join j' near-join))))
           | inr apart ↦ sym (ap (λ s. parents_of s) (get-set-there' parts.joins c.join i j' (apart-nat c.join i apart)))
         ]))
-        (room-poisoned items parts w mirrors v k stands c only k' list cells' cells-are (set parts.joins c.join j') (poison c.signals v T.others) (λ each. refl) refl)
+        (room-poisoned items parts w mirrors fit v k stands c only k' list cells' cells-are (set parts.joins c.join j') (poison c.signals v T.others) (λ each. refl) refl)
         joins-show (length-set parts.joins c.join j')
 
     pub done-held : j'.parent ≡ [] → (given : Outcome) → Some given ≡ joined_if j'.limit (all_stored j'.outcomes) → k'.hand ≡ j.parent → k'.held ≡ Some c.join
         → Mirrors items (record (with_worker parts v k') { cells = cells'; joins = set parts.joins c.join j' }) (finished w v T.x.branch T.others o)
     done-held parent given is hand holds =
         let all = some-joined j'.limit (all_stored j'.outcomes) given is in
-        finished-by items parts w mirrors v k stands c only k' list cells' cells-are (set parts.joins c.join j') o (hold v c.join (poison c.signals v T.others))
-        (ap (hold_if v T.x.branch.join (poison T.x.branch.signals v T.others)) (gathers ∙ all.1) ∙ ap (λ s. hold v T.x.branch.join (poison s v T.others)) (sym T.one.signals)
+        finished-by items parts w mirrors fit v k stands c only k' list cells' cells-are (set parts.joins c.join j') o (hold v c.join (poison c.signals v T.others))
+        (ap (hold_if v T.x.branch.join (poison T.x.branch.signals v T.others)) (gathers ∙ all.1) ∙ ap (hold v T.x.branch.join) (poison-same items parts w mirrors fit v k stands c only)
         ∙ ap (λ n. hold v n (poison c.signals v T.others)) (sym T.one.join))
-        (held-pool items parts w mirrors v k stands c only k' list cells' cells-are (set parts.joins c.join j') c.join (hand ∙ sym (ap (λ s. parents_of s) at)) holds
+        (held-pool items parts w mirrors fit v k stands c only k' list cells' cells-are (set parts.joins c.join j') c.join (hand ∙ sym (ap (λ s. parents_of s) at)) holds
         (λ i. elim (each_way (nat_eq c.join i)) [
           | inl same ↦ (let e : c.join ≡ i = nat-is c.join i same in
               ap (λ t. if t then [] else parents_of (slice_get parts.joins i)) same
               ∙ subst (λ (n : ℕ). [] ≡ parents_of (slice_get (set parts.joins c.join j') n)) e (sym parent ∙ sym (ap (λ s. parents_of s) (get-set-here' parts.joins c.join j' near-join))))
           | inr apart ↦ ap (λ t. if t then [] else parents_of (slice_get parts.joins i)) apart ∙ sym (ap (λ s. parents_of s) (get-set-there' parts.joins c.join i j' (apart-nat c.join i apart)))
         ]))
-        (room-poisoned items parts w mirrors v k stands c only k' list cells' cells-are (set parts.joins c.join j') (hold v c.join (poison c.signals v T.others))
+        (room-poisoned items parts w mirrors fit v k stands c only k' list cells' cells-are (set parts.joins c.join j') (hold v c.join (poison c.signals v T.others))
         (λ each. still-hold each v c.join (poison c.signals v T.others)) (length-hold v c.join (poison c.signals v T.others)))
         joins-show (length-set parts.joins c.join j')
 

@@ -1,13 +1,11 @@
 -- What is made at a Fork, and the room for it.
-use Rattle.std.proofs.Common.{◌≡◌, ℕ, zero, suc, ◌+◌, ◌-◌, ◌≤◌, ◌<◌, inl, inr, true, false, not, List, [], ◌∷◌, ◌++◌, refl, ap, sym, ◌∙◌, subst, arith, length, length-append, append_assoc, take, drop, get_or}
+use Rattle.std.proofs.Common.{◌≡◌, ℕ, zero, suc, ◌+◌, ◌-◌, ◌≤◌, ◌<◌, true, List, [], ◌∷◌, ◌++◌, refl, ap, sym, ◌∙◌, subst, arith, length, length-append, append_assoc, get_or}
 use Rattle.std.proofs.lemmas.Bool.Decides.{nat_tests}
-use Rattle.std.specs.Prelude.{nat_eq, ◌&&◌, ◌||◌, filter, if◌then◌else◌}
+use Rattle.std.specs.Prelude.{nat_eq, ◌&&◌, filter, if◌then◌else◌}
 use Rattle.merc_script.specs.Script.{Cell, Move}
 use Rattle.merc_core.specs.declared.branch.Branch.{Branch as CoreBranch}
-use Rattle.merc_core.specs.Rights.{has, without, numbers_of, cells_moved, moved, made_by, moved_to, signals_at, signals_behind}
+use Rattle.merc_core.specs.Rights.{numbers_of, cells_moved, made_by, moved_to, signals_at}
 use Rattle.merc_core.specs.Forking.{past_script, past_scripts, newborn, born_from, rights_wanted}
-use Rattle.merc_core.proofs.Pool.{each_way}
-use Rattle.merc_core.proofs.Filters.{filter-yes, filter-no}
 
 -- where nothing is lost, there are nodes for all that is to come
 pub nodes-left : {A : Type 0} (a x b y : List A) (s t : ℕ) → a ++ x ≡ b ++ y → length a + s ≡ length b + t → length y ≤ t → length x ≤ s
@@ -30,43 +28,6 @@ moved-some child (one ∷ moves) first seen some is reads goes signals =
     let f : one.signal ≡ true = ap (λ (m : Move). m.signal) (sym (reads ∙ is)) ∙ signals in
     let g : (nat_eq one.child child && one.signal) ≡ true = ap (λ t. t && one.signal) e ∙ f in
     subst (λ (l : List ℕ). 0 < length l) (sym (ap (λ t. cells_moved (if t then one ∷ filter (λ x. nat_eq x.child child && x.signal) moves else filter (λ x. nat_eq x.child child && x.signal) moves)) g)) (omega arith)
-
--- taken out one after the other
-pub without-two : (gone : ℕ) (more cells : List ℕ) → without more (without (gone ∷ []) cells) ≡ without (gone ∷ more) cells
-without-two gone more [] = refl
-without-two gone more (c ∷ cs) = elim (each_way (nat_eq gone c)) [
-  | inl is ↦
-      ap (without more) (filter-no (λ one. not (has one (gone ∷ []))) c cs (ap (λ t. not (t || false)) is)) ∙ without-two gone more cs
-      ∙ sym (filter-no (λ one. not (has one (gone ∷ more))) c cs (ap (λ t. not (t || has c more)) is))
-  | inr is ↦
-      ap (without more) (filter-yes (λ one. not (has one (gone ∷ []))) c cs (ap (λ t. not (t || false)) is))
-      ∙ ap (λ l. if not (has c more) then c ∷ l else l) (without-two gone more cs)
-      ∙ ap (λ t. if not (t || has c more) then c ∷ without (gone ∷ more) cs else without (gone ∷ more) cs) (sym is)
-]
-
-pub without-none : (cells : List ℕ) → without [] cells ≡ cells
-without-none [] = refl
-without-none (c ∷ cs) = ap (λ l. c ∷ l) (without-none cs)
-
-take-whole : {A : Type 0} (xs : List A) (n : ℕ) → n ≡ length xs → take n xs ≡ xs
-take-whole [] zero is = refl
-take-whole [] (suc n) is = refl
-take-whole (x ∷ xs) zero is = absurd (omega (arith, is))
-take-whole (x ∷ xs) (suc n) is = ap (λ l. x ∷ l) (take-whole xs n (omega (arith, is)))
-
--- the first right that moves is taken out, and then the others
-pub moved-on : (cells new : List ℕ) (moves : List Move) (first seen : Move) → 1 ≤ length moves → first ≡ get_or moves 0 first → seen ≡ first → seen.signal ≡ true → new ≡ without (seen.cell ∷ []) cells
-    → signals_behind new (take (length moves - 1) (drop 1 moves)) ≡ signals_behind cells moves
-moved-on cells new [] first seen some is reads signals out = absurd (omega arith)
-moved-on cells new (one ∷ moves) first seen some is reads signals out =
-    let whole : take (suc (length moves) - 1) moves ≡ moves = take-whole moves (suc (length moves) - 1) (omega arith) in
-    let f : one.signal ≡ true = ap (λ (m : Move). m.signal) (sym (reads ∙ is)) ∙ signals in
-    ap (signals_behind new) whole ∙ ap (without (moved true moves)) (out ∙ ap (λ (m : Move). without (m.cell ∷ []) cells) (reads ∙ is)) ∙ without-two one.cell (moved true moves) cells
-    ∙ ap (λ t. without (cells_moved (if t then one ∷ filter (λ m. m.signal) moves else filter (λ m. m.signal) moves)) cells) (sym f)
-
-pub none-moves : (cells : List ℕ) (moves : List Move) → length moves < 1 → signals_behind cells moves ≡ cells
-none-moves cells [] none = without-none cells
-none-moves cells (one ∷ moves) none = absurd (omega arith)
 
 module _ (past : List ℕ) (join : ℕ) (cells : List Cell) (moves : List Move) where
   -- one more child is there

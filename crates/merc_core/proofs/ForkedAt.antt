@@ -5,13 +5,14 @@ use Rattle.std.specs.Prelude.{Option, slice_get, if◌then◌else◌}
 use Rattle.merc_script.specs.declared.outcome.Outcome.{Outcome}
 use Rattle.merc_script.specs.declared.items.Item.{Item}
 use Rattle.merc_script.specs.Script.{Script, Children, NoChild, Child, Cell, Move, count, size, sizes}
-use Rattle.merc_script.specs.Items.{items_of, items_in}
+use Rattle.merc_script.specs.Items.{items_of, items_in, script_of}
 use Rattle.merc_core.specs.declared.branch.Branch.{Branch as CoreBranch}
 use Rattle.merc_core.specs.World.{Branch, Listed, Spot, spot, Stored, stored_at}
 use Rattle.merc_core.specs.Events.{spawned, listed_backwards}
 use Rattle.merc_core.specs.Standing.{StandsAt, StandAt}
 use Rattle.merc_core.specs.Forking.{past_script, past_scripts, place_or, newborn, born_from, not_stored}
 use Rattle.merc_core.specs.Rights.{signals_at}
+use Rattle.merc_core.specs.Given.{given}
 use Rattle.merc_core.specs.Mirror.{Key, Row, same_key, Shows, ShowsPool, IsCourse, stored_for, still_made, made, made_in}
 use Rattle.merc_core.proofs.Pool.{each_way}
 use Rattle.merc_core.proofs.PoolShows.{key-listed, with_queue, queue-same, same-queues, put}
@@ -83,7 +84,7 @@ module _ (items : List Item) (past : List ℕ) (root : Script) (course : IsCours
       let e : place + size first + sizes more ≡ place + (size first + sizes more) = omega arith in
       ap (λ n. past_scripts past n (count more)) p ∙ past-all (place + size first) more (more-stand items place first more at) ∙ e
 
-  module _ (v join : ℕ) (b : Branch) (cells : List Cell) (moves : List Move) (holds : ℕ → Option ℕ) where
+  module _ (v join : ℕ) (b : Branch) (cells : List Cell) (moves : List Move) (gives : (child : ℕ) → given (script_of items) (b.name ++ ((b.passed, child) ∷ [])) ≡ signals_at child cells moves) (holds : ℕ → Option ℕ) where
     pub shows-newborn : (child place : ℕ) (first : Script) → StandsAt items place first
         → Shows items (newborn join child place (signals_at child cells moves)) (record {
           join = join;
@@ -101,7 +102,7 @@ module _ (items : List Item) (past : List ℕ) (root : Script) (course : IsCours
       child = refl;
       at = refl;
       steps = refl;
-      signals = refl;
+      signals = sym (gives child);
       left = stands;
       within = stands-within items place first stands;
       few = omega arith;

@@ -20,18 +20,23 @@ use Rattle.merc_core.specs.declared.event.Event.TheVariants.{Fork}
 use Rattle.merc_core.specs.declared.event.NotNow.TheVariants.{WrongItem}
 use Rattle.merc_core.specs.World.{Branch, Location, Runs, AtJoin, Spot, spot, Stored, stored_at, Join, World}
 use Rattle.merc_core.specs.Events.{forked, fork_on, parent_behind, spawned, placed, happens}
-use Rattle.merc_core.specs.Rights.{signals_at, signals_behind}
+use Rattle.merc_core.specs.Rights.{signals_at}
+use Rattle.merc_script.specs.Items.{script_of}
+use Rattle.merc_script.specs.Places.{left_in, script_named}
+use Rattle.merc_core.specs.Laws.{Carries, Stands}
+use Rattle.merc_core.specs.Given.{given, given_by}
 use Rattle.merc_core.specs.Standing.{StandsAt, StandAt, LeftAt, IsLeft, IsNext, IsFork}
 use Rattle.merc_core.specs.Forking.{past_scripts, newborn, born_from, not_stored}
 use Rattle.merc_core.specs.Mirror.{stands_in, Key, Hand, Row, Waiting, Parent, queue, held, held_of, hand_of, row_of, parents_of, in_hand_at, Parts, Shows, ShowsPool, IsCourse, Mirrors, AreFit, IsFit, IsFitAt, ShowsCell, ShowsJoin, FewIf, still_made, made, made_in, branches_made, rights_made, joins_made}
 use Rattle.merc_core.specs.Stepping.{RunsNext, IsForkNext}
-use Rattle.merc_core.proofs.Pool.{each_way}
+use Rattle.merc_core.proofs.Pool.{each_way, takes-one}
 use Rattle.merc_core.proofs.PoolShows.{key-runs, key-at-join, with_queue, queue-same, same-queues, show-length, put}
 use Rattle.merc_core.proofs.Rooms.{still-append, still-takes, takes-length}
 use Rattle.merc_core.proofs.Acting.{with_worker, Acting, acting, runs-on, replaced, held-there, held-here, nat-is, worker-there}
 use Rattle.merc_core.proofs.Simple.{not-ended, stands-within}
 use Rattle.merc_core.proofs.WaitingAt.{filter-length}
 use Rattle.merc_core.proofs.ForkParts.{born-before}
+use Rattle.merc_core.proofs.Givings.{given-last}
 use Rattle.merc_core.proofs.ForkedAt.{grown-together, none-stored, still-listed, length-listed, past-is, past-all, put-children, shows-newborn, first-stands, more-stand}
 
 nat-less : (a n : ℕ) → a < n → nat_eq a n ≡ false
@@ -89,7 +94,7 @@ last-is l xs x is = ap (λ k. drop (length k - 1) k) is ∙ ap (λ n. drop n (xs
 front-is : {A : Type 0} (l xs : List A) (x : A) → l ≡ xs ++ (x ∷ []) → take (length l - 1) l ≡ xs
 front-is l xs x is = ap (λ k. take (length k - 1) k) is ∙ ap (λ n. take n (xs ++ (x ∷ []))) (back-at xs x) ∙ take-append_seam xs (x ∷ [])
 
-module _ (items : List Item) (parts : Parts) (w : World) (mirrors : Mirrors items parts w) (fit : AreFit w) (v : ℕ) (k : Worker) (stands : slice_get parts.workers v ≡ Some k) where
+module _ (items : List Item) (parts : Parts) (w : World) (mirrors : Mirrors items parts w) (fit : AreFit items w) (v : ℕ) (k : Worker) (stands : slice_get parts.workers v ≡ Some k) where
   -- the branch is at a fork
   pub record Forks (fork : ForkData) : Type 0 where
     pub c : CoreBranch
@@ -173,6 +178,17 @@ module _ (items : List Item) (parts : Parts) (w : World) (mirrors : Mirrors item
     abbrev b : Branch
     b = f.acts.gone.x.branch
 
+    -- its name leads to the fork
+    named-at : (s : Script) → s ≡ ForkThen fork.limit fork.cells fork.moves f.children f.rest → Carries (script_of items) (record b { rest = s })
+        → left_in b.passed (script_named b.name (Some (script_of items))) ≡ Some (ForkThen fork.limit fork.cells fork.moves f.children f.rest)
+    named-at s is (inl at) = at ∙ ap (λ (t : Script). Some t) is
+    named-at s is (inr end) = absurd (let e : ForkThen fork.limit fork.cells fork.moves f.children f.rest ≡ Ends end.0 = sym is ∙ end.1 in cc)
+
+    gives : (child : ℕ) → given (script_of items) (b.name ++ ((b.passed, child) ∷ [])) ≡ signals_at child fork.cells fork.moves
+    gives child =
+        given-last [] b.name b.passed child (Some (script_of items))
+        ∙ ap (given_by child) (named-at b.rest f.is (takes-one (λ x. Stands (script_of items) w.joins x.branch) f.acts.gone.takes fit.stand.each_branch).carries)
+
     at-is : f.c.at + 1 ≡ suc b.at
     at-is = let e = f.acts.gone.one.at in omega (arith, e)
 
@@ -188,7 +204,7 @@ module _ (items : List Item) (parts : Parts) (w : World) (mirrors : Mirrors item
     ]
 
     abbrev parent' : CoreBranch
-    parent' = record f.c { at = past_scripts past (f.c.at + 1) (count f.children); signals = signals_behind f.c.signals fork.moves }
+    parent' = record f.c { at = past_scripts past (f.c.at + 1) (count f.children) }
 
     parent-at : past_scripts past (f.c.at + 1) (count f.children) ≡ suc b.at + sizes f.children
     parent-at = ap (λ p. past_scripts past p (count f.children)) at-is ∙ past-all items past root course (suc b.at) f.children stand'
@@ -202,7 +218,7 @@ module _ (items : List Item) (parts : Parts) (w : World) (mirrors : Mirrors item
       child = one.child;
       at = parent-at;
       steps = one.steps;
-      signals = ap (λ s. signals_behind s fork.moves) one.signals;
+      signals = one.signals;
       left = subst (λ (o : Option Outcome). LeftAt items (past_scripts past (f.c.at + 1) (count f.children)) o f.rest) (sym f.none) behind';
       within = stands-within items (past_scripts past (f.c.at + 1) (count f.children)) f.rest behind';
       few = let e = one.few in let a = one.at in let p = parent-at in omega (arith, e, a, p);
@@ -262,9 +278,9 @@ module _ (items : List Item) (parts : Parts) (w : World) (mirrors : Mirrors item
           let one = put items q0 holds f.acts.gone.others f.acts.gone.rest (Parent n) (AtJoin n) parent' (parent_behind b fork.cells fork.moves f.children f.rest) (key-at-join n) parent-shows
           f.fits.0 (λ _. nobody) (λ u e. absurd (cc)) in
           let two = put items q1 holds (f.acts.gone.others ++ (spot (AtJoin n) (parent_behind b fork.cells fork.moves f.children f.rest) ∷ [])) one (Hand v) (Runs v) oldest _ (key-runs v)
-          (shows-newborn items past root course v n b fork.cells fork.moves holds 1 (suc b.at) first (first-stands items (suc b.at) first more stands-all)) tt (λ _. free-hand)
+          (shows-newborn items past root course v n b fork.cells fork.moves gives holds 1 (suc b.at) first (first-stands items (suc b.at) first more stands-all)) tt (λ _. free-hand)
           (λ u e. subst (λ (i : ℕ). Runs v ≡ in_hand_at i (holds i)) (cc) (sym (ap (in_hand_at v) (ap (λ o. held_of o) stands ∙ f.free)))) in
-          let three = put-children items past root course v n b fork.cells fork.moves holds q2 _ two 2 (suc b.at + size first) more (more-stand items (suc b.at) first more stands-all) in
+          let three = put-children items past root course v n b fork.cells fork.moves gives holds q2 _ two 2 (suc b.at + size first) more (more-stand items (suc b.at) first more stands-all) in
           subst (λ (p : List Spot). ShowsPool items q3 holds p)
           (append_assoc (f.acts.gone.others ++ (spot (AtJoin n) (parent_behind b fork.cells fork.moves f.children f.rest) ∷ [])) (_ ∷ []) _
           ∙ append_assoc f.acts.gone.others (_ ∷ []) _) three
@@ -351,7 +367,7 @@ module _ (items : List Item) (parts : Parts) (w : World) (mirrors : Mirrors item
 
   pub fork-done : (past : List ℕ) (root : Script) (course : IsCourse items past root) (fork : ForkData) (f : Forks fork) (k' : Worker) → k'.held ≡ k.held → (born : List CoreBranch)
       → born ≡ born_from past (length parts.joins) fork.cells fork.moves 1 (f.c.at + 1) fork.children [] → k'.hand ≡ drop (length born - 1) born → k'.list ≡ k.list ++ take (length born - 1) born
-      → (j' : CoreJoin) → j'.parent ≡ (record f.c { at = past_scripts past (f.c.at + 1) fork.children; signals = signals_behind f.c.signals fork.moves }) ∷ [] → j'.limit ≡ fork.limit → j'.outcomes ≡ not_stored fork.children []
+      → (j' : CoreJoin) → j'.parent ≡ (record f.c { at = past_scripts past (f.c.at + 1) fork.children }) ∷ [] → j'.limit ≡ fork.limit → j'.outcomes ≡ not_stored fork.children []
       → (parts' : Parts) → parts'.workers ≡ set parts.workers v k' → parts'.cells ≡ parts.cells → parts'.joins ≡ parts.joins ++ (j' ∷ []) → parts.room ≤ parts'.room
       → length parts'.branches + fork.children ≡ length parts.branches → length parts'.outcomes + fork.children ≡ length parts.outcomes → length parts.rights ≤ length parts'.rights + (length fork.cells + length fork.moves) → length parts'.rights ≤ length parts.rights
       → (after : World) × (happens w (Fork v) ≡ Ok after) × Mirrors items parts' after
@@ -360,6 +376,6 @@ module _ (items : List Item) (parts : Parts) (w : World) (mirrors : Mirrors item
         forked w v f.acts.gone.x.branch f.acts.gone.others fork.limit fork.cells fork.moves f.children f.rest,
         runs-on items parts w mirrors v k stands f.c f.acts _ ∙ ap (λ s. fork_on w v s f.acts.gone.x.branch f.acts.gone.others) f.is,
         forked-shows past root course fork f k' held-same g.0 g.1 g.2 born born-is hand list j'
-            (parent-is ∙ ap (λ i. (record f.c { at = past_scripts past (f.c.at + 1) i; signals = signals_behind f.c.signals fork.moves }) ∷ []) f.many)
+            (parent-is ∙ ap (λ i. (record f.c { at = past_scripts past (f.c.at + 1) i }) ∷ []) f.many)
             limit outcomes parts' workers cells joins room branches-left outcomes-left rights-left rights-less,
       )

@@ -8,6 +8,7 @@ pub mod Losses
 pub mod Carrying
 pub mod Live
 pub mod Anys
+pub mod Givings
 pub mod Progress
 pub mod Times
 pub mod ForkTimes
@@ -15,6 +16,8 @@ pub mod Serving
 pub mod ForkServing
 pub mod Parking
 pub mod LiveSteps
+pub mod KeptRights
+mod GivenExamples
 pub mod Dues
 pub mod Hands
 pub mod Single

@@ -179,7 +179,7 @@ module _ (root : Script) where
         each_join = each-append Made w.joins (new ∷ []) all.each_join (record { cells = cells; moves = moves; rest = rest; is = at }, tt);
       }
 
-  stand-step : (w : World) (e : Event) (w' : World) → Step w e w' → Unit {0} → All w → All w'
+  pub stand-step : (w : World) (e : Event) (w' : World) → Step w e w' → Unit {0} → All w → All w'
   stand-step w _ _ (ticked v b rest others worker takes) may all =
       back-stands w (Runs v) (past_tick b rest) others takes (λ stands. let next = stands-past w.joins b (TickThen rest) rest (λ o is. absurd (cc)) refl stands in record { carries = next.carries; named = next.named }) all
   stand-step w _ _ (forks v b limit cells moves children rest others worker takes) may all =

@@ -12,9 +12,11 @@ use Rattle.merc_core.specs.declared.cell.Cell.{Cell}
 use Rattle.merc_core.specs.World.{Branch, Holds, Spot, spot, Stored, stored_at}
 use Rattle.merc_core.specs.Rights.{has, has_in}
 use Rattle.merc_core.specs.Events.{ended, wake, poison, hold, hold_one, awaits}
-use Rattle.merc_core.specs.Queues.{waiting_of, starved, spoiled, spoil_at, cells_after, list_after, first_stored, stored_from}
+use Rattle.merc_core.specs.Given.{IsSettled, AreLeft}
+use Rattle.merc_core.specs.Queues.{meeting_at, waiting_of, starved, spoiled, spoil_at, cells_after, list_after, first_stored, stored_from}
 use Rattle.merc_core.specs.Mirror.{Key, Hand, Row, Waiting, Parent, ShowsPool, ShowsCell, stored_for, FewIf, made, still_made}
 use Rattle.merc_core.proofs.Pool.{each_way}
+use Rattle.merc_core.proofs.Givings.{left-has}
 use Rattle.merc_core.proofs.PoolMoves.{woken_queues, wake-shows}
 use Rattle.merc_core.proofs.Waking.{still-wake, length-wake, has-in-added}
 use Rattle.merc_core.proofs.Spoiling.{starved-shows, spoiled-waits, spoiled-row}
@@ -92,20 +94,42 @@ flags-after (cell ∷ rest) cells other full poisoned flags =
     same-cell : (a b : ℕ) → nat_eq a b ≡ true → a ≡ b
     same-cell a b test = grind (arith, nat_tests)
 
-shows-flags : (cell : ℕ) (full : List ℕ) (poisoned : List (List ℕ)) (o : Option Cell) → ShowsCell cell full poisoned o → Flags (has cell full) (has_in cell poisoned) o
-shows-flags cell full poisoned None shows = tt
-shows-flags cell full poisoned (Some one) shows = shows
+-- the flags of a cell, and what a branch finds there
+record Meets (cell : ℕ) (full : List ℕ) (poisoned : List (List ℕ)) (o : Option Cell) : Type 0 where
+  is_full : Bool
+  is_poisoned : Bool
+  flags : Flags is_full is_poisoned o
+  meets : meeting_at is_full is_poisoned ≡ meeting_at (has cell full) (has_in cell poisoned)
 
-flags-show : (cell : ℕ) (full : List ℕ) (poisoned : List (List ℕ)) (b : Bool) (o : Option Cell) → b ≡ has_in cell poisoned → Flags (has cell full) b o → ShowsCell cell full poisoned o
-flags-show cell full poisoned b None is flags = tt
-flags-show cell full poisoned b (Some one) is flags = (flags.0, flags.1 ∙ is)
+shows-meets : (cell : ℕ) (full : List ℕ) (poisoned : List (List ℕ)) (o : Option Cell) → ShowsCell cell full poisoned o → Meets cell full poisoned o
+shows-meets cell full poisoned None shows = record { is_full = has cell full; is_poisoned = has_in cell poisoned; flags = tt; meets = refl }
+shows-meets cell full poisoned (Some one) shows = record { is_full = one.is_full; is_poisoned = one.is_poisoned; flags = (refl, refl); meets = shows }
 
-pub poisoned-shows : (signals : List ℕ) (cells : ℕ → Option Cell) (cell : ℕ) (full : List ℕ) (poisoned : List (List ℕ)) → ShowsCell cell full poisoned (cells cell)
-    → ShowsCell cell full (poisoned ++ (signals ∷ [])) (cells_after signals cells cell)
-poisoned-shows signals cells cell full poisoned shows =
-    flags-show cell full (poisoned ++ (signals ∷ [])) (has_in cell poisoned || has cell signals) (cells_after signals cells cell)
-    (sym (has-in-added cell poisoned signals ∙ ap (λ t. has_in cell poisoned || t) (or-nothing (has cell signals))))
-    (flags-after signals cells cell (has cell full) (has_in cell poisoned) (shows-flags cell full poisoned (cells cell) shows))
+meets-show : (cell : ℕ) (full : List ℕ) (poisoned : List (List ℕ)) (a b : Bool) (o : Option Cell) → Flags a b o → meeting_at a b ≡ meeting_at (has cell full) (has_in cell poisoned) → ShowsCell cell full poisoned o
+meets-show cell full poisoned a b None flags meets = tt
+meets-show cell full poisoned a b (Some one) flags meets = ap (λ t. meeting_at t one.is_poisoned) flags.0 ∙ ap (meeting_at a) flags.1 ∙ meets
+
+-- what is found where more is poisoned, if it is the same that is poisoned or the cell is settled
+meeting-more : (a b c d x y : Bool) → meeting_at a b ≡ meeting_at c d → ((c ≡ true) ⊎ (d ≡ true)) ⊎ (x ≡ y) → meeting_at a (b || x) ≡ meeting_at c (d || y)
+meeting-more true b true d x y same way = refl
+meeting-more true b false true x y same way = absurd (cc)
+meeting-more true b false false x y same way = absurd (cc)
+meeting-more false true true d x y same way = absurd (cc)
+meeting-more false false true d x y same way = absurd (cc)
+meeting-more false true false true x y same way = refl
+meeting-more false true false false x y same way = absurd (cc)
+meeting-more false false false true x y same way = absurd (cc)
+meeting-more false false false false x y same (inl (inl full)) = absurd (cc)
+meeting-more false false false false x y same (inl (inr poisoned)) = absurd (cc)
+meeting-more false false false false x y same (inr is) = ap (meeting_at false) is
+
+pub poisoned-shows : (full : List ℕ) (poisoned : List (List ℕ)) {had some : List ℕ} → AreLeft (IsSettled full poisoned) had some → (cells : ℕ → Option Cell) (cell : ℕ) → ShowsCell cell full poisoned (cells cell)
+    → ShowsCell cell full (poisoned ++ (some ∷ [])) (cells_after had cells cell)
+poisoned-shows full poisoned {had} {some} lies cells cell shows =
+    let m = shows-meets cell full poisoned (cells cell) shows in
+    meets-show cell full (poisoned ++ (some ∷ [])) m.is_full (m.is_poisoned || has cell had) (cells_after had cells cell) (flags-after had cells cell m.is_full m.is_poisoned m.flags)
+    (meeting-more m.is_full m.is_poisoned (has cell full) (has_in cell poisoned) (has cell had) (has cell some) m.meets (left-has (IsSettled full poisoned) lies cell)
+    ∙ ap (meeting_at (has cell full)) (sym (has-in-added cell poisoned some ∙ ap (λ t. has_in cell poisoned || t) (or-nothing (has cell some)))))
 
 spoiled-some : (o : Option Cell) → IsSome o → IsSome (spoiled o)
 spoiled-some (Some one) some = refl

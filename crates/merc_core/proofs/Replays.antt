@@ -1,11 +1,11 @@
 -- What the core's parts say of the events so far, and what one event more makes of them.
-use Rattle.std.proofs.Common.{◌≡◌, ℕ, ◌+◌, ◌*◌, ◌≤◌, ◌<◌, ◌⊎◌, true, false, List, [], ◌∷◌, ◌++◌, Some, None, refl, ap, sym, ◌∙◌, subst, arith, length}
+use Rattle.std.proofs.Common.{◌≡◌, ℕ, ◌*◌, ◌≤◌, ◌<◌, ◌⊎◌, true, false, List, [], ◌∷◌, ◌++◌, Some, None, refl, ap, sym, ◌∙◌, subst, arith, length}
 use Rattle.std.specs.Prelude.{Option, Result, Ok, Err, IfSome, is_some, slice_get}
 use Rattle.std.specs.Option.{is_none}
 use Rattle.std.specs.List.{AllByRecursion}
 use Rattle.merc_script.specs.declared.outcome.Outcome.{Outcome}
 use Rattle.merc_script.specs.declared.items.Item.{Item}
-use Rattle.merc_script.specs.Script.{Script, NoChild, Child, size, end_of}
+use Rattle.merc_script.specs.Script.{Script, size, end_of}
 use Rattle.merc_script.specs.Items.{script_of}
 use Rattle.merc_script.specs.ScriptCode.{script_of-items_of}
 use Rattle.merc_core.specs.declared.event.Event.{Event}
@@ -15,7 +15,7 @@ use Rattle.merc_core.specs.declared.state.State.{State}
 use Rattle.merc_core.specs.World.{Join, Stored, World, start, outermost, outcome}
 use Rattle.merc_core.specs.Events.{Answer, happens, run}
 use Rattle.merc_core.specs.WellFormed.{WellFormed, most_workers}
-use Rattle.merc_core.specs.Laws.{LeadsTo, IsKept, IsCutEnd, GoesOn}
+use Rattle.merc_core.specs.Laws.{IsKept, IsCutEnd, GoesOn}
 use Rattle.merc_core.specs.Mirror.{Parts, Mirrors, IsCourse, AreFit, ShowsJoin}
 use Rattle.merc_core.specs.Stepping.{parts_of, IsKept as IsKeptState, Answers, Keeps}
 use Rattle.merc_core.specs.Execution.{Execution, state_of, with_event, told, outcome_of, IsAccepted}
@@ -60,8 +60,8 @@ module _ (items : List Item) (past : List ℕ) (parts : Parts) (events : List Ev
   abbrev workers : ℕ
   workers = length parts.workers
 
-  pub fit : AreFit replays.world
-  fit = are-fit root workers events replays.world replays.well replays.some replays.leads
+  pub fit : AreFit items replays.world
+  fit = are-fit items workers events replays.world replays.well replays.some replays.leads
 
   pub kept : IsKeptState items past parts
   kept = record { root = root; world = replays.world; course = replays.course; mirrors = replays.mirrors; fit = fit }

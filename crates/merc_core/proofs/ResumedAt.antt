@@ -67,7 +67,7 @@ joined-none : (limit : ℕ) (all : Option (List Outcome)) → None ≡ joined_if
 joined-none limit None is = refl
 joined-none limit (Some os) is = absurd (cc)
 
-module _ (items : List Item) (parts : Parts) (w : World) (mirrors : Mirrors items parts w) (fit : AreFit w) (v : ℕ) (k : Worker) (stands : slice_get parts.workers v ≡ Some k) where
+module _ (items : List Item) (parts : Parts) (w : World) (mirrors : Mirrors items parts w) (fit : AreFit items w) (v : ℕ) (k : Worker) (stands : slice_get parts.workers v ≡ Some k) where
   pub resume-empty : k.hand ≡ [] → happens w (Resume v) ≡ Err NotHolding
   resume-empty none =
       ap (λ t. if t then if_held w v (in_hand v w.pool) else Err NoWorker) (knows items parts w mirrors v k stands)

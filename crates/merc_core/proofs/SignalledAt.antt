@@ -11,10 +11,10 @@ use Rattle.merc_core.specs.declared.course.Next.TheVariants.{Tick as TickNext, W
 use Rattle.merc_core.specs.declared.event.Event.TheVariants.{Signal}
 use Rattle.merc_core.specs.declared.event.NotNow.TheVariants.{WrongItem}
 use Rattle.merc_core.specs.World.{Branch, Runs, Spot, spot, World}
-use Rattle.merc_core.specs.Rights.{has, without}
+use Rattle.merc_core.specs.Rights.{has, has_in}
 use Rattle.merc_core.specs.Events.{signal_on, signalled, past_signal, unchanged, wake, happens}
 use Rattle.merc_core.specs.Standing.{StandsAt, IsLeft, IsNext, IsSignal}
-use Rattle.merc_core.specs.Queues.{filled, waiting_of}
+use Rattle.merc_core.specs.Queues.{filled, meeting_at, waiting_of}
 use Rattle.merc_core.specs.Mirror.{Key, Hand, Row, Waiting, Parent, stands_in, queue, held, held_of, row_of, in_hand_at, Parts, Shows, ShowsPool, ShowsCell, Mirrors, AreFit, made, still_made, branches_made, rights_made, joins_made}
 use Rattle.merc_core.specs.Stepping.{RunsNext}
 use Rattle.merc_core.proofs.Pool.{each_way}
@@ -29,7 +29,7 @@ pub map-as-is : (cs : List CoreBranch) → map (λ c. c) cs ≡ cs
 map-as-is [] = refl
 map-as-is (c ∷ cs) = ap (λ l. c ∷ l) (map-as-is cs)
 
-module _ (items : List Item) (parts : Parts) (w : World) (mirrors : Mirrors items parts w) (fit : AreFit w) (v : ℕ) (k : Worker) (stands : slice_get parts.workers v ≡ Some k) where
+module _ (items : List Item) (parts : Parts) (w : World) (mirrors : Mirrors items parts w) (fit : AreFit items w) (v : ℕ) (k : Worker) (stands : slice_get parts.workers v ≡ Some k) where
   pub record Signals (cell : ℕ) : Type 0 where
     pub c : CoreBranch
     pub acts : Acting items parts w mirrors v k stands None c
@@ -76,11 +76,11 @@ module _ (items : List Item) (parts : Parts) (w : World) (mirrors : Mirrors item
 
     filled-shows : (other : ℕ) (o : Option CoreCell) → has other (w.full ++ (cell ∷ [])) ≡ true → ShowsCell other w.full w.poisoned o → ShowsCell other (w.full ++ (cell ∷ [])) w.poisoned (filled o)
     filled-shows other None is shows = tt
-    filled-shows other (Some found) is shows = (sym is, shows.1)
+    filled-shows other (Some found) is shows = sym (ap (λ t. meeting_at t (has_in other w.poisoned)) is)
 
     kept-shows : (other : ℕ) (o : Option CoreCell) → has other (w.full ++ (cell ∷ [])) ≡ has other w.full → ShowsCell other w.full w.poisoned o → ShowsCell other (w.full ++ (cell ∷ [])) w.poisoned o
     kept-shows other None is shows = tt
-    kept-shows other (Some found) is shows = (shows.0 ∙ sym is, shows.1)
+    kept-shows other (Some found) is shows = shows ∙ sym (ap (λ t. meeting_at t (has_in other w.poisoned)) is)
 
     full-shows : (other : ℕ) → ShowsCell other (w.full ++ (cell ∷ [])) w.poisoned (cells' other)
     full-shows other = elim (each_way (nat_eq cell other)) [
@@ -132,13 +132,13 @@ module _ (items : List Item) (parts : Parts) (w : World) (mirrors : Mirrors item
         let k = still-wake each cell v unchanged (λ b. omega arith) at.acts.gone.others in
         let p = still-append each (wake cell v unchanged at.acts.gone.others) (spot (Runs v) (past_signal cell at.acts.gone.x.branch at.rest) ∷ []) in omega arith
 
-    pub signal-done : (at : Signals cell) (k' : Worker) → ((b : CoreBranch) → k.hand ≡ b ∷ [] → k'.hand ≡ (record b { at = b.at + 1; signals = without (cell ∷ []) b.signals }) ∷ [])
+    pub signal-done : (at : Signals cell) (k' : Worker) → ((b : CoreBranch) → k.hand ≡ b ∷ [] → k'.hand ≡ (record b { at = b.at + 1 }) ∷ [])
         → k'.list ≡ k.list ++ waiting_of (parts.cells cell) → k'.held ≡ k.held → k.held ≡ None
         → (after : World) × (happens w (Signal v) ≡ Ok after) × Mirrors items (record (with_worker parts v k') { cells = cells' }) after
     signal-done at k' changed list held-same free =
         let a = at.acts in let one = a.gone.one in
         let near : v < length parts.workers = worker-there items parts w mirrors v k stands in
-        let c' : CoreBranch = record at.c { at = at.c.at + 1; signals = without (cell ∷ []) at.c.signals } in
+        let c' : CoreBranch = record at.c { at = at.c.at + 1 } in
         let b' = past_signal cell a.gone.x.branch at.rest in
         let hand : k'.hand ≡ c' ∷ [] = changed at.c a.only in
         let holds = λ (u : ℕ). held (with_worker parts v k') u in
@@ -147,7 +147,7 @@ module _ (items : List Item) (parts : Parts) (w : World) (mirrors : Mirrors item
           child = one.child;
           at = let e = one.at in omega arith;
           steps = one.steps;
-          signals = ap (without (cell ∷ [])) one.signals;
+          signals = one.signals;
           left = left-on items at.c.at at.c.ended at.rest at.none at.left;
           within = (let e : suc at.c.at ≡ at.c.at + 1 = omega arith in subst (λ n. n < length items) e (stands-within items (suc at.c.at) at.rest at.left));
           few = let e = one.few in omega arith;

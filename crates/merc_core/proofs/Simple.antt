@@ -38,7 +38,7 @@ pub left-on : (items : List Item) (place : ℕ) (ended : Option Outcome) (left :
 left-on items place ended left none stands =
     subst (λ (o : Option Outcome). LeftAt items (place + 1) o left) (sym none) (let e : suc place ≡ place + 1 = omega arith in subst (λ n. StandsAt items n left) e stands)
 
-module _ (items : List Item) (parts : Parts) (w : World) (mirrors : Mirrors items parts w) (fit : AreFit w) (v : ℕ) (k : Worker) (stands : slice_get parts.workers v ≡ Some k) where
+module _ (items : List Item) (parts : Parts) (w : World) (mirrors : Mirrors items parts w) (fit : AreFit items w) (v : ℕ) (k : Worker) (stands : slice_get parts.workers v ≡ Some k) where
   tick-goes : (c : CoreBranch) (a : Acting items parts w mirrors v k stands None c) (k' : Worker) → k'.hand ≡ (record c { at = c.at + 1; steps = c.steps + 1 }) ∷ [] → k'.held ≡ None → k'.list ≡ k.list
       → (left : Script) → a.gone.x.branch.rest ≡ left → IsLeft items c left → IsTick c.at items left
       → (after : World) × (happens w (Tick v) ≡ Ok after) × Mirrors items (with_worker parts v k') after

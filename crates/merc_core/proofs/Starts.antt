@@ -11,7 +11,7 @@ use Rattle.merc_core.specs.declared.cell.Cell.{Cell as CoreCell}
 use Rattle.merc_core.specs.declared.join.Join.{Join as CoreJoin}
 use Rattle.merc_core.specs.declared.worker.Worker.{Worker}
 use Rattle.merc_core.specs.World.{Runs, spot, first_branch, outermost, start}
-use Rattle.merc_core.specs.Queues.{waiting_of}
+use Rattle.merc_core.specs.Queues.{meeting_at, waiting_of}
 use Rattle.merc_core.specs.Mirror.{Key, Hand, Row, Waiting, Parent, Parts, queue, held, hand_of, row_of, held_of, parents_of, in_hand_at, Shows, ShowsPool, ShowsCell, ShowsJoin, Mirrors, branches_made, rights_made, joins_made}
 use Rattle.merc_core.specs.Starting.{made_among, IsOpen, AreOpen, root_branch, worker_with, first_workers, outermost_join}
 use Rattle.merc_core.proofs.StandingLaws.{length-items_of, size-some}
@@ -39,7 +39,7 @@ none-waits (Some cell) opened = ap (λ (c : CoreCell). c.waiting) opened
 
 shows-open : (cell : ℕ) (one : Option CoreCell) → IsOpen one → ShowsCell cell [] [] one
 shows-open cell None opened = tt
-shows-open cell (Some one) opened = (ap (λ (c : CoreCell). c.is_full) opened, ap (λ (c : CoreCell). c.is_poisoned) opened)
+shows-open cell (Some one) opened = ap (λ (c : CoreCell). meeting_at c.is_full c.is_poisoned) opened
 
 shows-first : (root : Script) (number : ℕ) → ShowsJoin [] number (slice_get (outermost_join ∷ []) number) (slice_get (outermost root ∷ []) number)
 shows-first root zero = record {

@@ -1,9 +1,8 @@
 -- The event of a worker's turn is accepted, and so is a pop of what is in a list; and there is one of them until the outermost join is done.
 use Rattle.std.proofs.Common.{◌≡◌, ◌==◌, ℕ, zero, suc, ◌+◌, ◌-◌, ◌<◌, inl, inr, true, false, List, [], ◌∷◌, ◌++◌, take, drop, Some, None, refl, ap, sym, ◌∙◌, subst, arith, length}
 use Rattle.std.proofs.lemmas.Bool.Decides.{nat_tests}
-use Rattle.std.specs.Prelude.{Option, Ok, slice_get, filter}
+use Rattle.std.specs.Prelude.{Option, slice_get, filter}
 use Rattle.std.specs.List.{AllByRecursion}
-use Rattle.merc_script.specs.declared.outcome.Outcome.{Outcome}
 use Rattle.merc_script.specs.declared.items.Item.{Item}
 use Rattle.merc_script.specs.Script.{Script, Ends, TickThen, WaitThen, SignalThen, ForkThen}
 use Rattle.merc_core.specs.declared.branch.Branch.{Branch as CoreBranch}
@@ -12,12 +11,11 @@ use Rattle.merc_core.specs.declared.course.Next.TheVariants.{Tick as TickNext, W
 use Rattle.merc_core.specs.declared.event.Event.{Event}
 use Rattle.merc_core.specs.declared.event.Event.TheVariants.{Pop, Resume}
 use Rattle.merc_core.specs.declared.worker.Worker.{Worker}
-use Rattle.merc_core.specs.World.{Branch, Listed, Runs, Holds, Location, Spot, spot, World, outcome}
-use Rattle.merc_core.specs.Events.{in_hand, happens}
+use Rattle.merc_core.specs.World.{Branch, Runs, Holds, Location, Spot, spot, World}
 use Rattle.merc_core.specs.Ready.{event_at}
 use Rattle.merc_core.specs.Laws.{GoesOn, IsKept}
 use Rattle.merc_core.specs.Standing.{IsNext}
-use Rattle.merc_core.specs.Mirror.{Key, Hand, Row, stands_in, in_hand_at, queue, hand_of, row_of, held, AllShow, Parts, Mirrors, AreFit}
+use Rattle.merc_core.specs.Mirror.{Key, Hand, Row, stands_in, queue, hand_of, row_of, held, AllShow, Parts, Mirrors, AreFit}
 use Rattle.merc_core.specs.Stepping.{RunsNext, IsIdle, empty, holding}
 use Rattle.merc_core.specs.Replaying.{event_for, IsTurn, runs, holds, IsFirstTurn, first_pop}
 use Rattle.merc_core.proofs.Pool.{Takes, chosen, takes-one}
@@ -161,7 +159,7 @@ found_with others x = Some (x, others)
 located : (x : Spot) (others : List Spot) (location : Location) → x.location ≡ location → found_with others x ≡ found_with others (spot location x.branch)
 located x others location is = ap (λ (l : Location). found_with others (spot l x.branch)) is
 
-module _ (items : List Item) (parts : Parts) (w : World) (mirrors : Mirrors items parts w) (fit : AreFit w) (due : ℕ → ℕ) (root : Script) (live : Live due root w) where
+module _ (items : List Item) (parts : Parts) (w : World) (mirrors : Mirrors items parts w) (fit : AreFit items w) (due : ℕ → ℕ) (root : Script) (live : Live due root w) where
   held-turn : (v join : ℕ) (k : Worker) → slice_get parts.workers v ≡ Some k → k.held ≡ Some join → (l : List CoreBranch) → k.hand ≡ l → 0 < length l → Accepted w (Resume v)
   held-turn v join k stands held [] is some = absurd (omega arith)
   held-turn v join k stands held (c ∷ more) is some =

@@ -9,7 +9,6 @@ use Rattle.merc_core.specs.declared.event.NotNow.TheVariants.{NoWorker, SameWork
 use Rattle.merc_core.specs.World.{World}
 use Rattle.merc_core.specs.Events.{Answer, worker_of, happens, in_hand, if_free, take_up, front_of}
 use Rattle.merc_core.specs.Mirror.{Parts, Mirrors}
-use Rattle.merc_core.proofs.Acting.{worker-known}
 
 refused : (known : Bool) (answer : Answer) → known ≡ false → (if known then answer else Err NoWorker) ≡ Err NoWorker
 refused true answer is = absurd (cc)

@@ -36,7 +36,7 @@ pub filter-length : {A : Type 0} (test : A → Bool) (xs : List A) → length (f
 filter-length test [] = omega arith
 filter-length test (x ∷ xs) = filter-longer (test x) x (filter test xs) (length xs) (filter-length test xs)
 
-module _ (items : List Item) (parts : Parts) (w : World) (mirrors : Mirrors items parts w) (fit : AreFit w) (v : ℕ) (k : Worker) (stands : slice_get parts.workers v ≡ Some k) where
+module _ (items : List Item) (parts : Parts) (w : World) (mirrors : Mirrors items parts w) (fit : AreFit items w) (v : ℕ) (k : Worker) (stands : slice_get parts.workers v ≡ Some k) where
   -- the branch is at a wait, with this left behind it
   pub record Waits (cell : ℕ) : Type 0 where
     pub c : CoreBranch
@@ -77,11 +77,11 @@ module _ (items : List Item) (parts : Parts) (w : World) (mirrors : Mirrors item
     wait-is : happens w (Wait v) ≡ wait_at w v cell at.rest at.acts.gone.x.branch at.acts.gone.others (has cell w.full) (has_in cell w.poisoned)
     wait-is = runs-on items parts w mirrors v k stands at.c at.acts _ ∙ ap (λ s. wait_on w v s at.acts.gone.x.branch at.acts.gone.others) at.is
 
-    flags : ShowsCell cell w.full w.poisoned (Some at.found.0)
-    flags = subst (ShowsCell cell w.full w.poisoned) at.found.1 (mirrors.cells cell)
+    same : ShowsCell cell w.full w.poisoned (Some at.found.0)
+    same = subst (ShowsCell cell w.full w.poisoned) at.found.1 (mirrors.cells cell)
 
     meets : (m : Meeting) → m ≡ meeting_of (parts.cells cell) → m ≡ meeting_at (has cell w.full) (has_in cell w.poisoned)
-    meets m is = is ∙ ap meeting_of at.found.1 ∙ ap (λ t. meeting_at t at.found.0.is_poisoned) flags.0 ∙ ap (meeting_at (has cell w.full)) flags.1
+    meets m is = is ∙ ap meeting_of at.found.1 ∙ same
 
     full-is : (a b : Bool) → Full ≡ meeting_at a b → a ≡ true
     full-is true b is = refl
@@ -155,8 +155,8 @@ module _ (items : List Item) (parts : Parts) (w : World) (mirrors : Mirrors item
 
       shows-other : (other : ℕ) → ShowsCell other w.full w.poisoned (cells' other)
       shows-other other = elim (each_way (nat_eq cell other)) [
-        | inl same ↦ subst (ShowsCell other w.full w.poisoned) (sym (here-is other same))
-            (subst (λ (n : ℕ). ShowsCell n w.full w.poisoned (parked_at mid (Some at.found.0))) (nat-is cell other same) flags)
+        | inl here ↦ subst (ShowsCell other w.full w.poisoned) (sym (here-is other here))
+            (subst (λ (n : ℕ). ShowsCell n w.full w.poisoned (parked_at mid (Some at.found.0))) (nat-is cell other here) same)
         | inr apart ↦ subst (ShowsCell other w.full w.poisoned) (sym (there-is other apart)) (mirrors.cells other)
       ]
 

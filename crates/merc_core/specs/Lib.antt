@@ -5,6 +5,7 @@ pub mod WellFormed
 pub mod Ready
 pub mod Laws
 pub mod History
+pub mod Given
 pub mod Queues
 pub mod Standing
 pub mod Forking

@@ -5,7 +5,7 @@ use Rattle.merc_script.specs.declared.outcome.Outcome.{Outcome}
 use Rattle.merc_script.specs.declared.items.Item.{Item}
 use Rattle.merc_script.specs.declared.items.Item.TheVariants.{Wait as WaitItem}
 use Rattle.merc_script.specs.Script.{Script, Ends, TickThen, WaitThen, SignalThen, ForkThen, Children, NoChild, Child, Cell as ScriptCell, Move, count, size}
-use Rattle.merc_script.specs.Items.{items_of}
+use Rattle.merc_script.specs.Items.{items_of, script_of}
 use Rattle.merc_script.specs.Joining.{HasFewSteps}
 use Rattle.merc_core.specs.declared.branch.Branch.{Branch as CoreBranch}
 use Rattle.merc_core.specs.declared.cell.Cell.{Cell as CoreCell}
@@ -16,7 +16,9 @@ use Rattle.merc_core.specs.Events.{acts, listed, parked, awaits}
 use Rattle.merc_core.specs.Rights.{has, has_in}
 use Rattle.merc_core.specs.WellFormed.{most_children, most_steps}
 use Rattle.merc_core.specs.Standing.{StandsAt, IsLeft}
-use Rattle.merc_core.specs.Queues.{waiting_of}
+use Rattle.merc_core.specs.Queues.{meeting_at, waiting_of}
+use Rattle.merc_core.specs.Given.{given, HasLeft, IsOpenAt}
+use Rattle.merc_core.specs.Laws.{AllStand}
 
 -- The lists in which branches are: a worker's hand and its list, those that wait for a cell, and a join's parent.
 pub data Key : Type 0 where
@@ -84,13 +86,13 @@ abbrev pub in_hand_at : ℕ → Option ℕ → Location
 in_hand_at worker None = Runs worker
 in_hand_at worker (Some join) = Holds worker join
 
--- a branch of the core is one of the world
+-- A branch of the core is one of the world. It keeps all rights with which its script began.
 pub record Shows (items : List Item) (one : CoreBranch) (b : Branch) : Type 0 where
   pub join : one.join ≡ b.join
   pub child : one.child ≡ b.child
   pub at : one.at ≡ b.at
   pub steps : one.steps ≡ b.steps
-  pub signals : one.signals ≡ b.signals
+  pub signals : one.signals ≡ given (script_of items) b.name
   pub left : IsLeft items one b.rest
   pub within : one.at < length items
   pub few : one.steps ≤ 2 * most_steps + one.at
@@ -123,9 +125,10 @@ pub record ShowsPool (items : List Item) (queues : Key → List CoreBranch) (hol
   pub single : (key : Key) → IsSingle key → length (queues key) ≤ 1
   pub early : AllByRecursion (λ one. IsEarly one.location one.branch.steps) pool
 
+-- a branch that comes to it finds the same
 abbrev pub ShowsCell : ℕ → List ℕ → List (List ℕ) → Option CoreCell → Type 0
 ShowsCell cell full poisoned None = Unit {0}
-ShowsCell cell full poisoned (Some one) = (one.is_full ≡ has cell full) × (one.is_poisoned ≡ has_in cell poisoned)
+ShowsCell cell full poisoned (Some one) = meeting_at one.is_full one.is_poisoned ≡ meeting_at (has cell full) (has_in cell poisoned)
 
 -- what is stored for children from this one on
 abbrev pub stored_for : List Stored → ℕ → ℕ → Children → List (Option Outcome)
@@ -216,7 +219,11 @@ IsFitAt (Holds worker join) steps rest = Unit {0}
 IsFitAt (AtCell cell) steps rest = Unit {0}
 IsFitAt (AtJoin join) steps rest = Unit {0}
 
--- each branch that runs is fit, and what is stored is for joins that are there
-pub record AreFit (w : World) : Type 0 where
+-- Each branch that runs is fit, and what is stored is for joins that are there. Branches stand where their names say, have rights left of those that they were
+-- given, and are parked at cells that are neither full nor poisoned.
+pub record AreFit (items : List Item) (w : World) : Type 0 where
   pub each : AllByRecursion (λ one. IsFitAt one.location one.branch.steps one.branch.rest) w.pool
+  pub stand : AllStand (script_of items) w
+  pub rights : AllByRecursion (HasLeft (script_of items) w.full w.poisoned w.joins) w.pool
+  pub opened : AllByRecursion (λ one. IsOpenAt w.full w.poisoned one.location) w.pool
   pub stored : AllByRecursion (λ one. one.join < length w.joins) w.stored

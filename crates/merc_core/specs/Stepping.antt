@@ -36,7 +36,7 @@ pub record IsKept (items : List Item) (past : List ℕ) (parts : Parts) : Type 0
   pub world : World
   pub course : IsCourse items past root
   pub mirrors : Mirrors items parts world
-  pub fit : AreFit world
+  pub fit : AreFit items world
 
 -- Where the event happens the new state shows what it leaves; else it is the old one.
 abbrev pub Answers : List Item → Event → World → State → Result (Unit {0}) NotNow → State → Type 0
@@ -45,7 +45,7 @@ Answers items event w old (Err refused) new = (happens w event ≡ Err refused) 
 
 abbrev pub Keeps : List Item → List ℕ → Event → State → Result (Unit {0}) NotNow → State → Type 0
 Keeps items past event old result new =
-    (root : Script) (w : World) → IsCourse items past root → Mirrors items (parts_of old) w → AreFit w → Answers items event w old result new
+    (root : Script) (w : World) → IsCourse items past root → Mirrors items (parts_of old) w → AreFit items w → Answers items event w old result new
 
 -- a worker that runs a branch which comes to this next
 pub record RunsNext (items : List Item) (worker : Worker) (next : Next) : Type 0 where
@@ -63,7 +63,7 @@ pub data IsIdle (worker : Worker) : Type 0 where
 -- the branch that a worker runs is finished with an outcome, and the new parts show that
 abbrev pub Finishes : List Item → ℕ → Outcome → Parts → Parts → Type 0
 Finishes items worker o old new =
-    (w : World) (x : Spot) (others : List Spot) → Mirrors items old w → in_hand worker w.pool ≡ Some (x, others) → Mirrors items new (finished w worker x.branch others o)
+    (w : World) (x : Spot) (others : List Spot) → Mirrors items old w → AreFit items w → in_hand worker w.pool ≡ Some (x, others) → Mirrors items new (finished w worker x.branch others o)
 
 abbrev pub IsForkNext : Next → ForkData → Type 0
 IsForkNext (Fork here) fork = here.now ≡ fork
@@ -75,4 +75,4 @@ IsForkNext (End end) fork = ⊥
 -- the branch that a worker runs forks, and the new parts show that
 abbrev pub ForksTo : List Item → List ℕ → ℕ → ForkData → Parts → Parts → Type 0
 ForksTo items past worker fork old new =
-    (root : Script) (w : World) → IsCourse items past root → Mirrors items old w → AreFit w → (after : World) × (happens w (ForkEvent worker) ≡ Ok after) × Mirrors items new after
+    (root : Script) (w : World) → IsCourse items past root → Mirrors items old w → AreFit items w → (after : World) × (happens w (ForkEvent worker) ≡ Ok after) × Mirrors items new after

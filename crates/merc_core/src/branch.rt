@@ -1,11 +1,8 @@
 //! Branches as the core keeps them.
 ghost use Rattle.std.specs.Prelude.{◌≡◌, ◌+◌, ◌-◌, ◌<◌, ◌^◌, [], ◌∷◌, Some};
 ghost use Rattle.merc_core.specs.declared.branch.Branch.{Branch as CoreBranch};
-ghost use Rattle.merc_core.specs.Rights.{without};
 
-use crate::rights::take_out;
 use merc_script::{CellId, Outcome};
-use std::alloc::Global;
 use std::collections::LinkedList;
 
 // A branch, in one of the lists of the core.
@@ -20,7 +17,8 @@ pub(crate) struct Branch {
     // the outcome that it ends with in place of what its script says
     pub(crate) ended: Option<Outcome>,
     pub(crate) steps: u64,
-    // the cells that it has to signal
+    // The cells that it had to signal at first. None is taken out: those that it signals are full when it ends, and those
+    // that it passes on to a child are full or poisoned.
     pub(crate) signals: LinkedList<CellId>,
 }
 
@@ -51,16 +49,5 @@ pub(crate) fn end_first(list: &mut LinkedList<Branch>, outcome: Outcome)
 {
     if let Some(branch) = list.front_mut() {
         branch.ended = Some(outcome);
-    }
-}
-
-// The first branch goes past a signal, and has the cell no more to signal.
-pub(crate) fn pass_signal(alloc: Global, hand: &mut LinkedList<Branch>, cell: CellId)
-    requires { (b : CoreBranch) × (hand.old ≡ b ∷ []) × (b.at < 2 ^ 63) }
-    ensures { (b : CoreBranch) → hand.old ≡ b ∷ [] → hand.new ≡ (record b { at = b.at + 1; signals = without (cell ∷ []) b.signals }) ∷ [] }
-{
-    if let Some(branch) = hand.front_mut() {
-        branch.at += 1;
-        take_out(alloc, &mut branch.signals, cell);
     }
 }

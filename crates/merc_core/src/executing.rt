@@ -65,8 +65,9 @@ impl Core {
 
     /// The event happens, or the first of its conditions that fails is told and nothing changes. It takes no memory. Its
     /// time is constant, but for these: a cell is found in time logarithmic in their number; a Fork looks at its cells and
-    /// moves once for each child; and a Signal, an End, and each right that a Fork moves, goes over the cells that the
-    /// branch has to signal.
+    /// moves once for each child; and an End, or a Lost, goes over the rights to signal that the branch was ever given. A
+    /// cell or a move of a Fork gives one right at most, so all steps of a run take time of order n log n for a script of
+    /// size n with its cells and moves.
     pub fn step(&mut self, event: Event) -> Result<(), NotNow>
         ensures answer { result ≡ told (state_of (with_event event self.old)) }
         ensures ok { OnOk result (self.new ≡ with_event event self.old) }

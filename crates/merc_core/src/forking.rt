@@ -3,13 +3,12 @@ ghost use Rattle.std.specs.Prelude.{◌≡◌, ◌+◌, ◌≤◌, ◌<◌, ◌^
 ghost use Rattle.merc_core.specs.declared.branch.Branch.{Branch as CoreBranch};
 ghost use Rattle.merc_core.specs.Forking.{born_from, not_stored, past_scripts, rights_wanted};
 ghost use Rattle.merc_core.specs.Stepping.{parts_of, ForksTo, IsForkNext, IsKept, Keeps, RunsNext};
-ghost use Rattle.merc_core.specs.Rights.{made_by, moved_to, signals_at, signals_behind};
+ghost use Rattle.merc_core.specs.Rights.{made_by, moved_to, signals_at};
 
 use crate::branch::Branch;
 use crate::course::{Course, Next};
 use crate::join::Join;
 use crate::lists::{move_all, move_first, move_last};
-use crate::rights::take_out;
 use crate::running::next_of;
 use crate::state::{Spare, State};
 use crate::{Event, NotNow};
@@ -201,26 +200,12 @@ fn put_none(
     *outcomes = node;
 }
 
-// Takes out the cells whose rights to signal move into a child.
-fn take_out_moved(alloc: Global, cells: &mut LinkedList<CellId>, moves: &[Move])
-    ensures { cells.new ≡ signals_behind cells.old moves.now }
-{
-    let mut rest = moves;
-    while let [first, others @ ..] = rest {
-        if first.signal {
-            take_out(alloc, cells, first.cell);
-        }
-        rest = others;
-    }
-}
-
 // The first branch goes behind a fork, to a place.
-fn go_behind_fork(alloc: Global, list: &mut LinkedList<Branch>, place: usize, moves: &[Move])
-    ensures { (b : CoreBranch) (bs : _) → list.old ≡ b ∷ bs → list.new ≡ (record b { at = place; signals = signals_behind b.signals moves.now }) ∷ bs }
+fn go_behind_fork(list: &mut LinkedList<Branch>, place: usize)
+    ensures { (b : CoreBranch) (bs : _) → list.old ≡ b ∷ bs → list.new ≡ (record b { at = place }) ∷ bs }
 {
     if let Some(branch) = list.front_mut() {
         branch.at = place;
-        take_out_moved(alloc, &mut branch.signals, moves);
     }
 }
 
@@ -249,7 +234,7 @@ fn start_children(course: &Course, state: &mut State, worker: usize, fork: &Fork
     let (mut born, behind) = bear(state.alloc, &mut state.spare, course, fork, number, place);
     let mut parent = LinkedList::new(state.alloc);
     move_all(&mut runner.hand, &mut parent);
-    go_behind_fork(state.alloc, &mut parent, behind, fork.moves.as_slice());
+    go_behind_fork(&mut parent, behind);
     move_last(&mut born, &mut runner.hand);
     move_all(&mut born, &mut runner.list);
     let outcomes = take_outcomes(state.alloc, &mut state.spare.outcomes, fork.children);

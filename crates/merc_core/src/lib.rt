@@ -15,7 +15,6 @@ mod lists;
 mod making;
 mod readying;
 mod resuming;
-mod rights;
 mod running;
 mod signalling;
 mod simple_events;

@@ -2,7 +2,7 @@
 ghost use Rattle.std.specs.Prelude.{◌<◌, length};
 ghost use Rattle.merc_core.specs.Stepping.{parts_of, IsKept, Keeps};
 
-use crate::branch::pass_signal;
+use crate::branch::pass_item;
 use crate::cell::fill;
 use crate::course::{Course, Next};
 use crate::running::next_of;
@@ -20,7 +20,7 @@ pub(crate) fn signal(course: &Course, state: &mut State, worker: usize) -> Resul
         Some(next) => match next {
             Next::Signal(cell) => {
                 let runner = &mut state.workers[worker];
-                pass_signal(state.alloc, &mut runner.hand, cell);
+                pass_item(&mut runner.hand);
                 fill(&mut state.cells, cell, &mut runner.list);
                 Ok(())
             }

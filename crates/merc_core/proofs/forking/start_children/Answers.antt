@@ -1,10 +1,8 @@
-use Rattle.std.proofs.Common.{◌≡◌, ◌∙◌, ◌++◌, [], ◌∷◌, length, List, drop, refl, sym, ap, subst, arith, ◌+◌, ◌-◌}
+use Rattle.std.proofs.Common.{◌≡◌, ◌∙◌, ◌++◌, [], ◌∷◌, length, drop, refl, sym, ap, subst, arith, ◌+◌, ◌-◌}
 use Rattle.std.proofs.Math.ListN.{set}
 use Rattle.std.specs.Prelude.{vec_capacity}
 use Rattle.std.specs.Ordering.{nat_cmp}
 use Rattle.std.specs.BTreeMap.{get}
-use Rattle.merc_script.specs.Script.{Move}
-use Rattle.merc_core.specs.Rights.{signals_behind}
 use Rattle.merc_core.specs.Forking.{born_from, past_scripts}
 use Rattle.merc_core.specs.Stepping.{parts_of, RunsNext}
 use Rattle.merc_core.specs.declared.worker.Worker.{Worker}
@@ -92,8 +90,7 @@ returns c = λ root w course mirrors fit.
     (c.move_all-2.ensures.into ∙ ap (λ l. c.index_mut-runner.result.now.list ++ l) c.move_last.ensures.from)
     (record { limit = c.args.fork.now.limit; outcomes = c.take_outcomes-outcomes.result; parent = c.go_behind_fork.new.list })
     (c.go_behind_fork.ensures f.c [] hand
-    ∙ ap (λ (m : List Move). (record f.c { at = c.bear-born.result.1; signals = signals_behind f.c.signals m }) ∷ []) c.as_slice.ensures
-    ∙ ap (λ p. (record f.c { at = p; signals = signals_behind f.c.signals c.args.fork.now.moves }) ∷ []) (c.bear-born.ensures.place ∙ ap (λ p. past_scripts c.args.course.now.past.items p c.args.fork.now.children) place))
+    ∙ ap (λ p. (record f.c { at = p }) ∷ []) (c.bear-born.ensures.place ∙ ap (λ p. past_scripts c.args.course.now.past.items p c.args.fork.now.children) place))
     refl c.take_outcomes-outcomes.ensures.outcomes
     (record {
       workers = set c.args.state.now.workers.items c.args.worker (record { hand = c.move_last.new.into; held = c.index_mut-runner.result.now.held; list = c.move_all-2.new.into });

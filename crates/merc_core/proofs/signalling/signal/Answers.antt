@@ -12,8 +12,8 @@ next_of-requires c =
     let stands = (there c.args.state.now.workers.items c.args.worker c.index.result.now c.requires.worker c.index.ensures).1 in
     hand-within _ (parts_of c.args.state.now) c.requires.kept.world c.requires.kept.mirrors c.requires.kept.fit c.args.worker c.index.result.now stands
 
-pub pass_signal-requires : goal.pass_signal-requires
-pass_signal-requires c =
+pub pass_item-requires : goal.pass_item-requires
+pass_item-requires c =
     let read = (there c.args.state.now.workers.items c.args.worker c.index.result.now c.requires.worker c.index.ensures).1 in
     let stands = (there c.args.state.now.workers.items c.args.worker c.index_mut-runner.result.now c.requires.worker c.index_mut-runner.ensures.value).1 in
     let same : c.index.result.now ≡ c.index_mut-runner.result.now = same-worker c.args.state.now.workers.items c.args.worker _ _ read stands in
@@ -39,7 +39,7 @@ returns-in-Signal c = λ root w course mirrors fit.
     let runs = subst (λ (k : Worker). RunsNext c.args.course.now.items.items k c.in-Some.next) same c.in-Some.ensures in
     let at = signals c.args.course.now.items.items (parts_of c.args.state.now) w mirrors fit c.args.worker c.index_mut-runner.result.now stands c.in-Some.next c.in-Signal.cell runs c.in-Signal.is in
     signal-done c.args.course.now.items.items (parts_of c.args.state.now) w mirrors fit c.args.worker c.index_mut-runner.result.now stands c.in-Signal.cell _ c.fill.ensures.cells at _
-    c.pass_signal.ensures c.fill.ensures.list refl runs.free
+    c.pass_item.ensures c.fill.ensures.list refl runs.free
 
 pub returns-in_default : goal.returns-in_default
 returns-in_default c = λ root w course mirrors fit.

@@ -1,4 +1,4 @@
-use Rattle.std.proofs.Common.{◌≡◌, ◌∙◌, ap}
+use Rattle.std.proofs.Common.{◌∙◌, ap}
 use Rattle.std.specs.Prelude.{vec_capacity}
 use Rattle.merc_core.specs.Stepping.{parts_of}
 use Rattle.merc_core.specs.Outcomes.{outermost_outcome}

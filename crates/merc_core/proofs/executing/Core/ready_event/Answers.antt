@@ -1,10 +1,7 @@
-use Rattle.std.proofs.Common.{◌≡◌, ◌∙◌, ap, sym, subst, length, ◌<◌, List, None}
-use Rattle.std.specs.Prelude.{vec_capacity, Option, Some, is_some}
-use Rattle.std.specs.List.{AllByRecursion}
-use Rattle.merc_core.specs.declared.event.Event.{Event}
-use Rattle.merc_core.specs.declared.worker.Worker.{Worker}
+use Rattle.std.proofs.Common.{◌∙◌, ap, sym}
+use Rattle.std.specs.Prelude.{vec_capacity, is_some}
 use Rattle.merc_core.specs.Stepping.{parts_of}
-use Rattle.merc_core.specs.Replaying.{IsFirstTurn, first_pop}
+use Rattle.merc_core.specs.Replaying.{first_pop}
 use Rattle.merc_core.proofs.Turns.{kept-turn}
 use Rattle.merc_core.proofs.Replays.{within, turn-accepted, pops-accepted, pops-kept, pops-none}
 use Rattle.merc_core.proofs.executing.Core.ready_event.Goals as goal
