@@ -18,19 +18,19 @@ use Rattle.merc_order.specs.Bound.{Bound, with, are_bound}
 use Rattle.merc_order.specs.Faults.{binds_outer, unbound_output}
 use Rattle.merc_order.specs.Order.{agree, binds, binds_inside, decision_arms, from, outputs_of}
 use Rattle.merc_order.specs.Ordered.{Ordered, put, Decision, Outcome, Ready, Stuck, if_ready}
-use Rattle.merc_modes.specs.Asking.{AreKnown}
+use Rattle.merc_readiness.specs.Asking.{AreKnown}
 use Rattle.merc_modes.specs.Linked.{ending, Guarded, GuardGives, Chain, outermost, inside, Within, Closing, CloseGives}
-use Rattle.merc_modes.specs.Facts.{AreFactsOf, subgoals, all_subgoals}
-use Rattle.merc_modes.specs.Outside.{IsStretch}
-use Rattle.merc_modes.specs.Sweeps.{AreKnownFrom}
+use Rattle.merc_readiness.specs.Facts.{AreFactsOf, subgoals, all_subgoals}
+use Rattle.merc_readiness.specs.Outside.{IsStretch}
+use Rattle.merc_readiness.specs.Sweeps.{AreKnownFrom}
 use Rattle.merc_modes.specs.Walking.{IsWritten, Gives}
 use Rattle.merc_modes.specs.Walks.{AreWritten}
 use Rattle.merc_modes.specs.declared.links.Link.{Link}
-use Rattle.merc_modes.specs.declared.facts.Facts.{Facts}
+use Rattle.merc_readiness.specs.declared.facts.Facts.{Facts}
 use Rattle.merc_modes.specs.declared.written.Written.{Written}
-use Rattle.merc_modes.proofs.Binding.{next_known}
+use Rattle.merc_readiness.proofs.Binding.{next_known}
 use Rattle.merc_modes.proofs.Emitted.{decision_written, none_written, written_on, written_one, one_written, all_written}
-use Rattle.merc_modes.proofs.Marking.{known_split, known_length, known_goal, subgoals_length}
+use Rattle.merc_readiness.proofs.Marking.{known_split, known_length, known_goal, subgoals_length}
 use Rattle.merc_modes.proofs.Walked.{stretch_front, stretch_back, known_next, next_stretch, place_is}
 
 -- the condition and the then part
@@ -138,7 +138,7 @@ module _ (total : ℕ → ℕ) (modes : ℕ → List ModeDecl) (all : List ℕ) 
       let two = length-append (d.front ++ d.middle) (d.own ∷ []) in
       let three = length-append d.front d.middle in
       ap (λ l. slice_range l count index) (d.facts_are ∙ append_assoc d.front d.middle (d.own ∷ []))
-      ∙ Rattle.merc_modes.proofs.Marking.middle d.front d.middle (d.own ∷ []) count index (d.front_length ∙ sym c) (omega (arith, one, two, three, h, c, d.front_length))
+      ∙ Rattle.merc_readiness.proofs.Marking.middle d.front d.middle (d.own ∷ []) count index (d.front_length ∙ sym c) (omega (arith, one, two, three, h, c, d.front_length))
 
   -- what is handed on to the condition and the then part
   pub guard_known : (condition then_part else_part : Node) (span : Span) (facts : List Facts) (count : ℕ) → AreKnown total modes (subgoals (Conditional condition then_part else_part span)) facts

@@ -17,14 +17,14 @@ use Rattle.merc_order.specs.Ordered.{Ordered, Outcome, Ready, Stuck, is_ready, O
 use Rattle.merc_order.specs.Ways.{AllStuck}
 use Rattle.merc_order.proofs.MoveLaws.{or_left}
 use Rattle.merc_order.proofs.Marks.{sound-more, left-more}
-use Rattle.merc_modes.specs.Asking.{flags_of, joined_by, Fits, more}
+use Rattle.merc_readiness.specs.Asking.{flags_of, joined_by, Fits, more}
 use Rattle.merc_modes.specs.Conjuncts.{TellsFirst, Paused, Amid, SweepGives}
-use Rattle.merc_modes.specs.Sweeps.{new_one, Closed}
+use Rattle.merc_readiness.specs.Sweeps.{new_one, Closed}
 use Rattle.merc_modes.specs.Walking.{IsWritten}
 use Rattle.merc_modes.specs.Walks.{behind_them, AreWritten, all_settled}
 use Rattle.merc_modes.specs.declared.written.Written.{Written}
 use Rattle.merc_modes.proofs.Emitted.{behind_on, behind_ready, behind_stuck, written_on}
-use Rattle.merc_modes.proofs.Marking.{marks_length, regrouped, put_middle}
+use Rattle.merc_readiness.proofs.Marking.{marks_length, regrouped, put_middle}
 
 -- the next goal
 

@@ -17,20 +17,20 @@ use Rattle.merc_order.specs.Moves.{Move}
 use Rattle.merc_order.specs.Order.{binds, from, moves}
 use Rattle.merc_order.specs.Ordered.{is_ready, Outcomes}
 use Rattle.merc_order.specs.Ways.{AllStuck}
-use Rattle.merc_modes.specs.Asking.{AreKnown, flags_of, joined_by, Fits, more, IsMarked}
-use Rattle.merc_modes.specs.Bounds.{all_behind}
+use Rattle.merc_readiness.specs.Asking.{AreKnown, flags_of, joined_by, Fits, more, IsMarked}
+use Rattle.merc_readiness.specs.Bounds.{all_behind}
 use Rattle.merc_modes.specs.Conjuncts.{HasGone, Goes, Stays, GoesIfReady, TellsFirst, Passing, Paused, Amid, StepGives, SweepGives}
-use Rattle.merc_modes.specs.Facts.{AreFactsOf, subgoals, all_subgoals}
-use Rattle.merc_modes.specs.Sweeps.{Extends, AreKnownFrom}
+use Rattle.merc_readiness.specs.Facts.{AreFactsOf, subgoals, all_subgoals}
+use Rattle.merc_readiness.specs.Sweeps.{Extends, AreKnownFrom}
 use Rattle.merc_modes.specs.Walking.{Gives}
 use Rattle.merc_modes.specs.Walks.{GivesAll, behind_them, all_settled}
-use Rattle.merc_modes.specs.declared.facts.Facts.{Facts}
+use Rattle.merc_readiness.specs.declared.facts.Facts.{Facts}
 use Rattle.merc_modes.specs.declared.written.Written.{Written}
-use Rattle.merc_modes.proofs.Binding.{next_known, bound_behind}
-use Rattle.merc_modes.proofs.Blank.{inner_marks, all_blank, all_blank_fits, all_blank_flags, all_left, left_sound}
-use Rattle.merc_modes.proofs.Conjunctions.{left_length}
+use Rattle.merc_readiness.proofs.Binding.{next_known, bound_behind}
+use Rattle.merc_readiness.proofs.Blank.{inner_marks, all_blank, all_blank_fits, all_blank_flags, all_left, left_sound}
+use Rattle.merc_readiness.proofs.Conjunctions.{left_length}
 use Rattle.merc_modes.proofs.Emitted.{none_written, behind_ready}
-use Rattle.merc_modes.proofs.Marking.{marks_length, own_mark, middle, parts_length, subgoals_end, all_subgoals_length}
+use Rattle.merc_readiness.proofs.Marking.{marks_length, own_mark, middle, parts_length, subgoals_end, all_subgoals_length}
 use Rattle.merc_modes.proofs.Settling.{Apart, apart, passes, stays, goes, put_there, told_fault, not_told}
 use Rattle.merc_modes.proofs.Walked.{known_next, next_stretch}
 use Rattle.merc_modes.proofs.Wholes.{known_own}

@@ -14,14 +14,14 @@ use Rattle.merc_order.specs.Order.{binds, from}
 use Rattle.merc_order.specs.Ordered.{Ordered, Outcomes, AllReady, OneStuck, Ready, Stuck, is_ready}
 use Rattle.merc_order.specs.Procedures.{modes_of}
 use Rattle.merc_order.specs.Ways.{AllStuck}
-use Rattle.merc_modes.specs.Asking.{AreKnown, IsMarked, Fits, flags_of, joined_by}
-use Rattle.merc_modes.specs.Facts.{subgoals, all_subgoals}
-use Rattle.merc_modes.specs.Outside.{IsStretch}
-use Rattle.merc_modes.specs.Sweeps.{AreKnownFrom, Closed, new_one}
+use Rattle.merc_readiness.specs.Asking.{AreKnown, IsMarked, Fits, flags_of, joined_by}
+use Rattle.merc_readiness.specs.Facts.{subgoals, all_subgoals}
+use Rattle.merc_readiness.specs.Outside.{IsStretch}
+use Rattle.merc_readiness.specs.Sweeps.{AreKnownFrom, Closed, new_one}
 use Rattle.merc_modes.specs.Walking.{IsWritten}
 use Rattle.merc_modes.specs.Walks.{ordereds_of, behind_them, AreWritten, all_settled}
 use Rattle.merc_modes.specs.declared.conjuncts.Sweep.{Sweep}
-use Rattle.merc_modes.specs.declared.facts.Facts.{Facts}
+use Rattle.merc_readiness.specs.declared.facts.Facts.{Facts}
 use Rattle.merc_modes.specs.declared.written.Written.{Written}
 
 -- A goal that went: its own mark says so, those of its parts say nothing.

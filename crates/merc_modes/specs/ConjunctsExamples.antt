@@ -7,7 +7,7 @@ use Rattle.merc_order.specs.Bound.{nothing}
 use Rattle.merc_order.specs.Marks.{Marked, no_marks, more_marks}
 use Rattle.merc_order.specs.Order.{moves}
 use Rattle.merc_order.specs.Ordered.{no_goals, AllReady, OneStuck}
-use Rattle.merc_modes.specs.Asking.{Fits, none, more, flags_of}
+use Rattle.merc_readiness.specs.Asking.{Fits, none, more, flags_of}
 use Rattle.merc_modes.specs.Conjuncts.{HasGone, Goes, Stays, GoesIfReady, TellsFirst, Passing, Paused, Amid, StepGives, SweepGives}
 use Rattle.merc_modes.specs.Walks.{ordereds_of}
 use Rattle.merc_modes.specs.WalksExamples.{no_modes, body, in_body, truth, unready, never, done, true_facts, true_known, no_stretch, clean, one, none_written, one_written}

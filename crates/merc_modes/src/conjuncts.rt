@@ -3,19 +3,17 @@ ghost use Rattle.std.specs.Prelude.{◌≡◌, ◌+◌, ◌≤◌, ◌&&◌, nat
 ghost use Rattle.merc_goal_tree.specs.Nodes.{Conjunction, nodes_of};
 ghost use Rattle.merc_goal_tree.specs.Parts.{parts_of, all_parts};
 ghost use Rattle.merc_modes.specs.Conjuncts.{MayGo, FirstTells, StepsOn, SweepsOn};
-ghost use Rattle.merc_modes.specs.Sweeps.{Extends};
+ghost use Rattle.merc_readiness.specs.Sweeps.{Extends};
 ghost use Rattle.merc_modes.specs.Walking.{Orders};
 ghost use Rattle.merc_modes.specs.Walks.{AddsOne, Adds, OrdersAll, all_settled};
 
-use crate::asking::advance;
-use crate::bound::BoundSet;
-use crate::facts::Facts;
 use crate::walking::{Setting, clear, place_behind, walk};
 use crate::writing::outputs_of;
 use crate::written::Written;
 use merc_base::{Fault, Span};
 use merc_goal_tree::NodeRef;
 use merc_graded_tree::Running;
+use merc_readiness::{BoundSet, Facts, advance};
 
 /// Writes a conjunction of these goals out in its order: of those that are left the leftmost that is ready goes next.
 ///

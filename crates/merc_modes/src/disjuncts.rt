@@ -6,13 +6,12 @@ ghost use Rattle.merc_order.specs.Moves.{each_from};
 ghost use Rattle.merc_modes.specs.Walking.{Orders};
 ghost use Rattle.merc_modes.specs.Walks.{AddsOne, Adds, OrdersAll};
 
-use crate::bound::BoundSet;
-use crate::facts::Facts;
 use crate::walking::{Setting, fault_at, place_behind, walk};
 use crate::writing::outputs_of;
 use crate::written::Written;
 use merc_base::{Fault, Rule, Span};
 use merc_goal_tree::NodeRef;
+use merc_readiness::{BoundSet, Facts};
 
 /// Writes a disjunction of these goals out in its order.
 ///

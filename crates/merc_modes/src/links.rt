@@ -5,13 +5,12 @@ ghost use Rattle.merc_modes.specs.Linked.{Guards, ClosesOne, Closes, IsCondition
 ghost use Rattle.merc_modes.specs.Walking.{Orders};
 ghost use Rattle.merc_modes.specs.Walks.{AddsOne, AddsTwo};
 
-use crate::bound::BoundSet;
-use crate::facts::Facts;
 use crate::walking::{Setting, fault_at, place_behind, walk};
 use crate::writing::outputs_of;
 use crate::written::Written;
 use merc_base::{Fault, Rule, Span};
 use merc_goal_tree::{NodeRef, NodeView};
+use merc_readiness::{BoundSet, Facts};
 
 // An if-then-else whose condition and then part are written.
 #[derive(Clone, Copy)]

@@ -4,20 +4,18 @@ ghost use Rattle.merc_goal_tree.specs.Nodes.{Parallel, nodes_of};
 ghost use Rattle.merc_goal_tree.specs.Parts.{parts_of, all_parts};
 ghost use Rattle.merc_order.specs.Faults.{conjunct_fault, needing};
 ghost use Rattle.merc_modes.specs.Beside.{all_beside, FreedBy, Needs, StuckBeside, TellsReady};
-ghost use Rattle.merc_modes.specs.Sweeps.{Extends};
+ghost use Rattle.merc_readiness.specs.Sweeps.{Extends};
 ghost use Rattle.merc_modes.specs.Walking.{Orders};
 ghost use Rattle.merc_modes.specs.Walks.{AddsOne, Adds, OrdersAll};
 
-use crate::asking::advance;
-use crate::bound::BoundSet;
 use crate::conjuncts::walk_if_ready;
-use crate::facts::Facts;
 use crate::walking::{Setting, clear, place_behind, walk};
 use crate::writing::outputs_of;
 use crate::written::Written;
 use merc_base::{Detail, Fault, NoMemory, Refusal, Rule, Span};
 use merc_goal_tree::NodeRef;
 use merc_graded_tree::Running;
+use merc_readiness::{BoundSet, Facts, advance};
 
 /// Writes goals side by side out in their order.
 ///

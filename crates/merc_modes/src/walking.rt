@@ -8,18 +8,15 @@ ghost use Rattle.merc_goal_tree.specs.Parts.{parts_of};
 ghost use Rattle.merc_modes.specs.Walking.{Orders};
 ghost use Rattle.merc_modes.specs.Walks.{AddsOne};
 
-use crate::bound::BoundSet;
 use crate::conjuncts::walk_conjunction;
 use crate::disjuncts::walk_disjunction;
-use crate::facts::Facts;
 use crate::links::walk_chain;
-use crate::members::members;
-use crate::occurrences::Occurrences;
 use crate::parallel::walk_parallel;
 use crate::writing::{order_simple, outputs_of};
 use crate::written::Written;
 use merc_base::{Detail, Fault, NoMemory, Refusal, Rule, Span};
 use merc_goal_tree::{NodeRef, NodeView, SimpleGoal, Vars};
+use merc_readiness::{BoundSet, Facts, Occurrences, members};
 use merc_tree::PredDecl;
 use std::alloc::Global;
 

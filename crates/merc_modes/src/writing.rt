@@ -10,18 +10,14 @@ ghost use Rattle.merc_order.specs.Faults.{never_ready};
 ghost use Rattle.merc_order.specs.Order.{outputs_of, simple_from};
 ghost use Rattle.merc_order.specs.Procedures.{modes_of};
 ghost use Rattle.merc_order.specs.Spelt.{inputs_in, with_tests};
-ghost use Rattle.merc_modes.specs.Facts.{AreFactsOf};
-ghost use Rattle.merc_modes.specs.Bounds.{all_behind};
-ghost use Rattle.merc_modes.specs.Outside.{IsStretch};
+ghost use Rattle.merc_readiness.specs.Facts.{AreFactsOf};
+ghost use Rattle.merc_readiness.specs.Bounds.{all_behind};
+ghost use Rattle.merc_readiness.specs.Outside.{IsStretch};
 ghost use Rattle.merc_modes.specs.Outputs.{is_output, kept};
 ghost use Rattle.merc_modes.specs.Putting.{IsPut, PutsIf};
-ghost use Rattle.merc_modes.specs.Reaches.{first_since};
+ghost use Rattle.merc_readiness.specs.Reaches.{first_since};
 ghost use Rattle.merc_modes.specs.Walking.{Gives};
 
-use crate::bound::BoundSet;
-use crate::facts::Facts;
-use crate::occurrences::Occurrences;
-use crate::simple::{mode_taken, modes_at};
 use crate::testing::{
     call_tested, inner_outputs, push_tests, replaced, tested, tested_places, untested_places,
     writes_of,
@@ -30,6 +26,7 @@ use crate::written::Written;
 use merc_base::{Detail, Fault, NoMemory, Refusal, Rule, Span};
 use merc_goal_tree::{Operation, Predicate, SimpleGoal, Symbol, Var, Vars};
 use merc_graded_tree::{BasicGoal, Procedure, Running};
+use merc_readiness::{BoundSet, Facts, Occurrences, mode_taken, modes_at, number_past};
 use merc_tree::{Arg, ModeDecl, PredDecl};
 use std::alloc::Global;
 
@@ -56,20 +53,6 @@ pub(crate) fn outputs_of(
     let outputs = in_order(alloc, all, start, end, seen)?;
     seen.undo(0);
     Ok(outputs)
-}
-
-/// A number so much further on.
-///
-/// # Errors
-///
-/// `NoMemory` where it would pass the greatest `usize`. The numbers of no text that lies in memory do.
-pub(crate) fn number_past(at: usize, more: usize) -> Result<usize, NoMemory>
-    ensures { IfOk result (λ number. number ≡ at + more) }
-{
-    match at.checked_add(more) {
-        Some(number) => Ok(number),
-        None => Err(NoMemory),
-    }
 }
 
 // Puts those of the variables into the set that are not bound and occur outside the stretch from one place to another.

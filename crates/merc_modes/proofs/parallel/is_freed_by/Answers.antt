@@ -4,11 +4,11 @@ use Rattle.merc_order.specs.Bound.{among, with}
 use Rattle.merc_order.specs.Order.{binds, from}
 use Rattle.merc_order.specs.Ordered.{is_ready}
 use Rattle.merc_order.specs.Procedures.{modes_of}
-use Rattle.merc_modes.specs.Bounds.{all_behind}
-use Rattle.merc_modes.specs.Sweeps.{Extends}
+use Rattle.merc_readiness.specs.Bounds.{all_behind}
+use Rattle.merc_readiness.specs.Sweeps.{Extends}
 use Rattle.merc_modes.proofs.Beside.{facts_of_first}
-use Rattle.merc_modes.proofs.Binding.{extends_all}
-use Rattle.merc_modes.proofs.Stepping.{facts_of_next, bound_by_next}
+use Rattle.merc_readiness.proofs.Binding.{extends_all}
+use Rattle.merc_readiness.proofs.Stepping.{facts_of_next, bound_by_next}
 use Rattle.merc_modes.proofs.Wholes.{some_parts, undone_is}
 use Rattle.merc_modes.proofs.parallel.is_freed_by.Goals as goal
 

@@ -8,8 +8,8 @@ use Rattle.merc_order.specs.Moves.{needed}
 use Rattle.merc_order.specs.Order.{binds, from, moves}
 use Rattle.merc_order.specs.Ordered.{is_ready}
 use Rattle.merc_order.specs.Procedures.{modes_of}
-use Rattle.merc_modes.specs.Facts.{all_subgoals}
-use Rattle.merc_modes.specs.Sweeps.{AreKnownFrom}
+use Rattle.merc_readiness.specs.Facts.{all_subgoals}
+use Rattle.merc_readiness.specs.Sweeps.{AreKnownFrom}
 use Rattle.merc_modes.proofs.Beside.{facts_behind, facts_next, needs_later}
 use Rattle.merc_modes.proofs.Wholes.{next_item}
 use Rattle.merc_modes.proofs.parallel.needed_by.Goals as goal

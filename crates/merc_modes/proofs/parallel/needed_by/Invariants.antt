@@ -6,9 +6,9 @@ use Rattle.merc_order.specs.Marks.{move_of}
 use Rattle.merc_order.specs.Moves.{needed}
 use Rattle.merc_order.specs.Order.{moves}
 use Rattle.merc_order.specs.Procedures.{modes_of}
-use Rattle.merc_modes.specs.Asking.{AreKnown}
-use Rattle.merc_modes.specs.Facts.{all_subgoals}
-use Rattle.merc_modes.specs.Sweeps.{AreKnownFrom}
+use Rattle.merc_readiness.specs.Asking.{AreKnown}
+use Rattle.merc_readiness.specs.Facts.{all_subgoals}
+use Rattle.merc_readiness.specs.Sweeps.{AreKnownFrom}
 use Rattle.merc_modes.proofs.parallel.needed_by.Given as goal
 
 abbrev pub invariant-loop-index : goal.invariant-loop-index

@@ -1,0 +1,17 @@
+use Rattle.std.proofs.Common.{◌∙◌, ap}
+use Rattle.merc_readiness.specs.Bounds.{all_behind}
+use Rattle.merc_readiness.specs.Outside.{occurs_outside}
+use Rattle.merc_readiness.proofs.ArmLaws.{bound_is, owed_is}
+use Rattle.merc_readiness.proofs.deciding.arms_facts.Goals as goal
+
+pub returns-clause-binds : goal.returns-clause-binds
+returns-clause-binds c =
+    bound_is (λ variable. occurs_outside c.args.all.now c.args.start c.args.end variable) c.args.reached c.args.some.now c.in_ok-shared.shared c.as_slice.result.now c.bind_all.new.self _ c.one_of-bound.result.now _
+    c.in_ok-those_outside.ensures c.one_of-bound.ensures c.as_slice.ensures c.in_ok-shared.ensures
+    (c.in_ok-bind_all.ensures ∙ ap (λ l. all_behind l c.args.every.now) c.requires)
+
+pub returns-clause-owed : goal.returns-clause-owed
+returns-clause-owed c =
+    owed_is (λ variable. occurs_outside c.args.all.now c.args.start c.args.end variable) c.args.reached c.args.some.now c.in_ok-differing.differing c.as_slice-2.result.now c.bind_all.new.self _ c.one_of-owed.result.now _
+    c.in_ok-those_outside-2.ensures c.one_of-owed.ensures c.as_slice-2.ensures c.in_ok-differing.ensures
+    (c.in_ok-bind_all.ensures ∙ ap (λ l. all_behind l c.args.every.now) c.requires)

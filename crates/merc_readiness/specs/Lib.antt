@@ -1,0 +1,17 @@
+pub mod Asking
+pub mod Bounds
+pub mod BoundsExamples
+pub mod CallModeCode
+pub mod Facts
+pub mod Sweeps
+pub mod Chains
+pub mod ChainsExamples
+pub mod Reaches
+pub mod Occurring
+pub mod OccurringExamples
+pub mod Outside
+pub mod Complete
+pub mod Knowing
+pub mod KnowingExamples
+pub mod Arms
+pub mod ArmsExamples

@@ -1,0 +1,19 @@
+//! What is known of the parts of a body before any of them is ordered.
+
+use merc_goal_tree::Vars;
+
+/// What is known of one part of a body.
+#[derive(Drop)]
+pub struct Facts {
+    /// Whether its end can be reached.
+    pub reached: bool,
+    /// The variables that it binds, each once.
+    pub binds: Vars,
+    /// The variables that have to be bound before it, since it may not bind them: those that a negated goal binds and that
+    /// occur outside, or that only some of the arms bind.
+    pub owed: Vars,
+    /// The same of the condition of an if-then-else.
+    pub owed_by_condition: Vars,
+    /// How often variables occur in it.
+    pub occurrences: usize,
+}
