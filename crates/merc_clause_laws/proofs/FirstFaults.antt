@@ -49,7 +49,7 @@ all_at P one (first ∷ rest) holds (inr among) = all_at P one rest holds.1 amon
 
 -- of two faults of one phase the first
 
-abbrev Comes : Refusal → Refusal → Type 0
+abbrev pub Comes : Refusal → Refusal → Type 0
 Comes one other = (one.place.byte < other.place.byte) ⊎ ((one.place.byte ≡ other.place.byte) × (rule_number one.rule ≤ rule_number other.rule))
 
 comes_self : (one : Refusal) → Comes one one
@@ -86,9 +86,9 @@ first_false a b r r' false false z is is' is'' whole = inl (grind (arith, nat_te
 
 -- the first of faults
 
-record IsLeastOf (one : Refusal) (all : List Refusal) : Type 0 where
-  among : IsAmong one all
-  least : (other : Refusal) → IsAmong other all → Comes one other
+pub record IsLeastOf (one : Refusal) (all : List Refusal) : Type 0 where
+  pub among : IsAmong one all
+  pub least : (other : Refusal) → IsAmong other all → Comes one other
 
 same_some : {A : Type 0} (one other : A) → Some one ≡ Some other → one ≡ other
 same_some one other same = cc
@@ -115,7 +115,7 @@ least_by first found one rest inner false is same = record {
     before other (inl e) = subst (Comes found) (sym e) (first_false first.place.byte found.place.byte (rule_number first.rule) (rule_number found.rule) _ _ _ refl refl refl is)
     before other (inr among) = inner.least other among
 
-least_of : (all : List Refusal) (one : Refusal) → first_of_faults all ≡ Some one → IsLeastOf one all
+pub least_of : (all : List Refusal) (one : Refusal) → first_of_faults all ≡ Some one → IsLeastOf one all
 least_of [] one is = absurd cc
 least_of (first ∷ rest) one is = by (first_of_faults rest) refl (least_of rest) (same_some _ _ is)
   where

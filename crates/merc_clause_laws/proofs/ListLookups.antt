@@ -104,7 +104,7 @@ constructor_is name arity (first ∷ rest) one among is only =
 
 -- keys of terms
 
-swapped : (a b : ℕ) → (a == b) ≡ (b == a)
+pub swapped : (a b : ℕ) → (a == b) ≡ (b == a)
 swapped a b = grind (arith, nat_tests)
 
 key_among : (name arity own other : ℕ) → ((own == name) && (other == arity)) ≡ true → is_key (key name arity) (key own other) ≡ true
@@ -172,7 +172,7 @@ module _ (names : List (List ℕ)) where
       by (Integer value span) named long = absurd (let wrong : true ≡ false = sym parts.0 ∙ ap (λ (n : ℕ). n == name) named ∙ other in cc)
       by (Text found span) named long = absurd (let wrong : true ≡ false = sym parts.0 ∙ ap (λ (n : ℕ). n == name) named ∙ other in cc)
 
-  predicate_key : (own name arity : ℕ) → (division_by_zero_name == name) ≡ false → (all : List Entry) (unit : Option ℕ) (span : Span) (item : Item) (one : PredDecl)
+  pub predicate_key : (own name arity : ℕ) → (division_by_zero_name == name) ≡ false → (all : List Entry) (unit : Option ℕ) (span : Span) (item : Item) (one : PredDecl)
       → IsAmong one (pred_decls_of names all unit span item) → is_predicate own name None arity one ≡ true → list_any (is_key (key name arity)) (predicates_of item) ≡ true
   predicate_key own name arity other all unit span (PredicateItem head category) one (inl same) is =
       head_key own name arity other head one (ap (λ (d : PredDecl). d.name) same)

@@ -18,8 +18,9 @@ use Rattle.merc_entries.specs.LibraryItems.{bool_items, library_items, list_item
 use Rattle.merc_entries.proofs.LibraryReads.{units_are-library}
 use Rattle.merc_items.specs.ModuleOf.{clauses_in, clauses_of, module_of, unit_items}
 use Rattle.merc_items.specs.Phases.{doubles_phase, double, HasNoFault}
+use Rattle.merc_items.specs.ReadModule.{IsModule}
 use Rattle.merc_clause_laws.specs.ClauseFaults.{IsAmong, HasClauseFault, goal, names as names_fault, types, file_clauses}
-use Rattle.merc_clause_laws.specs.UnitClauses.{IsFaultless, IsFileFault, TellsFileFault, UnitsAreFaultless}
+use Rattle.merc_clause_laws.specs.UnitClauses.{IsFaultless, IsFileFault, IsTable, TellsFileFault, UnitsAreFaultless}
 use Rattle.merc_clause_laws.proofs.ClausePlaces.{module_clauses}
 use Rattle.merc_clause_laws.proofs.FirstFaults.{all_at, among_either, goal_none, name_none, tells_first, type_none}
 use Rattle.merc_clause_laws.proofs.ListClauses.{list_faultless}
@@ -97,22 +98,33 @@ module _ (behind : List (List ℕ)) (terms : List Term) (items : ℕ → List Te
       let stands = unit_among entry.from all entry.among in
       of_entry entry.from (comes_from items all entry.from [] terms (λ other is. is) stands.1 stands.0) clause entry.inside
 
-pub units_faultless : UnitsAreFaultless
-units_faultless before after text terms found table is =
+-- Behind the table are the constants first, and the units that a file imports are those of the library.
+pub record HasLibrary (after : List (List ℕ)) (items : ℕ → List Term) : Type 0 where
+  pub behind : List (List ℕ)
+  pub front : after ≡ fixed_names ++ behind
+  pub items_are : (unit : ℕ) → library_items unit ≡ items unit
+
+pub has_library : (before after : List (List ℕ)) (text : List ℕ) (terms : List Term) (found : Module) → IsTable before → (is : IsModule before after text terms found) → HasLibrary after is.is.items
+has_library before after text terms found table is =
     let grown = ReadsItems-grows before is.read_names text terms is.reads in
     let fixed : HoldsFixed is.read_names = record {
       text = λ number kept there. subst (λ (names : List (List ℕ)). slice_get names number ≡ Some kept) (sym grown.1) (slice_get-front before grown.0 number kept (table.fixed.text number kept there));
     } in
     let library = units_are-library is.read_names after is.is.items fixed (ReadsItems-distinct before text table.distinct is.read_names terms is.reads) is.is.units in
     let front = front_of fixed_names after (subst HoldsFixed library.same fixed).text in
-    let faultless = subst (λ (names : List (List ℕ)). HasNoFault names terms (entries is.is.items terms)) front.1 is.is.faultless in
+    record { behind = front.0; front = front.1; items_are = library.items_are }
+
+pub units_faultless : UnitsAreFaultless
+units_faultless before after text terms found table is =
+    let library = has_library before after text terms found table is in
+    let faultless = subst (λ (names : List (List ℕ)). HasNoFault names terms (entries is.is.items terms)) library.front is.is.faultless in
     record {
       unit_clauses = flat_map clauses_in (unit_items (entries is.is.items terms));
       whole = module_clauses before after text terms found is;
       faultless = λ clause among.
           subst (λ (known : Module). IsFaultless after known clause) (sym is.is.same)
-          (subst (λ (names : List (List ℕ)). IsFaultless names (module_of names terms (entries is.is.items terms)) clause) (sym front.1)
-          (of_units front.0 terms is.is.items library.items_are faultless clause among));
+          (subst (λ (names : List (List ℕ)). IsFaultless names (module_of names terms (entries is.is.items terms)) clause) (sym library.front)
+          (of_units library.behind terms is.is.items library.items_are faultless clause among));
     }
 
 -- a faultless clause has no fault in any phase
