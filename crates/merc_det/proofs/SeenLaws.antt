@@ -112,7 +112,7 @@ latest_within (first ∷ rest) variable index found = elim (cases_eq first.varia
       let h = latest_within rest variable index e in omega (arith, h)
 ]
 
-slice_get-last : {X : Type 0} (items : List X) (last : X) (index : ℕ) → index ≡ length items → slice_get (items ++ last ∷ []) index ≡ Some last
+pub slice_get-last : {X : Type 0} (items : List X) (last : X) (index : ℕ) → index ≡ length items → slice_get (items ++ last ∷ []) index ≡ Some last
 slice_get-last [] last zero e = refl
 slice_get-last [] last (suc index) e = cc e
 slice_get-last (first ∷ rest) last zero e = cc e

@@ -1,8 +1,9 @@
 -- What is to be done to grade goals, and what comes of it. The last of a list of tasks comes first.
-use Rattle.std.specs.Prelude.{◌≡◌, ℕ, suc, ◌+◌, ◌-◌, ◌≤◌, List, [], ◌∷◌, ◌++◌, length}
+use Rattle.std.specs.Prelude.{◌≡◌, ℕ, suc, ◌+◌, ◌-◌, ◌≤◌, List, [], ◌∷◌, ◌++◌, Option, Some, None}
 use Rattle.merc_tree.specs.Types.{TypeExpr}
 use Rattle.merc_tree.specs.declared.declarations.ModeDecl.{ModeDecl}
 use Rattle.merc_tree.specs.declared.declarations.TypeDef.{TypeDef}
+use Rattle.merc_goal_tree.specs.declared.goal.Symbol.{Symbol}
 use Rattle.merc_graded_tree.specs.Nodes.{Node, node, Goal, Basic, Conjunction, Disjunction, Switch, Conditional, Negation, Quantified, Nodes, no_nodes, more_nodes, Arms, no_arms, more_arms, goal_of}
 use Rattle.merc_graded_tree.specs.Roots.{arity_of, root_of}
 use Rattle.merc_grading.specs.Fitting.{Fits}
@@ -23,10 +24,15 @@ abbrev pub choice_tasks : ℕ → Nodes → List Task
 choice_tasks known no_nodes = []
 choice_tasks known (more_nodes first rest) = choice_tasks known rest ++ Forget known ∷ Grade first ∷ []
 
--- and arms, in each of which its symbol is known.
+-- an arm, in which its symbol is known, if it has one,
+abbrev pub arm_task : ℕ → ℕ → Option Symbol → Node → List Task
+arm_task known variable None body = []
+arm_task known variable (Some symbol) body = Forget known ∷ Grade body ∷ Learn variable symbol ∷ []
+
+-- and arms.
 abbrev pub arm_tasks : ℕ → ℕ → Arms → List Task
 arm_tasks known variable no_arms = []
-arm_tasks known variable (more_arms symbol body rest) = arm_tasks known variable rest ++ Forget known ∷ Grade body ∷ Learn variable symbol ∷ []
+arm_tasks known variable (more_arms symbol body rest) = arm_tasks known variable rest ++ arm_task known variable (Some symbol) body
 
 -- the goals that a goal joins
 abbrev pub inner_tasks : ℕ → Goal → List Task

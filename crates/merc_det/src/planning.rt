@@ -1,9 +1,9 @@
 //! What is to be done for goals, so that they are gone through without recursion.
-ghost use Rattle.std.specs.Prelude.{◌≡◌, [], ◌∷◌, ◌++◌, OnOk};
+ghost use Rattle.std.specs.Prelude.{◌≡◌, [], ◌∷◌, ◌++◌, slice_get, OnOk};
 ghost use Rattle.merc_graded_tree.specs.Nodes.{nodes_of};
 ghost use Rattle.merc_graded_tree.specs.Roots.{arms_of};
 ghost use Rattle.merc_graded_tree.specs.Views.{viewed};
-ghost use Rattle.merc_det.specs.Tasks.{arm_tasks, choice_tasks, inner_tasks, plan, tasks_in_turn};
+ghost use Rattle.merc_det.specs.Tasks.{arm_task, arm_tasks, choice_tasks, inner_tasks, plan, tasks_in_turn};
 
 use merc_base::NoMemory;
 use merc_goal_tree::{Symbol, Var};
@@ -107,12 +107,36 @@ fn plan_arms<'a>(
 {
     let mut left = arms;
     while let Some(last) = left.take_last() {
-        if let Some(symbol) = symbols.get(left.len()) {
-            plan_apart(last, known, tasks)?;
-            tasks.push(Task::Learn(variable, *symbol))?;
-        }
+        plan_arm(variable, symbols, left.len(), last, known, tasks)?;
     }
     Ok(())
+}
+
+// The arm of the symbol at an index.
+fn plan_arm<'a>(
+    variable: Var,
+    symbols: &[Symbol],
+    index: usize,
+    body: NodeRef<'a>,
+    known: usize,
+    tasks: &mut Vec<Task<'a>>,
+) -> Result<(), NoMemory>
+    ensures { OnOk result (tasks.new.items ≡ tasks.old.items ++ arm_task known variable (slice_get symbols.now index) body.entry) }
+{
+    if let Some(symbol) = symbol_at(symbols, index) {
+        plan_apart(body, known, tasks)?;
+        tasks.push(Task::Learn(variable, symbol))?;
+    }
+    Ok(())
+}
+
+fn symbol_at(symbols: &[Symbol], index: usize) -> Option<Symbol>
+    ensures { result ≡ slice_get symbols.now index }
+{
+    match symbols.get(index) {
+        Some(symbol) => Some(*symbol),
+        None => None,
+    }
 }
 
 // A goal that keeps to itself what it tells.
