@@ -5,3 +5,6 @@ pub mod Joining
 pub mod Pushing
 pub mod Extending
 pub mod Running
+pub mod Counting
+pub mod Keeping
+pub mod RootCategories
