@@ -154,3 +154,22 @@ some_turn (Close whole) = omega arith
 
 pub rest_fewer : (tasks : List Task) (task : Task) → all_turns tasks < all_turns (tasks ++ task ∷ [])
 rest_fewer tasks task = let h = some_turn task in omega (arith, h, turns-append tasks (task ∷ []))
+
+-- the same of each task by its kind
+
+pub grade_enough : (tasks new : List Task) (task : Task) (known : ℕ) (whole : Node) (count : ℕ) → task ≡ Grade whole → new ≡ tasks ++ plan known whole
+    → AreEnough (tasks ++ task ∷ []) count → AreEnough new count
+grade_enough tasks new task known whole count is e enough =
+    plan_enough tasks new known whole count e (subst (λ t. AreEnough (tasks ++ t ∷ []) count) is enough)
+
+pub grade_fewer : (tasks new : List Task) (task : Task) (known : ℕ) (whole : Node) → task ≡ Grade whole → new ≡ tasks ++ plan known whole
+    → all_turns new < all_turns (tasks ++ task ∷ [])
+grade_fewer tasks new task known whole is e = subst (λ t. all_turns new < all_turns (tasks ++ t ∷ [])) (sym is) (plan_fewer tasks new known whole e)
+
+pub done_enough : (tasks : List Task) (task one : Task) (count now : ℕ) → task ≡ one → count_after one count ≡ now → AreEnough (tasks ++ task ∷ []) count → AreEnough tasks now
+done_enough tasks task one count now is e enough =
+    rest_enough tasks one count now (sym e) (subst (λ t. AreEnough (tasks ++ t ∷ []) count) is enough)
+
+pub close_enough : (tasks : List Task) (task : Task) (whole : Node) (count : ℕ) → task ≡ Close whole → AreEnough (tasks ++ task ∷ []) count
+    → arity_of (root_of (goal_of whole)) ≤ count
+close_enough tasks task whole count is enough = last_enough tasks (Close whole) count (subst (λ t. AreEnough (tasks ++ t ∷ []) count) is enough)

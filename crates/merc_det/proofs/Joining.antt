@@ -13,12 +13,11 @@ categories_from [] index h = absurd (omega (arith, h))
 categories_from (first ∷ rest) zero h = refl
 categories_from (first ∷ rest) (suc index) h = let k : index < length rest = omega (arith, h) in categories_from rest index k
 
-pub one_more : (joint : Joint) (goals : List Node) (index : ℕ) (category first result : Category) → 0 < index → index ≤ length goals → category ≡ joined_category joint (categories (drop index goals))
-    → first ≡ category_in (slice_get goals (index - 1)) → ((others : List Category) → category ≡ joined_category joint others → result ≡ joined_category joint (first ∷ others))
-    → result ≡ joined_category joint (categories (drop (index - 1) goals))
-one_more joint goals zero category first result h k e f step = absurd (omega (arith, h))
-one_more joint goals (suc index) category first result h k e f step =
-    let j : index < length goals = omega (arith, k) in
-    step (categories (drop (suc index) goals)) e
-    ∙ ap (λ c. joined_category joint (c ∷ categories (drop (suc index) goals))) f
-    ∙ ap (joined_category joint) (sym (categories_from goals index j))
+pub one_more : (joint : Joint) (goals : List Node) (at index : ℕ) (category first result : Category) → index ≡ suc at → index ≤ length goals → category ≡ joined_category joint (categories (drop index goals))
+    → first ≡ category_in (slice_get goals at) → ((others : List Category) → category ≡ joined_category joint others → result ≡ joined_category joint (first ∷ others))
+    → result ≡ joined_category joint (categories (drop at goals))
+one_more joint goals at index category first result n k e f step =
+    let j : at < length goals = omega (arith, n, k) in
+    step (categories (drop (suc at) goals)) (e ∙ ap (λ m. joined_category joint (categories (drop m goals))) n)
+    ∙ ap (λ c. joined_category joint (c ∷ categories (drop (suc at) goals))) f
+    ∙ ap (joined_category joint) (sym (categories_from goals at j))

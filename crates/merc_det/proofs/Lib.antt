@@ -8,3 +8,4 @@ pub mod Running
 pub mod Counting
 pub mod Keeping
 pub mod RootCategories
+pub mod Faulting

@@ -19,7 +19,7 @@ use std::alloc::Global;
 /// it ends.
 ///
 /// The category of a part comes from the categories of the goals that it joins and, for a split, from the symbol that is
-/// known of its variable: docs/LANGUAGE.md, “Categories”. This takes time of the order of n log n with n the number of
+/// known of its variable: docs/LANGUAGE.md, “Determinism categories”. This takes time of the order of n log n with n the number of
 /// parts, arms and variables that occur in the goal.
 ///
 /// # Errors
@@ -52,9 +52,9 @@ fn perform<'a>(
     nodes: &mut Nodes,
 ) -> Result<(), NoMemory>
     requires { AreEnough (tasks.old.items ++ task ∷ []) (length nodes.old) }
-    ensures same { OnOk result ((types : ℕ → TypeExpr) → Keeps known.now.types (modes_of known.now.preds) types (tasks.old.items ++ task ∷ []) (record { goals = nodes.old; known = seen.old }) tasks.new.items (record { goals = nodes.new; known = seen.new })) }
+    ensures same { OnOk result ((types : ℕ → TypeExpr) → Keeps known.now.types (modes_of known.now.preds) types (tasks.old.items ++ task.entry ∷ []) (record { goals = nodes.old; known = seen.old }) tasks.new.items (record { goals = nodes.new; known = seen.new })) }
     ensures enough { OnOk result (AreEnough tasks.new.items (length nodes.new)) }
-    ensures fewer { OnOk result (all_turns tasks.new.items < all_turns (tasks.old.items ++ task ∷ [])) }
+    ensures fewer { OnOk result (all_turns tasks.new.items < all_turns (tasks.old.items ++ task.entry ∷ [])) }
 {
     match task {
         Task::Grade(goal) => plan(goal, seen.len(), tasks),

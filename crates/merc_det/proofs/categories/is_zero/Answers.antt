@@ -1,4 +1,5 @@
-use Rattle.merc_det.proofs.Counting.{plan_fewer}
-use Rattle.merc_det.proofs.Keeping.{rest_keeps}
-use Rattle.merc_det.proofs.RootCategories.{part}
+use Rattle.merc_det.proofs.Joining.{one_more}
+use Rattle.merc_det.proofs.Keeping.{leads_on}
+use Rattle.merc_det.proofs.Counting.{close_enough}
+use Rattle.merc_det.proofs.Faulting.{look}
 use Rattle.merc_det.proofs.categories.is_zero.Goals as goal
