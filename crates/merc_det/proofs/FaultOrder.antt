@@ -44,3 +44,23 @@ first-append (one ∷ rest) others =
 pub first_either : (faults others : List Refusal) (one other : Option Refusal) → one ≡ first_of_faults faults → other ≡ first_of_faults others
     → earlier_of one other ≡ first_of_faults (faults ++ others)
 first_either faults others one other e f = ap (λ o. earlier_of o other) e ∙ ap (earlier_of (first_of_faults faults)) f ∙ sym (first-append faults others)
+
+-- by which of the two there are
+
+pub first_kept : (faults others : List Refusal) (one other : Option Refusal) (a b : Refusal) → one ≡ Some a → other ≡ Some b → comes_first a b ≡ true
+    → one ≡ first_of_faults faults → other ≡ first_of_faults others → Some a ≡ first_of_faults (faults ++ others)
+first_kept faults others one other a b is is' t e f =
+    sym (ap (λ x. Some (if x then a else b)) t) ∙ first_either faults others (Some a) (Some b) (sym is ∙ e) (sym is' ∙ f)
+
+pub first_passed : (faults others : List Refusal) (one other : Option Refusal) (a b : Refusal) → one ≡ Some a → other ≡ Some b → comes_first a b ≡ false
+    → one ≡ first_of_faults faults → other ≡ first_of_faults others → Some b ≡ first_of_faults (faults ++ others)
+first_passed faults others one other a b is is' t e f =
+    sym (ap (λ x. Some (if x then a else b)) t) ∙ first_either faults others (Some a) (Some b) (sym is ∙ e) (sym is' ∙ f)
+
+pub first_alone : (faults others : List Refusal) (one other : Option Refusal) (a : Refusal) → one ≡ Some a → other ≡ None
+    → one ≡ first_of_faults faults → other ≡ first_of_faults others → Some a ≡ first_of_faults (faults ++ others)
+first_alone faults others one other a is is' e f = first_either faults others (Some a) None (sym is ∙ e) (sym is' ∙ f)
+
+pub first_later : (faults others : List Refusal) (one other : Option Refusal) → one ≡ None → one ≡ first_of_faults faults → other ≡ first_of_faults others
+    → other ≡ first_of_faults (faults ++ others)
+first_later faults others one other is e f = first_either faults others None other (sym is ∙ e) f
