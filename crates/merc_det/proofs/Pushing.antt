@@ -1,14 +1,19 @@
 -- Goals that are taken from the last to the first, and what is pushed for them.
-use Rattle.std.specs.Prelude.{◌≡◌, ◌<◌, ◌≤◌, ℕ, zero, suc, List, [], ◌∷◌, ◌++◌, length, reverse, Option, Some, None, refl}
+use Rattle.std.specs.Prelude.{◌≡◌, ◌<◌, ◌≤◌, ◌⊎◌, ℕ, zero, suc, List, [], ◌∷◌, ◌++◌, length, reverse, Option, Some, None, refl}
 use Rattle.std.specs.List.{slice_get}
-use Rattle.std.proofs.Common.{◌∙◌, ap, sym, arith}
+use Rattle.std.proofs.Common.{◌∙◌, ap, sym, arith, inl, inr}
 use Rattle.std.proofs.lemmas.List.{append_assoc, append-nil}
 use Rattle.merc_goal_tree.specs.declared.goal.Symbol.{Symbol}
+use Rattle.merc_graded_tree.specs.Views.{viewed}
+use Rattle.merc_graded_tree.specs.declared.entries.Running.{Running}
+use Rattle.merc_graded_tree.specs.declared.node_ref.NodeView.{NodeView}
+use Rattle.merc_graded_tree.specs.declared.node_ref.NodeView.TheVariants.{Conjunction as ConjunctionView, Disjunction as DisjunctionView}
 use Rattle.merc_graded_tree.specs.Nodes.{Node, nodes_of, no_arms, more_arms}
-use Rattle.merc_graded_tree.specs.Roots.{arms_of, bodies_of}
+use Rattle.merc_graded_tree.specs.Roots.{arms_of, bodies_of, goals_in}
 use Rattle.merc_det.specs.Tasks.{tasks_in_turn, choice_tasks, arm_task, arm_tasks}
 use Rattle.merc_det.specs.declared.planning.Task.{Task}
 use Rattle.merc_det.specs.declared.planning.Task.TheVariants.{Grade, Learn, Forget, Close}
+use Rattle.merc_det.proofs.RootCategories.{list_of-nodes_of}
 use Rattle.merc_det.proofs.SeenLaws.{reverse-last}
 
 -- what is to come loses what is pushed
@@ -108,3 +113,12 @@ arm_put known variable old between new found symbol body at e s f g =
 
 pub no_arm : (known variable : ℕ) (old : List Task) (found : Option Symbol) (body : Node) (at : Option Symbol) → found ≡ at → found ≡ None → old ≡ old ++ arm_task known variable at body
 no_arm known variable old found body at e s = sym (append-nil old) ∙ ap (λ o. old ++ arm_task known variable o body) (sym s ∙ e)
+
+pub bodies_end : (symbols : List Symbol) (pushed left whole : List Node) → left ≡ [] → pushed ++ reverse (bodies_of (arms_of symbols left)) ≡ whole → pushed ≡ whole
+bodies_end symbols pushed left whole e same =
+    sym (append-nil pushed) ∙ sym (ap (λ l. pushed ++ reverse (bodies_of (arms_of symbols l))) e ∙ ap (λ a. pushed ++ reverse (bodies_of a)) (arms_none symbols)) ∙ same
+
+pub either_pushed : (view : NodeView) (goals old new : List Node) → ((running : Running) × (view ≡ ConjunctionView running goals)) ⊎ (view ≡ DisjunctionView goals)
+    → new ≡ old ++ reverse goals → new ≡ old ++ reverse (goals_in (viewed view))
+either_pushed view goals old new (inl (running, e)) f = f ∙ ap (λ l. old ++ reverse l) (sym (ap (λ v. goals_in (viewed v)) e ∙ list_of-nodes_of goals))
+either_pushed view goals old new (inr e) f = f ∙ ap (λ l. old ++ reverse l) (sym (ap (λ v. goals_in (viewed v)) e ∙ list_of-nodes_of goals))

@@ -22,7 +22,7 @@ use Rattle.merc_det.specs.Closing.{FitsFirst, FitsRoot}
 use Rattle.merc_det.specs.Folding.{category_in}
 use Rattle.merc_det.specs.Symbols.{is_complete_by}
 
-list_of-nodes_of : (goals : List Node) → list_of (nodes_of goals) ≡ goals
+pub list_of-nodes_of : (goals : List Node) → list_of (nodes_of goals) ≡ goals
 list_of-nodes_of [] = refl
 list_of-nodes_of (first ∷ rest) = ap (λ l. first ∷ l) (list_of-nodes_of rest)
 
