@@ -1,7 +1,9 @@
 -- Goals that are taken from the last to the first, and what is pushed for them.
-use Rattle.std.specs.Prelude.{◌≡◌, ◌<◌, ◌≤◌, ◌⊎◌, ℕ, zero, suc, List, [], ◌∷◌, ◌++◌, length, reverse, Option, Some, None, refl}
+use Rattle.std.specs.Prelude.{◌≡◌, ◌<◌, ◌≤◌, ◌⊎◌, nat_lt, ℕ, zero, suc, true, false, List, [], ◌∷◌, ◌++◌, length, reverse, Option, Some, None, refl, if◌then◌else◌}
 use Rattle.std.specs.List.{slice_get}
 use Rattle.std.proofs.Common.{◌∙◌, ap, sym, arith, inl, inr}
+use Rattle.std.proofs.lemmas.Bool.{cases_lt}
+use Rattle.std.proofs.lemmas.Bool.Decides.{nat_tests}
 use Rattle.std.proofs.lemmas.List.{append_assoc, append-nil}
 use Rattle.merc_goal_tree.specs.declared.goal.Symbol.{Symbol}
 use Rattle.merc_graded_tree.specs.Views.{viewed}
@@ -94,16 +96,29 @@ bodies-last (first ∷ second ∷ rest) [] last h = refl
 bodies-last (first ∷ rest) (goal ∷ goals) last h =
     let k : length goals < length rest = omega (arith, h) in ap (λ l. goal ∷ l) (bodies-last rest goals last k)
 
-pub bodies_step : (symbols : List Symbol) (old new goals left : List Node) (last : Node) (whole : List Node) → goals ≡ left ++ last ∷ [] → length left < length symbols
+bodies_kept : (symbols : List Symbol) (old new goals left : List Node) (last : Node) (whole : List Node) → goals ≡ left ++ last ∷ [] → length left < length symbols
     → new ≡ old ++ last ∷ [] → old ++ reverse (bodies_of (arms_of symbols goals)) ≡ whole → new ++ reverse (bodies_of (arms_of symbols left)) ≡ whole
-bodies_step symbols old new goals left last whole e h f same =
+bodies_kept symbols old new goals left last whole e h f same =
     reversed_step old new (bodies_of (arms_of symbols goals)) (bodies_of (arms_of symbols left)) last whole
     (ap (λ l. bodies_of (arms_of symbols l)) e ∙ bodies-last symbols left last h) f same
 
-pub bodies_skip : (symbols : List Symbol) (old goals left : List Node) (last : Node) (whole : List Node) → goals ≡ left ++ last ∷ [] → length symbols ≤ length left
-    → old ++ reverse (bodies_of (arms_of symbols goals)) ≡ whole → old ++ reverse (bodies_of (arms_of symbols left)) ≡ whole
-bodies_skip symbols old goals left last whole e h same =
-    ap (λ a. old ++ reverse (bodies_of a)) (sym (ap (arms_of symbols) e ∙ arms_past symbols left last h)) ∙ same
+bodies_passed : (symbols : List Symbol) (old new goals left : List Node) (last : Node) (whole : List Node) → goals ≡ left ++ last ∷ [] → length symbols ≤ length left
+    → new ≡ old → old ++ reverse (bodies_of (arms_of symbols goals)) ≡ whole → new ++ reverse (bodies_of (arms_of symbols left)) ≡ whole
+bodies_passed symbols old new goals left last whole e h f same =
+    ap (λ a. a ++ reverse (bodies_of (arms_of symbols left))) f
+    ∙ ap (λ a. old ++ reverse (bodies_of a)) (sym (ap (arms_of symbols) e ∙ arms_past symbols left last h)) ∙ same
+
+pub bodies_step : (symbols : List Symbol) (old new goals left : List Node) (last : Node) (index count : ℕ) (whole : List Node) → goals ≡ left ++ last ∷ []
+    → index ≡ length left → count ≡ length symbols → new ≡ (if nat_lt index count then old ++ last ∷ [] else old)
+    → old ++ reverse (bodies_of (arms_of symbols goals)) ≡ whole → new ++ reverse (bodies_of (arms_of symbols left)) ≡ whole
+bodies_step symbols old new goals left last index count whole e i n f same = elim (cases_lt index count) as (λ _. new ++ reverse (bodies_of (arms_of symbols left)) ≡ whole) [
+  | inl less ↦
+      let yes : nat_lt index count ≡ true = grind (arith, nat_tests, less) in
+      bodies_kept symbols old new goals left last whole e (omega (arith, less, i, n)) (f ∙ ap (λ b. if b then old ++ last ∷ [] else old) yes) same
+  | inr past ↦
+      let no : nat_lt index count ≡ false = grind (arith, nat_tests, past) in
+      bodies_passed symbols old new goals left last whole e (omega (arith, past, i, n)) (f ∙ ap (λ b. if b then old ++ last ∷ [] else old) no) same
+]
 
 pub arm_put : (known variable : ℕ) (old between new : List Task) (found : Option Symbol) (symbol : Symbol) (body : Node) (at : Option Symbol) → found ≡ at → found ≡ Some symbol
     → between ≡ old ++ Forget known ∷ Grade body ∷ [] → new ≡ between ++ Learn variable symbol ∷ [] → new ≡ old ++ arm_task known variable at body

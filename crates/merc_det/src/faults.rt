@@ -1,5 +1,5 @@
 //! What is wrong with the categories of a goal that has them.
-ghost use Rattle.std.specs.Prelude.{◌≡◌, List, ◌++◌, reverse, IfOk, OnOk};
+ghost use Rattle.std.specs.Prelude.{◌≡◌, List, [], ◌∷◌, ◌++◌, reverse, IfOk, OnOk, if◌then◌else◌};
 ghost use Rattle.merc_base.specs.FirstFault.{first_of_faults};
 ghost use Rattle.merc_base.specs.declared.refusal.Refusal.{Refusal};
 ghost use Rattle.merc_tree.specs.declared.declarations.PredDecl.{PredDecl};
@@ -186,9 +186,20 @@ fn push_arms<'a>(
 {
     let mut arms = arms;
     while let Some(last) = arms.take_last() {
-        if arms.len() < symbols.len() {
-            left.push(last)?;
-        }
+        push_if(arms.len() < symbols.len(), last, left)?;
+    }
+    Ok(())
+}
+
+fn push_if<'a>(
+    has_symbol: bool,
+    goal: NodeRef<'a>,
+    left: &mut Vec<NodeRef<'a>>,
+) -> Result<(), NoMemory>
+    ensures { OnOk result (left.new.items ≡ (if has_symbol then left.old.items ++ goal.entry ∷ [] else left.old.items)) }
+{
+    if has_symbol {
+        left.push(goal)?;
     }
     Ok(())
 }

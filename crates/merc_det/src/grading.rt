@@ -19,8 +19,8 @@ use std::alloc::Global;
 /// it ends.
 ///
 /// The category of a part comes from the categories of the goals that it joins and, for a split, from the symbol that is
-/// known of its variable: docs/LANGUAGE.md, “Determinism categories”. This takes time of the order of n log n with n the number of
-/// parts, arms and variables that occur in the goal.
+/// known of its variable: docs/LANGUAGE.md, “Determinism categories”. This takes time of the order of n log n, with n the
+/// number of the goal's parts and of the variables in them, and the greatest number of a variable.
 ///
 /// # Errors
 ///
