@@ -1,0 +1,11 @@
+pub mod FaultOrder
+pub mod SeenLaws
+pub mod Labelling
+pub mod Joining
+pub mod Pushing
+pub mod Extending
+pub mod Running
+pub mod Counting
+pub mod Keeping
+pub mod RootCategories
+pub mod Faulting

@@ -1,0 +1,12 @@
+pub mod Folding
+pub mod FoldingExamples
+pub mod Symbols
+pub mod SymbolsExamples
+pub mod Seen
+pub mod SeenExamples
+pub mod Closing
+pub mod ClosingExamples
+pub mod Tasks
+pub mod TasksExamples
+pub mod Looking
+pub mod LookingExamples

@@ -1,0 +1,103 @@
+-- What a few goals are planned as, and what comes of it, over the types and goals of the examples of categories.
+use Rattle.std.specs.Prelude.{◌≡◌, ℕ, ◌≤◌, List, [], ◌∷◌, Some, None, refl}
+use Rattle.std.proofs.Common.{ap, arith}
+use Rattle.merc_graded_tree.specs.declared.basic.BasicGoal.TheVariants.{True}
+use Rattle.merc_graded_tree.specs.declared.entries.Running.TheVariants.{Sequential}
+use Rattle.merc_graded_tree.specs.Nodes.{Node, Arms, Conjunction, Disjunction, Switch, Negation, nodes_of, no_arms, more_arms}
+use Rattle.merc_grading.specs.Grading.{graded}
+use Rattle.merc_grading.specs.GradingExamples.{declared, modes, types, red, green, c, d, n, of, basic, is_red, is_green}
+use Rattle.merc_det.specs.Tasks.{arm_task, plan, Progress, after_all, TasksFit, count_after_all, AreEnough, turns, all_turns, Leads}
+use Rattle.merc_det.specs.declared.planning.Task.{Task}
+use Rattle.merc_det.specs.declared.planning.Task.TheVariants.{Grade, Learn, Forget, Close}
+
+abbrev start : Progress
+start = record { goals = []; known = [] }
+
+abbrev done : List Task → Progress
+done tasks = after_all declared modes types tasks start
+
+-- `C = red, C = red`
+
+abbrev twice : Node
+twice = of (Conjunction Sequential (nodes_of (is_red c ∷ is_red c ∷ [])))
+
+plan_of_twice : plan 0 twice ≡ Close twice ∷ Grade (is_red c) ∷ Grade (is_red c) ∷ []
+plan_of_twice = refl
+
+-- what the first tells is known at the second, and behind both
+twice_done : done (plan 0 twice) ≡ record { goals = graded declared modes types [] twice ∷ []; known = (c, red) ∷ (c, red) ∷ [] }
+twice_done = refl
+
+-- `( C = red ; C = green )`
+
+abbrev either : Node
+either = of (Disjunction (nodes_of (is_red c ∷ is_green c ∷ [])))
+
+plan_of_either : plan 3 either ≡ Close either ∷ Forget 3 ∷ Grade (is_green c) ∷ Forget 3 ∷ Grade (is_red c) ∷ []
+plan_of_either = refl
+
+either_done : done (plan 0 either) ≡ record { goals = graded declared modes types [] either ∷ []; known = [] }
+either_done = refl
+
+-- without forgetting, `red` would be known behind the first
+not_forgotten : (done (Grade (is_red c) ∷ [])).known ≡ [] → ⊥
+not_forgotten wrong = cc
+
+-- a switch on C, whose arms split it again
+
+abbrev arms : Arms
+arms = more_arms red (is_red c) (more_arms green (is_green c) no_arms)
+
+plan_of_switch : plan 0 (of (Switch c arms))
+    ≡ Close (of (Switch c arms)) ∷ Forget 0 ∷ Grade (is_green c) ∷ Learn c green ∷ Forget 0 ∷ Grade (is_red c) ∷ Learn c red ∷ []
+plan_of_switch = refl
+
+switch_done : done (plan 0 (of (Switch c arms))) ≡ record { goals = graded declared modes types [] (of (Switch c arms)) ∷ []; known = [] }
+switch_done = refl
+
+no_symbol : arm_task 0 c None (is_red c) ≡ []
+no_symbol = refl
+
+-- tasks whose symbols fit, and tasks whose symbols do not
+
+fit : TasksFit declared types (Grade (is_red c) ∷ Learn n red ∷ [])
+fit = (refl, (tt, tt))
+
+fit_not : TasksFit declared types (Learn c red ∷ Grade (is_red n) ∷ []) → ⊥
+fit_not fit = let wrong : None ≡ Some (red ∷ green ∷ []) = fit.1.0 in cc
+
+-- how many goals there are
+
+one_is_left : count_after_all (Close (of (Negation (is_red c))) ∷ Forget 0 ∷ Grade (is_red c) ∷ []) 4 ≡ 5
+one_is_left = refl
+
+enough : AreEnough (Close twice ∷ Grade (is_red c) ∷ []) 1
+enough = (omega arith, (tt, tt))
+
+too_few : AreEnough (Close twice ∷ Grade (is_red c) ∷ []) 0 → ⊥
+too_few few = let wrong : 2 ≤ 1 = few.0 in absurd (omega (arith, wrong))
+
+-- turns: a goal alone takes its own and that of closing it
+
+alone : turns (is_red c) ≡ 2
+alone = refl
+
+two_goals : turns twice ≡ 8
+two_goals = refl
+
+two_disjuncts : turns either ≡ 8
+two_disjuncts = refl
+
+of_tasks : all_turns (Forget 0 ∷ Grade (is_red c) ∷ []) ≡ 3
+of_tasks = refl
+
+of_tasks_not : all_turns (Forget 0 ∷ Grade (is_red c) ∷ []) ≡ 2 → ⊥
+of_tasks_not wrong = cc
+
+-- a goal's plan leads where the goal leads
+
+leads : Leads declared modes types (Grade twice ∷ []) start (plan 0 twice) start
+leads = record { fit = ((refl, (refl, tt)), (refl, (refl, tt))); same = refl }
+
+leads_not : Leads declared modes types (Grade twice ∷ []) start [] start → ⊥
+leads_not lead = let wrong : [] ≡ graded declared modes types [] twice ∷ [] = ap (λ at. at.goals) lead.same in cc

@@ -1,0 +1,161 @@
+//! The category of a goal that joins others, from theirs.
+ghost use Rattle.std.specs.Prelude.{◌≡◌, List};
+ghost use Rattle.merc_base.specs.declared.category.Category.{Category};
+ghost use Rattle.merc_grading.specs.Categories.{arms_category, both_most, category, conditional_category, decision_most, greater_most, is_many, is_zero, negation_category, once, or_category, sum_most, switch_category, then_category};
+ghost use Rattle.merc_det.specs.Folding.{arm_category};
+
+use merc_base::{Category, Most};
+
+/// One goal and then another.
+pub(crate) fn then_category(first: Category, next: Category) -> Category
+    ensures { result ≡ then_category first next }
+{
+    let can_reach = !is_zero(first.most());
+    let can_fail = first.can_fail() || (can_reach && next.can_fail());
+    category(can_fail, both_most(first.most(), next.most()))
+}
+
+/// One goal or another.
+pub(crate) fn or_category(one: Category, other: Category) -> Category
+    ensures { result ≡ or_category one other }
+{
+    let can_fail = one.can_fail() && other.can_fail();
+    category(can_fail, sum_most(one.most(), other.most()))
+}
+
+/// One arm of a switch, or one of others that are of this category together.
+pub(crate) fn arm_category(arm: Category, others: Category) -> Category
+    ensures { result ≡ arm_category arm others }
+{
+    let can_fail = arm.can_fail() || others.can_fail();
+    category(can_fail, greater_most(arm.most(), others.most()))
+}
+
+/// A switch whose arms are of this category together. It is complete if each symbol of the type has an arm.
+pub(crate) fn switch_category(is_complete: bool, arms: Category) -> Category
+    ensures { (all : List Category) → arms ≡ arms_category all → result ≡ switch_category is_complete all }
+{
+    category(!is_complete || arms.can_fail(), arms.most())
+}
+
+/// An if-then-else.
+pub(crate) fn conditional_category(
+    condition: Category,
+    then_part: Category,
+    else_part: Category,
+) -> Category
+    ensures { result ≡ conditional_category condition then_part else_part }
+{
+    if !condition.can_fail() {
+        return then_category(condition, then_part);
+    }
+    let can_fail = then_part.can_fail() || else_part.can_fail();
+    let most = decision_most(condition.most(), then_part.most(), else_part.most());
+    category(can_fail, most)
+}
+
+/// The negation of a goal.
+pub(crate) fn negation_category(inner: Category) -> Category
+    ensures { result ≡ negation_category inner }
+{
+    match inner {
+        Category::Erroneous => Category::Erroneous,
+        Category::Failure => Category::Det,
+        Category::Det | Category::Multi => Category::Failure,
+        Category::Semidet | Category::Nondet => Category::Semidet,
+    }
+}
+
+/// A goal of which one solution is enough.
+pub(crate) fn once(inner: Category) -> Category
+    ensures { result ≡ once inner }
+{
+    let most = if is_zero(inner.most()) {
+        Most::Zero
+    } else {
+        Most::One
+    };
+    category(inner.can_fail(), most)
+}
+
+// Whether a goal can fail, and its most solutions, as a category.
+fn category(can_fail: bool, most: Most) -> Category
+    ensures { result ≡ category can_fail most }
+{
+    match (can_fail, most) {
+        (false, Most::Zero) => Category::Erroneous,
+        (true, Most::Zero) => Category::Failure,
+        (false, Most::One) => Category::Det,
+        (true, Most::One) => Category::Semidet,
+        (false, Most::Many) => Category::Multi,
+        (true, Most::Many) => Category::Nondet,
+    }
+}
+
+// The most solutions of two goals one after the other.
+fn both_most(one: Most, other: Most) -> Most
+    ensures { result ≡ both_most one other }
+{
+    if is_zero(one) || is_zero(other) {
+        Most::Zero
+    } else if is_many(one) || is_many(other) {
+        Most::Many
+    } else {
+        Most::One
+    }
+}
+
+// The most solutions of either of two goals.
+fn sum_most(one: Most, other: Most) -> Most
+    ensures { result ≡ sum_most one other }
+{
+    match (one, other) {
+        (Most::Zero, other) => other,
+        (Most::One, Most::Zero) => Most::One,
+        (Most::One, Most::One | Most::Many) | (Most::Many, _) => Most::Many,
+    }
+}
+
+// The greater of two maxima.
+fn greater_most(one: Most, other: Most) -> Most
+    ensures { result ≡ greater_most one other }
+{
+    if is_many(one) || is_many(other) {
+        Most::Many
+    } else if is_zero(one) && is_zero(other) {
+        Most::Zero
+    } else {
+        Most::One
+    }
+}
+
+// The most solutions of an if-then-else whose condition can fail.
+fn decision_most(condition: Most, then_part: Most, else_part: Most) -> Most
+    ensures { result ≡ decision_most condition then_part else_part }
+{
+    if is_zero(else_part) && (is_zero(condition) || is_zero(then_part)) {
+        Most::Zero
+    } else if is_many(condition) || is_many(then_part) || is_many(else_part) {
+        Most::Many
+    } else {
+        Most::One
+    }
+}
+
+pub(crate) fn is_zero(most: Most) -> bool
+    ensures { result ≡ is_zero most }
+{
+    match most {
+        Most::Zero => true,
+        Most::One | Most::Many => false,
+    }
+}
+
+pub(crate) fn is_many(most: Most) -> bool
+    ensures { result ≡ is_many most }
+{
+    match most {
+        Most::Many => true,
+        Most::Zero | Most::One => false,
+    }
+}

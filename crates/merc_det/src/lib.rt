@@ -1,0 +1,16 @@
+//! The determinism categories of ordered goals.
+#![tactic(auto)]
+
+mod basics;
+mod categories;
+mod closing;
+mod copying;
+mod faults;
+mod folding;
+mod grading;
+mod planning;
+mod seen;
+mod symbols;
+
+pub use faults::{procedure_fault, query_fault};
+pub use grading::grade;

@@ -1,0 +1,153 @@
+//! What is to be done for goals, so that they are gone through without recursion.
+ghost use Rattle.std.specs.Prelude.{◌≡◌, [], ◌∷◌, ◌++◌, slice_get, OnOk};
+ghost use Rattle.merc_graded_tree.specs.Nodes.{nodes_of};
+ghost use Rattle.merc_graded_tree.specs.Roots.{arms_of};
+ghost use Rattle.merc_graded_tree.specs.Views.{viewed};
+ghost use Rattle.merc_det.specs.Tasks.{arm_task, arm_tasks, choice_tasks, inner_tasks, plan, tasks_in_turn};
+
+use merc_base::NoMemory;
+use merc_goal_tree::{Symbol, Var};
+use merc_graded_tree::{NodeRef, NodeView, Parts};
+
+/// One thing to do. The last of a list of tasks comes first.
+#[derive(Drop)]
+pub(crate) enum Task<'a> {
+    /// To put the goal with all its categories behind the others.
+    Grade(NodeRef<'a>),
+    /// The symbol is known of the variable.
+    Learn(Var, Symbol),
+    /// What became known behind the first so many symbols is forgotten.
+    Forget(usize),
+    /// To make the last goals, as many as the goal joins, that goal.
+    Close(NodeRef<'a>),
+}
+
+/// Plans a goal: those that it joins, each with what is known where it stands, and then the goal itself. So many symbols
+/// are known before it.
+///
+/// # Errors
+///
+/// `NoMemory` where memory was refused.
+pub(crate) fn plan<'a>(
+    goal: NodeRef<'a>,
+    known: usize,
+    tasks: &mut Vec<Task<'a>>,
+) -> Result<(), NoMemory>
+    ensures { OnOk result (tasks.new.items ≡ tasks.old.items ++ plan known goal.entry) }
+{
+    let view = goal.view();
+    tasks.push(Task::Close(goal))?;
+    plan_inner(view, known, tasks)
+}
+
+// Plans the goals that a goal joins.
+fn plan_inner<'a>(
+    view: NodeView<'a>,
+    known: usize,
+    tasks: &mut Vec<Task<'a>>,
+) -> Result<(), NoMemory>
+    ensures { OnOk result (tasks.new.items ≡ tasks.old.items ++ inner_tasks known (viewed view.entry)) }
+{
+    match view {
+        NodeView::Basic(_) => Ok(()),
+        NodeView::Conjunction(_, goals) => plan_in_turn(goals, tasks),
+        NodeView::Disjunction(goals) => plan_choices(goals, known, tasks),
+        NodeView::Switch(variable, symbols, arms) => {
+            plan_arms(variable, symbols.as_slice(), arms, known, tasks)
+        }
+        NodeView::Conditional(condition, then_part, else_part) => {
+            plan_apart(else_part, known, tasks)?;
+            plan_apart(then_part, known, tasks)?;
+            tasks.push(Task::Grade(condition))?;
+            Ok(())
+        }
+        NodeView::Negation(inner) => plan_apart(inner, known, tasks),
+        NodeView::Quantified(_, inner) => {
+            tasks.push(Task::Grade(inner))?;
+            Ok(())
+        }
+    }
+}
+
+// Goals one after the other.
+fn plan_in_turn<'a>(goals: Parts<'a>, tasks: &mut Vec<Task<'a>>) -> Result<(), NoMemory>
+    ensures { OnOk result (tasks.new.items ≡ tasks.old.items ++ tasks_in_turn (nodes_of goals.entry)) }
+{
+    let mut left = goals;
+    while let Some(last) = left.take_last() {
+        tasks.push(Task::Grade(last))?;
+    }
+    Ok(())
+}
+
+// Goals of which each starts from what is known before all.
+fn plan_choices<'a>(
+    goals: Parts<'a>,
+    known: usize,
+    tasks: &mut Vec<Task<'a>>,
+) -> Result<(), NoMemory>
+    ensures { OnOk result (tasks.new.items ≡ tasks.old.items ++ choice_tasks known (nodes_of goals.entry)) }
+{
+    let mut left = goals;
+    while let Some(last) = left.take_last() {
+        plan_apart(last, known, tasks)?;
+    }
+    Ok(())
+}
+
+// Arms, in each of which its symbol is known.
+fn plan_arms<'a>(
+    variable: Var,
+    symbols: &[Symbol],
+    arms: Parts<'a>,
+    known: usize,
+    tasks: &mut Vec<Task<'a>>,
+) -> Result<(), NoMemory>
+    ensures { OnOk result (tasks.new.items ≡ tasks.old.items ++ arm_tasks known variable (arms_of symbols.now arms.entry)) }
+{
+    let mut left = arms;
+    while let Some(last) = left.take_last() {
+        plan_arm(variable, symbols, left.len(), last, known, tasks)?;
+    }
+    Ok(())
+}
+
+// The arm of the symbol at an index.
+fn plan_arm<'a>(
+    variable: Var,
+    symbols: &[Symbol],
+    index: usize,
+    body: NodeRef<'a>,
+    known: usize,
+    tasks: &mut Vec<Task<'a>>,
+) -> Result<(), NoMemory>
+    ensures { OnOk result (tasks.new.items ≡ tasks.old.items ++ arm_task known variable (slice_get symbols.now index) body.entry) }
+{
+    if let Some(symbol) = symbol_at(symbols, index) {
+        plan_apart(body, known, tasks)?;
+        tasks.push(Task::Learn(variable, symbol))?;
+    }
+    Ok(())
+}
+
+fn symbol_at(symbols: &[Symbol], index: usize) -> Option<Symbol>
+    ensures { result ≡ slice_get symbols.now index }
+{
+    match symbols.get(index) {
+        Some(symbol) => Some(*symbol),
+        None => None,
+    }
+}
+
+// A goal that keeps to itself what it tells.
+fn plan_apart<'a>(
+    goal: NodeRef<'a>,
+    known: usize,
+    tasks: &mut Vec<Task<'a>>,
+) -> Result<(), NoMemory>
+    ensures { OnOk result (tasks.new.items ≡ tasks.old.items ++ Task.Forget known ∷ Task.Grade goal.entry ∷ []) }
+{
+    tasks.push(Task::Forget(known))?;
+    tasks.push(Task::Grade(goal))?;
+    Ok(())
+}
