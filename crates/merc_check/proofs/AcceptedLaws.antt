@@ -6,8 +6,8 @@ use Rattle.merc_tree.specs.Term.{Term}
 use Rattle.merc_tree.specs.declared.declarations.Clause.{Clause}
 use Rattle.merc_tree.specs.declared.declarations.Module.{Module}
 use Rattle.merc_check.specs.Accepted.{AcceptsClauses, AcceptsGoal, IsTypedClause, RefusesClauses, RefusesGoal, type_mismatch}
-use Rattle.merc_check.specs.Accepted.RefusesClauses.{fault as clauses_faulty, untyped as clause_untyped}
-use Rattle.merc_check.specs.Accepted.RefusesGoal.{fault as goal_faulty, untyped as goal_untyped}
+use Rattle.merc_check.specs.Accepted.RefusesClauses.{fault as clauses_faulty, untyped as clause_untyped, unordered as clauses_unordered}
+use Rattle.merc_check.specs.Accepted.RefusesGoal.{fault as goal_faulty, untyped as goal_untyped, unordered as goal_unordered}
 
 -- of two items that are each the first without a property, both are one
 module _ {A : Type 0} (P : A → Type 0) where
@@ -32,6 +32,12 @@ module _ (names : List (List ℕ)) (known : Module) where
   RefusesClauses-excludes refusal (clauses_faulty _ is) accepts = let none = accepts.flat in cc
   RefusesClauses-excludes _ (clause_untyped before clause behind none same typed wrong) accepts =
       wrong (all-behind (IsTypedClause names known) before clause behind (subst (AllByRecursion (IsTypedClause names known)) same accepts.typed))
+  RefusesClauses-excludes refusal (clauses_unordered _ none typed is) accepts = let ordered = accepts.ordered in cc
+
+  typed_not : (before : List Clause) (clause : Clause) (behind : List Clause) → known.clauses ≡ before ++ clause ∷ behind → AllByRecursion (IsTypedClause names known) known.clauses
+      → (IsTypedClause names known clause → ⊥) → ⊥
+  typed_not before clause behind same typed wrong =
+      wrong (all-behind (IsTypedClause names known) before clause behind (subst (AllByRecursion (IsTypedClause names known)) same typed))
 
   pub RefusesClauses-unique : (one other : Refusal) → RefusesClauses names known one → RefusesClauses names known other → one ≡ other
   RefusesClauses-unique one other (clauses_faulty _ is) (clauses_faulty _ is') =
@@ -42,10 +48,20 @@ module _ (names : List (List ℕ)) (known : Module) where
   RefusesClauses-unique _ _ (clause_untyped before clause behind none same typed wrong) (clause_untyped before' clause' behind' none' same' typed' wrong') =
       ap (λ (one : Clause). type_mismatch one.span)
       (first_without (IsTypedClause names known) before before' clause clause' behind behind' (sym same ∙ same') typed typed' wrong wrong')
+  RefusesClauses-unique one other (clauses_faulty _ is) (clauses_unordered _ none typed is') = cc
+  RefusesClauses-unique one other (clauses_unordered _ none typed is) (clauses_faulty _ is') = cc
+  RefusesClauses-unique _ other (clause_untyped before clause behind none same typed wrong) (clauses_unordered _ none' typed' is) =
+      absurd (typed_not before clause behind same typed' wrong)
+  RefusesClauses-unique one _ (clauses_unordered _ none typed is) (clause_untyped before clause behind none' same typed' wrong) =
+      absurd (typed_not before clause behind same typed wrong)
+  RefusesClauses-unique one other (clauses_unordered _ none typed is) (clauses_unordered _ none' typed' is') =
+      let same : Some one ≡ Some other = sym is ∙ is' in
+      cc
 
   pub RefusesGoal-excludes : (goal : Term) (refusal : Refusal) → RefusesGoal names known goal refusal → AcceptsGoal names known goal → ⊥
   RefusesGoal-excludes goal refusal (goal_faulty _ is) accepts = let none = accepts.flat in cc
   RefusesGoal-excludes goal _ (goal_untyped none wrong) accepts = wrong accepts.typed
+  RefusesGoal-excludes goal refusal (goal_unordered _ none typed is) accepts = let ordered = accepts.ordered in cc
 
   pub RefusesGoal-unique : (goal : Term) (one other : Refusal) → RefusesGoal names known goal one → RefusesGoal names known goal other → one ≡ other
   RefusesGoal-unique goal one other (goal_faulty _ is) (goal_faulty _ is') =
@@ -54,3 +70,10 @@ module _ (names : List (List ℕ)) (known : Module) where
   RefusesGoal-unique goal one _ (goal_faulty _ is) (goal_untyped none wrong) = cc
   RefusesGoal-unique goal _ other (goal_untyped none wrong) (goal_faulty _ is) = cc
   RefusesGoal-unique goal _ _ (goal_untyped none wrong) (goal_untyped none' wrong') = refl
+  RefusesGoal-unique goal one other (goal_faulty _ is) (goal_unordered _ none typed is') = cc
+  RefusesGoal-unique goal one other (goal_unordered _ none typed is) (goal_faulty _ is') = cc
+  RefusesGoal-unique goal _ other (goal_untyped none wrong) (goal_unordered _ none' typed is) = absurd (wrong typed)
+  RefusesGoal-unique goal one _ (goal_unordered _ none typed is) (goal_untyped none' wrong) = absurd (wrong typed)
+  RefusesGoal-unique goal one other (goal_unordered _ none typed is) (goal_unordered _ none' typed' is') =
+      let same : Some one ≡ Some other = sym is ∙ is' in
+      cc

@@ -1,4 +1,4 @@
-//! Whether a text is accepted as a module, and another as a goal over it. Modes and categories are not looked at yet.
+//! Whether a text is accepted as a module, and another as a goal over it. Categories are not looked at yet.
 #![tactic(auto)]
 
 mod checking;

@@ -1,5 +1,5 @@
 -- The clauses of library units have no fault.
-use Rattle.std.proofs.Common.{◌≡◌, ℕ, zero, suc, inl, inr, ◌==◌, Bool, true, false, List, [], ◌∷◌, ◌++◌, slice_get, Some, refl, sym, ap, ap₂, subst, ◌∙◌, eqb-true}
+use Rattle.std.proofs.Common.{◌≡◌, ℕ, zero, suc, ◌⊎◌, inl, inr, ◌==◌, Bool, true, false, List, [], ◌∷◌, ◌++◌, slice_get, Some, refl, sym, ap, ap₂, subst, ◌∙◌, eqb-true}
 use Rattle.std.specs.Bool.{if◌then◌else◌}
 use Rattle.std.specs.List.{flat_map}
 use Rattle.merc_base.specs.Names.{bool_name, fixed_names, list_name, maybe_name, HoldsFixed}
@@ -19,7 +19,7 @@ use Rattle.merc_entries.proofs.LibraryReads.{units_are-library}
 use Rattle.merc_items.specs.ModuleOf.{clauses_in, clauses_of, module_of, unit_items}
 use Rattle.merc_items.specs.Phases.{doubles_phase, double, HasNoFault}
 use Rattle.merc_items.specs.ReadModule.{IsModule}
-use Rattle.merc_clause_laws.specs.ClauseFaults.{IsAmong, HasClauseFault, goal, names as names_fault, types, file_clauses}
+use Rattle.merc_clause_laws.specs.ClauseFaults.{IsAmong, HasClauseFault, goal, names as names_fault, types, IsFirstClauseFault, IsOrderFault, file_clauses}
 use Rattle.merc_clause_laws.specs.UnitClauses.{IsFaultless, IsFileFault, IsTable, TellsFileFault, UnitsAreFaultless}
 use Rattle.merc_clause_laws.proofs.ClausePlaces.{module_clauses}
 use Rattle.merc_clause_laws.proofs.FirstFaults.{all_at, among_either, goal_none, name_none, tells_first, type_none}
@@ -133,11 +133,18 @@ no_fault names known clause is _ fault (goal _ has) = goal_none names known clau
 no_fault names known clause is _ fault (names_fault _ has) = name_none names known clause is.named fault has
 no_fault names known clause is _ fault (types _ has) = type_none names known clause is.typed fault has
 
-pub tells_file_fault : TellsFileFault
-tells_file_fault before after text terms found told table is refuses =
-    let first = tells_first before after text terms found told is refuses in
+in_file : (before after : List (List ℕ)) (text : List ℕ) (terms : List Term) (found : Module) (told : Refusal) → IsTable before → IsModule before after text terms found
+    → IsFirstClauseFault after terms found told → IsFileFault after terms found told
+in_file before after text terms found told table is first =
     let units = units_faultless before after text terms found table is in
     elim (among_either first.clause (file_clauses terms) units.unit_clauses (subst (IsAmong first.clause) units.whole first.among)) as (λ _. IsFileFault after terms found told) [
       | inl own ↦ record { phase = first.phase; clause = first.clause; among = own; fault = first.fault }
       | inr unit ↦ absurd (no_fault after found first.clause (units.faultless first.clause unit) first.phase told first.fault)
+    ]
+
+pub tells_file_fault : TellsFileFault
+tells_file_fault before after text terms found told table is refuses =
+    elim (tells_first before after text terms found told is refuses) as (λ _. IsFileFault after terms found told ⊎ IsOrderFault after terms found told) [
+      | inl first ↦ inl (in_file before after text terms found told table is first)
+      | inr order ↦ inr order
     ]

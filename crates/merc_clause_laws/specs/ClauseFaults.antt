@@ -1,5 +1,5 @@
 -- All faults of the clauses of a module, and the first of them.
-use Rattle.std.specs.Prelude.{◌≡◌, ℕ, ◌<◌, ◌≤◌, ◌⊎◌, List, [], ◌∷◌, ◌++◌, None}
+use Rattle.std.specs.Prelude.{◌≡◌, ℕ, ◌<◌, ◌≤◌, ◌⊎◌, List, [], ◌∷◌, ◌++◌, Some, None}
 use Rattle.std.specs.List.{flat_map}
 use Rattle.merc_base.specs.Refusal.{rule_number}
 use Rattle.merc_base.specs.declared.place.Place.{Place}
@@ -17,7 +17,8 @@ use Rattle.merc_items.specs.ReadModule.{IsModule}
 use Rattle.merc_flat_form.specs.FlatForm.{argument_terms}
 use Rattle.merc_flat.specs.GoalFaults.{conjunct_limit, limit_passed, unknown, unknown_among, unknown_name, variable_count, variable_limit}
 use Rattle.merc_flat.specs.Flat.{arity_of, clause_node, goal_of}
-use Rattle.merc_check.specs.Accepted.{IsTypedClause, RefusesClauses, type_mismatch}
+use Rattle.merc_order.specs.Procedures.{order_fault}
+use Rattle.merc_check.specs.Accepted.{bodies, IsTypedClause, RefusesClauses, type_mismatch}
 
 -- it is one of these
 abbrev pub IsAmong : {A : Type 0} → A → List A → Type 0
@@ -76,7 +77,12 @@ pub record IsFirstClauseFault (names : List (List ℕ)) (terms : List Term) (kno
   pub first : (other : Clause) → IsAmong other (file_clauses terms) → (phase' : ℕ) (fault' : Refusal) → HasClauseFault names known other phase' fault'
       → ComesFirst phase told.place told.rule phase' fault'.place fault'.rule
 
--- What is told of the clauses of a module that a text is comes first.
+-- What is told is the first fault of the order of the procedures' goals, and no clause of the file has a fault.
+pub record IsOrderFault (names : List (List ℕ)) (terms : List Term) (known : Module) (told : Refusal) : Type 0 where
+  pub faultless : (clause : Clause) → IsAmong clause (file_clauses terms) → (phase : ℕ) (fault : Refusal) → HasClauseFault names known clause phase fault → ⊥
+  pub first : order_fault known.preds (bodies names known) ≡ Some told
+
+-- What is told of a module that a text is comes first: a fault of its clauses or, where those of the file have none, of the order of its procedures.
 abbrev pub TellsFirstFault : Type 0
 TellsFirstFault = (before after : List (List ℕ)) (text : List ℕ) (terms : List Term) (found : Module) (told : Refusal)
-    → IsModule before after text terms found → RefusesClauses after found told → IsFirstClauseFault after terms found told
+    → IsModule before after text terms found → RefusesClauses after found told → IsFirstClauseFault after terms found told ⊎ IsOrderFault after terms found told

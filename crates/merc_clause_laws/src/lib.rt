@@ -4,7 +4,8 @@
 ghost use Rattle.merc_clause_laws.specs.ClauseFaults.{TellsFirstFault};
 ghost use Rattle.merc_clause_laws.specs.UnitClauses.{TellsFileFault, UnitsAreFaultless};
 
-/// Of all faults of a file's clauses the one that is told comes first.
+/// Of all faults of a file's clauses the one that is told comes first. Where there is none, what is told is the first
+/// fault of the order of the procedures' goals.
 pub fn tells_first_fault()
     ensures { TellsFirstFault }
 {}
@@ -14,7 +15,7 @@ pub fn units_are_faultless()
     ensures { UnitsAreFaultless }
 {}
 
-/// So what is told of the clauses of a module is a fault of a clause of its file.
+/// So what is told of the clauses of a module is a fault of a clause of its file, or one of the order of its procedures.
 pub fn tells_file_fault()
     ensures { TellsFileFault }
 {}

@@ -99,7 +99,7 @@ plan_enough tasks new known whole count e enough =
     let front = (enough-parts tasks (Grade whole ∷ []) count enough).front_is in
     subst (λ l. AreEnough l count) (sym e)
     (enough-both tasks (plan known whole) count (subst (AreEnough tasks) (sym (plan_count known whole count)) front)
-      (plan_close known whole count, inner_enough known (goal_of whole) count))
+    (plan_close known whole count, inner_enough known (goal_of whole) count))
 
 pub length-last_joined : (label : Label) (goals now : List Node) → arity_of label.root ≤ length goals → now ≡ last_joined label goals
     → suc (length goals - arity_of label.root) ≡ length now

@@ -100,7 +100,7 @@ module _ (declared : List TypeDef) (modes : ℕ → List ModeDecl) (types : ℕ 
       let tasks = arm_tasks (length known) variable rest in
       run-append tasks (Forget (length known) ∷ Grade body ∷ Learn variable symbol ∷ []) (reached before known)
       ∙ ap (λ k. run tasks (reached (before ++ one ∷ []) k))
-        (forgotten known (known_behind body inner) (chain known inner (known_behind body inner) (one_more variable symbol known) (behind body inner)))
+      (forgotten known (known_behind body inner) (chain known inner (known_behind body inner) (one_more variable symbol known) (behind body inner)))
       ∙ arms_run variable rest known (before ++ one ∷ [])
       ∙ ap (λ l. reached l known) (append_assoc before (one ∷ []) (bodies_of (grade_arms known variable rest)))
 
@@ -114,7 +114,7 @@ module _ (declared : List TypeDef) (modes : ℕ → List ModeDecl) (types : ℕ 
       let two = grade behind_condition then_part in
       let three = grade known else_part in
       ap (λ k. run (Forget (length known) ∷ Grade else_part ∷ []) (reached ((before ++ one ∷ []) ++ two ∷ []) k))
-        (forgotten known later (chain known behind_condition later (behind condition known) (behind then_part behind_condition)))
+      (forgotten known later (chain known behind_condition later (behind condition known) (behind then_part behind_condition)))
       ∙ apart_run else_part known ((before ++ one ∷ []) ++ two ∷ [])
       ∙ ap (λ l. reached l known) (append_assoc (before ++ one ∷ []) (two ∷ []) (three ∷ []) ∙ append_assoc before (one ∷ []) (two ∷ three ∷ []))
 
