@@ -1,7 +1,7 @@
 -- How many goals tasks leave, and how many turns they take.
-use Rattle.std.specs.Prelude.{◌≡◌, ◌≤◌, ◌<◌, ◌+◌, ◌-◌, ℕ, suc, List, [], ◌∷◌, ◌++◌, length, take, drop, Some, refl}
+use Rattle.std.specs.Prelude.{◌≡◌, ◌≤◌, ◌<◌, ◌+◌, ◌-◌, ℕ, suc, List, [], ◌∷◌, ◌++◌, length, take, drop, refl}
 use Rattle.std.proofs.Common.{◌∙◌, ap, sym, subst, arith}
-use Rattle.std.proofs.lemmas.List.{append-nil, length-append, length-take-le}
+use Rattle.std.proofs.lemmas.List.{length-append, length-take-le}
 use Rattle.merc_graded_tree.specs.declared.entries.Label.{Label}
 use Rattle.merc_graded_tree.specs.Nodes.{Node, node, Goal, Basic, Conjunction, Disjunction, Switch, Conditional, Negation, Quantified, Nodes, no_nodes, more_nodes, Arms, no_arms, more_arms, goal_of, list_of}
 use Rattle.merc_graded_tree.specs.Roots.{bodies_of, goals_in, arity_of, root_of, labelled, last_joined}
@@ -99,7 +99,7 @@ plan_enough tasks new known whole count e enough =
     let front = (enough-parts tasks (Grade whole ∷ []) count enough).front_is in
     subst (λ l. AreEnough l count) (sym e)
     (enough-both tasks (plan known whole) count (subst (AreEnough tasks) (sym (plan_count known whole count)) front)
-      (plan_close known whole count, inner_enough known (goal_of whole) count))
+    (plan_close known whole count, inner_enough known (goal_of whole) count))
 
 pub length-last_joined : (label : Label) (goals now : List Node) → arity_of label.root ≤ length goals → now ≡ last_joined label goals
     → suc (length goals - arity_of label.root) ≡ length now

@@ -108,7 +108,7 @@ module _ (declared : List TypeDef) (modes : ℕ → List ModeDecl) (types : ℕ 
   close_keeps tasks task whole goals new seen now is made e =
       subst (λ t. Keeps declared modes types (tasks ++ t ∷ []) (reached goals seen) tasks (reached new now)) (sym is)
       (rest_keeps tasks (Close whole) (reached goals seen) (reached new now)
-        (λ fits. ap (λ l. reached l now) (made fits) ∙ ap (reached (closed declared modes types seen whole goals)) e))
+      (λ fits. ap (λ l. reached l now) (made fits) ∙ ap (reached (closed declared modes types seen whole goals)) e))
 
 -- what holds where there is a result
 pub both_ok : {E P Q R : Type 0} (result : Result (Unit {0}) E) → (P → Q → R) → OnOk result P → OnOk result Q → OnOk result R

@@ -108,9 +108,9 @@ module _ (declared : List TypeDef) (modes : ℕ → List ModeDecl) (types : ℕ 
   switch_gives root variable symbols shown count complete arms category e s n fits enough is_complete is step =
       subst (Gives category) (sym e)
       (switch declared types variable symbols goals complete arms category
-        (subst (FitsRoot declared types) e fits) (subst (λ r. arity_of r ≤ length goals) e enough) (is_complete ∙ ap (is_complete_by declared) s)
-        (is ∙ ap (λ l. arms_category (categories (drop (count - length l) goals))) s ∙ ap (λ m. arms_category (categories (drop (m - length symbols) goals))) n)
-        step (drop (length goals - length symbols) goals) refl)
+      (subst (FitsRoot declared types) e fits) (subst (λ r. arity_of r ≤ length goals) e enough) (is_complete ∙ ap (is_complete_by declared) s)
+      (is ∙ ap (λ l. arms_category (categories (drop (count - length l) goals))) s ∙ ap (λ m. arms_category (categories (drop (m - length symbols) goals))) n)
+      step (drop (length goals - length symbols) goals) refl)
 
   pub conditional_gives : (root : Root) (count : ℕ) (one two three category : Category) → root ≡ Conditional → count ≡ length goals → arity_of root ≤ length goals
       → one ≡ category_in (slice_get goals (count - 3)) → two ≡ category_in (slice_get goals (count - 2)) → three ≡ category_in (slice_get goals (count - 1))
@@ -120,8 +120,8 @@ module _ (declared : List TypeDef) (modes : ℕ → List ModeDecl) (types : ℕ 
       let parts = drop (length goals - 3) goals in
       subst (Gives category) (sym e)
       (is ∙ ap (λ c. conditional_category c two three) (part goals 3 (count - 3) 0 one (omega arith) three_are (omega (arith, n, three_are)) is_one)
-        ∙ ap (λ c. conditional_category (category_at (goal_at parts 0)) c three) (part goals 3 (count - 2) 1 two (omega arith) three_are (omega (arith, n, three_are)) is_two)
-        ∙ ap (conditional_category (category_at (goal_at parts 0)) (category_at (goal_at parts 1))) (part goals 3 (count - 1) 2 three (omega arith) three_are (omega (arith, n, three_are)) is_three))
+      ∙ ap (λ c. conditional_category (category_at (goal_at parts 0)) c three) (part goals 3 (count - 2) 1 two (omega arith) three_are (omega (arith, n, three_are)) is_two)
+      ∙ ap (conditional_category (category_at (goal_at parts 0)) (category_at (goal_at parts 1))) (part goals 3 (count - 1) 2 three (omega arith) three_are (omega (arith, n, three_are)) is_three))
 
   only : (count : ℕ) (inner : Category) → count ≡ length goals → 1 ≤ length goals → inner ≡ category_in (slice_get goals (count - 1))
       → inner ≡ category_at (goal_at (drop (length goals - 1) goals) 0)

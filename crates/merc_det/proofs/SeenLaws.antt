@@ -77,7 +77,7 @@ finds_more entries table last finds room before = record {
     | inr apart ↦ get_or-set_other table last.variable variable (Some (length entries)) None apart
         ∙ finds.last variable ∙ sym (latest-last entries last variable false (other_is last.variable variable apart))
   ];
-  linked = subst (λ l. AreLinked l) (sym (reverse-last entries last)) (before ∙ finds.last last.variable, finds.linked)
+  linked = subst (λ l. AreLinked l) (sym (reverse-last entries last)) (before ∙ finds.last last.variable, finds.linked);
 }
 
 -- one entry less
@@ -96,7 +96,7 @@ finds_less entries table last finds =
         | inr apart ↦ get_or-set_other table last.variable variable last.before None apart
             ∙ finds.last variable ∙ latest-last entries last variable false (other_is last.variable variable apart)
       ];
-      linked = links.1
+      linked = links.1;
     }
 
 -- what is known of a variable is what its last entry tells
@@ -137,14 +137,14 @@ known_latest : (entries : List Entry) (variable : ℕ)
 known_latest [] variable = refl
 known_latest (first ∷ rest) variable =
     let Is : Bool → Type 0 = λ b. (if b then Some first.symbol else known_of (map (λ one. (one.variable, one.symbol)) rest) variable)
-        ≡ told (reverse (first ∷ rest)) (if b then Some (length rest) else latest rest variable) in
+    ≡ told (reverse (first ∷ rest)) (if b then Some (length rest) else latest rest variable) in
     elim (first.variable == variable) as Is [
       | true ↦ sym (ap (λ l. told l (Some (length rest))) (reverse-first first rest)
           ∙ ap (λ o. option_map (λ one. one.symbol) o) (slice_get-last (reverse rest) first (length rest) (sym (length-reverse rest))))
       | false ↦ known_latest rest variable
           ∙ sym (ap (λ l. told l (latest rest variable)) (reverse-first first rest)
           ∙ told-front (reverse rest) first (latest rest variable)
-            (λ index e. let h = latest_within rest variable index e in omega (arith, h, length-reverse rest)))
+          (λ index e. let h = latest_within rest variable index e in omega (arith, h, length-reverse rest)))
     ]
 
 pub known_is : (entries : List Entry) (table : List (Option ℕ)) (variable : ℕ) → Finds entries table
@@ -171,7 +171,7 @@ added entries new before table last number finds same n room told e =
     subst (λ k. Finds new (set table k (Some (length entries)))) (sym n)
     (subst (λ l. Finds l (set table last.variable (Some (length entries)))) (sym e)
     (finds_more entries table last (record { last = λ v. same v ∙ finds.last v; linked = finds.linked })
-      (subst (λ k. k < length table) n room) (told ∙ ap (λ k. slice_index_or table k None) n)))
+    (subst (λ k. k < length table) n room) (told ∙ ap (λ k. slice_index_or table k None) n)))
 
 pub record Removes (entries new : List Entry) (table : List (Option ℕ)) (last : Entry) (number : ℕ) : Type 0 where
   pub room : number < length table

@@ -14,11 +14,7 @@ use merc_graded_tree::{BasicGoal, Procedure};
 use merc_known::Known;
 
 /// The category of a goal that holds no others, from what is known before it.
-pub(crate) fn basic_category(
-    known: &Known<'_>,
-    seen: &SeenSymbols,
-    goal: &BasicGoal,
-) -> Category
+pub(crate) fn basic_category(known: &Known<'_>, seen: &SeenSymbols, goal: &BasicGoal) -> Category
     ensures { (types : ℕ → TypeExpr) → FitsBasic known.now.types types goal.now → result ≡ basic_category known.now.types (modes_of known.now.preds) types seen.now goal.now }
 {
     match goal {
@@ -65,12 +61,7 @@ pub(crate) fn learn_from(goal: &BasicGoal, seen: &mut SeenSymbols) -> Result<(),
 }
 
 // A split of a variable by a symbol.
-fn split_category(
-    known: &Known<'_>,
-    seen: &SeenSymbols,
-    whole: Var,
-    symbol: Symbol,
-) -> Category
+fn split_category(known: &Known<'_>, seen: &SeenSymbols, whole: Var, symbol: Symbol) -> Category
     ensures { result ≡ split_category (is_single (fellows known.now.types symbol)) symbol (known_of seen.now whole) }
 {
     match seen.symbol_of(whole) {

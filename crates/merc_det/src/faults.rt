@@ -58,11 +58,7 @@ pub fn query_fault(alloc: Global, tree: &NodeRef<'_>) -> Result<Option<Refusal>,
 }
 
 // The fault of a procedure's declaration.
-fn declaration_fault(
-    unit: &Option<Name>,
-    mode: &ModeDecl,
-    tree: &NodeRef<'_>,
-) -> Option<Refusal>
+fn declaration_fault(unit: &Option<Name>, mode: &ModeDecl, tree: &NodeRef<'_>) -> Option<Refusal>
     ensures { (declared : List TypeDef) (predicates : List PredDecl) → result ≡ first_of_faults (own_faults declared predicates unit.now mode.now tree.now) }
 {
     let inferred = given(tree.category());

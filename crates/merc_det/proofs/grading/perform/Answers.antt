@@ -12,12 +12,12 @@ close-requires c = close_enough c.args.tasks.now.items c.args.task c.in-Close.go
 pub returns-in-Grade-clause-same : goal.returns-in-Grade-clause-same
 returns-in-Grade-clause-same c =
     on_ok_weaker c.plan.result (λ planned types. grade_keeps c.args.known.now.types (modes_of c.args.known.now.preds) types c.args.tasks.now.items c.plan.new.tasks.items c.args.task
-      c.len.result c.in-Grade.goal c.args.nodes.now c.args.seen.now c.in-Grade.is c.len.ensures planned) c.plan.ensures
+    c.len.result c.in-Grade.goal c.args.nodes.now c.args.seen.now c.in-Grade.is c.len.ensures planned) c.plan.ensures
 
 pub returns-in-Grade-clause-enough : goal.returns-in-Grade-clause-enough
 returns-in-Grade-clause-enough c =
     on_ok_weaker c.plan.result (λ planned. grade_enough c.args.tasks.now.items c.plan.new.tasks.items c.args.task c.len.result c.in-Grade.goal (length c.args.nodes.now)
-      c.in-Grade.is planned c.requires) c.plan.ensures
+    c.in-Grade.is planned c.requires) c.plan.ensures
 
 pub returns-in-Grade-clause-fewer : goal.returns-in-Grade-clause-fewer
 returns-in-Grade-clause-fewer c =
@@ -26,12 +26,12 @@ returns-in-Grade-clause-fewer c =
 pub returns-in-Learn-clause-same : goal.returns-in-Learn-clause-same
 returns-in-Learn-clause-same c =
     on_ok_weaker c.learn.result (λ learned types. learn_keeps c.args.known.now.types (modes_of c.args.known.now.preds) types c.args.tasks.now.items c.args.task
-      c.in-Learn.variable c.in-Learn.symbol c.args.nodes.now c.args.seen.now c.learn.new.self c.in-Learn.is learned) c.learn.ensures
+    c.in-Learn.variable c.in-Learn.symbol c.args.nodes.now c.args.seen.now c.learn.new.self c.in-Learn.is learned) c.learn.ensures
 
 pub returns-in-Learn-clause-enough : goal.returns-in-Learn-clause-enough
 returns-in-Learn-clause-enough c =
     on_ok_weaker c.learn.result (λ learned. done_enough c.args.tasks.now.items c.args.task (Learn c.in-Learn.variable c.in-Learn.symbol) (length c.args.nodes.now) (length c.args.nodes.now)
-      c.in-Learn.is refl c.requires) c.learn.ensures
+    c.in-Learn.is refl c.requires) c.learn.ensures
 
 pub returns-in-Learn-clause-fewer : goal.returns-in-Learn-clause-fewer
 returns-in-Learn-clause-fewer c = on_ok_weaker c.learn.result (λ learned. rest_fewer c.args.tasks.now.items c.args.task) c.learn.ensures
@@ -51,12 +51,12 @@ returns-in-Forget-clause-fewer c = rest_fewer c.args.tasks.now.items c.args.task
 pub returns-in-Close-clause-same : goal.returns-in-Close-clause-same
 returns-in-Close-clause-same c =
     both_ok c.close.result (λ made known types. close_keeps c.args.known.now.types (modes_of c.args.known.now.preds) types c.args.tasks.now.items c.args.task c.in-Close.goal
-      c.args.nodes.now c.close.new.graded c.args.seen.now c.close.new.seen c.in-Close.is (made types) known) c.close.ensures.goals c.close.ensures.known
+    c.args.nodes.now c.close.new.graded c.args.seen.now c.close.new.seen c.in-Close.is (made types) known) c.close.ensures.goals c.close.ensures.known
 
 pub returns-in-Close-clause-enough : goal.returns-in-Close-clause-enough
 returns-in-Close-clause-enough c =
     on_ok_weaker c.close.result (λ count. done_enough c.args.tasks.now.items c.args.task (Close c.in-Close.goal) (length c.args.nodes.now) (length c.close.new.graded)
-      c.in-Close.is count c.requires) c.close.ensures.count
+    c.in-Close.is count c.requires) c.close.ensures.count
 
 pub returns-in-Close-clause-fewer : goal.returns-in-Close-clause-fewer
 returns-in-Close-clause-fewer c = on_ok_weaker c.close.result (λ count. rest_fewer c.args.tasks.now.items c.args.task) c.close.ensures.count
