@@ -1,5 +1,5 @@
 -- What is known behind a goal stands in front of what is known before it, so that it can be forgotten.
-use Rattle.std.specs.Prelude.{◌≡◌, ◌≤◌, ℕ, List, [], ◌∷◌, ◌++◌, length, Option, Some, None, refl}
+use Rattle.std.specs.Prelude.{◌≡◌, ◌≤◌, ℕ, [], ◌∷◌, ◌++◌, length, Option, Some, None, refl}
 use Rattle.std.proofs.Common.{◌∙◌, ap, sym, arith}
 use Rattle.std.proofs.lemmas.List.{append_assoc, length-append}
 use Rattle.merc_goal_tree.specs.declared.goal.Symbol.{Symbol}

@@ -1,6 +1,6 @@
 -- The faults of goals that are left to look at.
 use Rattle.std.specs.Prelude.{◌≡◌, ◌≤◌, ◌<◌, ◌+◌, ◌-◌, ℕ, suc, List, [], ◌∷◌, ◌++◌, length, reverse, Option, None, refl}
-use Rattle.std.proofs.Common.{◌∙◌, ap, sym, subst, arith}
+use Rattle.std.proofs.Common.{◌∙◌, ap, sym, arith}
 use Rattle.std.proofs.lemmas.List.{append_assoc, append-nil, length-append}
 use Rattle.merc_base.specs.FirstFault.{first_of_faults}
 use Rattle.merc_base.specs.declared.refusal.Refusal.{Refusal}
@@ -10,7 +10,6 @@ use Rattle.merc_graded_tree.specs.Roots.{bodies_of, goals_in}
 use Rattle.merc_grading.specs.Faults.{parallel_faults, goal_faults, all_faults, arm_faults, beside_faults, conjunct_faults}
 use Rattle.merc_det.specs.Looking.{own_goal_faults, faults_in}
 use Rattle.merc_det.specs.Tasks.{turns, goal_turns, joined_turns, arm_turns}
-use Rattle.merc_det.proofs.FaultOrder.{first_either}
 use Rattle.merc_det.proofs.SeenLaws.{reverse-first}
 
 faults_in-append : (front back : List Node) → faults_in (front ++ back) ≡ faults_in back ++ faults_in front

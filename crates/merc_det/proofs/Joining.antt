@@ -1,10 +1,10 @@
 -- The category of goals that are joined, one by one from the last.
-use Rattle.std.specs.Prelude.{◌≡◌, ◌≤◌, ◌<◌, ◌-◌, ℕ, zero, suc, List, [], ◌∷◌, length, drop, refl}
+use Rattle.std.specs.Prelude.{◌≡◌, ◌≤◌, ◌<◌, ℕ, zero, suc, List, [], ◌∷◌, length, drop, refl}
 use Rattle.std.specs.List.{slice_get}
 use Rattle.std.proofs.Common.{◌∙◌, ap, sym, arith}
 use Rattle.merc_base.specs.declared.category.Category.{Category}
 use Rattle.merc_graded_tree.specs.Nodes.{Node}
-use Rattle.merc_grading.specs.Grading.{categories, category_at}
+use Rattle.merc_grading.specs.Grading.{categories}
 use Rattle.merc_det.specs.Folding.{category_in, joined_category}
 use Rattle.merc_det.specs.declared.folding.Joint.{Joint}
 

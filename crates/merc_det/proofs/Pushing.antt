@@ -1,5 +1,5 @@
 -- Goals that are taken from the last to the first, and what is pushed for them.
-use Rattle.std.specs.Prelude.{◌≡◌, ◌<◌, ◌≤◌, ◌⊎◌, nat_lt, ℕ, zero, suc, true, false, List, [], ◌∷◌, ◌++◌, length, reverse, Option, Some, None, refl, if◌then◌else◌}
+use Rattle.std.specs.Prelude.{◌≡◌, ◌<◌, ◌≤◌, ◌⊎◌, nat_lt, ℕ, true, false, List, [], ◌∷◌, ◌++◌, length, reverse, Option, Some, None, refl, if◌then◌else◌}
 use Rattle.std.specs.List.{slice_get}
 use Rattle.std.proofs.Common.{◌∙◌, ap, sym, arith, inl, inr}
 use Rattle.std.proofs.lemmas.Bool.{cases_lt}
@@ -14,7 +14,7 @@ use Rattle.merc_graded_tree.specs.Nodes.{Node, nodes_of, no_arms, more_arms}
 use Rattle.merc_graded_tree.specs.Roots.{arms_of, bodies_of, goals_in}
 use Rattle.merc_det.specs.Tasks.{tasks_in_turn, choice_tasks, arm_task, arm_tasks}
 use Rattle.merc_det.specs.declared.planning.Task.{Task}
-use Rattle.merc_det.specs.declared.planning.Task.TheVariants.{Grade, Learn, Forget, Close}
+use Rattle.merc_det.specs.declared.planning.Task.TheVariants.{Grade, Learn, Forget}
 use Rattle.merc_det.proofs.RootCategories.{list_of-nodes_of}
 use Rattle.merc_det.proofs.SeenLaws.{reverse-last}
 

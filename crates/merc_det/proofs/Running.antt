@@ -4,7 +4,6 @@ use Rattle.std.proofs.Common.{◌∙◌, ap, sym}
 use Rattle.std.proofs.Math.Nat.{add-sub_cancel}
 use Rattle.std.proofs.Math.Seq.{drop-append_seam}
 use Rattle.std.proofs.lemmas.List.{append_assoc, append-nil, length-append}
-use Rattle.merc_base.specs.declared.category.Category.{Category}
 use Rattle.merc_tree.specs.Types.{TypeExpr}
 use Rattle.merc_tree.specs.declared.declarations.ModeDecl.{ModeDecl}
 use Rattle.merc_tree.specs.declared.declarations.TypeDef.{TypeDef}
@@ -15,8 +14,7 @@ use Rattle.merc_graded_tree.specs.RootLaws.{arity_is, joining_is, last_joined_is
 use Rattle.merc_grading.specs.Grading as grading
 use Rattle.merc_grading.specs.Known.{Known, known_behind, known_behind_all, known_behind_goal}
 use Rattle.merc_det.specs.Closing.{category_of, closed, known_behind_root, with_category}
-use Rattle.merc_det.specs.Seen.{back_to}
-use Rattle.merc_det.specs.Tasks.{tasks_in_turn, choice_tasks, arm_task, arm_tasks, inner_tasks, plan, Progress, after, after_all}
+use Rattle.merc_det.specs.Tasks.{tasks_in_turn, choice_tasks, arm_tasks, inner_tasks, plan, Progress, after, after_all}
 use Rattle.merc_det.specs.declared.planning.Task.{Task}
 use Rattle.merc_det.specs.declared.planning.Task.TheVariants.{Grade, Learn, Forget, Close}
 use Rattle.merc_det.proofs.Extending.{behind, chain, forgotten, one_more}

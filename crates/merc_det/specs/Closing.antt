@@ -1,5 +1,5 @@
 -- Goals that become one, with its category.
-use Rattle.std.specs.Prelude.{◌≡◌, ℕ, ◌-◌, List, [], ◌∷◌, drop, length, Some}
+use Rattle.std.specs.Prelude.{ℕ, ◌-◌, List, [], ◌∷◌, drop, length, Some}
 use Rattle.merc_base.specs.declared.category.Category.{Category}
 use Rattle.merc_tree.specs.Types.{TypeExpr}
 use Rattle.merc_tree.specs.declared.declarations.ModeDecl.{ModeDecl}

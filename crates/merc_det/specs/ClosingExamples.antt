@@ -2,12 +2,12 @@
 use Rattle.std.specs.Prelude.{◌≡◌, [], ◌∷◌, Some, None, refl}
 use Rattle.std.proofs.Common.{ap}
 use Rattle.merc_base.specs.declared.category.Category.{Category}
-use Rattle.merc_base.specs.declared.category.Category.TheVariants.{Det, Semidet, Multi}
+use Rattle.merc_base.specs.declared.category.Category.TheVariants.{Det, Semidet}
 use Rattle.merc_graded_tree.specs.declared.basic.BasicGoal.TheVariants.{Build, Split}
 use Rattle.merc_graded_tree.specs.declared.entries.Label.{Label}
 use Rattle.merc_graded_tree.specs.declared.entries.Root.TheVariants.{Basic as BasicRoot, Disjunction as DisjunctionRoot, Negation as NegationRoot, Switch as SwitchRoot}
-use Rattle.merc_graded_tree.specs.Nodes.{Node, node, Goal, Basic, Disjunction, Negation, nodes_of}
-use Rattle.merc_grading.specs.GradingExamples.{at, declared, modes, types, red, green, c, d, n, of, is_red, is_green}
+use Rattle.merc_graded_tree.specs.Nodes.{Node, node, Goal, Basic, Negation}
+use Rattle.merc_grading.specs.GradingExamples.{at, declared, modes, types, red, green, c, n, of, is_red}
 use Rattle.merc_det.specs.Closing.{with_category, known_behind_root, FitsFirst, FitsRoot, closed}
 
 abbrev with : Category → Goal → Node

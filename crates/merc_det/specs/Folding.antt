@@ -1,5 +1,5 @@
 -- The category of goals that are joined, one by one from the last.
-use Rattle.std.specs.Prelude.{ℕ, List, [], ◌∷◌, ◌||◌, Option, Some, None}
+use Rattle.std.specs.Prelude.{List, ◌||◌, Option, Some, None}
 use Rattle.merc_base.specs.Category.{can_fail_of, most_of}
 use Rattle.merc_base.specs.declared.category.Category.{Category}
 use Rattle.merc_base.specs.declared.category.Category.TheVariants.{Nondet}

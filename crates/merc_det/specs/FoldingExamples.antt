@@ -1,6 +1,6 @@
 -- The category of a few goals that are joined.
 use Rattle.std.specs.Prelude.{◌≡◌, [], ◌∷◌, Some, None, refl}
-use Rattle.merc_base.specs.declared.category.Category.TheVariants.{Det, Semidet, Multi, Nondet, Erroneous, Failure}
+use Rattle.merc_base.specs.declared.category.Category.TheVariants.{Det, Semidet, Multi, Nondet}
 use Rattle.merc_grading.specs.GradingExamples.{declared, modes, types, c, is_red}
 use Rattle.merc_grading.specs.Grading.{graded}
 use Rattle.merc_det.specs.Folding.{arm_category, joined_category, category_in}

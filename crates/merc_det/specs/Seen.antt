@@ -1,5 +1,5 @@
 -- Symbols that are known of variables, the last one first, and the table that finds them.
-use Rattle.std.specs.Prelude.{◌≡◌, ℕ, ◌==◌, ◌-◌, nat_lt, List, [], ◌∷◌, length, map, reverse, Option, Some, None, if◌then◌else◌}
+use Rattle.std.specs.Prelude.{◌≡◌, ℕ, ◌==◌, nat_lt, List, [], ◌∷◌, length, map, reverse, Option, Some, None, if◌then◌else◌}
 use Rattle.std.specs.List.{slice_index_or}
 use Rattle.merc_grading.specs.Known.{Known}
 use Rattle.merc_det.specs.declared.seen.Entry.{Entry}

@@ -1,11 +1,10 @@
 -- What a few goals are planned as, and what comes of it, over the types and goals of the examples of categories.
-use Rattle.std.specs.Prelude.{◌≡◌, ℕ, ◌≤◌, List, [], ◌∷◌, Some, None, refl}
+use Rattle.std.specs.Prelude.{◌≡◌, ◌≤◌, List, [], ◌∷◌, Some, None, refl}
 use Rattle.std.proofs.Common.{ap, arith}
-use Rattle.merc_graded_tree.specs.declared.basic.BasicGoal.TheVariants.{True}
 use Rattle.merc_graded_tree.specs.declared.entries.Running.TheVariants.{Sequential}
 use Rattle.merc_graded_tree.specs.Nodes.{Node, Arms, Conjunction, Disjunction, Switch, Negation, nodes_of, no_arms, more_arms}
 use Rattle.merc_grading.specs.Grading.{graded}
-use Rattle.merc_grading.specs.GradingExamples.{declared, modes, types, red, green, c, d, n, of, basic, is_red, is_green}
+use Rattle.merc_grading.specs.GradingExamples.{declared, modes, types, red, green, c, n, of, is_red, is_green}
 use Rattle.merc_det.specs.Tasks.{arm_task, plan, Progress, after_all, TasksFit, count_after_all, AreEnough, turns, all_turns, Leads}
 use Rattle.merc_det.specs.declared.planning.Task.{Task}
 use Rattle.merc_det.specs.declared.planning.Task.TheVariants.{Grade, Learn, Forget, Close}

@@ -1,4 +1,4 @@
-use Rattle.std.proofs.Common.{ℕ, List, [], ◌∷◌, length}
+use Rattle.std.proofs.Common.{ℕ, [], ◌∷◌, length}
 use Rattle.merc_tree.specs.Types.{TypeExpr}
 use Rattle.merc_order.specs.Procedures.{modes_of}
 use Rattle.merc_grading.specs.Fitting.{Fits}

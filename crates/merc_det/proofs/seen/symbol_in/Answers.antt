@@ -1,4 +1,4 @@
-use Rattle.std.proofs.Common.{◌∙◌, sym}
+use Rattle.std.proofs.Common.{◌∙◌}
 use Rattle.merc_det.proofs.SeenLaws.{symbol_none, symbol_some}
 use Rattle.merc_det.proofs.seen.symbol_in.Goals as goal
 

@@ -1,7 +1,6 @@
 use Rattle.std.proofs.Common.{◌≡◌, drop, map}
 use Rattle.std.specs.List.{list_all}
 use Rattle.merc_grading.specs.Known.{has_symbol, symbol_of}
-use Rattle.merc_det.specs.Symbols.{AreKeys}
 use Rattle.merc_det.proofs.symbols.are_all_among.Given as goal
 
 abbrev pub invariant-loop-constructor : goal.invariant-loop-constructor
