@@ -21,7 +21,7 @@ use Rattle.merc_flat.specs.GoalFaults.{conjunct_limit, faults_of_form, limit_pas
 use Rattle.merc_flat.specs.Flat.{arity_of, body_goal, clause_form_fault, clause_name_fault, clause_node, either_fault, fault_among, goal_of}
 use Rattle.merc_check.specs.Accepted.{IsTypedClause, type_mismatch}
 use Rattle.merc_check.specs.Accepted.RefusesClauses.{fault as clauses_faulty, untyped as clause_untyped, unordered as procedures_unordered}
-use Rattle.merc_clause_laws.specs.ClauseFaults.{IsAmong, ComesFirst, earlier_phase, lesser_place, lesser_rule, HasGoalFault, wrong, outside, variables, conjuncts, HasNameFault, name, HasTypeFault, untyped, HasClauseFault, goal, names as names_fault, types, file_clauses, IsFirstClauseFault, IsOrderFault, TellsFirstFault}
+use Rattle.merc_clause_laws.specs.ClauseFaults.{IsAmong, ComesFirst, earlier_phase, lesser_place, lesser_rule, HasGoalFault, wrong, outside, variables, conjuncts, HasNameFault, name, HasTypeFault, untyped, HasClauseFault, goal, names as names_fault, types, file_clauses, IsFirstClauseFault, TellsFirstFault}
 use Rattle.merc_clause_laws.proofs.TermPlaces.{Within}
 use Rattle.merc_clause_laws.proofs.GoalPlaces.{all_append, GoalLies, written_lies, wrong_within, outside_within, unknown_among-within, unknown_within}
 use Rattle.merc_clause_laws.proofs.ClausePlaces.{BodyLies, ClauseLies, ClausesLie, no_clause, a_clause, read_clauses-lie, module_clauses}
