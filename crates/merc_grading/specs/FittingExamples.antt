@@ -32,7 +32,7 @@ Fits-split-not fits = cc
 
 -- a switch on C: `D = red` where it is `green`
 Fits-switch : Fits declared types (of (Switch c (more_arms green (is_red d) no_arms)))
-Fits-switch = (tt, (refl, (refl, tt)))
+Fits-switch = (tt, (refl, refl, tt))
 
 -- a switch on N with the arm `green`
 Fits-switch-not : Fits declared types (of (Switch n (more_arms green (basic True) no_arms))) → ⊥
