@@ -4,3 +4,6 @@ pub mod SameSymbols
 pub mod FoundGroups
 pub mod GroupLaws
 pub mod FoundVariables
+pub mod ChoiceLaws
+pub mod Steps
+pub mod JudgedGroups
