@@ -1,7 +1,7 @@
 -- The variable that is chosen by symbols is the one that is chosen by types.
-use Rattle.std.specs.Prelude.{◌≡◌, ◌≤◌, ◌<◌, ℕ, suc, Bool, true, false, not, ◌==◌, ◌||◌, ◌&&◌, nat_le, List, [], ◌∷◌, ◌++◌, reverse, length, Option, Some, None, if◌then◌else◌, refl}
-use Rattle.std.specs.List.{filter, flat_map, list_all, AllByRecursion}
-use Rattle.std.proofs.Common.{◌∙◌, ◌⊎◌, inl, inr, ap, sym, subst, arith}
+use Rattle.std.specs.Prelude.{◌≡◌, ◌≤◌, ◌<◌, ◌+◌, ℕ, zero, suc, Bool, true, false, not, ◌==◌, ◌||◌, ◌&&◌, nat_le, List, [], ◌∷◌, ◌++◌, reverse, length, take, slice_get, Option, Some, None, if◌then◌else◌, refl}
+use Rattle.std.specs.List.{filter, flat_map, list_all, slice_index_or, AllByRecursion}
+use Rattle.std.proofs.Common.{◌∙◌, ◌⊎◌, inl, inr, ap, sym, subst, arith, add-one}
 use Rattle.std.proofs.lemmas.List.{reverse-append}
 use Rattle.std.proofs.lemmas.Bool.Decides.{Decides-eqb, nat_tests, leb_tells}
 use Rattle.merc_tree.specs.Types.{TypeExpr}
@@ -271,3 +271,40 @@ module _ (declared : List TypeDef) (types : ℕ → TypeExpr) where
       ap (λ l. or_else (least l) (least opened))
       (filter_agrees (λ v. is_complete declared types (first ∷ rest) v) (λ v. is_covered declared (first ∷ rest) v) (λ v. is_open bound used (first ∷ rest) v) (split_variables (first ∷ rest))
       (λ v h. complete_is bound used (first ∷ rest) v fits (omega arith) h))
+
+pub next_best : (declared : List TypeDef) (bound : Bound) (used : List ℕ) (disjuncts : List Node) (front : List ℕ) (v : ℕ) (before now : Best)
+    → now ≡ considered declared bound used disjuncts v before → before ≡ best declared bound used disjuncts (reverse front) → now ≡ best declared bound used disjuncts (reverse (front ++ v ∷ []))
+next_best declared bound used disjuncts front v before now step same =
+    step ∙ ap (considered declared bound used disjuncts v) same ∙ best_more declared bound used disjuncts v (reverse front)
+    ∙ ap (best declared bound used disjuncts) (sym (reverse-append front (v ∷ [])))
+
+taken_next : (xs : List ℕ) (i d : ℕ) → i < length xs → take (suc i) xs ≡ take i xs ++ slice_index_or xs i d ∷ []
+taken_next [] i d h = absurd (omega (arith, h))
+taken_next (x ∷ xs) zero d h = refl
+taken_next (x ∷ xs) (suc i) d h = ap (λ l. x ∷ l) (taken_next xs i d (omega (arith, h)))
+
+pub best_on : (declared : List TypeDef) (bound : Bound) (used : List ℕ) (disjuncts : List Node) (numbers : List ℕ) (i d v : ℕ) (before now : Best) → i < length numbers → v ≡ slice_index_or numbers i d
+    → now ≡ considered declared bound used disjuncts v before → before ≡ best declared bound used disjuncts (reverse (take i numbers)) → now ≡ best declared bound used disjuncts (reverse (take (i + 1) numbers))
+best_on declared bound used disjuncts numbers i d v before now within is step same =
+    next_best declared bound used disjuncts (take i numbers) v before now step same
+    ∙ ap (λ l. best declared bound used disjuncts (reverse l)) (ap (λ n. take i numbers ++ n ∷ []) is ∙ sym (taken_next numbers i d within) ∙ ap (λ n. take n numbers) (sym (add-one i)))
+
+no_first : {A : Type 0} {d : Node} → ◌≡◌ {A = Option Node} None (Some d) → A
+no_first h = absurd (cc)
+
+first_is : (ds : List Node) (d : Node) → slice_get ds 0 ≡ Some d → (rest : List Node) × (ds ≡ d ∷ rest)
+first_is [] d h = no_first h
+first_is (x ∷ xs) d h = let same : x ≡ d = cc in (xs, ap (λ n. n ∷ xs) same)
+
+pub chosen_by : (declared : List TypeDef) (bound : Bound) (used : List ℕ) (disjuncts : List Node) (first : Node) (numbers : List ℕ) (found : Best) → slice_get disjuncts 0 ≡ Some first
+    → ((v : ℕ) → among numbers v ≡ is_there (symbol_at v first)) → found ≡ best declared bound used disjuncts (reverse numbers) → better found ≡ chosen declared bound used disjuncts
+chosen_by declared bound used disjuncts first numbers found is are same =
+    let whole = first_is disjuncts first is in
+    ap better same ∙ subst (λ l. better (best declared bound used l (reverse numbers)) ≡ chosen declared bound used l) (sym whole.1) (chosen_first declared bound used first whole.0 numbers are)
+
+none_first : (ds : List Node) → slice_get ds 0 ≡ None → ds ≡ []
+none_first [] h = refl
+none_first (x ∷ xs) h = absurd (cc)
+
+pub chosen_none : (declared : List TypeDef) (bound : Bound) (used : List ℕ) (disjuncts : List Node) → slice_get disjuncts 0 ≡ None → None ≡ chosen declared bound used disjuncts
+chosen_none declared bound used disjuncts is = ap (chosen declared bound used) (sym (none_first disjuncts is))

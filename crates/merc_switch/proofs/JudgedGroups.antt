@@ -20,6 +20,7 @@ use Rattle.merc_switch.specs.declared.tasks.Group.{Group}
 use Rattle.merc_switch.specs.declared.tasks.Task.{Task}
 use Rattle.merc_switch.specs.declared.tasks.Task.TheVariants.{Find, Keep, Bind, Unbind, Judge, Close}
 use Rattle.merc_switch.specs.Variables.{behind, all_behind}
+use Rattle.merc_switch.specs.Arms.{AreArms}
 use Rattle.merc_switch.specs.Choosing.{chosen}
 use Rattle.merc_switch.specs.Tasks.{HaveEnough, effort, load, task_effort, total, found_in, judged, done, FitsTask, Performs}
 use Rattle.merc_switch.specs.Plans.{finds, disjunction_plan, arm_plan, arm_plans, switch_plan, group_plan, choice_left}
@@ -326,3 +327,60 @@ judges declared group rest tasks goals bound planned =
       enough = λ h. enough_group group chosen_is rest (length goals) h;
       smaller = let one = group_effort group group.left (chosen declared (among bound) group.used group.disjuncts) refl in let two = total-append (group_plan chosen_is group) rest in omega arith;
     })
+
+-- the plan of a group by its choice
+
+pub none_left : (left : ℕ) (chosen_is : Option ℕ) → left ≡ 0 → choice_left left chosen_is ≡ None
+none_left zero chosen_is is = refl
+none_left (suc left) chosen_is is = absurd (omega (arith, is))
+
+pub no_choice_left : (left : ℕ) (chosen_is : Option ℕ) → chosen_is ≡ None → choice_left left chosen_is ≡ None
+no_choice_left zero chosen_is is = refl
+no_choice_left (suc left) chosen_is is = is
+
+pub some_left : (left : ℕ) (chosen_is : Option ℕ) (variable : ℕ) → (left == 0) ≡ false → chosen_is ≡ Some variable → choice_left left chosen_is ≡ Some variable
+some_left zero chosen_is variable some is = cc
+some_left (suc left) chosen_is variable some is = is
+
+pub planned_by : (choice_is plan_is : Option ℕ) (group : Group) (rest tasks : List Task) → choice_is ≡ plan_is → tasks ≡ group_plan plan_is group ++ rest → tasks ≡ group_plan choice_is group ++ rest
+planned_by choice_is plan_is group rest tasks same put = put ∙ ap (λ c. group_plan c group ++ rest) (sym same)
+
+map_seconds : (f : List Node → Task) (arms : List Arm) → map f (map (λ arm. arm.1) arms) ≡ map (λ arm. f arm.1) arms
+map_seconds f [] = refl
+map_seconds f (arm ∷ arms) = ap (λ l. f arm.1 ∷ l) (map_seconds f arms)
+
+pub plans_switch : (variable : ℕ) (group : Group) (symbols : List Symbol) (arms : List (List Node)) (label : Label) (rest closed tasks : List Task) → AreArms symbols arms (grouped variable group.disjuncts)
+    → label ≡ record { root = SwitchRoot variable symbols; outputs = group.outputs; category = group.category; span = span_of group.whole } → closed ≡ Close label ∷ rest
+    → tasks ≡ map (λ disjuncts. arm_plan group.whole group.used group.left variable disjuncts) arms ++ closed → tasks ≡ switch_plan variable group ++ rest
+plans_switch variable group symbols arms label rest closed tasks are made first put =
+    let with_symbols : List Symbol → Label = λ l. record { root = SwitchRoot variable l; outputs = group.outputs; category = group.category; span = span_of group.whole } in
+    let all = grouped variable group.disjuncts in
+    let arm : List Node → Task = λ disjuncts. arm_plan group.whole group.used group.left variable disjuncts in
+    put ∙ ap (λ l. map arm arms ++ l) (first ∙ ap (λ l. Close l ∷ rest) (made ∙ ap with_symbols are.symbols_are))
+    ∙ ap (λ l. map arm l ++ Close (with_symbols (map (λ a. a.0) all)) ∷ rest) are.groups_are
+    ∙ ap (λ l. l ++ Close (with_symbols (map (λ a. a.0) all)) ∷ rest) (map_seconds arm all)
+    ∙ sym (append_assoc (arm_plans variable group all) (Close (with_symbols (map (λ a. a.0) all)) ∷ []) rest)
+
+pub plans_disjunction : (group : Group) (disjuncts : List Node) (label : Label) (rest closed tasks : List Task) → disjuncts ≡ group.disjuncts
+    → label ≡ record { root = DisjunctionRoot (length disjuncts); outputs = group.outputs; category = group.category; span = span_of group.whole } → closed ≡ Close label ∷ rest
+    → tasks ≡ finds disjuncts ++ closed → tasks ≡ disjunction_plan group ++ rest
+plans_disjunction group disjuncts label rest closed tasks same made first put =
+    let of_list : List Node → Label = λ l. record { root = DisjunctionRoot (length l); outputs = group.outputs; category = group.category; span = span_of group.whole } in
+    put ∙ ap (λ l. finds disjuncts ++ l) (first ∙ ap (λ l. Close l ∷ rest) made) ∙ ap (λ l. finds l ++ Close (of_list l) ∷ rest) same
+    ∙ sym (append_assoc (finds group.disjuncts) (Close (of_list group.disjuncts) ∷ []) rest)
+
+pub one_arm : (whole : Node) (used : List ℕ) (left variable : ℕ) (disjuncts : List Node) (only : Node) → disjuncts ≡ only ∷ [] → Find only ≡ arm_plan whole used left variable disjuncts
+one_arm whole used left variable disjuncts only is = ap (λ l. arm_plan whole used left variable l) (sym is)
+
+pub several_arm : (whole : Node) (used : List ℕ) (left variable : ℕ) (disjuncts : List Node) → (length disjuncts == 1) ≡ false
+    → Judge (record {
+      whole = whole;
+      disjuncts = disjuncts;
+      used = behind (all_behind [] used) variable;
+      left = left - 1;
+      outputs = filter (λ output. in_nodes (nodes_of disjuncts) output) (outputs_of whole);
+      category = None;
+    }) ≡ arm_plan whole used left variable disjuncts
+several_arm whole used left variable [] several = refl
+several_arm whole used left variable (only ∷ []) several = cc
+several_arm whole used left variable (first ∷ second ∷ rest) several = refl

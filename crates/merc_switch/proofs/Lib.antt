@@ -7,3 +7,11 @@ pub mod FoundVariables
 pub mod ChoiceLaws
 pub mod Steps
 pub mod JudgedGroups
+pub mod Copies
+pub mod Inputs
+pub mod BeginningLaws
+pub mod KeyLaws
+pub mod ArmLaws
+pub mod SplitCounts
+pub mod PlanLaws
+pub mod FoundTasks

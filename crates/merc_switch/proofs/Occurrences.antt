@@ -1,8 +1,9 @@
 -- The variables of a goal are those of its parts.
-use Rattle.std.specs.Prelude.{◌≡◌, ◌||◌, ◌==◌, ℕ, Bool, true, false, List, [], ◌∷◌, ◌++◌, refl}
+use Rattle.std.specs.Prelude.{◌≡◌, ◌≤◌, ◌||◌, ◌==◌, ℕ, Bool, true, false, List, [], ◌∷◌, ◌++◌, length, drop, refl}
 use Rattle.std.proofs.Common.{◌∙◌, ap, sym}
+use Rattle.std.proofs.lemmas.List.{drop_all}
 use Rattle.merc_graded_tree.specs.declared.entries.Label.{Label}
-use Rattle.merc_graded_tree.specs.Nodes.{Node, node, Goal, Basic, Conjunction, Disjunction, Switch, Conditional, Negation, Quantified, Nodes, no_nodes, more_nodes, Arms, no_arms, more_arms}
+use Rattle.merc_graded_tree.specs.Nodes.{Node, node, Goal, Basic, Conjunction, Disjunction, Switch, Conditional, Negation, Quantified, Nodes, no_nodes, more_nodes, Arms, no_arms, more_arms, nodes_of}
 use Rattle.merc_graded_tree.specs.Roots.{label_of, root_of}
 use Rattle.merc_graded_tree.specs.Labels.{labels_of, inner_labels, joined_labels, arm_labels}
 use Rattle.merc_graded_tree.specs.Variables.{in_node, in_goal, in_nodes, in_arms}
@@ -81,3 +82,19 @@ mutual
       in_labels-append (labels_of body) (arm_labels rest) variable
       ∙ ap (λ b. b || in_labels (arm_labels rest) variable) (in_labels_of body variable)
       ∙ ap (λ b. in_node body variable || b) (in_arm_labels rest variable)
+
+-- The variables of one label more are put behind those that are known.
+pub labels_more : (before now : List ℕ) (left : List Label) (label : Label) (rest : List Label) (variable : ℕ) (whole : Bool)
+    → ((w : ℕ) → among now w ≡ (among before w || among (variables_at label.root) w)) → left ≡ label ∷ rest
+    → (among before variable || in_labels left variable) ≡ whole → (among now variable || in_labels rest variable) ≡ whole
+labels_more before now left label rest variable whole put is same =
+    ap (λ b. b || in_labels rest variable) (put variable)
+    ∙ or_assoc (among before variable) (among (variables_at label.root) variable) (in_labels rest variable)
+    ∙ ap (λ l. among before variable || in_labels l variable) (sym is)
+    ∙ same
+
+-- once all goals are gone through
+pub all_known : (known : List ℕ) (goals : List Node) (index : ℕ) (variable : ℕ) → length goals ≤ index → (among known variable || in_nodes (nodes_of (drop index goals)) variable) ≡ in_nodes (nodes_of goals) variable
+    → among known variable ≡ in_nodes (nodes_of goals) variable
+all_known known goals index variable past same =
+    sym (or_false (among known variable)) ∙ ap (λ l. among known variable || in_nodes (nodes_of l) variable) (sym (drop_all index goals past)) ∙ same

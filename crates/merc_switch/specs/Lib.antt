@@ -9,3 +9,5 @@ pub mod Arms
 pub mod Occurring
 pub mod Tasks
 pub mod Plans
+pub mod TasksExamples
+pub mod ArmsExamples

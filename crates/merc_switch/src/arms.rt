@@ -1,8 +1,10 @@
 //! Disjuncts by the symbols of a variable.
-ghost use Rattle.std.specs.Prelude.{◌≡◌, ◌<◌, ◌++◌, ◌∷◌, [], List, length, IfOk, OnOk};
-ghost use Rattle.std.specs.List.{slice_index_or, slice_set};
-ghost use Rattle.merc_grading.specs.Switches.{Group, grouped};
-ghost use Rattle.merc_switch.specs.Arms.{AreArms, joined_in};
+ghost use Rattle.std.specs.Prelude.{◌≡◌, ◌<◌, ◌==◌, ◌++◌, ◌∷◌, [], length, if◌then◌else◌, IfOk, OnOk};
+ghost use Rattle.std.specs.List.{slice_index_or, slice_set, position_or_len};
+ghost use Rattle.merc_grading.specs.Known.{same_symbol};
+ghost use Rattle.merc_grading.specs.Switches.{grouped};
+ghost use Rattle.merc_switch.specs.Arms.{AreArms};
+ghost use Rattle.merc_switch.specs.Symbols.{with_symbol};
 
 use crate::disjuncts::Disjunct;
 use crate::symbols::SymbolSet;
@@ -10,13 +12,11 @@ use merc_base::{NoMemory, Sequence};
 use merc_goal_tree::{Symbol, Var};
 use std::alloc::Global;
 
-/// The arms of a switch: each symbol, and its disjuncts.
+/// The arms of a switch: the symbols, and the disjuncts of each.
 #[derive(Drop)]
 pub(crate) struct Arms<'a> {
     pub(crate) symbols: Vec<Symbol>,
     pub(crate) groups: Vec<Sequence<Disjunct<'a>>>,
-    // the symbols with their places
-    places: SymbolSet,
 }
 
 /// Disjuncts by the symbols by which they split a variable at their beginnings. The symbols stand in the order in which
@@ -24,42 +24,45 @@ pub(crate) struct Arms<'a> {
 ///
 /// # Errors
 ///
-/// `NoMemory` where memory was refused.
+/// `NoMemory` where memory was refused, here and in the calls below.
 pub(crate) fn arms_of<'a>(
     alloc: Global,
     variable: Var,
     disjuncts: Vec<Disjunct<'a>>,
 ) -> Result<Arms<'a>, NoMemory>
-    ensures { IfOk result (λ arms. AreArms arms (grouped variable disjuncts.entry.items)) }
+    ensures { IfOk result (λ arms. AreArms arms.symbols.items arms.groups.items (grouped variable disjuncts.entry.items)) }
 {
-    let mut arms = Arms {
-        symbols: Vec::new(alloc),
-        groups: Vec::new(alloc),
-        places: SymbolSet::new(alloc),
-    };
+    let mut places = SymbolSet::new(alloc);
+    let mut symbols = Vec::new(alloc);
+    let mut groups = Vec::new(alloc);
     for disjunct in disjuncts {
         if let Some(symbol) = disjunct.symbol(variable) {
-            add_disjunct(alloc, symbol, disjunct, &mut arms)?;
+            let place = open_arm(alloc, &symbol, &mut places, &mut symbols, &mut groups)?;
+            push_at(&mut groups, place, disjunct)?;
         }
     }
-    Ok(arms)
+    Ok(Arms { symbols, groups })
 }
 
-// Adds a disjunct to the arm of its symbol.
-fn add_disjunct<'a>(
+// The place of a symbol's arm. A new symbol has an arm without disjuncts behind the others.
+fn open_arm<'a>(
     alloc: Global,
-    symbol: Symbol,
-    disjunct: Disjunct<'a>,
-    arms: &mut Arms<'a>,
-) -> Result<(), NoMemory>
-    ensures { OnOk result ((groups : List Group) → AreArms arms.old groups → AreArms arms.new (joined_in symbol disjunct.entry groups)) }
+    symbol: &Symbol,
+    places: &mut SymbolSet,
+    symbols: &mut Vec<Symbol>,
+    groups: &mut Vec<Sequence<Disjunct<'a>>>,
+) -> Result<usize, NoMemory>
+    ensures place { IfOk result (λ place. place ≡ position_or_len (same_symbol symbol.now) places.old) }
+    ensures places { OnOk result (places.new ≡ with_symbol places.old symbol.now) }
+    ensures symbols { IfOk result (λ place. symbols.new.items ≡ (if place == length groups.old.items then symbols.old.items ++ symbol.now ∷ [] else symbols.old.items)) }
+    ensures groups { IfOk result (λ place. groups.new.items ≡ (if place == length groups.old.items then groups.old.items ++ [] ∷ [] else groups.old.items)) }
 {
-    let place = arms.places.add(symbol)?;
-    if place == arms.groups.len() {
-        arms.symbols.push(symbol)?;
-        arms.groups.push(Sequence::new(alloc))?;
+    let place = places.add(*symbol)?;
+    if place == groups.len() {
+        symbols.push(*symbol)?;
+        groups.push(Sequence::new(alloc))?;
     }
-    push_at(&mut arms.groups, place, disjunct)
+    Ok(place)
 }
 
 // Puts a disjunct behind those of the group at an index.

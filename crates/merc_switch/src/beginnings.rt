@@ -2,7 +2,7 @@
 ghost use Rattle.std.specs.Prelude.{◌≡◌, ◌++◌, reverse, IfOk, OnOk};
 ghost use Rattle.merc_graded_tree.specs.Nodes.{nodes_of};
 ghost use Rattle.merc_grading.specs.Switches.{beginning, basic_beginning};
-ghost use Rattle.merc_switch.specs.Beginnings.{Begins};
+ghost use Rattle.merc_switch.specs.Beginnings.{Begins, left_with};
 
 use merc_base::NoMemory;
 use merc_goal_tree::{Symbol, Var};
@@ -45,7 +45,7 @@ fn begin<'a>(
             }
             Ok(())
         }
-        NodeView::Conjunction(Running::Sequential, goals) => push_goals(goals, rest),
+        NodeView::Conjunction(running, goals) => begin_conjunction(running, goals, rest),
         _ => {
             rest.clear();
             Ok(())
@@ -65,6 +65,23 @@ fn begin_basic(goal: &BasicGoal, splits: &mut Vec<(Var, Symbol)>) -> Result<bool
             Ok(true)
         }
         _ => Ok(false),
+    }
+}
+
+// Puts the goals of a conjunction before the rest, if they run one after the other; else nothing is left.
+fn begin_conjunction<'a>(
+    running: Running,
+    goals: Parts<'a>,
+    rest: &mut Vec<NodeRef<'a>>,
+) -> Result<(), NoMemory>
+    ensures { OnOk result (rest.new.items ≡ left_with running goals.entry rest.old.items) }
+{
+    match running {
+        Running::Sequential => push_goals(goals, rest),
+        Running::Parallel(_) => {
+            rest.clear();
+            Ok(())
+        }
     }
 }
 

@@ -1,9 +1,9 @@
 //! The variable on which disjuncts are a switch.
-ghost use Rattle.std.specs.Prelude.{◌≡◌, IfOk, OnOk};
+ghost use Rattle.std.specs.Prelude.{◌≡◌, reverse, IfOk, OnOk};
 ghost use Rattle.std.specs.List.{list_all};
 ghost use Rattle.merc_order.specs.Bound.{among};
 ghost use Rattle.merc_grading.specs.Switches.{is_there, symbol_at, lesser};
-ghost use Rattle.merc_switch.specs.Choosing.{chosen, considered, is_open, better};
+ghost use Rattle.merc_switch.specs.Choosing.{best, chosen, considered, is_open, better};
 
 use crate::covering::is_covered;
 use crate::disjuncts::Disjunct;
@@ -36,17 +36,35 @@ pub(crate) fn choose(
 ) -> Result<Option<Var>, NoMemory>
     ensures { IfOk result (λ choice. choice ≡ chosen known.now.types (among bound.now) used.now disjuncts.now) }
 {
+    match disjuncts.first() {
+        Some(first) => {
+            let best = best_of(alloc, known, bound, used, disjuncts, first.variables())?;
+            Ok(better(best))
+        }
+        None => Ok(None),
+    }
+}
+
+// What is best among the variables of these numbers.
+fn best_of(
+    alloc: Global,
+    known: &Known<'_>,
+    bound: &VarSet,
+    used: &VarSet,
+    disjuncts: &[Disjunct<'_>],
+    numbers: &[usize],
+) -> Result<Best, NoMemory>
+    ensures { IfOk result (λ found. found ≡ best known.now.types (among bound.now) used.now disjuncts.now (reverse numbers.now)) }
+{
     let mut best = Best {
         covered: None,
         opened: None,
     };
-    if let Some(first) = disjuncts.first() {
-        for number in first.variables() {
-            let variable = Var::new(*number);
-            consider(alloc, known, bound, used, disjuncts, variable, &mut best)?;
-        }
+    for number in numbers {
+        let variable = Var::new(*number);
+        consider(alloc, known, bound, used, disjuncts, variable, &mut best)?;
     }
-    Ok(better(best))
+    Ok(best)
 }
 
 // Takes one variable more into account.

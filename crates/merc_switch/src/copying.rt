@@ -19,10 +19,11 @@ pub(crate) fn put_copy(
 ) -> Result<(), NoMemory>
     ensures { OnOk result (found.new ≡ found.old ++ goal.now ∷ []) }
 {
-    let mut index = 0;
-    while let Some(label) = goal.part(index) {
-        found.put(copy_label(alloc, label)?)?;
-        index += 1;
+    for index in 0..goal.part_count() {
+        match goal.part(index) {
+            Some(label) => found.put(copy_label(alloc, label)?)?,
+            None => unreachable!(),
+        }
     }
     Ok(())
 }

@@ -49,10 +49,11 @@ fn those_among(alloc: Global, outputs: &[Var], variables: &VarSet) -> Result<Var
 fn add_variables(goal: &NodeRef<'_>, variables: &mut VarSet) -> Result<(), NoMemory>
     ensures { OnOk result ((variable : ℕ) → among variables.new variable ≡ (among variables.old variable || in_node goal.now variable)) }
 {
-    let mut index = 0;
-    while let Some(label) = goal.part(index) {
-        add_own(&label.root, variables)?;
-        index += 1;
+    for index in 0..goal.part_count() {
+        match goal.part(index) {
+            Some(label) => add_own(&label.root, variables)?,
+            None => unreachable!(),
+        }
     }
     Ok(())
 }

@@ -1,5 +1,5 @@
 //! How a goal is taken apart into tasks.
-ghost use Rattle.std.specs.Prelude.{◌≡◌, ◌≤◌, ◌<◌, ◌∷◌, [], ◌++◌, ◌^◌, length, IfOk, OnOk};
+ghost use Rattle.std.specs.Prelude.{◌≡◌, ◌∷◌, ◌++◌, length, IfOk, OnOk};
 ghost use Rattle.merc_graded_tree.specs.Nodes.{outputs_of, category_of};
 ghost use Rattle.merc_graded_tree.specs.Roots.{label_of};
 ghost use Rattle.merc_grading.specs.Switches.{split_variables};
@@ -27,7 +27,8 @@ pub(crate) fn plan_goal<'a>(
     ensures { OnOk result (tasks.new ≡ plan mark goal.now ++ tasks.old) }
 {
     match goal.view() {
-        NodeView::Basic(_) | NodeView::Switch(_, _, _) => tasks.push(Task::Keep(goal.copy())),
+        NodeView::Basic(_) => tasks.push(Task::Keep(goal.copy())),
+        NodeView::Switch(_, _, _) => tasks.push(Task::Keep(goal.copy())),
         NodeView::Conjunction(running, goals) => {
             let root = Root::Conjunction(running, goals.len());
             let label = label_with(alloc, goal, root)?;
@@ -102,11 +103,10 @@ fn plan_disjunction<'a>(
     goals: Parts<'a>,
     tasks: &mut Tasks<'a>,
 ) -> Result<(), NoMemory>
-    requires { length (split_variables goals.entry) < 2 ^ 64 }
     ensures { OnOk result (tasks.new ≡ disjoined whole.now goals.entry ∷ tasks.old) }
 {
     let disjuncts = disjuncts_of(alloc, goals)?;
-    let left = split_count(&disjuncts);
+    let left = split_count(&disjuncts)?;
     tasks.push(Task::Judge(Group {
         whole: whole.copy(),
         disjuncts: Sequence::from_vec(disjuncts),
@@ -130,14 +130,17 @@ fn disjuncts_of<'a>(alloc: Global, goals: Parts<'a>) -> Result<Vec<Disjunct<'a>>
     Ok(disjuncts)
 }
 
-// How many splits there are at the beginnings of disjuncts.
-fn split_count(disjuncts: &[Disjunct<'_>]) -> usize
-    requires { length (split_variables disjuncts.now) < 2 ^ 64 }
-    ensures { result ≡ length (split_variables disjuncts.now) }
+// How many splits there are at the beginnings of disjuncts. `NoMemory` where they pass the greatest `usize`; those of no
+// goal that lies in memory do.
+fn split_count(disjuncts: &[Disjunct<'_>]) -> Result<usize, NoMemory>
+    ensures { IfOk result (λ count. count ≡ length (split_variables disjuncts.now)) }
 {
-    let mut count = 0;
+    let mut count: usize = 0;
     for disjunct in disjuncts {
-        count += disjunct.split_count();
+        match count.checked_add(disjunct.split_count()) {
+            Some(more) => count = more,
+            None => return Err(NoMemory),
+        }
     }
-    count
+    Ok(count)
 }
