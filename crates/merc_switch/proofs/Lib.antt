@@ -15,3 +15,4 @@ pub mod ArmLaws
 pub mod SplitCounts
 pub mod PlanLaws
 pub mod FoundTasks
+pub mod TaskSteps
