@@ -14,10 +14,7 @@ use std::alloc::Global;
 /// # Errors
 ///
 /// `NoMemory` where memory was refused, here and in the calls below.
-pub(crate) fn splits_of(
-    alloc: Global,
-    goal: &NodeRef<'_>,
-) -> Result<Vec<(Var, Symbol)>, NoMemory>
+pub(crate) fn splits_of(alloc: Global, goal: &NodeRef<'_>) -> Result<Vec<(Var, Symbol)>, NoMemory>
     ensures { IfOk result (λ splits. splits.items ≡ (beginning goal.now).splits) }
 {
     let mut splits = Vec::new(alloc);

@@ -12,11 +12,7 @@ use std::alloc::Global;
 /// # Errors
 ///
 /// `NoMemory` where memory was refused, here and in the calls below.
-pub(crate) fn put_copy(
-    alloc: Global,
-    goal: &NodeRef<'_>,
-    found: &mut Nodes,
-) -> Result<(), NoMemory>
+pub(crate) fn put_copy(alloc: Global, goal: &NodeRef<'_>, found: &mut Nodes) -> Result<(), NoMemory>
     ensures { OnOk result (found.new ≡ found.old ++ goal.now ∷ []) }
 {
     for index in 0..goal.part_count() {
@@ -29,11 +25,7 @@ pub(crate) fn put_copy(
 }
 
 /// What a goal has besides the goals that it joins, with this root.
-pub(crate) fn label_with(
-    alloc: Global,
-    goal: &NodeRef<'_>,
-    root: Root,
-) -> Result<Label, NoMemory>
+pub(crate) fn label_with(alloc: Global, goal: &NodeRef<'_>, root: Root) -> Result<Label, NoMemory>
     ensures { IfOk result (λ label. label ≡ record { root = root; outputs = outputs_of goal.now; category = category_of goal.now; span = span_of goal.now }) }
 {
     Ok(Label {

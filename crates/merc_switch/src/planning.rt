@@ -53,11 +53,7 @@ pub(crate) fn plan_goal<'a>(
 }
 
 // Goals one after the other.
-fn plan_conjuncts<'a>(
-    goals: Parts<'a>,
-    mark: usize,
-    tasks: &mut Tasks<'a>,
-) -> Result<(), NoMemory>
+fn plan_conjuncts<'a>(goals: Parts<'a>, mark: usize, tasks: &mut Tasks<'a>) -> Result<(), NoMemory>
     ensures { OnOk result (tasks.new ≡ in_turn mark goals.entry ++ tasks.old) }
 {
     let mut goals = goals;
