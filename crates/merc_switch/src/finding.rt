@@ -51,7 +51,7 @@ fn perform<'a>(
     bound: &mut VarSet,
     found: &mut Nodes,
 ) -> Result<(), NoMemory>
-    requires { HaveEnough (length found.old) (task.entry ∷ tasks.old) }
+    requires { HaveEnough (length found.old) (task ∷ tasks.old) }
     ensures { OnOk result (Performs known.now.types (task.entry ∷ tasks.old) found.old bound.old tasks.new found.new bound.new) }
 {
     match task {
