@@ -43,5 +43,6 @@ module _ (declared : List TypeDef) (task : Task) (rest : List Task) (goals : Lis
   pub performs_close : (label : Label) (now : List Node) → task ≡ Close label → now ≡ last_joined label goals → Performs declared (task ∷ rest) goals bound rest now bound
   performs_close label now is put = whole_task (Close label) rest now bound is (closes declared label rest goals now bound put)
 
-  pub close_enough : (label : Label) → task ≡ Close label → HaveEnough (length goals) (task ∷ rest) → arity_of label.root ≤ length goals
-  close_enough label is enough = (subst (λ t. HaveEnough (length goals) (t ∷ rest)) is enough).0
+-- what is closed joins no more goals than there are
+pub close_enough : (task : Task) (rest : List Task) (goals : List Node) (label : Label) → task ≡ Close label → HaveEnough (length goals) (task ∷ rest) → arity_of label.root ≤ length goals
+close_enough task rest goals label is enough = (subst (λ t. HaveEnough (length goals) (t ∷ rest)) is enough).0

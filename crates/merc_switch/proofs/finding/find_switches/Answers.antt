@@ -14,4 +14,4 @@ pub loop-task-preserved : goal.loop-task-preserved
 loop-task-preserved c = leads_on _ _ _ _ _ _ _ _ _ _ _ _ c.in-Some.ensures c.in_ok-perform.ensures c.loop-task.invariant
 
 pub returns : goal.returns
-returns c = leads_last _ _ _ _ _ _ _ c.in-None.ensures c.loop-task.invariant
+returns c = leads_last _ _ _ _ _ _ _ c.in_default.ensures c.loop-task.invariant

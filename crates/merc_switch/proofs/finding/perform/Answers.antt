@@ -18,7 +18,7 @@ pub returns-in-Judge : goal.returns-in-Judge
 returns-in-Judge c = OnOk-weaker c.judge.result _ _ (performs_judge _ _ _ _ _ c.in-Judge.group _ c.in-Judge.is) c.judge.ensures
 
 pub put-requires : goal.put-requires
-put-requires c = close_enough _ _ _ _ _ c.in-Close.label c.in-Close.is c.requires
+put-requires c = close_enough _ _ _ c.in-Close.label c.in-Close.is c.requires
 
 pub returns-in-Close : goal.returns-in-Close
 returns-in-Close c = OnOk-weaker c.put.result _ _ (performs_close _ _ _ _ _ c.in-Close.label _ c.in-Close.is) c.put.ensures.ok
