@@ -1,4 +1,4 @@
-use Rattle.std.proofs.Common.{◌≡◌, ◌++◌, ◌∷◌, [], List, length}
+use Rattle.std.proofs.Common.{◌≡◌, ◌++◌, List, length}
 use Rattle.merc_graded_tree.specs.Nodes.{Node}
 use Rattle.merc_switch.specs.Plans.{in_turn}
 use Rattle.merc_switch.proofs.planning.plan_conjuncts.Given as goal
