@@ -1,0 +1,310 @@
+-- The variable that is chosen by symbols is the one that is chosen by types.
+use Rattle.std.specs.Prelude.{◌≡◌, ◌≤◌, ◌<◌, ◌+◌, ℕ, zero, suc, Bool, true, false, not, ◌==◌, ◌||◌, ◌&&◌, nat_le, List, [], ◌∷◌, ◌++◌, reverse, length, take, slice_get, Option, Some, None, if◌then◌else◌, refl}
+use Rattle.std.specs.List.{filter, flat_map, list_all, slice_index_or, AllByRecursion}
+use Rattle.std.proofs.Common.{◌∙◌, ◌⊎◌, inl, inr, ap, sym, subst, arith, add-one}
+use Rattle.std.proofs.lemmas.List.{reverse-append}
+use Rattle.std.proofs.lemmas.Bool.Decides.{Decides-eqb, nat_tests, leb_tells}
+use Rattle.merc_tree.specs.Types.{TypeExpr}
+use Rattle.merc_tree.specs.declared.declarations.TypeDef.{TypeDef}
+use Rattle.merc_goal_tree.specs.declared.goal.Symbol.{Symbol}
+use Rattle.merc_graded_tree.specs.declared.basic.BasicGoal.{BasicGoal}
+use Rattle.merc_graded_tree.specs.declared.basic.BasicGoal.TheVariants.{True, Fail, Assign, Test, Build, Split, Arithmetic, Compare, Raise, Call, Wait, Signal}
+use Rattle.merc_graded_tree.specs.declared.entries.Running.TheVariants.{Sequential, Parallel}
+use Rattle.merc_graded_tree.specs.Nodes.{Node, node, Goal, Basic, Conjunction, Disjunction, Switch, Conditional, Negation, Quantified, Nodes, no_nodes, more_nodes}
+use Rattle.merc_order.specs.Bound.{Bound, among}
+use Rattle.merc_grading.specs.Known.{symbols_of_type, are_complete}
+use Rattle.merc_grading.specs.Fitting.{fellows, FitsSymbol, Fits, FitsGoal, FitsAll, FitsBasic}
+use Rattle.merc_grading.specs.Switches.{beginning, goal_beginning, all_beginning, basic_beginning, symbol_in, symbol_at, is_there, listed, split_variables, lesser, least, or_else, is_complete, candidates, choice}
+use Rattle.merc_switch.specs.declared.choosing.Best.{Best}
+use Rattle.merc_switch.specs.Choosing.{symbols_in, fellows_of, is_covered, is_open, best, considered, better, chosen}
+use Rattle.merc_switch.proofs.Occurrences.{among-append, or_false, or_true, or_assoc}
+use Rattle.merc_switch.proofs.FoundVariables.{followed_either}
+
+clash : {A : Type 0} {b : Bool} → b ≡ true → b ≡ false → A
+clash p q = absurd (cc)
+
+-- members of lists
+
+eq_self : (n : ℕ) → (n == n) ≡ true
+eq_self n = grind (arith, nat_tests)
+
+eq_turned : (a b : ℕ) → (a == b) ≡ (b == a)
+eq_turned a b = grind (arith, nat_tests)
+
+among_first : (x : ℕ) (xs : List ℕ) → among (x ∷ xs) x ≡ true
+among_first x xs = ap (λ b. b || among xs x) (eq_self x)
+
+or_turned : (a b : Bool) → (a || b) ≡ (b || a)
+or_turned true b = sym (or_true b)
+or_turned false b = sym (or_false b)
+
+pub among-reverse : (xs : List ℕ) (v : ℕ) → among (reverse xs) v ≡ among xs v
+among-reverse [] v = refl
+among-reverse (x ∷ xs) v =
+    ap (λ l. among l v) (reverse-append (x ∷ []) xs)
+    ∙ among-append (reverse xs) (x ∷ []) v ∙ ap (λ b. b || ((v == x) || false)) (among-reverse xs v) ∙ ap (λ b. among xs v || b) (or_false (v == x)) ∙ or_turned (among xs v) (v == x)
+
+-- the least of a list
+
+lesser_if : (x y : ℕ) (b : Bool) → ((b ≡ true) × (x ≤ y)) ⊎ ((b ≡ false) × (y < x)) → ((if b then x else y) ≤ x) × ((if b then x else y) ≤ y)
+lesser_if x y true (inl h) = (omega arith, h.1)
+lesser_if x y true (inr h) = clash refl h.0
+lesser_if x y false (inl h) = clash h.0 refl
+lesser_if x y false (inr h) = (omega (arith, h.1), omega arith)
+
+lesser_bounds : (x y : ℕ) → (lesser x (Some y) ≤ x) × (lesser x (Some y) ≤ y)
+lesser_bounds x y = lesser_if x y (nat_le x y) (leb_tells x y)
+
+-- the least of a list that has a first
+abbrev least_of : ℕ → List ℕ → ℕ
+least_of x xs = lesser x (least xs)
+
+least_first : (x : ℕ) (xs : List ℕ) → least_of x xs ≤ x
+least_first x [] = omega arith
+least_first x (y ∷ ys) = (lesser_bounds x (least_of y ys)).0
+
+either : {A : Type 0} (a b : Bool) → (a || b) ≡ true → (a ≡ true → A) → (b ≡ true → A) → A
+either true b h f g = f refl
+either false b h f g = g h
+
+least_bound : (x : ℕ) (xs : List ℕ) (v : ℕ) → among (x ∷ xs) v ≡ true → least_of x xs ≤ v
+least_bound x [] v h = let same : v ≡ x = (Decides-eqb v x).0 (sym (or_false (v == x)) ∙ h) in omega arith
+least_bound x (y ∷ ys) v h = either {A = least_of x (y ∷ ys) ≤ v} (v == x) (among (y ∷ ys) v) h
+    (λ e. let same : v ≡ x = (Decides-eqb v x).0 e in let k = least_first x (y ∷ ys) in omega arith)
+    (λ e. let k = least_bound y ys v e in let j = (lesser_bounds x (least_of y ys)).1 in omega arith)
+
+least_in_if : (x y : ℕ) (ys : List ℕ) (b : Bool) → among ys y ≡ true → among (x ∷ ys) (if b then x else y) ≡ true
+least_in_if x y ys true h = among_first x ys
+least_in_if x y ys false h = ap (λ b. (y == x) || b) h ∙ or_true (y == x)
+
+least_in : (x : ℕ) (xs : List ℕ) → among (x ∷ xs) (least_of x xs) ≡ true
+least_in x [] = among_first x []
+least_in x (y ∷ ys) = least_in_if x (least_of y ys) (y ∷ ys) (nat_le x (least_of y ys)) (least_in y ys)
+
+pub least_same : (xs ys : List ℕ) → ((v : ℕ) → among xs v ≡ among ys v) → least xs ≡ least ys
+least_same [] [] same = refl
+least_same [] (y ∷ ys) same = clash (among_first y ys) (sym (same y))
+least_same (x ∷ xs) [] same = clash (among_first x xs) (same x)
+least_same (x ∷ xs) (y ∷ ys) same =
+    let one = least_bound y ys (least_of x xs) (sym (same (least_of x xs)) ∙ least_in x xs) in
+    let other = least_bound x xs (least_of y ys) (same (least_of y ys) ∙ least_in y ys) in
+    let equal : least_of x xs ≡ least_of y ys = omega arith in
+    ap (λ n. Some n) equal
+
+-- a filter keeps the members that pass it
+
+filtered_if : (p : ℕ → Bool) (x v : ℕ) (b c others : Bool) → p x ≡ b → (v == x) ≡ c → (if b then (c || (p v && others)) else (p v && others)) ≡ (p v && (c || others))
+filtered_if p x v true true others e k = sym (ap (λ b. b && true) (ap p ((Decides-eqb v x).0 k) ∙ e))
+filtered_if p x v true false others e k = refl
+filtered_if p x v false true others e k = let none : p v ≡ false = ap p ((Decides-eqb v x).0 k) ∙ e in ap (λ b. b && others) none ∙ sym (ap (λ b. b && true) none)
+filtered_if p x v false false others e k = refl
+
+among_if : (b : Bool) (x : ℕ) (xs : List ℕ) (v : ℕ) → among (if b then x ∷ xs else xs) v ≡ (if b then ((v == x) || among xs v) else among xs v)
+among_if true x xs v = refl
+among_if false x xs v = refl
+
+pub among-filter : (p : ℕ → Bool) (xs : List ℕ) (v : ℕ) → among (filter p xs) v ≡ (p v && among xs v)
+among-filter p [] v = sym (and_false (p v))
+  where
+    and_false : (b : Bool) → (b && false) ≡ false
+    and_false true = refl
+    and_false false = refl
+among-filter p (x ∷ xs) v =
+    among_if (p x) x (filter p xs) v
+    ∙ ap (λ b. if p x then ((v == x) || b) else b) (among-filter p xs v)
+    ∙ filtered_if p x v (p x) (v == x) (among xs v) refl refl
+
+-- what is best depends on the members alone on which disjuncts can be a switch
+
+and_cong : (a b c : Bool) → (a ≡ true → b ≡ c) → (a && b) ≡ (a && c)
+and_cong true b c h = h refl
+and_cong false b c h = refl
+
+module _ (declared : List TypeDef) (bound : Bound) (used : List ℕ) (disjuncts : List Node) where
+  abbrev opens : ℕ → Bool
+  opens v = is_open bound used disjuncts v
+
+  abbrev covered : ℕ → Bool
+  covered v = is_covered declared disjuncts v
+
+  opened_same : (xs ys : List ℕ) → ((v : ℕ) → opens v ≡ true → among xs v ≡ among ys v) → (v : ℕ) → among (filter opens xs) v ≡ among (filter opens ys) v
+  opened_same xs ys same v = among-filter opens xs v ∙ and_cong (opens v) (among xs v) (among ys v) (same v) ∙ sym (among-filter opens ys v)
+
+  pub best_same : (xs ys : List ℕ) → ((v : ℕ) → opens v ≡ true → among xs v ≡ among ys v) → best declared bound used disjuncts xs ≡ best declared bound used disjuncts ys
+  best_same xs ys same =
+      let opened = least_same (filter opens xs) (filter opens ys) (opened_same xs ys same) in
+      let all = least_same (filter covered (filter opens xs)) (filter covered (filter opens ys)) (λ v. among-filter covered (filter opens xs) v
+      ∙ ap (λ b. covered v && b) (opened_same xs ys same v) ∙ sym (among-filter covered (filter opens ys) v)) in
+      let with_all : Option ℕ → Best = λ o. record { covered = o; opened = least (filter opens xs) } in
+      let with_opened : Option ℕ → Best = λ o. record { covered = least (filter covered (filter opens ys)); opened = o } in
+      ap with_all all ∙ ap with_opened opened
+
+  considered_if : (v : ℕ) (vs : List ℕ) (o c : Bool) → opens v ≡ o → covered v ≡ c
+      → (if o then record {
+        covered = if c then Some (lesser v (best declared bound used disjuncts vs).covered) else (best declared bound used disjuncts vs).covered;
+        opened = Some (lesser v (best declared bound used disjuncts vs).opened);
+      } else best declared bound used disjuncts vs)
+      ≡ (let kept = if o then v ∷ filter opens vs else filter opens vs in record { covered = least (filter covered kept); opened = least kept })
+  considered_if v vs true true e k = let picked : Option ℕ → Best = λ l. record { covered = l; opened = Some (lesser v (least (filter opens vs))) } in
+      sym (ap (λ b. picked (least (if b then v ∷ filter covered (filter opens vs) else filter covered (filter opens vs)))) k)
+  considered_if v vs true false e k = let picked : Option ℕ → Best = λ l. record { covered = l; opened = Some (lesser v (least (filter opens vs))) } in
+      sym (ap (λ b. picked (least (if b then v ∷ filter covered (filter opens vs) else filter covered (filter opens vs)))) k)
+  considered_if v vs false true e k = refl
+  considered_if v vs false false e k = refl
+
+  -- one variable more
+  pub best_more : (v : ℕ) (vs : List ℕ) → considered declared bound used disjuncts v (best declared bound used disjuncts vs) ≡ best declared bound used disjuncts (v ∷ vs)
+  best_more v vs = considered_if v vs (opens v) (covered v) refl refl
+
+-- the variables that are split
+
+there_if : (b : Bool) (s : Symbol) (o : Option Symbol) (c : Bool) → is_there o ≡ c → is_there (if b then Some s else o) ≡ (b || c)
+there_if true s o c h = refl
+there_if false s o c h = h
+
+split_there : (splits : List (ℕ × Symbol)) (v : ℕ) → is_there (symbol_in splits v) ≡ among (flat_map (λ one. one.0 ∷ []) splits) v
+split_there [] v = refl
+split_there (first ∷ rest) v =
+    there_if (first.0 == v) first.1 (symbol_in rest v) (among (flat_map (λ one. one.0 ∷ []) rest) v) (split_there rest v)
+    ∙ ap (λ b. b || among (flat_map (λ one. one.0 ∷ []) rest) v) (eq_turned first.0 v)
+
+and_first : (a b : Bool) → (a && b) ≡ true → a ≡ true
+and_first true b h = refl
+and_first false b h = h
+
+and_second : (a b : Bool) → (a && b) ≡ true → b ≡ true
+and_second true b h = h
+and_second false b h = absurd (cc)
+
+open_first : (bound : Bound) (used : List ℕ) (first : Node) (rest : List Node) (v : ℕ) → is_open bound used (first ∷ rest) v ≡ true → is_there (symbol_at v first) ≡ true
+open_first bound used first rest v h =
+    and_first (is_there (symbol_at v first)) (list_all (λ d. is_there (symbol_at v d)) rest)
+    (and_second (bound v) (list_all (λ d. is_there (symbol_at v d)) (first ∷ rest)) (and_second (not (among used v)) (bound v && list_all (λ d. is_there (symbol_at v d)) (first ∷ rest)) h))
+
+split_first : (first : Node) (rest : List Node) (v : ℕ) → is_there (symbol_at v first) ≡ true → among (split_variables (first ∷ rest)) v ≡ true
+split_first first rest v h =
+    among-append (flat_map (λ one. one.0 ∷ []) (beginning first).splits) (split_variables rest) v
+    ∙ ap (λ b. b || among (split_variables rest) v) (sym (split_there (beginning first).splits v) ∙ h)
+
+-- It is enough to go through the variables of the first disjunct.
+pub chosen_first : (declared : List TypeDef) (bound : Bound) (used : List ℕ) (first : Node) (rest : List Node) (variables : List ℕ)
+    → ((v : ℕ) → among variables v ≡ is_there (symbol_at v first))
+    → better (best declared bound used (first ∷ rest) (reverse variables)) ≡ chosen declared bound used (first ∷ rest)
+chosen_first declared bound used first rest variables are =
+    ap better (best_same declared bound used (first ∷ rest) (reverse variables) (split_variables (first ∷ rest))
+    (λ v h. let there = open_first bound used first rest v h in among-reverse variables v ∙ are v ∙ there ∙ sym (split_first first rest v there)))
+
+-- the symbols of splits fit the types
+
+fits_basic_if : (declared : List TypeDef) (types : ℕ → TypeExpr) (whole v : ℕ) (here s : Symbol) (b : Bool) → (whole == v) ≡ b → FitsSymbol declared types whole here
+    → (if b then Some here else None) ≡ Some s → FitsSymbol declared types v s
+fits_basic_if declared types whole v here s true same fits h = let e : whole ≡ v = (Decides-eqb whole v).0 same in let k : here ≡ s = cc in subst (λ x. FitsSymbol declared types x s) e (subst (λ x. FitsSymbol declared types whole x) k fits)
+fits_basic_if declared types whole v here s false same fits h = absurd (cc)
+
+no_symbol : {A : Type 0} {s : Symbol} → ◌≡◌ {A = Option Symbol} None (Some s) → A
+no_symbol h = absurd (cc)
+
+sum : {A B C : Type 0} → A ⊎ B → (A → C) → (B → C) → C
+sum (inl a) f g = f a
+sum (inr b) f g = g b
+
+module _ (declared : List TypeDef) (types : ℕ → TypeExpr) where
+  fits_basic : (goal : BasicGoal) (v : ℕ) (s : Symbol) → FitsBasic declared types goal → symbol_in (basic_beginning goal).splits v ≡ Some s → FitsSymbol declared types v s
+  fits_basic True v s fits h = no_symbol h
+  fits_basic Fail v s fits h = no_symbol h
+  fits_basic (Assign to from) v s fits h = no_symbol h
+  fits_basic (Test one other) v s fits h = no_symbol h
+  fits_basic (Build whole here arguments) v s fits h = no_symbol h
+  fits_basic (Split whole here arguments) v s fits h = fits_basic_if declared types whole v here s (whole == v) refl fits h
+  fits_basic (Arithmetic operation result left right) v s fits h = no_symbol h
+  fits_basic (Compare comparison left right) v s fits h = no_symbol h
+  fits_basic (Raise text) v s fits h = no_symbol h
+  fits_basic (Call procedure arguments) v s fits h = no_symbol h
+  fits_basic (Wait one conjunct) v s fits h = no_symbol h
+  fits_basic (Signal one conjunct) v s fits h = no_symbol h
+
+  mutual
+    fits_split : (whole : Node) (v : ℕ) (s : Symbol) → Fits declared types whole → symbol_at v whole ≡ Some s → FitsSymbol declared types v s
+    fits_split (node goal outputs category span) v s fits h = fits_goal goal v s fits h
+
+    fits_goal : (goal : Goal) (v : ℕ) (s : Symbol) → FitsGoal declared types goal → symbol_in (goal_beginning goal).splits v ≡ Some s → FitsSymbol declared types v s
+    fits_goal (Basic goal) v s fits h = fits_basic goal v s fits h
+    fits_goal (Conjunction Sequential goals) v s fits h = fits_all goals v s fits h
+    fits_goal (Conjunction (Parallel site) goals) v s fits h = no_symbol h
+    fits_goal (Disjunction goals) v s fits h = no_symbol h
+    fits_goal (Switch whole arms) v s fits h = no_symbol h
+    fits_goal (Conditional condition then_part else_part) v s fits h = no_symbol h
+    fits_goal (Negation goal) v s fits h = no_symbol h
+    fits_goal (Quantified own goal) v s fits h = no_symbol h
+
+    fits_all : (goals : Nodes) (v : ℕ) (s : Symbol) → FitsAll declared types goals → symbol_in (all_beginning goals).splits v ≡ Some s → FitsSymbol declared types v s
+    fits_all no_nodes v s fits h = no_symbol h
+    fits_all (more_nodes first rest) v s fits h =
+        sum (followed_either (beginning first) (all_beginning rest) v s h) (λ k. fits_split first v s fits.0 k) (λ k. fits_all rest v s fits.1 k)
+
+  complete_if : (o : Option Symbol) (v : ℕ) (others : List Symbol) → is_there o ≡ true → ((s : Symbol) → o ≡ Some s → FitsSymbol declared types v s)
+      → are_complete (symbols_of_type declared (types v)) (listed o ++ others) ≡ are_complete (fellows_of declared (listed o ++ others)) (listed o ++ others)
+  complete_if None v others there fits = clash there refl
+  complete_if (Some s) v others there fits = ap (λ all. are_complete all (s ∷ others)) (fits s refl)
+
+  complete_is : (bound : Bound) (used : List ℕ) (disjuncts : List Node) (v : ℕ) → AllByRecursion (Fits declared types) disjuncts → 0 < length disjuncts → is_open bound used disjuncts v ≡ true
+      → is_complete declared types disjuncts v ≡ is_covered declared disjuncts v
+  complete_is bound used [] v fits some h = absurd (omega (arith, some))
+  complete_is bound used (first ∷ rest) v fits some h =
+      complete_if (symbol_at v first) v (symbols_in rest v) (open_first bound used first rest v h) (λ s k. fits_split first v s fits.0 k)
+
+  filter_agrees : (p q r : ℕ → Bool) (xs : List ℕ) → ((v : ℕ) → r v ≡ true → p v ≡ q v) → filter p (filter r xs) ≡ filter q (filter r xs)
+  filter_agrees p q r [] same = refl
+  filter_agrees p q r (x ∷ xs) same = agrees_if (r x) refl (filter_agrees p q r xs same)
+    where
+      agrees_if : (b : Bool) → r x ≡ b → filter p (filter r xs) ≡ filter q (filter r xs)
+          → filter p (if b then x ∷ filter r xs else filter r xs) ≡ filter q (if b then x ∷ filter r xs else filter r xs)
+      agrees_if true e h = ap (λ b. if b then x ∷ filter p (filter r xs) else filter p (filter r xs)) (same x e) ∙ ap (λ l. if q x then x ∷ l else l) h
+      agrees_if false e h = h
+
+  -- Where the symbols fit the types, both choices are the same.
+  pub choice_is : (bound : Bound) (used : List ℕ) (disjuncts : List Node) → AllByRecursion (Fits declared types) disjuncts
+      → choice declared types bound used disjuncts ≡ chosen declared bound used disjuncts
+  choice_is bound used [] fits = refl
+  choice_is bound used (first ∷ rest) fits =
+      let opened = filter (λ v. is_open bound used (first ∷ rest) v) (split_variables (first ∷ rest)) in
+      ap (λ l. or_else (least l) (least opened))
+      (filter_agrees (λ v. is_complete declared types (first ∷ rest) v) (λ v. is_covered declared (first ∷ rest) v) (λ v. is_open bound used (first ∷ rest) v) (split_variables (first ∷ rest))
+      (λ v h. complete_is bound used (first ∷ rest) v fits (omega arith) h))
+
+pub next_best : (declared : List TypeDef) (bound : Bound) (used : List ℕ) (disjuncts : List Node) (front : List ℕ) (v : ℕ) (before now : Best)
+    → now ≡ considered declared bound used disjuncts v before → before ≡ best declared bound used disjuncts (reverse front) → now ≡ best declared bound used disjuncts (reverse (front ++ v ∷ []))
+next_best declared bound used disjuncts front v before now step same =
+    step ∙ ap (considered declared bound used disjuncts v) same ∙ best_more declared bound used disjuncts v (reverse front)
+    ∙ ap (best declared bound used disjuncts) (sym (reverse-append front (v ∷ [])))
+
+taken_next : (xs : List ℕ) (i d : ℕ) → i < length xs → take (suc i) xs ≡ take i xs ++ slice_index_or xs i d ∷ []
+taken_next [] i d h = absurd (omega (arith, h))
+taken_next (x ∷ xs) zero d h = refl
+taken_next (x ∷ xs) (suc i) d h = ap (λ l. x ∷ l) (taken_next xs i d (omega (arith, h)))
+
+pub best_on : (declared : List TypeDef) (bound : Bound) (used : List ℕ) (disjuncts : List Node) (numbers : List ℕ) (i d v : ℕ) (before now : Best) → i < length numbers → v ≡ slice_index_or numbers i d
+    → now ≡ considered declared bound used disjuncts v before → before ≡ best declared bound used disjuncts (reverse (take i numbers)) → now ≡ best declared bound used disjuncts (reverse (take (i + 1) numbers))
+best_on declared bound used disjuncts numbers i d v before now within is step same =
+    next_best declared bound used disjuncts (take i numbers) v before now step same
+    ∙ ap (λ l. best declared bound used disjuncts (reverse l)) (ap (λ n. take i numbers ++ n ∷ []) is ∙ sym (taken_next numbers i d within) ∙ ap (λ n. take n numbers) (sym (add-one i)))
+
+no_first : {A : Type 0} {d : Node} → ◌≡◌ {A = Option Node} None (Some d) → A
+no_first h = absurd (cc)
+
+first_is : (ds : List Node) (d : Node) → slice_get ds 0 ≡ Some d → (rest : List Node) × (ds ≡ d ∷ rest)
+first_is [] d h = no_first h
+first_is (x ∷ xs) d h = let same : x ≡ d = cc in (xs, ap (λ n. n ∷ xs) same)
+
+pub chosen_by : (declared : List TypeDef) (bound : Bound) (used : List ℕ) (disjuncts : List Node) (first : Node) (numbers : List ℕ) (found : Best) → slice_get disjuncts 0 ≡ Some first
+    → ((v : ℕ) → among numbers v ≡ is_there (symbol_at v first)) → found ≡ best declared bound used disjuncts (reverse numbers) → better found ≡ chosen declared bound used disjuncts
+chosen_by declared bound used disjuncts first numbers found is are same =
+    let whole = first_is disjuncts first is in
+    ap better same ∙ subst (λ l. better (best declared bound used l (reverse numbers)) ≡ chosen declared bound used l) (sym whole.1) (chosen_first declared bound used first whole.0 numbers are)
+
+none_first : (ds : List Node) → slice_get ds 0 ≡ None → ds ≡ []
+none_first [] h = refl
+none_first (x ∷ xs) h = absurd (cc)
+
+pub chosen_none : (declared : List TypeDef) (bound : Bound) (used : List ℕ) (disjuncts : List Node) → slice_get disjuncts 0 ≡ None → None ≡ chosen declared bound used disjuncts
+chosen_none declared bound used disjuncts is = ap (chosen declared bound used) (sym (none_first disjuncts is))

@@ -1,0 +1,100 @@
+-- The variables of a goal are those of its parts.
+use Rattle.std.specs.Prelude.{◌≡◌, ◌≤◌, ◌||◌, ◌==◌, ℕ, Bool, true, false, List, [], ◌∷◌, ◌++◌, length, drop, refl}
+use Rattle.std.proofs.Common.{◌∙◌, ap, sym}
+use Rattle.std.proofs.lemmas.List.{drop_all}
+use Rattle.merc_graded_tree.specs.declared.entries.Label.{Label}
+use Rattle.merc_graded_tree.specs.Nodes.{Node, node, Goal, Basic, Conjunction, Disjunction, Switch, Conditional, Negation, Quantified, Nodes, no_nodes, more_nodes, Arms, no_arms, more_arms, nodes_of}
+use Rattle.merc_graded_tree.specs.Roots.{label_of, root_of}
+use Rattle.merc_graded_tree.specs.Labels.{labels_of, inner_labels, joined_labels, arm_labels}
+use Rattle.merc_graded_tree.specs.Variables.{in_node, in_goal, in_nodes, in_arms}
+use Rattle.merc_order.specs.Bound.{among}
+use Rattle.merc_switch.specs.Variables.{behind, all_behind}
+use Rattle.merc_switch.specs.Occurring.{variables_at}
+
+pub or_assoc : (a b c : Bool) → ((a || b) || c) ≡ (a || (b || c))
+or_assoc true b c = refl
+or_assoc false b c = refl
+
+pub or_false : (a : Bool) → (a || false) ≡ a
+or_false true = refl
+or_false false = refl
+
+pub or_true : (a : Bool) → (a || true) ≡ true
+or_true true = refl
+or_true false = refl
+
+or_turned : (a b : Bool) → (a || b) ≡ (b || a)
+or_turned true b = sym (or_true b)
+or_turned false b = sym (or_false b)
+
+-- variables that are put behind others
+
+pub among-append : (front back : List ℕ) (variable : ℕ) → among (front ++ back) variable ≡ (among front variable || among back variable)
+among-append [] back variable = refl
+among-append (first ∷ rest) back variable =
+    ap (λ b. (variable == first) || b) (among-append rest back variable) ∙ sym (or_assoc (variable == first) (among rest variable) (among back variable))
+
+-- whether a variable is that of one of these labels
+abbrev pub in_labels : List Label → ℕ → Bool
+in_labels [] variable = false
+in_labels (first ∷ rest) variable = among (variables_at first.root) variable || in_labels rest variable
+
+in_labels-append : (front back : List Label) (variable : ℕ) → in_labels (front ++ back) variable ≡ (in_labels front variable || in_labels back variable)
+in_labels-append [] back variable = refl
+in_labels-append (first ∷ rest) back variable =
+    ap (λ b. among (variables_at first.root) variable || b) (in_labels-append rest back variable)
+    ∙ sym (or_assoc (among (variables_at first.root) variable) (in_labels rest variable) (in_labels back variable))
+
+mutual
+  pub in_labels_of : (whole : Node) (variable : ℕ) → in_labels (labels_of whole) variable ≡ in_node whole variable
+  in_labels_of (node goal outputs category span) variable =
+      in_labels-append (inner_labels goal) (label_of (node goal outputs category span) ∷ []) variable
+      ∙ or_turned (in_labels (inner_labels goal) variable) (among (variables_at (root_of goal)) variable || false)
+      ∙ ap (λ b. b || in_labels (inner_labels goal) variable) (or_false (among (variables_at (root_of goal)) variable))
+      ∙ in_inner goal variable
+
+  in_inner : (goal : Goal) (variable : ℕ) → (among (variables_at (root_of goal)) variable || in_labels (inner_labels goal) variable) ≡ in_goal goal variable
+  in_inner (Basic goal) variable = or_false (in_goal (Basic goal) variable)
+  in_inner (Conjunction running goals) variable = in_joined goals variable
+  in_inner (Disjunction goals) variable = in_joined goals variable
+  in_inner (Switch whole arms) variable =
+      ap (λ b. b || in_labels (arm_labels arms) variable) (or_false (variable == whole)) ∙ ap (λ b. (variable == whole) || b) (in_arm_labels arms variable)
+  in_inner (Conditional condition then_part else_part) variable =
+      in_labels-append (labels_of condition) (labels_of then_part ++ labels_of else_part) variable
+      ∙ ap (λ b. in_labels (labels_of condition) variable || b)
+      (in_labels-append (labels_of then_part) (labels_of else_part) variable
+      ∙ ap (λ b. b || in_labels (labels_of else_part) variable) (in_labels_of then_part variable)
+      ∙ ap (λ b. in_node then_part variable || b) (in_labels_of else_part variable))
+      ∙ ap (λ b. b || (in_node then_part variable || in_node else_part variable)) (in_labels_of condition variable)
+  in_inner (Negation goal) variable = in_labels_of goal variable
+  in_inner (Quantified own goal) variable = in_labels_of goal variable
+
+  in_joined : (goals : Nodes) (variable : ℕ) → in_labels (joined_labels goals) variable ≡ in_nodes goals variable
+  in_joined no_nodes variable = refl
+  in_joined (more_nodes first rest) variable =
+      in_labels-append (labels_of first) (joined_labels rest) variable
+      ∙ ap (λ b. b || in_labels (joined_labels rest) variable) (in_labels_of first variable)
+      ∙ ap (λ b. in_node first variable || b) (in_joined rest variable)
+
+  in_arm_labels : (arms : Arms) (variable : ℕ) → in_labels (arm_labels arms) variable ≡ in_arms arms variable
+  in_arm_labels no_arms variable = refl
+  in_arm_labels (more_arms symbol body rest) variable =
+      in_labels-append (labels_of body) (arm_labels rest) variable
+      ∙ ap (λ b. b || in_labels (arm_labels rest) variable) (in_labels_of body variable)
+      ∙ ap (λ b. in_node body variable || b) (in_arm_labels rest variable)
+
+-- The variables of one label more are put behind those that are known.
+pub labels_more : (before now : List ℕ) (left : List Label) (label : Label) (rest : List Label) (variable : ℕ) (whole : Bool)
+    → ((w : ℕ) → among now w ≡ (among before w || among (variables_at label.root) w)) → left ≡ label ∷ rest
+    → (among before variable || in_labels left variable) ≡ whole → (among now variable || in_labels rest variable) ≡ whole
+labels_more before now left label rest variable whole put is same =
+    ap (λ b. b || in_labels rest variable) (put variable)
+    ∙ or_assoc (among before variable) (among (variables_at label.root) variable) (in_labels rest variable)
+    ∙ ap (λ l. among before variable || in_labels l variable) (sym is)
+    ∙ same
+
+-- once all goals are gone through
+pub all_known : (known : List ℕ) (goals : List Node) (index : ℕ) (variable : ℕ) → length goals ≤ index → (among known variable || in_nodes (nodes_of (drop index goals)) variable) ≡ in_nodes (nodes_of goals) variable
+    → among known variable ≡ in_nodes (nodes_of goals) variable
+all_known known goals index variable past same =
+    sym (or_false (among known variable)) ∙ ap (λ l. among known variable || in_nodes (nodes_of l) variable) (sym (drop_all index goals past)) ∙ same

@@ -1,0 +1,17 @@
+-- Disjuncts come to the arms of their symbols, over the goals of the examples of categories.
+use Rattle.std.specs.Prelude.{◌≡◌, List, [], ◌∷◌, refl}
+use Rattle.merc_grading.specs.Switches.{Group}
+use Rattle.merc_grading.specs.GradingExamples.{red, green, c, is_red, is_green}
+use Rattle.merc_switch.specs.Arms.{joined_in}
+
+abbrev one_arm : List Group
+one_arm = (red, is_red c ∷ []) ∷ []
+
+same_arm : joined_in red (is_red c) one_arm ≡ (red, is_red c ∷ is_red c ∷ []) ∷ []
+same_arm = refl
+
+new_arm : joined_in green (is_green c) one_arm ≡ (red, is_red c ∷ []) ∷ (green, is_green c ∷ []) ∷ []
+new_arm = refl
+
+not_in_front : joined_in green (is_green c) one_arm ≡ (green, is_green c ∷ []) ∷ (red, is_red c ∷ []) ∷ [] → ⊥
+not_in_front wrong = cc

@@ -1,0 +1,13 @@
+pub mod Variables
+pub mod VariablesExamples
+pub mod Beginnings
+pub mod Splits
+pub mod Keys
+pub mod Symbols
+pub mod Choosing
+pub mod Arms
+pub mod Occurring
+pub mod Tasks
+pub mod Plans
+pub mod TasksExamples
+pub mod ArmsExamples

@@ -1,0 +1,63 @@
+-- Worked examples of tasks and plans, over the types and goals of the examples of categories.
+use Rattle.std.specs.Prelude.{◌≡◌, List, [], ◌∷◌, Some, None, refl}
+use Rattle.merc_graded_tree.specs.declared.entries.Label.{Label}
+use Rattle.merc_graded_tree.specs.declared.entries.Root.{Root}
+use Rattle.merc_graded_tree.specs.declared.entries.Root.TheVariants.{Disjunction as DisjunctionRoot, Switch as SwitchRoot}
+use Rattle.merc_graded_tree.specs.Nodes.{Node, Negation, Disjunction, nodes_of, span_of}
+use Rattle.merc_graded_tree.specs.Roots.{label_of}
+use Rattle.merc_order.specs.Bound.{among}
+use Rattle.merc_grading.specs.GradingExamples.{red, green, declared, c, d, types, of, both, is_red, is_green}
+use Rattle.merc_switch.specs.declared.tasks.Group.{Group}
+use Rattle.merc_switch.specs.declared.tasks.Task.TheVariants.{Find, Judge, Close}
+use Rattle.merc_switch.specs.Tasks.{HaveEnough, done}
+use Rattle.merc_switch.specs.Plans.{plan, group_plan, choice_left}
+use Rattle.merc_switch.specs.Choosing.{chosen}
+
+-- `not C = red`
+abbrev not_red : Node
+not_red = of (Negation (is_red c))
+
+negation : plan 0 not_red ≡ Find (is_red c) ∷ Close (label_of not_red) ∷ []
+negation = refl
+
+negation_done : done declared types (plan 0 not_red) [] [] ≡ not_red ∷ []
+negation_done = refl
+
+enough : HaveEnough 0 (plan 0 not_red)
+enough = (refl, tt)
+
+-- a goal is closed before there is one
+not_enough : HaveEnough 0 (Close (label_of not_red) ∷ []) → ⊥
+not_enough have = let first = have.0 in cc
+
+-- `( C = red ; C = green )`
+abbrev colors : List Node
+colors = is_red c ∷ is_green c ∷ []
+
+abbrev whole : Node
+whole = of (Disjunction (nodes_of colors))
+
+abbrev group : Group
+group = record { whole = whole; disjuncts = colors; used = []; left = 2; outputs = []; category = None }
+
+abbrev label : Root → Label
+label root = record { root = root; outputs = []; category = None; span = span_of whole }
+
+-- where C is bound
+switch : group_plan (choice_left 2 (chosen declared (among (c ∷ [])) [] colors)) group ≡ Find (is_red c) ∷ Find (is_green c) ∷ Close (label (SwitchRoot c (red ∷ green ∷ []))) ∷ []
+switch = refl
+
+-- where it is not
+no_switch : group_plan (choice_left 2 (chosen declared (among (d ∷ [])) [] colors)) group ≡ Find (is_red c) ∷ Find (is_green c) ∷ Close (label (DisjunctionRoot 2)) ∷ []
+no_switch = refl
+
+-- and where it can be judged no more
+used_up : choice_left 0 (chosen declared (among (c ∷ [])) [] colors) ≡ None
+used_up = refl
+
+unbound_not_chosen : chosen declared (among (d ∷ [])) [] colors ≡ Some c → ⊥
+unbound_not_chosen wrong = cc
+
+-- `D`, whose symbols are all there, goes before `C`
+covered_first : chosen declared (among (c ∷ d ∷ [])) [] (both (is_red c ∷ is_red d ∷ []) ∷ both (is_red c ∷ is_green d ∷ []) ∷ []) ≡ Some d
+covered_first = refl

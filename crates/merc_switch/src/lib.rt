@@ -1,0 +1,18 @@
+//! Switches: disjunctions of which each disjunct begins with a symbol of one variable that is bound before.
+#![tactic(auto)]
+
+mod arms;
+mod beginnings;
+mod choosing;
+mod copying;
+mod covering;
+mod disjuncts;
+mod finding;
+mod judging;
+mod occurring;
+mod planning;
+mod symbols;
+mod tasks;
+mod variables;
+
+pub use finding::find_switches;

@@ -1,0 +1,98 @@
+//! The variables that occur in goals.
+ghost use Rattle.std.specs.Prelude.{◌≡◌, ℕ, ◌||◌, filter, IfOk, OnOk};
+ghost use Rattle.merc_graded_tree.specs.Nodes.{nodes_of};
+ghost use Rattle.merc_graded_tree.specs.Variables.{in_node, in_nodes, variables_of};
+ghost use Rattle.merc_order.specs.Bound.{among};
+ghost use Rattle.merc_switch.specs.Variables.{all_behind};
+ghost use Rattle.merc_switch.specs.Occurring.{variables_at};
+
+use crate::disjuncts::Disjunct;
+use crate::variables::VarSet;
+use merc_base::NoMemory;
+use merc_goal_tree::{Var, Vars};
+use merc_graded_tree::{BasicGoal, NodeRef, Root};
+use std::alloc::Global;
+
+/// Those of the outputs that occur in the disjuncts.
+///
+/// # Errors
+///
+/// `NoMemory` where memory was refused, here and in the calls below.
+pub(crate) fn outputs_in(
+    alloc: Global,
+    outputs: &[Var],
+    disjuncts: &[Disjunct<'_>],
+) -> Result<Vars, NoMemory>
+    ensures { IfOk result (λ kept. kept ≡ filter (λ output. in_nodes (nodes_of disjuncts.now) output) outputs.now) }
+{
+    let mut variables = VarSet::new(alloc);
+    for disjunct in disjuncts {
+        add_variables(&disjunct.goal(), &mut variables)?;
+    }
+    those_among(alloc, outputs, &variables)
+}
+
+// Those of the outputs that are among the variables.
+fn those_among(alloc: Global, outputs: &[Var], variables: &VarSet) -> Result<Vars, NoMemory>
+    ensures { IfOk result (λ kept. kept ≡ filter (λ output. among variables.now output) outputs.now) }
+{
+    let mut kept = Vars::new(alloc);
+    for output in outputs {
+        if variables.contains(*output) {
+            kept.push(*output)?;
+        }
+    }
+    Ok(kept)
+}
+
+// Adds the variables that occur in a goal.
+fn add_variables(goal: &NodeRef<'_>, variables: &mut VarSet) -> Result<(), NoMemory>
+    ensures { OnOk result ((variable : ℕ) → among variables.new variable ≡ (among variables.old variable || in_node goal.now variable)) }
+{
+    for index in 0..goal.part_count() {
+        match goal.part(index) {
+            Some(label) => add_own(&label.root, variables)?,
+            None => unreachable!(),
+        }
+    }
+    Ok(())
+}
+
+// Adds those of a goal itself, without the goals that it joins.
+fn add_own(root: &Root, variables: &mut VarSet) -> Result<(), NoMemory>
+    ensures { OnOk result (variables.new ≡ all_behind variables.old (variables_at root.now)) }
+{
+    match root {
+        Root::Basic(goal) => add_basic(goal, variables),
+        Root::Switch(variable, _) => variables.add(*variable),
+        _ => Ok(()),
+    }
+}
+
+fn add_basic(goal: &BasicGoal, variables: &mut VarSet) -> Result<(), NoMemory>
+    ensures { OnOk result (variables.new ≡ all_behind variables.old (variables_of goal.now)) }
+{
+    match goal {
+        BasicGoal::True | BasicGoal::Fail => Ok(()),
+        BasicGoal::Assign(one, other) | BasicGoal::Test(one, other) => {
+            variables.add(*one)?;
+            variables.add(*other)
+        }
+        BasicGoal::Compare(_, one, other) => {
+            variables.add(*one)?;
+            variables.add(*other)
+        }
+        BasicGoal::Build(whole, _, arguments) | BasicGoal::Split(whole, _, arguments) => {
+            variables.add(*whole)?;
+            variables.add_all(arguments.as_slice())
+        }
+        BasicGoal::Arithmetic(_, result, left, right) => {
+            variables.add(*result)?;
+            variables.add(*left)?;
+            variables.add(*right)
+        }
+        BasicGoal::Raise(variable) => variables.add(*variable),
+        BasicGoal::Wait(variable, _) | BasicGoal::Signal(variable, _) => variables.add(*variable),
+        BasicGoal::Call(_, arguments) => variables.add_all(arguments.as_slice()),
+    }
+}
