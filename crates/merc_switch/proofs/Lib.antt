@@ -11,6 +11,7 @@ pub mod Copies
 pub mod Inputs
 pub mod BeginningLaws
 pub mod KeyLaws
+pub mod CoverLaws
 pub mod ArmLaws
 pub mod SplitCounts
 pub mod PlanLaws
