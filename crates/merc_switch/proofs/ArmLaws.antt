@@ -1,7 +1,9 @@
 -- Disjuncts are put to the arms of their symbols, one after the other.
 use Rattle.std.specs.Prelude.{◌≡◌, ◌<◌, ◌≤◌, ℕ, zero, suc, ◌+◌, Bool, true, false, not, ◌==◌, ◌||◌, List, [], ◌∷◌, ◌++◌, length, map, Option, Some, None, if◌then◌else◌, refl}
 use Rattle.std.specs.List.{filter, list_any, position_or_len, slice_index_or, slice_set}
-use Rattle.std.proofs.Common.{◌∙◌, ap, sym, subst, arith, cond}
+use Rattle.std.proofs.Common.{◌∙◌, ap, sym, subst, arith, cond, take, drop}
+use Rattle.std.proofs.lemmas.List.{length-set}
+use Rattle.std.proofs.Math.Seq.{take-append_seam}
 use Rattle.std.proofs.lemmas.Bool.Decides.{nat_tests, Decides-eqb}
 use Rattle.merc_goal_tree.specs.declared.goal.Symbol.{Symbol}
 use Rattle.merc_graded_tree.specs.Nodes.{Node}
@@ -191,3 +193,9 @@ module _ (groups : List Group) (symbols : List Symbol) (disjuncts : List (List N
 
   pub places_added : places' ≡ symbols'
   places_added = adds.places_are ∙ ap (λ l. with_symbol l s) (known ∙ are.symbols_are) ∙ at_place.places ∙ sym (symbols_same ∙ at_place.symbols)
+
+-- a slice of the whole list, written back
+pub written_back : {X : Type 0} (old now : List X) (len place : ℕ) (x : X) → length old ≡ len → now ≡ slice_set old place x → take len (now ++ drop (length now) old) ≡ now
+written_back old now len place x all put =
+    let same : len ≡ length now = sym all ∙ sym (length-set old place x) ∙ sym (ap length put) in
+    ap (λ n. take n (now ++ drop (length now) old)) same ∙ take-append_seam now (drop (length now) old)

@@ -384,3 +384,23 @@ pub several_arm : (whole : Node) (used : List ℕ) (left variable : ℕ) (disjun
 several_arm whole used left variable [] several = refl
 several_arm whole used left variable (only ∷ []) several = cc
 several_arm whole used left variable (first ∷ second ∷ rest) several = refl
+
+-- the parts of the group that several disjuncts become
+pub record AreParts (whole : Node) (used : List ℕ) (left variable : ℕ) (disjuncts : List Node) (whole' : Node) (disjuncts' : List Node) (used' : List ℕ) (left' : ℕ) (outputs' : List ℕ) : Type 0 where
+  pub whole_is : whole' ≡ whole
+  pub disjuncts_are : disjuncts' ≡ disjuncts
+  pub used_are : used' ≡ behind (all_behind [] used) variable
+  pub left_is : left' ≡ left - 1
+  pub outputs_are : outputs' ≡ filter (λ output. in_nodes (nodes_of disjuncts) output) (outputs_of whole)
+
+pub judged_arm : (whole : Node) (used : List ℕ) (left variable : ℕ) (disjuncts : List Node) (whole' : Node) (disjuncts' : List Node) (used' : List ℕ) (left' : ℕ) (outputs' : List ℕ)
+    → (length disjuncts == 1) ≡ false → AreParts whole used left variable disjuncts whole' disjuncts' used' left' outputs'
+    → Judge (record { whole = whole'; disjuncts = disjuncts'; used = used'; left = left'; outputs = outputs'; category = None }) ≡ arm_plan whole used left variable disjuncts
+judged_arm whole used left variable disjuncts whole' disjuncts' used' left' outputs' several parts =
+    let group : Node → List Node → List ℕ → ℕ → List ℕ → Group = λ w d u l o. record { whole = w; disjuncts = d; used = u; left = l; outputs = o; category = None } in
+    ap (λ w. Judge (group w disjuncts' used' left' outputs')) parts.whole_is
+    ∙ ap (λ d. Judge (group whole d used' left' outputs')) parts.disjuncts_are
+    ∙ ap (λ u. Judge (group whole disjuncts u left' outputs')) parts.used_are
+    ∙ ap (λ l. Judge (group whole disjuncts (behind (all_behind [] used) variable) l outputs')) parts.left_is
+    ∙ ap (λ o. Judge (group whole disjuncts (behind (all_behind [] used) variable) (left - 1) o)) parts.outputs_are
+    ∙ several_arm whole used left variable disjuncts several
