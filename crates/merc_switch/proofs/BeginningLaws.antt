@@ -1,5 +1,5 @@
 -- What a goal begins with, goal after goal.
-use Rattle.std.specs.Prelude.{◌≡◌, ◌<◌, ℕ, ◌+◌, Bool, true, false, List, [], ◌∷◌, ◌++◌, length, reverse, Result, Ok, Err, OnOk, refl}
+use Rattle.std.specs.Prelude.{◌≡◌, ℕ, ◌+◌, Bool, true, false, List, [], ◌∷◌, ◌++◌, length, reverse, Result, Ok, Err, OnOk, refl}
 use Rattle.std.specs.Borrow.{Bor}
 use Rattle.std.proofs.Common.{◌∙◌, ap, sym, subst, arith}
 use Rattle.std.proofs.lemmas.List.{append-nil, append_assoc, length-append, reverse-append, reverse-reverse}
@@ -140,14 +140,6 @@ at_start splits goal rest none one = ap (λ l. splits_with l rest) none ∙ ap (
     only : (s : List (ℕ × Symbol)) (g : Bool) → (followed (record { splits = s; goes_on = g }) nothing_else).splits ≡ s
     only s true = append-nil s
     only s false = refl
-
-pub begun : (next : Node) (before rest rest' : List Node) (splits splits' whole : List (ℕ × Symbol)) → before ≡ rest ++ next ∷ [] → Begins next rest splits rest' splits'
-    → splits_with splits before ≡ whole → splits_with splits' rest' ≡ whole
-begun next before rest rest' splits splits' whole popped begins same = begins.same ∙ ap (λ l. splits_with splits l) (sym popped) ∙ same
-
-pub begun_smaller : (next : Node) (before rest rest' : List Node) (splits splits' : List (ℕ × Symbol)) → before ≡ rest ++ next ∷ [] → Begins next rest splits rest' splits'
-    → length (all_labels rest') < length (all_labels before)
-begun_smaller next before rest rest' splits splits' popped begins = subst (λ l. length (all_labels rest') < length (all_labels l)) (sym popped) begins.smaller
 
 pub OnOk-weaker : {X Y : Type 0} (r : Result X Y) (P Q : Type 0) → (P → Q) → OnOk r P → OnOk r Q
 OnOk-weaker (Ok x) P Q f h = f h

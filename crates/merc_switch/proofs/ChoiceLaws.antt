@@ -1,7 +1,7 @@
 -- The variable that is chosen by symbols is the one that is chosen by types.
-use Rattle.std.specs.Prelude.{◌≡◌, ◌≤◌, ◌<◌, ◌+◌, ℕ, zero, suc, Bool, true, false, not, ◌==◌, ◌||◌, ◌&&◌, nat_le, List, [], ◌∷◌, ◌++◌, reverse, length, take, slice_get, Option, Some, None, if◌then◌else◌, refl}
-use Rattle.std.specs.List.{filter, flat_map, list_all, slice_index_or, AllByRecursion}
-use Rattle.std.proofs.Common.{◌∙◌, ◌⊎◌, inl, inr, ap, sym, subst, arith, add-one}
+use Rattle.std.specs.Prelude.{◌≡◌, ◌≤◌, ◌<◌, ◌+◌, ℕ, Bool, true, false, not, ◌==◌, ◌||◌, ◌&&◌, nat_le, List, [], ◌∷◌, ◌++◌, reverse, length, slice_get, Option, Some, None, if◌then◌else◌, refl}
+use Rattle.std.specs.List.{filter, flat_map, list_all, AllByRecursion}
+use Rattle.std.proofs.Common.{◌∙◌, ◌⊎◌, inl, inr, ap, sym, subst, arith}
 use Rattle.std.proofs.lemmas.List.{reverse-append}
 use Rattle.std.proofs.lemmas.Bool.Decides.{Decides-eqb, nat_tests, leb_tells}
 use Rattle.merc_tree.specs.Types.{TypeExpr}
@@ -13,11 +13,11 @@ use Rattle.merc_graded_tree.specs.declared.entries.Running.TheVariants.{Sequenti
 use Rattle.merc_graded_tree.specs.Nodes.{Node, node, Goal, Basic, Conjunction, Disjunction, Switch, Conditional, Negation, Quantified, Nodes, no_nodes, more_nodes}
 use Rattle.merc_order.specs.Bound.{Bound, among}
 use Rattle.merc_grading.specs.Known.{symbols_of_type, are_complete}
-use Rattle.merc_grading.specs.Fitting.{fellows, FitsSymbol, Fits, FitsGoal, FitsAll, FitsBasic}
-use Rattle.merc_grading.specs.Switches.{beginning, goal_beginning, all_beginning, basic_beginning, symbol_in, symbol_at, is_there, listed, split_variables, lesser, least, or_else, is_complete, candidates, choice}
+use Rattle.merc_grading.specs.Fitting.{FitsSymbol, Fits, FitsGoal, FitsAll, FitsBasic}
+use Rattle.merc_grading.specs.Switches.{beginning, goal_beginning, all_beginning, basic_beginning, symbol_in, symbol_at, is_there, listed, split_variables, lesser, least, or_else, is_complete, choice}
 use Rattle.merc_switch.specs.declared.choosing.Best.{Best}
-use Rattle.merc_switch.specs.Choosing.{symbols_in, fellows_of, is_covered, is_open, best, considered, better, chosen}
-use Rattle.merc_switch.proofs.Occurrences.{among-append, or_false, or_true, or_assoc}
+use Rattle.merc_switch.specs.Choosing.{symbols_in, fellows_of, is_covered, is_open, best, better, chosen}
+use Rattle.merc_switch.proofs.Occurrences.{among-append, or_false, or_true}
 use Rattle.merc_switch.proofs.FoundVariables.{followed_either}
 
 clash : {A : Type 0} {b : Bool} → b ≡ true → b ≡ false → A
@@ -139,23 +139,6 @@ module _ (declared : List TypeDef) (bound : Bound) (used : List ℕ) (disjuncts 
       let with_opened : Option ℕ → Best = λ o. record { covered = least (filter covered (filter opens ys)); opened = o } in
       ap with_all all ∙ ap with_opened opened
 
-  considered_if : (v : ℕ) (vs : List ℕ) (o c : Bool) → opens v ≡ o → covered v ≡ c
-      → (if o then record {
-        covered = if c then Some (lesser v (best declared bound used disjuncts vs).covered) else (best declared bound used disjuncts vs).covered;
-        opened = Some (lesser v (best declared bound used disjuncts vs).opened);
-      } else best declared bound used disjuncts vs)
-      ≡ (let kept = if o then v ∷ filter opens vs else filter opens vs in record { covered = least (filter covered kept); opened = least kept })
-  considered_if v vs true true e k = let picked : Option ℕ → Best = λ l. record { covered = l; opened = Some (lesser v (least (filter opens vs))) } in
-      sym (ap (λ b. picked (least (if b then v ∷ filter covered (filter opens vs) else filter covered (filter opens vs)))) k)
-  considered_if v vs true false e k = let picked : Option ℕ → Best = λ l. record { covered = l; opened = Some (lesser v (least (filter opens vs))) } in
-      sym (ap (λ b. picked (least (if b then v ∷ filter covered (filter opens vs) else filter covered (filter opens vs)))) k)
-  considered_if v vs false true e k = refl
-  considered_if v vs false false e k = refl
-
-  -- one variable more
-  pub best_more : (v : ℕ) (vs : List ℕ) → considered declared bound used disjuncts v (best declared bound used disjuncts vs) ≡ best declared bound used disjuncts (v ∷ vs)
-  best_more v vs = considered_if v vs (opens v) (covered v) refl refl
-
 -- the variables that are split
 
 there_if : (b : Bool) (s : Symbol) (o : Option Symbol) (c : Bool) → is_there o ≡ c → is_there (if b then Some s else o) ≡ (b || c)
@@ -272,23 +255,6 @@ module _ (declared : List TypeDef) (types : ℕ → TypeExpr) where
       (filter_agrees (λ v. is_complete declared types (first ∷ rest) v) (λ v. is_covered declared (first ∷ rest) v) (λ v. is_open bound used (first ∷ rest) v) (split_variables (first ∷ rest))
       (λ v h. complete_is bound used (first ∷ rest) v fits (omega arith) h))
 
-pub next_best : (declared : List TypeDef) (bound : Bound) (used : List ℕ) (disjuncts : List Node) (front : List ℕ) (v : ℕ) (before now : Best)
-    → now ≡ considered declared bound used disjuncts v before → before ≡ best declared bound used disjuncts (reverse front) → now ≡ best declared bound used disjuncts (reverse (front ++ v ∷ []))
-next_best declared bound used disjuncts front v before now step same =
-    step ∙ ap (considered declared bound used disjuncts v) same ∙ best_more declared bound used disjuncts v (reverse front)
-    ∙ ap (best declared bound used disjuncts) (sym (reverse-append front (v ∷ [])))
-
-taken_next : (xs : List ℕ) (i d : ℕ) → i < length xs → take (suc i) xs ≡ take i xs ++ slice_index_or xs i d ∷ []
-taken_next [] i d h = absurd (omega (arith, h))
-taken_next (x ∷ xs) zero d h = refl
-taken_next (x ∷ xs) (suc i) d h = ap (λ l. x ∷ l) (taken_next xs i d (omega (arith, h)))
-
-pub best_on : (declared : List TypeDef) (bound : Bound) (used : List ℕ) (disjuncts : List Node) (numbers : List ℕ) (i d v : ℕ) (before now : Best) → i < length numbers → v ≡ slice_index_or numbers i d
-    → now ≡ considered declared bound used disjuncts v before → before ≡ best declared bound used disjuncts (reverse (take i numbers)) → now ≡ best declared bound used disjuncts (reverse (take (i + 1) numbers))
-best_on declared bound used disjuncts numbers i d v before now within is step same =
-    next_best declared bound used disjuncts (take i numbers) v before now step same
-    ∙ ap (λ l. best declared bound used disjuncts (reverse l)) (ap (λ n. take i numbers ++ n ∷ []) is ∙ sym (taken_next numbers i d within) ∙ ap (λ n. take n numbers) (sym (add-one i)))
-
 no_first : {A : Type 0} {d : Node} → ◌≡◌ {A = Option Node} None (Some d) → A
 no_first h = absurd (cc)
 
@@ -301,10 +267,3 @@ pub chosen_by : (declared : List TypeDef) (bound : Bound) (used : List ℕ) (dis
 chosen_by declared bound used disjuncts first numbers found is are same =
     let whole = first_is disjuncts first is in
     ap better same ∙ subst (λ l. better (best declared bound used l (reverse numbers)) ≡ chosen declared bound used l) (sym whole.1) (chosen_first declared bound used first whole.0 numbers are)
-
-none_first : (ds : List Node) → slice_get ds 0 ≡ None → ds ≡ []
-none_first [] h = refl
-none_first (x ∷ xs) h = absurd (cc)
-
-pub chosen_none : (declared : List TypeDef) (bound : Bound) (used : List ℕ) (disjuncts : List Node) → slice_get disjuncts 0 ≡ None → None ≡ chosen declared bound used disjuncts
-chosen_none declared bound used disjuncts is = ap (chosen declared bound used) (sym (none_first disjuncts is))

@@ -1,5 +1,5 @@
 -- How many splits there are at the beginnings of disjuncts, and which variables they split.
-use Rattle.std.specs.Prelude.{◌≡◌, ◌≤◌, ℕ, ◌+◌, ◌==◌, ◌||◌, Bool, true, false, nat_eq, List, [], ◌∷◌, ◌++◌, length, map, drop, Option, Some, None, refl}
+use Rattle.std.specs.Prelude.{◌≡◌, ◌≤◌, ℕ, ◌+◌, ◌==◌, ◌||◌, Bool, true, false, nat_eq, List, [], ◌∷◌, length, drop, Option, Some, refl}
 use Rattle.std.specs.List.{flat_map}
 use Rattle.std.specs.Map.{lookup, keys_of}
 use Rattle.std.proofs.Common.{◌∙◌, ap, sym, cond, arith}

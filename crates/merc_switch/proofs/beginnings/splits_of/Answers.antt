@@ -1,5 +1,5 @@
 use Rattle.std.proofs.Common.{◌∙◌, ap, [], ◌∷◌, ◌++◌}
-use Rattle.merc_switch.proofs.BeginningLaws.{at_start, begun, begun_smaller}
+use Rattle.merc_switch.proofs.BeginningLaws.{at_start}
 use Rattle.merc_switch.proofs.beginnings.splits_of.Goals as goal
 
 pub loop-next-init : goal.loop-next-init

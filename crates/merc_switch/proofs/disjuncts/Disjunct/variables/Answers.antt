@@ -1,4 +1,4 @@
-use Rattle.std.proofs.Common.{◌∙◌, ap, sym}
+use Rattle.std.proofs.Common.{◌∙◌, ap}
 use Rattle.merc_order.specs.Bound.{among}
 use Rattle.merc_grading.specs.Switches.{is_there, symbol_at}
 use Rattle.merc_switch.proofs.SplitCounts.{key_there}
