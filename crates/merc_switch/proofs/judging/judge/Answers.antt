@@ -1,0 +1,2 @@
+use Rattle.merc_switch.proofs.judging.judge.Goals as goal
+
