@@ -1,2 +1,0 @@
-use Rattle.merc_switch.proofs.judging.judge.Goals as goal
-
