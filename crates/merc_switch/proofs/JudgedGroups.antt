@@ -1,8 +1,8 @@
 -- Disjuncts taken apart into tasks become what they have to.
-use Rattle.std.specs.Prelude.{◌≡◌, ◌≤◌, ◌<◌, ℕ, zero, suc, ◌+◌, ◌-◌, Bool, ◌||◌, ◌==◌, ◌&&◌, not, List, [], ◌∷◌, ◌++◌, length, map, Option, Some, None, if◌then◌else◌, true, false, refl}
+use Rattle.std.specs.Prelude.{◌≡◌, ◌≤◌, ◌<◌, ℕ, zero, suc, ◌+◌, ◌-◌, Bool, ◌||◌, ◌==◌, ◌&&◌, not, List, [], ◌∷◌, ◌++◌, length, map, Option, Some, None, true, false, refl}
 use Rattle.std.specs.List.{AllByRecursion, filter, list_all}
 use Rattle.std.proofs.Common.{◌∙◌, ap, sym, subst, arith}
-use Rattle.std.proofs.lemmas.List.{length-append, length-map, append_assoc, append-nil}
+use Rattle.std.proofs.lemmas.List.{length-map, append_assoc, append-nil}
 use mathlib.Core.Path.{fun_ext}
 use Rattle.merc_base.specs.declared.place.Span.{Span}
 use Rattle.merc_tree.specs.Types.{TypeExpr}
@@ -10,15 +10,15 @@ use Rattle.merc_tree.specs.declared.declarations.TypeDef.{TypeDef}
 use Rattle.merc_goal_tree.specs.declared.goal.Symbol.{Symbol}
 use Rattle.merc_graded_tree.specs.declared.entries.Label.{Label}
 use Rattle.merc_graded_tree.specs.declared.entries.Root.TheVariants.{Disjunction as DisjunctionRoot, Switch as SwitchRoot}
-use Rattle.merc_graded_tree.specs.Nodes.{Node, node, Goal, Disjunction, Switch, Nodes, nodes_of, Arms, no_arms, more_arms, outputs_of, span_of}
-use Rattle.merc_graded_tree.specs.Roots.{labelled, arity_of, arms_of}
+use Rattle.merc_graded_tree.specs.Nodes.{Node, node, Goal, Disjunction, Switch, nodes_of, Arms, more_arms, outputs_of, span_of}
+use Rattle.merc_graded_tree.specs.Roots.{arity_of, arms_of}
 use Rattle.merc_graded_tree.specs.Variables.{in_node, in_nodes}
 use Rattle.merc_order.specs.Bound.{Bound, among}
 use Rattle.merc_grading.specs.Fitting.{Fits}
-use Rattle.merc_grading.specs.Switches.{Group as Arm, symbol_at, is_there, split_variables, least, or_else, is_complete, candidates, choice, grouped, switched, arm_body, arms_of_groups, regrouped, find}
+use Rattle.merc_grading.specs.Switches.{Group as Arm, symbol_at, is_there, split_variables, least, or_else, is_complete, choice, grouped, switched, arm_body, arms_of_groups, regrouped, find}
 use Rattle.merc_switch.specs.declared.tasks.Group.{Group}
 use Rattle.merc_switch.specs.declared.tasks.Task.{Task}
-use Rattle.merc_switch.specs.declared.tasks.Task.TheVariants.{Find, Keep, Bind, Unbind, Judge, Close}
+use Rattle.merc_switch.specs.declared.tasks.Task.TheVariants.{Judge, Close}
 use Rattle.merc_switch.specs.Variables.{behind, all_behind}
 use Rattle.merc_switch.specs.Arms.{AreArms}
 use Rattle.merc_switch.specs.Choosing.{chosen}

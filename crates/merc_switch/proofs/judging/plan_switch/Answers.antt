@@ -1,4 +1,4 @@
-use Rattle.std.proofs.Common.{ap, subst}
+use Rattle.std.proofs.Common.{subst}
 use Rattle.std.proofs.lemmas.Result.{on_ok_weaker}
 use Rattle.merc_grading.specs.Switches.{grouped}
 use Rattle.merc_switch.specs.Arms.{AreArms}
