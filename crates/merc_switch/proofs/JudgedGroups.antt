@@ -1,8 +1,8 @@
 -- Disjuncts taken apart into tasks become what they have to.
-use Rattle.std.specs.Prelude.{◌≡◌, ◌≤◌, ◌<◌, ℕ, zero, suc, ◌+◌, ◌-◌, Bool, ◌||◌, ◌==◌, ◌&&◌, not, List, [], ◌∷◌, ◌++◌, length, map, Option, Some, None, if◌then◌else◌, true, false, refl}
+use Rattle.std.specs.Prelude.{◌≡◌, ◌≤◌, ◌<◌, ℕ, zero, suc, ◌+◌, ◌-◌, Bool, ◌||◌, ◌==◌, ◌&&◌, not, List, [], ◌∷◌, ◌++◌, length, map, Option, Some, None, true, false, refl}
 use Rattle.std.specs.List.{AllByRecursion, filter, list_all}
 use Rattle.std.proofs.Common.{◌∙◌, ap, sym, subst, arith}
-use Rattle.std.proofs.lemmas.List.{length-append, length-map, append_assoc, append-nil}
+use Rattle.std.proofs.lemmas.List.{length-map, append_assoc, append-nil}
 use mathlib.Core.Path.{fun_ext}
 use Rattle.merc_base.specs.declared.place.Span.{Span}
 use Rattle.merc_tree.specs.Types.{TypeExpr}
@@ -10,15 +10,15 @@ use Rattle.merc_tree.specs.declared.declarations.TypeDef.{TypeDef}
 use Rattle.merc_goal_tree.specs.declared.goal.Symbol.{Symbol}
 use Rattle.merc_graded_tree.specs.declared.entries.Label.{Label}
 use Rattle.merc_graded_tree.specs.declared.entries.Root.TheVariants.{Disjunction as DisjunctionRoot, Switch as SwitchRoot}
-use Rattle.merc_graded_tree.specs.Nodes.{Node, node, Goal, Disjunction, Switch, Nodes, nodes_of, Arms, no_arms, more_arms, outputs_of, span_of}
-use Rattle.merc_graded_tree.specs.Roots.{labelled, arity_of, arms_of}
+use Rattle.merc_graded_tree.specs.Nodes.{Node, node, Goal, Disjunction, Switch, nodes_of, Arms, more_arms, outputs_of, span_of}
+use Rattle.merc_graded_tree.specs.Roots.{arity_of, arms_of}
 use Rattle.merc_graded_tree.specs.Variables.{in_node, in_nodes}
 use Rattle.merc_order.specs.Bound.{Bound, among}
 use Rattle.merc_grading.specs.Fitting.{Fits}
-use Rattle.merc_grading.specs.Switches.{Group as Arm, symbol_at, is_there, split_variables, least, or_else, is_complete, candidates, choice, grouped, switched, arm_body, arms_of_groups, regrouped, find}
+use Rattle.merc_grading.specs.Switches.{Group as Arm, symbol_at, is_there, split_variables, least, or_else, is_complete, choice, grouped, switched, arm_body, arms_of_groups, regrouped, find}
 use Rattle.merc_switch.specs.declared.tasks.Group.{Group}
 use Rattle.merc_switch.specs.declared.tasks.Task.{Task}
-use Rattle.merc_switch.specs.declared.tasks.Task.TheVariants.{Find, Keep, Bind, Unbind, Judge, Close}
+use Rattle.merc_switch.specs.declared.tasks.Task.TheVariants.{Judge, Close}
 use Rattle.merc_switch.specs.Variables.{behind, all_behind}
 use Rattle.merc_switch.specs.Arms.{AreArms}
 use Rattle.merc_switch.specs.Choosing.{chosen}
@@ -349,30 +349,22 @@ map_seconds : (f : List Node → Task) (arms : List Arm) → map f (map (λ arm.
 map_seconds f [] = refl
 map_seconds f (arm ∷ arms) = ap (λ l. f arm.1 ∷ l) (map_seconds f arms)
 
-pub plans_switch : (variable : ℕ) (group : Group) (symbols : List Symbol) (arms : List (List Node)) (label : Label) (rest closed tasks : List Task) → AreArms symbols arms (grouped variable group.disjuncts)
-    → label ≡ record { root = SwitchRoot variable symbols; outputs = group.outputs; category = group.category; span = span_of group.whole } → closed ≡ Close label ∷ rest
+abbrev switch_label : ℕ → Group → List Symbol → Span → Label
+switch_label variable group symbols span = record { root = SwitchRoot variable symbols; outputs = group.outputs; category = group.category; span = span }
+
+pub plans_switch : (variable : ℕ) (group : Group) (symbols symbols' : List Symbol) (arms : List (List Node)) (span : Span) (rest closed tasks : List Task) → AreArms symbols arms (grouped variable group.disjuncts)
+    → symbols' ≡ symbols → span ≡ span_of group.whole → closed ≡ Close (switch_label variable group symbols' span) ∷ rest
     → tasks ≡ map (λ disjuncts. arm_plan group.whole group.used group.left variable disjuncts) arms ++ closed → tasks ≡ switch_plan variable group ++ rest
-plans_switch variable group symbols arms label rest closed tasks are made first put =
-    let with_symbols : List Symbol → Label = λ l. record { root = SwitchRoot variable l; outputs = group.outputs; category = group.category; span = span_of group.whole } in
+plans_switch variable group symbols symbols' arms span rest closed tasks are same place first put =
     let all = grouped variable group.disjuncts in
+    let last : List Symbol → Span → List Task = λ l s. Close (switch_label variable group l s) ∷ rest in
     let arm : List Node → Task = λ disjuncts. arm_plan group.whole group.used group.left variable disjuncts in
-    put ∙ ap (λ l. map arm arms ++ l) (first ∙ ap (λ l. Close l ∷ rest) (made ∙ ap with_symbols are.symbols_are))
-    ∙ ap (λ l. map arm l ++ Close (with_symbols (map (λ a. a.0) all)) ∷ rest) are.groups_are
-    ∙ ap (λ l. l ++ Close (with_symbols (map (λ a. a.0) all)) ∷ rest) (map_seconds arm all)
-    ∙ sym (append_assoc (arm_plans variable group all) (Close (with_symbols (map (λ a. a.0) all)) ∷ []) rest)
+    put ∙ ap (λ l. map arm arms ++ l) (first ∙ ap (λ l. last l span) (same ∙ are.symbols_are) ∙ ap (λ s. last (map (λ a. a.0) all) s) place)
+    ∙ ap (λ l. map arm l ++ last (map (λ a. a.0) all) (span_of group.whole)) are.groups_are
+    ∙ ap (λ l. l ++ last (map (λ a. a.0) all) (span_of group.whole)) (map_seconds arm all)
+    ∙ sym (append_assoc (arm_plans variable group all) (Close (switch_label variable group (map (λ a. a.0) all) (span_of group.whole)) ∷ []) rest)
 
-pub plans_disjunction : (group : Group) (disjuncts : List Node) (label : Label) (rest closed tasks : List Task) → disjuncts ≡ group.disjuncts
-    → label ≡ record { root = DisjunctionRoot (length disjuncts); outputs = group.outputs; category = group.category; span = span_of group.whole } → closed ≡ Close label ∷ rest
-    → tasks ≡ finds disjuncts ++ closed → tasks ≡ disjunction_plan group ++ rest
-plans_disjunction group disjuncts label rest closed tasks same made first put =
-    let of_list : List Node → Label = λ l. record { root = DisjunctionRoot (length l); outputs = group.outputs; category = group.category; span = span_of group.whole } in
-    put ∙ ap (λ l. finds disjuncts ++ l) (first ∙ ap (λ l. Close l ∷ rest) made) ∙ ap (λ l. finds l ++ Close (of_list l) ∷ rest) same
-    ∙ sym (append_assoc (finds group.disjuncts) (Close (of_list group.disjuncts) ∷ []) rest)
-
-pub one_arm : (whole : Node) (used : List ℕ) (left variable : ℕ) (disjuncts : List Node) (only : Node) → disjuncts ≡ only ∷ [] → Find only ≡ arm_plan whole used left variable disjuncts
-one_arm whole used left variable disjuncts only is = ap (λ l. arm_plan whole used left variable l) (sym is)
-
-pub several_arm : (whole : Node) (used : List ℕ) (left variable : ℕ) (disjuncts : List Node) → (length disjuncts == 1) ≡ false
+several_arm : (whole : Node) (used : List ℕ) (left variable : ℕ) (disjuncts : List Node) → (length disjuncts == 1) ≡ false
     → Judge (record {
       whole = whole;
       disjuncts = disjuncts;

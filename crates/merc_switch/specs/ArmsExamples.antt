@@ -1,5 +1,7 @@
 -- Disjuncts come to the arms of their symbols, over the goals of the examples of categories.
-use Rattle.std.specs.Prelude.{◌≡◌, List, [], ◌∷◌, refl}
+use Rattle.std.specs.Prelude.{◌≡◌, Bool, true, false, List, [], ◌∷◌, map, refl}
+use Rattle.std.proofs.Common.{ap}
+use Rattle.merc_grading.specs.Known.{same_symbol}
 use Rattle.merc_grading.specs.Switches.{Group}
 use Rattle.merc_grading.specs.GradingExamples.{red, green, c, is_red, is_green}
 use Rattle.merc_switch.specs.Arms.{joined_in}
@@ -14,4 +16,6 @@ new_arm : joined_in green (is_green c) one_arm ≡ (red, is_red c ∷ []) ∷ (g
 new_arm = refl
 
 not_in_front : joined_in green (is_green c) one_arm ≡ (green, is_green c ∷ []) ∷ (red, is_red c ∷ []) ∷ [] → ⊥
-not_in_front wrong = cc
+not_in_front wrong =
+    let are_red : ◌≡◌ {A = List Bool} (true ∷ false ∷ []) (false ∷ true ∷ []) = ap (map (λ group. same_symbol red group.0)) wrong in
+    cc

@@ -1,5 +1,6 @@
 -- Worked examples of tasks and plans, over the types and goals of the examples of categories.
 use Rattle.std.specs.Prelude.{◌≡◌, List, [], ◌∷◌, Some, None, refl}
+use Rattle.std.proofs.Common.{arith}
 use Rattle.merc_graded_tree.specs.declared.entries.Label.{Label}
 use Rattle.merc_graded_tree.specs.declared.entries.Root.{Root}
 use Rattle.merc_graded_tree.specs.declared.entries.Root.TheVariants.{Disjunction as DisjunctionRoot, Switch as SwitchRoot}
@@ -24,11 +25,11 @@ negation_done : done declared types (plan 0 not_red) [] [] ≡ not_red ∷ []
 negation_done = refl
 
 enough : HaveEnough 0 (plan 0 not_red)
-enough = (refl, tt)
+enough = (omega arith, tt)
 
 -- a goal is closed before there is one
 not_enough : HaveEnough 0 (Close (label_of not_red) ∷ []) → ⊥
-not_enough have = let first = have.0 in cc
+not_enough have = absurd (omega (arith, have.0))
 
 -- `( C = red ; C = green )`
 abbrev colors : List Node
