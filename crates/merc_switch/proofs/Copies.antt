@@ -5,10 +5,10 @@ use Rattle.std.specs.Borrow.{Bor}
 use Rattle.std.proofs.Common.{◌∙◌, ap, sym, subst, arith, add-one}
 use Rattle.std.proofs.lemmas.List.{append-nil, append_assoc, length-append}
 use Rattle.merc_graded_tree.specs.declared.entries.Label.{Label}
-use Rattle.merc_graded_tree.specs.Nodes.{Node, node, Goal, Basic, Conjunction, Disjunction, Switch, Conditional, Negation, Quantified, Nodes, no_nodes, more_nodes, Arms, no_arms, more_arms, list_of}
-use Rattle.merc_graded_tree.specs.Roots.{label_of, labelled, last_joined, arity_of, bodies_of, symbols_of, root_of}
+use Rattle.merc_graded_tree.specs.Nodes.{Node, node, Basic, Conjunction, Disjunction, Switch, Conditional, Negation, Quantified, Nodes, no_nodes, more_nodes, Arms, no_arms, more_arms, list_of}
+use Rattle.merc_graded_tree.specs.Roots.{label_of, labelled, last_joined, arity_of, bodies_of}
 use Rattle.merc_graded_tree.specs.RootLaws.{arity_is}
-use Rattle.merc_graded_tree.specs.Labels.{labels_of, inner_labels, joined_labels, arm_labels, all_labels, built}
+use Rattle.merc_graded_tree.specs.Labels.{labels_of, joined_labels, arm_labels, built}
 use Rattle.merc_graded_tree.specs.LabelCode.{built-all_labels}
 
 -- each label finds as many goals as it joins, where there are so many at first

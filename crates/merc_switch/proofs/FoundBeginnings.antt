@@ -7,7 +7,7 @@ use Rattle.merc_tree.specs.declared.declarations.TypeDef.{TypeDef}
 use Rattle.merc_graded_tree.specs.declared.entries.Running.TheVariants.{Sequential, Parallel}
 use Rattle.merc_graded_tree.specs.Nodes.{Node, node, Goal, Basic, Conjunction, Disjunction, Switch, Conditional, Negation, Quantified, Nodes, no_nodes, more_nodes, list_of}
 use Rattle.merc_order.specs.Bound.{Bound}
-use Rattle.merc_grading.specs.Switches.{Beginning, stops, followed, beginning, goal_beginning, all_beginning, split_variables, choice, grouped, switched, arms_of_groups, arm_body, regrouped, as_switch, bound_behind, find, find_goal, find_all, find_each}
+use Rattle.merc_grading.specs.Switches.{Beginning, stops, followed, beginning, goal_beginning, all_beginning, split_variables, choice, switched, regrouped, bound_behind, find, find_goal, find_all, find_each}
 
 module _ (declared : List TypeDef) (types : ℕ → TypeExpr) where
   switched_stops : (chosen : Option ℕ) (switch : ℕ → Goal) (disjuncts : List Node) → ((variable : ℕ) → goal_beginning (switch variable) ≡ stops) → goal_beginning (switched declared types chosen switch disjuncts) ≡ stops

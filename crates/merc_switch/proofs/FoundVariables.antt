@@ -14,8 +14,7 @@ use Rattle.merc_graded_tree.specs.Nodes.{Node, node, Goal, Basic, Conjunction, D
 use Rattle.merc_graded_tree.specs.RootLaws.{nodes_of-list_of}
 use Rattle.merc_graded_tree.specs.Variables.{in_node, in_goal, in_nodes, in_arms, variables_of, among}
 use Rattle.merc_order.specs.Bound.{Bound}
-use Rattle.merc_grading.specs.Choices.{CanSwitch, IsChoice}
-use Rattle.merc_grading.specs.Switches.{Beginning, Group, stops, followed, basic_beginning, beginning, goal_beginning, all_beginning, symbol_in, symbol_at, split_variables, choice, grouped, switched, arms_of_groups, arm_body, regrouped, as_switch, bound_behind, find, find_goal, find_all, find_each}
+use Rattle.merc_grading.specs.Switches.{Beginning, Group, followed, basic_beginning, beginning, goal_beginning, all_beginning, symbol_in, symbol_at, split_variables, choice, grouped, switched, arms_of_groups, arm_body, regrouped, bound_behind, find, find_goal, find_all, find_each}
 use Rattle.merc_grading.proofs.Choosing.{chosen}
 use Rattle.merc_switch.proofs.Occurrences.{or_false, or_true}
 use Rattle.merc_switch.proofs.GroupLaws.{in_groups, in_grouped}

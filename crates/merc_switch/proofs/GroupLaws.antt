@@ -1,14 +1,14 @@
 -- The groups of disjuncts hold each disjunct once.
-use Rattle.std.specs.Prelude.{◌≡◌, ◌≤◌, ◌<◌, ℕ, suc, ◌+◌, Bool, true, false, not, ◌||◌, ◌&&◌, List, [], ◌∷◌, ◌++◌, length, map, Option, Some, None, if◌then◌else◌, refl}
+use Rattle.std.specs.Prelude.{◌≡◌, ◌≤◌, ◌<◌, ℕ, ◌+◌, Bool, true, false, not, ◌||◌, List, [], ◌∷◌, length, Option, Some, None, if◌then◌else◌, refl}
 use Rattle.std.specs.List.{filter, AllByRecursion}
-use Rattle.std.proofs.Common.{◌∙◌, ap, sym, subst, arith}
+use Rattle.std.proofs.Common.{◌∙◌, ap, sym, arith}
 use Rattle.merc_goal_tree.specs.declared.goal.Symbol.{Symbol}
 use Rattle.merc_graded_tree.specs.Nodes.{Node, nodes_of}
 use Rattle.merc_graded_tree.specs.Variables.{in_node, in_nodes}
 use Rattle.merc_grading.specs.Known.{same_symbol}
 use Rattle.merc_grading.specs.Switches.{Group, symbol_at, of_symbol, without_symbol, with_disjunct, grouped}
 use Rattle.merc_switch.proofs.Occurrences.{or_assoc}
-use Rattle.merc_switch.proofs.SameSymbols.{symbols_equal, symbol_self}
+use Rattle.merc_switch.proofs.SameSymbols.{symbols_equal}
 
 -- two filters, one after the other
 

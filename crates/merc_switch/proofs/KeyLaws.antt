@@ -1,7 +1,7 @@
 -- Symbols are looked up by their keys.
 use Rattle.std.specs.Prelude.{◌≡◌, ◌||◌, ◌+◌, not, Bool, List, [], ◌∷◌, ◌++◌, map, if◌then◌else◌, true, false, refl}
 use Rattle.std.specs.List.{list_any, position_or_len}
-use Rattle.std.proofs.Common.{◌∙◌, ap, sym, cond}
+use Rattle.std.proofs.Common.{◌∙◌, ap, cond}
 use Rattle.std.proofs.lemmas.List.{map-append}
 use Rattle.merc_goal_tree.specs.declared.goal.Symbol.{Symbol}
 use Rattle.merc_grading.specs.Known.{same_symbol, has_symbol}

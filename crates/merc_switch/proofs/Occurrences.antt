@@ -8,7 +8,6 @@ use Rattle.merc_graded_tree.specs.Roots.{label_of, root_of}
 use Rattle.merc_graded_tree.specs.Labels.{labels_of, inner_labels, joined_labels, arm_labels}
 use Rattle.merc_graded_tree.specs.Variables.{in_node, in_goal, in_nodes, in_arms}
 use Rattle.merc_order.specs.Bound.{among}
-use Rattle.merc_switch.specs.Variables.{behind, all_behind}
 use Rattle.merc_switch.specs.Occurring.{variables_at}
 
 pub or_assoc : (a b c : Bool) → ((a || b) || c) ≡ (a || (b || c))

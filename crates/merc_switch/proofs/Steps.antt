@@ -1,25 +1,24 @@
 -- A goal taken apart into tasks becomes what it has to.
-use Rattle.std.specs.Prelude.{◌≡◌, ◌≤◌, ◌<◌, ℕ, zero, suc, ◌+◌, ◌-◌, Bool, ◌||◌, ◌==◌, List, [], ◌∷◌, ◌++◌, length, map, take, drop, if◌then◌else◌, true, false, refl}
+use Rattle.std.specs.Prelude.{◌≡◌, ◌≤◌, ◌<◌, ℕ, zero, suc, ◌+◌, ◌-◌, Bool, ◌||◌, ◌==◌, List, [], ◌∷◌, ◌++◌, length, take, drop, if◌then◌else◌, true, false, refl}
 use Rattle.std.specs.List.{AllByRecursion}
 use Rattle.std.proofs.Common.{◌∙◌, ap, sym, subst, arith}
-use Rattle.std.proofs.lemmas.List.{length-append, length-map, append_assoc, append-nil, take_at}
+use Rattle.std.proofs.lemmas.List.{length-append, append_assoc, append-nil}
 use Rattle.std.proofs.lemmas.Bool.Decides.{Decides-eqb}
 use mathlib.Core.Path.{fun_ext}
 use Rattle.merc_tree.specs.Types.{TypeExpr}
 use Rattle.merc_tree.specs.declared.declarations.TypeDef.{TypeDef}
 use Rattle.merc_graded_tree.specs.declared.entries.Label.{Label}
-use Rattle.merc_graded_tree.specs.Nodes.{Node, node, Goal, Basic, Conjunction, Disjunction, Switch, Conditional, Negation, Quantified, Nodes, no_nodes, more_nodes, list_of, nodes_of, outputs_of, goal_of}
+use Rattle.merc_graded_tree.specs.Nodes.{Node, node, Goal, Basic, Conjunction, Disjunction, Switch, Conditional, Negation, Quantified, Nodes, no_nodes, more_nodes, list_of, outputs_of}
 use Rattle.merc_graded_tree.specs.Roots.{label_of, labelled, last_joined, arity_of}
 use Rattle.merc_graded_tree.specs.RootLaws.{nodes_of-list_of, last_joined_is}
 use Rattle.merc_order.specs.Bound.{Bound, with, among}
-use Rattle.merc_grading.specs.Fitting.{Fits, FitsGoal, FitsAll}
-use Rattle.merc_grading.specs.Switches.{split_variables, regrouped, bound_behind, find, find_goal, find_all, find_each}
-use Rattle.merc_switch.specs.declared.tasks.Group.{Group}
+use Rattle.merc_grading.specs.Fitting.{Fits, FitsAll}
+use Rattle.merc_grading.specs.Switches.{split_variables, regrouped, bound_behind, find, find_all, find_each}
 use Rattle.merc_switch.specs.declared.tasks.Task.{Task}
-use Rattle.merc_switch.specs.declared.tasks.Task.TheVariants.{Find, Keep, Bind, Unbind, Judge, Close}
+use Rattle.merc_switch.specs.declared.tasks.Task.TheVariants.{Find, Keep, Bind, Unbind, Close}
 use Rattle.merc_switch.specs.Variables.{behind, all_behind}
-use Rattle.merc_switch.specs.Tasks.{HaveEnough, effort, all_effort, load, total, found_in, judged, done, FitsTask, Performs}
-use Rattle.merc_switch.specs.Plans.{in_turn, decided, disjoined, plan_of, plan}
+use Rattle.merc_switch.specs.Tasks.{HaveEnough, effort, all_effort, load, total, found_in, done, FitsTask, Performs}
+use Rattle.merc_switch.specs.Plans.{in_turn, plan}
 use Rattle.merc_switch.proofs.Occurrences.{among-append, or_false, or_true, or_assoc}
 use Rattle.merc_switch.proofs.FoundBeginnings.{found_beginning}
 use Rattle.merc_switch.proofs.FoundGroups.{split_variables_kept}

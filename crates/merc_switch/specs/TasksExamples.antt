@@ -9,7 +9,7 @@ use Rattle.merc_graded_tree.specs.Roots.{label_of}
 use Rattle.merc_order.specs.Bound.{among}
 use Rattle.merc_grading.specs.GradingExamples.{red, green, declared, c, d, types, of, both, is_red, is_green}
 use Rattle.merc_switch.specs.declared.tasks.Group.{Group}
-use Rattle.merc_switch.specs.declared.tasks.Task.TheVariants.{Find, Judge, Close}
+use Rattle.merc_switch.specs.declared.tasks.Task.TheVariants.{Find, Close}
 use Rattle.merc_switch.specs.Tasks.{HaveEnough, done}
 use Rattle.merc_switch.specs.Plans.{plan, group_plan, choice_left}
 use Rattle.merc_switch.specs.Choosing.{chosen}

@@ -1,7 +1,4 @@
-use Rattle.std.proofs.Common.{◌∙◌, ap, arith}
-use Rattle.std.proofs.lemmas.List.{take_all}
-use mathlib.Core.Path.{fun_ext}
-use Rattle.merc_order.specs.Procedures.{bound_at}
+use Rattle.std.proofs.Common.{◌∙◌}
 use Rattle.merc_switch.proofs.Inputs.{input_bound, output_unbound}
 use Rattle.merc_switch.proofs.variables.bound_inputs.Goals as goal
 use Rattle.merc_switch.proofs.variables.bound_inputs.Goals.{in-Input+in_ok-add-in-Input, in-Output}
