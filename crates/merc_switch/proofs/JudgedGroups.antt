@@ -328,22 +328,7 @@ judges declared group rest tasks goals bound planned =
       smaller = let one = group_effort group group.left (chosen declared (among bound) group.used group.disjuncts) refl in let two = total-append (group_plan chosen_is group) rest in omega arith;
     })
 
--- the plan of a group by its choice
-
-pub none_left : (left : ℕ) (chosen_is : Option ℕ) → left ≡ 0 → choice_left left chosen_is ≡ None
-none_left zero chosen_is is = refl
-none_left (suc left) chosen_is is = absurd (omega (arith, is))
-
-pub no_choice_left : (left : ℕ) (chosen_is : Option ℕ) → chosen_is ≡ None → choice_left left chosen_is ≡ None
-no_choice_left zero chosen_is is = refl
-no_choice_left (suc left) chosen_is is = is
-
-pub some_left : (left : ℕ) (chosen_is : Option ℕ) (variable : ℕ) → (left == 0) ≡ false → chosen_is ≡ Some variable → choice_left left chosen_is ≡ Some variable
-some_left zero chosen_is variable some is = cc
-some_left (suc left) chosen_is variable some is = is
-
-pub planned_by : (choice_is plan_is : Option ℕ) (group : Group) (rest tasks : List Task) → choice_is ≡ plan_is → tasks ≡ group_plan plan_is group ++ rest → tasks ≡ group_plan choice_is group ++ rest
-planned_by choice_is plan_is group rest tasks same put = put ∙ ap (λ c. group_plan c group ++ rest) (sym same)
+-- the plan of a switch
 
 map_seconds : (f : List Node → Task) (arms : List Arm) → map f (map (λ arm. arm.1) arms) ≡ map (λ arm. f arm.1) arms
 map_seconds f [] = refl
