@@ -2,8 +2,6 @@
 ghost use Rattle.std.specs.Prelude.{◌≡◌, List, [], ◌∷◌, ◌++◌, reverse, IfOk, OnOk, if◌then◌else◌};
 ghost use Rattle.merc_base.specs.FirstFault.{first_of_faults};
 ghost use Rattle.merc_base.specs.declared.refusal.Refusal.{Refusal};
-ghost use Rattle.merc_tree.specs.declared.declarations.PredDecl.{PredDecl};
-ghost use Rattle.merc_tree.specs.declared.declarations.TypeDef.{TypeDef};
 ghost use Rattle.merc_graded_tree.specs.Nodes.{goal_of, nodes_of};
 ghost use Rattle.merc_graded_tree.specs.Roots.{arms_of, bodies_of, goals_in};
 ghost use Rattle.merc_graded_tree.specs.Views.{viewed};
@@ -32,7 +30,7 @@ pub fn procedure_fault(
     mode: &ModeDecl,
     tree: &NodeRef<'_>,
 ) -> Result<Option<Refusal>, NoMemory>
-    ensures { IfOk result (λ found. (declared : List TypeDef) (predicates : List PredDecl) → found ≡ first_of_faults (mode_faults declared predicates unit.now mode.now tree.now)) }
+    ensures { IfOk result (λ found. found ≡ first_of_faults (mode_faults unit.now mode.now tree.now)) }
 {
     let inner = query_fault(alloc, tree)?;
     Ok(first_of(declaration_fault(unit, mode, tree), inner))
@@ -59,7 +57,7 @@ pub fn query_fault(alloc: Global, tree: &NodeRef<'_>) -> Result<Option<Refusal>,
 
 // The fault of a procedure's declaration.
 fn declaration_fault(unit: &Option<Name>, mode: &ModeDecl, tree: &NodeRef<'_>) -> Option<Refusal>
-    ensures { (declared : List TypeDef) (predicates : List PredDecl) → result ≡ first_of_faults (own_faults declared predicates unit.now mode.now tree.now) }
+    ensures { result ≡ first_of_faults (own_faults unit.now mode.now tree.now) }
 {
     let inferred = given(tree.category());
     if unit.is_some() || allows(mode.category, inferred) {

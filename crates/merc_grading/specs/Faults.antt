@@ -1,5 +1,6 @@
 -- What is wrong with categories: a declaration that does not allow what is inferred, and parallel conjuncts that can fail or answer twice.
-use Rattle.std.specs.Prelude.{ℕ, suc, Bool, true, false, not, ◌&&◌, ◌||◌, List, [], ◌∷◌, ◌++◌, Option, Some, None, if◌then◌else◌}
+use Rattle.std.specs.Prelude.{ℕ, suc, Bool, true, false, not, ◌&&◌, ◌||◌, List, [], ◌∷◌, ◌++◌, map, Option, Some, None, if◌then◌else◌}
+use Rattle.std.specs.List.{flat_map}
 use Rattle.merc_base.specs.Category.{can_fail_of, most_of}
 use Rattle.merc_base.specs.FirstFault.{first_of_faults}
 use Rattle.merc_base.specs.Places.{place_of}
@@ -74,6 +75,33 @@ abbrev mutual
   arm_faults no_arms = []
   arm_faults (more_arms symbol body rest) = parallel_faults body ++ arm_faults rest
 
+-- The categories that a library unit declares are taken as they are.
+abbrev pub own_faults : Option ℕ → ModeDecl → Node → List Refusal
+own_faults None mode tree = declaration_faults mode.category mode.span (category_at tree)
+own_faults (Some unit) mode tree = []
+
+-- what is wrong with a mode of a predicate of this unit, none for the file's own, whose tree has its categories
+abbrev pub mode_faults : Option ℕ → ModeDecl → Node → List Refusal
+mode_faults unit mode tree = own_faults unit mode tree ++ parallel_faults tree
+
+-- A procedure: a predicate in one of its modes.
+pub record Procedure : Type 0 where
+  pub predicate : PredDecl
+  pub mode : ModeDecl
+
+abbrev pub with_modes : PredDecl → List ModeDecl → List Procedure
+with_modes declared modes = map (λ mode. record { predicate = declared; mode = mode }) modes
+
+-- the procedures of predicates, in their order
+abbrev pub procedures_of : List PredDecl → List Procedure
+procedures_of predicates = flat_map (λ declared. with_modes declared declared.modes) predicates
+
+-- what is wrong with procedures that have these trees
+abbrev pub procedure_faults : List Procedure → List Node → List Refusal
+procedure_faults [] trees = []
+procedure_faults (first ∷ rest) [] = []
+procedure_faults (first ∷ rest) (tree ∷ trees) = mode_faults first.predicate.unit first.mode tree ++ procedure_faults rest trees
+
 -- An ordered tree, with the type of each of its variables.
 pub record Body : Type 0 where
   pub types : ℕ → TypeExpr
@@ -85,30 +113,15 @@ module _ (declared : List TypeDef) (predicates : List PredDecl) where
   abbrev pub finished : Bound → Body → Node
   finished bound body = graded declared (modes_of predicates) body.types [] (find declared body.types bound body.tree)
 
-  -- The categories that a library unit declares are taken as they are.
-  abbrev pub own_faults : Option ℕ → ModeDecl → Node → List Refusal
-  own_faults None mode tree = declaration_faults mode.category mode.span (category_at tree)
-  own_faults (Some unit) mode tree = []
+  -- those of procedures that have these bodies
+  abbrev pub all_finished : List Procedure → List Body → List Node
+  all_finished [] bodies = []
+  all_finished (first ∷ rest) [] = []
+  all_finished (first ∷ rest) (body ∷ bodies) = finished (bound_at first.mode.args) body ∷ all_finished rest bodies
 
-  -- what is wrong with a mode of a predicate of this unit
-  abbrev pub mode_faults : Option ℕ → ModeDecl → Node → List Refusal
-  mode_faults unit mode tree = own_faults unit mode tree ++ parallel_faults tree
-
-  -- what is wrong with modes that have these bodies, in their order
-  abbrev pub all_mode_faults : Option ℕ → List ModeDecl → List Body → List Refusal
-  all_mode_faults unit [] bodies = []
-  all_mode_faults unit (mode ∷ rest) [] = []
-  all_mode_faults unit (mode ∷ rest) (body ∷ bodies) = mode_faults unit mode (finished (bound_at mode.args) body) ++ all_mode_faults unit rest bodies
-
-  -- what is wrong with predicates that have these bodies, one for each mode
-  abbrev pub predicate_faults : List PredDecl → List (List Body) → List Refusal
-  predicate_faults [] bodies = []
-  predicate_faults (first ∷ rest) [] = []
-  predicate_faults (first ∷ rest) (own ∷ bodies) = all_mode_faults first.unit first.modes own ++ predicate_faults rest bodies
-
-  -- The fault of a module's categories: the first by its place, then its rule, then the number of its mode.
-  abbrev pub category_fault : List (List Body) → Option Refusal
-  category_fault bodies = first_of_faults (predicate_faults predicates bodies)
+  -- The fault of the categories of a module whose procedures have these bodies: the first by its place, then its rule, then the number of its mode.
+  abbrev pub category_fault : List Body → Option Refusal
+  category_fault bodies = first_of_faults (procedure_faults (procedures_of predicates) (all_finished (procedures_of predicates) bodies))
 
   -- the fault of a goal that is asked
   abbrev pub query_category_fault : Body → Option Refusal

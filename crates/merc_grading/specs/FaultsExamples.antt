@@ -57,7 +57,7 @@ abbrev is_green : Node
 is_green = goal_at 21 (Basic (Split c green []))
 
 abbrev fault_of : ModeDecl → Node → Option Refusal
-fault_of mode tree = category_fault declared (predicate None (mode ∷ []) ∷ []) ((body tree ∷ []) ∷ [])
+fault_of mode tree = category_fault declared (predicate None (mode ∷ []) ∷ []) (body tree ∷ [])
 
 abbrev wrong : ℕ → Category → Category → Refusal
 wrong byte category inferred = record { rule = WrongCategory; place = place_of (at byte); detail = Categories category inferred }
@@ -79,19 +79,19 @@ switch_is_det : fault_of (mode_at 5 Det) (goal_at 20 (Disjunction (nodes_of (is_
 switch_is_det = refl
 
 -- the categories that a library unit declares are not refused
-of_unit : category_fault declared (predicate (Some 90) (mode_at 5 Det ∷ []) ∷ []) ((body is_red ∷ []) ∷ []) ≡ None
+of_unit : category_fault declared (predicate (Some 90) (mode_at 5 Det ∷ []) ∷ []) (body is_red ∷ []) ≡ None
 of_unit = refl
 
 -- each mode of each predicate, and of several faults the one at the least place
 
-second_mode : category_fault declared (predicate None (mode_at 5 Semidet ∷ mode_at 6 Det ∷ []) ∷ []) ((body is_red ∷ body is_red ∷ []) ∷ []) ≡ Some (wrong 6 Det Semidet)
+second_mode : category_fault declared (predicate None (mode_at 5 Semidet ∷ mode_at 6 Det ∷ []) ∷ []) (body is_red ∷ body is_red ∷ []) ≡ Some (wrong 6 Det Semidet)
 second_mode = refl
 
 least_place : category_fault declared (predicate None (mode_at 9 Det ∷ []) ∷ predicate None (mode_at 5 Failure ∷ []) ∷ [])
-    ((body is_red ∷ []) ∷ (body is_red ∷ []) ∷ []) ≡ Some (wrong 5 Failure Semidet)
+    (body is_red ∷ body is_red ∷ []) ≡ Some (wrong 5 Failure Semidet)
 least_place = refl
 
-first_mode : category_fault declared (predicate None (mode_at 5 Det ∷ mode_at 5 Failure ∷ []) ∷ []) ((body is_red ∷ body is_red ∷ []) ∷ []) ≡ Some (wrong 5 Det Semidet)
+first_mode : category_fault declared (predicate None (mode_at 5 Det ∷ mode_at 5 Failure ∷ []) ∷ []) (body is_red ∷ body is_red ∷ []) ≡ Some (wrong 5 Det Semidet)
 first_mode = refl
 
 -- Parallel conjuncts.

@@ -1,5 +1,6 @@
 -- When the symbols in ordered goals fit the types of their variables.
-use Rattle.std.specs.Prelude.{◌≡◌, ℕ, List, [], ◌∷◌, map, Option, Some, None}
+use Rattle.std.specs.Prelude.{◌≡◌, ℕ, Bool, false, ◌==◌, ◌&&◌, List, [], ◌∷◌, length, map, Option, Some, None}
+use Rattle.std.specs.List.{list_any}
 use Rattle.std.specs.Option.{option_map}
 use Rattle.merc_tree.specs.Types.{TypeExpr}
 use Rattle.merc_tree.specs.declared.declarations.TypeDef.{TypeDef}
@@ -10,6 +11,14 @@ use Rattle.merc_graded_tree.specs.declared.basic.BasicGoal.{BasicGoal}
 use Rattle.merc_graded_tree.specs.declared.basic.BasicGoal.TheVariants.{Split}
 use Rattle.merc_graded_tree.specs.Nodes.{Node, node, Goal, Basic, Conjunction, Disjunction, Switch, Conditional, Negation, Quantified, Nodes, no_nodes, more_nodes, Arms, no_arms, more_arms}
 use Rattle.merc_grading.specs.Known.{symbol_of, symbols_of_type}
+
+abbrev pub are_alike : TypeDef → TypeDef → Bool
+are_alike one other = (other.name == one.name) && (length other.params == length one.params)
+
+-- Types are told apart by their names and their numbers of parameters.
+abbrev pub AreToldApart : List TypeDef → Type 0
+AreToldApart [] = Unit {0}
+AreToldApart (first ∷ rest) = (list_any (are_alike first) rest ≡ false) × AreToldApart rest
 
 -- all symbols of the type to which a symbol belongs, none where they have no end
 abbrev pub fellows : List TypeDef → Symbol → Option (List Symbol)

@@ -1,10 +1,17 @@
 -- Worked examples of symbols that fit their variables' types or not, over the types and variables of the examples of categories.
-use Rattle.std.specs.Prelude.{◌≡◌, List, [], ◌∷◌, pos, Some, None, refl}
+use Rattle.std.specs.Prelude.{◌≡◌, true, false, List, [], ◌∷◌, ◌++◌, pos, Some, None, refl}
 use Rattle.merc_goal_tree.specs.declared.goal.Symbol.TheVariants.{Constructor, Integer, Text}
 use Rattle.merc_graded_tree.specs.declared.basic.BasicGoal.TheVariants.{True}
 use Rattle.merc_graded_tree.specs.Nodes.{Node, Switch, Negation, Basic, no_arms, more_arms}
-use Rattle.merc_grading.specs.Fitting.{fellows, Fits}
+use Rattle.merc_grading.specs.Fitting.{fellows, AreToldApart, Fits}
 use Rattle.merc_grading.specs.GradingExamples.{declared, types, red, green, box, c, d, n, of, basic, is_red}
+
+AreToldApart-declared : AreToldApart declared
+AreToldApart-declared = (refl, (refl, tt))
+
+-- one name for two types
+AreToldApart-not : AreToldApart (declared ++ declared) → ⊥
+AreToldApart-not apart = let wrong : true ≡ false = apart.0 in cc
 
 fellows_red : fellows declared red ≡ Some (red ∷ green ∷ [])
 fellows_red = refl
