@@ -198,8 +198,8 @@ fn push_if<'a>(
     Ok(())
 }
 
-// The first of two faults, the one where they are of one place and rule.
-fn first_of(one: Option<Refusal>, other: Option<Refusal>) -> Option<Refusal>
+/// The first of two faults by its place, then its rule; the one where they agree in both. There may be none of either.
+pub fn first_of(one: Option<Refusal>, other: Option<Refusal>) -> Option<Refusal>
     ensures { (faults others : List Refusal) → one ≡ first_of_faults faults → other ≡ first_of_faults others → result ≡ first_of_faults (faults ++ others) }
 {
     match (one, other) {

@@ -12,5 +12,5 @@ mod planning;
 mod seen;
 mod symbols;
 
-pub use faults::{procedure_fault, query_fault};
+pub use faults::{first_of, procedure_fault, query_fault};
 pub use grading::grade;

@@ -1,0 +1,157 @@
+//! The check of the categories of procedures and of goals that are asked.
+ghost use Rattle.std.specs.Prelude.{◌≡◌, ◌<◌, ◌≤◌, ◌+◌, ℕ, List, [], ◌∷◌, ◌++◌, length, IfOk, OnOk};
+ghost use Rattle.merc_tree.specs.Types.{TypeExpr};
+ghost use Rattle.merc_order.specs.Bound.{nothing};
+ghost use Rattle.merc_order.specs.Procedures.{bound_at};
+ghost use Rattle.merc_modes.specs.Told.{IsTold};
+ghost use Rattle.merc_grading.specs.Faults.{Body, Procedure, all_finished, category_fault, finished, procedures_of, query_category_fault, with_modes};
+ghost use Rattle.merc_grading.specs.Fitting.{Fits};
+ghost use Rattle.merc_categories.specs.Fitted.{AreFitted, typed_as};
+ghost use Rattle.merc_categories.specs.Progress.{IsDone};
+
+use merc_base::{Fault, NoMemory, Refusal};
+use merc_det::{first_of, grade, procedure_fault, query_fault};
+use merc_graded_tree::{NodeRef, Nodes};
+use merc_known::Known;
+use merc_switch::find_switches;
+use merc_tree::{Arg, ModeDecl, PredDecl};
+use std::alloc::Global;
+
+/// What is done of procedures.
+#[derive(Drop)]
+struct Progress {
+    // how many are done
+    count: usize,
+    // their trees, with switches and categories
+    graded: Nodes,
+    // the first of their faults
+    fault: Option<Refusal>,
+}
+
+/// The trees of the procedures of a module, with their switches and the category of each part. The procedures are the
+/// predicates in each of their modes, in order, and `trees` are their goals in the order in which they run. That their
+/// symbols fit the types of their variables follows from the check of types. Switches and categories are those of
+/// docs/LANGUAGE.md, “Determinism categories”.
+///
+/// # Errors
+///
+/// The first fault of the procedures by its place, then its rule, then the order of its predicate and mode: rule 13 for
+/// a declaration of the file that does not allow the category of its body, rule 14 for a parallel conjunct that is
+/// neither `det` nor `erroneous`. `NoMemory` where memory was refused.
+pub fn check_categories(alloc: Global, known: &Known<'_>, trees: &Nodes) -> Result<Nodes, Fault>
+    requires { length trees.now ≡ length (procedures_of known.now.preds) }
+    ensures told { (bodies : List Body) → AreFitted known.now.types bodies trees.now → IsTold (category_fault known.now.types known.now.preds bodies) result }
+    ensures graded { IfOk result (λ graded. (bodies : List Body) → AreFitted known.now.types bodies trees.now → graded ≡ all_finished known.now.types known.now.preds (procedures_of known.now.preds) bodies) }
+{
+    let mut progress = nothing_done(alloc);
+    for declared in known.module().preds.as_slice() {
+        check_modes(alloc, known, declared, trees, &mut progress)?;
+    }
+    let Progress { graded, fault, .. } = progress;
+    told(graded, fault)
+}
+
+/// The tree of a goal that is asked, with its switches and the category of each part, as `check_categories` has them.
+///
+/// # Errors
+///
+/// The first fault of its parallel conjuncts by its place, rule 14. `NoMemory` where memory was refused.
+pub fn check_query_categories(
+    alloc: Global,
+    known: &Known<'_>,
+    tree: &NodeRef<'_>,
+) -> Result<Nodes, Fault>
+    ensures told { (types : ℕ → TypeExpr) → Fits known.now.types types tree.now → IsTold (query_category_fault known.now.types known.now.preds (typed_as types tree.now)) result }
+    ensures graded { IfOk result (λ graded. (types : ℕ → TypeExpr) → Fits known.now.types types tree.now → graded ≡ finished known.now.types known.now.preds nothing (typed_as types tree.now) ∷ []) }
+{
+    let mut graded = Nodes::new(alloc);
+    finish(alloc, known, &[], tree, &mut graded)?;
+    let fault = match graded.get(0) {
+        Some(tree) => query_fault(alloc, &tree)?,
+        None => None,
+    };
+    told(graded, fault)
+}
+
+// The trees, or the fault where there is one.
+fn told(trees: Nodes, fault: Option<Refusal>) -> Result<Nodes, Fault>
+    ensures told { IsTold fault result }
+    ensures trees { IfOk result (λ same. same ≡ trees) }
+{
+    match fault {
+        Some(refusal) => Err(Fault::Refused(refusal)),
+        None => Ok(trees),
+    }
+}
+
+fn nothing_done(alloc: Global) -> Progress
+    ensures { (result.count ≡ 0) × (result.graded ≡ []) × (result.fault ≡ None) }
+{
+    Progress {
+        count: 0,
+        graded: Nodes::new(alloc),
+        fault: None,
+    }
+}
+
+// Goes on with the modes of a predicate.
+fn check_modes(
+    alloc: Global,
+    known: &Known<'_>,
+    declared: &PredDecl,
+    trees: &Nodes,
+    progress: &mut Progress,
+) -> Result<(), NoMemory>
+    requires { progress.old.count + length declared.now.modes ≤ length trees.now }
+    ensures { OnOk result ((procedures : List Procedure) → IsDone known.now trees.now procedures progress.old → IsDone known.now trees.now (procedures ++ with_modes declared.now declared.now.modes) progress.new) }
+{
+    for mode in declared.modes.as_slice() {
+        check_mode(alloc, known, declared, mode, trees, progress)?;
+    }
+    Ok(())
+}
+
+// Goes on with one mode of a predicate.
+fn check_mode(
+    alloc: Global,
+    known: &Known<'_>,
+    declared: &PredDecl,
+    mode: &ModeDecl,
+    trees: &Nodes,
+    progress: &mut Progress,
+) -> Result<(), NoMemory>
+    requires { progress.old.count < length trees.now }
+    ensures { OnOk result ((procedures : List Procedure) → IsDone known.now trees.now procedures progress.old → IsDone known.now trees.now (procedures ++ with_modes declared.now (mode.now ∷ [])) progress.new) }
+{
+    let tree = match trees.get(progress.count) {
+        Some(tree) => tree,
+        None => unreachable!(),
+    };
+    finish(alloc, known, mode.args.as_slice(), &tree, &mut progress.graded)?;
+    let fault = match progress.graded.get(progress.count) {
+        Some(tree) => procedure_fault(alloc, &declared.unit, mode, &tree)?,
+        None => None,
+    };
+    progress.fault = first_of(progress.fault, fault);
+    progress.count += 1;
+    Ok(())
+}
+
+// Puts a tree with its switches and categories behind others. Bound before it are the arguments with these inputs.
+fn finish(
+    alloc: Global,
+    known: &Known<'_>,
+    inputs: &[Arg],
+    tree: &NodeRef<'_>,
+    graded: &mut Nodes,
+) -> Result<(), NoMemory>
+    ensures { OnOk result ((types : ℕ → TypeExpr) → Fits known.now.types types tree.now → graded.new ≡ graded.old ++ finished known.now.types known.now.preds (bound_at inputs.now) (typed_as types tree.now) ∷ []) }
+{
+    let mut switched = Nodes::new(alloc);
+    find_switches(alloc, known, inputs, tree, &mut switched)?;
+    // There is one where its symbols fit.
+    if let Some(whole) = switched.get(0) {
+        grade(alloc, known, &whole, graded)?;
+    }
+    Ok(())
+}
