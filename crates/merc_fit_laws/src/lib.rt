@@ -1,0 +1,4 @@
+//! Laws of symbols and the types of their variables.
+#![tactic(auto)]
+
+pub mod laws;
