@@ -3,9 +3,16 @@ use Rattle.std.specs.Prelude.{ℕ, List}
 use Rattle.merc_base.specs.declared.refusal.Refusal.{Refusal}
 use Rattle.merc_tree.specs.Term.{Term}
 use Rattle.merc_tree.specs.declared.declarations.Module.{Module}
+use Rattle.merc_graded_tree.specs.Nodes.{Node}
 use Rattle.merc_terms.specs.Texts.{ReadsGoal, RefusesGoalText}
 use Rattle.merc_items.specs.ReadModule.{IsModule, RefusesModule}
 use Rattle.merc_check.specs.Accepted.{AcceptsClauses, AcceptsGoal, RefusesClauses, RefusesGoal}
+
+-- What is kept of an accepted module: the items of its text, the module, and the trees of its procedures.
+pub record CheckedModule : Type 0 where
+  pub items : List Term
+  pub module : Module
+  pub trees : List Node
 
 -- A text is a module of these items whose clauses are accepted. The table of names held the first before the text was read, and holds the second behind it.
 pub record IsAccepted (before after : List (List ℕ)) (text : List ℕ) (items : List Term) (found : Module) : Type 0 where

@@ -1,20 +1,27 @@
 //! The check of clauses and of goals.
-ghost use Rattle.std.specs.Prelude.{◌≡◌, length, map, IfErr, IfOk};
+ghost use Rattle.std.specs.Prelude.{◌≡◌, ℕ, List, [], ◌∷◌, length, map, IfErr, IfOk};
 ghost use Rattle.merc_tree.specs.declared.declarations.Clause.{Clause};
 ghost use Rattle.merc_terms.specs.Items.{IsRefusal};
 ghost use Rattle.merc_goal_tree.specs.Nodes.{Node};
+ghost use Rattle.merc_graded_tree.specs.Nodes.{Node as OrderedNode};
 ghost use Rattle.merc_type_check.specs.Checked.{Tells, head_of};
 ghost use Rattle.merc_type_check.specs.TypeNumbers.{AreDeclared};
 ghost use Rattle.merc_bodies.specs.Bodies.{asked_body, body_of, numbered, own_variables};
-ghost use Rattle.merc_order.specs.Procedures.{modes_of, order_fault, query_from};
+ghost use Rattle.merc_order.specs.Procedures.{modes_of, order_fault, procedure_trees, query_from, IsQuery};
 ghost use Rattle.merc_modes.specs.Told.{IsTold, fault_in};
-ghost use Rattle.merc_check.specs.Accepted.{AcceptsClauses, AcceptsGoal, RefusesClauses, RefusesGoal, declared_arguments, type_mismatch};
+ghost use Rattle.merc_grading.specs.Faults.{Body, all_finished, category_fault, procedures_of, query_category_fault};
+ghost use Rattle.merc_grading.specs.Fitting.{AreToldApart};
+ghost use Rattle.merc_fit_laws.specs.HeadTypes.{declared_arguments};
+ghost use Rattle.merc_fit_laws.specs.ProcedureBodies.{AreBodiesOf, IsAskedBody};
+ghost use Rattle.merc_check.specs.Accepted.{AcceptsClauses, AcceptsGoal, AreGraded, RefusesClauses, RefusesGoal, type_mismatch};
 ghost use Rattle.merc_check.specs.Untyped.{FindsUntyped};
 
 use merc_base::{Detail, Fault, Names, NoMemory, Refusal, Rule, Span};
 use merc_bodies::{Asked, asked_body, bodies};
+use merc_categories::{check_categories, check_query_categories};
 use merc_flat::{flatten, flatten_query};
 use merc_goal_tree::{NodeRef, Nodes, Predicate, Var};
+use merc_graded_tree::Nodes as OrderedNodes;
 use merc_known::{Callee, Known};
 use merc_modes::{order, order_query};
 use merc_scopes::Occurrence;
@@ -22,16 +29,24 @@ use merc_tree::{Clause, Shape, TermRef};
 use merc_type_check::{DeclaredTypes, is_typed};
 use std::alloc::Global;
 
-/// Checks the clauses of a module.
+/// The trees of a module's procedures: the goals of each predicate in each of its modes, in the order in which they run,
+/// with their switches and categories. The module's types are told apart by their names and numbers of parameters.
 ///
 /// # Errors
 ///
 /// `Refused` says what is wrong with the first clause that has a fault, of the first kind that any clause has: the form
 /// of its goals (rules 3 and 15), their variables and conjuncts (rule 16); an unknown predicate or constructor (rule 7);
 /// types that do not agree (rule 8); goals without an order, or variables that are unbound or bound where they may not be
-/// (rules 10, 11 and 12). `NoMemory` says that memory was refused.
-pub(crate) fn check_clauses(alloc: Global, known: &Known<'_>, names: &Names) -> Result<(), Fault>
-    ensures accepted { IfOk result (λ done. AcceptsClauses names.now known.now) }
+/// (rules 10, 11 and 12); a declared category that does not allow the inferred one, or a parallel conjunct that may fail
+/// or answer twice (rules 13 and 14). `NoMemory` says that memory was refused.
+pub(crate) fn check_clauses(
+    alloc: Global,
+    known: &Known<'_>,
+    names: &Names,
+) -> Result<OrderedNodes, Fault>
+    requires { AreToldApart known.now.types }
+    ensures accepted { IfOk result (λ trees. AcceptsClauses names.now known.now) }
+    ensures graded { IfOk result (λ trees. AreGraded names.now known.now trees) }
     ensures refused { IfErr result (λ fault. IsRefusal (RefusesClauses names.now known.now) fault) }
 {
     let forms = flatten(alloc, known, names)?;
@@ -39,19 +54,34 @@ pub(crate) fn check_clauses(alloc: Global, known: &Known<'_>, names: &Names) -> 
     if let Some(span) = first_untyped(alloc, known, &declared, &forms)? {
         return Err(Fault::Refused(type_mismatch(span)));
     }
-    check_order(alloc, known, &forms)
+    let ordered = check_order(alloc, known, &forms)?;
+    check_procedures(alloc, known, &ordered)
 }
 
-// Checks that each procedure has an order. The forms are those of the clauses, in order.
-fn check_order(alloc: Global, known: &Known<'_>, forms: &Nodes) -> Result<(), Fault>
+// The trees of the procedures, each in an order. The forms are those of the clauses, in order.
+fn check_order(alloc: Global, known: &Known<'_>, forms: &Nodes) -> Result<OrderedNodes, Fault>
     requires { (form : Clause → Node) × (forms.now ≡ map form known.now.clauses) }
-    ensures { (form : Clause → Node) → forms.now ≡ map form known.now.clauses → IsTold (order_fault known.now.preds (map (body_of form known.now.clauses) known.now.preds)) result }
+    ensures told { (form : Clause → Node) → forms.now ≡ map form known.now.clauses → IsTold (order_fault known.now.preds (map (body_of form known.now.clauses) known.now.preds)) result }
+    ensures trees { IfOk result (λ trees. (form : Clause → Node) → forms.now ≡ map form known.now.clauses → trees ≡ procedure_trees (modes_of known.now.preds) known.now.preds (map (body_of form known.now.clauses) known.now.preds)) }
 {
     let module = known.module();
     let preds = module.preds.as_slice();
     let bodies = bodies(alloc, preds, module.clauses.as_slice(), forms)?;
-    order(alloc, preds, &bodies)?;
-    Ok(())
+    order(alloc, preds, &bodies)
+}
+
+// The trees of the procedures with their switches and categories.
+fn check_procedures(
+    alloc: Global,
+    known: &Known<'_>,
+    ordered: &OrderedNodes,
+) -> Result<OrderedNodes, Fault>
+    requires apart { AreToldApart known.now.types }
+    requires count { length ordered.now ≡ length (procedures_of known.now.preds) }
+    ensures told { (form : Clause → Node) (bodies : List Body) → ordered.now ≡ procedure_trees (modes_of known.now.preds) known.now.preds (map (body_of form known.now.clauses) known.now.preds) → AreBodiesOf known.now form (procedures_of known.now.preds) bodies → IsTold (category_fault known.now.types known.now.preds bodies) result }
+    ensures graded { IfOk result (λ trees. (form : Clause → Node) (bodies : List Body) → ordered.now ≡ procedure_trees (modes_of known.now.preds) known.now.preds (map (body_of form known.now.clauses) known.now.preds) → AreBodiesOf known.now form (procedures_of known.now.preds) bodies → trees ≡ all_finished known.now.types known.now.preds (procedures_of known.now.preds) bodies) }
+{
+    check_categories(alloc, known, ordered)
 }
 
 /// Checks a goal that is asked over a module.
@@ -65,6 +95,7 @@ pub(crate) fn check_goal(
     goal: &TermRef<'_>,
     names: &Names,
 ) -> Result<(), Fault>
+    requires { AreToldApart known.now.types }
     ensures accepted { IfOk result (λ done. AcceptsGoal names.now known.now goal.now) }
     ensures refused { IfErr result (λ fault. IsRefusal (RefusesGoal names.now known.now goal.now) fault) }
 {
@@ -77,21 +108,36 @@ pub(crate) fn check_goal(
     if !is_typed(alloc, known, &declared, None, &form)? {
         return Err(Fault::Refused(type_mismatch(goal.span())));
     }
-    check_query_order(alloc, known, &form, query.answers.as_slice())
+    let ordered = check_query_order(alloc, known, &form, query.answers.as_slice())?;
+    check_query_tree(alloc, known, &ordered)
 }
 
-// Checks that a goal that is asked, of this form and with these answer variables, has an order.
+// The tree of a goal that is asked, of this form and with these answer variables, in an order.
 fn check_query_order(
     alloc: Global,
     known: &Known<'_>,
     form: &NodeRef<'_>,
     answers: &[Occurrence],
-) -> Result<(), Fault>
-    ensures { IsTold (fault_in (query_from (modes_of known.now.preds) (map (numbered 0 0 (own_variables 0 form.now)) (map (λ variable. variable.at) answers.now)) (asked_body form.now))) result }
+) -> Result<OrderedNodes, Fault>
+    ensures told { IsTold (fault_in (query_from (modes_of known.now.preds) (map (numbered 0 0 (own_variables 0 form.now)) (map (λ variable. variable.at) answers.now)) (asked_body form.now))) result }
+    ensures tree { IfOk result (λ trees. (tree : OrderedNode) × (trees ≡ tree ∷ []) × IsQuery (modes_of known.now.preds) (map (numbered 0 0 (own_variables 0 form.now)) (map (λ variable. variable.at) answers.now)) (asked_body form.now) tree) }
 {
     let asked = body_with_answers(alloc, form, answers)?;
     let preds = known.module().preds.as_slice();
-    order_query(alloc, preds, asked.answers.as_slice(), &asked.goal.as_ref())?;
+    order_query(alloc, preds, asked.answers.as_slice(), &asked.goal.as_ref())
+}
+
+// Checks the categories of a goal that is asked. There is one tree.
+fn check_query_tree(alloc: Global, known: &Known<'_>, ordered: &OrderedNodes) -> Result<(), Fault>
+    requires apart { AreToldApart known.now.types }
+    requires one { length ordered.now ≡ 1 }
+    ensures { (answers : List ℕ) (goal : Node) (tree : OrderedNode) (body : Body) → ordered.now ≡ tree ∷ [] → IsQuery (modes_of known.now.preds) answers goal tree → IsAskedBody known.now answers goal body → IsTold (query_category_fault known.now.types known.now.preds body) result }
+{
+    let tree = match ordered.get(0) {
+        Some(tree) => tree,
+        None => unreachable!(),
+    };
+    check_query_categories(alloc, known, &tree)?;
     Ok(())
 }
 

@@ -1,21 +1,68 @@
 //! The check of texts.
 ghost use Rattle.std.specs.Prelude.{◌≡◌, ◌≤◌, ◌++◌, ℕ, List, length, IfErr, IfOk};
 ghost use Rattle.merc_terms.specs.Items.{IsRefusal};
+ghost use Rattle.merc_check.specs.Accepted.{AreGraded};
 ghost use Rattle.merc_check.specs.Checked.{IsAccepted, IsGoal, Refuses, RefusesQuery};
 
 use crate::checking::{check_clauses, check_goal};
 use merc_base::{Fault, Names, Text};
+use merc_graded_tree::Nodes;
 use merc_items::module_of_items;
 use merc_known::Known;
 use merc_terms::{read_goal_text, read_text};
 use merc_tree::{Module, Term, Terms};
 use std::alloc::Global;
+use std::marker::Model;
 
-/// A module that is accepted, with the items of its text.
+/// A module that is accepted.
 #[derive(Drop)]
 pub struct Checked {
-    pub items: Terms,
-    pub module: Module,
+    items: Terms,
+    module: Module,
+    trees: Nodes,
+}
+
+impl Model for Checked {
+    ghost use Rattle.merc_check.specs.Checked.{CheckedModule};
+
+    ghost Value = { CheckedModule };
+
+    ghost use Rattle.std.specs.Coded.{codes};
+    ghost use Rattle.merc_tree.specs.TermCode.{term_code};
+    ghost use Rattle.merc_tree.specs.TypeTerms.{type_code};
+    ghost use Rattle.merc_graded_tree.specs.LabelCode.{node_code};
+
+    ghost coded = { Prim.hlevel (codes, term_code, type_code, node_code) };
+
+    ghost use Rattle.merc_grading.specs.Fitting.{AreToldApart};
+
+    ghost view = { λ c. record { items = c.items; module = c.module; trees = c.trees } };
+
+    ghost invariant = { λ c. AreToldApart c.module.types };
+}
+
+impl Checked {
+    /// The items of its text, in order.
+    pub fn items(&self) -> &Terms
+        ensures { result.now ≡ self.now.items }
+    {
+        &self.items
+    }
+
+    /// The module, with the items of the library units that it imports.
+    pub fn module(&self) -> &Module
+        ensures { result.now ≡ self.now.module }
+    {
+        &self.module
+    }
+
+    /// The goals of each predicate in each of its modes, both in their order, as they run: with their switches, and with
+    /// the category of each part.
+    pub fn trees(&self) -> &Nodes
+        ensures { result.now ≡ self.now.trees }
+    {
+        &self.trees
+    }
 }
 
 /// Checks a module. Names that the text and the library spell are added behind those in the table, also where the text
@@ -25,20 +72,26 @@ pub struct Checked {
 ///
 /// `Refused` says the first rule that the text breaks: a fault of its tokens, terms and items comes first (see
 /// `merc_items`), then the form of its goals (rules 3 and 15) and their limits (rule 16), then unknown predicates and
-/// constructors (rule 7), then types that do not agree (rule 8). `NoMemory` says that memory was refused.
+/// constructors (rule 7), then types that do not agree (rule 8), then modes (rules 10, 11 and 12), then categories
+/// (rules 13 and 14). `NoMemory` says that memory was refused.
 pub fn check(alloc: Global, text: &Text, names: &mut Names) -> Result<Checked, Fault>
     requires { length text.now ≤ 300000000 }
     ensures accepted { IfOk result (λ checked. IsAccepted names.old names.new text.now checked.items checked.module) }
+    ensures graded { IfOk result (λ checked. AreGraded names.new checked.module checked.trees) }
     ensures refused { IfErr result (λ fault. IsRefusal (Refuses names.old text.now) fault) }
     ensures grows { (more : List (List ℕ)) × (names.new ≡ names.old ++ more) }
 {
     let items = read_text(alloc, text.bytes(), names)?;
     let module = module_of_items(alloc, &items, names)?;
-    {
+    let trees = {
         let known = Known::of(alloc, &module)?;
-        check_clauses(alloc, &known, names)?;
-    }
-    Ok(Checked { items, module })
+        check_clauses(alloc, &known, names)?
+    };
+    Ok(Checked {
+        items,
+        module,
+        trees,
+    })
 }
 
 /// Checks a goal that is asked over a module, whose names are in the table. Names that the goal spells are added behind
@@ -50,16 +103,16 @@ pub fn check(alloc: Global, text: &Text, names: &mut Names) -> Result<Checked, F
 /// then as for the clauses of a module. `NoMemory` says that memory was refused.
 pub fn check_query(
     alloc: Global,
-    module: &Module,
+    checked: &Checked,
     text: &Text,
     names: &mut Names,
 ) -> Result<Term, Fault>
-    ensures accepted { IfOk result (λ goal. IsGoal names.old names.new «module».now text.now goal) }
-    ensures refused { IfErr result (λ fault. IsRefusal (RefusesQuery names.old «module».now text.now) fault) }
+    ensures accepted { IfOk result (λ goal. IsGoal names.old names.new checked.now.module text.now goal) }
+    ensures refused { IfErr result (λ fault. IsRefusal (RefusesQuery names.old checked.now.module text.now) fault) }
     ensures grows { (more : List (List ℕ)) × (names.new ≡ names.old ++ more) }
 {
     let goal = read_goal_text(alloc, text.bytes(), names)?;
-    let known = Known::of(alloc, module)?;
+    let known = Known::of(alloc, &checked.module)?;
     check_goal(alloc, &known, &goal.as_ref(), names)?;
     Ok(goal)
 }

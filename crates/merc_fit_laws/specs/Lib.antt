@@ -1,2 +1,3 @@
+pub mod HeadTypes
 pub mod Laws
 pub mod ProcedureBodies

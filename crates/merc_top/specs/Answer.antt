@@ -2,7 +2,8 @@
 use Rattle.std.specs.Prelude.{◌≡◌, ◌≢◌, ◌<◌, ◌⊎◌, ◌↔◌, ℕ, List, Option, Some, None}
 use Rattle.merc_base.specs.Outside.{Files, file_named, appended}
 use Rattle.merc_top.specs.Statuses.{unread_status, unwritten_status, no_memory_status}
-use Rattle.merc_top.specs.Words.{IsRequest}
+use Rattle.merc_top.specs.declared.words.Request.{Request}
+use Rattle.merc_top.specs.Words.{IsRequest, file_of}
 use Rattle.merc_top.specs.Writing.{PutsFront}
 use Rattle.merc_top.specs.Output.{IsOutput, text_of}
 
@@ -14,7 +15,7 @@ AreFiles (Some told) files = files ≡ told
 -- the words name a file that is not among those told
 abbrev pub NamesAbsent : List (List ℕ) → Option Files → Type 0
 NamesAbsent words None = ⊥
-NamesAbsent words (Some files) = (file : List ℕ) × (goal : List ℕ) × IsRequest words file goal × (file_named file files ≡ None)
+NamesAbsent words (Some files) = (request : Request) × IsRequest words request × (file_named (file_of request) files ≡ None)
 
 -- this status is due for these words over these files
 abbrev pub IsStatusDue : List (List ℕ) → Files → ℕ → Type 0

@@ -3,6 +3,8 @@ pub mod Outcome
 pub mod Words
 pub mod Loading
 pub mod Writing
+pub mod Lines
+pub mod Checking
 pub mod Output
 pub mod Answer
 pub mod Machine

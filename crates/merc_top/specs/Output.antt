@@ -14,21 +14,20 @@ use Rattle.merc_tree.specs.Trace.{Env, Run, RunEnd, RunDone, RunRaised, LimitPas
 use Rattle.merc_tree.specs.Meaning.{run, value_at}
 use Rattle.merc_tree.specs.Term.{Term}
 use Rattle.merc_tree.specs.declared.declarations.Module.{Module}
+use Rattle.merc_graded_tree.specs.Nodes.{Node}
+use Rattle.merc_check.specs.Accepted.{AreGraded}
 use Rattle.merc_check.specs.Checked.{IsAccepted, IsGoal, Refuses, RefusesQuery}
 use Rattle.merc_first_form.specs.declared.syntax.Conjunct.{Conjunct}
 use Rattle.merc_first_form.specs.declared.syntax.Source.{Source}
 use Rattle.merc_first_form.specs.Reading.{source_of, goal_of}
 use Rattle.merc_first_form.specs.FlatForm.{variables_of, procedures_of, query_of}
-use Rattle.merc_top.specs.Statuses.{solved_status, unsolved_status, raised_status, limit_status, module_status, goal_status, usage_status, unread_status, too_long_status}
-use Rattle.merc_top.specs.Words.{IsRequest, IsNoRequest, usage_line}
+use Rattle.merc_top.specs.Statuses.{accepted_status, solved_status, unsolved_status, raised_status, limit_status, module_status, goal_status, usage_status, unread_status, too_long_status}
+use Rattle.merc_top.specs.Lines.{line, comma_list}
+use Rattle.merc_top.specs.declared.words.Request.{Request}
+use Rattle.merc_top.specs.declared.words.Request.TheVariants.{Solve, Check}
+use Rattle.merc_top.specs.Words.{IsNoRequest, IsRequest, file_of, usage_line}
 use Rattle.merc_top.specs.Loading.{file_limit}
-
-abbrev pub line_end : List ℕ
-line_end = codes "\n"
-
--- the text of a lone line
-abbrev pub line : List ℕ → List ℕ
-line text = text ++ line_end
+use Rattle.merc_top.specs.Checking.{check_lines}
 
 -- a value as it is printed; a variable without a value, which no answer variable is, prints as nothing
 abbrev pub value_text : Option Value → List ℕ
@@ -43,16 +42,6 @@ binding name value = name ++ codes " = " ++ value_text value
 abbrev pub bindings : ℕ → List (List ℕ) → Env → List (List ℕ)
 bindings number [] env = []
 bindings number (name ∷ names) env = binding name (value_at env number) ∷ bindings (number + 1) names env
-
--- each of these texts behind a comma and a blank
-abbrev pub behind_commas : List (List ℕ) → List ℕ
-behind_commas [] = []
-behind_commas (text ∷ texts) = codes ", " ++ text ++ behind_commas texts
-
--- these texts with a comma and a blank between each two; `true` where there is none
-abbrev pub comma_list : List (List ℕ) → List ℕ
-comma_list [] = codes "true"
-comma_list (text ∷ texts) = text ++ behind_commas texts
 
 -- the line of a solution, for the names of the answer variables
 abbrev pub solution_line : List (List ℕ) → Env → List ℕ
@@ -119,15 +108,26 @@ pub data IsDue (name file goal : List ℕ) : List (List ℕ) → ℕ → Type 0 
   goal_outside : (names : List (List ℕ)) (items : List Term) (term : Term) (source : Source) → AreRead file goal names items term → source_of names items ≡ Some source → goal_of names source term ≡ None → IsDue name file goal (refusal_line (codes "goal") stage_refusal ∷ []) goal_status
   runs : (names : List (List ℕ)) (items : List Term) (term : Term) (source : Source) (conjuncts : List Conjunct) (lines : List (List ℕ)) (status : ℕ) → AreRead file goal names items term → source_of names items ≡ Some source → goal_of names source term ≡ Some conjuncts → IsRunDue (variables_of [] conjuncts) (run_of source conjuncts) lines status → IsDue name file goal lines status
 
+-- What is due for the check of a file of this name and text: what is wrong with it, or its procedures with their categories.
+pub data IsCheckDue (name file : List ℕ) : List (List ℕ) → ℕ → Type 0 where
+  check_refused : (refusal : Refusal) → Refuses fixed_names file refusal → IsCheckDue name file (refusal_line name refusal ∷ []) module_status
+  check_accepted : (names : List (List ℕ)) (items : List Term) (found : Module) (trees : List Node) → IsAccepted fixed_names names file items found → AreGraded names found trees
+      → IsCheckDue name file (check_lines names found trees) accepted_status
+
+-- what is due for a request whose file has this text
+abbrev pub IsRequestDue : Request → List ℕ → List (List ℕ) → ℕ → Type 0
+IsRequestDue (Solve file goal) text = IsDue file.now text goal.now
+IsRequestDue (Check file) text = IsCheckDue file.now text
+
 -- the named file: absent, too long, or read
-abbrev pub FileOutput : List ℕ → Option (List ℕ) → List ℕ → List (List ℕ) → ℕ → Type 0
-FileOutput name None goal lines status = (lines ≡ []) × (status ≡ unread_status)
-FileOutput name (Some file) goal lines status =
-    ((file_limit < length file) × (lines ≡ too_long_line name ∷ []) × (status ≡ too_long_status))
-    ⊎ ((length file ≤ file_limit) × IsDue name file goal lines status)
+abbrev pub FileOutput : Request → Option (List ℕ) → List (List ℕ) → ℕ → Type 0
+FileOutput request None lines status = (lines ≡ []) × (status ≡ unread_status)
+FileOutput request (Some text) lines status =
+    ((file_limit < length text) × (lines ≡ too_long_line (file_of request) ∷ []) × (status ≡ too_long_status))
+    ⊎ ((length text ≤ file_limit) × IsRequestDue request text lines status)
 
 -- the lines and the status that are due for these words over these files
 abbrev pub IsOutput : List (List ℕ) → Files → List (List ℕ) → ℕ → Type 0
 IsOutput words files lines status =
     (IsNoRequest words × (lines ≡ usage_line ∷ []) × (status ≡ usage_status))
-    ⊎ ((file : List ℕ) × (goal : List ℕ) × IsRequest words file goal × FileOutput file (file_named file files) goal lines status)
+    ⊎ ((request : Request) × IsRequest words request × FileOutput request (file_named (file_of request) files) lines status)

@@ -5,6 +5,10 @@ use Rattle.std.specs.Prelude.{ℕ}
 abbrev pub solved_status : ℕ
 solved_status = 0
 
+-- the module that is checked breaks no rule
+abbrev pub accepted_status : ℕ
+accepted_status = 0
+
 -- the run has no solution
 abbrev pub unsolved_status : ℕ
 unsolved_status = 1

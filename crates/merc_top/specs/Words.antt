@@ -1,5 +1,7 @@
 -- What the words of a command ask for.
 use Rattle.std.specs.Prelude.{◌≡◌, ℕ, Bool, false, ◌==◌, List, [], ◌∷◌, codes, IsUtf8}
+use Rattle.merc_top.specs.declared.words.Request.{Request}
+use Rattle.merc_top.specs.declared.words.Request.TheVariants.{Solve, Check}
 
 -- the character `-`
 abbrev pub hyphen : ℕ
@@ -17,14 +19,29 @@ pub record IsPlainWord (word : List ℕ) : Type 0 where
   pub plain : is_option word ≡ false
 
 -- the words are `solve FILE GOAL`
-pub record IsRequest (words : List (List ℕ)) (file goal : List ℕ) : Type 0 where
+pub record IsSolve (words : List (List ℕ)) (file goal : List ℕ) : Type 0 where
   pub spelled : words ≡ codes "solve" ∷ file ∷ goal ∷ []
   pub file_word : IsPlainWord file
   pub goal_word : IsPlainWord goal
 
+-- the words are `check FILE`
+pub record IsCheck (words : List (List ℕ)) (file : List ℕ) : Type 0 where
+  pub spelled : words ≡ codes "check" ∷ file ∷ []
+  pub file_word : IsPlainWord file
+
+-- the words ask for this
+abbrev pub IsRequest : List (List ℕ) → Request → Type 0
+IsRequest words (Solve file goal) = IsSolve words file.now goal.now
+IsRequest words (Check file) = IsCheck words file.now
+
 -- the words ask for nothing that there is
 abbrev pub IsNoRequest : List (List ℕ) → Type 0
-IsNoRequest words = (file goal : List ℕ) → IsRequest words file goal → ⊥
+IsNoRequest words = (request : Request) → IsRequest words request → ⊥
+
+-- the name of the file that is asked for
+abbrev pub file_of : Request → List ℕ
+file_of (Solve file goal) = file.now
+file_of (Check file) = file.now
 
 -- the line that every refusal of the words is answered by
 unfoldable pub usage_line : List ℕ

@@ -1,7 +1,7 @@
 //! The top call.
 ghost use Rattle.std.specs.Prelude.{◌≡◌, ◌<◌, ◌≤◌, All, ℕ, List, IfOk, IfErr, false, [], ◌∷◌, length};
 ghost use Rattle.merc_top.specs.Loading.{file_limit};
-ghost use Rattle.merc_top.specs.Output.{AreRead, IsDue, IsRunDue, refusal_line, run_of, stage_refusal, too_long_line};
+ghost use Rattle.merc_top.specs.Output.{AreRead, IsCheckDue, IsDue, IsRequestDue, IsRunDue, refusal_line, run_of, stage_refusal, too_long_line};
 ghost use Rattle.merc_top.specs.Statuses.{too_long_status, usage_status};
 ghost use Rattle.merc_top.specs.Words.{usage_line};
 ghost use Rattle.merc_top.specs.Outcome.{IsOutcome};
@@ -10,11 +10,12 @@ ghost use Rattle.merc_top.specs.Answer.{Answers};
 ghost use Rattle.merc_first_form.specs.FlatForm.{variables_of};
 ghost use Rattle.merc_tree.specs.Trace.{Run};
 
+use crate::checking::check_lines;
 use crate::evaluating::{Outcome, solve};
 use crate::lines::{refusal_line, solution_line, solutions_line, step_limit_line, too_long_line};
 use crate::loading::{LoadFault, load};
 use crate::statuses;
-use crate::words::read_words;
+use crate::words::{Request, read_words};
 use crate::writing::{WriteFault, put_lines};
 use merc_base::{
     Construct, Detail, Fault, Gate, Names, NoMemory, Place, Refusal, Rule, Sequence, Shelf, Sink,
@@ -123,14 +124,14 @@ fn text_due(alloc: Global, name: &Text, text: &Text, goal: &Text) -> Result<Due,
         }
         Err(Fault::NoMemory) => return Err(NoMemory),
     };
-    let term = match check_query(alloc, &checked.module, goal, &mut names) {
+    let term = match check_query(alloc, &checked, goal, &mut names) {
         Ok(term) => term,
         Err(Fault::Refused(refusal)) => {
             return refused(alloc, statuses::GOAL_REFUSED, b"goal", &refusal);
         }
         Err(Fault::NoMemory) => return Err(NoMemory),
     };
-    read_due(alloc, name, &checked.items, &term, &names)
+    read_due(alloc, name, checked.items(), &term, &names)
 }
 
 // What is due for a file of this name that is an accepted module of these items, and an accepted goal.
@@ -174,6 +175,35 @@ impl From<NoMemory> for Trouble {
     }
 }
 
+// What is due for the check of a file of this name and text.
+fn check_due(alloc: Global, name: &Text, text: &Text) -> Result<Due, NoMemory>
+    requires { length text.now ≤ file_limit }
+    ensures { IfOk result (λ due. IsCheckDue name.now text.now due.lines due.status) }
+{
+    let mut names = Names::new(alloc);
+    match check(alloc, text, &mut names) {
+        Ok(checked) => Ok(Due {
+            status: statuses::ACCEPTED,
+            lines: check_lines(alloc, &names, checked.module(), checked.trees())?,
+        }),
+        Err(Fault::Refused(refusal)) => {
+            refused(alloc, statuses::MODULE_REFUSED, name.bytes(), &refusal)
+        }
+        Err(Fault::NoMemory) => Err(NoMemory),
+    }
+}
+
+// What is due for a request whose file has this text.
+fn request_due(alloc: Global, request: &Request<'_>, text: &Text) -> Result<Due, NoMemory>
+    requires { length text.now ≤ file_limit }
+    ensures { IfOk result (λ due. IsRequestDue request.now text.now due.lines due.status) }
+{
+    match request {
+        Request::Solve { file, goal } => text_due(alloc, file, text, goal),
+        Request::Check { file } => check_due(alloc, file, text),
+    }
+}
+
 // What is due for words over a shelf.
 fn find_due<S: Shelf>(alloc: Global, words: &[Text], shelf: &mut S) -> Result<Due, Trouble>
     requires { S.read_faults shelf.old < 18446744073709551615 }
@@ -184,9 +214,10 @@ fn find_due<S: Shelf>(alloc: Global, words: &[Text], shelf: &mut S) -> Result<Du
         Some(request) => request,
         None => return Ok(usage_due(alloc)?),
     };
-    match load(alloc, shelf, request.file) {
-        Ok(text) => Ok(text_due(alloc, request.file, &text, request.goal)?),
-        Err(LoadFault::TooLong) => Ok(too_long_due(alloc, request.file.bytes())?),
+    let file = request.file();
+    match load(alloc, shelf, file) {
+        Ok(text) => Ok(request_due(alloc, &request, &text)?),
+        Err(LoadFault::TooLong) => Ok(too_long_due(alloc, file.bytes())?),
         Err(LoadFault::Unread) => Err(Trouble::Unread),
         Err(LoadFault::NoMemory) => Err(Trouble::NoMemory),
     }
@@ -194,12 +225,13 @@ fn find_due<S: Shelf>(alloc: Global, words: &[Text], shelf: &mut S) -> Result<Du
 
 /// Does all that the program does, and answers the status that it ends with.
 ///
-/// The words, without the program's own name, are `solve FILE GOAL`. The whole file is read from the shelf before
+/// The words, without the program's own name, are `solve FILE GOAL` or `check FILE`. The whole file is read from the shelf before
 /// anything is written. Then the lines that are due go to the sink in order, each as one piece, and the rest of it again
 /// where less was taken; after a write that failed there is no other. The text of each line and the meaning of each
 /// status stand in docs/COMMANDS.md, and what is due in specs/Output.antt:
 ///
-/// - 0, 1, 2 and 3 are the statuses of a run: it has solutions; it has none; an exception; the step limit.
+/// - 0, 1, 2 and 3 are the statuses of a run: it has solutions; it has none; an exception; the step limit. 0 is that of a
+///   module that is checked and accepted as well.
 /// - 4 refuses the module and 5 the goal, and the line says why.
 /// - 6 refuses the words.
 /// - 7: a read failed or no such file is there. Nothing was written.

@@ -2,6 +2,7 @@
 #![tactic(auto)]
 
 mod answering;
+mod checking;
 mod evaluating;
 mod lines;
 mod loading;

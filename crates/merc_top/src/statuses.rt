@@ -2,6 +2,8 @@
 
 /// The run has solutions, and no further one.
 pub const SOLVED: u8 = 0;
+/// The module that is checked breaks no rule.
+pub const ACCEPTED: u8 = 0;
 /// The run has no solution.
 pub const UNSOLVED: u8 = 1;
 /// The run passed its step limit.
