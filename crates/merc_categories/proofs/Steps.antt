@@ -1,5 +1,5 @@
 -- Steps of the check of procedures.
-use Rattle.std.proofs.Common.{◌≡◌, ℕ, suc, List, [], ◌∷◌, ◌++◌, length, Option, Some, None, slice_get, refl, sym, ap, ◌∙◌}
+use Rattle.std.proofs.Common.{◌≡◌, ℕ, zero, suc, List, [], ◌∷◌, ◌++◌, length, Option, Some, None, slice_get, refl, sym, ap, subst, ◌∙◌}
 use Rattle.std.proofs.lemmas.List.{append_assoc, append-nil}
 use Rattle.std.proofs.lemmas.Option.{same_Some}
 use Rattle.merc_base.specs.declared.refusal.Refusal.{Refusal}
@@ -26,7 +26,7 @@ body_at declared (body ∷ bodies) (first ∷ trees) zero tree fitted there =
     let same : body.tree ≡ tree = fitted.0 ∙ same_Some first tree there in
     (body, record { there = refl; is = ap (λ t. typed_as body.types t) same; fits = subst (λ t. Fits declared body.types t) (same_Some first tree there) fitted.1.0 })
 body_at declared (body ∷ bodies) (first ∷ trees) (suc index) tree fitted there =
-    let found = body_at declared bodies trees index tree fitted.1.1 there in
+    let found = body_at declared bodies trees index tree fitted.2 there in
     (found.0, record { there = found.1.there; is = found.1.is; fits = found.1.fits })
 
 module _ (declared : List TypeDef) (predicates : List PredDecl) where

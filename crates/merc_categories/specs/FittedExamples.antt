@@ -5,12 +5,12 @@ use Rattle.merc_grading.specs.GradingExamples.{declared, types, red, green, c, n
 use Rattle.merc_categories.specs.Fitted.{AreFitted, typed_as}
 
 AreFitted-one : AreFitted declared (typed_as types (is_red c) ∷ []) (is_red c ∷ [])
-AreFitted-one = (refl, (refl, tt))
+AreFitted-one = (refl, refl, tt)
 
 -- an integer that is red
 AreFitted-not : AreFitted declared (typed_as types (is_red n) ∷ []) (is_red n ∷ []) → ⊥
-AreFitted-not fitted = let wrong : None ≡ Some (red ∷ green ∷ []) = fitted.1.0 in cc
+AreFitted-not fitted = let wrong : None ≡ Some (red ∷ green ∷ []) = fitted.1 in cc
 
 -- one tree more than there are bodies
 AreFitted-few : AreFitted declared (typed_as types (is_red c) ∷ []) (is_red c ∷ is_red c ∷ []) → ⊥
-AreFitted-few fitted = fitted.1.1
+AreFitted-few fitted = fitted.2

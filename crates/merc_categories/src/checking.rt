@@ -1,6 +1,8 @@
 //! The check of the categories of procedures and of goals that are asked.
 ghost use Rattle.std.specs.Prelude.{◌≡◌, ◌<◌, ◌≤◌, ◌+◌, ℕ, List, [], ◌∷◌, ◌++◌, length, IfOk, OnOk};
 ghost use Rattle.merc_tree.specs.Types.{TypeExpr};
+ghost use Rattle.merc_tree.specs.declared.declarations.Module.{Module};
+ghost use Rattle.merc_graded_tree.specs.Nodes.{Node};
 ghost use Rattle.merc_order.specs.Bound.{nothing};
 ghost use Rattle.merc_order.specs.Procedures.{bound_at};
 ghost use Rattle.merc_modes.specs.Told.{IsTold};
@@ -20,8 +22,8 @@ use std::alloc::Global;
 /// What is done of procedures.
 #[derive(Drop)]
 struct Progress {
-    // how many are done
-    count: usize,
+    // how many are left
+    left: usize,
     // their trees, with switches and categories
     graded: Nodes,
     // the first of their faults
@@ -43,7 +45,7 @@ pub fn check_categories(alloc: Global, known: &Known<'_>, trees: &Nodes) -> Resu
     ensures told { (bodies : List Body) → AreFitted known.now.types bodies trees.now → IsTold (category_fault known.now.types known.now.preds bodies) result }
     ensures graded { IfOk result (λ graded. (bodies : List Body) → AreFitted known.now.types bodies trees.now → graded ≡ all_finished known.now.types known.now.preds (procedures_of known.now.preds) bodies) }
 {
-    let mut progress = nothing_done(alloc);
+    let mut progress = nothing_done(alloc, trees.len());
     for declared in known.module().preds.as_slice() {
         check_modes(alloc, known, declared, trees, &mut progress)?;
     }
@@ -84,11 +86,12 @@ fn told(trees: Nodes, fault: Option<Refusal>) -> Result<Nodes, Fault>
     }
 }
 
-fn nothing_done(alloc: Global) -> Progress
-    ensures { (result.count ≡ 0) × (result.graded ≡ []) × (result.fault ≡ None) }
+// Of so many procedures nothing is done.
+fn nothing_done(alloc: Global, count: usize) -> Progress
+    ensures { (known : Module) (trees : List Node) → length trees ≡ count → IsDone known trees [] result }
 {
     Progress {
-        count: 0,
+        left: count,
         graded: Nodes::new(alloc),
         fault: None,
     }
@@ -102,7 +105,8 @@ fn check_modes(
     trees: &Nodes,
     progress: &mut Progress,
 ) -> Result<(), NoMemory>
-    requires { progress.old.count + length declared.now.modes ≤ length trees.now }
+    requires enough { length declared.now.modes ≤ progress.old.left }
+    requires within { progress.old.left ≤ length trees.now }
     ensures { OnOk result ((procedures : List Procedure) → IsDone known.now trees.now procedures progress.old → IsDone known.now trees.now (procedures ++ with_modes declared.now declared.now.modes) progress.new) }
 {
     for mode in declared.modes.as_slice() {
@@ -120,20 +124,22 @@ fn check_mode(
     trees: &Nodes,
     progress: &mut Progress,
 ) -> Result<(), NoMemory>
-    requires { progress.old.count < length trees.now }
+    requires enough { 0 < progress.old.left }
+    requires within { progress.old.left ≤ length trees.now }
     ensures { OnOk result ((procedures : List Procedure) → IsDone known.now trees.now procedures progress.old → IsDone known.now trees.now (procedures ++ with_modes declared.now (mode.now ∷ [])) progress.new) }
 {
-    let tree = match trees.get(progress.count) {
+    let index = trees.len() - progress.left;
+    let tree = match trees.get(index) {
         Some(tree) => tree,
         None => unreachable!(),
     };
     finish(alloc, known, mode.args.as_slice(), &tree, &mut progress.graded)?;
-    let fault = match progress.graded.get(progress.count) {
+    let fault = match progress.graded.get(index) {
         Some(tree) => procedure_fault(alloc, &declared.unit, mode, &tree)?,
         None => None,
     };
     progress.fault = first_of(progress.fault, fault);
-    progress.count += 1;
+    progress.left -= 1;
     Ok(())
 }
 
@@ -149,9 +155,9 @@ fn finish(
 {
     let mut switched = Nodes::new(alloc);
     find_switches(alloc, known, inputs, tree, &mut switched)?;
-    // There is one where its symbols fit.
-    if let Some(whole) = switched.get(0) {
-        grade(alloc, known, &whole, graded)?;
+    match switched.get(0) {
+        Some(whole) => grade(alloc, known, &whole, graded),
+        // There is one where the symbols fit.
+        None => Ok(()),
     }
-    Ok(())
 }
