@@ -1,0 +1,6 @@
+pub mod Spelt
+pub mod TypedFitting
+pub mod FoundFitting
+pub mod ApartLists
+pub mod ApartKeys
+pub mod TypesApart

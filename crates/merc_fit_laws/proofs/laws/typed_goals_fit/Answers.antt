@@ -1,0 +1,9 @@
+use Rattle.merc_fit_laws.proofs.laws.typed_goals_fit.Goals as goal
+use Rattle.merc_fit_laws.proofs.Spelt.{spelt_has_no_switch}
+use Rattle.merc_fit_laws.proofs.TypedFitting.{typed_fits}
+
+pub returns-clause-spelt : goal.returns-clause-spelt
+returns-clause-spelt c = spelt_has_no_switch
+
+pub returns-clause-fits : goal.returns-clause-fits
+returns-clause-fits c = typed_fits
