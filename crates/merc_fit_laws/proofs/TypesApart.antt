@@ -1,8 +1,8 @@
 -- The types of a module are told apart, since no type is declared twice.
-use Rattle.std.proofs.Common.{◌≡◌, ℕ, suc, Bool, true, false, ◌==◌, ◌||◌, List, [], ◌∷◌, ◌++◌, length, map, flat_map, slice_get, Option, Some, if◌then◌else◌, bytes_eq, refl, ap, ap₂, sym, subst, ◌∙◌, append_assoc}
+use Rattle.std.proofs.Common.{◌≡◌, ℕ, suc, Bool, true, false, ◌==◌, ◌||◌, List, [], ◌∷◌, ◌++◌, length, map, flat_map, slice_get, Option, Some, if◌then◌else◌, refl, ap, ap₂, sym, subst, ◌∙◌, append_assoc}
 use Rattle.std.proofs.lemmas.List.{map-append}
 use Rattle.std.proofs.lemmas.List.Folds.{list_any-append}
-use Rattle.std.specs.List.{AllByRecursion, IsDistinct, list_all, list_any}
+use Rattle.std.specs.List.{AllByRecursion, list_all, list_any}
 use Rattle.merc_base.specs.Names.{bool_name, int_name, list_name, maybe_name, string_name, HoldsFixed}
 use Rattle.merc_base.specs.declared.groups.Key.{Key}
 use Rattle.merc_base.specs.declared.place.Place.{Place}
@@ -23,8 +23,8 @@ use Rattle.merc_entries.specs.LibraryItems.{bool_items, library_items, list_item
 use Rattle.merc_entries.proofs.LibraryReads.{units_are-library}
 use Rattle.merc_items.specs.ModuleOf.{parameters, type_defs, type_defs_of, unit_items}
 use Rattle.merc_items.specs.Phases.{double, doubles_phase, form, forms_phase, HasNoFault}
-use Rattle.merc_items.specs.ReadModule.{IsModule}
 use Rattle.merc_grading.specs.Fitting.{AreToldApart}
+use Rattle.merc_fit_laws.specs.Laws.{TypesAreToldApart}
 use Rattle.merc_fit_laws.proofs.ApartKeys.{key_of_type, declared_keys, AreKeysApart, types_apart, keys_apart}
 use Rattle.merc_fit_laws.proofs.ApartLists.{any_moved, apart_behind, apart_moved, apart_replaced}
 
@@ -192,9 +192,7 @@ module _ (names : List (List ℕ)) where
       (keys_apart (at_start (key int_name 0) ∷ at_start (key string_name 0) ∷ []) (declared_by types_of all)
       (λ again. faultless doubles_phase DeclaredTwice Plain again.at (double again.at (type_again again.at again.again))))))
 
--- The types of a module are told apart where the constants come first in the table of names, and each text stands once in it.
-pub types_are_told_apart : (before after : List (List ℕ)) (text : List ℕ) (terms : List Term) (found : Module) → HoldsFixed before → IsDistinct bytes_eq before
-    → IsModule before after text terms found → AreToldApart found.types
+pub types_are_told_apart : TypesAreToldApart
 types_are_told_apart before after text terms found fixed distinct is =
     let grown = ReadsItems-grows before is.read_names text terms is.reads in
     let read_fixed : HoldsFixed is.read_names = record {

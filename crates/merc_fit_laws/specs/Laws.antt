@@ -1,5 +1,8 @@
 -- Laws of symbols and the types of their variables.
 use Rattle.std.specs.Prelude.{ℕ, List}
+use Rattle.std.specs.List.{IsDistinct}
+use Rattle.std.specs.Str.{bytes_eq}
+use Rattle.merc_base.specs.Names.{HoldsFixed}
 use Rattle.merc_tree.specs.Term.{Term}
 use Rattle.merc_tree.specs.Types.{TypeExpr}
 use Rattle.merc_tree.specs.declared.declarations.ModeDecl.{ModeDecl}
@@ -44,6 +47,8 @@ TypedFits = (known : Module) (types : ℕ → TypeExpr) (tree : Node) → AreTol
 abbrev pub FoundFits : Type 0
 FoundFits = (declared : List TypeDef) (types : ℕ → TypeExpr) (bound : Bound) (tree : Node) → Fits declared types tree → Fits declared types (find declared types bound tree)
 
--- The types of a module that a text is are told apart, those of library units among them.
+-- The types of a module that a text is are told apart, those of library units among them. The table of names is as each is: the constants come first, and
+-- each text stands once.
 abbrev pub TypesAreToldApart : Type 0
-TypesAreToldApart = (before after : List (List ℕ)) (text : List ℕ) (terms : List Term) (found : Module) → IsModule before after text terms found → AreToldApart found.types
+TypesAreToldApart = (before after : List (List ℕ)) (text : List ℕ) (terms : List Term) (found : Module)
+    → HoldsFixed before → IsDistinct bytes_eq before → IsModule before after text terms found → AreToldApart found.types
