@@ -1,3 +1,4 @@
+pub mod Existence
 pub mod HeadTypes
 pub mod Laws
 pub mod LawsExamples

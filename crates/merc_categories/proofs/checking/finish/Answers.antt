@@ -10,5 +10,21 @@ use Rattle.merc_order.specs.Bound.{Bound}
 use Rattle.merc_grading.specs.Fitting.{Fits}
 use Rattle.merc_grading.specs.Grading.{graded}
 use Rattle.merc_grading.specs.Switches.{find}
-use Rattle.merc_fit_laws.proofs.FoundFits.{found_fits}
+use Rattle.merc_fit_laws.proofs.FoundFitting.{found_fits}
 use Rattle.merc_categories.proofs.checking.finish.Goals as goal
+
+-- Given are the declared types and modes, what is bound, a goal, and one goal for it where its symbols fit.
+module _ (declared : List TypeDef) (modes : ℕ → List ModeDecl) (bound : Bound) (tree : Node) (switched : List Node)
+    (found : (types : ℕ → TypeExpr) → Fits declared types tree → switched ≡ find declared types bound tree ∷ []) where
+  whole_graded : (whole : Node) (old new : List Node) (result : Result (Unit {0}) NoMemory) → slice_get switched 0 ≡ Some whole
+      → OnOk result ((types : ℕ → TypeExpr) → Fits declared types whole → new ≡ old ++ graded declared modes types [] whole ∷ [])
+      → OnOk result ((types : ℕ → TypeExpr) → Fits declared types tree → new ≡ old ++ graded declared modes types [] (find declared types bound tree) ∷ [])
+  whole_graded whole old new (Ok done) there grades = λ types fits.
+      let is : whole ≡ find declared types bound tree = same_Some whole (find declared types bound tree) (sym there ∙ ap (λ (l : List Node). slice_get l 0) (found types fits)) in
+      rw (← is) (grades types (subst (λ (t : Node). Fits declared types t) (sym is) (found_fits declared types bound tree fits)))
+  whole_graded whole old new (Err reason) there grades = tt
+
+  none_found : (types : ℕ → TypeExpr) → Fits declared types tree → slice_get switched 0 ≡ None → ⊥
+  none_found types fits none =
+      let there : Some (find declared types bound tree) ≡ None = sym (ap (λ (l : List Node). slice_get l 0) (found types fits)) ∙ none in
+      cc
