@@ -1,12 +1,13 @@
 //! The check of the categories of procedures and of goals that are asked.
-ghost use Rattle.std.specs.Prelude.{◌≡◌, ◌<◌, ◌≤◌, ◌+◌, ℕ, List, [], ◌∷◌, ◌++◌, length, IfOk, OnOk};
+ghost use Rattle.std.specs.Prelude.{◌≡◌, ◌<◌, ◌≤◌, ◌+◌, ℕ, List, [], ◌∷◌, ◌++◌, Some, length, slice_get, IfOk, OnOk};
+ghost use Rattle.merc_base.specs.FirstFault.{first_of_faults};
 ghost use Rattle.merc_tree.specs.Types.{TypeExpr};
 ghost use Rattle.merc_tree.specs.declared.declarations.Module.{Module};
 ghost use Rattle.merc_graded_tree.specs.Nodes.{Node};
 ghost use Rattle.merc_order.specs.Bound.{nothing};
 ghost use Rattle.merc_order.specs.Procedures.{bound_at};
 ghost use Rattle.merc_modes.specs.Told.{IsTold};
-ghost use Rattle.merc_grading.specs.Faults.{Body, Procedure, all_finished, category_fault, finished, procedures_of, query_category_fault, with_modes};
+ghost use Rattle.merc_grading.specs.Faults.{Body, Procedure, all_finished, category_fault, finished, mode_faults, parallel_faults, procedures_of, query_category_fault, with_modes};
 ghost use Rattle.merc_grading.specs.Fitting.{Fits};
 ghost use Rattle.merc_categories.specs.Fitted.{AreFitted, typed_as};
 ghost use Rattle.merc_categories.specs.Progress.{IsDone};
@@ -68,10 +69,7 @@ pub fn check_query_categories(
 {
     let mut graded = Nodes::new(alloc);
     finish(alloc, known, &[], tree, &mut graded)?;
-    let fault = match graded.get(0) {
-        Some(tree) => query_fault(alloc, &tree)?,
-        None => None,
-    };
+    let fault = first_fault(alloc, &graded)?;
     told(graded, fault)
 }
 
@@ -107,7 +105,7 @@ fn check_modes(
 ) -> Result<(), NoMemory>
     requires enough { length declared.now.modes ≤ progress.old.left }
     requires within { progress.old.left ≤ length trees.now }
-    ensures { OnOk result ((procedures : List Procedure) → IsDone known.now trees.now procedures progress.old → IsDone known.now trees.now (procedures ++ with_modes declared.now declared.now.modes) progress.new) }
+    ensures done { OnOk result ((procedures : List Procedure) → IsDone known.now trees.now procedures progress.old → IsDone known.now trees.now (procedures ++ with_modes declared.now declared.now.modes) progress.new) }
 {
     for mode in declared.modes.as_slice() {
         check_mode(alloc, known, declared, mode, trees, progress)?;
@@ -126,21 +124,51 @@ fn check_mode(
 ) -> Result<(), NoMemory>
     requires enough { 0 < progress.old.left }
     requires within { progress.old.left ≤ length trees.now }
-    ensures { OnOk result ((procedures : List Procedure) → IsDone known.now trees.now procedures progress.old → IsDone known.now trees.now (procedures ++ with_modes declared.now (mode.now ∷ [])) progress.new) }
+    ensures done { OnOk result ((procedures : List Procedure) → IsDone known.now trees.now procedures progress.old → IsDone known.now trees.now (procedures ++ with_modes declared.now (mode.now ∷ [])) progress.new) }
+    ensures left { OnOk result (progress.new.left + 1 ≡ progress.old.left) }
 {
     let index = trees.len() - progress.left;
     let tree = match trees.get(index) {
         Some(tree) => tree,
         None => unreachable!(),
     };
-    finish(alloc, known, mode.args.as_slice(), &tree, &mut progress.graded)?;
-    let fault = match progress.graded.get(index) {
-        Some(tree) => procedure_fault(alloc, &declared.unit, mode, &tree)?,
-        None => None,
-    };
+    finish(
+        alloc,
+        known,
+        mode.args.as_slice(),
+        &tree,
+        &mut progress.graded,
+    )?;
+    let fault = fault_at(alloc, declared, mode, &progress.graded, index)?;
     progress.fault = first_of(progress.fault, fault);
     progress.left -= 1;
     Ok(())
+}
+
+// The fault of a mode of a predicate, whose tree with its categories stands at an index.
+fn fault_at(
+    alloc: Global,
+    declared: &PredDecl,
+    mode: &ModeDecl,
+    graded: &Nodes,
+    index: usize,
+) -> Result<Option<Refusal>, NoMemory>
+    ensures { IfOk result (λ found. (tree : Node) → slice_get graded.now index ≡ Some tree → found ≡ first_of_faults (mode_faults declared.now.unit mode.now tree)) }
+{
+    match graded.get(index) {
+        Some(tree) => procedure_fault(alloc, &declared.unit, mode, &tree),
+        None => Ok(None),
+    }
+}
+
+// The fault of a goal that is asked, whose tree with its categories stands first.
+fn first_fault(alloc: Global, graded: &Nodes) -> Result<Option<Refusal>, NoMemory>
+    ensures { IfOk result (λ found. (tree : Node) → slice_get graded.now 0 ≡ Some tree → found ≡ first_of_faults (parallel_faults tree)) }
+{
+    match graded.get(0) {
+        Some(tree) => query_fault(alloc, &tree),
+        None => Ok(None),
+    }
 }
 
 // Puts a tree with its switches and categories behind others. Bound before it are the arguments with these inputs.

@@ -7,6 +7,7 @@ use Rattle.merc_tree.specs.declared.declarations.ModeDecl.{ModeDecl}
 use Rattle.merc_tree.specs.declared.declarations.TypeDef.{TypeDef}
 use Rattle.merc_graded_tree.specs.Nodes.{Node}
 use Rattle.merc_order.specs.Bound.{Bound}
+use Rattle.merc_order.specs.Procedures.{bound_at, modes_of}
 use Rattle.merc_grading.specs.Fitting.{Fits}
 use Rattle.merc_grading.specs.Grading.{graded}
 use Rattle.merc_grading.specs.Switches.{find}
@@ -28,3 +29,17 @@ module _ (declared : List TypeDef) (modes : ℕ → List ModeDecl) (bound : Boun
   none_found types fits none =
       let there : Some (find declared types bound tree) ≡ None = sym (ap (λ (l : List Node). slice_get l 0) (found types fits)) ∙ none in
       cc
+
+pub returns-in-Some : goal.returns-in-Some
+returns-in-Some c =
+    whole_graded c.args.known.now.types (modes_of c.args.known.now.preds) (bound_at c.args.inputs.now) c.args.tree.now c.find_switches.new.found
+    (λ types fits. c.in_ok-find_switches.ensures types fits
+    ∙ ap (λ (l : List Node). l ++ find c.args.known.now.types types (bound_at c.args.inputs.now) c.args.tree.now ∷ []) c.new-switched.ensures)
+    c.in-Some.whole c.args.graded.now c.grade.new.nodes c.grade.result (sym c.get.ensures ∙ c.in-Some.is) c.grade.ensures
+
+pub returns : goal.returns
+returns c = λ types fits.
+    absurd (none_found c.args.known.now.types (modes_of c.args.known.now.preds) (bound_at c.args.inputs.now) c.args.tree.now c.find_switches.new.found
+    (λ types fits. c.in_ok-find_switches.ensures types fits
+    ∙ ap (λ (l : List Node). l ++ find c.args.known.now.types types (bound_at c.args.inputs.now) c.args.tree.now ∷ []) c.new-switched.ensures)
+    types fits (sym c.get.ensures ∙ c.in-None.is))
