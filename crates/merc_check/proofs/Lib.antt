@@ -3,4 +3,5 @@ pub mod CheckedLaws
 pub mod FirstUntyped
 pub mod Growing
 pub mod Refusals
+pub mod ProcedureTrees
 pub mod TextLaws
