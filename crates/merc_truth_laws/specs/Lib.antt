@@ -1,0 +1,4 @@
+pub mod Plain
+pub mod Programs
+pub mod Laws
+pub mod Examples
