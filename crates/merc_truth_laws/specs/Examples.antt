@@ -1,5 +1,5 @@
 -- Worked examples of the laws of order and truth. `equal(X, Y) :- X = Y.` has the modes `(in, out)` and `(in, in)`.
-use Rattle.std.specs.Prelude.{◌≡◌, ◌↔◌, ℕ, zero, suc, List, [], ◌∷◌, Option, Some, None, slice_get, refl}
+use Rattle.std.specs.Prelude.{◌≡◌, ◌↔◌, ℕ, zero, suc, List, [], ◌∷◌, Some, None, slice_get, refl}
 use Rattle.std.proofs.Common.{inl, inr, ap, sym, subst, ◌∙◌}
 use Rattle.merc_base.specs.declared.category.Category.TheVariants.{Det, Semidet}
 use Rattle.merc_tree.specs.Types.{IntType}
@@ -20,7 +20,7 @@ use Rattle.merc_order.specs.Spelt.{spelt}
 use Rattle.merc_meaning.specs.Runs.{Program, ProcedureBody}
 use Rattle.merc_meaning.specs.Truth.{Assignment, IsAssignment, Outside, YesAt, NoAt}
 use Rattle.merc_truth_laws.specs.Plain.{plain}
-use Rattle.merc_truth_laws.specs.Programs.{flat_program, IsThere, IsOrderedProcedure, IsOrderedProgram}
+use Rattle.merc_truth_laws.specs.Programs.{flat_program, IsOrderedProcedure, IsOrderedProgram}
 use Rattle.merc_truth_laws.specs.Laws.{SameTruth}
 
 abbrev basic : BasicGoal → List ℕ → OrderedNode
@@ -92,7 +92,7 @@ each zero number declared goal own p g m =
 ordered-program : IsOrderedProgram predicates (body ∷ []) program
 ordered-program = record {
   has_bodies = refl;
-  modes_fit = ((refl, refl, tt), tt);
+  modes_fit = ((refl, (refl, tt)), tt);
   is_ordered = λ procedure declared goal own there. each procedure.predicate procedure.mode declared goal own there.has_predicate there.has_goal there.has_mode;
 }
 

@@ -1,5 +1,5 @@
 -- What the order of goals keeps of truth.
-use Rattle.std.specs.Prelude.{◌≡◌, ◌↔◌, ℕ, List, length, Some}
+use Rattle.std.specs.Prelude.{◌↔◌, ℕ, List, length}
 use Rattle.merc_tree.specs.declared.declarations.ModeDecl.{ModeDecl}
 use Rattle.merc_tree.specs.declared.declarations.PredDecl.{PredDecl}
 use Rattle.merc_goal_tree.specs.Nodes.{Node}
