@@ -10,3 +10,7 @@ pub mod Plains
 pub mod Held
 pub mod Ordering
 pub mod OrderTruth
+pub mod Carried
+pub mod Regrouping
+pub mod Switching
+pub mod SwitchTruth

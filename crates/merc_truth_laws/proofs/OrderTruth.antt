@@ -67,7 +67,7 @@ argument_below [] v h = clash h refl
 argument_below (place ∷ places) zero h = omega (arith)
 argument_below (place ∷ places) (suc v) h = omega (arith, argument_below places v h)
 
-inputs_are : (places : List Arg) → Within (bound_at places) (is_argument places)
+pub inputs_are : (places : List Arg) → Within (bound_at places) (is_argument places)
 inputs_are [] v h = clash h refl
 inputs_are (Input ∷ places) zero h = refl
 inputs_are (Output ∷ places) zero h = refl

@@ -65,7 +65,7 @@ compute_occurs operation left right r v = spread (v == r) (among (left ∷ right
   spread false true = refl
   spread false false = refl
 
-law_self : (y n : Judgement) (f : Outside) (ok : Outside → Type 0) (m : Node) → Law y n y n f ok m m
+pub law_self : (y n : Judgement) (f : Outside) (ok : Outside → Type 0) (m : Node) → Law y n y n f ok m m
 law_self y n f ok m = record { grown = (λ v h. inl h, λ v h. h); there = λ out i o s v. (λ h. h, λ h. h); return = λ out i o s v. (λ h. h, λ h. h) }
 
 -- arithmetic over its result as a list of one

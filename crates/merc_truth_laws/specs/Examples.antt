@@ -20,7 +20,7 @@ use Rattle.merc_order.specs.Spelt.{spelt}
 use Rattle.merc_meaning.specs.Runs.{Program, ProcedureBody}
 use Rattle.merc_meaning.specs.Truth.{Assignment, IsAssignment, Outside, YesAt, NoAt}
 use Rattle.merc_truth_laws.specs.Plain.{plain}
-use Rattle.merc_truth_laws.specs.Programs.{flat_program, IsOrderedProcedure, IsOrderedProgram}
+use Rattle.merc_truth_laws.specs.Programs.{flat_program, IsThere, IsOrderedProcedure, IsOrderedProgram}
 use Rattle.merc_truth_laws.specs.Laws.{SameTruth}
 
 abbrev basic : BasicGoal → List ℕ → OrderedNode
@@ -95,6 +95,15 @@ ordered-program = record {
   modes_fit = ((refl, (refl, tt)), tt);
   is_ordered = λ procedure declared goal own there. each procedure.predicate procedure.mode declared goal own there.has_predicate there.has_goal there.has_mode;
 }
+
+no_bodies : IsOrderedProgram predicates [] program → ⊥
+no_bodies ordered = let one_each = ordered.has_bodies in cc
+
+there : IsThere predicates (body ∷ []) (record { predicate = 0; mode = 1 }) equal body (mode (Input ∷ Input ∷ []) Semidet)
+there = record { has_predicate = refl; has_goal = refl; has_mode = refl }
+
+no_mode : (own : ModeDecl) → IsThere predicates (body ∷ []) (record { predicate = 0; mode = 2 }) equal body own → ⊥
+no_mode own is_there = let found = is_there.has_mode in cc
 
 -- with both arguments bound nothing is assigned
 test_is : (ordered : Ordered) → Ready (put (TestOrdered x y) [] (at 5)) ≡ Ready ordered → put (TestOrdered x y) [] (at 5) ≡ ordered
