@@ -1,0 +1,16 @@
+pub mod Basics
+pub mod Local
+pub mod Keeping
+pub mod Permuting
+pub mod Tests
+pub mod Grouping
+pub mod Whole
+pub mod Spelled
+pub mod Plains
+pub mod Held
+pub mod Ordering
+pub mod OrderTruth
+pub mod Carried
+pub mod Regrouping
+pub mod Switching
+pub mod SwitchTruth
