@@ -34,7 +34,7 @@ use Rattle.merc_category_laws.proofs.Values.{Instance, composed, none_not, same_
 use Rattle.merc_category_laws.proofs.Steps.{EnvTyped, free_not, bound_typed, bound_step, placed}
 use Rattle.merc_category_laws.proofs.Lawful.{Fits, Goes, Lawful}
 use Rattle.merc_category_laws.proofs.Knowing.{knows_on, one_law, none_law, goes_to, goes_more}
-use Rattle.merc_category_laws.proofs.Simple.{Before, Behind, BasicLaw, GoodGoal, assign_law, build_law, split_law, two_law, arithmetic_law, raise_law}
+use Rattle.merc_category_laws.proofs.Simple.{Before, Behind, BasicLaw, GoodBasicGoal, assign_law, build_law, split_law, two_law, arithmetic_law, raise_law}
 
 bound_if_other : (env : Env) (a x : ℕ) (o : Option Value) → (x ≡ a → ⊥) → value_at (bound_if env a o) x ≡ value_at env x
 bound_if_other env a x None h = refl
@@ -183,7 +183,7 @@ module _ (known : Module) (program : Program) (call : Procedure → Env → Trac
   predicate_case out b seen outs p args env (Some declared) e typed good fits = mode_case out b seen outs p args env declared (slice_get declared.modes p.mode) e refl typed good fits
 
   -- every goal that holds no others
-  pub basic_law : AreGoodTypes known.types → (g : BasicGoal) (out : Variables) (b : Bound) (seen : Known) (outs : List ℕ) (env : Env) → GoodGoal known (modes_of known.preds) types i out b outs g
+  pub basic_law : AreGoodTypes known.types → (g : BasicGoal) (out : Variables) (b : Bound) (seen : Known) (outs : List ℕ) (env : Env) → GoodBasicGoal known (modes_of known.preds) types i out b outs g
       → Before known (modes_of known.preds) types i out b seen g env → BasicLaw known (modes_of known.preds) types i out b seen outs g env (basic_trace program call g env)
   basic_law declared True out b seen outs env h fits = one_law _ env (record { keeps = λ x v e. e; own = λ x o. refl; bounds = λ x o p. clash o refl; typed = fits.typed; knows = fits.knows })
   basic_law declared Fail out b seen outs env h fits = none_law _ _ (λ e. clash refl e)

@@ -6,3 +6,7 @@ pub mod Lawful
 pub mod Knowing
 pub mod Simple
 pub mod Calls
+pub mod Maxima
+pub mod Combining
+pub mod Graded
+pub mod Trees

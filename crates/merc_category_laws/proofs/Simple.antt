@@ -45,12 +45,12 @@ module _ (known : Module) (modes : ℕ → List ModeDecl) (types i : Instance) w
   BasicLaw out b seen outs g env t = Lawful (Behind out b seen outs g env) (basic_category known.types modes types seen g) t
 
   -- what is established of such a goal
-  pub record GoodGoal (out : Variables) (b : Bound) (outs : List ℕ) (g : BasicGoal) : Type 0 where
+  pub record GoodBasicGoal (out : Variables) (b : Bound) (outs : List ℕ) (g : BasicGoal) : Type 0 where
     pub good : GoodBasic modes out b outs g
     pub typed : IsTypedGoal known types (written_goal g)
     pub literal : HasLiteral g
 
-  pub assign_law : (out : Variables) (b : Bound) (seen : Known) (outs : List ℕ) (x y : ℕ) (env : Env) → GoodGoal out b outs (Assign x y) → Before out b seen (Assign x y) env
+  pub assign_law : (out : Variables) (b : Bound) (seen : Known) (outs : List ℕ) (x y : ℕ) (env : Env) → GoodBasicGoal out b outs (Assign x y) → Before out b seen (Assign x y) env
       → BasicLaw out b seen outs (Assign x y) env (binds env x (value_at env y))
   assign_law out b seen outs x y env h fits =
       let r = value_of known types i out b (among (x ∷ y ∷ [])) seen env fits y (among_there y x (y ∷ []) (among_here y [])) h.good.0 in
@@ -62,7 +62,7 @@ module _ (known : Module) (modes : ℕ → List ModeDecl) (types i : Instance) w
       (λ kept. knows_copied seen (bound env x r.0) x y r.0 (known_of seen y) refl (knows_on seen env (bound env x r.0) fits.knows kept) (at_same env x r.0) (kept y r.0 r.1)))
       h.good.2))
 
-  pub build_law : (out : Variables) (b : Bound) (seen : Known) (outs : List ℕ) (x : ℕ) (s : Symbol) (ys : List ℕ) (env : Env) → GoodGoal out b outs (Build x s ys) → Before out b seen (Build x s ys) env
+  pub build_law : (out : Variables) (b : Bound) (seen : Known) (outs : List ℕ) (x : ℕ) (s : Symbol) (ys : List ℕ) (env : Env) → GoodBasicGoal out b outs (Build x s ys) → Before out b seen (Build x s ys) env
       → BasicLaw out b seen outs (Build x s ys) env (binds env x (made_if s (values_at env ys)))
   build_law out b seen outs x s ys env h fits =
       let r = values_there b env ys h.good.0 (λ y m. fits.bounds y (among_there y x ys m)) in
@@ -74,7 +74,7 @@ module _ (known : Module) (modes : ℕ → List ModeDecl) (types i : Instance) w
       (λ kept. knows_more seen (bound env x (made s r.0)) x s (made s r.0) _ (knows_on seen env (bound env x (made s r.0)) fits.knows kept) (at_same env x (made s r.0)) (fields_of_made s r.0 t.1)))
       h.good.2))
 
-  split_some : AreGoodTypes known.types → (out : Variables) (b : Bound) (seen : Known) (outs : List ℕ) (x : ℕ) (s : Symbol) (ys : List ℕ) (env : Env) → GoodGoal out b outs (Split x s ys) → Before out b seen (Split x s ys) env
+  split_some : AreGoodTypes known.types → (out : Variables) (b : Bound) (seen : Known) (outs : List ℕ) (x : ℕ) (s : Symbol) (ys : List ℕ) (env : Env) → GoodBasicGoal out b outs (Split x s ys) → Before out b seen (Split x s ys) env
       → (v : Value) → value_at env x ≡ Some v → HasType known.types v (replaced i (types x)) → (o : Option Values) → o ≡ fields s v → BasicLaw out b seen outs (Split x s ys) env (filled_if env ys o)
   split_some declared out b seen outs x s ys env h fits v e t None f =
       none_law _ _ (λ c. split_sure known types i declared seen env x s ys v fits.knows e t h.typed (known_of seen x) refl (is_single (symbols_of_type known.types (types x))) refl c (sym f))
@@ -98,7 +98,7 @@ module _ (known : Module) (modes : ℕ → List ModeDecl) (types i : Instance) w
         some_answer = λ c d. inl tt;
       }
 
-  pub split_law : AreGoodTypes known.types → (out : Variables) (b : Bound) (seen : Known) (outs : List ℕ) (x : ℕ) (s : Symbol) (ys : List ℕ) (env : Env) → GoodGoal out b outs (Split x s ys) → Before out b seen (Split x s ys) env
+  pub split_law : AreGoodTypes known.types → (out : Variables) (b : Bound) (seen : Known) (outs : List ℕ) (x : ℕ) (s : Symbol) (ys : List ℕ) (env : Env) → GoodBasicGoal out b outs (Split x s ys) → Before out b seen (Split x s ys) env
       → BasicLaw out b seen outs (Split x s ys) env (split env s ys (value_at env x))
   split_law declared out b seen outs x s ys env h fits =
       let r = value_of known types i out b (among (x ∷ ys)) seen env fits x (among_here x ys) h.good.0 in
@@ -127,7 +127,7 @@ module _ (known : Module) (modes : ℕ → List ModeDecl) (types i : Instance) w
       compared_law _ env holds r.0 k.0 (value_at env x) (value_at env y) r.1 k.1
       (goes_to known types i out b (with b (among outs)) (among (x ∷ y ∷ [])) seen env env (goes_same known types i out b (among (x ∷ y ∷ [])) seen env fits) (λ v o h. all_bound b outs x y p q v o))
 
-  result_law : (out : Variables) (b : Bound) (seen : Known) (outs : List ℕ) (op : Operation) (z x y : ℕ) (env : Env) → GoodGoal out b outs (Arithmetic op z x y) → Before out b seen (Arithmetic op z x y) env
+  result_law : (out : Variables) (b : Bound) (seen : Known) (outs : List ℕ) (op : Operation) (z x y : ℕ) (env : Env) → GoodBasicGoal out b outs (Arithmetic op z x y) → Before out b seen (Arithmetic op z x y) env
       → (n m : ℤ) → (r : Result) → r ≡ arithmetic op n m → BasicLaw out b seen outs (Arithmetic op z x y) env (computed env z r)
   result_law out b seen outs op z x y env h fits n m ZeroDivisor e = record { goes = tt; no_answer = λ c. tt; some_answer = λ c d. absurd d }
   result_law out b seen outs op z x y env h fits n m (Gives k) e =
@@ -143,7 +143,7 @@ module _ (known : Module) (modes : ℕ → List ModeDecl) (types i : Instance) w
       subst (λ (u : Option Value). computed env z (arithmetic op n m) ≡ operated env op z u p) (sym e)
       (subst (λ (u : Option Value). computed env z (arithmetic op n m) ≡ operated env op z (Some (Int n)) u) (sym f) refl)
 
-  pub arithmetic_law : (out : Variables) (b : Bound) (seen : Known) (outs : List ℕ) (op : Operation) (z x y : ℕ) (env : Env) → GoodGoal out b outs (Arithmetic op z x y) → Before out b seen (Arithmetic op z x y) env
+  pub arithmetic_law : (out : Variables) (b : Bound) (seen : Known) (outs : List ℕ) (op : Operation) (z x y : ℕ) (env : Env) → GoodBasicGoal out b outs (Arithmetic op z x y) → Before out b seen (Arithmetic op z x y) env
       → BasicLaw out b seen outs (Arithmetic op z x y) env (operated env op z (value_at env x) (value_at env y))
   arithmetic_law out b seen outs op z x y env h fits =
       let occurs : ℕ → Bool = among (z ∷ x ∷ y ∷ []) in
@@ -152,7 +152,7 @@ module _ (known : Module) (modes : ℕ → List ModeDecl) (types i : Instance) w
       subst (λ (t : Trace). BasicLaw out b seen outs (Arithmetic op z x y) env t) (operated_is env op z n.0 m.0 (value_at env x) (value_at env y) n.1 m.1)
       (result_law out b seen outs op z x y env h fits n.0 m.0 (arithmetic op n.0 m.0) refl)
 
-  pub raise_law : (out : Variables) (b : Bound) (seen : Known) (outs : List ℕ) (x : ℕ) (env : Env) → GoodGoal out b outs (Raise x) → Before out b seen (Raise x) env → BasicLaw out b seen outs (Raise x) env (raised (value_at env x))
+  pub raise_law : (out : Variables) (b : Bound) (seen : Known) (outs : List ℕ) (x : ℕ) (env : Env) → GoodBasicGoal out b outs (Raise x) → Before out b seen (Raise x) env → BasicLaw out b seen outs (Raise x) env (raised (value_at env x))
   raise_law out b seen outs x env h fits =
       let r = value_of known types i out b (among (x ∷ [])) seen env fits x (among_here x []) h.good in
       let t = text_of known types i r.0 (subst (λ (u : TypeExpr). HasType known.types r.0 (replaced i u)) h.typed r.2) in
