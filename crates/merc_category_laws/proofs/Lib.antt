@@ -10,3 +10,4 @@ pub mod Maxima
 pub mod Combining
 pub mod Graded
 pub mod Trees
+pub mod Programs
