@@ -1,5 +1,5 @@
 -- The category law of calls.
-use Rattle.std.proofs.Common.{◌≡◌, ◌⊎◌, inl, inr, ℕ, zero, suc, ◌<◌, Bool, true, false, ◌==◌, is_some, List, [], ◌∷◌, length, Option, Some, None, slice_get, refl, ap, sym, ◌∙◌, subst, arith}
+use Rattle.std.proofs.Common.{◌≡◌, ◌⊎◌, inl, inr, ℕ, zero, suc, ◌<◌, true, false, is_some, List, [], ◌∷◌, length, Option, Some, None, slice_get, refl, ap, sym, ◌∙◌, subst, arith}
 use Rattle.merc_base.specs.declared.category.Category.{Category}
 use Rattle.merc_tree.specs.Types.{TypeExpr, replaced}
 use Rattle.merc_tree.specs.declared.declarations.Arg.{Arg}
@@ -34,7 +34,7 @@ use Rattle.merc_category_laws.proofs.Values.{Instance, composed, none_not, same_
 use Rattle.merc_category_laws.proofs.Steps.{EnvTyped, free_not, bound_typed, bound_step, placed}
 use Rattle.merc_category_laws.proofs.Lawful.{Fits, Goes, Lawful}
 use Rattle.merc_category_laws.proofs.Knowing.{knows_on, one_law, none_law, goes_to, goes_more}
-use Rattle.merc_category_laws.proofs.Simple.{Before, Behind, BasicLaw, GoodBasicGoal, assign_law, build_law, split_law, two_law, arithmetic_law, raise_law}
+use Rattle.merc_category_laws.proofs.Simple.{Before, BasicLaw, GoodBasicGoal, assign_law, build_law, split_law, two_law, arithmetic_law, raise_law}
 
 bound_if_other : (env : Env) (a x : ℕ) (o : Option Value) → (x ≡ a → ⊥) → value_at (bound_if env a o) x ≡ value_at env x
 bound_if_other env a x None h = refl

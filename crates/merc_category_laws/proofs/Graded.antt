@@ -1,5 +1,5 @@
 -- Trees with their categories; and goals whose end cannot be reached have a maximum of 0.
-use Rattle.std.proofs.Common.{◌≡◌, ◌⊎◌, inl, inr, ℕ, zero, suc, Bool, true, false, ◌||◌, ◌&&◌, if◌then◌else◌, List, [], ◌∷◌, Option, Some, None, slice_get, refl, ap, sym, ◌∙◌, subst}
+use Rattle.std.proofs.Common.{◌≡◌, ◌⊎◌, inl, inr, ℕ, zero, suc, Bool, true, false, ◌||◌, ◌&&◌, if◌then◌else◌, List, [], ◌∷◌, Option, Some, slice_get, refl, ap, sym, ◌∙◌, subst}
 use Rattle.merc_base.specs.Category.{can_fail_of, most_of}
 use Rattle.merc_base.specs.declared.category.Category.{Category}
 use Rattle.merc_base.specs.declared.category.Most.{Most}
@@ -7,19 +7,18 @@ use Rattle.merc_base.specs.declared.category.Most.TheVariants.{Zero, One, Many}
 use Rattle.merc_tree.specs.Types.{TypeExpr}
 use Rattle.merc_tree.specs.declared.declarations.ModeDecl.{ModeDecl}
 use Rattle.merc_tree.specs.declared.declarations.TypeDef.{TypeDef}
-use Rattle.merc_goal_tree.specs.declared.goal.Symbol.{Symbol}
 use Rattle.merc_graded_tree.specs.declared.basic.BasicGoal.{BasicGoal}
 use Rattle.merc_graded_tree.specs.declared.basic.BasicGoal.TheVariants.{True, Fail, Assign, Test, Build, Split, Arithmetic, Compare, Raise, Call, Wait, Signal}
-use Rattle.merc_graded_tree.specs.Nodes.{Node, node, Goal, Basic, Conjunction, Disjunction, Switch, Conditional, Negation, Quantified, Nodes, no_nodes, more_nodes, Arms, no_arms, more_arms, list_of, outputs_of}
+use Rattle.merc_graded_tree.specs.Nodes.{Node, node, Goal, Basic, Conjunction, Disjunction, Switch, Conditional, Negation, Quantified, Nodes, no_nodes, more_nodes, Arms, no_arms, more_arms, list_of}
 use Rattle.merc_graded_tree.specs.Roots.{symbols_of, bodies_of}
 use Rattle.merc_order.specs.Bound.{Bound}
 use Rattle.merc_order.specs.CallModes.{may_answer, can_succeed}
 use Rattle.merc_order_laws.specs.Bindings.{Variables}
 use Rattle.merc_order_laws.specs.GoodTree.{GoodProcedure, basic_ends, node_ends, goal_ends, all_nodes_end, some_node_ends, some_arm_ends, GoodBasic, GoodNode, GoodGoal, GoodNodes, GoodDisjuncts, GoodArms}
 use Rattle.merc_order_laws.proofs.Facts.{clash}
-use Rattle.merc_grading.specs.Categories.{then_category, conjunction_category, disjunction_category, arms_category, switch_category, greater_most}
+use Rattle.merc_grading.specs.Categories.{conjunction_category, disjunction_category, arms_category, greater_most}
 use Rattle.merc_grading.specs.Known.{symbols_of_type, are_complete, Known, known_behind, known_behind_goal, known_behind_all}
-use Rattle.merc_grading.specs.Grading.{declared_in, given, category_at, categories, capped, basic_category, rule, with_category, graded, graded_goal, graded_all, graded_each, graded_arms}
+use Rattle.merc_grading.specs.Grading.{declared_in, given, category_at, categories, basic_category, rule, with_category, graded, graded_goal, graded_all, graded_each, graded_arms}
 use Rattle.merc_category_laws.proofs.Values.{or_not_left, or_not_right}
 use Rattle.merc_category_laws.proofs.Maxima.{most_is, fails_or, capped_is_zero, then_is_zero, or_is_zero, greater_is_zero, conditional_is_zero}
 

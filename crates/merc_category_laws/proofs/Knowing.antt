@@ -1,5 +1,5 @@
 -- The category law of goals that hold no others: what they bind, and what splits make of symbols.
-use Rattle.std.proofs.Common.{◌≡◌, ◌⊎◌, inl, inr, ℕ, suc, ℤ, Bool, true, false, ◌==◌, ◌||◌, if◌then◌else◌, is_some, FitsSigned, List, [], ◌∷◌, length, map, Option, Some, None, refl, ap, sym, ◌∙◌, subst}
+use Rattle.std.proofs.Common.{◌≡◌, ◌⊎◌, inl, inr, ℕ, suc, ℤ, Bool, true, false, ◌==◌, if◌then◌else◌, is_some, FitsSigned, List, [], ◌∷◌, length, map, Option, Some, None, refl, ap, sym, ◌∙◌, subst}
 use Rattle.std.specs.Int.{w64}
 use Rattle.merc_base.specs.Category.{can_fail_of, most_of}
 use Rattle.merc_base.specs.declared.category.Category.{Category}
@@ -11,7 +11,6 @@ use Rattle.merc_tree.specs.declared.declarations.TypeDef.{TypeDef}
 use Rattle.merc_tree.specs.declared.declarations.Module.{Module}
 use Rattle.merc_goal_tree.specs.declared.goal.Symbol.{Symbol}
 use Rattle.merc_goal_tree.specs.declared.goal.Symbol.TheVariants.{Constructor as ConstructorSymbol, Integer, Text as TextSymbol}
-use Rattle.merc_known.specs.Known.{constructor_in}
 use Rattle.merc_type_check.specs.Typing.{HasSymbol}
 use Rattle.merc_order.specs.Bound.{Bound, with, among}
 use Rattle.merc_order_laws.specs.Bindings.{Variables}
@@ -19,7 +18,7 @@ use Rattle.merc_order_laws.proofs.Facts.{clash, or_right, or_cases, either_way}
 use Rattle.merc_grading.specs.Known.{same_symbol, symbol_of, symbols_named, symbols_of_type, has_symbol, is_single, Known, known_of, with_known}
 use Rattle.merc_grading.specs.Grading.{split_category}
 use Rattle.merc_value.specs.Value.{Value, Int, Text, Con, Values}
-use Rattle.merc_meaning.specs.Trace.{Env, Trace, Ends, Done, one_answer}
+use Rattle.merc_meaning.specs.Trace.{Env, Ends, Done, one_answer}
 use Rattle.merc_meaning.specs.Values.{count, fields}
 use Rattle.merc_meaning.specs.Steps.{value_at, bound, tested}
 use Rattle.merc_category_laws.specs.ValueTypes.{HasType}

@@ -1,5 +1,5 @@
 -- What holds before a goal, behind it, and of its trace.
-use Rattle.std.proofs.Common.{◌≡◌, ℕ, Bool, true, false, is_some, Some}
+use Rattle.std.proofs.Common.{◌≡◌, ℕ, true, false, is_some, Some}
 use Rattle.merc_base.specs.Category.{can_fail_of, most_of}
 use Rattle.merc_base.specs.declared.category.Category.{Category}
 use Rattle.merc_base.specs.declared.category.Most.TheVariants.{Zero}

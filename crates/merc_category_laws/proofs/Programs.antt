@@ -1,10 +1,9 @@
 -- The category law of every call, by induction on its depth.
-use Rattle.std.proofs.Common.{◌≡◌, ◌⊎◌, inl, inr, ℕ, zero, suc, ◌+◌, ◌<◌, Bool, true, false, not, ◌||◌, ◌&&◌, ◌==◌, is_some, List, [], ◌∷◌, ◌++◌, length, map, drop, Option, Some, None, slice_get, refl, ap, sym, ◌∙◌, subst, arith}
+use Rattle.std.proofs.Common.{◌≡◌, inl, inr, ℕ, zero, suc, ◌+◌, ◌<◌, Bool, true, false, not, ◌||◌, ◌==◌, is_some, List, [], ◌∷◌, ◌++◌, length, map, drop, Option, Some, None, slice_get, refl, ap, sym, ◌∙◌, subst, arith}
 use Rattle.std.specs.List.{AllByRecursion}
 use Rattle.std.proofs.lemmas.Bool.Decides.{Decides-eqb}
 use Rattle.merc_base.specs.Category.{can_fail_of, most_of}
 use Rattle.merc_base.specs.declared.category.Category.{Category}
-use Rattle.merc_base.specs.declared.category.Category.TheVariants.{Erroneous}
 use Rattle.merc_base.specs.declared.category.Most.{Most}
 use Rattle.merc_base.specs.declared.category.Most.TheVariants.{Zero, One, Many}
 use Rattle.merc_tree.specs.Types.{TypeExpr, replaced}
@@ -13,7 +12,6 @@ use Rattle.merc_tree.specs.declared.declarations.Arg.TheVariants.{Input, Output}
 use Rattle.merc_tree.specs.declared.declarations.ModeDecl.{ModeDecl}
 use Rattle.merc_tree.specs.declared.declarations.PredDecl.{PredDecl}
 use Rattle.merc_tree.specs.declared.declarations.Module.{Module}
-use Rattle.merc_graded_tree.specs.declared.basic.BasicGoal.{BasicGoal}
 use Rattle.merc_graded_tree.specs.declared.basic.Procedure.{Procedure as ProcedureNumber}
 use Rattle.merc_graded_tree.specs.Nodes.{Node, node, outputs_of}
 use Rattle.merc_graded_tree.specs.Variables.{in_node}
@@ -22,23 +20,21 @@ use Rattle.merc_order.specs.Bound.{with, among}
 use Rattle.merc_order.specs.Procedures.{bound_at, numbers_below, modes_of}
 use Rattle.merc_order_laws.specs.WrittenGoals.{basic_goals, written_goal}
 use Rattle.merc_order_laws.proofs.Facts.{clash, or_left, or_right, either_way, among_append}
-use Rattle.merc_grading.specs.Categories.{is_zero, is_many}
 use Rattle.merc_grading.specs.Known.{known_behind}
-use Rattle.merc_grading.specs.Grading.{given, category_at, graded}
-use Rattle.merc_grading.specs.Faults.{at_most, allows, Procedure, Body, with_modes, procedures_of}
-use Rattle.merc_value.specs.Value.{Value}
+use Rattle.merc_grading.specs.Grading.{category_at}
+use Rattle.merc_grading.specs.Faults.{at_most, Procedure, Body, with_modes, procedures_of}
 use Rattle.merc_meaning.specs.Trace.{Env, Trace, Tick}
 use Rattle.merc_meaning.specs.Steps.{value_at}
-use Rattle.merc_meaning.specs.Runs.{Program, ProcedureBody, is_at_most_one, answers_once, once_if, goal_trace, node_trace, body_trace, call_trace}
+use Rattle.merc_meaning.specs.Runs.{Program, ProcedureBody, is_at_most_one, once_if, goal_trace, node_trace, body_trace, call_trace}
 use Rattle.merc_category_laws.specs.ValueTypes.{HasType}
 use Rattle.merc_category_laws.specs.Answers.{Each, Never, Single, AreAtMost}
 use Rattle.merc_category_laws.specs.GoodPrograms.{HasLiteral, IsGoodProcedure, AreGoodProcedures, IsGoodProgram, body_of_mode, body_of, program_of}
 use Rattle.merc_category_laws.specs.Laws.{Enters, Leaves, IsProcedure, CategoryLaw, ErroneousLaw, TypeLaw}
 use Rattle.merc_category_laws.proofs.Traces.{single_first, never_has}
-use Rattle.merc_category_laws.proofs.Values.{Instance, none_not, same_some, some_of, is_some_of, among_here, both}
+use Rattle.merc_category_laws.proofs.Values.{Instance, none_not, same_some, is_some_of, both}
 use Rattle.merc_category_laws.proofs.Lawful.{Fits, Goes, Lawful}
 use Rattle.merc_category_laws.proofs.Knowing.{one_not_zero, many_not_zero}
-use Rattle.merc_category_laws.proofs.Calls.{LawfulCall, LawfulCalls}
+use Rattle.merc_category_laws.proofs.Calls.{LawfulCalls}
 use Rattle.merc_category_laws.proofs.Combining.{looser, zero_law}
 use Rattle.merc_category_laws.proofs.Graded.{Graded, graded_has, ends_zero}
 use Rattle.merc_category_laws.proofs.Trees.{IsPart, outputs_within, not_in, node_law}

@@ -1,15 +1,13 @@
 -- The category law of each goal that holds no others, calls aside.
-use Rattle.std.proofs.Common.{◌≡◌, ◌⊎◌, inl, inr, ℕ, ℤ, Bool, true, false, FitsSigned, List, [], ◌∷◌, Option, Some, None, refl, ap, sym, ◌∙◌, subst}
-use Rattle.std.specs.Int.{w64}
-use Rattle.merc_base.specs.declared.category.Category.TheVariants.{Det, Semidet, Erroneous}
-use Rattle.merc_tree.specs.Types.{TypeExpr, IntType, replaced}
+use Rattle.std.proofs.Common.{◌≡◌, inl, inr, ℕ, ℤ, Bool, true, List, [], ◌∷◌, Option, Some, None, refl, ap, sym, ◌∙◌, subst}
+use Rattle.merc_base.specs.declared.category.Category.TheVariants.{Semidet}
+use Rattle.merc_tree.specs.Types.{TypeExpr, replaced}
 use Rattle.merc_tree.specs.declared.declarations.ModeDecl.{ModeDecl}
 use Rattle.merc_tree.specs.declared.declarations.Module.{Module}
-use Rattle.merc_goal_tree.specs.declared.goal.Comparison.{Comparison}
 use Rattle.merc_goal_tree.specs.declared.goal.Operation.{Operation}
 use Rattle.merc_goal_tree.specs.declared.goal.Symbol.{Symbol}
 use Rattle.merc_graded_tree.specs.declared.basic.BasicGoal.{BasicGoal}
-use Rattle.merc_graded_tree.specs.declared.basic.BasicGoal.TheVariants.{Assign, Test, Build, Split, Arithmetic, Compare, Raise}
+use Rattle.merc_graded_tree.specs.declared.basic.BasicGoal.TheVariants.{Assign, Build, Split, Arithmetic, Raise}
 use Rattle.merc_graded_tree.specs.Variables.{variables_of}
 use Rattle.merc_type_check.specs.Typing.{IsTypedGoal}
 use Rattle.merc_order.specs.Bound.{Bound, with, among}
@@ -21,8 +19,8 @@ use Rattle.merc_grading.specs.Known.{symbols_of_type, is_single, Known, known_of
 use Rattle.merc_grading.specs.Grading.{basic_category}
 use Rattle.merc_value.specs.Value.{Value, Int, Values}
 use Rattle.merc_meaning.specs.Trace.{Env, Trace}
-use Rattle.merc_meaning.specs.Values.{made, fields, same}
-use Rattle.merc_meaning.specs.Arithmetic.{Result, Gives, ZeroDivisor, arithmetic, comparison_of}
+use Rattle.merc_meaning.specs.Values.{made, fields}
+use Rattle.merc_meaning.specs.Arithmetic.{Result, Gives, ZeroDivisor, arithmetic}
 use Rattle.merc_meaning.specs.Steps.{value_at, bound, binds, compared, values_at, made_if, filled, filled_if, split, computed, operated, raised}
 use Rattle.merc_meaning.proofs.ArithmeticLaws.{arithmetic-fits}
 use Rattle.merc_category_laws.specs.ValueTypes.{HasType}

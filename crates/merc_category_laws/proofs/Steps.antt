@@ -1,7 +1,6 @@
 -- One step of a goal keeps values of their variables' types.
-use Rattle.std.proofs.Common.{◌≡◌, ◌⊎◌, inl, inr, ℕ, zero, suc, ℤ, Bool, true, false, ◌==◌, is_some, FitsSigned, List, [], ◌∷◌, length, map, Option, Some, None, refl, ap, sym, ◌∙◌, subst}
-use Rattle.std.specs.Int.{w64}
-use Rattle.merc_tree.specs.Types.{TypeExpr, IntType, TextType, TypeApplication, TypeExprs, types_of, replaced}
+use Rattle.std.proofs.Common.{◌≡◌, ◌⊎◌, inl, inr, ℕ, suc, true, false, ◌==◌, is_some, List, [], ◌∷◌, length, map, Option, Some, None, refl, ap, sym, ◌∙◌, subst}
+use Rattle.merc_tree.specs.Types.{TypeExpr, TypeApplication, types_of, replaced}
 use Rattle.merc_tree.specs.declared.declarations.Constructor.{Constructor}
 use Rattle.merc_tree.specs.declared.declarations.TypeDef.{TypeDef}
 use Rattle.merc_tree.specs.declared.declarations.Module.{Module}
@@ -11,7 +10,7 @@ use Rattle.merc_known.specs.Known.{constructor_in}
 use Rattle.merc_type_check.specs.Typing.{HaveTypes as VariablesHave, IsConstructed, HasSymbol}
 use Rattle.merc_order.specs.Bound.{Bound, among}
 use Rattle.merc_order_laws.specs.Bindings.{AreBound, AreFree}
-use Rattle.merc_order_laws.proofs.Facts.{clash, or_cases}
+use Rattle.merc_order_laws.proofs.Facts.{clash}
 use Rattle.merc_value.specs.Value.{Value, Int, Text, Con, Values, none, more}
 use Rattle.merc_meaning.specs.Trace.{Env}
 use Rattle.merc_meaning.specs.Values.{count, made, fields}

@@ -34,11 +34,11 @@ use Rattle.merc_meaning.specs.Runs.{Program, answers_once, once_if, where_some, 
 use Rattle.merc_category_laws.specs.ValueTypes.{HasType}
 use Rattle.merc_category_laws.specs.Answers.{Each, Has, Any, Never, IsDone}
 use Rattle.merc_category_laws.specs.GoodPrograms.{AreGoodTypes, HasLiteral}
-use Rattle.merc_category_laws.proofs.Values.{Instance, or_not_left, or_not_right, or_false, or_with, none_not, is_some_of, among_here, among_there, symbol_decides, fields_of_constructor}
+use Rattle.merc_category_laws.proofs.Values.{Instance, or_not_left, or_not_right, or_false, or_with, none_not, is_some_of, symbol_decides, fields_of_constructor}
 use Rattle.merc_category_laws.proofs.Lawful.{Fits, Goes, Lawful}
-use Rattle.merc_category_laws.proofs.Knowing.{knows_on, knows_more, one_law, none_law, goes_to, goes_same, value_of, HasOne, value_symbol}
+use Rattle.merc_category_laws.proofs.Knowing.{knows_on, knows_more, one_law, none_law, goes_to, goes_same, value_of, value_symbol}
 use Rattle.merc_category_laws.proofs.Calls.{LawfulCalls, basic_law}
-use Rattle.merc_category_laws.proofs.Maxima.{can_fail_is, zero_is, sure_is, fails_or, greater_zero}
+use Rattle.merc_category_laws.proofs.Maxima.{zero_is, sure_is, fails_or, greater_zero}
 use Rattle.merc_category_laws.proofs.Combining.{cut_law, then_law, or_law, looser, zero_law, if_law, not_law}
 use Rattle.merc_category_laws.proofs.Graded.{Graded, GradedGoal, GradedAll, GradedEach, GradedArms, ends_zero}
 

@@ -1,5 +1,5 @@
 -- Small facts on booleans, symbols, types and environments.
-use Rattle.std.proofs.Common.{◌≡◌, ◌⊎◌, inl, inr, ℕ, zero, suc, ℤ, Bool, true, false, is_some, ◌==◌, ◌||◌, ◌&&◌, if◌then◌else◌, List, [], ◌∷◌, length, map, Option, Some, None, refl, ap, sym, ◌∙◌}
+use Rattle.std.proofs.Common.{◌≡◌, ◌⊎◌, inl, inr, ℕ, zero, suc, ℤ, Bool, true, false, is_some, ◌==◌, ◌||◌, ◌&&◌, if◌then◌else◌, List, [], ◌∷◌, map, Option, Some, None, refl, ap, sym, ◌∙◌}
 use Rattle.std.specs.Ordering.{int_eq}
 use Rattle.std.specs.Bool.{Decides}
 use Rattle.std.specs.List.{AllByRecursion}
@@ -9,11 +9,11 @@ use Rattle.merc_goal_tree.specs.declared.goal.Symbol.{Symbol}
 use Rattle.merc_goal_tree.specs.declared.goal.Symbol.TheVariants.{Constructor, Integer, Text as TextSymbol}
 use Rattle.merc_order.specs.Bound.{among}
 use Rattle.merc_grading.specs.Known.{same_symbol}
-use Rattle.merc_value.specs.Value.{Value, Int, Text, Con, Values, none, more}
+use Rattle.merc_value.specs.Value.{Value, Int, Text, Con, Values, none}
 use Rattle.merc_meaning.specs.Trace.{Env}
 use Rattle.merc_meaning.specs.Values.{count, made, fields}
 use Rattle.merc_meaning.specs.Steps.{value_at, bound}
-use Rattle.merc_order_laws.proofs.Facts.{clash, or_left, or_right, or_cases, either_way}
+use Rattle.merc_order_laws.proofs.Facts.{clash, or_left, or_right, or_cases}
 use Rattle.merc_category_laws.specs.GoodPrograms.{MentionsOnly, AllMentionOnly}
 
 pub or_not_left : (a b : Bool) → (a || b) ≡ false → a ≡ false

@@ -11,7 +11,6 @@ use Rattle.merc_goal_tree.specs.declared.goal.Symbol.{Symbol}
 use Rattle.merc_goal_tree.specs.declared.goal.Symbol.TheVariants.{Constructor, Integer, Text}
 use Rattle.merc_graded_tree.specs.declared.basic.BasicGoal.{BasicGoal}
 use Rattle.merc_graded_tree.specs.declared.basic.BasicGoal.TheVariants.{Build, Split}
-use Rattle.merc_graded_tree.specs.declared.basic.Procedure.{Procedure as ProcedureNumber}
 use Rattle.merc_graded_tree.specs.Nodes.{Node}
 use Rattle.merc_order.specs.Bound.{among}
 use Rattle.merc_order.specs.Procedures.{bound_at, numbers_below, modes_of}

@@ -1,25 +1,25 @@
 -- A program that is good, and others that are not: `same(T, T)` with the mode `(in, out)` and the body `Y = X`.
 use Rattle.std.specs.Prelude.{◌≡◌, ℕ, zero, suc, Bool, true, false, ◌==◌, ◌||◌, List, [], ◌∷◌, Some, None, pos, refl}
-use Rattle.std.proofs.Common.{inl, inr, ap, sym, subst, ◌∙◌}
+use Rattle.std.proofs.Common.{inr, ap, sym, subst}
 use Rattle.std.proofs.lemmas.Bool.Decides.{Decides-eqb}
 use Rattle.merc_base.specs.declared.category.Category.{Category}
 use Rattle.merc_base.specs.declared.category.Category.TheVariants.{Det, Semidet, Erroneous}
 use Rattle.merc_tree.specs.Term.{no_span}
-use Rattle.merc_tree.specs.Types.{TypeExpr, TypeVariable, IntType}
+use Rattle.merc_tree.specs.Types.{TypeVariable}
 use Rattle.merc_tree.specs.declared.declarations.Arg.TheVariants.{Input, Output}
 use Rattle.merc_tree.specs.declared.declarations.ModeDecl.{ModeDecl}
 use Rattle.merc_tree.specs.declared.declarations.PredDecl.{PredDecl}
 use Rattle.merc_tree.specs.declared.declarations.TypeDef.{TypeDef}
 use Rattle.merc_tree.specs.declared.declarations.Module.{Module}
 use Rattle.merc_goal_tree.specs.declared.goal.Symbol.TheVariants.{Integer}
-use Rattle.merc_graded_tree.specs.declared.basic.BasicGoal.TheVariants.{Assign, Build}
-use Rattle.merc_graded_tree.specs.Nodes.{Node, node, Goal, Basic, goal_of, outputs_of, category_of}
+use Rattle.merc_graded_tree.specs.declared.basic.BasicGoal.TheVariants.{Assign}
+use Rattle.merc_graded_tree.specs.Nodes.{node, Goal, Basic, goal_of, outputs_of, category_of}
 use Rattle.merc_order.specs.Bound.{among}
 use Rattle.merc_order.specs.Procedures.{bound_at, modes_of}
 use Rattle.merc_grading.specs.Grading.{graded_goal, with_category}
 use Rattle.merc_grading.specs.Faults.{Body}
 use Rattle.merc_category_laws.specs.ValueTypesExamples.{declared, parameter, list_of}
-use Rattle.merc_category_laws.specs.GoodPrograms.{MentionsOnly, AreGoodTypes, FitsArguments, IsGraded, IsGoodProcedure, IsGoodProgram, body_of, program_of}
+use Rattle.merc_category_laws.specs.GoodPrograms.{AreGoodTypes, FitsArguments, IsGraded, IsGoodProcedure, IsGoodProgram, body_of, program_of}
 
 -- The types of the examples of values are good. One whose constructor mentions another type variable is not.
 

@@ -1,5 +1,5 @@
 -- Goals that guard a symbol or not, over the types and variables of the examples of categories.
-use Rattle.std.specs.Prelude.{◌≡◌, ◌⊎◌, true, false, [], ◌∷◌, refl}
+use Rattle.std.specs.Prelude.{◌≡◌, true, false, [], ◌∷◌, refl}
 use Rattle.std.proofs.Common.{inl, inr, ap}
 use Rattle.merc_graded_tree.specs.declared.basic.BasicGoal.TheVariants.{True}
 use Rattle.merc_graded_tree.specs.Nodes.{Node, Switch, Disjunction, Negation, nodes_of, no_arms, more_arms}

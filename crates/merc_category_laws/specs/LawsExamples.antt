@@ -2,7 +2,6 @@
 use Rattle.std.specs.Prelude.{◌≡◌, ℕ, zero, suc, ◌<◌, true, is_some, List, [], ◌∷◌, Some, None, refl}
 use Rattle.std.proofs.Common.{subst, arith}
 use Rattle.merc_tree.specs.Types.{TypeExpr, TypeVariable, TextType, replaced}
-use Rattle.merc_tree.specs.declared.declarations.Arg.{Arg}
 use Rattle.merc_tree.specs.declared.declarations.Arg.TheVariants.{Input, Output}
 use Rattle.merc_value.specs.Value.{Value, Text}
 use Rattle.merc_meaning.specs.Trace.{Env}

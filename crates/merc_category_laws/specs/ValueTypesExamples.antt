@@ -1,6 +1,6 @@
 -- Values that are of a type or not, over the type `list(T) ---> nil ; cons(T, list(T))`.
-use Rattle.std.specs.Prelude.{◌≡◌, ℕ, List, [], ◌∷◌, None, refl}
-use Rattle.merc_tree.specs.Types.{TypeExpr, TypeVariable, IntType, TextType, TypeApplication, no_types, more_types}
+use Rattle.std.specs.Prelude.{ℕ, List, [], ◌∷◌, None, refl}
+use Rattle.merc_tree.specs.Types.{TypeExpr, TypeVariable, TextType, TypeApplication, no_types, more_types}
 use Rattle.merc_tree.specs.declared.declarations.TypeDef.{TypeDef}
 use Rattle.merc_value.specs.Value.{Value, Text, Con, none, more}
 use Rattle.merc_category_laws.specs.ValueTypes.{HasType}
