@@ -1,8 +1,8 @@
 -- Traces that keep to a category or not.
 use Rattle.std.specs.Prelude.{◌≡◌, [], ◌∷◌, None, refl}
 use Rattle.std.proofs.Common.{inl}
-use Rattle.merc_base.specs.declared.category.Category.TheVariants.{Det, Semidet, Multi, Erroneous, Failure}
-use Rattle.merc_meaning.specs.Trace.{Trace, Ends, Tick, Answer, Done, Raised, one_answer}
+use Rattle.merc_base.specs.declared.category.Category.TheVariants.{Det, Semidet, Multi, Nondet, Erroneous, Failure}
+use Rattle.merc_meaning.specs.Trace.{Trace, Ends, Tick, Answer, Done, Raised, TooDeep, one_answer}
 use Rattle.merc_category_laws.specs.Answers.{Each, Has, IsDone, KeepsTo}
 
 abbrev two_answers : Trace
@@ -23,8 +23,11 @@ has_none h = h
 is_done : IsDone two_answers
 is_done = tt
 
-is_not_done : IsDone (Answer [] (Ends (Raised 5))) → ⊥
-is_not_done h = h
+raised_not_done : IsDone (Answer [] (Ends (Raised 5))) → ⊥
+raised_not_done h = h
+
+deep_not_done : IsDone (Tick (Ends TooDeep)) → ⊥
+deep_not_done h = h
 
 det : KeepsTo Det (Tick (one_answer []))
 det = record { at_most = refl; at_least = λ c d. inl tt }
@@ -41,6 +44,9 @@ semidet = record { at_most = tt; at_least = λ c d. cc }
 
 semidet_twice : KeepsTo Semidet two_answers → ⊥
 semidet_twice h = cc h.at_most
+
+nondet : KeepsTo Nondet (Ends Done)
+nondet = record { at_most = tt; at_least = λ c d. cc }
 
 multi : KeepsTo Multi two_answers
 multi = record { at_most = tt; at_least = λ c d. inl tt }

@@ -1,19 +1,21 @@
 -- A program that is good, and others that are not: `same(T, T)` with the mode `(in, out)` and the body `Y = X`.
-use Rattle.std.specs.Prelude.{◌≡◌, ℕ, zero, suc, Bool, true, false, ◌==◌, ◌||◌, List, [], ◌∷◌, Some, None, pos, refl}
-use Rattle.std.proofs.Common.{inr, ap, sym, subst}
+use Rattle.std.specs.Prelude.{◌≡◌, ℕ, zero, suc, Bool, true, false, ◌==◌, ◌||◌, ◌⊎◌, List, [], ◌∷◌, Some, None, pos, refl}
+use Rattle.std.proofs.Common.{inl, inr, ap, sym, subst}
 use Rattle.std.proofs.lemmas.Bool.Decides.{Decides-eqb}
 use Rattle.merc_base.specs.declared.category.Category.{Category}
 use Rattle.merc_base.specs.declared.category.Category.TheVariants.{Det, Semidet, Erroneous}
 use Rattle.merc_tree.specs.Term.{no_span}
-use Rattle.merc_tree.specs.Types.{TypeVariable}
+use Rattle.merc_tree.specs.Types.{TypeVariable, IntType}
+use Rattle.merc_tree.specs.declared.declarations.Arg.{Arg}
 use Rattle.merc_tree.specs.declared.declarations.Arg.TheVariants.{Input, Output}
 use Rattle.merc_tree.specs.declared.declarations.ModeDecl.{ModeDecl}
 use Rattle.merc_tree.specs.declared.declarations.PredDecl.{PredDecl}
 use Rattle.merc_tree.specs.declared.declarations.TypeDef.{TypeDef}
 use Rattle.merc_tree.specs.declared.declarations.Module.{Module}
 use Rattle.merc_goal_tree.specs.declared.goal.Symbol.TheVariants.{Integer}
-use Rattle.merc_graded_tree.specs.declared.basic.BasicGoal.TheVariants.{Assign}
-use Rattle.merc_graded_tree.specs.Nodes.{node, Goal, Basic, goal_of, outputs_of, category_of}
+use Rattle.merc_graded_tree.specs.declared.basic.BasicGoal.{BasicGoal}
+use Rattle.merc_graded_tree.specs.declared.basic.BasicGoal.TheVariants.{True, Assign, Build, Raise}
+use Rattle.merc_graded_tree.specs.Nodes.{node, Goal, Basic, Switch, more_arms, no_arms, goal_of, outputs_of, category_of}
 use Rattle.merc_order.specs.Bound.{among}
 use Rattle.merc_order.specs.Procedures.{bound_at, modes_of}
 use Rattle.merc_grading.specs.Grading.{graded_goal, with_category}
@@ -82,6 +84,47 @@ is_good = record {
   heads (suc zero) h = refl
   heads (suc (suc v)) h = absurd (neither (suc (suc v) == 0) (suc (suc v) == 1) (not_at v 0 (λ e. absurd cc)) (not_at v 1 (λ e. absurd cc)) h)
 
+-- Bodies of it that are not good: one for each thing that is established
+
+abbrev IsGood : Body → Type 0
+IsGood other = IsGoodProcedure (example Semidet) (same Semidet) (mode Semidet) other
+
+abbrev body_of_goal : BasicGoal → List ℕ → Body
+body_of_goal goal outputs = record { types = body.types; tree = node (Basic goal) outputs (Some Det) no_span }
+
+-- a mode with a place for one argument, and one whose first argument is an output
+
+abbrev mode_of : List Arg → ModeDecl
+mode_of places = record { args = places; category = Semidet; span = no_span }
+
+place_missing : IsGoodProcedure (example Semidet) (same Semidet) (mode_of (Input ∷ [])) body → ⊥
+place_missing h = cc h.arity
+
+input_unbound : IsGoodProcedure (example Semidet) (same Semidet) (mode_of (Output ∷ Input ∷ [])) body → ⊥
+input_unbound h = cc h.binds.2.0
+
+-- variables of another type than the arguments, and a text that is none
+other_types : IsGood (record { types = λ variable. IntType; tree = body.tree }) → ⊥
+other_types h = cc h.head.0
+
+not_typed : IsGood (body_of_goal (Raise 0) []) → ⊥
+not_typed h = cc h.typed.0
+
+-- `Y = 1` with an argument, and a body that leaves Y unbound
+
+literal_with_argument : IsGood (body_of_goal (Build 1 (Integer (pos 1)) (0 ∷ [])) (1 ∷ [])) → ⊥
+literal_with_argument h = cc h.literals.0.1
+
+output_unbound : IsGood (body_of_goal True []) → ⊥
+output_unbound h = unbound h.binds_head where
+  unbound : (true ≡ false) ⊎ ((v : ℕ) → among (0 ∷ 1 ∷ []) v ≡ true → (bound_at (Input ∷ Output ∷ []) v || false) ≡ true) → ⊥
+  unbound (inl e) = cc e
+  unbound (inr f) = cc (f 1 refl)
+
+-- a switch whose arm does not guard its symbol
+not_guarded : IsGood (record { types = body.types; tree = node (Switch 0 (more_arms (Integer (pos 1)) body.tree no_arms)) (1 ∷ []) (Some Semidet) no_span }) → ⊥
+not_guarded h = h.guarded.0
+
 -- the category in the tree is another one
 not_graded : IsGraded (example Semidet) body.types (body_with Semidet).tree → ⊥
 not_graded (node goal outputs category span, e) =
@@ -98,12 +141,19 @@ not_graded (node goal outputs category span, e) =
 not_allowed : IsGoodProcedure (example Erroneous) (same Erroneous) (mode Erroneous) body → ⊥
 not_allowed h = cc h.allowed
 
+-- The program is good. Without a body, with one too many, or where types are not good it is not.
+
 good_program : IsGoodProgram (example Semidet) (body ∷ [])
 good_program = record { good_types = good_types; procedures = (is_good, tt) }
 
--- a procedure without a body
 no_body : IsGoodProgram (example Semidet) [] → ⊥
 no_body h = h.procedures
+
+body_too_many : IsGoodProgram (example Semidet) (body ∷ body ∷ []) → ⊥
+body_too_many h = h.procedures.1
+
+bad_types : IsGoodProgram (record { name = 99; units = []; types = unscoped; preds = []; own = 0; clauses = [] }) [] → ⊥
+bad_types h = not_scoped h.good_types
 
 -- The procedure is the first mode of the first predicate, and there are no others.
 
