@@ -43,6 +43,7 @@ abbrev mutual
 abbrev pub IsScoped : TypeDef → Type 0
 IsScoped declared = AllByRecursion (λ constructor. AllByRecursion (MentionsOnly declared.params) constructor.args) declared.constructors
 
+-- types are told apart, and their constructors mention none but their parameters
 pub record AreGoodTypes (declared : List TypeDef) : Type 0 where
   pub apart : AreToldApart declared
   pub scoped : AllByRecursion IsScoped declared
