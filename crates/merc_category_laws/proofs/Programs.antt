@@ -16,7 +16,7 @@ use Rattle.merc_graded_tree.specs.declared.basic.Procedure.{Procedure as Procedu
 use Rattle.merc_graded_tree.specs.Nodes.{Node, node, outputs_of}
 use Rattle.merc_graded_tree.specs.Variables.{in_node}
 use Rattle.merc_type_check.specs.Typing.{IsTypedGoal, AreArguments}
-use Rattle.merc_order.specs.Bound.{with, among}
+use Rattle.merc_order.specs.Bound.{nothing, with, among}
 use Rattle.merc_order.specs.Procedures.{bound_at, numbers_below, modes_of}
 use Rattle.merc_order_laws.specs.WrittenGoals.{basic_goals, written_goal}
 use Rattle.merc_order_laws.proofs.Facts.{clash, or_left, or_right, either_way, among_append}
@@ -28,10 +28,10 @@ use Rattle.merc_meaning.specs.Steps.{value_at}
 use Rattle.merc_meaning.specs.Runs.{Program, ProcedureBody, is_at_most_one, once_if, goal_trace, node_trace, body_trace, call_trace}
 use Rattle.merc_category_laws.specs.ValueTypes.{HasType}
 use Rattle.merc_category_laws.specs.Answers.{Each, Never, Single, AreAtMost}
-use Rattle.merc_category_laws.specs.GoodPrograms.{HasLiteral, IsGoodProcedure, AreGoodProcedures, IsGoodProgram, body_of_mode, body_of, program_of}
-use Rattle.merc_category_laws.specs.Laws.{Enters, Leaves, IsProcedure, CategoryLaw, ErroneousLaw, TypeLaw}
+use Rattle.merc_category_laws.specs.GoodPrograms.{HasLiteral, IsGoodProcedure, AreGoodProcedures, IsGoodProgram, IsGoodQuery, body_of_mode, body_of, program_of}
+use Rattle.merc_category_laws.specs.Laws.{Enters, Leaves, IsProcedure, CategoryLaw, ErroneousLaw, TypeLaw, GivesAll, QueryCategoryLaw, QueryTypeLaw}
 use Rattle.merc_category_laws.proofs.Traces.{single_first, never_has}
-use Rattle.merc_category_laws.proofs.Values.{Instance, none_not, same_some, is_some_of, both}
+use Rattle.merc_category_laws.proofs.Values.{Instance, none_not, same_some, some_of, is_some_of, both}
 use Rattle.merc_category_laws.proofs.Lawful.{Fits, Goes, Lawful}
 use Rattle.merc_category_laws.proofs.Knowing.{one_not_zero, many_not_zero}
 use Rattle.merc_category_laws.proofs.Calls.{LawfulCalls}
@@ -258,6 +258,36 @@ module _ (known : Module) (bodies : List Body) (good : IsGoodProgram known bodie
   counted One t h k = k refl
   counted Many t h k = tt
 
+  -- Goals that are asked.
+  module _ (answers : List ℕ) (query : Body) (asked : IsGoodQuery known answers query) (i : Instance) where
+    query_graded : Graded known.types (modes_of known.preds) query.types [] query.tree
+    query_graded = subst (λ (n : Node). Graded known.types (modes_of known.preds) query.types [] n) (sym asked.is_graded.1) (graded_has known.types (modes_of known.preds) query.types asked.is_graded.0 [])
+
+    query_parts : AllByRecursion (IsPart known query.types i) (basic_goals query.tree)
+    query_parts = all_both (λ g. IsTypedGoal known query.types (written_goal g)) HasLiteral (basic_goals query.tree) asked.typed asked.literals
+
+    query_fits : Fits known query.types i (among answers) nothing (in_node query.tree) [] []
+    query_fits = record { bounds = λ x o. refl; outer = λ x o e. clash e refl; typed = λ x v e. absurd (none_not e); knows = λ x s e. absurd (none_not e) }
+
+    query_gives : (answer : Env) → ((x : ℕ) → among answers x ≡ true → (nothing x || among (outputs_of query.tree) x) ≡ true)
+        → Goes known query.types i (among answers) (with nothing (among (outputs_of query.tree))) (in_node query.tree) (known_behind query.tree []) [] answer → GivesAll known.types i query.types answers answer
+    query_gives answer ends goes x h =
+        let within : in_node query.tree x ≡ true = outputs_within known query.types i query.tree (among answers) nothing asked.binds x (ends x h) in
+        let r = some_of (value_at answer x) (goes.bounds x within h ∙ ends x h) in
+        (r.0, r.1, goes.typed x r.0 r.1)
+
+    query_law : (depth : ℕ) → Lawful (GivesAll known.types i query.types answers) (category_at query.tree) (node_trace program (call_trace program depth) query.tree [])
+    query_law depth =
+        let call : ProcedureNumber → Env → Trace = call_trace program depth in
+        let law = node_law known good.good_types program call (lawful_calls depth) query.types i query.tree (among answers) nothing [] [] asked.binds query_graded query_parts query_fits in
+        elim asked.binds_answers as (λ _. Lawful (GivesAll known.types i query.types answers) (category_at query.tree) (node_trace program call query.tree [])) [
+          | inl z ↦ zero_law _ _ (category_at query.tree) _ law (ends_zero known.types (modes_of known.preds) query.types query.tree [] _ _ asked.binds query_graded z)
+          | inr e ↦ looser _ _ (category_at query.tree) _ (λ answer goes. query_gives answer e goes) law
+        ]
+
+one_not_many : (m : Most) → m ≡ One → m ≡ Many → ⊥
+one_not_many m e k = absurd (let wrong : One ≡ Many = sym e ∙ k in cc)
+
 pub category_law : CategoryLaw
 category_law known bodies good p declared mode is i env h depth =
     let law = (lawful_calls known bodies good depth p declared mode is).law i env h in
@@ -273,3 +303,17 @@ pub erroneous_law : ErroneousLaw
 erroneous_law known bodies good p declared mode is i env h depth e done =
     let law = (lawful_calls known bodies good depth p declared mode is).law i env h in
     never_has _ (call_trace (program_of known.preds bodies) depth p env) (law.no_answer (ap most_of e)) (law.some_answer (ap can_fail_of e) done)
+
+pub query_category_law : QueryCategoryLaw
+query_category_law known bodies good answers query asked i depth =
+    let c : Category = category_at query.tree in
+    let call : ProcedureNumber → Env → Trace = call_trace (program_of known.preds bodies) depth in
+    let law = query_law known bodies good answers query asked i depth in
+    record {
+      at_most = counted known bodies good (most_of c) (node_trace (program_of known.preds bodies) call query.tree []) law.no_answer
+          (λ m. single_node known bodies good call query.tree [] (one_not_many (most_of c) m));
+      at_least = law.some_answer;
+    }
+
+pub query_type_law : QueryTypeLaw
+query_type_law known bodies good answers query asked i depth = (query_law known bodies good answers query asked i depth).goes

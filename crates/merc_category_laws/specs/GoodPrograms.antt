@@ -12,7 +12,7 @@ use Rattle.merc_goal_tree.specs.declared.goal.Symbol.TheVariants.{Constructor, I
 use Rattle.merc_graded_tree.specs.declared.basic.BasicGoal.{BasicGoal}
 use Rattle.merc_graded_tree.specs.declared.basic.BasicGoal.TheVariants.{Build, Split}
 use Rattle.merc_graded_tree.specs.Nodes.{Node}
-use Rattle.merc_order.specs.Bound.{among}
+use Rattle.merc_order.specs.Bound.{nothing, among}
 use Rattle.merc_order.specs.Procedures.{bound_at, numbers_below, modes_of}
 use Rattle.merc_type_check.specs.Typing.{AreArguments}
 use Rattle.merc_grading.specs.Grading.{category_at, graded}
@@ -81,6 +81,15 @@ pub record IsGoodProcedure (known : Module) (declared : PredDecl) (mode : ModeDe
   pub guarded : HasGuards body.tree
   pub is_graded : IsGraded known body.types body.tree
   pub allowed : allows mode.category (category_at body.tree) ≡ true
+
+-- The same of a goal that is asked, with its answer variables, where nothing is bound before.
+pub record IsGoodQuery (known : Module) (answers : List ℕ) (body : Body) : Type 0 where
+  pub typed : IsTypedTree known body.types body.tree
+  pub literals : HasLiterals body.tree
+  pub binds : GoodNode (modes_of known.preds) (among answers) nothing body.tree
+  pub binds_answers : BindsHeads (modes_of known.preds) answers nothing body.tree
+  pub guarded : HasGuards body.tree
+  pub is_graded : IsGraded known body.types body.tree
 
 -- Programs.
 

@@ -5,23 +5,23 @@ use Rattle.std.proofs.lemmas.Bool.Decides.{Decides-eqb}
 use Rattle.merc_base.specs.declared.category.Category.{Category}
 use Rattle.merc_base.specs.declared.category.Category.TheVariants.{Det, Semidet, Erroneous}
 use Rattle.merc_tree.specs.Term.{no_span}
-use Rattle.merc_tree.specs.Types.{TypeVariable, IntType}
+use Rattle.merc_tree.specs.Types.{TypeVariable, IntType, TextType}
 use Rattle.merc_tree.specs.declared.declarations.Arg.{Arg}
 use Rattle.merc_tree.specs.declared.declarations.Arg.TheVariants.{Input, Output}
 use Rattle.merc_tree.specs.declared.declarations.ModeDecl.{ModeDecl}
 use Rattle.merc_tree.specs.declared.declarations.PredDecl.{PredDecl}
 use Rattle.merc_tree.specs.declared.declarations.TypeDef.{TypeDef}
 use Rattle.merc_tree.specs.declared.declarations.Module.{Module}
-use Rattle.merc_goal_tree.specs.declared.goal.Symbol.TheVariants.{Integer}
+use Rattle.merc_goal_tree.specs.declared.goal.Symbol.TheVariants.{Integer, Text}
 use Rattle.merc_graded_tree.specs.declared.basic.BasicGoal.{BasicGoal}
-use Rattle.merc_graded_tree.specs.declared.basic.BasicGoal.TheVariants.{True, Assign, Build, Raise}
+use Rattle.merc_graded_tree.specs.declared.basic.BasicGoal.TheVariants.{True, Assign, Build, Raise, Call}
 use Rattle.merc_graded_tree.specs.Nodes.{node, Goal, Basic, Switch, more_arms, no_arms, goal_of, outputs_of, category_of}
 use Rattle.merc_order.specs.Bound.{among}
 use Rattle.merc_order.specs.Procedures.{bound_at, modes_of}
 use Rattle.merc_grading.specs.Grading.{graded_goal, with_category}
 use Rattle.merc_grading.specs.Faults.{Body}
 use Rattle.merc_category_laws.specs.ValueTypesExamples.{declared, parameter, list_of}
-use Rattle.merc_category_laws.specs.GoodPrograms.{AreGoodTypes, FitsArguments, IsGraded, IsGoodProcedure, IsGoodProgram, body_of, program_of}
+use Rattle.merc_category_laws.specs.GoodPrograms.{AreGoodTypes, FitsArguments, IsGraded, IsGoodProcedure, IsGoodProgram, IsGoodQuery, body_of, program_of}
 
 -- The types of the examples of values are good. One whose constructor mentions another type variable is not.
 
@@ -167,3 +167,39 @@ no_such_mode = refl
 second : body_of (same Det ∷ record { name = 85; args = []; modes = mode Det ∷ mode Semidet ∷ []; span = no_span; unit = None } ∷ [])
     (body.tree ∷ body.tree ∷ (body_with Semidet).tree ∷ []) 1 1 ≡ Some (record { places = Input ∷ Output ∷ []; body = (body_with Semidet).tree })
 second = refl
+
+-- Goals that are asked over it: `X = "a"` is good where X is an answer variable. Where Y is one too it is not, and `same(X, X)` has an input that is not bound.
+
+abbrev ask : BasicGoal → List ℕ → Category → Body
+ask goal outputs category = record { types = λ variable. TextType; tree = node (Basic goal) outputs (Some category) no_span }
+
+abbrev text : Body
+text = ask (Build 0 (Text 70) []) (0 ∷ []) Det
+
+good_query : IsGoodQuery (example Semidet) (0 ∷ []) text
+good_query = record {
+  typed = (refl, tt);
+  literals = (refl, tt);
+  binds = (λ v h. h, (refl, refl, tt), (tt, refl, λ v o h. refl));
+  binds_answers = inr (λ v h. h);
+  guarded = tt;
+  is_graded = (node (Basic (Build 0 (Text 70) [])) (0 ∷ []) None no_span, refl);
+}
+
+answer_unbound : IsGoodQuery (example Semidet) (0 ∷ 1 ∷ []) text → ⊥
+answer_unbound h = unbound h.binds_answers where
+  unbound : (true ≡ false) ⊎ ((v : ℕ) → among (0 ∷ 1 ∷ []) v ≡ true → (false || among (0 ∷ []) v) ≡ true) → ⊥
+  unbound (inl e) = cc e
+  unbound (inr f) = cc (f 1 refl)
+
+asked_of_free : IsGoodQuery (example Semidet) (0 ∷ []) (ask (Call (record { predicate = 0; mode = 0 }) (0 ∷ 1 ∷ [])) (1 ∷ []) Semidet) → ⊥
+asked_of_free h = cc h.binds.2.1.0
+
+asked_type : IsGoodQuery (example Semidet) (0 ∷ []) (ask (Build 0 (Integer (pos 1)) []) (0 ∷ []) Det) → ⊥
+asked_type h = cc h.typed.0
+
+asked_literal : IsGoodQuery (example Semidet) (0 ∷ []) (ask (Build 0 (Text 70) (0 ∷ [])) (0 ∷ []) Det) → ⊥
+asked_literal h = cc h.literals.0
+
+asked_switch : IsGoodQuery (example Semidet) [] (record { types = λ variable. TextType; tree = node (Switch 0 (more_arms (Text 70) text.tree no_arms)) [] (Some Semidet) no_span }) → ⊥
+asked_switch h = h.guarded.0

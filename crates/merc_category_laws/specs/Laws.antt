@@ -1,5 +1,5 @@
 -- What holds of the traces of a good program.
-use Rattle.std.specs.Prelude.{◌≡◌, ℕ, ◌<◌, true, is_some, List, length, Some, slice_get}
+use Rattle.std.specs.Prelude.{◌≡◌, ℕ, ◌<◌, true, is_some, List, [], length, Some, slice_get}
 use Rattle.merc_base.specs.declared.category.Category.TheVariants.{Erroneous}
 use Rattle.merc_tree.specs.Types.{TypeExpr, replaced}
 use Rattle.merc_tree.specs.declared.declarations.Arg.{Arg}
@@ -8,15 +8,17 @@ use Rattle.merc_tree.specs.declared.declarations.PredDecl.{PredDecl}
 use Rattle.merc_tree.specs.declared.declarations.TypeDef.{TypeDef}
 use Rattle.merc_tree.specs.declared.declarations.Module.{Module}
 use Rattle.merc_graded_tree.specs.declared.basic.Procedure.{Procedure}
+use Rattle.merc_order.specs.Bound.{among}
 use Rattle.merc_order.specs.Procedures.{bound_at}
+use Rattle.merc_grading.specs.Grading.{category_at}
 use Rattle.merc_grading.specs.Faults.{Body}
 use Rattle.merc_value.specs.Value.{Value}
 use Rattle.merc_meaning.specs.Trace.{Env, Trace}
 use Rattle.merc_meaning.specs.Steps.{value_at}
-use Rattle.merc_meaning.specs.Runs.{call_trace}
+use Rattle.merc_meaning.specs.Runs.{node_trace, call_trace}
 use Rattle.merc_category_laws.specs.ValueTypes.{HasType}
 use Rattle.merc_category_laws.specs.Answers.{Each, IsDone, KeepsTo}
-use Rattle.merc_category_laws.specs.GoodPrograms.{IsGoodProgram, program_of}
+use Rattle.merc_category_laws.specs.GoodPrograms.{IsGoodProgram, IsGoodQuery, program_of}
 
 -- Given are the declared types, and what type variables stand for.
 module _ (declared : List TypeDef) (instance : ℕ → TypeExpr) where
@@ -61,3 +63,24 @@ ErroneousLaw = OfEachCall (λ declared mode instance known env trace. mode.categ
 -- Each answer gives all arguments values of their types.
 abbrev pub TypeLaw : Type 0
 TypeLaw = OfEachCall (λ declared mode instance known env trace. Each (Leaves known.types instance declared.args env) trace)
+
+-- Goals that are asked.
+
+-- each of these variables has a value of its type
+abbrev pub GivesAll : List TypeDef → (ℕ → TypeExpr) → (ℕ → TypeExpr) → List ℕ → Env → Type 0
+GivesAll declared instance types answers env = (variable : ℕ) → among answers variable ≡ true
+    → (value : Value) × (value_at env variable ≡ Some value) × HasType declared value (replaced instance (types variable))
+
+-- what holds of each good goal over a good program, whatever the depth of calls and whatever type variables stand for
+abbrev pub OfEachQuery : (List ℕ → Body → (ℕ → TypeExpr) → Module → Trace → Type 0) → Type 0
+OfEachQuery Holds =
+    (known : Module) (bodies : List Body) → IsGoodProgram known bodies → (answers : List ℕ) (query : Body) → IsGoodQuery known answers query → (instance : (ℕ → TypeExpr)) (depth : ℕ)
+    → Holds answers query instance known (node_trace (program_of known.preds bodies) (call_trace (program_of known.preds bodies) depth) query.tree [])
+
+-- A goal has as many answers as its category allows, and each gives all answer variables values of their types.
+
+abbrev pub QueryCategoryLaw : Type 0
+QueryCategoryLaw = OfEachQuery (λ answers query instance known trace. KeepsTo (category_at query.tree) trace)
+
+abbrev pub QueryTypeLaw : Type 0
+QueryTypeLaw = OfEachQuery (λ answers query instance known trace. Each (GivesAll known.types instance query.types answers) trace)

@@ -1,6 +1,7 @@
 -- Environments with which a call of `same(T, T)`, with the mode `(in, out)`, begins and ends.
-use Rattle.std.specs.Prelude.{◌≡◌, ℕ, zero, suc, ◌<◌, true, is_some, List, [], ◌∷◌, Some, None, refl}
-use Rattle.std.proofs.Common.{subst, arith}
+use Rattle.std.specs.Prelude.{◌≡◌, Bool, false, ◌==◌, ◌||◌, ℕ, zero, suc, ◌<◌, true, is_some, List, [], ◌∷◌, Some, None, refl}
+use Rattle.std.proofs.Common.{sym, subst, arith}
+use Rattle.std.proofs.lemmas.Bool.Decides.{Decides-eqb}
 use Rattle.merc_tree.specs.Types.{TypeExpr, TypeVariable, TextType, replaced}
 use Rattle.merc_tree.specs.declared.declarations.Arg.TheVariants.{Input, Output}
 use Rattle.merc_value.specs.Value.{Value, Text}
@@ -9,7 +10,7 @@ use Rattle.merc_meaning.specs.Steps.{value_at}
 use Rattle.merc_order.specs.Procedures.{bound_at}
 use Rattle.merc_category_laws.specs.ValueTypes.{HasType}
 use Rattle.merc_category_laws.specs.ValueTypesExamples.{declared, one_text}
-use Rattle.merc_category_laws.specs.Laws.{AreTyped, Enters, Leaves}
+use Rattle.merc_category_laws.specs.Laws.{AreTyped, Enters, Leaves, GivesAll}
 
 abbrev of_texts : ℕ → TypeExpr
 of_texts name = TextType
@@ -83,3 +84,20 @@ input_changed h = cc (h.keeps 0 (Text 70) refl)
 
 other_type : At (Some (Text 70) ∷ Some one_text ∷ []) → ⊥
 other_type h = cc (h.typed 1 (TypeVariable 84) one_text refl refl).3
+
+-- An answer to a goal with Y as its answer variable, a text.
+
+gives_all : GivesAll declared of_texts (λ variable. TextType) (1 ∷ []) (None ∷ Some (Text 70) ∷ [])
+gives_all v h =
+    subst (λ (x : ℕ). (value : Value) × (value_at (None ∷ Some (Text 70) ∷ []) x ≡ Some value) × HasType declared value TextType) (sym (only (v == 1) ((Decides-eqb v 1).0) h)) (Text 70, refl, refl) where
+      only : {A : Type 0} (b : Bool) → (b ≡ true → A) → (b || false) ≡ true → A
+      only true f h = f refl
+      only false f h = absurd cc
+
+gives_nothing : GivesAll declared of_texts (λ variable. TextType) (1 ∷ []) (Some (Text 70) ∷ []) → ⊥
+gives_nothing h = let wrong : None ≡ Some (h 1 refl).0 = (h 1 refl).1 in cc
+
+gives_list : GivesAll declared of_texts (λ variable. TextType) (0 ∷ []) (Some one_text ∷ []) → ⊥
+gives_list h =
+    let given : HasType declared one_text TextType = subst (λ (value : Value). HasType declared value TextType) (sym (same_some (h 0 refl).1)) (h 0 refl).2 in
+    cc given.3

@@ -1,5 +1,5 @@
 //! What the traces of a good program keep to.
-ghost use Rattle.merc_category_laws.specs.Laws.{CategoryLaw, ErroneousLaw, TypeLaw};
+ghost use Rattle.merc_category_laws.specs.Laws.{CategoryLaw, ErroneousLaw, QueryCategoryLaw, QueryTypeLaw, TypeLaw};
 
 /// The trace of each call of a good program, from inputs of their types and at every depth of calls, has no more answers
 /// than the category of its mode allows: none where its maximum is 0, at most one where that is 1. Where it ends Done it
@@ -11,4 +11,11 @@ pub fn calls_keep_to_categories()
     ensures category { CategoryLaw }
     ensures erroneous { ErroneousLaw }
     ensures types { TypeLaw }
+{}
+
+/// The trace of a good goal that is asked over a good program keeps to the goal's category in the same way, at every depth
+/// of calls, and each answer gives all answer variables values of their types.
+pub fn queries_keep_to_categories()
+    ensures category { QueryCategoryLaw }
+    ensures types { QueryTypeLaw }
 {}
