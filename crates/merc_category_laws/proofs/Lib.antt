@@ -1,0 +1,13 @@
+pub mod Traces
+pub mod Values
+pub mod Declared
+pub mod Steps
+pub mod Lawful
+pub mod Knowing
+pub mod Simple
+pub mod Calls
+pub mod Maxima
+pub mod Combining
+pub mod Graded
+pub mod Trees
+pub mod Programs

@@ -1,0 +1,10 @@
+pub mod ValueTypes
+pub mod ValueTypesExamples
+pub mod Answers
+pub mod AnswersExamples
+pub mod Guarding
+pub mod GuardingExamples
+pub mod GoodPrograms
+pub mod GoodProgramsExamples
+pub mod Laws
+pub mod LawsExamples
