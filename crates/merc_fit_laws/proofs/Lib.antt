@@ -4,3 +4,5 @@ pub mod FoundFitting
 pub mod ApartLists
 pub mod ApartKeys
 pub mod TypesApart
+pub mod AskedBodies
+pub mod ProcedureTrees

@@ -1,0 +1,12 @@
+use Rattle.merc_fit_laws.proofs.laws.bodies_are_there.Goals as goal
+use Rattle.merc_fit_laws.proofs.AskedBodies.{asked_body_is_there}
+use Rattle.merc_fit_laws.proofs.ProcedureTrees.{procedures_have_bodies}
+
+pub returns-clause-modes : goal.returns-clause-modes
+returns-clause-modes c = ?
+
+pub returns-clause-procedures : goal.returns-clause-procedures
+returns-clause-procedures c = ?
+
+pub returns-clause-asked : goal.returns-clause-asked
+returns-clause-asked c = asked_body_is_there
