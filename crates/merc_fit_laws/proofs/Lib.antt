@@ -6,3 +6,4 @@ pub mod ApartKeys
 pub mod TypesApart
 pub mod AskedBodies
 pub mod ProcedureTrees
+pub mod ModesFitting

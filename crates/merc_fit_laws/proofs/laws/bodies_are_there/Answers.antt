@@ -1,9 +1,10 @@
 use Rattle.merc_fit_laws.proofs.laws.bodies_are_there.Goals as goal
 use Rattle.merc_fit_laws.proofs.AskedBodies.{asked_body_is_there}
+use Rattle.merc_fit_laws.proofs.ModesFitting.{module_modes_fit}
 use Rattle.merc_fit_laws.proofs.ProcedureTrees.{procedures_have_bodies}
 
 pub returns-clause-modes : goal.returns-clause-modes
-returns-clause-modes c = ?
+returns-clause-modes c = module_modes_fit
 
 pub returns-clause-procedures : goal.returns-clause-procedures
 returns-clause-procedures c = ?
