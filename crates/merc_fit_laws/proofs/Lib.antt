@@ -1,8 +1,9 @@
 pub mod Spelt
 pub mod TypedFitting
 pub mod FoundFitting
-pub mod ApartLists
+pub mod MovedKeys
 pub mod ApartKeys
+pub mod DeclaredKeys
 pub mod TypesApart
 pub mod AskedBodies
 pub mod ProcedureTrees
