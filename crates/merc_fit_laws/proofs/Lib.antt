@@ -7,4 +7,6 @@ pub mod DeclaredKeys
 pub mod TypesApart
 pub mod AskedBodies
 pub mod ProcedureTrees
+pub mod PredicatesApart
+pub mod ProcedureHeads
 pub mod ModesFitting

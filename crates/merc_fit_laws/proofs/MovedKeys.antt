@@ -11,7 +11,7 @@ use Rattle.merc_entries.specs.Entries.{Declared, Entry, declared_by, is_key, is_
 use Rattle.merc_items.specs.ModuleOf.{unit_items}
 use Rattle.merc_fit_laws.proofs.ApartKeys.{AreKeysApart, declared_keys}
 
-equal_turned : (a b : ℕ) → (a == b) ≡ (b == a)
+pub equal_turned : (a b : ℕ) → (a == b) ≡ (b == a)
 equal_turned a b = grind (arith, nat_tests)
 
 pub key_turned : (one other : Key) → is_key one other ≡ is_key other one
