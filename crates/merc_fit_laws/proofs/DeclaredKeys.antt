@@ -1,9 +1,8 @@
 -- What the items of a module declare has the keys that it is declared by.
 use Rattle.std.proofs.Common.{◌≡◌, ℕ, suc, Bool, true, false, ◌==◌, List, [], ◌∷◌, ◌++◌, length, map, flat_map, slice_get, Option, Some, if◌then◌else◌, refl, ap, ap₂, sym, subst, ◌∙◌, append_assoc}
 use Rattle.std.proofs.lemmas.List.{length-map, map-append}
-use Rattle.std.specs.List.{AllByRecursion, list_all}
+use Rattle.std.specs.List.{AllByRecursion, IsDistinct, list_all}
 use Rattle.std.specs.Str.{bytes_eq}
-use Rattle.std.specs.List.{IsDistinct}
 use Rattle.merc_base.specs.Names.{bool_name, list_name, maybe_name, HoldsFixed}
 use Rattle.merc_base.specs.declared.groups.Key.{Key}
 use Rattle.merc_base.specs.declared.place.Place.{Place}
@@ -13,7 +12,6 @@ use Rattle.merc_base.specs.declared.refusal.Detail.TheVariants.{Plain}
 use Rattle.merc_base.proofs.NameLaws.{slice_get-front}
 use Rattle.merc_tree.specs.Term.{Term, Variable, Integer, Text, Application, span_of}
 use Rattle.merc_tree.specs.Shape.{arguments_of}
-use Rattle.merc_tree.specs.declared.declarations.TypeDef.{TypeDef}
 use Rattle.merc_tree.specs.declared.declarations.PredDecl.{PredDecl}
 use Rattle.merc_tree.specs.declared.declarations.Module.{Module}
 use Rattle.merc_terms.proofs.TextLaws.{ReadsItems-distinct, ReadsItems-grows}

@@ -1,10 +1,10 @@
 -- Each mode of a module's predicates has a place for each argument: it is declared for a predicate of so many.
-use Rattle.std.proofs.Common.{◌≡◌, ℕ, suc, Bool, true, false, ◌==◌, ◌&&◌, List, [], ◌∷◌, ◌++◌, length, map, flat_map, Option, Some, None, if◌then◌else◌, refl, ap, sym, subst, ◌∙◌, eqb-true}
+use Rattle.std.proofs.Common.{◌≡◌, ℕ, suc, Bool, true, false, ◌==◌, ◌&&◌, List, [], ◌∷◌, length, map, flat_map, Option, Some, None, if◌then◌else◌, refl, ap, sym, subst, ◌∙◌, eqb-true}
 use Rattle.std.proofs.lemmas.Bool.{and_parts}
 use Rattle.std.proofs.lemmas.List.{length-map}
 use Rattle.std.specs.List.{AllByRecursion, list_all}
 use Rattle.merc_base.specs.declared.place.Span.{Span}
-use Rattle.merc_tree.specs.Term.{Term, Terms, Variable, Integer, Text, Application, none, more}
+use Rattle.merc_tree.specs.Term.{Term, Variable, Integer, Text, Application, none, more}
 use Rattle.merc_tree.specs.Shape.{arguments_of}
 use Rattle.merc_tree.specs.declared.declarations.ModeDecl.{ModeDecl}
 use Rattle.merc_tree.specs.declared.declarations.Module.{Module}
@@ -12,7 +12,7 @@ use Rattle.merc_tree.specs.declared.declarations.PredDecl.{PredDecl}
 use Rattle.merc_item_forms.specs.Forms.{argument_mode, argument_type, is_moded}
 use Rattle.merc_item_forms.specs.Items.{Item, Opening, Ending, Section, Import, TypeItem, PredicateItem, ModeItem, ClauseItem, OtherType, OtherFunction, OtherGrammar, OtherDeclaration, Formless}
 use Rattle.merc_entries.specs.Entries.{Entry, are_keys, has_mode, has_mode_among, entries, key_of, own_entries}
-use Rattle.merc_items.specs.ModuleOf.{args_of, declared_type, mode_decl, modes_in, modes_in_item, module_of, pred_decls, pred_decls_of, unit_items}
+use Rattle.merc_items.specs.ModuleOf.{args_of, declared_type, mode_decl, modes_in, modes_in_item, pred_decls, pred_decls_of, unit_items}
 use Rattle.merc_order_laws.specs.TypedTree.{ModesFit}
 use Rattle.merc_order_laws.proofs.Written.{all_joined}
 use Rattle.merc_fit_laws.specs.Existence.{ModuleModesFit}

@@ -1,5 +1,5 @@
 -- A call of a declared predicate's name and number of arguments is of that predicate.
-use Rattle.std.proofs.Common.{◌≡◌, ℕ, suc, ◌+◌, Bool, true, false, ◌==◌, ◌&&◌, ◌||◌, not, cond, List, [], ◌∷◌, ◌++◌, length, map, flat_map, slice_get, Option, Some, None, if◌then◌else◌, refl, ap, ap₂, sym, subst, ◌∙◌, append_assoc, arith}
+use Rattle.std.proofs.Common.{◌≡◌, ℕ, suc, ◌+◌, Bool, true, false, ◌==◌, ◌&&◌, ◌||◌, not, cond, List, [], ◌∷◌, ◌++◌, length, map, flat_map, slice_get, Some, None, if◌then◌else◌, refl, ap, ap₂, sym, subst, ◌∙◌, append_assoc, arith}
 use Rattle.std.proofs.lemmas.List.{map-append}
 use Rattle.std.proofs.lemmas.List.Folds.{list_any-append}
 use Rattle.std.specs.List.{AllByRecursion, IsDistinct, list_any, position_or_len}
@@ -20,13 +20,12 @@ use Rattle.merc_known.specs.Known.{callee_in, is_error, is_predicate}
 use Rattle.merc_items.specs.ModuleOf.{module_of, pred_decls, unit_items}
 use Rattle.merc_items.specs.Phases.{double, doubles_phase}
 use Rattle.merc_items.specs.ReadModule.{IsModule}
-use Rattle.merc_known.specs.declared.callee.Callee.{Callee}
 use Rattle.merc_known.specs.declared.callee.Callee.TheVariants.{Predicate, Error}
 use Rattle.merc_type_check.specs.Checked.{head_types}
 use Rattle.merc_fit_laws.specs.HeadTypes.{called_arguments}
 use Rattle.merc_fit_laws.proofs.ApartKeys.{AreKeysApart, key_self, keys_apart}
 use Rattle.merc_fit_laws.proofs.DeclaredKeys.{key_of_predicate, module_entries_fit, predicate_keys}
-use Rattle.merc_fit_laws.proofs.MovedKeys.{equal_turned, key_turned, keys_are, keys_in, neither, parted, parted_any, parted_apart}
+use Rattle.merc_fit_laws.proofs.MovedKeys.{equal_turned, key_turned, keys_are, keys_in, neither, parted_any, parted_apart}
 
 -- The first predicate that passes is found.
 

@@ -1,7 +1,7 @@
 -- Each procedure of a module has a body, where each clause is typed by the types of the predicate whose head it has.
-use Rattle.std.proofs.Common.{◌≡◌, Bool, true, false, ◌==◌, List, [], ◌∷◌, length, cond, None, refl, ap, subst, ◌∙◌, ap₂, ℕ, eqb-true}
+use Rattle.std.proofs.Common.{◌≡◌, Bool, true, false, ◌==◌, List, [], ◌∷◌, length, cond, None, refl, subst, ◌∙◌, ap₂, ℕ, eqb-true}
 use Rattle.std.proofs.lemmas.Bool.{and_parts}
-use Rattle.std.specs.List.{AllByRecursion, filter}
+use Rattle.std.specs.List.{AllByRecursion}
 use Rattle.merc_tree.specs.Term.{Term, Variable, Integer, Text, Application, list_of}
 use Rattle.merc_tree.specs.Types.{TypeExpr}
 use Rattle.merc_tree.specs.declared.declarations.Clause.{Clause}

@@ -1,5 +1,5 @@
 -- Procedures without a fault of order have bodies.
-use Rattle.std.proofs.Common.{◌≡◌, List, [], ◌∷◌, ◌++◌, length, map, flat_map, None, refl}
+use Rattle.std.proofs.Common.{◌≡◌, List, [], ◌∷◌, ◌++◌, length, map, None, refl}
 use Rattle.std.specs.List.{AllByRecursion}
 use Rattle.merc_base.specs.FirstFault.{first_of_faults}
 use Rattle.merc_base.specs.declared.refusal.Refusal.{Refusal}
