@@ -33,7 +33,7 @@ types_apart (first ∷ rest) apart = (sym (any_mapped (λ other. is_key other (k
 equal_self : (a : ℕ) → (a == a) ≡ true
 equal_self a = grind (arith, nat_tests)
 
-key_self : (one : Key) → is_key one one ≡ true
+pub key_self : (one : Key) → is_key one one ≡ true
 key_self one = ap₂ (λ (a b : Bool). a && b) (equal_self one.name) (equal_self one.arity)
 
 key_same : (one other : Key) → is_key one other ≡ true → one ≡ other

@@ -1,6 +1,12 @@
 pub mod Spelt
 pub mod TypedFitting
 pub mod FoundFitting
-pub mod ApartLists
 pub mod ApartKeys
+pub mod MovedKeys
+pub mod DeclaredKeys
 pub mod TypesApart
+pub mod AskedBodies
+pub mod ProcedureTrees
+pub mod ModesFitting
+pub mod PredicatesApart
+pub mod ProcedureHeads

@@ -1,5 +1,5 @@
 -- The types of the arguments of clauses' heads.
-use Rattle.std.specs.Prelude.{ℕ, List, [], length, None, slice_get}
+use Rattle.std.specs.Prelude.{List, [], length, None, slice_get}
 use Rattle.merc_tree.specs.Term.{Term, Variable, Integer, Text, Application, list_of}
 use Rattle.merc_tree.specs.Types.{TypeExpr}
 use Rattle.merc_tree.specs.declared.declarations.Module.{Module}
