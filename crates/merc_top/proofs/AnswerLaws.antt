@@ -9,7 +9,7 @@ use Rattle.merc_top.specs.Output.{IsOutput, text_of}
 use Rattle.merc_top.specs.Answer.{Answers, AreFiles, WroteFront}
 use Rattle.merc_top.proofs.WritingLemmas.{appended-empty}
 use Rattle.merc_top.proofs.OutputLaws.{IsOutput-unique}
-use Rattle.merc_top.proofs.Causes.{RunsTo, IsSolved, IsUnsolved, IsRaised, IsCutAtLimit, BreaksModule, BreaksGoal, NamesTooLong, solved-exactly, unsolved-exactly, raised-exactly, limit-exactly, module_refused-exactly, goal_refused-exactly, usage-exactly, too_long-exactly}
+use Rattle.merc_top.proofs.Causes.{RunsTo, Succeeds, IsUnsolved, IsRaised, IsCutAtLimit, BreaksModule, BreaksGoal, NamesTooLong, solved-exactly, unsolved-exactly, raised-exactly, limit-exactly, module_refused-exactly, goal_refused-exactly, usage-exactly, too_long-exactly}
 
 -- a status that is due over files that are told has its cause over them
 over_told : (words : List (List ℕ)) (told : Option Files) (status due : ℕ) (Why : Files → Type 0)
@@ -49,8 +49,8 @@ module _ (words : List (List ℕ)) (told : Option Files) (reads reads' : ℕ) (o
         let output = answers.output read wrote free in
         over_told words told status due Why cause output.0 output.1 output.2 output.3
 
-    pub Answers-solved : IfSome told (λ files. (status ≡ solved_status) ↔ RunsTo words files IsSolved)
-    Answers-solved = exactly solved_status (λ files. RunsTo words files IsSolved) (λ files lines. solved-exactly words files lines status)
+    pub Answers-solved : IfSome told (λ files. (status ≡ solved_status) ↔ Succeeds words files)
+    Answers-solved = exactly solved_status (λ files. Succeeds words files) (λ files lines. solved-exactly words files lines status)
 
     pub Answers-unsolved : IfSome told (λ files. (status ≡ unsolved_status) ↔ RunsTo words files IsUnsolved)
     Answers-unsolved = exactly unsolved_status (λ files. RunsTo words files IsUnsolved) (λ files lines. unsolved-exactly words files lines status)
