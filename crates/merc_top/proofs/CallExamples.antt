@@ -1,6 +1,6 @@
 -- Worked examples of whole calls: what holds of them, and what does not.
-use Rattle.std.specs.Prelude.{◌≡◌, ◌<◌, ◌≤◌, ◌++◌, ℕ, replicate, List, [], ◌∷◌, length, Some, None, codes, refl}
-use Rattle.std.proofs.Common.{arith, slice_index, ap, sym, subst, inl, inr}
+use Rattle.std.specs.Prelude.{◌≡◌, ◌≢◌, ◌<◌, ◌≤◌, ◌++◌, ℕ, replicate, List, [], ◌∷◌, length, Option, Some, None, codes, refl}
+use Rattle.std.proofs.Common.{◌∙◌, arith, slice_index, ap, sym, subst, inl, inr}
 use Rattle.std.proofs.Math.Utf8.{encode}
 use Rattle.std.proofs.lemmas.List.{length-replicate, append-nil}
 use Rattle.merc_base.specs.Outside.{Files, file_named}
@@ -22,12 +22,13 @@ use Rattle.merc_top.specs.Words.{IsPlainWord, IsSolve, IsCheck, IsRequest, IsNoR
 use Rattle.merc_top.specs.Loading.{file_limit}
 use Rattle.merc_top.specs.Writing.{PutsFront}
 use Rattle.merc_top.specs.Output.{AreRead, IsOutput, run_of, step_limit, text_of}
-use Rattle.merc_top.specs.Statuses.{accepted_status, solved_status, module_status, goal_status, usage_status, unread_status, unwritten_status, too_long_status}
+use Rattle.merc_top.specs.Statuses.{accepted_status, solved_status, module_status, goal_status, usage_status, unread_status, unwritten_status, no_memory_status, too_long_status}
 use Rattle.merc_top.specs.Answer.{AreFiles, NamesAbsent, IsStatusDue, WroteFront, Answers}
 use Rattle.merc_top.proofs.Causes.{NamesTooLong, Names, NamesChecked, BreaksModule, BreaksGoal, IsCheckedModule, RunsTo, IsSolved, Succeeds}
 use Rattle.merc_top.proofs.Causes.BreaksModule.{module_rule, checked_rule}
 use Rattle.merc_top.proofs.Causes.BreaksGoal.{goal_outside}
-use Rattle.merc_top.proofs.AnswerLaws.{Answers-front, Answers-goal_refused}
+use Rattle.merc_top.proofs.AnswerLaws.{Answers-front, Answers-checked, Answers-goal_refused}
+use Rattle.merc_top.proofs.CallEnds.{answers-done}
 use Rattle.merc_top.proofs.OutputLaws.{IsOutput-unique}
 use Rattle.merc_top.proofs.Causes.{solved-exactly, module_refused-exactly, goal_refused-exactly, absent-exactly, status-exactly}
 use Rattle.merc_top.proofs.OutputExamples.{one, goal}
@@ -256,33 +257,6 @@ module _ (names : List (List ℕ)) (items : List Term) (term : Term) (source : s
   pub BreaksGoal-example : AreRead one_text (codes "add(2, 3, 5)") names items term → goal_of names one term ≡ None → BreaksGoal closed_words files
   BreaksGoal-example read outside = goal_outside one_text (codes "add(2, 3, 5)") names items term one Names-closed read source outside
 
--- where the file is checked, and its procedure has a tree that is `det`
-module _ (others : List (List ℕ)) (items : List Term) (library : List PredDecl) (types : List TypeDef) (clauses : List Clause) (trees : List Node)
-    (is : IsAccepted fixed_names (one_names others) one_text items (one_module library types clauses))
-    (graded : AreGraded (one_names others) (one_module library types clauses) (tree Det ∷ trees)) where
-  pub IsCheckedModule-example : IsCheckedModule check_words files
-  IsCheckedModule-example = record {
-    text = one_text;
-    request = NamesChecked-example;
-    names = one_names others;
-    items = items;
-    found = one_module library types clauses;
-    trees = tree Det ∷ trees;
-    accepted = is;
-    graded = graded;
-  }
-
-  pub Succeeds-check : Succeeds check_words files
-  Succeeds-check = inr IsCheckedModule-example
-
-  pub IsOutput-check : IsOutput check_words files one_lines accepted_status
-  IsOutput-check = inr (Check (shown (codes "one.m")), IsCheck-example, inr (one_within, IsCheckDue-accepted others items library types clauses trees is graded))
-
-  -- it breaks no rule
-  pub BreaksModule-not_checked : BreaksModule check_words files → ⊥
-  BreaksModule-not_checked breaks =
-      differ accepted_status module_status (omega arith) ((module_refused-exactly check_words files one_lines accepted_status IsOutput-check).1 breaks)
-
 -- ---- what one call has done
 
 not_unread : ◌≡◌ {A = ℕ} module_status unread_status → ⊥
@@ -335,3 +309,51 @@ Answers-uncounted answers = let failed : 2 < 2 = answers.write_failed.0 refl in 
 -- a bad text is the file's fault and not the goal's
 pub Answers-of_the_goal : Answers bad_words (Some files) 3 3 (Some []) (Some (codes "bad.m:1: rule 1: bad token\n")) 2 2 goal_status → ⊥
 Answers-of_the_goal answers = BreaksGoal-counterexample ((Answers-goal_refused bad_words (Some files) 3 3 (Some []) (Some (codes "bad.m:1: rule 1: bad token\n")) 2 2 goal_status answers refl refl (λ same. absurd (omega arith))).0 refl)
+
+-- a check of a bad text comes to no good end
+pub Answers-check_refused : (new : Option (List ℕ)) → Answers checked_bad_words (Some files) 3 3 (Some []) new 2 2 accepted_status → ⊥
+Answers-check_refused new answers =
+    IsCheckedModule-counterexample ((Answers-checked checked_bad_words (Some files) 3 3 (Some []) new 2 2 accepted_status answers refl refl (λ same. absurd (omega arith)) (255 ∷ []) NamesChecked-bad).0 refl)
+
+-- ---- a module that is checked and accepted
+
+-- where the file is checked, and its procedure has a tree that is `det`
+module _ (others : List (List ℕ)) (items : List Term) (library : List PredDecl) (types : List TypeDef) (clauses : List Clause) (trees : List Node)
+    (is : IsAccepted fixed_names (one_names others) one_text items (one_module library types clauses))
+    (graded : AreGraded (one_names others) (one_module library types clauses) (tree Det ∷ trees)) where
+  pub IsCheckedModule-example : IsCheckedModule check_words files
+  IsCheckedModule-example = record {
+    text = one_text;
+    request = NamesChecked-example;
+    names = one_names others;
+    items = items;
+    found = one_module library types clauses;
+    trees = tree Det ∷ trees;
+    accepted = is;
+    graded = graded;
+  }
+
+  pub Succeeds-check : Succeeds check_words files
+  Succeeds-check = inr IsCheckedModule-example
+
+  pub IsOutput-check : IsOutput check_words files one_lines accepted_status
+  IsOutput-check = inr (Check (shown (codes "one.m")), IsCheck-example, inr (one_within, IsCheckDue-accepted others items library types clauses trees is graded))
+
+  -- it breaks no rule
+  pub BreaksModule-not_checked : BreaksModule check_words files → ⊥
+  BreaksModule-not_checked breaks =
+      differ accepted_status module_status (omega arith) ((module_refused-exactly check_words files one_lines accepted_status IsOutput-check).1 breaks)
+
+  pub Answers-check : Answers check_words (Some files) 3 3 (Some (codes ">")) (Some (codes ">add(in, in, out) is det, inferred det\nprocedures 1\n")) 2 2 accepted_status
+  Answers-check =
+      answers-done check_words (Some files) 3 3 (Some (codes ">")) (Some (codes ">add(in, in, out) is det, inferred det\nprocedures 1\n")) 2 2 one_lines accepted_status
+      refl (inl (omega arith)) (files, refl, IsOutput-check) refl refl
+
+  -- the count was left out
+  pub Answers-uncounted_procedures : (status : ℕ) → Answers check_words (Some files) 3 3 (Some []) (Some (codes "add(in, in, out) is det, inferred det\n")) 2 2 status → status ≢ no_memory_status → ⊥
+  Answers-uncounted_procedures status answers free =
+      let output = answers.output refl refl free in
+      let same = IsOutput-unique check_words files output.2 one_lines status accepted_status (subst (λ some. IsOutput check_words some output.2 status) output.1 output.3) IsOutput-check in
+      let written : Some (codes "add(in, in, out) is det, inferred det\n") ≡ Some (text_of one_lines) =
+      output.4 ∙ ap (λ (lines : List (List ℕ)). Some (text_of lines)) same.0 in
+      differ 38 51 (omega arith) (ap (λ (text : List ℕ). length text) (some_injective (codes "add(in, in, out) is det, inferred det\n") (text_of one_lines) written))

@@ -24,7 +24,7 @@ use Rattle.merc_top.specs.Output.{AreRead, IsDue, IsCheckDue, IsRequestDue, IsOu
 use Rattle.merc_top.specs.Output.IsDue.{module_refused as due_module_refused, goal_refused as due_goal_refused, module_outside as due_module_outside, goal_outside as due_goal_outside, runs as due_runs}
 use Rattle.merc_top.specs.Output.IsCheckDue.{check_refused as due_check_refused, check_accepted as due_check_accepted}
 use Rattle.merc_top.specs.Answer.{IsStatusDue, NamesAbsent}
-use Rattle.merc_top.proofs.Requests.{shown}
+use Rattle.merc_top.proofs.Requests.{shown, solve-no_check}
 use Rattle.merc_top.proofs.OutputLaws.{IsOutput-unique}
 
 -- the words name a file of more bytes than the limit
@@ -379,6 +379,18 @@ solved-exactly words files lines status output = (
       succeeds_by words files status is
       (run_by words files status (cause_of words files lines status output) (subst (λ n. n < module_status) (sym is) (lit< tt))),
   λ why. status_is words files lines status solved_status output (succeeds_output words files why),
+)
+
+-- where words ask for a check, that alone;
+checked_alone : (words : List (List ℕ)) (files : Files) (text : List ℕ) → NamesChecked words files text → Succeeds words files → IsCheckedModule words files
+checked_alone words files text names (inl runs) = absurd (solve-no_check words runs.request.file runs.goal names.file runs.request.request names.request)
+checked_alone words files text names (inr checked) = checked
+
+pub checked-exactly : (words : List (List ℕ)) (files : Files) (lines : List (List ℕ)) (status : ℕ) → IsOutput words files lines status
+    → (text : List ℕ) → NamesChecked words files text → (status ≡ accepted_status) ↔ IsCheckedModule words files
+checked-exactly words files lines status output text names = (
+  λ is. checked_alone words files text names ((solved-exactly words files lines status output).0 is),
+  λ why. (solved-exactly words files lines status output).1 (inr why),
 )
 
 -- or the run has none,

@@ -13,7 +13,7 @@ use Rattle.merc_tree.specs.declared.declarations.PredDecl.{PredDecl}
 use Rattle.merc_graded_tree.specs.Nodes.{Node}
 use Rattle.merc_grading.specs.Faults.{Procedure, with_modes, procedures_of}
 use Rattle.merc_top.specs.Lines.{line, behind_commas}
-use Rattle.merc_top.specs.Checking.{place_text, places_text, procedure_line, procedure_lines, own_procedures, check_lines}
+use Rattle.merc_top.specs.Checking.{place_text, procedure_line, procedure_lines, own_procedures, check_lines}
 use Rattle.merc_top.proofs.LineLemmas.{behind_commas-snoc}
 
 -- ---- lines of procedures
@@ -24,14 +24,14 @@ slice_get-not_none (tree ∷ trees) zero within none = cc
 slice_get-not_none (tree ∷ trees) (suc number) within none = slice_get-not_none trees number (omega (arith, within)) none
 
 -- where each procedure has a tree there is a line for each
-pub length-procedure_lines : (names : List (List ℕ)) (procedures : List Procedure) (trees : List Node) → length procedures ≤ length trees
+length-procedure_lines : (names : List (List ℕ)) (procedures : List Procedure) (trees : List Node) → length procedures ≤ length trees
     → length (procedure_lines names procedures trees) ≡ length procedures
 length-procedure_lines names [] trees enough = refl
 length-procedure_lines names (first ∷ rest) [] enough = absurd (omega (arith, enough))
 length-procedure_lines names (first ∷ rest) (tree ∷ trees) enough = ap suc (length-procedure_lines names rest trees (omega (arith, enough)))
 
 -- the lines of some procedures, and those of others behind them
-pub procedure_lines-append : (names : List (List ℕ)) (before behind : List Procedure) (trees : List Node) → length before ≤ length trees
+procedure_lines-append : (names : List (List ℕ)) (before behind : List Procedure) (trees : List Node) → length before ≤ length trees
     → procedure_lines names (before ++ behind) trees ≡ procedure_lines names before trees ++ procedure_lines names behind (drop (length before) trees)
 procedure_lines-append names [] behind trees enough = refl
 procedure_lines-append names (first ∷ before) behind [] enough = absurd (omega (arith, enough))
@@ -196,12 +196,3 @@ opened-more places count other old below =
     append_assoc (old ++ opened texts) (before_at count) text ∙ append_assoc old (opened texts) (before_at count ++ text)
     ∙ ap (λ (some : List ℕ). old ++ some)
     (sym (append_assoc (opened texts) (before_at count) text) ∙ ap (λ (n : ℕ). (opened texts ++ before_at n) ++ text) (sym taken) ∙ sym (opened-snoc texts text) ∙ ap opened (sym more))
-
--- all of them, where there are some, and where there is none
-pub places_text-some : (places : List Arg) → 0 < length places → opened (map place_text places) ++ codes ")" ≡ places_text places
-places_text-some [] some = absurd (omega (arith, some))
-places_text-some (place ∷ places) some = refl
-
-pub places_text-none : (places : List Arg) → length places ≡ 0 → opened (map place_text places) ≡ places_text places
-places_text-none [] none = refl
-places_text-none (place ∷ places) none = absurd (omega (arith, none))

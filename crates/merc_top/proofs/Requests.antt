@@ -1,5 +1,5 @@
 -- What words ask for, and requests of given texts.
-use Rattle.std.proofs.Common.{◌≡◌, ◌∙◌, ℕ, List, [], ◌∷◌, sym, codes, Bor}
+use Rattle.std.proofs.Common.{◌≡◌, ◌∙◌, ℕ, List, [], ◌∷◌, ap, sym, length, arith, codes, Bor}
 use Rattle.merc_top.specs.declared.words.Request.{Request}
 use Rattle.merc_top.specs.declared.words.Request.TheVariants.{Solve, Check}
 use Rattle.merc_top.specs.Words.{IsRequest, IsSolve, IsCheck, file_of}
@@ -21,8 +21,8 @@ check-unique words file file' asks also =
 
 pub solve-no_check : (words : List (List ℕ)) (file goal file' : List ℕ) → IsSolve words file goal → IsCheck words file' → ⊥
 solve-no_check words file goal file' asks also =
-    let same : codes "solve" ∷ file ∷ goal ∷ [] ≡ codes "check" ∷ file' ∷ [] = sym asks.spelled ∙ also.spelled in
-    cc
+    let count : 3 ≡ 2 = ap (λ (texts : List (List ℕ)). length texts) (sym asks.spelled ∙ also.spelled) in
+    absurd (omega (arith, count))
 
 -- so they name one file
 pub request_file-unique : (words : List (List ℕ)) (one other : Request) → IsRequest words one → IsRequest words other → file_of one ≡ file_of other
