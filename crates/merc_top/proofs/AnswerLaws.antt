@@ -2,14 +2,14 @@
 use Rattle.std.proofs.Common.{◌≡◌, ◌≢◌, ◌∙◌, ◌↔◌, ℕ, List, [], sym, refl, subst, inl, inr}
 use Rattle.std.specs.Prelude.{Option, Some, None, IfSome}
 use Rattle.merc_base.specs.Outside.{Files}
-use Rattle.merc_top.specs.Statuses.{solved_status, unsolved_status, raised_status, limit_status, module_status, goal_status, usage_status, too_long_status, no_memory_status}
+use Rattle.merc_top.specs.Statuses.{accepted_status, solved_status, unsolved_status, raised_status, limit_status, module_status, goal_status, usage_status, too_long_status, no_memory_status}
 use Rattle.merc_top.specs.Words.{IsNoRequest}
 use Rattle.merc_top.specs.Writing.{PutsFront}
 use Rattle.merc_top.specs.Output.{IsOutput, text_of}
 use Rattle.merc_top.specs.Answer.{Answers, AreFiles, WroteFront}
 use Rattle.merc_top.proofs.WritingLemmas.{appended-empty}
 use Rattle.merc_top.proofs.OutputLaws.{IsOutput-unique}
-use Rattle.merc_top.proofs.Causes.{RunsTo, IsSolved, IsUnsolved, IsRaised, IsCutAtLimit, BreaksModule, BreaksGoal, NamesTooLong, solved-exactly, unsolved-exactly, raised-exactly, limit-exactly, module_refused-exactly, goal_refused-exactly, usage-exactly, too_long-exactly}
+use Rattle.merc_top.proofs.Causes.{NamesChecked, IsCheckedModule, RunsTo, Succeeds, IsUnsolved, IsRaised, IsCutAtLimit, BreaksModule, BreaksGoal, NamesTooLong, solved-exactly, checked-exactly, unsolved-exactly, raised-exactly, limit-exactly, module_refused-exactly, goal_refused-exactly, usage-exactly, too_long-exactly}
 
 -- a status that is due over files that are told has its cause over them
 over_told : (words : List (List ℕ)) (told : Option Files) (status due : ℕ) (Why : Files → Type 0)
@@ -18,6 +18,13 @@ over_told : (words : List (List ℕ)) (told : Option Files) (status due : ℕ) (
 over_told words None status due Why exactly files fit lines output = tt
 over_told words (Some told) status due Why exactly files fit lines output =
     exactly told lines (subst (λ some. IsOutput words some lines status) fit output)
+
+-- the same of a file that is checked
+checked_told : (words : List (List ℕ)) (told : Option Files) (status : ℕ) (files : Files) → AreFiles told files → (lines : List (List ℕ)) → IsOutput words files lines status
+    → IfSome told (λ files. (text : List ℕ) → NamesChecked words files text → (status ≡ accepted_status) ↔ IsCheckedModule words files)
+checked_told words None status files fit lines output = tt
+checked_told words (Some told) status files fit lines output =
+    checked-exactly words told lines status (subst (λ some. IsOutput words some lines status) fit output)
 
 -- what was written is a front of whatever is due over files that are told
 front_of_due : (words : List (List ℕ)) (told : Option Files) (old new : Option (List ℕ)) → WroteFront words told old new
@@ -49,8 +56,14 @@ module _ (words : List (List ℕ)) (told : Option Files) (reads reads' : ℕ) (o
         let output = answers.output read wrote free in
         over_told words told status due Why cause output.0 output.1 output.2 output.3
 
-    pub Answers-solved : IfSome told (λ files. (status ≡ solved_status) ↔ RunsTo words files IsSolved)
-    Answers-solved = exactly solved_status (λ files. RunsTo words files IsSolved) (λ files lines. solved-exactly words files lines status)
+    pub Answers-solved : IfSome told (λ files. (status ≡ solved_status) ↔ Succeeds words files)
+    Answers-solved = exactly solved_status (λ files. Succeeds words files) (λ files lines. solved-exactly words files lines status)
+
+    -- where the words ask for a check
+    pub Answers-checked : IfSome told (λ files. (text : List ℕ) → NamesChecked words files text → (status ≡ accepted_status) ↔ IsCheckedModule words files)
+    Answers-checked =
+        let output = answers.output read wrote free in
+        checked_told words told status output.0 output.1 output.2 output.3
 
     pub Answers-unsolved : IfSome told (λ files. (status ≡ unsolved_status) ↔ RunsTo words files IsUnsolved)
     Answers-unsolved = exactly unsolved_status (λ files. RunsTo words files IsUnsolved) (λ files lines. unsolved-exactly words files lines status)

@@ -69,7 +69,7 @@ answers-cut_short words told reads reads' old new writes writes' lines due_statu
 absent_is_due : (words : List (List ℕ)) (told : Option Files) → NamesAbsent words told → IsDueOver words told [] unread_status
 absent_is_due words None absent = absurd absent
 absent_is_due words (Some files) absent =
-    (files, refl, inr (absent.0, absent.1, absent.2, subst (λ content. FileOutput absent.0 content absent.1 [] unread_status) (sym absent.3) (refl, refl)))
+    (files, refl, inr (absent.0, absent.1, subst (λ content. FileOutput absent.0 content [] unread_status) (sym absent.2) (refl, refl)))
 
 -- where no read failed, the file was not there
 quiet_due : (words : List (List ℕ)) (told : Option Files) (reads reads' : ℕ) → (reads < reads') ⊎ ((reads' ≡ reads) × NamesAbsent words told)

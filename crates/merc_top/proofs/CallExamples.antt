@@ -1,28 +1,41 @@
 -- Worked examples of whole calls: what holds of them, and what does not.
-use Rattle.std.specs.Prelude.{◌≡◌, ◌<◌, ◌≤◌, ◌++◌, ℕ, replicate, List, [], ◌∷◌, length, Some, None, codes, refl}
-use Rattle.std.proofs.Common.{arith, slice_index, ap, sym, subst, inl, inr}
+use Rattle.std.specs.Prelude.{◌≡◌, ◌≢◌, ◌<◌, ◌≤◌, ◌++◌, ℕ, replicate, List, [], ◌∷◌, length, Option, Some, None, codes, refl}
+use Rattle.std.proofs.Common.{◌∙◌, arith, slice_index, ap, sym, subst, inl, inr}
 use Rattle.std.proofs.Math.Utf8.{encode}
 use Rattle.std.proofs.lemmas.List.{length-replicate, append-nil}
 use Rattle.merc_base.specs.Outside.{Files, file_named}
+use Rattle.merc_base.specs.Names.{fixed_names}
+use Rattle.merc_base.specs.declared.category.Category.TheVariants.{Det}
 use Rattle.merc_tree.specs.Term.{Term}
+use Rattle.merc_tree.specs.declared.declarations.Clause.{Clause}
+use Rattle.merc_tree.specs.declared.declarations.PredDecl.{PredDecl}
+use Rattle.merc_tree.specs.declared.declarations.TypeDef.{TypeDef}
+use Rattle.merc_graded_tree.specs.Nodes.{Node}
+use Rattle.merc_check.specs.Accepted.{AreGraded}
+use Rattle.merc_check.specs.Checked.{IsAccepted}
 use Rattle.merc_tree.specs.Meaning.{run}
 use Rattle.merc_tree.specs.Trace.{RunDone, answers_of, end_of}
 use Rattle.merc_first_form.specs.Reading.{source_of, goal_of}
-use Rattle.merc_top.specs.Words.{IsPlainWord, IsRequest, IsNoRequest, usage_line}
+use Rattle.merc_top.specs.declared.words.Request.{Request}
+use Rattle.merc_top.specs.declared.words.Request.TheVariants.{Solve, Check}
+use Rattle.merc_top.specs.Words.{IsPlainWord, IsSolve, IsCheck, IsRequest, IsNoRequest, file_of, usage_line}
 use Rattle.merc_top.specs.Loading.{file_limit}
 use Rattle.merc_top.specs.Writing.{PutsFront}
 use Rattle.merc_top.specs.Output.{AreRead, IsOutput, run_of, step_limit, text_of}
-use Rattle.merc_top.specs.Statuses.{solved_status, module_status, goal_status, usage_status, unread_status, unwritten_status, too_long_status}
+use Rattle.merc_top.specs.Statuses.{accepted_status, solved_status, module_status, goal_status, usage_status, unread_status, unwritten_status, no_memory_status, too_long_status}
 use Rattle.merc_top.specs.Answer.{AreFiles, NamesAbsent, IsStatusDue, WroteFront, Answers}
-use Rattle.merc_top.proofs.Causes.{NamesTooLong, Names, BreaksModule, BreaksGoal, RunsTo, IsSolved}
-use Rattle.merc_top.proofs.Causes.BreaksModule.{module_rule}
+use Rattle.merc_top.proofs.Causes.{NamesTooLong, Names, NamesChecked, BreaksModule, BreaksGoal, IsCheckedModule, RunsTo, IsSolved, Succeeds}
+use Rattle.merc_top.proofs.Causes.BreaksModule.{module_rule, checked_rule}
 use Rattle.merc_top.proofs.Causes.BreaksGoal.{goal_outside}
-use Rattle.merc_top.proofs.AnswerLaws.{Answers-front, Answers-goal_refused}
+use Rattle.merc_top.proofs.AnswerLaws.{Answers-front, Answers-checked, Answers-goal_refused}
+use Rattle.merc_top.proofs.CallEnds.{answers-done}
 use Rattle.merc_top.proofs.OutputLaws.{IsOutput-unique}
 use Rattle.merc_top.proofs.Causes.{solved-exactly, module_refused-exactly, goal_refused-exactly, absent-exactly, status-exactly}
 use Rattle.merc_top.proofs.OutputExamples.{one, goal}
-use Rattle.merc_top.proofs.DueExamples.{bad_token, lone_byte-refused, one_text, first_output, IsDue-module_refused, IsDue-runs}
-use Rattle.merc_top.proofs.WordsExamples.{differ, IsPlainWord-example, IsRequest-example}
+use Rattle.merc_top.proofs.CheckingExamples.{tree}
+use Rattle.merc_top.proofs.DueExamples.{bad_token, lone_byte-refused, one_text, one_names, one_module, one_lines, first_output, IsDue-module_refused, IsDue-runs, IsCheckDue-refused, IsCheckDue-accepted}
+use Rattle.merc_top.proofs.Requests.{shown}
+use Rattle.merc_top.proofs.WordsExamples.{differ, IsPlainWord-example, check_words, IsSolve-example, IsCheck-example}
 
 abbrev words_for : List ℕ → List ℕ → List (List ℕ)
 words_for file goal = codes "solve" ∷ file ∷ goal ∷ []
@@ -49,13 +62,13 @@ other_words = (
   record { utf8 = (codes "add(2, 3, X)", (refl, refl)); plain = refl },
 )
 
-bad_request : IsRequest bad_words (codes "bad.m") (codes "add(2, 3, X)")
+bad_request : IsSolve bad_words (codes "bad.m") (codes "add(2, 3, X)")
 bad_request = record { spelled = refl; file_word = other_words.0; goal_word = other_words.3 }
 
-two_request : IsRequest (words_for (codes "two.m") (codes "add(2, 3, X)")) (codes "two.m") (codes "add(2, 3, X)")
+two_request : IsSolve (words_for (codes "two.m") (codes "add(2, 3, X)")) (codes "two.m") (codes "add(2, 3, X)")
 two_request = record { spelled = refl; file_word = other_words.1; goal_word = other_words.3 }
 
-closed_request : IsRequest closed_words (codes "one.m") (codes "add(2, 3, 5)")
+closed_request : IsSolve closed_words (codes "one.m") (codes "add(2, 3, 5)")
 closed_request = record { spelled = refl; file_word = IsPlainWord-example; goal_word = other_words.2 }
 
 one_within : length one_text ≤ file_limit
@@ -72,20 +85,35 @@ abbrev bad_output : List (List ℕ)
 bad_output = codes "bad.m:1: rule 1: bad token\n" ∷ []
 
 pub IsOutput-refused : IsOutput bad_words files bad_output module_status
-IsOutput-refused = inr (codes "bad.m", codes "add(2, 3, X)", bad_request, inr (bad_within, IsDue-module_refused (codes "add(2, 3, X)")))
+IsOutput-refused = inr (Solve (shown (codes "bad.m")) (shown (codes "add(2, 3, X)")), bad_request, inr (bad_within, IsDue-module_refused (codes "add(2, 3, X)")))
 
 pub IsOutput-refused_no_run : (lines : List (List ℕ)) → IsOutput bad_words files lines solved_status → ⊥
 IsOutput-refused_no_run lines due = differ solved_status module_status (omega arith) (IsOutput-unique bad_words files lines bad_output solved_status module_status due IsOutput-refused).1
 
+-- the same file is checked
+abbrev checked_bad_words : List (List ℕ)
+checked_bad_words = codes "check" ∷ codes "bad.m" ∷ []
+
+checked_bad : IsCheck checked_bad_words (codes "bad.m")
+checked_bad = record { spelled = refl; file_word = other_words.0 }
+
+pub IsOutput-check_refused : IsOutput checked_bad_words files bad_output module_status
+IsOutput-check_refused = inr (Check (shown (codes "bad.m")), checked_bad, inr (bad_within, IsCheckDue-refused))
+
+pub IsOutput-check_refused_alone : (lines : List (List ℕ)) → IsOutput checked_bad_words files lines accepted_status → ⊥
+IsOutput-check_refused_alone lines due =
+    differ accepted_status module_status (omega arith) (IsOutput-unique checked_bad_words files lines bad_output accepted_status module_status due IsOutput-check_refused).1
+
 pub IsOutput-absent : IsOutput (words_for (codes "two.m") (codes "add(2, 3, X)")) files [] unread_status
-IsOutput-absent = inr (codes "two.m", codes "add(2, 3, X)", two_request, (refl, refl))
+IsOutput-absent = inr (Solve (shown (codes "two.m")) (shown (codes "add(2, 3, X)")), two_request, (refl, refl))
 
 pub IsOutput-too_long : (n : ℕ) → file_limit < n → IsOutput first_words ((codes "one.m", replicate n 10) ∷ []) (codes "one.m: longer than 1048576 bytes\n" ∷ []) too_long_status
 IsOutput-too_long n long =
-    inr (codes "one.m", codes "add(2, 3, X)", IsRequest-example, inl (subst (λ m. file_limit < m) (sym (length-replicate n 10)) long, refl, refl))
+    inr (Solve (shown (codes "one.m")) (shown (codes "add(2, 3, X)")), IsSolve-example, inl (subst (λ m. file_limit < m) (sym (length-replicate n 10)) long, refl, refl))
 
 no_words : IsNoRequest []
-no_words file goal request = let spelled : ◌≡◌ {A = List (List ℕ)} [] (codes "solve" ∷ file ∷ goal ∷ []) = request.spelled in cc
+no_words (Solve file goal) request = let spelled : ◌≡◌ {A = List (List ℕ)} [] (codes "solve" ∷ file.now ∷ goal.now ∷ []) = request.spelled in cc
+no_words (Check file) request = let spelled : ◌≡◌ {A = List (List ℕ)} [] (codes "check" ∷ file.now ∷ []) = request.spelled in cc
 
 pub IsOutput-usage : IsOutput [] files (usage_line ∷ []) usage_status
 IsOutput-usage = inl (no_words, refl, refl)
@@ -108,46 +136,56 @@ pub AreFiles-counterexample : AreFiles (Some files) [] → ⊥
 AreFiles-counterexample same = cc
 
 -- a file that these words name is the one named here
-first_file : (file goal : List ℕ) → IsRequest first_words file goal → file ≡ codes "one.m"
-first_file file goal request = let spelled : first_words ≡ codes "solve" ∷ file ∷ goal ∷ [] = request.spelled in cc
+first_file : (request : Request) → IsRequest first_words request → file_of request ≡ codes "one.m"
+first_file (Solve file goal) request = let spelled : first_words ≡ codes "solve" ∷ file.now ∷ goal.now ∷ [] = request.spelled in cc
+first_file (Check file) request = let spelled : first_words ≡ codes "check" ∷ file.now ∷ [] = request.spelled in cc
 
 some_injective : (text other : List ℕ) → Some text ≡ Some other → text ≡ other
 some_injective text other same = cc
 
 -- so the content that it has is the text above
-first_content : (file goal text : List ℕ) → IsRequest first_words file goal → file_named file files ≡ Some text → text ≡ one_text
-first_content file goal text request content =
-    let found : file_named (codes "one.m") files ≡ Some text = subst (λ name. file_named name files ≡ Some text) (first_file file goal request) content in
+first_content : (request : Request) (text : List ℕ) → IsRequest first_words request → file_named (file_of request) files ≡ Some text → text ≡ one_text
+first_content request text asked content =
+    let found : file_named (codes "one.m") files ≡ Some text = subst (λ name. file_named name files ≡ Some text) (first_file request asked) content in
     sym (some_injective one_text text found)
 
 pub NamesAbsent-example : NamesAbsent (words_for (codes "two.m") (codes "add(2, 3, X)")) (Some files)
-NamesAbsent-example = (codes "two.m", codes "add(2, 3, X)", two_request, refl)
+NamesAbsent-example = (Solve (shown (codes "two.m")) (shown (codes "add(2, 3, X)")), two_request, refl)
 
 pub NamesAbsent-counterexample : NamesAbsent first_words (Some files) → ⊥
-NamesAbsent-counterexample (file, goal, request, absent) =
-    let found : Some one_text ≡ None = subst (λ name. file_named name files ≡ None) (first_file file goal request) absent in cc
+NamesAbsent-counterexample (request, asked, absent) =
+    let found : Some one_text ≡ None = subst (λ name. file_named name files ≡ None) (first_file request asked) absent in cc
 
 pub NamesTooLong-example : (n : ℕ) → file_limit < n → NamesTooLong first_words ((codes "one.m", replicate n 10) ∷ [])
 NamesTooLong-example n long = record {
-  file = codes "one.m";
-  goal = codes "add(2, 3, X)";
+  request = Solve (shown (codes "one.m")) (shown (codes "add(2, 3, X)"));
   text = replicate n 10;
-  request = IsRequest-example;
+  asked = IsSolve-example;
   content = refl;
   past = subst (λ m. file_limit < m) (sym (length-replicate n 10)) long;
 }
 
 pub NamesTooLong-counterexample : NamesTooLong first_words files → ⊥
 NamesTooLong-counterexample names =
-    let same = first_content names.file names.goal names.text names.request names.content in
+    let same = first_content names.request names.text names.asked names.content in
     let past : file_limit < length one_text = subst (λ text. file_limit < length text) same names.past in
     omega (arith, one_within)
 
 pub Names-example : Names first_words files one_text (codes "add(2, 3, X)")
-Names-example = record { file = codes "one.m"; request = IsRequest-example; content = refl; within = one_within }
+Names-example = record { file = codes "one.m"; request = IsSolve-example; content = refl; within = one_within }
 
 Names-closed : Names closed_words files one_text (codes "add(2, 3, 5)")
 Names-closed = record { file = codes "one.m"; request = closed_request; content = refl; within = one_within }
+
+pub NamesChecked-example : NamesChecked check_words files one_text
+NamesChecked-example = record { file = codes "one.m"; request = IsCheck-example; content = refl; within = one_within }
+
+-- who asks for a goal asks for no check
+pub NamesChecked-counterexample : (text : List ℕ) → NamesChecked first_words files text → ⊥
+NamesChecked-counterexample text names = let spelled : first_words ≡ codes "check" ∷ names.file ∷ [] = names.request.spelled in cc
+
+NamesChecked-bad : NamesChecked checked_bad_words files (255 ∷ [])
+NamesChecked-bad = record { file = codes "bad.m"; request = checked_bad; content = refl; within = bad_within }
 
 Names-bad : Names bad_words files (255 ∷ []) (codes "add(2, 3, X)")
 Names-bad = record { file = codes "bad.m"; request = bad_request; content = refl; within = bad_within }
@@ -155,7 +193,7 @@ Names-bad = record { file = codes "bad.m"; request = bad_request; content = refl
 -- the other file's text
 pub Names-counterexample : Names first_words files (255 ∷ []) (codes "add(2, 3, X)") → ⊥
 Names-counterexample names =
-    let same : 255 ∷ [] ≡ one_text = first_content names.file (codes "add(2, 3, X)") (255 ∷ []) names.request names.content in
+    let same : 255 ∷ [] ≡ one_text = first_content (Solve (shown names.file) (shown (codes "add(2, 3, X)"))) (255 ∷ []) names.request names.content in
     differ 58 255 (omega arith) (sym (ap (λ (text : List ℕ). slice_index text 0) same))
 
 -- ---- why a status is due
@@ -163,11 +201,22 @@ Names-counterexample names =
 pub BreaksModule-example : BreaksModule bad_words files
 BreaksModule-example = module_rule (255 ∷ []) (codes "add(2, 3, X)") bad_token Names-bad lone_byte-refused
 
+pub BreaksModule-check : BreaksModule checked_bad_words files
+BreaksModule-check = checked_rule (255 ∷ []) bad_token NamesChecked-bad lone_byte-refused
+
+-- so it is not accepted
+pub IsCheckedModule-counterexample : IsCheckedModule checked_bad_words files → ⊥
+IsCheckedModule-counterexample checked =
+    differ accepted_status module_status (omega arith) (sym ((solved-exactly checked_bad_words files bad_output module_status IsOutput-check_refused).1 (inr checked)))
+
 pub BreaksGoal-counterexample : BreaksGoal bad_words files → ⊥
 BreaksGoal-counterexample breaks = differ module_status goal_status (omega arith) ((goal_refused-exactly bad_words files bad_output module_status IsOutput-refused).1 breaks)
 
+pub Succeeds-counterexample : Succeeds bad_words files → ⊥
+Succeeds-counterexample succeeds = differ solved_status module_status (omega arith) (sym ((solved-exactly bad_words files bad_output module_status IsOutput-refused).1 succeeds))
+
 pub RunsTo-counterexample : RunsTo bad_words files IsSolved → ⊥
-RunsTo-counterexample solves = differ solved_status module_status (omega arith) (sym ((solved-exactly bad_words files bad_output module_status IsOutput-refused).1 solves))
+RunsTo-counterexample solves = Succeeds-counterexample (inl solves)
 
 first_answers : 0 < length (answers_of (run_of one goal))
 unfolding run_of run step_limit
@@ -195,8 +244,11 @@ module _ (names : List (List ℕ)) (items : List Term) (term : Term) (source : s
     fits = (first_answers, first_end);
   }
 
+  pub Succeeds-example : AreRead one_text (codes "add(2, 3, X)") names items term → goal_of names one term ≡ Some goal → Succeeds first_words files
+  Succeeds-example read is = inl (RunsTo-example read is)
+
   pub IsOutput-runs : AreRead one_text (codes "add(2, 3, X)") names items term → goal_of names one term ≡ Some goal → IsOutput first_words files first_output solved_status
-  IsOutput-runs read is = inr (codes "one.m", codes "add(2, 3, X)", IsRequest-example, inr (one_within, IsDue-runs (codes "add(2, 3, X)") names items term read source is))
+  IsOutput-runs read is = inr (Solve (shown (codes "one.m")) (shown (codes "add(2, 3, X)")), IsSolve-example, inr (one_within, IsDue-runs (codes "add(2, 3, X)") names items term read source is))
 
   pub BreaksModule-counterexample : AreRead one_text (codes "add(2, 3, X)") names items term → goal_of names one term ≡ Some goal → BreaksModule first_words files → ⊥
   BreaksModule-counterexample read is breaks =
@@ -257,3 +309,51 @@ Answers-uncounted answers = let failed : 2 < 2 = answers.write_failed.0 refl in 
 -- a bad text is the file's fault and not the goal's
 pub Answers-of_the_goal : Answers bad_words (Some files) 3 3 (Some []) (Some (codes "bad.m:1: rule 1: bad token\n")) 2 2 goal_status → ⊥
 Answers-of_the_goal answers = BreaksGoal-counterexample ((Answers-goal_refused bad_words (Some files) 3 3 (Some []) (Some (codes "bad.m:1: rule 1: bad token\n")) 2 2 goal_status answers refl refl (λ same. absurd (omega arith))).0 refl)
+
+-- a check of a bad text comes to no good end
+pub Answers-check_refused : (new : Option (List ℕ)) → Answers checked_bad_words (Some files) 3 3 (Some []) new 2 2 accepted_status → ⊥
+Answers-check_refused new answers =
+    IsCheckedModule-counterexample ((Answers-checked checked_bad_words (Some files) 3 3 (Some []) new 2 2 accepted_status answers refl refl (λ same. absurd (omega arith)) (255 ∷ []) NamesChecked-bad).0 refl)
+
+-- ---- a module that is checked and accepted
+
+-- where the file is checked, and its procedure has a tree that is `det`
+module _ (others : List (List ℕ)) (items : List Term) (library : List PredDecl) (types : List TypeDef) (clauses : List Clause) (trees : List Node)
+    (is : IsAccepted fixed_names (one_names others) one_text items (one_module library types clauses))
+    (graded : AreGraded (one_names others) (one_module library types clauses) (tree Det ∷ trees)) where
+  pub IsCheckedModule-example : IsCheckedModule check_words files
+  IsCheckedModule-example = record {
+    text = one_text;
+    request = NamesChecked-example;
+    names = one_names others;
+    items = items;
+    found = one_module library types clauses;
+    trees = tree Det ∷ trees;
+    accepted = is;
+    graded = graded;
+  }
+
+  pub Succeeds-check : Succeeds check_words files
+  Succeeds-check = inr IsCheckedModule-example
+
+  pub IsOutput-check : IsOutput check_words files one_lines accepted_status
+  IsOutput-check = inr (Check (shown (codes "one.m")), IsCheck-example, inr (one_within, IsCheckDue-accepted others items library types clauses trees is graded))
+
+  -- it breaks no rule
+  pub BreaksModule-not_checked : BreaksModule check_words files → ⊥
+  BreaksModule-not_checked breaks =
+      differ accepted_status module_status (omega arith) ((module_refused-exactly check_words files one_lines accepted_status IsOutput-check).1 breaks)
+
+  pub Answers-check : Answers check_words (Some files) 3 3 (Some (codes ">")) (Some (codes ">add(in, in, out) is det, inferred det\nprocedures 1\n")) 2 2 accepted_status
+  Answers-check =
+      answers-done check_words (Some files) 3 3 (Some (codes ">")) (Some (codes ">add(in, in, out) is det, inferred det\nprocedures 1\n")) 2 2 one_lines accepted_status
+      refl (inl (omega arith)) (files, refl, IsOutput-check) refl refl
+
+  -- the count was left out
+  pub Answers-uncounted_procedures : (status : ℕ) → Answers check_words (Some files) 3 3 (Some []) (Some (codes "add(in, in, out) is det, inferred det\n")) 2 2 status → status ≢ no_memory_status → ⊥
+  Answers-uncounted_procedures status answers free =
+      let output = answers.output refl refl free in
+      let same = IsOutput-unique check_words files output.2 one_lines status accepted_status (subst (λ some. IsOutput check_words some output.2 status) output.1 output.3) IsOutput-check in
+      let written : Some (codes "add(in, in, out) is det, inferred det\n") ≡ Some (text_of one_lines) =
+      output.4 ∙ ap (λ (lines : List (List ℕ)). Some (text_of lines)) same.0 in
+      differ 38 51 (omega arith) (ap (λ (text : List ℕ). length text) (some_injective (codes "add(in, in, out) is det, inferred det\n") (text_of one_lines) written))

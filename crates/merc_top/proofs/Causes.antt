@@ -1,11 +1,13 @@
 -- Each status that is due has its cause, and each cause its status.
-use Rattle.std.proofs.Common.{◌≡◌, ◌<◌, ◌≤◌, ◌↔◌, ℕ, zero, suc, List, [], ◌∷◌, ap, sym, refl, subst, inl, inr, length, arith, lit<, codes}
+use Rattle.std.proofs.Common.{◌≡◌, ◌<◌, ◌≤◌, ◌⊎◌, ◌↔◌, ℕ, zero, suc, List, [], ◌∷◌, ap, sym, refl, subst, inl, inr, length, arith, lit<, codes}
 use Rattle.std.specs.Prelude.{Option, Some, None}
 use Rattle.merc_base.specs.Outside.{Files, file_named}
 use Rattle.merc_tree.specs.Term.{Term}
 use Rattle.merc_base.specs.Names.{fixed_names}
 use Rattle.merc_base.specs.declared.refusal.Refusal.{Refusal}
 use Rattle.merc_tree.specs.declared.declarations.Module.{Module}
+use Rattle.merc_graded_tree.specs.Nodes.{Node}
+use Rattle.merc_check.specs.Accepted.{AreGraded}
 use Rattle.merc_check.specs.Checked.{IsAccepted, Refuses, RefusesQuery}
 use Rattle.merc_tree.specs.Trace.{Run, RunEnd, RunDone, RunRaised, LimitPassed, answers_of, end_of}
 use Rattle.merc_first_form.specs.declared.syntax.Conjunct.{Conjunct}
@@ -13,33 +15,56 @@ use Rattle.merc_first_form.specs.declared.syntax.Source.{Source}
 use Rattle.merc_first_form.specs.FlatForm.{variables_of}
 use Rattle.merc_first_form.specs.Reading.{source_of, goal_of}
 use Rattle.merc_top.specs.Loading.{file_limit}
-use Rattle.merc_top.specs.Statuses.{solved_status, unsolved_status, raised_status, limit_status, module_status, goal_status, usage_status, unread_status, too_long_status}
-use Rattle.merc_top.specs.Words.{IsRequest, IsNoRequest, usage_line}
-use Rattle.merc_top.specs.Output.{AreRead, IsDue, IsOutput, FileOutput, run_of, run_lines, run_status, refusal_line, stage_refusal, too_long_line}
+use Rattle.merc_top.specs.Statuses.{accepted_status, solved_status, unsolved_status, raised_status, limit_status, module_status, goal_status, usage_status, unread_status, too_long_status}
+use Rattle.merc_top.specs.declared.words.Request.{Request}
+use Rattle.merc_top.specs.declared.words.Request.TheVariants.{Solve, Check}
+use Rattle.merc_top.specs.Words.{IsRequest, IsSolve, IsCheck, IsNoRequest, file_of, usage_line}
+use Rattle.merc_top.specs.Checking.{check_lines}
+use Rattle.merc_top.specs.Output.{AreRead, IsDue, IsCheckDue, IsRequestDue, IsOutput, FileOutput, run_of, run_lines, run_status, refusal_line, stage_refusal, too_long_line}
 use Rattle.merc_top.specs.Output.IsDue.{module_refused as due_module_refused, goal_refused as due_goal_refused, module_outside as due_module_outside, goal_outside as due_goal_outside, runs as due_runs}
+use Rattle.merc_top.specs.Output.IsCheckDue.{check_refused as due_check_refused, check_accepted as due_check_accepted}
 use Rattle.merc_top.specs.Answer.{IsStatusDue, NamesAbsent}
+use Rattle.merc_top.proofs.Requests.{shown, solve-no_check}
 use Rattle.merc_top.proofs.OutputLaws.{IsOutput-unique}
 
 -- the words name a file of more bytes than the limit
 pub record NamesTooLong (words : List (List ℕ)) (files : Files) : Type 0 where
-  pub file : List ℕ
-  pub goal : List ℕ
+  pub request : Request
   pub text : List ℕ
-  pub request : IsRequest words file goal
-  pub content : file_named file files ≡ Some text
+  pub asked : IsRequest words request
+  pub content : file_named (file_of request) files ≡ Some text
   pub past : file_limit < length text
 
 -- the words name a file with this text, within the limit, and a goal with that text
 pub record Names (words : List (List ℕ)) (files : Files) (text goal : List ℕ) : Type 0 where
   pub file : List ℕ
-  pub request : IsRequest words file goal
+  pub request : IsSolve words file goal
   pub content : file_named file files ≡ Some text
   pub within : length text ≤ file_limit
 
--- the named file breaks a rule; or neither it nor the goal does, and it is not of the form that runs
+-- the words name a file with this text, within the limit, to be checked
+pub record NamesChecked (words : List (List ℕ)) (files : Files) (text : List ℕ) : Type 0 where
+  pub file : List ℕ
+  pub request : IsCheck words file
+  pub content : file_named file files ≡ Some text
+  pub within : length text ≤ file_limit
+
+-- the named file breaks a rule, where a goal is asked or it is checked; or neither it nor the goal does, and it is not of the form that runs
 pub data BreaksModule (words : List (List ℕ)) (files : Files) : Type 0 where
   module_rule : (text goal : List ℕ) (refusal : Refusal) → Names words files text goal → Refuses fixed_names text refusal → BreaksModule words files
+  checked_rule : (text : List ℕ) (refusal : Refusal) → NamesChecked words files text → Refuses fixed_names text refusal → BreaksModule words files
   module_outside : (text goal : List ℕ) (names : List (List ℕ)) (items : List Term) (term : Term) → Names words files text goal → AreRead text goal names items term → source_of names items ≡ None → BreaksModule words files
+
+-- the named file is checked, and is an accepted module with these trees
+pub record IsCheckedModule (words : List (List ℕ)) (files : Files) : Type 0 where
+  pub text : List ℕ
+  pub request : NamesChecked words files text
+  pub names : List (List ℕ)
+  pub items : List Term
+  pub found : Module
+  pub trees : List Node
+  pub accepted : IsAccepted fixed_names names text items found
+  pub graded : AreGraded names found trees
 
 -- the named file is an accepted module and the goal breaks a rule; or it does not, the module is of the form that runs, and the goal is not
 pub data BreaksGoal (words : List (List ℕ)) (files : Files) : Type 0 where
@@ -81,6 +106,10 @@ IsRaised run = (text : List ℕ) × (end_of run ≡ RunRaised text)
 abbrev pub IsCutAtLimit : Run → Type 0
 IsCutAtLimit run = end_of run ≡ LimitPassed
 
+-- a goal is asked and its run has answers, or a module is checked and accepted
+abbrev pub Succeeds : List (List ℕ) → Files → Type 0
+Succeeds words files = RunsTo words files IsSolved ⊎ IsCheckedModule words files
+
 data Cause (words : List (List ℕ)) (files : Files) (status : ℕ) : Type 0 where
   usage_cause : (why : IsNoRequest words) (is : status ≡ usage_status) → Cause words files status
   absent_cause : (is : status ≡ unread_status) → Cause words files status
@@ -88,6 +117,7 @@ data Cause (words : List (List ℕ)) (files : Files) (status : ℕ) : Type 0 whe
   module_cause : (why : BreaksModule words files) (is : status ≡ module_status) → Cause words files status
   goal_cause : (why : BreaksGoal words files) (is : status ≡ goal_status) → Cause words files status
   run_cause : (why : RunsTo words files (HasStatus status)) → Cause words files status
+  checked_cause : (why : IsCheckedModule words files) (is : status ≡ accepted_status) → Cause words files status
 
 due-cause : (words : List (List ℕ)) (files : Files) (name text goal : List ℕ) (lines : List (List ℕ)) (status : ℕ)
     → Names words files text goal → IsDue name text goal lines status → Cause words files status
@@ -102,18 +132,32 @@ due-cause words files name text goal _ _ request (due_goal_outside names items t
 due-cause words files name text goal _ _ request (due_runs names items term source conjuncts lines status read within is due) =
     run_cause (record { text = text; goal = goal; request = request; names = names; items = items; term = term; read = read; source = source; source_is = within; conjuncts = conjuncts; goal_is = is; fits = due.1 })
 
-file_output-cause : (words : List (List ℕ)) (files : Files) (file goal : List ℕ) (content : Option (List ℕ)) (lines : List (List ℕ)) (status : ℕ)
-    → IsRequest words file goal → file_named file files ≡ content → FileOutput file content goal lines status → Cause words files status
-file_output-cause words files file goal None lines status request same absent = absent_cause absent.1
-file_output-cause words files file goal (Some text) lines status request same (inl long) =
-    too_long_cause (record { file = file; goal = goal; text = text; request = request; content = same; past = long.0 }) long.2
-file_output-cause words files file goal (Some text) lines status request same (inr due) =
-    due-cause words files file text goal lines status (record { file = file; request = request; content = same; within = due.0 }) due.1
+check_due-cause : (words : List (List ℕ)) (files : Files) (name text : List ℕ) (lines : List (List ℕ)) (status : ℕ)
+    → NamesChecked words files text → IsCheckDue name text lines status → Cause words files status
+check_due-cause words files name text _ _ request (due_check_refused refusal refuses) =
+    module_cause (checked_rule text refusal request refuses) refl
+check_due-cause words files name text _ _ request (due_check_accepted names items found trees is graded) =
+    checked_cause (record { text = text; request = request; names = names; items = items; found = found; trees = trees; accepted = is; graded = graded }) refl
+
+request_due-cause : (words : List (List ℕ)) (files : Files) (request : Request) (text : List ℕ) (lines : List (List ℕ)) (status : ℕ)
+    → IsRequest words request → file_named (file_of request) files ≡ Some text → length text ≤ file_limit → IsRequestDue request text lines status → Cause words files status
+request_due-cause words files (Solve file goal) text lines status asked content within due =
+    due-cause words files file.now text goal.now lines status (record { file = file.now; request = asked; content = content; within = within }) due
+request_due-cause words files (Check file) text lines status asked content within due =
+    check_due-cause words files file.now text lines status (record { file = file.now; request = asked; content = content; within = within }) due
+
+file_output-cause : (words : List (List ℕ)) (files : Files) (request : Request) (content : Option (List ℕ)) (lines : List (List ℕ)) (status : ℕ)
+    → IsRequest words request → file_named (file_of request) files ≡ content → FileOutput request content lines status → Cause words files status
+file_output-cause words files request None lines status asked same absent = absent_cause absent.1
+file_output-cause words files request (Some text) lines status asked same (inl long) =
+    too_long_cause (record { request = request; text = text; asked = asked; content = same; past = long.0 }) long.2
+file_output-cause words files request (Some text) lines status asked same (inr due) =
+    request_due-cause words files request text lines status asked same due.0 due.1
 
 cause_of : (words : List (List ℕ)) (files : Files) (lines : List (List ℕ)) (status : ℕ) → IsOutput words files lines status → Cause words files status
 cause_of words files lines status (inl usage) = usage_cause usage.0 usage.2
 cause_of words files lines status (inr request) =
-    file_output-cause words files request.0 request.1 (file_named request.0 files) lines status request.2 refl request.3
+    file_output-cause words files request.0 (file_named (file_of request.0) files) lines status request.1 refl request.2
 
 run_status-zero : (count : ℕ) (end : RunEnd) → solved_status ≡ run_status count end → (0 < count) × (end ≡ RunDone)
 run_status-zero zero RunDone is = absurd (omega (arith, is))
@@ -186,13 +230,19 @@ refit words files P Q turns runs = record {
   fits = turns (run_of runs.source runs.conjuncts) runs.fits;
 }
 
-run_by : (words : List (List ℕ)) (files : Files) (status : ℕ) → Cause words files status → status < module_status → RunsTo words files (HasStatus status)
+run_by : (words : List (List ℕ)) (files : Files) (status : ℕ) → Cause words files status → status < module_status → RunsTo words files (HasStatus status) ⊎ (IsCheckedModule words files × (status ≡ accepted_status))
 run_by words files status (usage_cause why is) low = absurd (omega (arith, is, low))
 run_by words files status (absent_cause is) low = absurd (omega (arith, is, low))
 run_by words files status (too_long_cause why is) low = absurd (omega (arith, is, low))
 run_by words files status (module_cause why is) low = absurd (omega (arith, is, low))
 run_by words files status (goal_cause why is) low = absurd (omega (arith, is, low))
-run_by words files status (run_cause why) low = why
+run_by words files status (run_cause why) low = inl why
+run_by words files status (checked_cause why is) low = inr (why, is)
+
+-- a status of a run alone
+run_alone : (words : List (List ℕ)) (files : Files) (status : ℕ) → RunsTo words files (HasStatus status) ⊎ (IsCheckedModule words files × (status ≡ accepted_status)) → accepted_status < status → RunsTo words files (HasStatus status)
+run_alone words files status (inl why) high = why
+run_alone words files status (inr checked) high = absurd (omega (arith, checked.1, high))
 
 module_refused_by : (words : List (List ℕ)) (files : Files) (status : ℕ) → Cause words files status → status ≡ module_status → BreaksModule words files
 module_refused_by words files status (usage_cause why is) four = absurd (omega (arith, is, four))
@@ -201,6 +251,7 @@ module_refused_by words files status (too_long_cause why is) four = absurd (omeg
 module_refused_by words files status (module_cause why is) four = why
 module_refused_by words files status (goal_cause why is) four = absurd (omega (arith, is, four))
 module_refused_by words files status (run_cause why) four = absurd (omega (arith, four, runs_low words files status why))
+module_refused_by words files status (checked_cause why is) four = absurd (omega (arith, is, four))
 
 goal_refused_by : (words : List (List ℕ)) (files : Files) (status : ℕ) → Cause words files status → status ≡ goal_status → BreaksGoal words files
 goal_refused_by words files status (usage_cause why is) five = absurd (omega (arith, is, five))
@@ -209,6 +260,7 @@ goal_refused_by words files status (too_long_cause why is) five = absurd (omega 
 goal_refused_by words files status (module_cause why is) five = absurd (omega (arith, is, five))
 goal_refused_by words files status (goal_cause why is) five = why
 goal_refused_by words files status (run_cause why) five = absurd (omega (arith, five, runs_low words files status why))
+goal_refused_by words files status (checked_cause why is) five = absurd (omega (arith, is, five))
 
 usage_by : (words : List (List ℕ)) (files : Files) (status : ℕ) → Cause words files status → status ≡ usage_status → IsNoRequest words
 usage_by words files status (usage_cause why is) six = why
@@ -217,6 +269,7 @@ usage_by words files status (too_long_cause why is) six = absurd (omega (arith, 
 usage_by words files status (module_cause why is) six = absurd (omega (arith, is, six))
 usage_by words files status (goal_cause why is) six = absurd (omega (arith, is, six))
 usage_by words files status (run_cause why) six = absurd (omega (arith, six, runs_low words files status why))
+usage_by words files status (checked_cause why is) six = absurd (omega (arith, is, six))
 
 too_long_by : (words : List (List ℕ)) (files : Files) (status : ℕ) → Cause words files status → status ≡ too_long_status → NamesTooLong words files
 too_long_by words files status (usage_cause why is) ten = absurd (omega (arith, is, ten))
@@ -225,16 +278,25 @@ too_long_by words files status (too_long_cause why is) ten = why
 too_long_by words files status (module_cause why is) ten = absurd (omega (arith, is, ten))
 too_long_by words files status (goal_cause why is) ten = absurd (omega (arith, is, ten))
 too_long_by words files status (run_cause why) ten = absurd (omega (arith, ten, runs_low words files status why))
+too_long_by words files status (checked_cause why is) ten = absurd (omega (arith, is, ten))
 
 -- what is due for a file that the words name, with this text
 named_output : (words : List (List ℕ)) (files : Files) (text goal : List ℕ) (lines : List (List ℕ)) (status : ℕ) (request : Names words files text goal)
     → IsDue request.file text goal lines status → IsOutput words files lines status
 named_output words files text goal lines status request due =
     inr (
-      request.file,
-      goal,
+      Solve (shown request.file) (shown goal),
       request.request,
-      subst (λ content. FileOutput request.file content goal lines status) (sym request.content) (inr (request.within, due)),
+      subst (λ content. FileOutput (Solve (shown request.file) (shown goal)) content lines status) (sym request.content) (inr (request.within, due)),
+    )
+
+checked_output : (words : List (List ℕ)) (files : Files) (text : List ℕ) (lines : List (List ℕ)) (status : ℕ) (request : NamesChecked words files text)
+    → IsCheckDue request.file text lines status → IsOutput words files lines status
+checked_output words files text lines status request due =
+    inr (
+      Check (shown request.file),
+      request.request,
+      subst (λ content. FileOutput (Check (shown request.file)) content lines status) (sym request.content) (inr (request.within, due)),
     )
 
 runs_output : (words : List (List ℕ)) (files : Files) (status : ℕ) → RunsTo words files (HasStatus status) → (lines : List (List ℕ)) × IsOutput words files lines status
@@ -248,6 +310,8 @@ runs_output words files status runs =
 breaks_module_output : (words : List (List ℕ)) (files : Files) → BreaksModule words files → (lines : List (List ℕ)) × IsOutput words files lines module_status
 breaks_module_output words files (module_rule text goal refusal request refuses) =
     (refusal_line request.file refusal ∷ [], named_output words files text goal _ module_status request (due_module_refused refusal refuses))
+breaks_module_output words files (checked_rule text refusal request refuses) =
+    (refusal_line request.file refusal ∷ [], checked_output words files text _ module_status request (due_check_refused refusal refuses))
 breaks_module_output words files (module_outside text goal names items term request read outside) =
     (refusal_line request.file stage_refusal ∷ [], named_output words files text goal _ module_status request (due_module_outside names items term read outside))
 
@@ -257,15 +321,22 @@ breaks_goal_output words files (goal_rule text goal names items found refusal re
 breaks_goal_output words files (goal_outside text goal names items term source request read within outside) =
     (refusal_line (codes "goal") stage_refusal ∷ [], named_output words files text goal _ goal_status request (due_goal_outside names items term source read within outside))
 
+checked_module_output : (words : List (List ℕ)) (files : Files) → IsCheckedModule words files → (lines : List (List ℕ)) × IsOutput words files lines accepted_status
+checked_module_output words files checked =
+    let lines = check_lines checked.names checked.found checked.trees in (
+      lines,
+      checked_output words files checked.text lines accepted_status checked.request
+          (due_check_accepted checked.names checked.items checked.found checked.trees checked.accepted checked.graded),
+    )
+
 too_long_output : (words : List (List ℕ)) (files : Files) → NamesTooLong words files → (lines : List (List ℕ)) × IsOutput words files lines too_long_status
 too_long_output words files names =
-    let lines = too_long_line names.file ∷ [] in (
+    let lines = too_long_line (file_of names.request) ∷ [] in (
       lines,
       inr (
-        names.file,
-        names.goal,
         names.request,
-        subst (λ content. FileOutput names.file content names.goal lines too_long_status) (sym names.content) (inl (names.past, refl, refl)),
+        names.asked,
+        subst (λ content. FileOutput names.request content lines too_long_status) (sym names.content) (inl (names.past, refl, refl)),
       ),
     )
 
@@ -277,36 +348,67 @@ status_is : (words : List (List ℕ)) (files : Files) (lines : List (List ℕ)) 
     → IsStatusDue words files due → status ≡ due
 status_is words files lines status due output other = (IsOutput-unique words files lines other.0 status due output other.1).1
 
-runs-exactly : (words : List (List ℕ)) (files : Files) (lines : List (List ℕ)) (status due : ℕ) (Fits : Run → Type 0) → IsOutput words files lines status → due < module_status
+runs-exactly : (words : List (List ℕ)) (files : Files) (lines : List (List ℕ)) (status due : ℕ) (Fits : Run → Type 0) → IsOutput words files lines status
+    → accepted_status < due → due < module_status
     → ((run : Run) → HasStatus due run → Fits run) → ((run : Run) → Fits run → HasStatus due run) → (status ≡ due) ↔ RunsTo words files Fits
-runs-exactly words files lines status due Fits output low to from = (
+runs-exactly words files lines status due Fits output high low to from = (
   λ is.
       refit words files (HasStatus due) Fits to
-      (subst (λ n. RunsTo words files (HasStatus n)) is (run_by words files status (cause_of words files lines status output) (subst (λ n. n < module_status) (sym is) low))),
+      (subst (λ n. RunsTo words files (HasStatus n)) is
+      (run_alone words files status (run_by words files status (cause_of words files lines status output) (subst (λ n. n < module_status) (sym is) low))
+      (subst (λ n. accepted_status < n) (sym is) high))),
   λ why. status_is words files lines status due output (runs_output words files due (refit words files Fits (HasStatus due) from why)),
 )
 
--- Status by status, where it is due and so comes without a fault: the run of a goal has solutions,
-pub solved-exactly : (words : List (List ℕ)) (files : Files) (lines : List (List ℕ)) (status : ℕ) → IsOutput words files lines status → (status ≡ solved_status) ↔ RunsTo words files IsSolved
-solved-exactly words files lines status output =
-    runs-exactly words files lines status solved_status IsSolved output (lit< tt) (λ run is. run_status-zero _ _ is) (λ run fits. sym (run_status-solved _ _ fits.0 fits.1))
+-- the run that has this status, or the module that is checked
+succeeds_by : (words : List (List ℕ)) (files : Files) (status : ℕ) → status ≡ solved_status
+    → RunsTo words files (HasStatus status) ⊎ (IsCheckedModule words files × (status ≡ accepted_status)) → Succeeds words files
+succeeds_by words files status is (inl why) =
+    inl (refit words files (HasStatus solved_status) IsSolved (λ run has. run_status-zero _ _ has) (subst (λ n. RunsTo words files (HasStatus n)) is why))
+succeeds_by words files status is (inr checked) = inr checked.0
 
--- or has none,
+succeeds_output : (words : List (List ℕ)) (files : Files) → Succeeds words files → (lines : List (List ℕ)) × IsOutput words files lines solved_status
+succeeds_output words files (inl why) =
+    runs_output words files solved_status (refit words files IsSolved (HasStatus solved_status) (λ run fits. sym (run_status-solved _ _ fits.0 fits.1)) why)
+succeeds_output words files (inr checked) = checked_module_output words files checked
+
+-- Status by status, where it is due and so comes without a fault: the run of a goal has solutions, or a module that is checked is accepted;
+pub solved-exactly : (words : List (List ℕ)) (files : Files) (lines : List (List ℕ)) (status : ℕ) → IsOutput words files lines status → (status ≡ solved_status) ↔ Succeeds words files
+solved-exactly words files lines status output = (
+  λ is.
+      succeeds_by words files status is
+      (run_by words files status (cause_of words files lines status output) (subst (λ n. n < module_status) (sym is) (lit< tt))),
+  λ why. status_is words files lines status solved_status output (succeeds_output words files why),
+)
+
+-- where words ask for a check, that alone;
+checked_alone : (words : List (List ℕ)) (files : Files) (text : List ℕ) → NamesChecked words files text → Succeeds words files → IsCheckedModule words files
+checked_alone words files text names (inl runs) = absurd (solve-no_check words runs.request.file runs.goal names.file runs.request.request names.request)
+checked_alone words files text names (inr checked) = checked
+
+pub checked-exactly : (words : List (List ℕ)) (files : Files) (lines : List (List ℕ)) (status : ℕ) → IsOutput words files lines status
+    → (text : List ℕ) → NamesChecked words files text → (status ≡ accepted_status) ↔ IsCheckedModule words files
+checked-exactly words files lines status output text names = (
+  λ is. checked_alone words files text names ((solved-exactly words files lines status output).0 is),
+  λ why. (solved-exactly words files lines status output).1 (inr why),
+)
+
+-- or the run has none,
 pub unsolved-exactly : (words : List (List ℕ)) (files : Files) (lines : List (List ℕ)) (status : ℕ) → IsOutput words files lines status → (status ≡ unsolved_status) ↔ RunsTo words files IsUnsolved
 unsolved-exactly words files lines status output =
-    runs-exactly words files lines status unsolved_status IsUnsolved output (lit< tt) (λ run is. run_status-one _ _ is)
+    runs-exactly words files lines status unsolved_status IsUnsolved output (lit< tt) (lit< tt) (λ run is. run_status-one _ _ is)
     (λ run fits. rw (fits.0, fits.1) refl)
 
 -- or ends with an exception,
 pub raised-exactly : (words : List (List ℕ)) (files : Files) (lines : List (List ℕ)) (status : ℕ) → IsOutput words files lines status → (status ≡ raised_status) ↔ RunsTo words files IsRaised
 raised-exactly words files lines status output =
-    runs-exactly words files lines status raised_status IsRaised output (lit< tt) (λ run is. run_status-two _ _ is)
+    runs-exactly words files lines status raised_status IsRaised output (lit< tt) (lit< tt) (λ run is. run_status-two _ _ is)
     (λ run fits. rw fits.1 (sym (run_status-raised (length (answers_of run)) fits.0)))
 
 -- or passes the step limit;
 pub limit-exactly : (words : List (List ℕ)) (files : Files) (lines : List (List ℕ)) (status : ℕ) → IsOutput words files lines status → (status ≡ limit_status) ↔ RunsTo words files IsCutAtLimit
 limit-exactly words files lines status output =
-    runs-exactly words files lines status limit_status IsCutAtLimit output (lit< tt) (λ run is. run_status-three _ _ is)
+    runs-exactly words files lines status limit_status IsCutAtLimit output (lit< tt) (lit< tt) (λ run is. run_status-three _ _ is)
     (λ run fits. rw fits (sym (run_status-limit (length (answers_of run)))))
 
 -- or the module breaks a rule, or the goal, or the words ask for nothing, or the file is too long.
@@ -337,7 +439,7 @@ too_long-exactly words files lines status output = (
 pub absent-exactly : (words : List (List ℕ)) (files : Files) (lines : List (List ℕ)) (status : ℕ) → IsOutput words files lines status → NamesAbsent words (Some files) → status ≡ 7
 absent-exactly words files lines status output absent =
     status_is words files lines status unread_status output
-    ([], inr (absent.0, absent.1, absent.2, subst (λ content. FileOutput absent.0 content absent.1 [] unread_status) (sym absent.3) (refl, refl)))
+    ([], inr (absent.0, absent.1, subst (λ content. FileOutput absent.0 content [] unread_status) (sym absent.2) (refl, refl)))
 
 -- a status is the one that is due exactly where it is due
 pub status-exactly : (words : List (List ℕ)) (files : Files) (lines : List (List ℕ)) (status due : ℕ) → IsOutput words files lines status → (status ≡ due) ↔ IsStatusDue words files due

@@ -1,12 +1,13 @@
 -- Worked examples of what is due for a file and a goal: what holds, and what does not.
 use Rattle.std.specs.Prelude.{◌≡◌, ◌≤◌, ◌++◌, ℕ, suc, zero, false, List, [], ◌∷◌, length, Some, None, codes, refl}
-use Rattle.std.proofs.Common.{arith, lit≤, slice_index, ap, sym, inl, inr}
+use Rattle.std.proofs.Common.{arith, lit≤, slice_index, ap, sym, subst, inl, inr}
 use Rattle.std.specs.Fmt.{digits}
 use Rattle.std.specs.Str.{IsUtf8, is_utf8, chars}
 use Rattle.std.proofs.lemmas.Bool.{false≢true}
 use Rattle.std.proofs.lemmas.Str.{is_utf8-from_IsUtf8}
 use Rattle.merc_base.specs.Names.{fixed_names, colon_minus_name, module_name, import_module_name, comma_name, int_name, list_name, require_name}
 use Rattle.merc_base.specs.Refusal.{rule_number}
+use Rattle.merc_base.specs.declared.category.Category.TheVariants.{Det}
 use Rattle.merc_base.specs.declared.place.Span.{Span}
 use Rattle.merc_base.specs.declared.refusal.Refusal.{Refusal}
 use Rattle.merc_base.specs.declared.refusal.Fault.TheVariants.{Refused}
@@ -18,22 +19,34 @@ use Rattle.merc_tokens.specs.Faults.{ComesFirst, RefusesRightly}
 use Rattle.merc_tokens.specs.Faults.HasFaultFrom.{here}
 use Rattle.merc_tokens.specs.Faults.IsFaulty.{no_token}
 use Rattle.merc_tree.specs.Term.{Term, Application, none, more}
+use Rattle.merc_tree.specs.declared.declarations.Arg.TheVariants.{Input, Output}
+use Rattle.merc_tree.specs.declared.declarations.Clause.{Clause}
 use Rattle.merc_tree.specs.declared.declarations.Module.{Module}
+use Rattle.merc_tree.specs.declared.declarations.PredDecl.{PredDecl}
+use Rattle.merc_tree.specs.declared.declarations.TypeDef.{TypeDef}
+use Rattle.merc_value.specs.Text.{word_operators}
+use Rattle.merc_graded_tree.specs.Nodes.{Node}
 use Rattle.merc_terms.specs.Items.{refusal_at}
 use Rattle.merc_terms.specs.Texts.{RefusesGoalText, goal_limit}
 use Rattle.merc_terms.specs.Texts.RefusesText.{tokens as bad_tokens}
 use Rattle.merc_terms.specs.Texts.RefusesGoalText.{tokens as bad_goal_tokens}
 use Rattle.merc_items.specs.ReadModule.RefusesModule.{no_items}
+use Rattle.merc_check.specs.Accepted.{AreGraded}
 use Rattle.merc_check.specs.Checked.{IsAccepted, Refuses}
 use Rattle.merc_check.specs.Checked.Refuses.{no_module}
 use Rattle.merc_check.specs.Checked.RefusesQuery.{no_term}
 use Rattle.merc_check.proofs.CheckedLaws.{Refuses-excludes}
 use Rattle.merc_first_form.specs.Reading.{source_of, goal_of}
-use Rattle.merc_top.specs.Statuses.{solved_status, module_status, goal_status}
-use Rattle.merc_top.specs.Output.{AreRead, IsDue, text_of, refusal_line}
+use Rattle.merc_top.specs.declared.words.Request.TheVariants.{Solve, Check}
+use Rattle.merc_top.specs.Statuses.{accepted_status, solved_status, module_status, goal_status}
+use Rattle.merc_top.specs.Checking.{check_lines}
+use Rattle.merc_top.specs.Output.{AreRead, IsDue, IsCheckDue, IsRequestDue, text_of, refusal_line}
 use Rattle.merc_top.specs.Output.IsDue.{module_refused, goal_refused, module_outside, goal_outside, runs}
-use Rattle.merc_top.proofs.OutputLaws.{IsDue-unique}
+use Rattle.merc_top.specs.Output.IsCheckDue.{check_refused, check_accepted}
+use Rattle.merc_top.proofs.OutputLaws.{IsDue-unique, IsCheckDue-unique}
+use Rattle.merc_top.proofs.CheckingExamples.{mode, predicate, tree}
 use Rattle.merc_top.proofs.OutputExamples.{one, goal, IsRunDue-example}
+use Rattle.merc_top.proofs.Requests.{shown}
 use Rattle.merc_top.proofs.WordsExamples.{differ}
 
 -- ---- a text that breaks a rule
@@ -79,7 +92,7 @@ lone_byte-refused = no_module bad_token (no_items bad_token (bad_tokens bad_toke
 
 -- so no module
 pub AreRead-counterexample : (goal : List ℕ) (names : List (List ℕ)) (items : List Term) (term : Term) → AreRead (255 ∷ []) goal names items term → ⊥
-AreRead-counterexample goal names items term read =
+AreRead-counterexample _ names items term read =
     Refuses-excludes fixed_names (255 ∷ []) fixed_names-distinct read.file_names bad_token items read.found lone_byte-refused read.module_is
 
 lone_byte-refused_goal : (names : List (List ℕ)) → RefusesGoalText names (255 ∷ []) bad_token
@@ -88,7 +101,7 @@ lone_byte-refused_goal names = bad_goal_tokens bad_token (lit≤ tt) lone_byte
 
 pub IsDue-module_refused : (goal : List ℕ) → IsDue (codes "bad.m") (255 ∷ []) goal (codes "bad.m:1: rule 1: bad token\n" ∷ []) module_status
 unfolding digits
-IsDue-module_refused goal = module_refused bad_token lone_byte-refused
+IsDue-module_refused _ = module_refused bad_token lone_byte-refused
 
 -- behind a module that is read
 pub IsDue-goal_refused : (names : List (List ℕ)) (items : List Term) (file : List ℕ) (found : Module) → IsAccepted fixed_names names file items found
@@ -107,6 +120,24 @@ pub IsDue-refused_no_run : (name file goal : List ℕ) (refusal : Refusal) (line
 IsDue-refused_no_run name file goal refusal lines refuses due =
     let same = IsDue-unique name file goal lines (refusal_line name refusal ∷ []) solved_status module_status due (module_refused refusal refuses) in
     differ solved_status module_status (omega arith) same.1
+
+-- what is due for a request is what is due for its kind
+pub IsRequestDue-solve : IsRequestDue (Solve (shown (codes "bad.m")) (shown (codes "p"))) (255 ∷ []) (codes "bad.m:1: rule 1: bad token\n" ∷ []) module_status
+IsRequestDue-solve = IsDue-module_refused (codes "p")
+
+-- a check refuses it too
+pub IsCheckDue-refused : IsCheckDue (codes "bad.m") (255 ∷ []) (codes "bad.m:1: rule 1: bad token\n" ∷ []) module_status
+unfolding digits
+IsCheckDue-refused = check_refused bad_token lone_byte-refused
+
+pub IsRequestDue-check : IsRequestDue (Check (shown (codes "bad.m"))) (255 ∷ []) (codes "bad.m:1: rule 1: bad token\n" ∷ []) module_status
+IsRequestDue-check = IsCheckDue-refused
+
+-- and does not accept it
+pub IsCheckDue-counterexample : (lines : List (List ℕ)) → IsCheckDue (codes "bad.m") (255 ∷ []) lines accepted_status → ⊥
+IsCheckDue-counterexample lines due =
+    let same = IsCheckDue-unique _ _ _ _ _ _ due IsCheckDue-refused in
+    differ accepted_status module_status (omega arith) same.1
 
 -- ---- a module that runs
 
@@ -142,6 +173,50 @@ module _ (text : List ℕ) (names : List (List ℕ)) (items : List Term) (term :
   IsDue-goal_outside_alone outside lines due =
       let same = IsDue-unique _ _ _ _ _ _ _ due (IsDue-goal_outside outside) in
       differ module_status goal_status (omega arith) same.1
+
+-- its name and its predicate's behind the constants, and others behind those
+abbrev pub one_names : List (List ℕ) → List (List ℕ)
+one_names others = fixed_names ++ codes "one" ∷ codes "add" ∷ others
+
+-- its predicate, and behind it those of the library
+abbrev pub one_module : List PredDecl → List TypeDef → List Clause → Module
+one_module library types clauses = record {
+  name = length fixed_names;
+  units = int_name ∷ [];
+  types = types;
+  preds = predicate (suc (length fixed_names)) (mode (Input ∷ Input ∷ Output ∷ []) Det ∷ []) ∷ library;
+  own = 1;
+  clauses = clauses;
+}
+
+abbrev pub one_lines : List (List ℕ)
+one_lines = codes "add(in, in, out) is det, inferred det\n" ∷ codes "procedures 1\n" ∷ []
+
+one_check_lines : (others : List (List ℕ)) (library : List PredDecl) (types : List TypeDef) (clauses : List Clause) (trees : List Node)
+    → check_lines (one_names others) (one_module library types clauses) (tree Det ∷ trees) ≡ one_lines
+unfolding fixed_names word_operators digits
+one_check_lines others library types clauses trees = refl
+
+-- where its procedure has a tree that is `det`
+module _ (others : List (List ℕ)) (items : List Term) (library : List PredDecl) (types : List TypeDef) (clauses : List Clause) (trees : List Node)
+    (is : IsAccepted fixed_names (one_names others) one_text items (one_module library types clauses))
+    (graded : AreGraded (one_names others) (one_module library types clauses) (tree Det ∷ trees)) where
+  pub IsCheckDue-accepted : IsCheckDue (codes "one.m") one_text one_lines accepted_status
+  IsCheckDue-accepted =
+      subst (λ (lines : List (List ℕ)). IsCheckDue (codes "one.m") one_text lines accepted_status) (one_check_lines others library types clauses trees)
+      (check_accepted (one_names others) items (one_module library types clauses) (tree Det ∷ trees) is graded)
+
+  -- no other line is due
+  pub IsCheckDue-other_line : (status : ℕ) → IsCheckDue (codes "one.m") one_text (codes "add(in, in, out) is det, inferred semidet\n" ∷ codes "procedures 1\n" ∷ []) status → ⊥
+  IsCheckDue-other_line status due =
+      let same = IsCheckDue-unique _ _ _ _ _ _ due IsCheckDue-accepted in
+      differ 100 115 (omega arith) (sym (ap (λ (texts : List (List ℕ)). slice_index (text_of texts) 34) same.0))
+
+  -- and the file is not refused
+  pub IsCheckDue-not_refused : (lines : List (List ℕ)) → IsCheckDue (codes "one.m") one_text lines module_status → ⊥
+  IsCheckDue-not_refused lines due =
+      let same = IsCheckDue-unique _ _ _ _ _ _ due IsCheckDue-accepted in
+      differ accepted_status module_status (omega arith) (sym same.1)
 
 -- ---- a module that does not run
 

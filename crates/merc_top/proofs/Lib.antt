@@ -1,10 +1,12 @@
 pub mod LoadingLemmas
 pub mod WritingLemmas
 pub mod LineLemmas
+pub mod CheckingLemmas
 pub mod Environments
 pub mod Resuming
 pub mod Outcomes
 pub mod Dues
+pub mod Requests
 pub mod OutputLaws
 pub mod Causes
 pub mod CallEnds
@@ -13,6 +15,7 @@ pub mod StatusExamples
 pub mod WordsExamples
 pub mod LoadingExamples
 pub mod WritingExamples
+pub mod CheckingExamples
 pub mod OutputExamples
 pub mod DueExamples
 pub mod CallExamples

@@ -7,7 +7,8 @@ use Rattle.std.proofs.lemmas.Option.{unwrap_or-slice_get}
 use Rattle.merc_tree.specs.Value.{Value}
 use Rattle.merc_tree.specs.Trace.{Env}
 use Rattle.merc_tree.specs.Meaning.{value_at}
-use Rattle.merc_top.specs.Output.{binding, bindings, behind_commas, comma_list}
+use Rattle.merc_top.specs.Lines.{behind_commas, comma_list}
+use Rattle.merc_top.specs.Output.{binding, bindings}
 
 -- these texts with a comma and a blank between each two
 abbrev pub joined : List (List ℕ) → List ℕ
@@ -19,7 +20,7 @@ abbrev pub separator_at : ℕ → List ℕ
 separator_at zero = []
 separator_at (suc number) = codes ", "
 
-behind_commas-snoc : (texts : List (List ℕ)) (text : List ℕ) → behind_commas (texts ++ text ∷ []) ≡ (behind_commas texts ++ codes ", ") ++ text
+pub behind_commas-snoc : (texts : List (List ℕ)) (text : List ℕ) → behind_commas (texts ++ text ∷ []) ≡ (behind_commas texts ++ codes ", ") ++ text
 behind_commas-snoc [] text = append-nil (codes ", " ++ text)
 behind_commas-snoc (first ∷ texts) text =
     ap (λ more. (codes ", " ++ first) ++ more) (behind_commas-snoc texts text)

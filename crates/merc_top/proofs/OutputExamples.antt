@@ -17,7 +17,8 @@ use Rattle.merc_first_form.specs.declared.syntax.Source.{Source}
 use Rattle.merc_first_form.specs.FlatForm.{procedures_of, query_of}
 use Rattle.merc_top.specs.Loading.{file_limit}
 use Rattle.merc_top.specs.Statuses.{solved_status, unsolved_status, raised_status, limit_status}
-use Rattle.merc_top.specs.Output.{line, value_text, binding, bindings, behind_commas, comma_list, solution_line, end_line, run_status, run_lines, text_of, refusal_line, stage_refusal, too_long_line, step_limit, run_of, IsRunDue}
+use Rattle.merc_top.specs.Lines.{line, behind_commas, comma_list}
+use Rattle.merc_top.specs.Output.{value_text, binding, bindings, solution_line, end_line, run_status, run_lines, text_of, refusal_line, stage_refusal, too_long_line, step_limit, run_of, IsRunDue}
 use Rattle.merc_top.proofs.WordsExamples.{differ}
 
 -- ---- lines

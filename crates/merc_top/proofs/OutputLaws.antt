@@ -1,5 +1,5 @@
 -- For given words and files one text and one status are due.
-use Rattle.std.proofs.Common.{◌≡◌, ◌∙◌, ℕ, List, [], ◌∷◌, refl, sym, subst, inl, inr, arith, codes}
+use Rattle.std.proofs.Common.{◌≡◌, ◌∙◌, ℕ, List, [], ◌∷◌, refl, sym, ap, subst, inl, inr, arith, codes}
 use Rattle.std.specs.Prelude.{Option, Some, None}
 use Rattle.std.specs.List.{IsDistinct}
 use Rattle.std.specs.Str.{bytes_eq}
@@ -9,16 +9,23 @@ use Rattle.merc_base.specs.declared.refusal.Refusal.{Refusal}
 use Rattle.merc_base.proofs.NameLaws.{fixed_names-distinct}
 use Rattle.merc_tree.specs.Term.{Term}
 use Rattle.merc_tree.specs.declared.declarations.Module.{Module}
+use Rattle.merc_graded_tree.specs.Nodes.{Node}
+use Rattle.merc_check.specs.Accepted.{AreGraded}
 use Rattle.merc_check.specs.Checked.{IsAccepted, IsGoal, Refuses, RefusesQuery}
-use Rattle.merc_check.proofs.CheckedLaws.{IsAccepted-unique, IsGoal-unique, IsModule-distinct, Refuses-excludes, Refuses-unique, RefusesQuery-excludes, RefusesQuery-unique}
+use Rattle.merc_check.proofs.CheckedLaws.{AreGraded-unique, IsAccepted-unique, IsGoal-unique, IsModule-distinct, Refuses-excludes, Refuses-unique, RefusesQuery-excludes, RefusesQuery-unique}
 use Rattle.merc_first_form.specs.declared.syntax.Conjunct.{Conjunct}
 use Rattle.merc_first_form.specs.declared.syntax.Source.{Source}
 use Rattle.merc_first_form.specs.Reading.{source_of, goal_of}
 use Rattle.merc_first_form.specs.FlatForm.{variables_of}
 use Rattle.merc_top.specs.Statuses.{module_status, goal_status}
-use Rattle.merc_top.specs.Words.{IsRequest}
-use Rattle.merc_top.specs.Output.{AreRead, IsDue, IsOutput, FileOutput, IsRunDue, run_of, refusal_line, stage_refusal}
+use Rattle.merc_top.specs.declared.words.Request.{Request}
+use Rattle.merc_top.specs.declared.words.Request.TheVariants.{Solve, Check}
+use Rattle.merc_top.specs.Words.{IsRequest, file_of}
+use Rattle.merc_top.specs.Checking.{check_lines}
+use Rattle.merc_top.specs.Output.{AreRead, IsDue, IsCheckDue, IsRequestDue, IsOutput, FileOutput, IsRunDue, run_of, refusal_line, stage_refusal, too_long_line}
 use Rattle.merc_top.specs.Output.IsDue.{module_refused, goal_refused, module_outside, goal_outside, runs}
+use Rattle.merc_top.specs.Output.IsCheckDue.{check_refused, check_accepted}
+use Rattle.merc_top.proofs.Requests.{solve-unique, check-unique, solve-no_check, request_file-unique}
 
 -- the same lines and the same status
 abbrev pub Agree : List (List ℕ) → ℕ → List (List ℕ) → ℕ → Type 0
@@ -102,13 +109,13 @@ goal_not_broken file goal names names' items items' found refusal term is refuse
     let same = IsAccepted-unique fixed_names file fixed_names-distinct names read.file_names items items' found read.found is read.module_is in
     let distinct = module-distinct names file items found is in
     let reads = goal_moved (λ some over what. IsGoal some names' over goal what) names read.file_names found read.found term same.0 same.2 read.goal_is in
-    RefusesQuery-excludes names goal distinct found names' refusal term refuses reads
+    RefusesQuery-excludes names goal distinct found fixed_names names file items is names' refusal term refuses reads
 
 one_goal_refusal : (file goal : List ℕ) (names names' : List (List ℕ)) (items items' : List Term) (found found' : Module) (one other : Refusal)
     → IsAccepted fixed_names names file items found → IsAccepted fixed_names names' file items' found' → RefusesQuery names found goal one → RefusesQuery names' found' goal other → one ≡ other
 one_goal_refusal file goal names names' items items' found found' one other is is' refuses refuses' =
     let same = IsAccepted-unique fixed_names file fixed_names-distinct names names' items items' found found' is is' in
-    RefusesQuery-unique names goal (module-distinct names file items found is) found one other refuses
+    RefusesQuery-unique names goal (module-distinct names file items found is) found fixed_names names file items is one other refuses
     (goal_moved (λ some over what. RefusesQuery some over goal what) names names' found found' other same.0 same.2 refuses')
 
 same_line : (name : List ℕ) (one other : Refusal) (lines lines' : List (List ℕ)) → one ≡ other → lines ≡ refusal_line name one ∷ [] → lines' ≡ refusal_line name other ∷ [] → lines ≡ lines'
@@ -145,27 +152,66 @@ pub IsDue-unique : (name file goal : List ℕ) (lines lines' : List (List ℕ)) 
 IsDue-unique name file goal lines lines' status status' due also =
     cases-unique name file goal lines lines' status status' (cases_of name file goal lines status due) (cases_of name file goal lines' status' also)
 
-file_output-unique : (name : List ℕ) (content : Option (List ℕ)) (goal : List ℕ) (lines lines' : List (List ℕ)) (status status' : ℕ)
-    → FileOutput name content goal lines status → FileOutput name content goal lines' status' → Agree lines status lines' status'
-file_output-unique name None goal lines lines' status status' absent also = (both absent.0 also.0, both absent.1 also.1)
-file_output-unique name (Some file) goal lines lines' status status' (inl long) (inl also) = (both long.1 also.1, both long.2 also.2)
-file_output-unique name (Some file) goal lines lines' status status' (inl long) (inr due) = absurd (omega (arith, long.0, due.0))
-file_output-unique name (Some file) goal lines lines' status status' (inr due) (inl long) = absurd (omega (arith, long.0, due.0))
-file_output-unique name (Some file) goal lines lines' status status' (inr due) (inr also) =
-    IsDue-unique name file goal lines lines' status status' due.1 also.1
+-- the check of a file has one result
+pub IsCheckDue-unique : (name file : List ℕ) (lines lines' : List (List ℕ)) (status status' : ℕ)
+    → IsCheckDue name file lines status → IsCheckDue name file lines' status' → Agree lines status lines' status'
+IsCheckDue-unique name file _ _ _ _ (check_refused one refuses) (check_refused other refuses') =
+    (ap (λ (refusal : Refusal). refusal_line name refusal ∷ []) (Refuses-unique fixed_names file fixed_names-distinct one other refuses refuses'), refl)
+IsCheckDue-unique name file _ _ _ _ (check_refused refusal refuses) (check_accepted names items found trees is graded) =
+    absurd (module_not_broken file refusal names items found refuses is)
+IsCheckDue-unique name file _ _ _ _ (check_accepted names items found trees is graded) (check_refused refusal refuses) =
+    absurd (module_not_broken file refusal names items found refuses is)
+IsCheckDue-unique name file _ _ _ _ (check_accepted names items found trees is graded) (check_accepted names' items' found' trees' is' graded') =
+    let same = IsAccepted-unique fixed_names file fixed_names-distinct names names' items items' found found' is is' in
+    let also = goal_moved AreGraded names names' found found' trees' same.0 same.2 graded' in
+    let one_trees = AreGraded-unique fixed_names file fixed_names-distinct names items found is trees trees' graded also in (
+      ap (λ (some : List Node). check_lines names found some) one_trees
+          ∙ ap (λ (some : List (List ℕ)). check_lines some found trees') same.0
+          ∙ ap (λ (some : Module). check_lines names' some trees') same.2,
+      refl,
+    )
 
-request-unique : (words : List (List ℕ)) (file goal file' goal' : List ℕ) → IsRequest words file goal → IsRequest words file' goal' → (file ≡ file') × (goal ≡ goal')
-request-unique words file goal file' goal' request also =
-    let same : codes "solve" ∷ file ∷ goal ∷ [] ≡ codes "solve" ∷ file' ∷ goal' ∷ [] = sym request.spelled ∙ also.spelled in
-    (cc, cc)
+request_due-unique : (request : Request) (text : List ℕ) (lines lines' : List (List ℕ)) (status status' : ℕ)
+    → IsRequestDue request text lines status → IsRequestDue request text lines' status' → Agree lines status lines' status'
+request_due-unique (Solve file goal) text lines lines' status status' due also = IsDue-unique file.now text goal.now lines lines' status status' due also
+request_due-unique (Check file) text lines lines' status status' due also = IsCheckDue-unique file.now text lines lines' status status' due also
+
+file_output-unique : (request : Request) (content : Option (List ℕ)) (lines lines' : List (List ℕ)) (status status' : ℕ)
+    → FileOutput request content lines status → FileOutput request content lines' status' → Agree lines status lines' status'
+file_output-unique request None lines lines' status status' absent also = (both absent.0 also.0, both absent.1 also.1)
+file_output-unique request (Some text) lines lines' status status' (inl long) (inl also) = (both long.1 also.1, both long.2 also.2)
+file_output-unique request (Some text) lines lines' status status' (inl long) (inr due) = absurd (omega (arith, long.0, due.0))
+file_output-unique request (Some text) lines lines' status status' (inr due) (inl long) = absurd (omega (arith, long.0, due.0))
+file_output-unique request (Some text) lines lines' status status' (inr due) (inr also) =
+    request_due-unique request text lines lines' status status' due.1 also.1
+
+-- what is due for one request of some words is due for another
+request_due-moved : (words : List (List ℕ)) (one other : Request) (text : List ℕ) (lines : List (List ℕ)) (status : ℕ)
+    → IsRequest words one → IsRequest words other → IsRequestDue other text lines status → IsRequestDue one text lines status
+request_due-moved words (Solve file goal) (Solve file' goal') text lines status asks also due =
+    let same = solve-unique words file.now goal.now file'.now goal'.now asks also in
+    subst (λ (some : List ℕ). IsDue some text goal.now lines status) (sym same.0)
+    (subst (λ (some : List ℕ). IsDue file'.now text some lines status) (sym same.1) due)
+request_due-moved words (Solve file goal) (Check file') text lines status asks also due = absurd (solve-no_check words file.now goal.now file'.now asks also)
+request_due-moved words (Check file) (Solve file' goal') text lines status asks also due = absurd (solve-no_check words file'.now goal'.now file.now also asks)
+request_due-moved words (Check file) (Check file') text lines status asks also due =
+    subst (λ (some : List ℕ). IsCheckDue some text lines status) (sym (check-unique words file.now file'.now asks also)) due
+
+file_output-moved : (words : List (List ℕ)) (one other : Request) (content : Option (List ℕ)) (lines : List (List ℕ)) (status : ℕ)
+    → IsRequest words one → IsRequest words other → FileOutput other content lines status → FileOutput one content lines status
+file_output-moved words one other None lines status asks also absent = absent
+file_output-moved words one other (Some text) lines status asks also (inl long) =
+    inl (long.0, long.1 ∙ ap (λ (name : List ℕ). too_long_line name ∷ []) (request_file-unique words other one also asks), long.2)
+file_output-moved words one other (Some text) lines status asks also (inr due) =
+    inr (due.0, request_due-moved words one other text lines status asks also due.1)
 
 pub IsOutput-unique : (words : List (List ℕ)) (files : Files) (lines lines' : List (List ℕ)) (status status' : ℕ)
     → IsOutput words files lines status → IsOutput words files lines' status' → Agree lines status lines' status'
 IsOutput-unique words files lines lines' status status' (inl usage) (inl also) = (both usage.1 also.1, both usage.2 also.2)
-IsOutput-unique words files lines lines' status status' (inl usage) (inr request) = absurd (usage.0 request.0 request.1 request.2)
-IsOutput-unique words files lines lines' status status' (inr request) (inl usage) = absurd (usage.0 request.0 request.1 request.2)
+IsOutput-unique words files lines lines' status status' (inl usage) (inr request) = absurd (usage.0 request.0 request.1)
+IsOutput-unique words files lines lines' status status' (inr request) (inl usage) = absurd (usage.0 request.0 request.1)
 IsOutput-unique words files lines lines' status status' (inr request) (inr also) =
-    let same = request-unique words also.0 also.1 request.0 request.1 also.2 request.2 in
-    file_output-unique request.0 (file_named request.0 files) request.1 lines lines' status status' request.3
-    (subst (λ file. FileOutput file (file_named file files) request.1 lines' status') same.0
-    (subst (λ goal. FileOutput also.0 (file_named also.0 files) goal lines' status') same.1 also.3))
+    let name = request_file-unique words also.0 request.0 also.1 request.1 in
+    file_output-unique request.0 (file_named (file_of request.0) files) lines lines' status status' request.2
+    (file_output-moved words request.0 also.0 (file_named (file_of request.0) files) lines' status' request.1 also.1
+    (subst (λ (file : List ℕ). FileOutput also.0 (file_named file files) lines' status') name also.2))

@@ -1,10 +1,11 @@
 //! The lines of a module that is checked.
-ghost use Rattle.std.specs.Prelude.{◌≡◌, ◌≤◌, ◌+◌, ◌++◌, List, [], ◌∷◌, drop, length, take, map, IfOk, OnOk};
+ghost use Rattle.std.specs.Prelude.{◌≡◌, ◌≤◌, ◌+◌, ◌++◌, codes, drop, length, take, IfOk, OnOk};
+ghost use Rattle.std.specs.Fmt.{decimal};
 ghost use Rattle.merc_value.specs.Text.{name_text, text_at};
-ghost use Rattle.merc_graded_tree.specs.Nodes.{Node};
 ghost use Rattle.merc_grading.specs.Faults.{with_modes, procedures_of};
+ghost use Rattle.merc_grading.specs.Grading.{category_at};
 ghost use Rattle.merc_top.specs.Checking.{check_lines, place_text, places_text, procedure_line, procedure_lines};
-ghost use Rattle.merc_top.specs.Lines.{comma_list};
+ghost use Rattle.merc_top.specs.Lines.{line};
 
 use merc_base::{Category, Name, Names, NoMemory, Sequence, Text};
 use merc_graded_tree::{NodeRef, Nodes};
@@ -21,23 +22,30 @@ pub fn check_lines(
     module: &Module,
     trees: &Nodes,
 ) -> Result<Sequence<Text>, NoMemory>
-    ensures { IfOk result (λ lines. length (procedures_of module.now.preds) ≤ length trees.now → lines ≡ check_lines names.now module.now trees.now) }
+    ensures { IfOk result (λ lines. length (procedures_of «module».now.preds) ≤ length trees.now → lines ≡ check_lines names.now «module».now trees.now) }
 {
     let mut lines = Sequence::new(alloc);
     for declared in own_predicates(module) {
         push_modes(alloc, names, declared, trees, &mut lines)?;
     }
     let count = lines.as_slice().len();
-    let mut last = Text::of(alloc, b"procedures ")?;
-    last.push(count.to_string(alloc)?.as_bytes())?;
-    last.push(b"\n")?;
-    lines.push(last)?;
+    lines.push(procedures_line(alloc, count)?)?;
     Ok(lines)
+}
+
+// The last line, for so many procedures.
+fn procedures_line(alloc: Global, count: usize) -> Result<Text, NoMemory>
+    ensures { IfOk result (λ text. text ≡ line (codes "procedures " ++ decimal count)) }
+{
+    let mut text = Text::of(alloc, b"procedures ")?;
+    text.push(count.to_string(alloc)?.as_bytes())?;
+    text.push(b"\n")?;
+    Ok(text)
 }
 
 // The predicates of the file, which stand before those of the library.
 fn own_predicates(module: &Module) -> &[PredDecl]
-    ensures { result.now ≡ take module.now.own module.now.preds }
+    ensures { result.now ≡ take «module».now.own «module».now.preds }
 {
     let all = module.preds.as_slice();
     all.get(..module.own).unwrap_or(all)

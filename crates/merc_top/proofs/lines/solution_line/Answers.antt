@@ -1,6 +1,7 @@
 use Rattle.std.proofs.Common.{◌≡◌, ◌∙◌, ◌<◌, ◌++◌, ap, sym, arith, length, zero-add, add-one, get_or, [], take, rules}
 use Rattle.merc_tree.specs.Meaning.{value_at}
-use Rattle.merc_top.specs.Output.{binding, bindings, line_end, comma_list}
+use Rattle.merc_top.specs.Lines.{line_end, comma_list}
+use Rattle.merc_top.specs.Output.{binding, bindings}
 use Rattle.merc_top.proofs.LineLemmas.{joined-more, joined, length-bindings, get_or-bindings, name_at, line_without, line_with}
 use Rattle.merc_top.proofs.lines.solution_line.Goals as goal
 use Rattle.merc_top.proofs.lines.solution_line.Goals.{then-len-eq0+in_ok-push-2, else-len-eq0}

@@ -1,0 +1,50 @@
+-- A file that breaks a rule is refused by that rule; else its procedures have the lines.
+use Rattle.std.proofs.Common.{◌≡◌, ◌≤◌, ◌∙◌, arith, subst, [], ◌∷◌, refl, List, ℕ, length}
+use Rattle.std.proofs.lemmas.Result.{IfOk-weaker}
+use Rattle.merc_base.specs.Names.{fixed_names}
+use Rattle.merc_base.specs.declared.refusal.Fault.{Fault}
+use Rattle.merc_base.proofs.NameLaws.{fixed_names-distinct}
+use Rattle.merc_tree.specs.declared.declarations.Module.{Module}
+use Rattle.merc_graded_tree.specs.Nodes.{Node}
+use Rattle.merc_grading.specs.Faults.{procedures_of}
+use Rattle.merc_terms.specs.Items.{IsRefusal}
+use Rattle.merc_check.specs.Checked.{IsAccepted, Refuses}
+use Rattle.merc_check.proofs.CheckedLaws.{AreGraded-count}
+use Rattle.merc_top.specs.Loading.{file_limit}
+use Rattle.merc_top.specs.Statuses.{accepted_status, module_status}
+use Rattle.merc_top.specs.Checking.{check_lines}
+use Rattle.merc_top.specs.Output.{refusal_line}
+use Rattle.merc_top.specs.Output.IsCheckDue.{check_refused, check_accepted}
+use Rattle.merc_top.proofs.Dues.{check_due_by, line_by}
+use Rattle.merc_top.proofs.answering.check_due.Goals as goal
+
+pub check-requires : goal.check-requires
+unfolding file_limit
+check-requires c = let within : length c.args.text.now ≤ 1048576 = c.requires in omega (arith, within)
+
+pub returns-in-Err-Refused : goal.returns-in-Err-Refused
+returns-in-Err-Refused c =
+    let refuses =
+    subst (λ (fault : Fault). IsRefusal (Refuses c.new-names.result c.args.text.now) fault) c.in-Err-Refused.field-0-is c.in-Err-Refused.ensures.refused in
+    let line = line_by c.bytes.result.now c.args.name.now c.in-Err-Refused.refusal c.in-Err-Refused.refusal _ refl c.bytes.ensures refl in
+    IfOk-weaker c.refused.result _ _
+    (λ due is.
+    check_due_by c.args.name.now c.args.text.now due.lines (refusal_line c.args.name.now c.in-Err-Refused.refusal ∷ []) due.status module_status (is.0 ∙ line) is.1
+    (check_refused c.in-Err-Refused.refusal (subst (λ (names : List (List ℕ)). Refuses names c.args.text.now c.in-Err-Refused.refusal) c.new-names.ensures refuses)))
+    c.refused.ensures
+
+pub returns-in-Ok : goal.returns-in-Ok
+returns-in-Ok c =
+    let names = c.check.new.names in
+    let checked = c.in-Ok.checked in
+    let is =
+    subst (λ (before : List (List ℕ)). IsAccepted before names c.args.text.now checked.items checked.module) c.new-names.ensures c.in-Ok.ensures.accepted in
+    let graded = c.in-Ok.ensures.graded in
+    let count = AreGraded-count fixed_names c.args.text.now fixed_names-distinct names checked.items checked.module is checked.trees graded in
+    let lines = c.in_ok-check_lines-in-Ok.field-0 in
+    let said : length (procedures_of checked.module.preds) ≤ length checked.trees → lines ≡ check_lines names checked.module checked.trees =
+    subst (λ (found : Module). length (procedures_of found.preds) ≤ length checked.trees → lines ≡ check_lines names found checked.trees) c.module.ensures
+    (subst (λ (trees : List Node). length (procedures_of c.module.result.now.preds) ≤ length trees → lines ≡ check_lines names c.module.result.now trees) c.trees.ensures
+    c.in_ok-check_lines-in-Ok.ensures) in
+    check_due_by c.args.name.now c.args.text.now lines (check_lines names checked.module checked.trees) accepted_status accepted_status (said (omega (arith, count))) refl
+    (check_accepted names checked.items checked.module checked.trees is graded)
