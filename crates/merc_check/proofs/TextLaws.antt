@@ -1,11 +1,16 @@
 -- What the check of a text tells follows from what its parts tell.
-use Rattle.std.proofs.Common.{◌≡◌, ℕ, List, subst}
+use Rattle.std.proofs.Common.{◌≡◌, ℕ, List, sym, subst}
+use Rattle.std.specs.List.{IsDistinct}
+use Rattle.std.specs.Str.{bytes_eq}
+use Rattle.merc_base.specs.Names.{HoldsFixed}
 use Rattle.merc_base.specs.declared.refusal.Fault.{Fault}
 use Rattle.merc_tree.specs.Term.{Term}
 use Rattle.merc_tree.specs.declared.declarations.Module.{Module}
 use Rattle.merc_terms.specs.Items.{IsRefusal}
 use Rattle.merc_terms.specs.Texts.{ReadsItems, ReadsGoal, RefusesText, RefusesGoalText}
 use Rattle.merc_items.specs.ReadModule.{IsModule, IsModuleOf, RefusesItemsOf, no_items, items as items_refused}
+use Rattle.merc_grading.specs.Fitting.{AreToldApart}
+use Rattle.merc_fit_laws.proofs.TypesApart.{types_are_told_apart}
 use Rattle.merc_check.specs.Accepted.{AcceptsClauses, AcceptsGoal, RefusesClauses, RefusesGoal}
 use Rattle.merc_check.specs.Checked.{IsAccepted, IsGoal, Refuses, RefusesQuery}
 use Rattle.merc_check.specs.Checked.Refuses.{no_module, clauses as clauses_refused}
@@ -37,6 +42,10 @@ module _ (before : List (List ℕ)) (text bytes : List ℕ) (same : bytes ≡ te
       module-refused fault refuses =
           IsRefusal-weaker (RefusesClauses after found) (Refuses before text) fault (λ refusal wrong. clauses_refused after items found refusal read_module wrong)
           (subst (λ (some : Module). IsRefusal (RefusesClauses after some) fault) knows refuses)
+
+      pub module-apart : HoldsFixed before → IsDistinct bytes_eq before → AreToldApart known.types
+      module-apart fixed distinct =
+          subst (λ (some : Module). AreToldApart some.types) (sym knows) (types_are_told_apart before after text items found fixed distinct read_module)
 
       pub module-accepted : AcceptsClauses after known → IsAccepted before after text items found
       module-accepted accepts = record { module_is = read_module; clauses = subst (AcceptsClauses after) knows accepts }

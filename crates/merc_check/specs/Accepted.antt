@@ -16,11 +16,10 @@ use Rattle.merc_goal_tree.specs.Nodes.{Node}
 use Rattle.merc_graded_tree.specs.Nodes.{Node as OrderedNode}
 use Rattle.merc_answer_variables.specs.AnswerVariables.{answer_variables}
 use Rattle.merc_bodies.specs.Bodies.{asked_body, body_of, numbered, own_variables}
-use Rattle.merc_order.specs.Bound.{nothing}
 use Rattle.merc_order.specs.Ordered.{Outcome}
 use Rattle.merc_order.specs.Procedures.{modes_of, order_fault, query_from}
 use Rattle.merc_modes.specs.Told.{fault_in}
-use Rattle.merc_grading.specs.Faults.{Body, procedures_of, all_finished, finished, category_fault, query_category_fault}
+use Rattle.merc_grading.specs.Faults.{Body, procedures_of, all_finished, category_fault, query_category_fault}
 use Rattle.merc_fit_laws.specs.HeadTypes.{declared_arguments}
 use Rattle.merc_fit_laws.specs.ProcedureBodies.{AreBodiesOf, IsAskedBody}
 

@@ -11,7 +11,7 @@ use Rattle.merc_check.specs.Accepted.{AcceptsClauses, AcceptsGoal, RefusesClause
 -- What is kept of an accepted module: the items of its text, the module, and the trees of its procedures.
 pub record CheckedModule : Type 0 where
   pub items : List Term
-  pub module : Module
+  pub «module» : Module
   pub trees : List Node
 
 -- A text is a module of these items whose clauses are accepted. The table of names held the first before the text was read, and holds the second behind it.

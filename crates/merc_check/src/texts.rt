@@ -1,5 +1,8 @@
 //! The check of texts.
 ghost use Rattle.std.specs.Prelude.{◌≡◌, ◌≤◌, ◌++◌, ℕ, List, length, IfErr, IfOk};
+ghost use Rattle.std.specs.List.{IsDistinct};
+ghost use Rattle.std.specs.Str.{bytes_eq};
+ghost use Rattle.merc_base.specs.Names.{HoldsFixed};
 ghost use Rattle.merc_terms.specs.Items.{IsRefusal};
 ghost use Rattle.merc_check.specs.Accepted.{AreGraded};
 ghost use Rattle.merc_check.specs.Checked.{IsAccepted, IsGoal, Refuses, RefusesQuery};
@@ -36,7 +39,7 @@ impl Model for Checked {
 
     ghost use Rattle.merc_grading.specs.Fitting.{AreToldApart};
 
-    ghost view = { λ c. record { items = c.items; module = c.module; trees = c.trees } };
+    ghost view = { λ c. record { items = c.items; «module» = c.module; trees = c.trees } };
 
     ghost invariant = { λ c. AreToldApart c.module.types };
 }
@@ -66,7 +69,7 @@ impl Checked {
 }
 
 /// Checks a module. Names that the text and the library spell are added behind those in the table, also where the text
-/// is refused.
+/// is refused. As every table does, it holds the fixed names first, and each text once.
 ///
 /// # Errors
 ///
@@ -75,7 +78,9 @@ impl Checked {
 /// constructors (rule 7), then types that do not agree (rule 8), then modes (rules 10, 11 and 12), then categories
 /// (rules 13 and 14). `NoMemory` says that memory was refused.
 pub fn check(alloc: Global, text: &Text, names: &mut Names) -> Result<Checked, Fault>
-    requires { length text.now ≤ 300000000 }
+    requires length { length text.now ≤ 300000000 }
+    requires fixed { HoldsFixed names.old }
+    requires distinct { IsDistinct bytes_eq names.old }
     ensures accepted { IfOk result (λ checked. IsAccepted names.old names.new text.now checked.items checked.module) }
     ensures graded { IfOk result (λ checked. AreGraded names.new checked.module checked.trees) }
     ensures refused { IfErr result (λ fault. IsRefusal (Refuses names.old text.now) fault) }

@@ -123,7 +123,7 @@ module _ (names : List (List ℕ)) (those : List Entry) where
   all_declared_fit = all_flat HasModes (pred_decls names those) (λ entry. declared_fit entry.unit entry.span entry.item) those
 
 pub module_modes_fit : ModuleModesFit
-module_modes_fit before after text terms found fixed distinct is =
+module_modes_fit before after text terms found is =
     let all = entries is.is.items terms in
     subst (λ (known : Module). ModesFit known.preds) (sym is.is.same)
     (all_joined HasModes (flat_map (pred_decls after (own_entries all)) (own_entries all)) (flat_map (pred_decls after (unit_items all)) (unit_items all))

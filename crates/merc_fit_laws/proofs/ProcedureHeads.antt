@@ -46,5 +46,5 @@ module _ (known : Module) (form : Clause → Node) where
 
 pub bodies_are_there : BodiesAreThere
 bodies_are_there before after text terms found form fixed distinct is typed none =
-    procedures_have_bodies found form (module_modes_fit before after text terms found fixed distinct is)
+    procedures_have_bodies found form (module_modes_fit before after text terms found is)
     (bodies_typed found form typed found.preds (predicates_have_types before after text terms found fixed distinct is)) none

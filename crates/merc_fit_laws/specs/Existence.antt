@@ -19,8 +19,7 @@ use Rattle.merc_fit_laws.specs.ProcedureBodies.{AreBodiesOf, IsAskedBody}
 
 -- Each mode of a module's predicates has a place for each argument.
 abbrev pub ModuleModesFit : Type 0
-ModuleModesFit = (before after : List (List ℕ)) (text : List ℕ) (terms : List Term) (found : Module) → HoldsFixed before → IsDistinct bytes_eq before
-    → IsModule before after text terms found → ModesFit found.preds
+ModuleModesFit = (before after : List (List ℕ)) (text : List ℕ) (terms : List Term) (found : Module) → IsModule before after text terms found → ModesFit found.preds
 
 -- Where each clause of a module is typed, and the procedures have no fault of order, each procedure has a body.
 abbrev pub BodiesAreThere : Type 0
