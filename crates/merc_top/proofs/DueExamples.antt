@@ -35,6 +35,7 @@ use Rattle.merc_check.specs.Accepted.{AreGraded}
 use Rattle.merc_check.specs.Checked.{IsAccepted, Refuses}
 use Rattle.merc_check.specs.Checked.Refuses.{no_module}
 use Rattle.merc_check.specs.Checked.RefusesQuery.{no_term}
+use Rattle.merc_base.proofs.NameExamples.{HoldsFixed-fixed}
 use Rattle.merc_check.proofs.CheckedLaws.{Refuses-excludes}
 use Rattle.merc_first_form.specs.Reading.{source_of, goal_of}
 use Rattle.merc_top.specs.declared.words.Request.TheVariants.{Solve, Check}
@@ -93,7 +94,7 @@ lone_byte-refused = no_module bad_token (no_items bad_token (bad_tokens bad_toke
 -- so no module
 pub AreRead-counterexample : (goal : List ℕ) (names : List (List ℕ)) (items : List Term) (term : Term) → AreRead (255 ∷ []) goal names items term → ⊥
 AreRead-counterexample _ names items term read =
-    Refuses-excludes fixed_names (255 ∷ []) fixed_names-distinct read.file_names bad_token items read.found lone_byte-refused read.module_is
+    Refuses-excludes fixed_names (255 ∷ []) fixed_names-distinct HoldsFixed-fixed read.file_names bad_token items read.found lone_byte-refused read.module_is
 
 lone_byte-refused_goal : (names : List (List ℕ)) → RefusesGoalText names (255 ∷ []) bad_token
 unfolding goal_limit

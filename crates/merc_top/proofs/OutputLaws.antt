@@ -12,6 +12,7 @@ use Rattle.merc_tree.specs.declared.declarations.Module.{Module}
 use Rattle.merc_graded_tree.specs.Nodes.{Node}
 use Rattle.merc_check.specs.Accepted.{AreGraded}
 use Rattle.merc_check.specs.Checked.{IsAccepted, IsGoal, Refuses, RefusesQuery}
+use Rattle.merc_base.proofs.NameExamples.{HoldsFixed-fixed}
 use Rattle.merc_check.proofs.CheckedLaws.{AreGraded-unique, IsAccepted-unique, IsGoal-unique, IsModule-distinct, Refuses-excludes, Refuses-unique, RefusesQuery-excludes, RefusesQuery-unique}
 use Rattle.merc_first_form.specs.declared.syntax.Conjunct.{Conjunct}
 use Rattle.merc_first_form.specs.declared.syntax.Source.{Source}
@@ -100,7 +101,7 @@ AreRead-unique file goal names names' items items' term term' read also =
 
 -- a file that is accepted breaks no rule
 module_not_broken : (file : List ℕ) (refusal : Refusal) (names : List (List ℕ)) (items : List Term) (found : Module) → Refuses fixed_names file refusal → IsAccepted fixed_names names file items found → ⊥
-module_not_broken file refusal names items found refuses is = Refuses-excludes fixed_names file fixed_names-distinct names refusal items found refuses is
+module_not_broken file refusal names items found refuses is = Refuses-excludes fixed_names file fixed_names-distinct HoldsFixed-fixed names refusal items found refuses is
 
 -- nor does a goal that is accepted behind it
 goal_not_broken : (file goal : List ℕ) (names names' : List (List ℕ)) (items items' : List Term) (found : Module) (refusal : Refusal) (term : Term)
@@ -124,7 +125,7 @@ same_line name one other lines lines' same is is' = is ∙ subst (λ (refusal : 
 cases-unique : (name file goal : List ℕ) (lines lines' : List (List ℕ)) (status status' : ℕ)
     → Cases name file goal lines status → Cases name file goal lines' status' → Agree lines status lines' status'
 cases-unique name file goal lines lines' status status' (broken_module one refuses is four) (broken_module other refuses' is' four') =
-    (same_line name one other lines lines' (Refuses-unique fixed_names file fixed_names-distinct one other refuses refuses') is is', both four four')
+    (same_line name one other lines lines' (Refuses-unique fixed_names file fixed_names-distinct HoldsFixed-fixed one other refuses refuses') is is', both four four')
 cases-unique name file goal lines lines' status status' (broken_module one refuses is four) (broken_goal names items found other module_is refuses' is' five) =
     absurd (module_not_broken file one names items found refuses module_is)
 cases-unique name file goal lines lines' status status' (broken_module one refuses is four) (both_read names items term read due) =
@@ -156,7 +157,7 @@ IsDue-unique name file goal lines lines' status status' due also =
 pub IsCheckDue-unique : (name file : List ℕ) (lines lines' : List (List ℕ)) (status status' : ℕ)
     → IsCheckDue name file lines status → IsCheckDue name file lines' status' → Agree lines status lines' status'
 IsCheckDue-unique name file _ _ _ _ (check_refused one refuses) (check_refused other refuses') =
-    (ap (λ (refusal : Refusal). refusal_line name refusal ∷ []) (Refuses-unique fixed_names file fixed_names-distinct one other refuses refuses'), refl)
+    (ap (λ (refusal : Refusal). refusal_line name refusal ∷ []) (Refuses-unique fixed_names file fixed_names-distinct HoldsFixed-fixed one other refuses refuses'), refl)
 IsCheckDue-unique name file _ _ _ _ (check_refused refusal refuses) (check_accepted names items found trees is graded) =
     absurd (module_not_broken file refusal names items found refuses is)
 IsCheckDue-unique name file _ _ _ _ (check_accepted names items found trees is graded) (check_refused refusal refuses) =
@@ -164,7 +165,7 @@ IsCheckDue-unique name file _ _ _ _ (check_accepted names items found trees is g
 IsCheckDue-unique name file _ _ _ _ (check_accepted names items found trees is graded) (check_accepted names' items' found' trees' is' graded') =
     let same = IsAccepted-unique fixed_names file fixed_names-distinct names names' items items' found found' is is' in
     let also = goal_moved AreGraded names names' found found' trees' same.0 same.2 graded' in
-    let one_trees = AreGraded-unique fixed_names file fixed_names-distinct names items found is trees trees' graded also in (
+    let one_trees = AreGraded-unique fixed_names file fixed_names-distinct HoldsFixed-fixed names items found is trees trees' graded also in (
       ap (λ (some : List Node). check_lines names found some) one_trees
           ∙ ap (λ (some : List (List ℕ)). check_lines some found trees') same.0
           ∙ ap (λ (some : Module). check_lines names' some trees') same.2,

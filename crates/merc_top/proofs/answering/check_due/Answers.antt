@@ -1,7 +1,9 @@
 -- A file that breaks a rule is refused by that rule; else its procedures have the lines.
-use Rattle.std.proofs.Common.{◌≡◌, ◌≤◌, ◌∙◌, arith, subst, [], ◌∷◌, refl, List, ℕ, length}
+use Rattle.std.proofs.Common.{◌≡◌, ◌≤◌, ◌∙◌, arith, subst, sym, [], ◌∷◌, refl, List, ℕ, length}
+use Rattle.std.specs.List.{IsDistinct}
+use Rattle.std.specs.Str.{bytes_eq}
 use Rattle.std.proofs.lemmas.Result.{IfOk-weaker}
-use Rattle.merc_base.specs.Names.{fixed_names}
+use Rattle.merc_base.specs.Names.{HoldsFixed, fixed_names}
 use Rattle.merc_base.specs.declared.refusal.Fault.{Fault}
 use Rattle.merc_base.proofs.NameLaws.{fixed_names-distinct}
 use Rattle.merc_tree.specs.declared.declarations.Module.{Module}
@@ -9,6 +11,7 @@ use Rattle.merc_graded_tree.specs.Nodes.{Node}
 use Rattle.merc_grading.specs.Faults.{procedures_of}
 use Rattle.merc_terms.specs.Items.{IsRefusal}
 use Rattle.merc_check.specs.Checked.{IsAccepted, Refuses}
+use Rattle.merc_base.proofs.NameExamples.{HoldsFixed-fixed}
 use Rattle.merc_check.proofs.CheckedLaws.{AreGraded-count}
 use Rattle.merc_top.specs.Loading.{file_limit}
 use Rattle.merc_top.specs.Statuses.{accepted_status, module_status}
@@ -18,9 +21,15 @@ use Rattle.merc_top.specs.Output.IsCheckDue.{check_refused, check_accepted}
 use Rattle.merc_top.proofs.Dues.{check_due_by, line_by}
 use Rattle.merc_top.proofs.answering.check_due.Goals as goal
 
-pub check-requires : goal.check-requires
+pub check-requires-clause-length : goal.check-requires-clause-length
 unfolding file_limit
-check-requires c = let within : length c.args.text.now ≤ 1048576 = c.requires in omega (arith, within)
+check-requires-clause-length c = let within : length c.args.text.now ≤ 1048576 = c.requires in omega (arith, within)
+
+pub check-requires-clause-fixed : goal.check-requires-clause-fixed
+check-requires-clause-fixed c = subst (λ (names : List (List ℕ)). HoldsFixed names) (sym c.new-names.ensures) HoldsFixed-fixed
+
+pub check-requires-clause-distinct : goal.check-requires-clause-distinct
+check-requires-clause-distinct c = subst (λ (names : List (List ℕ)). IsDistinct bytes_eq names) (sym c.new-names.ensures) fixed_names-distinct
 
 pub returns-in-Err-Refused : goal.returns-in-Err-Refused
 returns-in-Err-Refused c =
@@ -40,7 +49,7 @@ returns-in-Ok c =
     let is =
     subst (λ (before : List (List ℕ)). IsAccepted before names c.args.text.now checked.items checked.module) c.new-names.ensures c.in-Ok.ensures.accepted in
     let graded = c.in-Ok.ensures.graded in
-    let count = AreGraded-count fixed_names c.args.text.now fixed_names-distinct names checked.items checked.module is checked.trees graded in
+    let count = AreGraded-count fixed_names c.args.text.now fixed_names-distinct HoldsFixed-fixed names checked.items checked.module is checked.trees graded in
     let lines = c.in_ok-check_lines-in-Ok.field-0 in
     let said : length (procedures_of checked.module.preds) ≤ length checked.trees → lines ≡ check_lines names checked.module checked.trees =
     subst (λ (found : Module). length (procedures_of found.preds) ≤ length checked.trees → lines ≡ check_lines names found checked.trees) c.module.ensures

@@ -1,5 +1,10 @@
 -- A file or a goal that breaks a rule is refused by that rule.
-use Rattle.std.proofs.Common.{◌≤◌, ◌∙◌, arith, subst, codes, [], ◌∷◌, refl, List, ℕ, length}
+use Rattle.std.proofs.Common.{◌≤◌, ◌∙◌, arith, subst, sym, codes, [], ◌∷◌, refl, List, ℕ, length}
+use Rattle.std.specs.List.{IsDistinct}
+use Rattle.std.specs.Str.{bytes_eq}
+use Rattle.merc_base.proofs.NameLaws.{fixed_names-distinct}
+use Rattle.merc_base.proofs.NameExamples.{HoldsFixed-fixed}
+use Rattle.merc_base.specs.Names.{HoldsFixed}
 use Rattle.std.proofs.lemmas.Result.{IfOk-weaker}
 use Rattle.merc_base.specs.declared.refusal.Fault.{Fault}
 use Rattle.merc_terms.specs.Items.{IsRefusal}
@@ -11,9 +16,15 @@ use Rattle.merc_top.specs.Output.IsDue.{module_refused, goal_refused}
 use Rattle.merc_top.proofs.Dues.{due_by, line_by}
 use Rattle.merc_top.proofs.answering.text_due.Goals as goal
 
-pub check-requires : goal.check-requires
+pub check-requires-clause-length : goal.check-requires-clause-length
 unfolding file_limit
-check-requires c = let within : length c.args.text.now ≤ 1048576 = c.requires in omega (arith, within)
+check-requires-clause-length c = let within : length c.args.text.now ≤ 1048576 = c.requires in omega (arith, within)
+
+pub check-requires-clause-fixed : goal.check-requires-clause-fixed
+check-requires-clause-fixed c = subst (λ (names : List (List ℕ)). HoldsFixed names) (sym c.new-names.ensures) HoldsFixed-fixed
+
+pub check-requires-clause-distinct : goal.check-requires-clause-distinct
+check-requires-clause-distinct c = subst (λ (names : List (List ℕ)). IsDistinct bytes_eq names) (sym c.new-names.ensures) fixed_names-distinct
 
 pub returns-in-Err-Refused : goal.returns-in-Err-Refused
 returns-in-Err-Refused c =
