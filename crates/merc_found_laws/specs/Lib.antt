@@ -1,0 +1,3 @@
+pub mod OrderedBodies
+pub mod OrderedBodiesExamples
+pub mod Laws
