@@ -3,3 +3,7 @@ pub mod Regrouped
 pub mod Sights
 pub mod GoodSwitches
 pub mod FoundGood
+pub mod BeginningGuards
+pub mod FoundGuards
+pub mod SpeltGuards
+pub mod FoundBasics
