@@ -7,3 +7,6 @@ pub mod BeginningGuards
 pub mod FoundGuards
 pub mod SpeltGuards
 pub mod FoundBasics
+pub mod GradedSights
+pub mod GradedGood
+pub mod Bodies
