@@ -10,3 +10,6 @@ pub mod FoundBasics
 pub mod GradedSights
 pub mod GradedGood
 pub mod Bodies
+pub mod Literals
+pub mod OrderedGoals
+pub mod Programs

@@ -34,10 +34,10 @@ abbrev IsOrdered : Body → Type 0
 IsOrdered body = IsOrderedIn (Input ∷ Output ∷ []) body
 
 -- `Y = X`, which has no category yet
-abbrev body : Body
+abbrev pub body : Body
 body = body_of (Assign 1 0) (1 ∷ [])
 
-is_ordered : IsOrdered body
+pub is_ordered : IsOrdered body
 is_ordered = record {
   arity = refl;
   head = (refl, (refl, tt));

@@ -1,4 +1,5 @@
 //! What trees keep when they are given their switches, and then their categories.
+ghost use Rattle.merc_found_laws.specs.ProgramLaws.{ProcedureIsOrdered, ProgramBecomesGood, QueryIsOrdered};
 ghost use Rattle.merc_found_laws.specs.Laws.{
   FoundEnds,
   FoundHasGuards,
@@ -58,4 +59,17 @@ pub fn categories_keep_goals_good()
 pub fn ordered_bodies_become_good()
     ensures procedure { ProcedureBecomesGood }
     ensures query { QueryBecomesGood }
+{}
+
+/// The order of a typed goal is such a body, of a predicate in a mode or of a goal that is asked: there are types for the
+/// fresh variables that it was given.
+pub fn orders_are_bodies()
+    ensures procedure { ProcedureIsOrdered }
+    ensures query { QueryIsOrdered }
+{}
+
+/// A module whose types are good, whose procedures have ordered bodies and no fault of categories is a good program, if the
+/// categories that library units declare allow those of their bodies.
+pub fn modules_become_good()
+    ensures { ProgramBecomesGood }
 {}
