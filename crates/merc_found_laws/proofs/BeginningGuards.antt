@@ -34,7 +34,7 @@ basic_guards (Call procedure arguments) x c h = no_symbol h
 basic_guards (Wait variable conjunct) x c h = no_symbol h
 basic_guards (Signal variable conjunct) x c h = no_symbol h
 
-either : {A B C D : Type 0} → (A → C) → (B → D) → A ⊎ B → C ⊎ D
+pub either : {A B C D : Type 0} → (A → C) → (B → D) → A ⊎ B → C ⊎ D
 either f g (inl a) = inl (f a)
 either f g (inr b) = inr (g b)
 

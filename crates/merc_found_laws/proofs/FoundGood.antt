@@ -1,5 +1,5 @@
 -- A good goal is good with its switches.
-use Rattle.std.proofs.Common.{◌≡◌, inl, inr, ℕ, Bool, true, ◌||◌, List, [], length, refl, ap, sym, subst, ◌∙◌}
+use Rattle.std.proofs.Common.{◌≡◌, inl, inr, ℕ, true, List, [], length, refl, ap, sym, subst, ◌∙◌}
 use mathlib.Core.Path.{fun_ext}
 use Rattle.merc_base.specs.declared.place.Span.{Span}
 use Rattle.merc_tree.specs.Types.{TypeExpr}
@@ -12,11 +12,11 @@ use Rattle.merc_order.specs.Bound.{Bound, Holds, with, among}
 use Rattle.merc_grading.specs.Switches.{split_variables, bound_behind, find, find_goal, find_all, find_each}
 use Rattle.merc_switch.proofs.FoundVariables.{in_found}
 use Rattle.merc_order_laws.specs.Bindings.{Variables, AreFree, ArmBinds}
-use Rattle.merc_order_laws.specs.GoodTree.{node_ends, GoodNode, GoodGoal, GoodNodes, GoodDisjuncts, DisjunctsBind, behind_nodes}
+use Rattle.merc_order_laws.specs.GoodTree.{GoodNode, GoodGoal, GoodNodes, GoodDisjuncts, DisjunctsBind, behind_nodes}
 use Rattle.merc_order_laws.proofs.Facts.{or_left, or_right, or_cases, or_same}
 use Rattle.merc_found_laws.proofs.Regrouped.{found_ends, found_outputs}
 use Rattle.merc_found_laws.proofs.Sights.{Sight, sight, same_sight, decided, negated, owned, joined, in_front, same_behind}
-use Rattle.merc_found_laws.proofs.GoodSwitches.{Fits, AllFit, regrouped_good}
+use Rattle.merc_found_laws.proofs.GoodSwitches.{AllFit, regrouped_good}
 
 held_more : (bound outside a : Variables) → Holds bound outside → Holds bound (with outside a)
 held_more bound outside a held v h = or_left (outside v) (a v) (held v h)

@@ -1,5 +1,5 @@
 -- The switches that are found are guarded.
-use Rattle.std.proofs.Common.{◌≡◌, ℕ, zero, suc, List, [], ◌∷◌, Option, Some, None, length, refl}
+use Rattle.std.proofs.Common.{ℕ, zero, suc, List, [], ◌∷◌, Option, Some, None, length}
 use Rattle.std.specs.List.{AllByRecursion}
 use Rattle.merc_base.specs.declared.place.Span.{Span}
 use Rattle.merc_tree.specs.Types.{TypeExpr}
@@ -7,7 +7,7 @@ use Rattle.merc_tree.specs.declared.declarations.TypeDef.{TypeDef}
 use Rattle.merc_goal_tree.specs.declared.goal.Symbol.{Symbol}
 use Rattle.merc_graded_tree.specs.Nodes.{Node, node, Goal, Basic, Conjunction, Disjunction, Switch, Conditional, Negation, Quantified, Nodes, no_nodes, more_nodes, nodes_of, list_of}
 use Rattle.merc_order.specs.Bound.{Bound}
-use Rattle.merc_grading.specs.Switches.{Group, split_variables, symbol_at, choice, grouped, switched, arms_of_groups, arm_body, regrouped, bound_behind, find, find_goal, find_all, find_each}
+use Rattle.merc_grading.specs.Switches.{Group, split_variables, choice, grouped, switched, arms_of_groups, arm_body, regrouped, bound_behind, find, find_goal, find_all, find_each}
 use Rattle.merc_switch.proofs.GroupLaws.{AllIn, grouped_all, AreApart, grouped_apart}
 use Rattle.merc_category_laws.specs.Guarding.{Guards, GuardsGoal, EachGuards, EachArmGuards, HasGuards, GoalHasGuards, AllHaveGuards, ArmsHaveGuards}
 use Rattle.merc_found_laws.proofs.Groups.{Begin, GroupsBegin, grouped_begin, symbols_apart}

@@ -1,5 +1,5 @@
 -- A disjunction of good disjuncts is good as a switch.
-use Rattle.std.proofs.Common.{◌≡◌, ◌⊎◌, inl, inr, ℕ, zero, suc, Bool, true, false, ◌==◌, ◌||◌, ◌&&◌, List, [], ◌∷◌, Option, Some, None, filter, refl, ap, sym, subst, ◌∙◌}
+use Rattle.std.proofs.Common.{◌≡◌, inl, inr, ℕ, zero, suc, Bool, true, false, ◌==◌, ◌||◌, ◌&&◌, List, [], ◌∷◌, Option, Some, None, filter, refl, ap, sym, subst, ◌∙◌}
 use Rattle.std.specs.List.{AllByRecursion}
 use Rattle.std.proofs.lemmas.Bool.Decides.{Decides-eqb}
 use mathlib.Core.Path.{fun_ext}
@@ -8,14 +8,14 @@ use Rattle.merc_tree.specs.Types.{TypeExpr}
 use Rattle.merc_tree.specs.declared.declarations.ModeDecl.{ModeDecl}
 use Rattle.merc_tree.specs.declared.declarations.TypeDef.{TypeDef}
 use Rattle.merc_graded_tree.specs.Nodes.{Node, node, Goal, Disjunction, Switch, nodes_of, outputs_of}
-use Rattle.merc_graded_tree.specs.Variables.{in_goal, in_node, in_nodes}
+use Rattle.merc_graded_tree.specs.Variables.{in_node, in_nodes}
 use Rattle.merc_order.specs.Bound.{Bound, Holds, with, among}
 use Rattle.merc_grading.specs.Switches.{Group, choice, grouped, switched, arms_of_groups, arm_body, regrouped}
 use Rattle.merc_grading.proofs.Choosing.{chosen}
 use Rattle.merc_switch.proofs.GroupLaws.{AllIn, grouped_all}
-use Rattle.merc_order_laws.specs.Bindings.{Variables, AreFree, Binds, ArmBinds}
-use Rattle.merc_order_laws.specs.GoodTree.{node_ends, goal_ends, some_node_ends, GoodNode, GoodGoal, GoodDisjuncts, GoodArms, DisjunctsBind, ArmsBind}
-use Rattle.merc_order_laws.proofs.Facts.{clash, or_left, or_right, or_cases, or_same, and_left, and_right, same_bool, among_filter, free_filter}
+use Rattle.merc_order_laws.specs.Bindings.{Variables, AreFree, ArmBinds}
+use Rattle.merc_order_laws.specs.GoodTree.{node_ends, some_node_ends, GoodNode, GoodGoal, GoodDisjuncts, GoodArms, DisjunctsBind, ArmsBind}
+use Rattle.merc_order_laws.proofs.Facts.{clash, or_left, or_right, or_cases, and_right, same_bool, among_filter, free_filter}
 use Rattle.merc_found_laws.proofs.Regrouped.{StandsFor, regrouped_stands}
 
 or_false : (a : Bool) → (a || false) ≡ true → a ≡ true

@@ -1,5 +1,5 @@
 -- A good goal is good with its categories, and its switches stay guarded.
-use Rattle.std.proofs.Common.{◌≡◌, ◌⊎◌, inl, inr, ℕ, Bool, false, List, [], ◌∷◌, refl, ap, sym, subst, ◌∙◌}
+use Rattle.std.proofs.Common.{◌≡◌, ℕ, List, [], ◌∷◌, refl, ap, sym, subst, ◌∙◌}
 use mathlib.Core.Path.{fun_ext}
 use Rattle.merc_tree.specs.Types.{TypeExpr}
 use Rattle.merc_tree.specs.declared.declarations.ModeDecl.{ModeDecl}
@@ -15,11 +15,8 @@ use Rattle.merc_order_laws.specs.Bindings.{Variables, ArmBinds}
 use Rattle.merc_order_laws.specs.GoodTree.{node_ends, GoodNode, GoodGoal, GoodNodes, GoodDisjuncts, GoodArms, DisjunctsBind, ArmsBind, behind_nodes}
 use Rattle.merc_category_laws.specs.Guarding.{Guards, GuardsGoal, OneGuards, EachGuards, EachArmGuards, HasGuards, GoalHasGuards, AllHaveGuards, ArmsHaveGuards}
 use Rattle.merc_found_laws.proofs.Sights.{Sight, sight, same_sight, decided, negated, owned, joined, in_front, same_behind}
+use Rattle.merc_found_laws.proofs.BeginningGuards.{either}
 use Rattle.merc_found_laws.proofs.GradedSights.{graded_outputs, graded_ends, in_graded, in_graded_goal, in_graded_all, in_graded_each}
-
-either : {A B C D : Type 0} → (A → C) → (B → D) → A ⊎ B → C ⊎ D
-either f g (inl a) = inl (f a)
-either f g (inr b) = inr (g b)
 
 module _ (declared : List TypeDef) (types : ℕ → TypeExpr) (modes : ℕ → List ModeDecl) where
   abbrev with_all : Known → Node → Node

@@ -9,6 +9,7 @@ pub mod SpeltGuards
 pub mod FoundBasics
 pub mod GradedSights
 pub mod GradedGood
+pub mod Numbers
 pub mod Bodies
 pub mod Literals
 pub mod OrderedGoals

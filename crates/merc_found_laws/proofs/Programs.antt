@@ -5,7 +5,6 @@ use Rattle.merc_base.specs.FirstFault.{first_of_faults}
 use Rattle.merc_tree.specs.declared.declarations.ModeDecl.{ModeDecl}
 use Rattle.merc_tree.specs.declared.declarations.Module.{Module}
 use Rattle.merc_graded_tree.specs.Nodes.{Node}
-use Rattle.merc_order.specs.Procedures.{bound_at}
 use Rattle.merc_grading.specs.Grading.{category_at}
 use Rattle.merc_grading.specs.Faults.{allows, own_faults, mode_faults, parallel_faults, Procedure, Body, procedures_of, procedure_faults, all_finished}
 use Rattle.merc_category_laws.specs.GoodPrograms.{AreGoodProcedures}

@@ -1,5 +1,5 @@
 -- A goal with its switches: its variables, and whether its end can be reached.
-use Rattle.std.proofs.Common.{◌≡◌, ◌<◌, ℕ, zero, suc, Bool, true, false, ◌==◌, ◌||◌, ◌&&◌, List, [], ◌∷◌, length, Option, Some, None, refl, ap, sym, ◌∙◌}
+use Rattle.std.proofs.Common.{◌≡◌, ℕ, zero, suc, Bool, true, false, ◌==◌, ◌||◌, ◌&&◌, List, [], ◌∷◌, length, Option, Some, None, refl, ap, sym, ◌∙◌}
 use Rattle.std.proofs.lemmas.Bool.Decides.{Decides-eqb}
 use Rattle.merc_base.specs.declared.place.Span.{Span}
 use Rattle.merc_tree.specs.Types.{TypeExpr}
@@ -15,7 +15,7 @@ use Rattle.merc_switch.proofs.FoundVariables.{split_occurs}
 use Rattle.merc_switch.proofs.GroupLaws.{in_groups, in_grouped}
 use Rattle.merc_order_laws.specs.GoodTree.{node_ends, goal_ends, all_nodes_end, some_node_ends, some_arm_ends}
 use Rattle.merc_order_laws.proofs.Facts.{or_left, or_same, and_same}
-use Rattle.merc_found_laws.proofs.Groups.{HaveSymbols, groups_end, ends_grouped}
+use Rattle.merc_found_laws.proofs.Groups.{groups_end, ends_grouped}
 
 right_false : (b : Bool) → b ≡ (b || false)
 right_false true = refl

@@ -12,7 +12,7 @@ use Rattle.merc_goal_tree.specs.declared.goal.Symbol.TheVariants.{Integer, Text}
 use Rattle.merc_graded_tree.specs.declared.basic.BasicGoal.{BasicGoal}
 use Rattle.merc_graded_tree.specs.declared.basic.BasicGoal.TheVariants.{True, Assign, Build, Raise, Call}
 use Rattle.merc_graded_tree.specs.Nodes.{Node, node, Basic, Switch, more_arms, no_arms}
-use Rattle.merc_order.specs.Bound.{nothing, among}
+use Rattle.merc_order.specs.Bound.{among}
 use Rattle.merc_order.specs.Procedures.{bound_at}
 use Rattle.merc_grading.specs.Faults.{Body}
 use Rattle.merc_category_laws.specs.GoodProgramsExamples.{example, same}
