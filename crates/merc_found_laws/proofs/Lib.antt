@@ -1,0 +1,16 @@
+pub mod Groups
+pub mod Regrouped
+pub mod Sights
+pub mod GoodSwitches
+pub mod FoundGood
+pub mod BeginningGuards
+pub mod FoundGuards
+pub mod SpeltGuards
+pub mod FoundBasics
+pub mod GradedSights
+pub mod GradedGood
+pub mod Numbers
+pub mod Bodies
+pub mod Literals
+pub mod OrderedGoals
+pub mod Programs
