@@ -1,22 +1,21 @@
 -- What becomes of a goal depends on what is bound of its own variables alone.
 use Rattle.std.specs.Prelude.{◌≡◌, ℕ, zero, suc, ◌+◌, ◌==◌, Bool, true, false, not, ◌&&◌, ◌||◌, List, [], ◌∷◌, ◌++◌, length, Option, Some, None, refl, if◌then◌else◌}
-use Rattle.std.specs.List.{list_all, list_any, filter}
-use Rattle.std.proofs.Common.{◌∙◌, ap, sym, subst}
+use Rattle.std.specs.List.{list_all, filter}
+use Rattle.std.proofs.Common.{◌∙◌, ap, subst}
 use Rattle.std.proofs.lemmas.Bool.Decides.{nat_tests}
 use Rattle.std.proofs.Common.{arith}
 use Rattle.merc_base.specs.declared.place.Span.{Span}
-use Rattle.merc_base.specs.declared.refusal.Refusal.{Refusal}
 use Rattle.merc_tree.specs.declared.declarations.Arg.{Arg}
 use Rattle.merc_tree.specs.declared.declarations.Arg.TheVariants.{Input, Output}
 use Rattle.merc_tree.specs.declared.declarations.ModeDecl.{ModeDecl}
 use Rattle.merc_goal_tree.specs.declared.goal.SimpleGoal.{SimpleGoal}
 use Rattle.merc_goal_tree.specs.declared.goal.SimpleGoal.TheVariants.{True, Fail, Same, Shape, Arithmetic, Compare, Raise, Call}
-use Rattle.merc_goal_tree.specs.Nodes.{Node, Nodes, Simple, Conjunction, Parallel, Disjunction, Conditional, Negation, Quantified, no_nodes, more_nodes, span_of}
+use Rattle.merc_goal_tree.specs.Nodes.{Node, Nodes, Simple, Conjunction, Parallel, Disjunction, Conditional, Negation, Quantified, no_nodes, more_nodes}
 use Rattle.merc_goal_tree.specs.Variables.{variables_of, variables, all_variables}
 use Rattle.merc_order.specs.Bound.{Bound, with, among, are_bound, each_once}
 use Rattle.merc_order.specs.CallModes.{inputs_of, wider, taken_from, tested, call_tested}
-use Rattle.merc_order.specs.Moves.{Move, Next, next, behind, if_ready_next, fault_in, settled_next, settled, needed, beside_next, beside, each_from}
-use Rattle.merc_order.specs.Order.{Arm, differ_on, outside, outputs, outputs_of, binds, arms, decision_arms, binds_inside, agree, same_from, called_from, simple_from, from, moves}
+use Rattle.merc_order.specs.Moves.{Move, Next, next, behind, if_ready_next, settled_next, settled, needed, beside_next, beside, each_from}
+use Rattle.merc_order.specs.Order.{Arm, differ_on, outside, outputs, outputs_of, binds, arms, decision_arms, binds_inside, agree, called_from, simple_from, from, moves}
 use Rattle.merc_order.specs.Ordered.{Ordered, Ordereds, Outcome, Ready, Stuck, is_ready, Outcomes, AllReady, OneStuck, then_all, and_all, if_ready, if_all_ready}
 
 -- the same of these variables is bound

@@ -1,11 +1,10 @@
 -- One goal further and one goal back, and the first place of new variables.
-use Rattle.std.specs.Prelude.{◌≡◌, ◌≤◌, ◌<◌, ◌+◌, ◌-◌, ◌==◌, ◌||◌, ℕ, zero, suc, Bool, true, false, List, [], ◌∷◌, ◌++◌, length, take, drop, slice_get, Option, Some, None, refl, if◌then◌else◌}
+use Rattle.std.specs.Prelude.{◌≡◌, ◌≤◌, ◌<◌, ◌+◌, ◌-◌, ◌==◌, ◌||◌, ℕ, zero, suc, Bool, true, false, List, [], ◌∷◌, length, take, drop, slice_get, Option, Some, None, refl, if◌then◌else◌}
 use Rattle.std.specs.List.{slice_index_or}
 use Rattle.std.specs.Option.{option_to_list}
 use Rattle.std.proofs.Common.{◌∙◌, ap, sym, subst, arith}
 use Rattle.std.proofs.lemmas.Bool.{eqb-true}
 use Rattle.std.proofs.lemmas.List.{length-append}
-use Rattle.merc_tree.specs.declared.declarations.ModeDecl.{ModeDecl}
 use Rattle.merc_goal_tree.specs.Nodes.{Node, nodes_of}
 use Rattle.merc_goal_tree.specs.Parts.{parts_of, all_parts}
 use Rattle.merc_goal_tree.specs.Variables.{variables}
@@ -20,7 +19,6 @@ use Rattle.merc_readiness.proofs.Bounds.{among-append, or_false}
 use Rattle.merc_readiness.proofs.Marking.{parts_length}
 use Rattle.merc_modes.specs.Outputs.{kept}
 use Rattle.merc_modes.specs.Positions.{IsAt, IsNext, IsFirst, StaysPlaced, variables_before}
-use Rattle.merc_modes.specs.declared.positions.Position.{Position}
 use Rattle.merc_modes.proofs.Outputs.{drop_step}
 use Rattle.merc_modes.proofs.Resuming.{all_parts_cut, drop_next, known_at, variables_next, among_less, none_taken, none_dropped}
 use Rattle.merc_modes.proofs.Walked.{known_next}

@@ -10,7 +10,6 @@ use Rattle.merc_goal_tree.specs.Variables.{variables, all_variables}
 use Rattle.merc_order.specs.Bound.{Bound, Holds, among}
 use Rattle.merc_order.specs.Marks.{Marked, no_marks, more_marks, unless, kept, move_of, left, IsSound, SoundLeft}
 use Rattle.merc_order.specs.Moves.{Move}
-use Rattle.merc_order.specs.Order.{from}
 use Rattle.merc_order.specs.Ordered.{is_ready}
 use Rattle.merc_order.specs.Ways.{AllStuck}
 use Rattle.merc_order.proofs.Marks.{sound-more, left-more}

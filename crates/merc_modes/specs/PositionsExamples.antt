@@ -1,5 +1,5 @@
 -- Where goals stand in `true, X = Y, true`.
-use Rattle.std.specs.Prelude.{◌≡◌, ℕ, true, List, [], ◌∷◌, refl}
+use Rattle.std.specs.Prelude.{◌≡◌, List, [], ◌∷◌, refl}
 use Rattle.std.proofs.Common.{arith}
 use Rattle.merc_goal_tree.specs.Nodes.{Node, no_nodes}
 use Rattle.merc_order.specs.Bound.{among}

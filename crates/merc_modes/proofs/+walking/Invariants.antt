@@ -1,4 +1,4 @@
-use Rattle.std.proofs.Common.{◌≡◌, ◌+◌, ◌*◌, ◌-◌, ◌≤◌, ℕ, [], drop, length, reverse, false}
+use Rattle.std.proofs.Common.{◌≡◌, ◌+◌, ◌*◌, ◌-◌, ◌≤◌, ℕ, [], drop, length, reverse}
 use Rattle.merc_goal_tree.specs.Nodes.{nodes_of}
 use Rattle.merc_goal_tree.specs.Parts.{parts_of, all_parts}
 use Rattle.merc_goal_tree.specs.Variables.{variables, all_variables}
@@ -15,7 +15,7 @@ use Rattle.merc_modes.specs.Conjuncts.{Passing, Amid}
 use Rattle.merc_modes.specs.Positions.{IsAt, IsPlaced}
 use Rattle.merc_readiness.specs.Facts.{subgoals, all_subgoals}
 use Rattle.merc_readiness.specs.Outside.{IsStretch}
-use Rattle.merc_readiness.specs.Sweeps.{AreKnownFrom, Extends}
+use Rattle.merc_readiness.specs.Sweeps.{Extends}
 use Rattle.merc_modes.specs.Walks.{Adds, Walked, all_settled}
 use Rattle.merc_modes.specs.declared.written.Written.{Written}
 use Rattle.merc_modes.proofs.+walking.Given as goal
