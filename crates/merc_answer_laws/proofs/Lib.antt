@@ -1,0 +1,2 @@
+pub mod Truthful
+pub mod SimpleTruth
