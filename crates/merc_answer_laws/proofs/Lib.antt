@@ -1,2 +1,3 @@
 pub mod Truthful
 pub mod SimpleTruth
+pub mod CallTruth
