@@ -1,3 +1,5 @@
 pub mod Truthful
 pub mod SimpleTruth
 pub mod CallTruth
+pub mod Fewer
+pub mod Guarded
