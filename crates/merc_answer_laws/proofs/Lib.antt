@@ -3,3 +3,4 @@ pub mod SimpleTruth
 pub mod CallTruth
 pub mod Fewer
 pub mod Guarded
+pub mod Singles
