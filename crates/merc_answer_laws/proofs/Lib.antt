@@ -4,3 +4,5 @@ pub mod CallTruth
 pub mod Fewer
 pub mod Guarded
 pub mod Singles
+pub mod Befores
+pub mod NodeTruth

@@ -70,12 +70,6 @@ pick P (Answer env t) (inr h) = pick P t h
 pub has_any : (P : Env → Type 0) (t : Trace) → Has P t → Has Any t
 has_any P t h = has_map P Any t (λ env p. tt) h
 
--- an answer of the first trace, where each is so
-pub all_first : (P : Env → Type 0) (t : Trace) → Each P t → Has Any t → Has P (first_alone t)
-all_first P (Ends e) h k = absurd k
-all_first P (Tick t) h k = all_first P t h k
-all_first P (Answer env t) h k = inl h.0
-
 decide_or : (A B : Type 0) → A ⊎ (A → ⊥) → B ⊎ (B → ⊥) → (A ⊎ B) ⊎ (A ⊎ B → ⊥)
 decide_or A B (inl a) q = inl (inl a)
 decide_or A B (inr p) (inl b) = inl (inr b)
