@@ -6,3 +6,4 @@ pub mod Guarded
 pub mod Singles
 pub mod Befores
 pub mod NodeTruth
+pub mod JoinedTruth
