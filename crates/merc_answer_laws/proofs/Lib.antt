@@ -7,3 +7,4 @@ pub mod Singles
 pub mod Befores
 pub mod NodeTruth
 pub mod JoinedTruth
+pub mod TreeTruth
