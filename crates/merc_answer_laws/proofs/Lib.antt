@@ -8,3 +8,4 @@ pub mod Befores
 pub mod NodeTruth
 pub mod JoinedTruth
 pub mod TreeTruth
+pub mod Procedures
