@@ -9,3 +9,4 @@ pub mod NodeTruth
 pub mod JoinedTruth
 pub mod TreeTruth
 pub mod Procedures
+pub mod TruthLaw
