@@ -30,9 +30,9 @@ use Rattle.merc_category_laws.proofs.Traces.{each_taken, has_each, has_taken, do
 use Rattle.merc_category_laws.proofs.Values.{Instance, composed, none_not, same_some, some_of, among_here, among_there, among_cases, not_here, not_there, at_same, at_other}
 use Rattle.merc_category_laws.proofs.Steps.{EnvTyped, free_not, placed}
 use Rattle.merc_category_laws.proofs.Lawful.{Fits}
-use Rattle.merc_category_laws.proofs.Calls.{LawfulCall, LawfulCalls}
+use Rattle.merc_category_laws.proofs.Calls.{LawfulCalls}
 use Rattle.merc_answer_laws.specs.Instances.{ArgumentsAgree}
-use Rattle.merc_answer_laws.proofs.Truthful.{Matches, IsInstance, Truthful, each_both, single_taken}
+use Rattle.merc_answer_laws.proofs.Truthful.{IsInstance, Truthful, each_both, single_taken}
 
 -- Entering a body and coming back.
 

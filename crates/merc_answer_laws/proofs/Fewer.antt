@@ -1,12 +1,12 @@
 -- What is good with some variables outside is good with fewer.
-use Rattle.std.proofs.Common.{◌≡◌, ◌⊎◌, inl, inr, ℕ, Bool, true, false, ◌&&◌, List, [], ◌∷◌, Option, Some, None, slice_get}
+use Rattle.std.proofs.Common.{◌≡◌, inl, inr, ℕ, Bool, true, ◌&&◌, List, [], ◌∷◌, Option, Some, None, slice_get}
 use Rattle.merc_tree.specs.declared.declarations.ModeDecl.{ModeDecl}
 use Rattle.merc_graded_tree.specs.declared.basic.BasicGoal.{BasicGoal}
 use Rattle.merc_graded_tree.specs.declared.basic.BasicGoal.TheVariants.{True, Fail, Assign, Test, Build, Split, Arithmetic, Compare, Raise, Call, Wait, Signal}
 use Rattle.merc_graded_tree.specs.Nodes.{Node, node, Goal, Basic, Conjunction, Disjunction, Switch, Conditional, Negation, Quantified, Nodes, no_nodes, more_nodes, Arms, no_arms, more_arms, outputs_of}
 use Rattle.merc_graded_tree.specs.Variables.{in_goal, in_node, in_nodes}
 use Rattle.merc_order.specs.Bound.{Bound, with, among}
-use Rattle.merc_order_laws.specs.Bindings.{Variables, Binds, ArmBinds}
+use Rattle.merc_order_laws.specs.Bindings.{Variables, ArmBinds}
 use Rattle.merc_order_laws.specs.GoodTree.{GoodProcedure, node_ends, DisjunctsBind, ArmsBind, GoodBasic, GoodNode, GoodGoal, GoodNodes, GoodDisjuncts, GoodArms}
 use Rattle.merc_order_laws.proofs.Fewer.{Among}
 use Rattle.merc_order_laws.proofs.Facts.{or_left, or_right, or_cases}

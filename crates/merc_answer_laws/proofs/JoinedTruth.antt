@@ -1,14 +1,13 @@
 -- The truth law of goals that join others, from theirs.
-use Rattle.std.proofs.Common.{◌≡◌, ◌⊎◌, inl, inr, ℕ, true, false, ◌||◌, is_some, List, [], ◌∷◌, Option, Some, None, refl, ap, sym, ◌∙◌, subst}
+use Rattle.std.proofs.Common.{◌≡◌, ◌⊎◌, inl, inr, ℕ, true, false, ◌||◌, is_some, List, Option, Some, None, refl, ap, sym, ◌∙◌, subst}
 use Rattle.std.specs.List.{AllByRecursion}
-use Rattle.merc_base.specs.Category.{can_fail_of, most_of}
-use Rattle.merc_base.specs.declared.category.Category.{Category}
+use Rattle.merc_base.specs.Category.{most_of}
 use Rattle.merc_base.specs.declared.category.Most.TheVariants.{Zero}
 use Rattle.merc_tree.specs.declared.declarations.Module.{Module}
 use Rattle.merc_goal_tree.specs.declared.goal.Symbol.{Symbol}
 use Rattle.merc_graded_tree.specs.declared.basic.BasicGoal.{BasicGoal}
-use Rattle.merc_graded_tree.specs.Nodes.{Node, node, Goal, Conditional, Negation, Nodes, no_nodes, more_nodes, Arms, no_arms, more_arms, list_of, outputs_of}
-use Rattle.merc_graded_tree.specs.Variables.{in_goal, in_node, in_nodes, in_arms}
+use Rattle.merc_graded_tree.specs.Nodes.{Node, node, Conditional, Nodes, no_nodes, more_nodes, Arms, more_arms, list_of, outputs_of}
+use Rattle.merc_graded_tree.specs.Variables.{in_node}
 use Rattle.merc_order.specs.Bound.{Bound, with, among}
 use Rattle.merc_order_laws.specs.Bindings.{Variables, NotBinding}
 use Rattle.merc_order_laws.specs.WrittenGoals.{basic_goals, arm_basic_goals}
@@ -44,7 +43,7 @@ grows_on occ1 occ2 env f t P all first rest = each_each P _ f t all (λ env1 p. 
 -- Given are judgements of calls.
 module _ (y n : Judgement) where
   -- a goal depends on the variables outside it alone
-  yes_same : (m : Node) (out : Variables) (s s' : Assignment) → AgreeOn out s s' → Yes y n out m s' → Yes y n out m s
+  pub yes_same : (m : Node) (out : Variables) (s s' : Assignment) → AgreeOn out s s' → Yes y n out m s' → Yes y n out m s
   yes_same (node g outs cat span) out s s' a h = (h.0, (h.1.0, h.1.1, (λ x o. h.1.2 x o ∙ a x o), h.1.3))
 
   zero_no : (m : Node) (out : Variables) (s : Assignment) → most_of (category_at m) ≡ Zero → No y n out m s

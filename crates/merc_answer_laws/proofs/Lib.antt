@@ -10,3 +10,4 @@ pub mod JoinedTruth
 pub mod TreeTruth
 pub mod Procedures
 pub mod TruthLaw
+pub mod RunLaw

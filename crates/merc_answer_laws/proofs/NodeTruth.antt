@@ -1,5 +1,5 @@
 -- The truth law of a node from that of its goal: its own variables are quantified, and its trace may be cut after the first answer.
-use Rattle.std.proofs.Common.{◌≡◌, ◌⊎◌, inl, inr, ℕ, Bool, true, false, ◌||◌, is_some, List, [], ◌∷◌, Option, Some, None, refl, ap, sym, ◌∙◌, subst}
+use Rattle.std.proofs.Common.{◌≡◌, ◌⊎◌, inl, inr, ℕ, List, [], ◌∷◌, Option, Some, None, refl, sym, ◌∙◌, subst}
 use Rattle.merc_base.specs.Category.{most_of}
 use Rattle.merc_base.specs.declared.category.Category.{Category}
 use Rattle.merc_base.specs.declared.category.Most.{Most}
@@ -8,19 +8,18 @@ use Rattle.merc_base.specs.declared.place.Span.{Span}
 use Rattle.merc_tree.specs.declared.declarations.Module.{Module}
 use Rattle.merc_graded_tree.specs.declared.basic.Procedure.{Procedure}
 use Rattle.merc_graded_tree.specs.Nodes.{Node, node, Goal}
-use Rattle.merc_graded_tree.specs.Variables.{in_goal, in_node}
+use Rattle.merc_graded_tree.specs.Variables.{in_goal}
 use Rattle.merc_order.specs.Bound.{Bound, with, among}
 use Rattle.merc_order_laws.specs.Bindings.{Variables}
 use Rattle.merc_grading.specs.Known.{Known}
 use Rattle.merc_grading.specs.Grading.{given, category_at, capped}
-use Rattle.merc_value.specs.Value.{Value}
 use Rattle.merc_meaning.specs.Trace.{Env, Trace, first_alone}
 use Rattle.merc_meaning.specs.Steps.{value_at}
 use Rattle.merc_meaning.specs.Runs.{Program, is_at_most_one, answers_once, once_if, goal_trace, node_trace}
 use Rattle.merc_meaning.specs.Truth.{Assignment, IsAssignment, AgreeOn, Somewhere, Everywhere, HasNoSolution, Judgement, Yes, No, YesGoal, NoGoal}
 use Rattle.merc_category_laws.specs.Answers.{Each, Has, Any, Never, IsDone, Single}
 use Rattle.merc_category_laws.proofs.Traces.{each_map, has_map, has_each, never_has, never_each, answers, each_first, has_first, single_first, first_unanswered}
-use Rattle.merc_category_laws.proofs.Values.{Instance, or_false, none_not, same_some, some_of, is_some_of}
+use Rattle.merc_category_laws.proofs.Values.{Instance, or_false, same_some, some_of, is_some_of}
 use Rattle.merc_category_laws.proofs.Knowing.{one_not_zero, many_not_zero}
 use Rattle.merc_category_laws.proofs.Lawful.{Fits, Goes, Lawful}
 use Rattle.merc_answer_laws.proofs.Truthful.{Matches, IsInstance, Truthful, decide_has, decide_instance, first_single, single_done}

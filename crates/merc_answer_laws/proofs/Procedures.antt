@@ -1,10 +1,10 @@
 -- The procedures of a good program by their numbers, and what holds before their bodies.
-use Rattle.std.proofs.Common.{◌≡◌, inl, inr, ℕ, zero, suc, ◌+◌, ◌<◌, Bool, true, false, ◌||◌, ◌==◌, List, [], ◌∷◌, ◌++◌, length, map, drop, Option, Some, None, slice_get, refl, ap, sym, ◌∙◌, subst, arith}
+use Rattle.std.proofs.Common.{◌≡◌, ℕ, zero, suc, ◌+◌, ◌<◌, Bool, true, false, ◌||◌, ◌==◌, List, [], ◌∷◌, ◌++◌, length, map, drop, Option, Some, slice_get, refl, ap, sym, ◌∙◌, subst, arith}
 use Rattle.std.specs.List.{AllByRecursion}
 use Rattle.std.proofs.lemmas.Bool.Decides.{Decides-eqb}
 use Rattle.merc_base.specs.Category.{most_of}
 use Rattle.merc_base.specs.declared.category.Most.{Most}
-use Rattle.merc_base.specs.declared.category.Most.TheVariants.{Zero, One}
+use Rattle.merc_base.specs.declared.category.Most.TheVariants.{One}
 use Rattle.merc_tree.specs.Types.{TypeExpr, replaced}
 use Rattle.merc_tree.specs.declared.declarations.Arg.{Arg}
 use Rattle.merc_tree.specs.declared.declarations.Arg.TheVariants.{Input, Output}
@@ -23,7 +23,7 @@ use Rattle.merc_order_laws.proofs.Facts.{clash, or_left, or_right, among_append}
 use Rattle.merc_grading.specs.Faults.{Procedure, Body, with_modes, procedures_of}
 use Rattle.merc_meaning.specs.Trace.{Env}
 use Rattle.merc_meaning.specs.Steps.{value_at}
-use Rattle.merc_meaning.specs.Runs.{Program, ProcedureBody, call_trace}
+use Rattle.merc_meaning.specs.Runs.{ProcedureBody, call_trace}
 use Rattle.merc_meaning.specs.Truth.{is_argument}
 use Rattle.merc_category_laws.specs.ValueTypes.{HasType}
 use Rattle.merc_category_laws.specs.Answers.{AreAtMost, Single}

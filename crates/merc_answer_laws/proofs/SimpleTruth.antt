@@ -20,7 +20,7 @@ use Rattle.merc_meaning.specs.Trace.{Env, Trace, one_answer}
 use Rattle.merc_meaning.specs.Values.{count, made, fields, same}
 use Rattle.merc_meaning.specs.Arithmetic.{Result, Gives, ZeroDivisor, arithmetic, given, arithmetic_of, comparison_of}
 use Rattle.merc_meaning.specs.Steps.{value_at, bound, tested, compared, joined, values_at, binds, made_if, filled, filled_if, split, computed, operated, raised}
-use Rattle.merc_meaning.specs.Truth.{Assignment, IsAssignment, assigned}
+use Rattle.merc_meaning.specs.Truth.{Assignment, assigned}
 use Rattle.merc_meaning.proofs.ValueLaws.{same-decides}
 use Rattle.merc_category_laws.specs.ValueTypes.{HasType}
 use Rattle.merc_category_laws.specs.Answers.{Has}

@@ -1,5 +1,5 @@
 -- Goals with a maximum of 1, and traces of one answer at most.
-use Rattle.std.proofs.Common.{◌≡◌, ◌⊎◌, inl, inr, ℕ, ℤ, Bool, true, false, ◌&&◌, ◌||◌, if◌then◌else◌, List, Option, Some, None, refl, sym, ◌∙◌, subst}
+use Rattle.std.proofs.Common.{◌≡◌, ◌⊎◌, inl, inr, ℕ, Bool, true, false, ◌&&◌, ◌||◌, if◌then◌else◌, List, Option, Some, None, refl, sym, ◌∙◌, subst}
 use Rattle.merc_base.specs.Category.{can_fail_of, most_of}
 use Rattle.merc_base.specs.declared.category.Category.{Category}
 use Rattle.merc_base.specs.declared.category.Most.{Most}
@@ -9,12 +9,12 @@ use Rattle.merc_goal_tree.specs.declared.goal.Symbol.{Symbol}
 use Rattle.merc_order_laws.proofs.Facts.{clash}
 use Rattle.merc_grading.specs.Categories.{category, is_zero, is_many, both_most, sum_most, greater_most, then_category, or_category, decision_most, conditional_category}
 use Rattle.merc_value.specs.Value.{Value, Int, Text, Con, Values}
-use Rattle.merc_meaning.specs.Trace.{Env, Trace, Ends, Tick, Answer, Done, Raised, TooDeep, after, each, choose, first_alone}
+use Rattle.merc_meaning.specs.Trace.{Env, Trace, Ends, Tick, Answer, Done, Raised, TooDeep, after, choose}
 use Rattle.merc_meaning.specs.Values.{fields}
 use Rattle.merc_meaning.specs.Arithmetic.{Result, Gives, ZeroDivisor, arithmetic}
-use Rattle.merc_meaning.specs.Steps.{value_at, binds, tested, compared, filled_if, split, computed, operated, raised}
+use Rattle.merc_meaning.specs.Steps.{binds, tested, compared, filled_if, split, computed, operated, raised}
 use Rattle.merc_meaning.specs.Runs.{where_some}
-use Rattle.merc_category_laws.specs.Answers.{Each, Any, Never, IsDone, Single}
+use Rattle.merc_category_laws.specs.Answers.{Each, Never, IsDone, Single}
 use Rattle.merc_category_laws.proofs.Traces.{answers, choose_answered, choose_unanswered}
 use Rattle.merc_category_laws.proofs.Maxima.{most_is}
 use Rattle.merc_category_laws.proofs.Values.{or_not_left, or_not_right}

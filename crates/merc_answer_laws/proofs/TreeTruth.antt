@@ -1,5 +1,5 @@
 -- The truth law of every goal, by induction on the tree.
-use Rattle.std.proofs.Common.{◌≡◌, ◌⊎◌, inl, inr, ℕ, Bool, true, false, ◌==◌, ◌||◌, if◌then◌else◌, List, [], ◌∷◌, ◌++◌, Option, Some, None, refl, ap, sym, ◌∙◌, subst}
+use Rattle.std.proofs.Common.{◌≡◌, ◌⊎◌, inl, inr, ℕ, true, false, ◌==◌, ◌||◌, if◌then◌else◌, List, [], ◌∷◌, ◌++◌, Option, Some, None, refl, sym, ◌∙◌, subst}
 use Rattle.std.specs.List.{AllByRecursion}
 use Rattle.std.proofs.lemmas.Bool.Decides.{Decides-eqb}
 use Rattle.merc_base.specs.Category.{can_fail_of, most_of}
@@ -15,7 +15,7 @@ use Rattle.merc_graded_tree.specs.Variables.{variables_of, in_goal, in_node, in_
 use Rattle.merc_order.specs.Bound.{Bound, with, among}
 use Rattle.merc_order.specs.Procedures.{modes_of}
 use Rattle.merc_order_laws.specs.Bindings.{Variables}
-use Rattle.merc_order_laws.specs.GoodTree.{GoodBasic, GoodNode, GoodGoal, GoodNodes, GoodDisjuncts, GoodArms}
+use Rattle.merc_order_laws.specs.GoodTree.{GoodNode, GoodGoal, GoodNodes, GoodDisjuncts, GoodArms}
 use Rattle.merc_order_laws.specs.WrittenGoals.{basic_goals, basic_goals_in, all_basic_goals, arm_basic_goals}
 use Rattle.merc_order_laws.proofs.Facts.{or_left, or_right, or_cases, either_way}
 use Rattle.merc_order_laws.proofs.Written.{all_left, all_right}
@@ -28,7 +28,7 @@ use Rattle.merc_meaning.specs.Values.{fields, same}
 use Rattle.merc_meaning.specs.Arithmetic.{comparison_of}
 use Rattle.merc_meaning.specs.Steps.{value_at, values_at, made_if}
 use Rattle.merc_meaning.specs.Runs.{Program, answers_once, once_if, basic_trace, goal_trace, node_trace, all_trace, any_trace, arms_trace}
-use Rattle.merc_meaning.specs.Truth.{Assignment, IsAssignment, Judgement, Yes, No, YesBasic, NoBasic, YesGoal, NoGoal, YesAll, NoAny, YesAny, NoAll, YesArm, NoArms}
+use Rattle.merc_meaning.specs.Truth.{Judgement, Yes, No, YesGoal, NoGoal, YesAll, NoAny, YesAny, NoAll, YesArm, NoArms}
 use Rattle.merc_category_laws.specs.Answers.{Each, Has, Any, Never, Single}
 use Rattle.merc_category_laws.specs.Guarding.{HasGuards, GoalHasGuards, AllHaveGuards, ArmsHaveGuards}
 use Rattle.merc_category_laws.specs.GoodPrograms.{AreGoodTypes}
@@ -41,7 +41,7 @@ use Rattle.merc_category_laws.proofs.Calls.{LawfulCalls}
 use Rattle.merc_category_laws.proofs.Maxima.{most_is, or_zero}
 use Rattle.merc_category_laws.proofs.Graded.{Graded, GradedGoal, GradedAll, GradedEach, GradedArms}
 use Rattle.merc_category_laws.proofs.Trees.{IsPart, outputs_within, node_law}
-use Rattle.merc_answer_laws.proofs.Truthful.{Matches, IsInstance, Truthful, Grows, then_truth, single_each, single_done, behind_answered, front_answered, single_negated}
+use Rattle.merc_answer_laws.proofs.Truthful.{IsInstance, Truthful, Grows, then_truth, single_each, single_done, behind_answered, front_answered, single_negated}
 use Rattle.merc_answer_laws.proofs.SimpleTruth.{assign_truth, test_truth, build_truth, split_truth, arithmetic_truth, compare_truth, raise_truth}
 use Rattle.merc_answer_laws.proofs.CallTruth.{TruthfulCalls, call_truth, single_called}
 use Rattle.merc_answer_laws.proofs.Fewer.{node_fewer}
