@@ -70,8 +70,8 @@ module _ (known : Module) (declared : AreGoodTypes known.types) (program : Progr
   abbrev After : Variables → Bound → Node → Known → Env → Env → Type 0
   After out b m seen env env1 = Goes known types i out (with b (among (outputs_of m))) (in_node m) (known_behind m seen) env env1
 
-  abbrev Trace_of : Node → Env → Trace
-  Trace_of m env = node_trace program call m env
+  abbrev trace_of : Node → Env → Trace
+  trace_of m env = node_trace program call m env
 
   abbrev TrueGoal : Variables → Goal → Env → Type 0
   TrueGoal out g env = Truthful out (in_goal g) (λ s. YesGoal y n out g s) (λ s. NoGoal y n out g s) env (goal_trace program call g env)
@@ -80,13 +80,13 @@ module _ (known : Module) (declared : AreGoodTypes known.types) (program : Progr
   LedGoal out g env = Led out (in_goal g) (λ s. NoGoal y n out g s) env (goal_trace program call g env)
 
   abbrev TrueNode : Variables → Node → Env → Type 0
-  TrueNode out m env = Truthful out (in_node m) (λ s. Yes y n out m s) (λ s. No y n out m s) env (Trace_of m env)
+  TrueNode out m env = Truthful out (in_node m) (λ s. Yes y n out m s) (λ s. No y n out m s) env (trace_of m env)
 
-  law_of : (m : Node) (out : Variables) (b : Bound) (seen : Known) (env : Env) → GoodIn out b m → GradedIn seen m → Parts (basic_goals m) → First out b (in_node m) seen env → Lawful (After out b m seen env) (category_at m) (Trace_of m env)
+  law_of : (m : Node) (out : Variables) (b : Bound) (seen : Known) (env : Env) → GoodIn out b m → GradedIn seen m → Parts (basic_goals m) → First out b (in_node m) seen env → Lawful (After out b m seen env) (category_at m) (trace_of m env)
   law_of m out b seen env good has parts fits = node_law known declared program call calls types i m out b seen env good has parts fits
 
-  grows_of : (m : Node) (out : Variables) (b : Bound) (seen : Known) (env : Env) → GoodIn out b m → GradedIn seen m → Parts (basic_goals m) → First out b (in_node m) seen env → Each (Grows (in_node m) env) (Trace_of m env)
-  grows_of m out b seen env good has parts fits = each_map _ _ (Trace_of m env) (λ env' g. (g.keeps, g.own)) (law_of m out b seen env good has parts fits).goes
+  grows_of : (m : Node) (out : Variables) (b : Bound) (seen : Known) (env : Env) → GoodIn out b m → GradedIn seen m → Parts (basic_goals m) → First out b (in_node m) seen env → Each (Grows (in_node m) env) (trace_of m env)
+  grows_of m out b seen env good has parts fits = each_map _ _ (trace_of m env) (λ env' g. (g.keeps, g.own)) (law_of m out b seen env good has parts fits).goes
 
   -- Goals that hold no others.
 
@@ -124,35 +124,35 @@ module _ (known : Module) (declared : AreGoodTypes known.types) (program : Progr
 
   -- Goals of a maximum of 1.
 
-  single_at : (m : Node) (env : Env) → NotMany (most_of (category_at m)) → Single (Trace_of m env)
+  single_at : (m : Node) (env : Env) → NotMany (most_of (category_at m)) → Single (trace_of m env)
   single_at m env h = single_node program call m env h
 
   single_list : (ns : Nodes) (env : Env) → most_of (conjunction_category (categories (list_of ns))) ≡ One → Single (all_trace program call ns env)
   single_list no_nodes env h = refl
   single_list (more_nodes m ns) env h =
       let k = then_one (category_at m) (conjunction_category (categories (list_of ns))) h in
-      single_each (λ env'. all_trace program call ns env') (Trace_of m env) (single_at m env (one_not_many (most_of (category_at m)) k.0)) (λ env'. single_list ns env' k.1)
+      single_each (λ env'. all_trace program call ns env') (trace_of m env) (single_at m env (one_not_many (most_of (category_at m)) k.0)) (λ env'. single_list ns env' k.1)
 
   single_arms : (arms : Arms) (o : Option Value) (env : Env) → NotMany (most_of (arms_category (categories (bodies_of arms)))) → Single (arms_trace program call arms o env)
   single_arms no_arms o env h = tt
   single_arms (more_arms t m arms) None env h = tt
   single_arms (more_arms t m arms) (Some v) env h =
       let k = arm_few (category_at m) (arms_category (categories (bodies_of arms))) h in
-      single_where (fields t v) (Trace_of m env) (arms_trace program call arms (Some v) env) (single_at m env k.0) (single_arms arms (Some v) env k.1)
+      single_where (fields t v) (trace_of m env) (arms_trace program call arms (Some v) env) (single_at m env k.0) (single_arms arms (Some v) env k.1)
 
   switch_one : (x : ℕ) (arms : Arms) (seen : Known) → most_of (rule known.types (modes_of known.preds) types seen (Switch x arms)) ≡ One → NotMany (most_of (arms_category (categories (bodies_of arms))))
   switch_one x arms seen h =
       one_not_many (most_of (arms_category (categories (bodies_of arms))))
       (sym (most_is ((if are_complete (symbols_of_type known.types (types x)) (symbols_of arms) then false else true) || can_fail_of (arms_category (categories (bodies_of arms)))) (most_of (arms_category (categories (bodies_of arms))))) ∙ h)
 
-  single_if : (c t e : Node) (P : Env → Type 0) (env : Env) → Lawful P (category_at c) (Trace_of c env) → most_of (rule known.types (modes_of known.preds) types [] (Conditional c t e)) ≡ One
+  single_if : (c t e : Node) (P : Env → Type 0) (env : Env) → Lawful P (category_at c) (trace_of c env) → most_of (rule known.types (modes_of known.preds) types [] (Conditional c t e)) ≡ One
       → Single (goal_trace program call (Conditional c t e) env)
   single_if c t e P env law h =
       let k = conditional_one (category_at c) (category_at t) (category_at e) h in
-      single_choose (λ env1. Trace_of t env1) (Trace_of e env) (Trace_of c env) (single_at c env k.0) (λ env1. single_at t env1 k.1)
-      (λ never d. elim (either_way (can_fail_of (category_at c))) as (λ _. Single (Trace_of e env)) [
+      single_choose (λ env1. trace_of t env1) (trace_of e env) (trace_of c env) (single_at c env k.0) (λ env1. single_at t env1 k.1)
+      (λ never d. elim (either_way (can_fail_of (category_at c))) as (λ _. Single (trace_of e env)) [
         | inl q ↦ single_at e env (k.2 q)
-        | inr q ↦ absurd (never_has Any (Trace_of c env) never (law.some_answer q d))
+        | inr q ↦ absurd (never_has Any (trace_of c env) never (law.some_answer q d))
       ])
 
   -- goals of a maximum of 0 do not answer
@@ -161,7 +161,7 @@ module _ (known : Module) (declared : AreGoodTypes known.types) (program : Progr
   zero_each no_nodes out b whole seen env sub good has parts fits z = tt
   zero_each (more_nodes m ns) out b whole seen env sub good has parts fits z =
       let k = or_zero (category_at m) (disjunction_category (categories (list_of ns))) z in
-      each_after Never (Trace_of m env) (any_trace program call ns env)
+      each_after Never (trace_of m env) (any_trace program call ns env)
       ((law_of m out b seen env good.0 has.0 (all_left (IsPart known types i) (basic_goals m) (all_basic_goals ns) parts)
       (narrow known types i out out b (in_node m) whole seen env fits (λ x h. sub x (or_left (in_node m x) (in_nodes ns x) h)) (λ x h. h))).no_answer k.0)
       (zero_each ns out b whole seen env (λ x h. sub x (or_right (in_node m x) (in_nodes ns x) h)) good.1 has.1 (all_right (IsPart known types i) (basic_goals m) (all_basic_goals ns) parts) fits k.1)
@@ -181,7 +181,7 @@ module _ (known : Module) (declared : AreGoodTypes known.types) (program : Progr
       → First out b (in_nodes ns) seen env → Each (Grows (in_nodes ns) env) (all_trace program call ns env)
   list_grows no_nodes out b seen env good has parts fits = (((λ x v e. e), (λ x o. refl)), tt)
   list_grows (more_nodes m ns) out b seen env good has parts fits =
-      grows_on (in_node m) (in_nodes ns) env (λ env1. all_trace program call ns env1) (Trace_of m env) (After (with out (in_nodes ns)) b m seen env)
+      grows_on (in_node m) (in_nodes ns) env (λ env1. all_trace program call ns env1) (trace_of m env) (After (with out (in_nodes ns)) b m seen env)
       (law_of m (with out (in_nodes ns)) b seen env good.0 has.0 (all_left (IsPart known types i) (basic_goals m) (all_basic_goals ns) parts) (first_fits m ns out b seen env fits)).goes (λ env1 g. (g.keeps, g.own))
       (λ env1 g. list_grows ns (with out (in_node m)) (with b (among (outputs_of m))) (known_behind m seen) env1 good.1 has.1 (all_right (IsPart known types i) (basic_goals m) (all_basic_goals ns) parts) (rest_fits m ns out b seen env env1 good.0 fits g))
 
@@ -256,7 +256,7 @@ module _ (known : Module) (declared : AreGoodTypes known.types) (program : Progr
         let fit_c = fits_condition c t e out b seen env fits in
         let fit_o = fits_own c t e out b seen env fits in
         let fit_e = fits_else c t e out b seen env fits in
-        if_truth y n known types i b seen (known_behind c seen) env c t e out (Trace_of c env) (Trace_of e env) (λ env1. Trace_of t env1) good.1 fits
+        if_truth y n known types i b seen (known_behind c seen) env c t e out (trace_of c env) (trace_of e env) (λ env1. trace_of t env1) good.1 fits
         (After out_c b c seen env) (law_of c out_c b seen env good.0 has.0 parts_c fit_c).goes (λ env1 g. (g.keeps, g.own))
         (node_truth c out_c b seen env good.0 has.0 guards.0 parts_c fit_c)
         (law_of c (with out (in_node e)) b seen env own has.0 parts_c fit_o).goes
@@ -266,7 +266,7 @@ module _ (known : Module) (declared : AreGoodTypes known.types) (program : Progr
         (grows_of e out_e b seen env good.4 has.2 parts_e fit_e)
         (node_truth e out_e b seen env good.4 has.2 guards.2 parts_e fit_e)
     goal_truth (Negation m) outs out b seen env good has guards parts fits =
-        not_truth y n known types i b seen (known_behind m seen) env m out (Trace_of m env) good.1 fits (law_of m out b seen env good.0 has parts fits).goes (node_truth m out b seen env good.0 has guards parts fits)
+        not_truth y n known types i b seen (known_behind m seen) env m out (trace_of m env) good.1 fits (law_of m out b seen env good.0 has parts fits).goes (node_truth m out b seen env good.0 has guards parts fits)
     goal_truth (Quantified own m) outs out b seen env good has guards parts fits = node_truth m out b seen env good.0 has guards parts fits
 
     -- the first answer, of a goal of a maximum of 1
@@ -282,8 +282,8 @@ module _ (known : Module) (declared : AreGoodTypes known.types) (program : Progr
         led_single out (in_goal (Conditional c t e)) _ _ env (goal_trace program call (Conditional c t e) env) goal
         (single_if c t e (After (with out (with (in_node t) (in_node e))) b c seen env) env
         (law_of c (with out (with (in_node t) (in_node e))) b seen env good.0 has.0 (all_left (IsPart known types i) (basic_goals c) (basic_goals t ++ basic_goals e) parts) (fits_condition c t e out b seen env fits)) one)
-    goal_led (Negation m) outs out b seen env good has guards parts fits goal one = led_single out (in_node m) _ _ env (goal_trace program call (Negation m) env) goal (single_negated env (Trace_of m env))
-    goal_led (Quantified own m) outs out b seen env good has guards parts fits goal one = led_single out (in_node m) _ _ env (Trace_of m env) goal (single_at m env (one_not_many (most_of (category_at m)) one))
+    goal_led (Negation m) outs out b seen env good has guards parts fits goal one = led_single out (in_node m) _ _ env (goal_trace program call (Negation m) env) goal (single_negated env (trace_of m env))
+    goal_led (Quantified own m) outs out b seen env good has guards parts fits goal one = led_single out (in_node m) _ _ env (trace_of m env) goal (single_at m env (one_not_many (most_of (category_at m)) one))
 
     list_truth : (ns : Nodes) (out : Variables) (b : Bound) (seen : Known) (env : Env) → GoodNodes (modes_of known.preds) out b ns → GradedAll known.types (modes_of known.preds) types seen ns → AllHaveGuards ns
         → Parts (all_basic_goals ns) → First out b (in_nodes ns) seen env → Truthful out (in_nodes ns) (λ s. YesAll y n out ns s) (λ s. NoAny y n out ns s) env (all_trace program call ns env)
@@ -292,7 +292,7 @@ module _ (known : Module) (declared : AreGoodTypes known.types) (program : Progr
         let parts_m : Parts (basic_goals m) = all_left (IsPart known types i) (basic_goals m) (all_basic_goals ns) parts in
         let parts_ns : Parts (all_basic_goals ns) = all_right (IsPart known types i) (basic_goals m) (all_basic_goals ns) parts in
         let fits_m = first_fits m ns out b seen env fits in
-        then_truth out (with out (in_nodes ns)) (with out (in_node m)) (in_node m) (in_nodes ns) _ _ _ _ env (λ env1. all_trace program call ns env1) (Trace_of m env)
+        then_truth out (with out (in_nodes ns)) (with out (in_node m)) (in_node m) (in_nodes ns) _ _ _ _ env (λ env1. all_trace program call ns env1) (trace_of m env)
         (λ x o. or_right (out x) (in_nodes ns x) o) (λ x o. or_left (out x) (in_nodes ns x) o) (λ x o. or_left (out x) (in_node m x) o)
         (After (with out (in_nodes ns)) b m seen env) (law_of m (with out (in_nodes ns)) b seen env good.0 has.0 parts_m fits_m).goes (λ env1 g. (g.keeps, g.own))
         (node_truth m (with out (in_nodes ns)) b seen env good.0 has.0 guards.0 parts_m fits_m)
@@ -307,7 +307,7 @@ module _ (known : Module) (declared : AreGoodTypes known.types) (program : Progr
         let parts_m : Parts (basic_goals m) = all_left (IsPart known types i) (basic_goals m) (all_basic_goals ns) parts in
         let sub_m : (x : ℕ) → in_node m x ≡ true → whole x ≡ true = λ x h. sub x (or_left (in_node m x) (in_nodes ns x) h) in
         let fits_m = narrow known types i out out b (in_node m) whole seen env fits sub_m (λ x h. h) in
-        or_truth y n m ns out whole env (Trace_of m env) (any_trace program call ns env) sub_m (grows_of m out b seen env good.0 has.0 parts_m fits_m)
+        or_truth y n m ns out whole env (trace_of m env) (any_trace program call ns env) sub_m (grows_of m out b seen env good.0 has.0 parts_m fits_m)
         (node_truth m out b seen env good.0 has.0 guards.0 parts_m fits_m)
         (each_truth ns out b whole seen env (λ x h. sub x (or_right (in_node m x) (in_nodes ns x) h)) good.1 has.1 guards.1 (all_right (IsPart known types i) (basic_goals m) (all_basic_goals ns) parts) fits)
 
@@ -321,7 +321,7 @@ module _ (known : Module) (declared : AreGoodTypes known.types) (program : Progr
         let sub_m : (x : ℕ) → in_node m x ≡ true → whole x ≡ true = λ x h. sub x (or_left (in_node m x) (in_nodes ns x) h) in
         let sub_ns : (x : ℕ) → in_nodes ns x ≡ true → whole x ≡ true = λ x h. sub x (or_right (in_node m x) (in_nodes ns x) h) in
         let fits_m = narrow known types i out out b (in_node m) whole seen env fits sub_m (λ x h. h) in
-        let tm : Trace = Trace_of m env in
+        let tm : Trace = trace_of m env in
         let u : Trace = any_trace program call ns env in
         elim (or_one (category_at m) (disjunction_category (categories (list_of ns))) one) as (λ _. NoAll y n out (more_nodes m ns) s ⊎ Has (λ env'. IsInstance out whole s env') (first_alone (after tm u))) [
           | inl k ↦
@@ -343,7 +343,7 @@ module _ (known : Module) (declared : AreGoodTypes known.types) (program : Progr
         let parts_m : Parts (basic_goals m) = all_left (IsPart known types i) (basic_goals m) (arm_basic_goals arms) parts in
         let sub_m : (z : ℕ) → in_node m z ≡ true → whole z ≡ true = λ z h. sub z (or_left (in_node m z) (in_arms arms z) h) in
         let fits_m : (vs : Values) → fields t v ≡ Some vs → First outm b (in_node m) ((x, t) ∷ seen) env = λ vs e. narrow_arm known types i out outm b (in_node m) whole seen env x t v vs fits sub_m in1 at e in
-        taken_truth y n known types i t m arms out outm whole x v env (Trace_of m env) (arms_trace program call arms (Some v) env) (fields t v) refl at x_in x_out sub_m in1 guards parts
+        taken_truth y n known types i t m arms out outm whole x v env (trace_of m env) (arms_trace program call arms (Some v) env) (fields t v) refl at x_in x_out sub_m in1 guards parts
         (λ vs e. grows_of m outm b ((x, t) ∷ seen) env good.0 has.0 parts_m (fits_m vs e))
         (λ vs e. node_truth m outm b ((x, t) ∷ seen) env good.0 has.0 guards.2 parts_m (fits_m vs e))
         (arms_truth arms out outm b whole seen env x v at x_in x_out (λ z h. sub z (or_right (in_node m z) (in_arms arms z) h)) in1 good.1 has.1 guards.3 (all_right (IsPart known types i) (basic_goals m) (arm_basic_goals arms) parts) fits)
