@@ -1,6 +1,6 @@
 -- What holds of the bodies of the unit `list`, with their modes, holds of the bodies of all predicates of units.
 use mathlib.Core.Path.{fun_ext}
-use Rattle.std.proofs.Common.{◌≡◌, ℕ, inl, inr, List, [], ◌∷◌, ◌++◌, map, length, Option, Some, None, refl, sym, ap, subst, ◌∙◌}
+use Rattle.std.proofs.Common.{◌≡◌, ℕ, inl, inr, List, ◌++◌, map, length, Some, None, refl, sym, ap, subst, ◌∙◌}
 use Rattle.std.specs.List.{flat_map}
 use Rattle.merc_base.specs.Names.{append_name, fixed_names, length_name, list_reverse_onto_name, member_name}
 use Rattle.merc_tree.specs.Term.{Term}

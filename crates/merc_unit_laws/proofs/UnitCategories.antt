@@ -1,25 +1,20 @@
 -- The procedures of library units have no fault of categories.
-use Rattle.std.proofs.Common.{◌≡◌, ℕ, inl, inr, List, [], ◌∷◌, ◌++◌, map, length, Option, Some, None, refl, sym, ap, subst, ◌∙◌}
-use Rattle.std.specs.List.{flat_map}
+use Rattle.std.proofs.Common.{◌≡◌, ℕ, inl, inr, List, [], ◌∷◌, ◌++◌, length, Option, Some, None, refl, sym, ap, subst, ◌∙◌}
 use Rattle.merc_base.specs.declared.refusal.Refusal.{Refusal}
-use Rattle.merc_tree.specs.declared.declarations.Clause.{Clause}
 use Rattle.merc_tree.specs.declared.declarations.ModeDecl.{ModeDecl}
 use Rattle.merc_tree.specs.declared.declarations.PredDecl.{PredDecl}
 use Rattle.merc_tree.specs.declared.declarations.Module.{Module}
-use Rattle.merc_tree.specs.declared.declarations.TypeDef.{TypeDef}
-use Rattle.merc_goal_tree.specs.Nodes.{Node}
 use Rattle.merc_graded_tree.specs.Nodes.{Node as OrderedNode}
-use Rattle.merc_order.specs.Ordered.{Outcome, Ready, Stuck}
+use Rattle.merc_order.specs.Ordered.{Outcome}
 use Rattle.merc_order.specs.Procedures.{bound_at, first_fresh, modes_of, numbers_below, procedure_from}
-use Rattle.merc_order.specs.Spelt.{spelt}
-use Rattle.merc_grading.specs.Faults.{Body, Procedure, all_finished, finished, mode_faults, own_faults, parallel_faults, procedure_faults, procedures_of, with_modes}
+use Rattle.merc_grading.specs.Faults.{Body, Procedure, all_finished, finished, own_faults, parallel_faults, procedure_faults, procedures_of, with_modes}
 use Rattle.merc_flat.specs.Flat.{clause_node}
-use Rattle.merc_fit_laws.specs.ProcedureBodies.{AreBodiesOf, IsBodyOf}
+use Rattle.merc_fit_laws.specs.ProcedureBodies.{AreBodiesOf}
 use Rattle.merc_clause_laws.specs.ClauseFaults.{IsAmong}
 use Rattle.merc_clause_laws.proofs.FirstFaults.{all_at, among_either, least_of}
 use Rattle.merc_clause_laws.proofs.UnitEntries.{flat_mapped}
 use Rattle.merc_unit_laws.specs.UnitProcedures.{body_in}
-use Rattle.merc_unit_laws.specs.UnitCategories.{HasBody, category_faults, HasNoUnitFault, IsFileCategoryFault, UnitsHaveNoCategoryFault, TellsFileCategory}
+use Rattle.merc_unit_laws.specs.UnitCategories.{HasBody, category_faults, HasNoUnitFault, UnitsHaveNoCategoryFault, TellsFileCategory}
 use Rattle.merc_unit_laws.proofs.ListTrees.{IsSequential, IsSequentialBody, append_sequential, length_sequential, member_sequential, onto_sequential, reverse_sequential}
 use Rattle.merc_unit_laws.proofs.NoParallel.{HasNoParallel, finished_faultless}
 use Rattle.merc_unit_laws.proofs.UnitBodies.{HoldsOfList, holds_of_units}

@@ -1,5 +1,5 @@
 -- A predicate that is declared `det` and always fails, and one with parallel conjuncts that do, of the file and of a unit.
-use Rattle.std.proofs.Common.{◌≡◌, ℕ, ◌+◌, inl, inr, ◌⊎◌, List, [], ◌∷◌, Option, Some, None, refl, sym, ap, subst, ◌∙◌}
+use Rattle.std.proofs.Common.{◌≡◌, ℕ, ◌+◌, inl, inr, ◌⊎◌, [], ◌∷◌, Option, Some, None, refl, sym, ap, subst, ◌∙◌}
 use Rattle.merc_base.specs.Names.{ampersand_name, fail_name}
 use Rattle.merc_base.specs.Places.{place_of}
 use Rattle.merc_base.specs.declared.category.Category.TheVariants.{Det, Failure}
