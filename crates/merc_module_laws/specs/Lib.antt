@@ -1,0 +1,4 @@
+pub mod ClauseWords
+pub mod ClauseWordsExamples
+pub mod Laws
+pub mod ProgramLaws
