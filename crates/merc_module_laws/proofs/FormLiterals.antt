@@ -1,7 +1,9 @@
 -- The goals by which variables have the values of terms have their literals as they are written.
 use Rattle.std.proofs.Common.{ℕ, ◌+◌, Bool, ◌==◌, ◌||◌, is_none, pos, FitsSigned, List, [], ◌∷◌, ◌++◌, length, Option, Some, None, if◌then◌else◌, refl}
+use Rattle.std.proofs.Math.Facts.{sfits_lit}
 use Rattle.std.specs.Int.{w64}
 use Rattle.std.specs.List.{AllByRecursion}
+use Rattle.merc_base.specs.declared.place.Span.{Span}
 use Rattle.merc_tree.specs.Term.{Term, Terms, Variable, Integer, Text, Application, none, more, HasWords, HaveWords}
 use Rattle.merc_goals.specs.Written.{parts}
 use Rattle.merc_goal_tree.specs.declared.goal.SimpleGoal.{SimpleGoal}
@@ -48,31 +50,35 @@ module _ (blank : ℕ → Bool) where
 
   -- What names stand for is given.
   module _ (scope : List Occurrence) where
-    mutual
-      pub naming_literal : (variable at : ℕ) (term : Term) → HasWords term → AreLiteral (naming blank scope variable at term)
-      naming_literal variable at (Variable name span) words = (tt, tt)
-      naming_literal variable at (Integer value span) words = ((words, refl), tt)
-      naming_literal variable at (Text text span) words = (refl, tt)
-      naming_literal variable at (Application name qualifier arguments span) words =
-          let inner = naming_all blank scope (at + 2) arguments in
-          let operands = variables_at blank scope (at + 2) arguments in
-          let h = naming_all_literal (at + 2) arguments words in
-          if_holds AreLiteral (is_negation name qualifier arguments)
-          (Shape (at + 1) (IntegerSymbol (pos 0)) [] ∷ applied blank (Some Subtract) variable name ((at + 1) ∷ operands) inner)
-          (applied blank (if is_none qualifier then operation_of name else None) variable name operands inner)
-          ((zero_fits, refl), applied_literal (Some Subtract) variable name ((at + 1) ∷ operands) inner h)
-          (applied_literal (if is_none qualifier then operation_of name else None) variable name operands inner h)
+    -- an application, where the goals of its arguments have them
+    application_literal : (variable at name : ℕ) (qualifier : Option ℕ) (arguments : Terms) (span : Span) → AreLiteral (naming_all blank scope (at + 2) arguments)
+        → AreLiteral (naming blank scope variable at (Application name qualifier arguments span))
+    application_literal variable at name qualifier arguments span h =
+        let inner = naming_all blank scope (at + 2) arguments in
+        let operands = variables_at blank scope (at + 2) arguments in
+        let operation = if is_none qualifier then operation_of name else None in
+        if_holds AreLiteral (is_negation name qualifier arguments)
+        (Shape (at + 1) (IntegerSymbol (pos 0)) [] ∷ applied blank (Some Subtract) variable name ((at + 1) ∷ operands) inner)
+        (applied blank operation variable name operands inner)
+        ((zero_fits, refl), applied_literal (Some Subtract) variable name ((at + 1) ∷ operands) inner h)
+        (applied_literal operation variable name operands inner h)
 
-      pub naming_all_literal : (at : ℕ) (terms : Terms) → HaveWords terms → AreLiteral (naming_all blank scope at terms)
-      naming_all_literal at none words = tt
-      naming_all_literal at (more (Variable name span) rest) words = naming_all_literal (at + 2) rest words.1
-      naming_all_literal at (more (Integer value span) rest) words = each_literal at (Integer value span) rest words
-      naming_all_literal at (more (Text text span) rest) words = each_literal at (Text text span) rest words
-      naming_all_literal at (more (Application name qualifier arguments span) rest) words = each_literal at (Application name qualifier arguments span) rest words
+    naming_all_literal : (at : ℕ) (terms : Terms) → HaveWords terms → AreLiteral (naming_all blank scope at terms)
+    naming_all_literal at none words = tt
+    naming_all_literal at (more (Variable name span) rest) words = naming_all_literal (at + 2) rest words.1
+    naming_all_literal at (more (Integer value span) rest) words = ((words.0, refl), naming_all_literal (at + 2) rest words.1)
+    naming_all_literal at (more (Text text span) rest) words = (refl, naming_all_literal (at + 2) rest words.1)
+    naming_all_literal at (more (Application name qualifier arguments span) rest) words =
+        joined (naming blank scope at at (Application name qualifier arguments span)) (naming_all blank scope (at + parts (Application name qualifier arguments span)) rest)
+        (application_literal at at name qualifier arguments span (naming_all_literal (at + 2) arguments words.0))
+        (naming_all_literal (at + parts (Application name qualifier arguments span)) rest words.1)
 
-      each_literal : (at : ℕ) (first : Term) (rest : Terms) → HaveWords (more first rest) → AreLiteral (naming blank scope at at first ++ naming_all blank scope (at + parts first) rest)
-      each_literal at first rest words =
-          joined (naming blank scope at at first) (naming_all blank scope (at + parts first) rest) (naming_literal at at first words.0) (naming_all_literal (at + parts first) rest words.1)
+    naming_literal : (variable at : ℕ) (term : Term) → HasWords term → AreLiteral (naming blank scope variable at term)
+    naming_literal variable at (Variable name span) words = (tt, tt)
+    naming_literal variable at (Integer value span) words = ((words, refl), tt)
+    naming_literal variable at (Text text span) words = (refl, tt)
+    naming_literal variable at (Application name qualifier arguments span) words =
+        application_literal variable at name qualifier arguments span (naming_all_literal (at + 2) arguments words)
 
     turned_literal : (at : ℕ) (name : ℕ) (left right : Term) → HasWords left
         → AreLiteral (naming blank scope (variable_at blank scope (at + 2 + parts left) right) (at + 2) left)

@@ -63,17 +63,16 @@ module _ (blank : ℕ → Bool) (callee : ℕ → Option ℕ → ℕ → Callee)
         let one = one_goal (written_span condition) (flat blank callee region condition) in
         let then = one_goal (written_span then_part) (flat blank callee region then_part) in
         let other = one_goal (written_span else_part) (flat blank callee scope else_part) in (
-          joined (simple_goals one) (simple_goals then ++ simple_goals other) (part_literal region condition words.0)
-              (joined (simple_goals then) (simple_goals other) (part_literal region then_part words.1.0) (part_literal scope else_part words.1.1)),
+          joined (simple_goals one) (simple_goals then ++ simple_goals other) (one_literal (written_span condition) (flat blank callee region condition) (flat_literal region condition words.0))
+              (joined (simple_goals then) (simple_goals other) (one_literal (written_span then_part) (flat blank callee region then_part) (flat_literal region then_part words.1)) (one_literal (written_span else_part) (flat blank callee scope else_part) (flat_literal scope else_part words.2))),
           tt,
         )
-    flat_literal scope (Negated goal span) words = (part_literal scope goal words, tt)
-    flat_literal scope (WrittenQuantified variables goal span) words = (part_literal (introduced blank (WrittenQuantified variables goal span) ++ scope) goal words, tt)
+    flat_literal scope (Negated goal span) words = (one_literal (written_span goal) (flat blank callee scope goal) (flat_literal scope goal words), tt)
+    flat_literal scope (WrittenQuantified variables goal span) words =
+        let known = introduced blank (WrittenQuantified variables goal span) ++ scope in
+        (one_literal (written_span goal) (flat blank callee known goal) (flat_literal known goal words), tt)
     flat_literal scope (WrongForm span) words = tt
     flat_literal scope (OutsideProfile span) words = tt
-
-    part_literal : (scope : List Occurrence) (goal : Written) → GoalHasWords goal → HasWrittenLiterals (one_goal (written_span goal) (flat blank callee scope goal))
-    part_literal scope goal words = one_literal (written_span goal) (flat blank callee scope goal) (flat_literal scope goal words)
 
     flat_all_literal : (scope : List Occurrence) (goals : WrittenGoals) → GoalsHaveWords goals → HaveLiterals (flat_all blank callee scope goals)
     flat_all_literal scope no_goals words = tt
@@ -84,7 +83,10 @@ module _ (blank : ℕ → Bool) (callee : ℕ → Option ℕ → ℕ → Callee)
     flat_each_literal scope no_goals words = tt
     flat_each_literal scope (more_goals first rest) words =
         joined (simple_goals (one_goal (written_span first) (flat blank callee scope first))) (all_simple_goals (flat_each blank callee scope rest))
-        (part_literal scope first words.0) (flat_each_literal scope rest words.1)
+        (one_literal (written_span first) (flat blank callee scope first) (flat_literal scope first words.0)) (flat_each_literal scope rest words.1)
+
+  part_literal : (scope : List Occurrence) (goal : Written) → GoalHasWords goal → HasWrittenLiterals (one_goal (written_span goal) (flat blank callee scope goal))
+  part_literal scope goal words = one_literal (written_span goal) (flat blank callee scope goal) (flat_literal scope goal words)
 
   body_literal : (scope : List Occurrence) (at : ℕ) (body : Option Term) → BodyHasWords body → HaveLiterals (body_goals blank callee scope at body)
   body_literal scope at None words = tt

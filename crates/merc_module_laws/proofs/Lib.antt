@@ -6,3 +6,8 @@ pub mod ItemWords
 pub mod EntryFacts
 pub mod ModuleWords
 pub mod BodyLiterals
+pub mod ScopedTypes
+pub mod LibraryTypes
+pub mod ModuleTypes
+pub mod OrderedModules
+pub mod GoodModules

@@ -1,5 +1,6 @@
 -- The integers of a module's clauses have 64 bits: its terms were read so, and those of units too.
-use Rattle.std.proofs.Common.{◌≡◌, ◌≢◌, ℕ, Bool, true, false, ◌==◌, List, [], ◌∷◌, ◌++◌, flat_map, refl, sym, subst, eqb-true, eqb-false}
+use Rattle.std.proofs.Common.{◌≡◌, ◌≢◌, ℕ, Bool, true, false, ◌==◌, List, [], ◌∷◌, ◌++◌, flat_map, refl, sym, subst, eqb-true}
+use Rattle.std.proofs.lemmas.Bool.{eqb-false}
 use Rattle.std.specs.List.{AllByRecursion}
 use Rattle.merc_base.specs.Names.{bool_name, list_name, maybe_name}
 use Rattle.merc_tokens.specs.declared.token.Token.{Token}

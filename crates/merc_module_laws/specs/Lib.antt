@@ -2,3 +2,4 @@ pub mod ClauseWords
 pub mod ClauseWordsExamples
 pub mod Laws
 pub mod ProgramLaws
+pub mod ProgramLawsExamples
