@@ -1,7 +1,6 @@
 -- The bodies of predicates, and of a goal that is asked, have the literals of their forms.
 use Rattle.std.proofs.Common.{◌≡◌, ℕ, ◌+◌, Bool, true, false, cond, refl, List, [], ◌∷◌, ◌++◌, length, map}
 use Rattle.std.specs.List.{AllByRecursion}
-use Rattle.merc_tree.specs.Term.{Term}
 use Rattle.merc_tree.specs.declared.declarations.Clause.{Clause}
 use Rattle.merc_tree.specs.declared.declarations.PredDecl.{PredDecl}
 use Rattle.merc_goals.specs.Written.{written}

@@ -1,5 +1,5 @@
 -- The goals by which variables have the values of terms have their literals as they are written.
-use Rattle.std.proofs.Common.{ℕ, ◌+◌, Bool, ◌==◌, ◌||◌, is_none, pos, FitsSigned, List, [], ◌∷◌, ◌++◌, length, Option, Some, None, if◌then◌else◌, refl}
+use Rattle.std.proofs.Common.{ℕ, ◌+◌, Bool, ◌==◌, ◌||◌, is_none, pos, FitsSigned, List, [], ◌∷◌, ◌++◌, Option, Some, None, if◌then◌else◌, refl}
 use Rattle.std.proofs.Math.Facts.{sfits_lit}
 use Rattle.std.specs.Int.{w64}
 use Rattle.std.specs.List.{AllByRecursion}
@@ -8,7 +8,7 @@ use Rattle.merc_tree.specs.Term.{Term, Terms, Variable, Integer, Text, Applicati
 use Rattle.merc_goals.specs.Written.{parts}
 use Rattle.merc_goal_tree.specs.declared.goal.SimpleGoal.{SimpleGoal}
 use Rattle.merc_goal_tree.specs.declared.goal.SimpleGoal.TheVariants.{Same, Shape, Arithmetic}
-use Rattle.merc_goal_tree.specs.declared.goal.Symbol.TheVariants.{Constructor, Integer as IntegerSymbol}
+use Rattle.merc_goal_tree.specs.declared.goal.Symbol.TheVariants.{Integer as IntegerSymbol}
 use Rattle.merc_goal_tree.specs.declared.goal.Operation.{Operation}
 use Rattle.merc_goal_tree.specs.declared.goal.Operation.TheVariants.{Subtract}
 use Rattle.merc_goal_tree.specs.declared.goal.Comparison.{Comparison}
@@ -80,9 +80,9 @@ module _ (blank : ℕ → Bool) where
     naming_literal variable at (Application name qualifier arguments span) words =
         application_literal variable at name qualifier arguments span (naming_all_literal (at + 2) arguments words)
 
-    turned_literal : (at : ℕ) (name : ℕ) (left right : Term) → HasWords left
+    turned_literal : (at : ℕ) (left right : Term) → HasWords left
         → AreLiteral (naming blank scope (variable_at blank scope (at + 2 + parts left) right) (at + 2) left)
-    turned_literal at name left right words = naming_literal (variable_at blank scope (at + 2 + parts left) right) (at + 2) left words
+    turned_literal at left right words = naming_literal (variable_at blank scope (at + 2 + parts left) right) (at + 2) left words
 
     sides_literal : (at : ℕ) (left right : Term) → HasWords left → HasWords right
         → AreLiteral (naming blank scope at (at + 2) left ++ naming blank scope at (at + 2 + parts left) right)
@@ -91,15 +91,15 @@ module _ (blank : ℕ → Bool) where
 
     pub equal_literal : (at : ℕ) (left right : Term) → HasWords left → HasWords right → AreLiteral (equal blank scope at left right)
     equal_literal at (Variable name span) right h k = naming_literal (variable_at blank scope (at + 2) (Variable name span)) (at + 4) right k
-    equal_literal at (Integer value span) (Variable name place) h k = turned_literal at name (Integer value span) (Variable name place) h
+    equal_literal at (Integer value span) (Variable name place) h k = turned_literal at (Integer value span) (Variable name place) h
     equal_literal at (Integer value span) (Integer other place) h k = sides_literal at (Integer value span) (Integer other place) h k
     equal_literal at (Integer value span) (Text other place) h k = sides_literal at (Integer value span) (Text other place) h k
     equal_literal at (Integer value span) (Application other q others place) h k = sides_literal at (Integer value span) (Application other q others place) h k
-    equal_literal at (Text text span) (Variable name place) h k = turned_literal at name (Text text span) (Variable name place) h
+    equal_literal at (Text text span) (Variable name place) h k = turned_literal at (Text text span) (Variable name place) h
     equal_literal at (Text text span) (Integer other place) h k = sides_literal at (Text text span) (Integer other place) h k
     equal_literal at (Text text span) (Text other place) h k = sides_literal at (Text text span) (Text other place) h k
     equal_literal at (Text text span) (Application other q others place) h k = sides_literal at (Text text span) (Application other q others place) h k
-    equal_literal at (Application f p arguments span) (Variable name place) h k = turned_literal at name (Application f p arguments span) (Variable name place) h
+    equal_literal at (Application f p arguments span) (Variable name place) h k = turned_literal at (Application f p arguments span) (Variable name place) h
     equal_literal at (Application f p arguments span) (Integer other place) h k = sides_literal at (Application f p arguments span) (Integer other place) h k
     equal_literal at (Application f p arguments span) (Text other place) h k = sides_literal at (Application f p arguments span) (Text other place) h k
     equal_literal at (Application f p arguments span) (Application other q others place) h k = sides_literal at (Application f p arguments span) (Application other q others place) h k

@@ -2,11 +2,10 @@
 use Rattle.std.proofs.Common.{ℕ, ◌+◌, Bool, List, [], ◌∷◌, ◌++◌, length, Option, Some, None}
 use Rattle.std.specs.List.{AllByRecursion}
 use Rattle.merc_base.specs.declared.place.Span.{Span}
-use Rattle.merc_tree.specs.Term.{Term, Terms, Variable, Integer, Text, Application, HasWords, HaveWords, list_of}
-use Rattle.merc_tree.specs.declared.declarations.Clause.{Clause}
+use Rattle.merc_tree.specs.Term.{Term, Variable, Integer, Text, Application, HasWords, HaveWords, list_of}
 use Rattle.merc_tree.specs.declared.declarations.Module.{Module}
 use Rattle.merc_goals.specs.Written.{Written, WrittenGoals, Truth, Failure, Equal, Compared, Called, Conjunction as WrittenConjunction, Parallel as WrittenParallel, Disjunction as WrittenDisjunction, Conditional as WrittenConditional, Negated, Quantified as WrittenQuantified, WrongForm, OutsideProfile, no_goals, more_goals, parts, written, written_span}
-use Rattle.merc_goal_tree.specs.Nodes.{Node, Nodes, Simple, no_nodes, nodes_of}
+use Rattle.merc_goal_tree.specs.Nodes.{Node, nodes_of}
 use Rattle.merc_goal_tree.specs.declared.goal.SimpleGoal.{SimpleGoal}
 use Rattle.merc_known.specs.declared.callee.Callee.{Callee}
 use Rattle.merc_known.specs.Known.{callee_in}
@@ -14,10 +13,10 @@ use Rattle.merc_scopes.specs.declared.occurrence.Occurrence.{Occurrence}
 use Rattle.merc_scopes.specs.Scopes.{introduced, is_blank}
 use Rattle.merc_answer_variables.specs.AnswerVariables.{answer_variables}
 use Rattle.merc_flat_form.specs.FlatForm.{argument_terms, body_goals, called, compared, equal, flat, flat_all, flat_each, head_goals, head_scope, one_goal, simple}
-use Rattle.merc_flat.specs.Flat.{arity_of, clause_node, query_node}
+use Rattle.merc_flat.specs.Flat.{arity_of, query_node}
 use Rattle.merc_order_laws.specs.WrittenGoals.{all_simple_goals, simple_goals}
 use Rattle.merc_order_laws.proofs.Written.{all_joined}
-use Rattle.merc_found_laws.specs.ProgramBodies.{HasWrittenLiterals, WrittenLiteral}
+use Rattle.merc_found_laws.specs.ProgramBodies.{HasWrittenLiterals}
 use Rattle.merc_module_laws.specs.ClauseWords.{BodyHasWords}
 use Rattle.merc_module_laws.specs.Laws.{ClauseHasLiterals}
 use Rattle.merc_module_laws.proofs.FormLiterals.{AreLiteral, called_literal, compared_sides, equal_literal, head_goals_literal, joined}

@@ -1,5 +1,4 @@
 -- A module without faults becomes a good program, and a goal that is asked a good one.
-use Rattle.std.proofs.Common.{[]}
 use Rattle.merc_goals.specs.Written.{written}
 use Rattle.merc_bodies.specs.Bodies.{asked_body}
 use Rattle.merc_body_laws.proofs.JoinedTyping.{asked_typed}

@@ -1,14 +1,14 @@
 -- The integers of the clauses that items are have 64 bits where those of their terms have.
-use Rattle.std.proofs.Common.{◌≡◌, ℕ, Bool, ◌==◌, ◌||◌, sym, subst, List, [], ◌∷◌, Option, Some, None, if◌then◌else◌}
+use Rattle.std.proofs.Common.{ℕ, Bool, ◌==◌, ◌||◌, sym, subst, Option, Some, None, if◌then◌else◌}
 use Rattle.std.specs.List.{AllByRecursion}
 use Rattle.merc_base.specs.Names.{colon_minus_name, end_module_name, equal_equal_name, func_name, grammar_arrow_name, implementation_name, import_module_name, interface_name, mode_name, module_name, pred_name, semicolon_name, comma_name, type_arrow_name, type_name}
 use Rattle.merc_base.specs.declared.place.Span.{Span}
 use Rattle.merc_tree.specs.Term.{Term, Variable, Integer, Text, Application, none, more, HasWords}
 use Rattle.merc_operands.specs.Members.{chain}
-use Rattle.merc_operands.specs.Operands.{head_and_category, operands_of, plain_name}
+use Rattle.merc_operands.specs.Operands.{operands_of, plain_name}
 use Rattle.merc_operands.specs.declared.operands.Operands.{Operands}
 use Rattle.merc_operands.specs.declared.operands.Operands.TheVariants.{Zero, One, Two, Many, Qualified, NotApplied}
-use Rattle.merc_item_forms.specs.Items.{Item, Opening, Ending, Section, Import, TypeItem, PredicateItem, ModeItem, ClauseItem, OtherType, OtherFunction, OtherGrammar, OtherDeclaration, Formless, declaration, ending, is_word, item_of, nullary, opening, type_item, unary, wider, with_category}
+use Rattle.merc_item_forms.specs.Items.{Item, Opening, Ending, Section, Import, TypeItem, PredicateItem, ModeItem, ClauseItem, OtherType, OtherFunction, OtherGrammar, OtherDeclaration, Formless, declaration, ending, is_word, item_of, opening, type_item, unary, wider, with_category}
 use Rattle.merc_item_forms.proofs.ItemLaws.{declaration_by, declaration-by, type_by, type_item-by, with_category-by}
 use Rattle.merc_items.specs.ModuleOf.{clauses_of}
 use Rattle.merc_module_laws.specs.ClauseWords.{BodyHasWords, ClauseHasWords}

@@ -1,5 +1,5 @@
 -- The types of library units mention none but their parameters.
-use Rattle.std.proofs.Common.{◌≡◌, ℕ, Bool, true, false, ◌==◌, ◌||◌, List, [], ◌∷◌, length, Option, Some, if◌then◌else◌, codes, unwrap_or, refl, sym, ap, subst, ◌∙◌}
+use Rattle.std.proofs.Common.{◌≡◌, ℕ, Bool, true, false, ◌==◌, List, [], ◌∷◌, Option, if◌then◌else◌, codes, unwrap_or, refl, sym, ap, subst}
 use Rattle.std.specs.List.{AllByRecursion}
 use Rattle.std.specs.Str.{bytes_eq}
 use Rattle.merc_base.specs.Names.{HoldsFixed, bool_name, fixed_names, list_name, maybe_name, t_name}

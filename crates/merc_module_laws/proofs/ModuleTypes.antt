@@ -1,9 +1,7 @@
 -- The types of a module are good.
 use Rattle.std.proofs.Common.{◌≡◌, ℕ, Bool, true, false, ◌&&◌, List, [], ◌∷◌, ◌++◌, flat_map, slice_get, Some, refl, sym, subst, ap₂, ◌∙◌, append_assoc}
-use Rattle.std.specs.List.{AllByRecursion, IsDistinct}
-use Rattle.std.specs.Str.{bytes_eq}
+use Rattle.std.specs.List.{AllByRecursion}
 use Rattle.merc_base.specs.Names.{HoldsFixed}
-use Rattle.merc_base.specs.declared.place.Place.{Place}
 use Rattle.merc_base.specs.declared.refusal.Rule.TheVariants.{UnknownType}
 use Rattle.merc_base.specs.declared.refusal.Detail.TheVariants.{Plain}
 use Rattle.merc_base.proofs.NameLaws.{slice_get-front}
@@ -13,8 +11,6 @@ use Rattle.merc_terms.proofs.TextLaws.{ReadsItems-distinct, ReadsItems-grows}
 use Rattle.merc_item_forms.specs.FormFaults.{own_name}
 use Rattle.merc_item_forms.specs.Items.{item_of}
 use Rattle.merc_entries.specs.Entries.{Entry, entries, is_own, own_entries}
-use Rattle.merc_entries.specs.EntryValue.{place_at}
-use Rattle.merc_entries.specs.LibraryItems.{library_items}
 use Rattle.merc_entries.proofs.LibraryReads.{units_are-library}
 use Rattle.merc_declared.specs.UnknownTypes.{has_unknown}
 use Rattle.merc_items.specs.ModuleOf.{type_defs, unit_items}
@@ -80,10 +76,10 @@ module_is_scoped before after text terms found fixed distinct is =
     let after_fixed = subst HoldsFixed library.same read_fixed in
     let all = entries items terms in
     let of_unit : (unit : ℕ) → AllByRecursion (λ term. ItemIsScoped after (item_of term)) (items unit) =
-        λ unit. subst (AllByRecursion (λ term. ItemIsScoped after (item_of term))) (library.items_are unit) (library_scoped after after_fixed unit)
+    λ unit. subst (AllByRecursion (λ term. ItemIsScoped after (item_of term))) (library.items_are unit) (library_scoped after after_fixed unit)
     in
     let units = of_entries (IsScopedUnit after) items
-        (λ place unit. all_implied (λ term. ItemIsScoped after (item_of term)) (λ term. false ≡ false → ItemIsScoped after (item_of term)) (items unit) (λ term h other. h) (of_unit unit)) [] terms (no_units after terms)
+    (λ place unit. all_implied (λ term. ItemIsScoped after (item_of term)) (λ term. false ≡ false → ItemIsScoped after (item_of term)) (items unit) (λ term h other. h) (of_unit unit)) [] terms (no_units after terms)
     in
     subst (λ (known : Module). AllByRecursion IsScoped known.types) (sym is.is.same)
     (all_joined IsScoped (flat_map (type_defs after) (own_entries all)) (flat_map (type_defs after) (unit_items all))

@@ -1,12 +1,12 @@
 -- The constructors of a type mention none but its parameters, where no part of them is an unbound variable.
-use Rattle.std.proofs.Common.{◌≡◌, ℕ, ◌+◌, Bool, true, false, ◌==◌, ◌||◌, not, List, [], ◌∷◌, map, length, Option, if◌then◌else◌, refl, sym, ap, subst, ◌∙◌, eqb-true}
+use Rattle.std.proofs.Common.{◌≡◌, ℕ, ◌+◌, Bool, true, false, ◌==◌, ◌||◌, not, List, [], ◌∷◌, map, length, Option, if◌then◌else◌, refl, sym, ap, subst, eqb-true}
 use Rattle.std.proofs.lemmas.Bool.{eq-eqb}
 use Rattle.std.specs.List.{AllByRecursion, list_any}
 use Rattle.merc_base.specs.Names.{int_name, string_name}
 use Rattle.merc_base.specs.declared.place.Span.{Span}
 use Rattle.merc_tree.specs.Term.{Term, Terms, Variable, Integer, Text, Application, none, more}
 use Rattle.merc_tree.specs.Shape.{arguments_of}
-use Rattle.merc_tree.specs.Types.{TypeExpr, TypeExprs, IntType, TextType, TypeApplication, no_types, more_types}
+use Rattle.merc_tree.specs.Types.{TypeExprs, IntType, TextType, TypeApplication, no_types, more_types}
 use Rattle.merc_tree.specs.declared.declarations.Constructor.{Constructor}
 use Rattle.merc_item_forms.specs.Forms.{has_part, have_part, is_blank, is_this_variable}
 use Rattle.merc_item_forms.specs.Items.{Item, Opening, Ending, Section, Import, TypeItem, PredicateItem, ModeItem, ClauseItem, OtherType, OtherFunction, OtherGrammar, OtherDeclaration, Formless}

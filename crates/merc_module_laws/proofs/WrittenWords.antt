@@ -2,7 +2,7 @@
 use Rattle.std.proofs.Common.{ℕ, ◌+◌, Bool, true, false, ◌==◌, ◌||◌, List, Option, Some, None, if◌then◌else◌}
 use Rattle.merc_base.specs.Names.{all_name, ampersand_name, arrow_name, at_least_name, at_most_name, colon_colon_name, comma_name, else_name, equal_equal_name, equal_name, equivalent_name, fail_name, false_name, greater_name, if_name, implies_name, is_name, less_name, not_equal_name, not_name, not_provable_name, semicolon_name, some_name, then_name, true_name}
 use Rattle.merc_base.specs.declared.place.Span.{Span}
-use Rattle.merc_tree.specs.Term.{Term, Terms, Variable, Integer, Text, Application, none, more, HasWords, HaveWords}
+use Rattle.merc_tree.specs.Term.{Term, Variable, Integer, Text, Application, none, more, HasWords, HaveWords}
 use Rattle.merc_goals.specs.Written.{Written, WrittenGoals, Truth, Failure, Equal, Compared, Called, Conjunction, Parallel, Disjunction, Conditional, Negated, Quantified, WrongForm, OutsideProfile, no_goals, more_goals, alternatives, arrow_parts, binary, conditional, conjuncts, disjuncts, if_then_parts, joined, listed_variables, nullary, parallel_conjuncts, parts, quantified, then_parts, written}
 use Rattle.merc_module_laws.proofs.Lists.{if_holds}
 

@@ -2,7 +2,7 @@
 use Rattle.std.specs.Prelude.{ℕ, None, pos}
 use Rattle.std.proofs.Common.{arith}
 use Rattle.std.proofs.Math.Facts.{sfits_lit}
-use Rattle.merc_tree.specs.Term.{Term, Integer, Application, none, more, no_span}
+use Rattle.merc_tree.specs.Term.{Integer, Application, none, more, no_span}
 use Rattle.merc_tree.specs.declared.declarations.Clause.{Clause}
 use Rattle.merc_module_laws.specs.ClauseWords.{ClauseHasWords}
 

@@ -18,7 +18,6 @@ use Rattle.merc_order.specs.Spelt.{spelt}
 use Rattle.merc_grading.specs.Faults.{Body, category_fault, procedures_of}
 use Rattle.merc_bodies.specs.Bodies.{body_of}
 use Rattle.merc_flat.specs.Flat.{clause_node}
-use Rattle.merc_fit_laws.specs.ProcedureBodies.{IsBodyOf}
 use Rattle.merc_found_laws.specs.ProgramBodies.{UnitsAllow}
 use Rattle.merc_module_laws.specs.ProgramLaws.{BecomesGood, BecomesGoodQuery, HaveBodies, IsFaultless, UnitsKeepTheirCategories}
 
