@@ -1,0 +1,4 @@
+//! Laws of accepted modules and goals.
+#![tactic(auto)]
+
+pub mod laws;
