@@ -1,5 +1,5 @@
 -- Accepted modules are good programs, and accepted goals good ones, of which the laws of answers and categories hold.
-use Rattle.std.proofs.Common.{◌≡◌, ℕ, ◌<◌, List, [], ◌∷◌, map, None, refl, sym, ap, subst, ◌∙◌}
+use Rattle.std.proofs.Common.{◌≡◌, ℕ, List, [], ◌∷◌, map, None, refl, sym, ap, subst, ◌∙◌}
 use Rattle.merc_tree.specs.Term.{Term}
 use Rattle.merc_tree.specs.declared.declarations.Module.{Module}
 use Rattle.merc_graded_tree.specs.Nodes.{Node}
@@ -81,9 +81,10 @@ calls_answer_truly before after text items found trees is procedure declared mod
     let bodies = good_bodies before after text items found trees is in
     let good = is_good before after text items found trees is in
     subst (λ (program : Program). AnswersAreYes program stage procedure arguments (call_trace program depth procedure env)
-    × OthersAreNo program stage procedure arguments env (call_trace program depth procedure env)) (program_is before after text items found trees is)
-    (answers_law found bodies good procedure declared mode there instance env enters arguments same depth stage within,
-    others_law found bodies good procedure declared mode there instance env enters arguments same depth stage within)
+    × OthersAreNo program stage procedure arguments env (call_trace program depth procedure env)) (program_is before after text items found trees is) (
+      answers_law found bodies good procedure declared mode there instance env enters arguments same depth stage within,
+      others_law found bodies good procedure declared mode there instance env enters arguments same depth stage within,
+    )
 
 pub runs_answer_truly : RunsAnswerTruly
 runs_answer_truly before after text items found trees is names asked goal accepted tree graded limit stage within =
@@ -97,7 +98,8 @@ runs_answer_truly before after text items found trees is names asked goal accept
     (subst (λ (t : Node). AnswersAreWhole answers (run (program_of found.preds bodies) t limit)
     × RunAnswersAreYes (program_of found.preds bodies) stage answers t (run (program_of found.preds bodies) t limit)
     × RunOthersAreNo (program_of found.preds bodies) stage answers t (run (program_of found.preds bodies) t limit))
-    (tree_is before after text items found trees is names asked goal accepted tree graded)
-    (whole_answers_law found bodies good answers (finished_body found nothing query.body) query.good limit stage within,
-    run_answers_law found bodies good answers (finished_body found nothing query.body) query.good limit stage within,
-    run_others_law found bodies good answers (finished_body found nothing query.body) query.good limit stage within))
+    (tree_is before after text items found trees is names asked goal accepted tree graded) (
+      whole_answers_law found bodies good answers (finished_body found nothing query.body) query.good limit stage within,
+      run_answers_law found bodies good answers (finished_body found nothing query.body) query.good limit stage within,
+      run_others_law found bodies good answers (finished_body found nothing query.body) query.good limit stage within,
+    ))

@@ -12,7 +12,7 @@ use Rattle.merc_graded_tree.specs.declared.basic.Procedure.{Procedure}
 use Rattle.merc_graded_tree.specs.Nodes.{Node}
 use Rattle.merc_order.specs.Bound.{nothing}
 use Rattle.merc_grading.specs.Faults.{Body, finished}
-use Rattle.merc_meaning.specs.Trace.{Env, Trace, Run}
+use Rattle.merc_meaning.specs.Trace.{Env, Trace}
 use Rattle.merc_meaning.specs.Runs.{Program, call_trace, run}
 use Rattle.merc_category_laws.specs.Answers.{Each, KeepsTo}
 use Rattle.merc_category_laws.specs.GoodPrograms.{body_of}
