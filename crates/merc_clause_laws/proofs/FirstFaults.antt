@@ -20,8 +20,8 @@ use Rattle.merc_base.specs.FirstFault.{comes_first, earlier_fault, first_of_faul
 use Rattle.merc_flat.specs.GoalFaults.{conjunct_limit, faults_of_form, limit_passed, size_faults, unknown, unknown_among, unknown_name, variable_count, variable_limit, width_faults}
 use Rattle.merc_flat.specs.Flat.{arity_of, body_goal, clause_form_fault, clause_name_fault, clause_node, either_fault, fault_among, goal_of}
 use Rattle.merc_check.specs.Accepted.{IsTypedClause, type_mismatch}
-use Rattle.merc_check.specs.Accepted.RefusesClauses.{fault as clauses_faulty, untyped as clause_untyped, unordered as procedures_unordered}
-use Rattle.merc_clause_laws.specs.ClauseFaults.{IsAmong, ComesFirst, earlier_phase, lesser_place, lesser_rule, HasGoalFault, wrong, outside, variables, conjuncts, HasNameFault, name, HasTypeFault, untyped, HasClauseFault, goal, names as names_fault, types, file_clauses, IsFirstClauseFault, TellsFirstFault}
+use Rattle.merc_check.specs.Accepted.RefusesClauses.{fault as clauses_faulty, untyped as clause_untyped, unordered as procedures_unordered, category as categories_wrong}
+use Rattle.merc_clause_laws.specs.ClauseFaults.{IsAmong, ComesFirst, earlier_phase, lesser_place, lesser_rule, HasGoalFault, wrong, outside, variables, conjuncts, HasNameFault, name, HasTypeFault, untyped, HasClauseFault, goal, names as names_fault, types, file_clauses, AreFaultless, IsFirstClauseFault, TellsFirstFault}
 use Rattle.merc_clause_laws.proofs.TermPlaces.{Within}
 use Rattle.merc_clause_laws.proofs.GoalPlaces.{all_append, GoalLies, written_lies, wrong_within, outside_within, unknown_among-within, unknown_within}
 use Rattle.merc_clause_laws.proofs.ClausePlaces.{BodyLies, ClauseLies, ClausesLie, no_clause, a_clause, read_clauses-lie, module_clauses}
@@ -497,7 +497,7 @@ module _ (before after : List (List ℕ)) (text : List ℕ) (terms : List Term) 
 
   -- where the clauses have a form, names and types
   free : fault_among (clause_form_fault after found) found.clauses ≡ None → fault_among (clause_name_fault after found) found.clauses ≡ None → AllByRecursion (IsTypedClause after found) found.clauses
-      → (clause : Clause) → IsAmong clause (file_clauses terms) → (phase : ℕ) (fault : Refusal) → HasClauseFault after found clause phase fault → ⊥
+      → AreFaultless after terms found
   free none none' typed clause among _ fault (goal _ has) = no_form none clause among fault has
   free none none' typed clause among _ fault (names_fault _ has) = no_name none' clause among fault has
   free none none' typed clause among _ fault (types _ has) =
@@ -511,4 +511,7 @@ tells_first before after text terms found _ is (clause_untyped front clause behi
     inl (type_case before after text terms found is front clause behind parts.0 parts.1 split typed wrong')
 tells_first before after text terms found told is (procedures_unordered _ none typed first) =
     let parts = none_before (fault_among (clause_form_fault after found) found.clauses) (fault_among (clause_name_fault after found) found.clauses) none in
-    inr (record { faultless = free before after text terms found is parts.0 parts.1 typed; first = first })
+    inr (inl (record { faultless = free before after text terms found is parts.0 parts.1 typed; first = first }))
+tells_first before after text terms found told is (categories_wrong _ none typed ordered first) =
+    let parts = none_before (fault_among (clause_form_fault after found) found.clauses) (fault_among (clause_name_fault after found) found.clauses) none in
+    inr (inr (record { faultless = free before after text terms found is parts.0 parts.1 typed; ordered = ordered; first = first }))

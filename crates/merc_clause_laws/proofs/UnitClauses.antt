@@ -19,7 +19,7 @@ use Rattle.merc_entries.proofs.LibraryReads.{units_are-library}
 use Rattle.merc_items.specs.ModuleOf.{clauses_in, clauses_of, module_of, unit_items}
 use Rattle.merc_items.specs.Phases.{doubles_phase, double, HasNoFault}
 use Rattle.merc_items.specs.ReadModule.{IsModule}
-use Rattle.merc_clause_laws.specs.ClauseFaults.{IsAmong, HasClauseFault, goal, names as names_fault, types, IsFirstClauseFault, IsOrderFault, file_clauses}
+use Rattle.merc_clause_laws.specs.ClauseFaults.{IsAmong, HasClauseFault, goal, names as names_fault, types, IsFirstClauseFault, IsProcedureFault, file_clauses}
 use Rattle.merc_clause_laws.specs.UnitClauses.{IsFaultless, IsFileFault, IsTable, TellsFileFault, UnitsAreFaultless}
 use Rattle.merc_clause_laws.proofs.ClausePlaces.{module_clauses}
 use Rattle.merc_clause_laws.proofs.FirstFaults.{all_at, among_either, goal_none, name_none, tells_first, type_none}
@@ -144,7 +144,7 @@ in_file before after text terms found told table is first =
 
 pub tells_file_fault : TellsFileFault
 tells_file_fault before after text terms found told table is refuses =
-    elim (tells_first before after text terms found told is refuses) as (λ _. IsFileFault after terms found told ⊎ IsOrderFault after terms found told) [
+    elim (tells_first before after text terms found told is refuses) as (λ _. IsFileFault after terms found told ⊎ IsProcedureFault after terms found told) [
       | inl first ↦ inl (in_file before after text terms found told table is first)
-      | inr order ↦ inr order
+      | inr procedures ↦ inr procedures
     ]

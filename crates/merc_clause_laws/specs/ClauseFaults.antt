@@ -18,7 +18,8 @@ use Rattle.merc_flat_form.specs.FlatForm.{argument_terms}
 use Rattle.merc_flat.specs.GoalFaults.{conjunct_limit, limit_passed, unknown, unknown_among, unknown_name, variable_count, variable_limit}
 use Rattle.merc_flat.specs.Flat.{arity_of, clause_node, goal_of}
 use Rattle.merc_order.specs.Procedures.{order_fault}
-use Rattle.merc_check.specs.Accepted.{bodies, IsTypedClause, RefusesClauses, type_mismatch}
+use Rattle.merc_grading.specs.Faults.{Body, category_fault}
+use Rattle.merc_check.specs.Accepted.{bodies, HaveBodies, IsTypedClause, RefusesClauses, type_mismatch}
 
 -- it is one of these
 abbrev pub IsAmong : {A : Type 0} → A → List A → Type 0
@@ -77,12 +78,27 @@ pub record IsFirstClauseFault (names : List (List ℕ)) (terms : List Term) (kno
   pub first : (other : Clause) → IsAmong other (file_clauses terms) → (phase' : ℕ) (fault' : Refusal) → HasClauseFault names known other phase' fault'
       → ComesFirst phase told.place told.rule phase' fault'.place fault'.rule
 
+-- no clause of the file has a fault
+abbrev pub AreFaultless : List (List ℕ) → List Term → Module → Type 0
+AreFaultless texts terms known = (clause : Clause) → IsAmong clause (file_clauses terms) → (phase : ℕ) (fault : Refusal) → HasClauseFault texts known clause phase fault → ⊥
+
 -- What is told is the first fault of the order of the procedures' goals, and no clause of the file has a fault.
 pub record IsOrderFault (names : List (List ℕ)) (terms : List Term) (known : Module) (told : Refusal) : Type 0 where
-  pub faultless : (clause : Clause) → IsAmong clause (file_clauses terms) → (phase : ℕ) (fault : Refusal) → HasClauseFault names known clause phase fault → ⊥
+  pub faultless : AreFaultless names terms known
   pub first : order_fault known.preds (bodies names known) ≡ Some told
 
--- What is told of a module that a text is comes first: a fault of its clauses or, where those of the file have none, of the order of its procedures.
+-- What is told is the first fault of the categories, whatever types by which they are typed the variables have; no clause of the file has a fault, and each
+-- procedure has an order.
+pub record IsCategoryFault (names : List (List ℕ)) (terms : List Term) (known : Module) (told : Refusal) : Type 0 where
+  pub faultless : AreFaultless names terms known
+  pub ordered : order_fault known.preds (bodies names known) ≡ None
+  pub first : (own : List Body) → HaveBodies names known own → category_fault known.types known.preds own ≡ Some told
+
+-- What is told is a fault of the procedures: of their order or, where all have one, of their categories.
+abbrev pub IsProcedureFault : List (List ℕ) → List Term → Module → Refusal → Type 0
+IsProcedureFault texts terms known told = IsOrderFault texts terms known told ⊎ IsCategoryFault texts terms known told
+
+-- What is told of a module that a text is comes first: a fault of its clauses or, where those of the file have none, of its procedures.
 abbrev pub TellsFirstFault : Type 0
 TellsFirstFault = (before after : List (List ℕ)) (text : List ℕ) (terms : List Term) (found : Module) (told : Refusal)
-    → IsModule before after text terms found → RefusesClauses after found told → IsFirstClauseFault after terms found told ⊎ IsOrderFault after terms found told
+    → IsModule before after text terms found → RefusesClauses after found told → IsFirstClauseFault after terms found told ⊎ IsProcedureFault after terms found told

@@ -10,7 +10,7 @@ use Rattle.merc_tree.specs.declared.declarations.Module.{Module}
 use Rattle.merc_items.specs.ReadModule.{IsModule}
 use Rattle.merc_flat.specs.Flat.{clause_form_fault, clause_name_fault}
 use Rattle.merc_check.specs.Accepted.{IsTypedClause, RefusesClauses}
-use Rattle.merc_clause_laws.specs.ClauseFaults.{IsAmong, HasClauseFault, IsOrderFault, file_clauses}
+use Rattle.merc_clause_laws.specs.ClauseFaults.{IsAmong, HasClauseFault, IsProcedureFault, file_clauses}
 
 -- A table of names, as each is: the constants come first, and each text stands once.
 pub record IsTable (names : List (List ℕ)) : Type 0 where
@@ -41,7 +41,7 @@ pub record IsFileFault (names : List (List ℕ)) (terms : List Term) (known : Mo
   pub among : IsAmong clause (file_clauses terms)
   pub fault : HasClauseFault names known clause phase told
 
--- What is told of a module that a text is is a fault of a clause of the file, or one of the order of its procedures.
+-- What is told of a module that a text is is a fault of a clause of the file, or one of its procedures.
 abbrev pub TellsFileFault : Type 0
 TellsFileFault = (before after : List (List ℕ)) (text : List ℕ) (terms : List Term) (found : Module) (told : Refusal)
-    → IsTable before → IsModule before after text terms found → RefusesClauses after found told → IsFileFault after terms found told ⊎ IsOrderFault after terms found told
+    → IsTable before → IsModule before after text terms found → RefusesClauses after found told → IsFileFault after terms found told ⊎ IsProcedureFault after terms found told
