@@ -1,1 +1,2 @@
 pub mod UnitProcedures
+pub mod UnitCategories
