@@ -1,0 +1,3 @@
+pub mod ListTrees
+pub mod ListCategories
+pub mod Allowed
