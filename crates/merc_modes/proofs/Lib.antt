@@ -11,3 +11,6 @@ pub mod Wholes
 pub mod Stepped
 pub mod Chaining
 pub mod Beside
+pub mod Agreeing
+pub mod Resuming
+pub mod Places

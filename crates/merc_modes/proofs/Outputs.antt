@@ -61,7 +61,7 @@ take_step [] (suc place) = refl
 take_step (first ∷ rest) zero = refl
 take_step (first ∷ rest) (suc place) = ap (λ l. first ∷ l) (take_step rest place)
 
-drop_step : (all : List ℕ) (start place : ℕ) → start ≤ place → drop start (take (suc place) all) ≡ drop start (take place all) ++ option_to_list (slice_get all place)
+pub drop_step : (all : List ℕ) (start place : ℕ) → start ≤ place → drop start (take (suc place) all) ≡ drop start (take place all) ++ option_to_list (slice_get all place)
 drop_step [] zero zero h = refl
 drop_step [] zero (suc place) h = refl
 drop_step [] (suc start) zero h = absurd (omega (arith, h))

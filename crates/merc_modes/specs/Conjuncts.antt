@@ -1,14 +1,13 @@
 -- How the goals of a conjunction go one after the other, each as the leftmost that is ready.
-use Rattle.std.specs.Prelude.{◌≡◌, ◌≤◌, ◌<◌, ◌+◌, ℕ, suc, Bool, true, false, List, [], ◌∷◌, ◌++◌, length, Result, Ok, Err}
+use Rattle.std.specs.Prelude.{◌≡◌, ◌≤◌, ◌+◌, nat_lt, ℕ, zero, suc, Bool, true, false, List, [], ◌∷◌, ◌++◌, length, drop, Option, Some, None, Result, Ok, Err}
 use Rattle.merc_base.specs.declared.refusal.Fault.{Fault}
 use Rattle.merc_base.specs.declared.refusal.Fault.TheVariants.{Refused, NoMemory}
 use Rattle.merc_tree.specs.declared.declarations.ModeDecl.{ModeDecl}
 use Rattle.merc_tree.specs.declared.declarations.PredDecl.{PredDecl}
-use Rattle.merc_goal_tree.specs.Nodes.{Node, Nodes, more_nodes}
-use Rattle.merc_goal_tree.specs.Parts.{parts_of}
+use Rattle.merc_goal_tree.specs.Nodes.{Node, Nodes, no_nodes, more_nodes, nodes_of}
 use Rattle.merc_goal_tree.specs.Variables.{variables, all_variables}
-use Rattle.merc_order.specs.Bound.{Bound, among, with, Holds}
-use Rattle.merc_order.specs.Marks.{Marked, left, SoundLeft}
+use Rattle.merc_order.specs.Bound.{Bound, among, with}
+use Rattle.merc_order.specs.Marks.{Marked, no_marks, more_marks, kept, move_of, left, SoundLeft}
 use Rattle.merc_order.specs.Moves.{Move}
 use Rattle.merc_order.specs.Order.{binds, from}
 use Rattle.merc_order.specs.Ordered.{Ordered, Outcomes, AllReady, OneStuck, Ready, Stuck, is_ready}
@@ -17,10 +16,11 @@ use Rattle.merc_order.specs.Ways.{AllStuck}
 use Rattle.merc_readiness.specs.Asking.{AreKnown, IsMarked, Fits, flags_of, joined_by}
 use Rattle.merc_readiness.specs.Facts.{subgoals, all_subgoals}
 use Rattle.merc_readiness.specs.Outside.{IsStretch}
-use Rattle.merc_readiness.specs.Sweeps.{AreKnownFrom, Closed, new_one}
+use Rattle.merc_readiness.specs.Sweeps.{AreKnownFrom, new_one}
+use Rattle.merc_modes.specs.Positions.{variables_before, IsAt, IsPlaced}
 use Rattle.merc_modes.specs.Walking.{IsWritten}
 use Rattle.merc_modes.specs.Walks.{ordereds_of, behind_them, AreWritten, all_settled}
-use Rattle.merc_modes.specs.declared.conjuncts.Sweep.{Sweep}
+use Rattle.merc_modes.specs.declared.positions.Position.{Position}
 use Rattle.merc_readiness.specs.declared.facts.Facts.{Facts}
 use Rattle.merc_modes.specs.declared.written.Written.{Written}
 
@@ -57,17 +57,19 @@ MayGo predicates goal facts all start flags flags_after bound after old new resu
     (total : ℕ → ℕ) → AreKnown total (modes_of predicates) (subgoals goal) facts → IsStretch total all start (start + length (variables goal)) (variables goal)
     → IsMarked total (modes_of predicates) goal flags (among bound) → GoesIfReady total (modes_of predicates) goal flags_after bound after old new result
 
--- The first goal that is left tells why none of them is ready.
-abbrev pub TellsFirst : List Move → Bound → Result (Unit {0}) Fault → Type 0
-TellsFirst [] bound result = Unit {0}
-TellsFirst (move ∷ moves) bound (Ok done) = is_ready (move.from bound) ≡ true
-TellsFirst (move ∷ moves) bound (Err (Refused refusal)) = move.from bound ≡ Stuck refusal
-TellsFirst (move ∷ moves) bound (Err NoMemory) = Unit {0}
+-- The first goal that is left tells why none of them is ready; where none is left nothing is written.
+abbrev pub TellsFirst : List Move → Bound → Written → Written → Result (Unit {0}) Fault → Type 0
+TellsFirst [] bound old new (Ok done) = new ≡ old
+TellsFirst [] bound old new (Err (Refused refusal)) = ⊥
+TellsFirst [] bound old new (Err NoMemory) = Unit {0}
+TellsFirst (move ∷ moves) bound old new (Ok done) = is_ready (move.from bound) ≡ true
+TellsFirst (move ∷ moves) bound old new (Err (Refused refusal)) = move.from bound ≡ Stuck refusal
+TellsFirst (move ∷ moves) bound old new (Err NoMemory) = Unit {0}
 
-abbrev pub FirstTells : List PredDecl → Nodes → List Facts → List ℕ → ℕ → List Bool → List ℕ → Result (Unit {0}) Fault → Type 0
-FirstTells predicates goals facts all start flags bound result =
+abbrev pub FirstTells : List PredDecl → Nodes → List Facts → List ℕ → ℕ → List Bool → List ℕ → Written → Written → Result (Unit {0}) Fault → Type 0
+FirstTells predicates goals facts all start flags bound old new result =
     (total : ℕ → ℕ) (marked : Marked) → Fits goals marked → flags ≡ flags_of marked → AreKnown total (modes_of predicates) (all_subgoals goals) facts
-    → IsStretch total all start (start + length (all_variables goals)) (all_variables goals) → TellsFirst (left total (modes_of predicates) goals marked) (among bound) result
+    → IsStretch total all start (start + length (all_variables goals)) (all_variables goals) → TellsFirst (left total (modes_of predicates) goals marked) (among bound) old new result
 
 module _ (total : ℕ → ℕ) (modes : ℕ → List ModeDecl) where
   -- The search for the first goal that is left: those before went.
@@ -81,59 +83,63 @@ module _ (total : ℕ → ℕ) (modes : ℕ → List ModeDecl) where
     pub known : AreKnownFrom total modes (all_subgoals rest) facts at
     pub stretch : IsStretch total all place (place + length (all_variables rest)) (all_variables rest)
 
-  -- Of all goals at most so many are left, from what is bound now. What becomes of all is what becomes of these behind those that are written.
-  pub record Paused (goals : Nodes) (whole : Outcomes) (flags : List Bool) (now : Bound) (old written : Written) (count : ℕ) : Type 0 where
+  -- those that are left of the goals before the one of this index
+  abbrev pub left_before : ℕ → Nodes → Marked → List Move
+  left_before zero goals marked = []
+  left_before (suc index) no_nodes marked = []
+  left_before (suc index) (more_nodes first rest) no_marks = []
+  left_before (suc index) (more_nodes first rest) (more_marks went inner others) = kept went (move_of total modes first) (left_before index rest others)
+
+  -- Of all goals at most so many are left, and those before this index are not ready from what is bound now. What becomes of all is what becomes of those that are
+  -- left behind those that are written.
+  pub record Amid (goals : List Node) (whole : Outcomes) (index : ℕ) (flags : List Bool) (now : Bound) (old written : Written) (count : ℕ) : Type 0 where
     pub marked : Marked
     pub done : List Ordered
-    pub fits : Fits goals marked
+    pub fits : Fits (nodes_of goals) marked
     pub flags_are : flags ≡ flags_of marked
-    pub sound : SoundLeft total modes goals marked now
-    pub whole_is : whole ≡ behind_them done (all_settled (left total modes goals marked) now)
+    pub sound : SoundLeft total modes (nodes_of goals) marked now
+    pub stuck : AllStuck (left_before index (nodes_of goals) marked) now
+    pub whole_is : whole ≡ behind_them done (all_settled (left total modes (nodes_of goals) marked) now)
     pub are_written : AreWritten modes done old written
-    pub fewer : length (left total modes goals marked) ≤ count
+    pub fewer : length (left total modes (nodes_of goals) marked) ≤ count
 
-  -- The same amid one time over the goals: these are still to be asked, those before that are left are not ready.
-  pub record Amid (goals : Nodes) (start : Bound) (whole : Outcomes) (rest : Nodes) (flags : List Bool) (at : ℕ) (now : Bound) (is_left is_again : Bool) (old written : Written) (count : ℕ) : Type 0 where
-    pub front : List Bool
-    pub before : List Move
+  -- The goal of this index was asked: those before it are not ready up to this first place, and if that is not before its own then it is not ready either, or went.
+  pub record Stepped (goals : List Node) (start place : ℕ) (whole : Outcomes) (index : ℕ) (flags : List Bool) (now : Bound) (first : ℕ) (old written : Written) (count : ℕ) : Type 0 where
     pub marked : Marked
     pub done : List Ordered
-    pub at_is : length front ≡ at
-    pub flags_are : flags ≡ front ++ flags_of marked
-    pub fits : Fits rest marked
-    pub sound : SoundLeft total modes rest marked now
-    pub close : (others : Marked) (later : Bound) → Holds now later → Fits rest others → SoundLeft total modes rest others later
-        → Closed total modes goals start (front ++ flags_of others) (before ++ left total modes rest others) later
-    pub stuck : is_again ≡ false → AllStuck before now
-    pub none_left : is_left ≡ false → before ≡ []
-    pub some_left : is_left ≡ true → 0 < length before
-    pub whole_is : whole ≡ behind_them done (all_settled (before ++ left total modes rest marked) now)
+    pub fits : Fits (nodes_of goals) marked
+    pub flags_are : flags ≡ flags_of marked
+    pub sound : SoundLeft total modes (nodes_of goals) marked now
+    pub stuck : (other : ℕ) → other ≤ index → start + length (variables_before goals other) ≤ first → AllStuck (left_before other (nodes_of goals) marked) now
+    pub passed : place ≤ first → AllStuck (left_before (suc index) (nodes_of goals) marked) now
+    pub whole_is : whole ≡ behind_them done (all_settled (left total modes (nodes_of goals) marked) now)
     pub are_written : AreWritten modes done old written
-    pub fewer : length (before ++ left total modes rest marked) + new_one is_again ≤ count
+    pub fewer : length (left total modes (nodes_of goals) marked) + new_one (nat_lt first place) ≤ count
 
-  abbrev pub StepGives : Nodes → Bound → Outcomes → Nodes → List Bool → ℕ → Bound → Written → Written → ℕ → Result Sweep Fault → Type 0
-  StepGives goals start whole rest flags at now old written count (Ok sweep) = Amid goals start whole rest flags at now sweep.is_left sweep.is_again old written count
-  StepGives goals start whole rest flags at now old written count (Err (Refused refusal)) = ⊥
-  StepGives goals start whole rest flags at now old written count (Err NoMemory) = Unit {0}
+  abbrev pub StepGives : List Node → ℕ → ℕ → Outcomes → ℕ → List Bool → Bound → Written → Written → ℕ → Result ℕ Fault → Type 0
+  StepGives goals start place whole index flags now old written count (Ok first) = Stepped goals start place whole index flags now first old written count
+  StepGives goals start place whole index flags now old written count (Err (Refused refusal)) = ⊥
+  StepGives goals start place whole index flags now old written count (Err NoMemory) = Unit {0}
 
-  -- One time over the goals ends where none is left, or where another is to begin.
-  abbrev pub SweepGives : Nodes → Outcomes → List Bool → Bound → Written → Written → ℕ → Result Bool Fault → Type 0
-  SweepGives goals whole flags now old written less (Ok true) = (done : List Ordered) × (whole ≡ AllReady (ordereds_of done)) × AreWritten modes done old written
-  SweepGives goals whole flags now old written less (Ok false) = Paused goals whole flags now old written less
-  SweepGives goals whole flags now old written less (Err (Refused refusal)) = whole ≡ OneStuck refusal
-  SweepGives goals whole flags now old written less (Err NoMemory) = Unit {0}
+  -- One time over the goals ends where none is left, or where one before has to be asked again.
+  abbrev pub SweepGives : List Node → ℕ → Outcomes → List Bool → Bound → Written → Written → ℕ → Result (Option Position) Fault → Type 0
+  SweepGives goals start whole flags now old written less (Ok None) = (done : List Ordered) × (whole ≡ AllReady (ordereds_of done)) × AreWritten modes done old written
+  SweepGives goals start whole flags now old written less (Ok (Some back)) = IsPlaced start goals back.index back.place × Amid goals whole back.index flags now old written less
+  SweepGives goals start whole flags now old written less (Err (Refused refusal)) = whole ≡ OneStuck refusal
+  SweepGives goals start whole flags now old written less (Err NoMemory) = Unit {0}
 
 -- One goal more is asked, and goes if it is ready.
-abbrev pub StepsOn : List PredDecl → Node → List Facts → List ℕ → ℕ → List Bool → List Bool → ℕ → List ℕ → List ℕ → Sweep → Written → Written → Result Sweep Fault → Type 0
-StepsOn predicates goal facts all place flags flags_after at bound after sweep mid new result =
-    (total : ℕ → ℕ) (goals rest : Nodes) (start : Bound) (whole : Outcomes) (old : Written) (count : ℕ) → AreKnownFrom total (modes_of predicates) (all_subgoals (more_nodes goal rest)) facts at
-    → IsStretch total all place (place + length (all_variables (more_nodes goal rest))) (all_variables (more_nodes goal rest)) → sweep.is_again ≡ false
-    → Amid total (modes_of predicates) goals start whole (more_nodes goal rest) flags at (among bound) sweep.is_left sweep.is_again old mid count
-    → StepGives total (modes_of predicates) goals start whole rest flags_after (at + length (parts_of goal)) (among after) old new count result
+abbrev pub StepsOn : List PredDecl → Node → List Facts → List ℕ → ℕ → Position → List Bool → List Bool → List ℕ → List ℕ → Written → Written → Result ℕ Fault → Type 0
+StepsOn predicates goal facts all start here flags flags_after bound after mid new result =
+    (total : ℕ → ℕ) (goals rest : List Node) (whole : Outcomes) (old : Written) (count : ℕ) → AreKnown total (modes_of predicates) (all_subgoals (nodes_of goals)) facts
+    → IsStretch total all start (start + length (all_variables (nodes_of goals))) (all_variables (nodes_of goals)) → drop here.index goals ≡ goal ∷ rest
+    → IsAt goals here.index here.at → IsPlaced start goals here.index here.place
+    → Amid total (modes_of predicates) goals whole here.index flags (among bound) old mid count
+    → StepGives total (modes_of predicates) goals start here.place whole here.index flags_after (among after) old new count result
 
-abbrev pub SweepsOn : List PredDecl → Nodes → List Facts → List ℕ → ℕ → List Bool → List Bool → List ℕ → List ℕ → Written → Written → Result Bool Fault → Type 0
-SweepsOn predicates goals facts all place flags flags_after bound after mid new result =
-    (total : ℕ → ℕ) (whole : Outcomes) (old : Written) (less : ℕ) → AreKnown total (modes_of predicates) (all_subgoals goals) facts
-    → IsStretch total all place (place + length (all_variables goals)) (all_variables goals)
-    → Paused total (modes_of predicates) goals whole flags (among bound) old mid (suc less)
-    → SweepGives total (modes_of predicates) goals whole flags_after (among after) old new less result
+abbrev pub SweepsOn : List PredDecl → List Node → List Facts → List ℕ → ℕ → Position → List Bool → List Bool → List ℕ → List ℕ → Written → Written → Result (Option Position) Fault → Type 0
+SweepsOn predicates goals facts all start from flags flags_after bound after mid new result =
+    (total : ℕ → ℕ) (whole : Outcomes) (old : Written) (less : ℕ) → AreKnown total (modes_of predicates) (all_subgoals (nodes_of goals)) facts
+    → IsStretch total all start (start + length (all_variables (nodes_of goals))) (all_variables (nodes_of goals)) → IsPlaced start goals from.index from.place
+    → Amid total (modes_of predicates) goals whole from.index flags (among bound) old mid (suc less)
+    → SweepGives total (modes_of predicates) goals start whole flags_after (among after) old new less result

@@ -9,6 +9,8 @@ pub mod Bodies
 pub mod BodiesExamples
 pub mod Walks
 pub mod WalksExamples
+pub mod Positions
+pub mod PositionsExamples
 pub mod Conjuncts
 pub mod ConjunctsExamples
 pub mod Linked

@@ -1,12 +1,14 @@
 //! The order of goals in sequence, written out.
-ghost use Rattle.std.specs.Prelude.{◌≡◌, ◌+◌, ◌≤◌, ◌&&◌, nat_lt, [], length, OnOk};
+ghost use Rattle.std.specs.Prelude.{◌≡◌, ◌+◌, ◌≤◌, [], length, OnOk, IfOk, IfSome};
 ghost use Rattle.merc_goal_tree.specs.Nodes.{Conjunction, nodes_of};
 ghost use Rattle.merc_goal_tree.specs.Parts.{parts_of, all_parts};
 ghost use Rattle.merc_modes.specs.Conjuncts.{MayGo, FirstTells, StepsOn, SweepsOn};
+ghost use Rattle.merc_modes.specs.Positions.{IsAt};
 ghost use Rattle.merc_readiness.specs.Sweeps.{Extends};
 ghost use Rattle.merc_modes.specs.Walking.{Orders};
 ghost use Rattle.merc_modes.specs.Walks.{AddsOne, Adds, OrdersAll, all_settled};
 
+use crate::positions::{Position, first_of, step_back, step_on};
 use crate::walking::{Setting, clear, place_behind, walk};
 use crate::writing::outputs_of;
 use crate::written::Written;
@@ -66,7 +68,8 @@ pub(crate) fn walk_conjunction(
     Ok(())
 }
 
-// Writes the goals out, going over them from the left as often as one of them bound something new.
+// Writes the goals out, going over them from the left. Where one of them bound a variable it goes back to the first in
+// which that occurs: those before it were asked, and are as ready as they were.
 #[cycle(walking)]
 fn walk_rounds(
     setting: &Setting<'_>,
@@ -85,121 +88,97 @@ fn walk_rounds(
     ensures adds { OnOk result (Adds written.old written.new) }
 {
     clear(marks);
+    let mut from = Position {
+        index: 0,
+        at: 0,
+        place: start,
+    };
     for _round in 0..goals.len() {
-        if walk_sweep(setting, goals, facts, start, marks, bound, written)? {
-            return Ok(());
+        match walk_sweep(setting, goals, facts, start, from, marks, bound, written)? {
+            Some(back) => from = back,
+            None => return Ok(()),
         }
     }
     Ok(())
 }
 
-// How far one time over the goals of a conjunction has come.
-#[derive(Clone, Copy)]
-pub(crate) struct Sweep {
-    // one that was asked is left
-    pub(crate) is_left: bool,
-    // one went behind it and bound something new
-    pub(crate) is_again: bool,
-}
-
-// Goes over the goals from the left. Those that are ready go, up to one behind which others have to be asked again.
-// Whether none is left.
+// Goes over the goals from this one on. Those that are ready go, up to one behind which others before it have to be asked
+// again: the first of these is given. None where none is left.
 #[cycle(walking)]
 fn walk_sweep(
     setting: &Setting<'_>,
     goals: &[NodeRef<'_>],
     facts: &[Facts],
     start: usize,
+    from: Position,
     marks: &mut [bool],
     bound: &mut BoundSet,
     written: &mut Written,
-) -> Result<bool, Fault>
+) -> Result<Option<Position>, Fault>
     requires known { length facts.now ≡ length (all_parts (nodes_of goals.now)) }
     requires marked { length marks.old ≡ length (all_parts (nodes_of goals.now)) }
     requires seen { written.old.seen ≡ [] }
+    requires at { IsAt goals.now from.index from.at }
     ensures extends { OnOk result (Extends bound.old bound.new) }
-    ensures sweeps { SweepsOn setting.now.predicates.now (nodes_of goals.now) facts.now setting.now.all.now start marks.old marks.new bound.old bound.new written.old written.new result }
+    ensures at { IfOk result (λ back. IfSome back (λ position. IsAt goals.now position.index position.at)) }
+    ensures sweeps { SweepsOn setting.now.predicates.now goals.now facts.now setting.now.all.now start from marks.old marks.new bound.old bound.new written.old written.new result }
     ensures adds { OnOk result (Adds written.old written.new) }
 {
-    let mut sweep = Sweep {
-        is_left: false,
-        is_again: false,
-    };
-    let mut at = 0;
-    let mut place = start;
-    for goal in goals {
-        let end = at + goal.part_count();
-        let own = end - 1;
-        sweep = walk_member(
-            setting, goal, facts, at, place, marks, bound, written, sweep,
-        )?;
-        if sweep.is_again {
-            return Ok(false);
+    let mut here = from;
+    while here.index < goals.len() {
+        let goal = &goals[here.index];
+        let first = walk_member(setting, goal, facts, start, here, marks, bound, written)?;
+        if first < here.place {
+            return Ok(Some(step_back(goals, facts, here, first)));
         }
-        let found = &facts[own];
-        place = place_behind(setting.all, place, found.occurrences);
-        at = end;
+        here = step_on(setting, goal, facts, here);
     }
-    if sweep.is_left {
-        walk_first_left(setting, goals, facts, start, marks, bound, written)?;
-    }
-    Ok(true)
+    walk_first_left(setting, goals, facts, start, marks, bound, written)?;
+    Ok(None)
 }
 
-// Asks the next goal, unless it went, and writes it out if it is ready. Its parts stand from the one index on, its
-// variables occur from the other.
+// Asks the next goal, unless it went, and writes it out if it is ready. The first place of a variable that it bound, or
+// its own where none occurs before it.
 #[cycle(walking)]
 fn walk_member(
     setting: &Setting<'_>,
     goal: &NodeRef<'_>,
     facts: &[Facts],
-    at: usize,
-    place: usize,
+    start: usize,
+    here: Position,
     marks: &mut [bool],
     bound: &mut BoundSet,
     written: &mut Written,
-    sweep: Sweep,
-) -> Result<Sweep, Fault>
-    requires known { at + length (parts_of goal.now) ≤ length facts.now }
-    requires marked { at + length (parts_of goal.now) ≤ length marks.old }
+) -> Result<usize, Fault>
+    requires known { here.at + length (parts_of goal.now) ≤ length facts.now }
+    requires marked { here.at + length (parts_of goal.now) ≤ length marks.old }
     requires seen { written.old.seen ≡ [] }
     ensures extends { OnOk result (Extends bound.old bound.new) }
-    ensures steps { StepsOn setting.now.predicates.now goal.now facts.now setting.now.all.now place marks.old marks.new at bound.old bound.new sweep written.old written.new result }
+    ensures steps { StepsOn setting.now.predicates.now goal.now facts.now setting.now.all.now start here marks.old marks.new bound.old bound.new written.old written.new result }
     ensures adds { OnOk result (Adds written.old written.new) }
 {
-    let end = at + goal.part_count();
+    let end = here.at + goal.part_count();
     let own = end - 1;
     if marks[own] {
-        return Ok(sweep);
+        return Ok(here.place);
     }
     let known = bound.mark();
     if !walk_if_ready(
         setting,
         goal,
-        &facts[at..end],
-        place,
-        &mut marks[at..end],
+        &facts[here.at..end],
+        here.place,
+        &mut marks[here.at..end],
         bound,
         written,
     )? {
-        return Ok(Sweep {
-            is_left: true,
-            is_again: false,
-        });
+        return Ok(here.place);
     }
-    let now = bound.mark();
-    let is_again = begins_again(sweep.is_left, known, now);
-    Ok(Sweep {
-        is_left: sweep.is_left,
-        is_again,
-    })
-}
-
-// Whether others have to be asked again: some are left, and more is bound than before.
-fn begins_again(is_left: bool, before: usize, now: usize) -> bool
-    ensures { result ≡ (is_left && nat_lt before now) }
-{
-    is_left && before < now
+    let found = &facts[own];
+    let next = place_behind(setting.all, here.place, found.occurrences);
+    let new = bound.since(known);
+    let first = first_of(setting.all, start, here.place, next, new, &mut written.seen)?;
+    Ok(first)
 }
 
 // Writes a goal out if it is ready, and binds what it binds.
@@ -246,7 +225,7 @@ fn walk_first_left(
     requires marked { length marks.old ≡ length (all_parts (nodes_of goals.now)) }
     requires seen { written.old.seen ≡ [] }
     ensures same { OnOk result (bound.new ≡ bound.old) }
-    ensures tells { FirstTells setting.now.predicates.now (nodes_of goals.now) facts.now setting.now.all.now start marks.old bound.old result }
+    ensures tells { FirstTells setting.now.predicates.now (nodes_of goals.now) facts.now setting.now.all.now start marks.old bound.old written.old written.new result }
     ensures adds { OnOk result (Adds written.old written.new) }
 {
     let mut at = 0;

@@ -6,6 +6,7 @@ mod disjuncts;
 mod links;
 mod ordering;
 mod parallel;
+mod positions;
 mod testing;
 mod walking;
 mod writing;

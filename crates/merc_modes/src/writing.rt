@@ -99,8 +99,13 @@ fn in_order(
     Ok(found)
 }
 
-// The variable at a place, if it is in the set and does not occur from `start` on before that place.
-fn next_found(all: &Occurrences, start: usize, place: usize, seen: &BoundSet) -> Option<Var>
+/// The variable at a place, if it is in the set and does not occur from `start` on before that place.
+pub(crate) fn next_found(
+    all: &Occurrences,
+    start: usize,
+    place: usize,
+    seen: &BoundSet,
+) -> Option<Var>
     ensures { result ≡ kept (among seen.now) (first_since start all.now place) }
 {
     let variable = all.first_since(start, place)?;

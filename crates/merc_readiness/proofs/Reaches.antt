@@ -2,7 +2,7 @@
 use Rattle.std.specs.Prelude.{◌≡◌, ◌<◌, ◌≤◌, ◌==◌, ◌||◌, ◌-◌, ◌+◌, nat_lt, ℕ, zero, suc, Bool, true, false, List, [], ◌∷◌, ◌++◌, length, take, drop, slice_get, Option, Some, None, refl}
 use Rattle.std.specs.List.{slice_index_or}
 use Rattle.std.proofs.Common.{◌∙◌, ◌≢◌, ◌⊎◌, ap, sym, subst, arith, set, inl, inr}
-use Rattle.std.proofs.lemmas.Bool.{cases_eq, cases_lt}
+use Rattle.std.proofs.lemmas.Bool.{cases_eq, cases_lt, eqb-true}
 use Rattle.std.proofs.lemmas.Bool.Decides.{nat_tests}
 use Rattle.std.proofs.lemmas.List.{get_or-set_same, get_or-set_other, get_or_at, get_or_append_left, take_at, take-append-le, length-append}
 use Rattle.merc_order.specs.Bound.{among}
@@ -215,3 +215,65 @@ pub earlier_pushed : (reaches : List (Option Reach)) (before after : List ℕ) (
 earlier_pushed reaches before after old new variable reach end (tells, kept) n a e r =
     subst (λ t. TellsEarlier t new) (sym (a ∙ ap (λ i. before ++ i ∷ []) e))
     (earlier_more before old new variable reach kept n (λ place. ap (λ o. ends_behind o place) r ∙ tells.behind variable place))
+
+-- From one occurrence to the one before it.
+
+under_front : (start end : ℕ) → nat_lt start end ≡ true → start < end
+under_front start end h = grind (arith, nat_tests)
+
+not_under : (start end : ℕ) → nat_lt start end ≡ false → end ≤ start
+not_under start end h = grind (arith, nat_tests)
+
+among_none : (all : List ℕ) (place variable : ℕ) → among (drop place (take place all)) variable ≡ false
+among_none [] zero variable = refl
+among_none [] (suc place) variable = refl
+among_none (first ∷ rest) zero variable = refl
+among_none (first ∷ rest) (suc place) variable = among_none rest place variable
+
+-- it lies before
+earlier_less : (table : List ℕ) (all : List ℕ) (place variable : ℕ) → TellsEarlier table all → slice_get all place ≡ Some variable → slice_index_or table place 0 ≤ place
+earlier_less table all place variable tells there = not_under place (slice_index_or table place 0) (tells.earlier place place variable there ∙ among_none all place variable)
+
+-- where a variable is among those up to a place and not among those behind, it is at the place
+at_seam : (all : List ℕ) (at place variable : ℕ) → among (drop at (take place all)) variable ≡ true → among (drop (suc at) (take place all)) variable ≡ false → slice_get all at ≡ Some variable
+at_seam [] zero zero variable there not = cc
+at_seam [] zero (suc place) variable there not = cc
+at_seam [] (suc at) zero variable there not = cc
+at_seam [] (suc at) (suc place) variable there not = cc
+at_seam (first ∷ rest) zero zero variable there not = cc
+at_seam (first ∷ rest) zero (suc place) variable there not = first_is (variable == first) (among (take place rest) variable) refl there not
+  where
+    first_is : (same later : Bool) → (variable == first) ≡ same → (same || later) ≡ true → later ≡ false → Some first ≡ Some variable
+    first_is true later is t n = ap Some (sym (eqb-true variable first is))
+    first_is false later is t n = cc
+at_seam (first ∷ rest) (suc at) zero variable there not = cc
+at_seam (first ∷ rest) (suc at) (suc place) variable there not = at_seam rest at place variable there not
+
+get_within : (table : List ℕ) (all : List ℕ) (place : ℕ) → length table ≡ length all → 0 < slice_index_or table place 0 → (variable : ℕ) × (slice_get all place ≡ Some variable)
+get_within [] [] zero long some = absurd (omega arith)
+get_within [] [] (suc place) long some = absurd (omega arith)
+get_within [] (first ∷ rest) place long some = cc
+get_within (one ∷ others) [] place long some = cc
+get_within (one ∷ others) (first ∷ rest) zero long some = (first, refl)
+get_within (one ∷ others) (first ∷ rest) (suc place) long some = get_within others rest place (omega (arith, long)) some
+
+pub earlier_step : (table : List ℕ) (all : List ℕ) (start place variable end : ℕ) → TellsEarlier table all → end ≡ slice_index_or table place 0 → start < end
+    → slice_get all place ≡ Some variable → slice_get all (end - 1) ≡ Some variable
+earlier_step table all start place variable end tells is more there =
+    let e : suc (end - 1) ≡ end = omega (arith, more) in
+    let before : nat_lt (end - 1) end ≡ true = grind (arith, nat_tests, more) in
+    let behind : nat_lt end end ≡ false = grind (arith, nat_tests) in
+    let one : among (drop (end - 1) (take place all)) variable ≡ true = sym (tells.earlier (end - 1) place variable there) ∙ ap (λ n. nat_lt (end - 1) n) (sym is) ∙ before in
+    let two : among (drop end (take place all)) variable ≡ false = sym (tells.earlier end place variable there) ∙ ap (λ n. nat_lt end n) (sym is) ∙ behind in
+    at_seam all (end - 1) place variable one (ap (λ n. among (drop n (take place all)) variable) e ∙ two)
+
+pub earlier_before : (table : List ℕ) (all : List ℕ) (start place end : ℕ) → TellsEarlier table all → end ≡ slice_index_or table place 0 → start < end → end ≤ place
+earlier_before table all start place end tells is more =
+    let v = get_within table all place tells.long (omega (arith, is, more)) in
+    omega (arith, is, earlier_less table all place v.0 tells v.1)
+
+pub earlier_none : (table : List ℕ) (all : List ℕ) (start place variable end : ℕ) → TellsEarlier table all → end ≡ slice_index_or table place 0 → end ≤ start
+    → slice_get all place ≡ Some variable → among (drop start (take place all)) variable ≡ false
+earlier_none table all start place variable end tells is less there =
+    let none : nat_lt start end ≡ false = grind (arith, nat_tests, less) in
+    sym (tells.earlier start place variable there) ∙ ap (λ n. nat_lt start n) (sym is) ∙ none

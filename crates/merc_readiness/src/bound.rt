@@ -1,5 +1,5 @@
 //! Which variables are bound while goals are looked at.
-ghost use Rattle.std.specs.Prelude.{◌≡◌, ◌<◌, ◌-◌, ℕ, false, [], length, take, OnOk, OnErr};
+ghost use Rattle.std.specs.Prelude.{◌≡◌, ◌<◌, ◌≤◌, ◌-◌, ℕ, false, [], length, take, drop, OnOk, OnErr};
 ghost use Rattle.std.specs.List.{slice_index_or};
 ghost use Rattle.merc_order.specs.Bound.{among, are_bound};
 ghost use Rattle.merc_readiness.specs.Bounds.{behind, all_behind, Tells, AreApart};
@@ -95,6 +95,14 @@ impl BoundSet {
         ensures { result ≡ length self.now }
     {
         self.trail.len()
+    }
+
+    /// Those that were bound since the mark, in their order.
+    pub fn since(&self, mark: usize) -> &[Var]
+        requires { mark ≤ length self.now }
+        ensures { result.now ≡ drop mark self.now }
+    {
+        &self.trail[mark..]
     }
 
     /// Makes those unbound that were bound since the mark.

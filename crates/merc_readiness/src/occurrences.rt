@@ -1,5 +1,5 @@
 //! Where the variables of a body occur.
-ghost use Rattle.std.specs.Prelude.{◌≡◌, ◌<◌, ◌+◌, ◌++◌, ◌∷◌, [], ◌||◌, ℕ, None, length, take, drop, IfOk, OnOk, OnErr};
+ghost use Rattle.std.specs.Prelude.{◌≡◌, ◌<◌, ◌≤◌, ◌+◌, ◌++◌, ◌∷◌, [], ◌||◌, ℕ, false, Some, None, length, take, drop, slice_get, IfOk, OnOk, OnErr};
 ghost use Rattle.std.specs.List.{slice_index_or};
 ghost use Rattle.merc_goal_tree.specs.Variables.{variables, variables_of};
 ghost use Rattle.merc_order.specs.Bound.{among};
@@ -79,6 +79,19 @@ impl Occurrences {
             return None;
         }
         Some(variable)
+    }
+
+    /// The first place from `start` on at which the variable of this place occurs, if it occurs from there on before this
+    /// place; else this place.
+    pub fn first_place(&self, start: usize, place: usize) -> usize
+        ensures within { result ≤ place }
+        ensures first { (variable : ℕ) → slice_get self.now place ≡ Some variable → among (drop start (take result self.now)) variable ≡ false }
+    {
+        let mut first = place;
+        while start < earlier_at(&self.earlier, first) {
+            first = earlier_at(&self.earlier, first) - 1;
+        }
+        first
     }
 
     /// The number behind those of all variables that occur.

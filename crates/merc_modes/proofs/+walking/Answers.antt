@@ -1,5 +1,5 @@
 mod Links
-use Rattle.std.proofs.Common.{◌≡◌, ◌+◌, ◌-◌, ◌∙◌, suc, true, false, [], ◌∷◌, Ok, Err, drop, length, ap, sym, subst, refl, arith, slice_index_or}
+use Rattle.std.proofs.Common.{◌≡◌, ◌+◌, ◌-◌, ◌∙◌, suc, true, false, [], ◌∷◌, Ok, Err, IfSome, take, drop, length, ap, sym, subst, refl, arith, slice_index_or}
 use Rattle.std.proofs.lemmas.List.{drop_all}
 use Rattle.std.proofs.lemmas.Result.{err_from_is_err_and}
 use Rattle.std.proofs.lemmas.Slice.{between_to_end}
@@ -18,6 +18,7 @@ use Rattle.merc_readiness.specs.Asking.{AreKnown}
 use Rattle.merc_modes.specs.Beside.{all_beside, TellsStuck}
 use Rattle.merc_readiness.specs.Bounds.{all_behind}
 use Rattle.merc_modes.specs.Conjuncts.{GoesIfReady, Passing, Amid, SweepGives}
+use Rattle.merc_modes.specs.Positions.{IsAt, IsFirst}
 use Rattle.merc_readiness.specs.Facts.{subgoals, all_subgoals}
 use Rattle.merc_readiness.specs.Outside.{IsStretch}
 use Rattle.merc_readiness.specs.Sweeps.{Extends, AreKnownFrom}
@@ -27,9 +28,9 @@ use Rattle.merc_modes.specs.declared.written.Written.{Written}
 use Rattle.merc_readiness.proofs.Binding.{extends_same, extends_on, extends_all, next_known}
 use Rattle.merc_modes.proofs.Beside.{facts_of_first, facts_from, blank_there, beside_goes, beside_stuck, beside_err, walked_tells, never_stuck}
 use Rattle.merc_readiness.proofs.Marking.{subgoals_length, all_subgoals_length}
-use Rattle.merc_modes.proofs.Settling.{amid_first, paused, none_is_left}
+use Rattle.merc_modes.proofs.Resuming.{at_next, parts_within, known_from, stretch_from}
 use Rattle.merc_readiness.proofs.Stepping.{facts_of_next}
-use Rattle.merc_modes.proofs.Stepped.{if_stays, if_goes, first_tells, passing_on, member_passes, member_marks, member_stays, member_went, step_err, sweep_err, told, not_ready, rounds_first, fewer_by, rounds_err, rounds_end}
+use Rattle.merc_modes.proofs.Stepped.{if_stays, if_goes, first_tells, passing_on, none_told, goes_agree, place_from, placed_next, member_passes, member_marks, member_stays, member_goes, seen_same, sweep_on, sweep_back, end_told, end_ready, step_err, sweep_err, rounds_first, fewer_by, rounds_err, rounds_end}
 use Rattle.merc_modes.proofs.Walked.{stretch_front, next_stretch, known_next, walked_on, walked_end, walked_stuck}
 use Rattle.merc_modes.proofs.Wholes.{next_item, end_within, at_behind, some_parts, undone_is, known_parts, known_own, negation_stuck, negation_binds, negation_ready, quantified_stuck, quantified_ready, disjunction_stuck, disjunction_differs, disjunction_ready, conjunction_stuck, conjunction_ready, parallel_stuck, parallel_ready}
 use Rattle.merc_modes.proofs.+walking.Goals as goal
@@ -233,177 +234,187 @@ pub conjuncts::walk_rounds-loop-round-init : goal.conjuncts::walk_rounds-loop-ro
 conjuncts::walk_rounds-loop-round-init t c = record {
   extends = extends_same c.args.bound.now;
   adds = record { more = omega arith; cleared = c.requires.seen };
-  paused = λ total known stretch.
+  at = (omega arith, omega arith);
+  amid = λ total known stretch.
       let modes = modes_of c.args.setting.now.predicates.now in
-      let goals = c.args.goals.now in
-      fewer_by total modes (nodes_of goals) (all_settled (moves total modes (nodes_of goals)) (among c.args.bound.now)) c.clear.new.marks (among c.args.bound.now) c.args.written.now c.args.written.now
-      (length goals) (length goals - 0) (omega arith)
-      (rounds_first total modes goals c.clear.new.marks (among c.args.bound.now) c.args.written.now (length c.args.marks.now) c.clear.ensures c.requires.marked);
+      let goals = c.args.goals.now in (
+        omega arith,
+        fewer_by total modes goals (all_settled (moves total modes (nodes_of goals)) (among c.args.bound.now)) 0 c.clear.new.marks (among c.args.bound.now) c.args.written.now c.args.written.now
+            (length goals) (length goals - 0) (omega arith)
+            (rounds_first total modes goals c.clear.new.marks (among c.args.bound.now) c.args.written.now (length c.args.marks.now) c.clear.ensures c.requires.marked),
+      );
 }
 
-pub conjuncts::walk_rounds-returns-in_err-walk_sweep-clause-orders : goal.conjuncts::walk_rounds-returns-in_err-walk_sweep-clause-orders
-conjuncts::walk_rounds-returns-in_err-walk_sweep-clause-orders t c =
+pub conjuncts::walk_rounds-returns-in_err-back-clause-orders : goal.conjuncts::walk_rounds-returns-in_err-back-clause-orders
+conjuncts::walk_rounds-returns-in_err-back-clause-orders t c =
     let p = err_from_is_err_and c.from_residual.result c.from_residual.ensures.1 in
     rw (p.1, p.2) (λ total known stretch.
     let modes = modes_of c.args.setting.now.predicates.now in
     let goals = c.args.goals.now in
     let whole = all_settled (moves total modes (nodes_of goals)) (among c.args.bound.now) in
     let less = length goals - (c.loop-round._round + 1) in
-    let now = fewer_by total modes (nodes_of goals) whole c.loop-round.marks (among c.loop-round.bound) c.args.written.now c.loop-round.written (length goals - c.loop-round._round) (suc less)
-    (omega (arith, c.loop-round-test.true)) (c.loop-round.invariant.paused total known stretch) in
-    rounds_err total modes (nodes_of goals) whole c.walk_sweep.new.marks (among c.walk_sweep.new.bound) c.args.written.now c.walk_sweep.new.written c.walk_sweep.new.written less c.in_err-walk_sweep.field-0.0
-    (c.in_err-walk_sweep.ensures.sweeps total whole c.args.written.now less known stretch now))
+    let is = c.loop-round.invariant.amid total known stretch in
+    let now = fewer_by total modes goals whole c.loop-round.from.index c.loop-round.marks (among c.loop-round.bound) c.args.written.now c.loop-round.written (length goals - c.loop-round._round) (suc less)
+    (omega (arith, c.loop-round-test.true)) is.1 in
+    rounds_err total modes goals c.args.start whole c.walk_sweep.new.marks (among c.walk_sweep.new.bound) c.args.written.now c.walk_sweep.new.written c.walk_sweep.new.written less c.in_err-back.field-0.0
+    (c.in_err-back.ensures.sweeps total whole c.args.written.now less known stretch is.0 now))
 
-pub conjuncts::walk_rounds-returns-then-branch-clause-orders : goal.conjuncts::walk_rounds-returns-then-branch-clause-orders
-conjuncts::walk_rounds-returns-then-branch-clause-orders t c = λ total known stretch.
+pub conjuncts::walk_rounds-returns-in-None-clause-orders : goal.conjuncts::walk_rounds-returns-in-None-clause-orders
+conjuncts::walk_rounds-returns-in-None-clause-orders t c = λ total known stretch.
     let modes = modes_of c.args.setting.now.predicates.now in
     let goals = c.args.goals.now in
     let whole = all_settled (moves total modes (nodes_of goals)) (among c.args.bound.now) in
     let less = length goals - (c.loop-round._round + 1) in
-    let now = fewer_by total modes (nodes_of goals) whole c.loop-round.marks (among c.loop-round.bound) c.args.written.now c.loop-round.written (length goals - c.loop-round._round) (suc less)
-    (omega (arith, c.loop-round-test.true)) (c.loop-round.invariant.paused total known stretch) in
-    subst (λ b. SweepGives total modes (nodes_of goals) whole c.walk_sweep.new.marks (among c.walk_sweep.new.bound) c.args.written.now c.walk_sweep.new.written less (Ok b)) c.if-branch.true
-    (c.in_ok-walk_sweep.ensures.sweeps total whole c.args.written.now less known stretch now)
+    let is = c.loop-round.invariant.amid total known stretch in
+    let now = fewer_by total modes goals whole c.loop-round.from.index c.loop-round.marks (among c.loop-round.bound) c.args.written.now c.loop-round.written (length goals - c.loop-round._round) (suc less)
+    (omega (arith, c.loop-round-test.true)) is.1 in
+    subst (λ o. SweepGives total modes goals c.args.start whole c.walk_sweep.new.marks (among c.walk_sweep.new.bound) c.args.written.now c.walk_sweep.new.written less (Ok o)) c.in-None.is
+    (c.in_ok-back.ensures.sweeps total whole c.args.written.now less known stretch is.0 now)
 
 pub conjuncts::walk_rounds-loop-round-preserved : goal.conjuncts::walk_rounds-loop-round-preserved
 conjuncts::walk_rounds-loop-round-preserved t c = record {
-  extends = extends_on c.args.bound.now c.loop-round.bound c.walk_sweep.new.bound c.loop-round.invariant.extends c.in_ok-walk_sweep.ensures.extends;
-  adds = record { more = omega (arith, c.loop-round.invariant.adds.more, c.in_ok-walk_sweep.ensures.adds.more); cleared = c.in_ok-walk_sweep.ensures.adds.cleared };
-  paused = λ total known stretch.
+  extends = extends_on c.args.bound.now c.loop-round.bound c.walk_sweep.new.bound c.loop-round.invariant.extends c.in_ok-back.ensures.extends;
+  adds = record { more = omega (arith, c.loop-round.invariant.adds.more, c.in_ok-back.ensures.adds.more); cleared = c.in_ok-back.ensures.adds.cleared };
+  at = subst (λ o. IfSome o (λ position. IsAt c.args.goals.now position.index position.at)) c.in-Some.is c.in_ok-back.ensures.at;
+  amid = λ total known stretch.
       let modes = modes_of c.args.setting.now.predicates.now in
       let goals = c.args.goals.now in
       let whole = all_settled (moves total modes (nodes_of goals)) (among c.args.bound.now) in
       let less = length goals - (c.loop-round._round + 1) in
-      let now = fewer_by total modes (nodes_of goals) whole c.loop-round.marks (among c.loop-round.bound) c.args.written.now c.loop-round.written (length goals - c.loop-round._round) (suc less)
-      (omega (arith, c.loop-round-test.true)) (c.loop-round.invariant.paused total known stretch) in
-      subst (λ b. SweepGives total modes (nodes_of goals) whole c.walk_sweep.new.marks (among c.walk_sweep.new.bound) c.args.written.now c.walk_sweep.new.written less (Ok b)) c.if-branch.false
-      (c.in_ok-walk_sweep.ensures.sweeps total whole c.args.written.now less known stretch now);
+      let is = c.loop-round.invariant.amid total known stretch in
+      let now = fewer_by total modes goals whole c.loop-round.from.index c.loop-round.marks (among c.loop-round.bound) c.args.written.now c.loop-round.written (length goals - c.loop-round._round) (suc less)
+      (omega (arith, c.loop-round-test.true)) is.1 in
+      subst (λ o. SweepGives total modes goals c.args.start whole c.walk_sweep.new.marks (among c.walk_sweep.new.bound) c.args.written.now c.walk_sweep.new.written less (Ok o)) c.in-Some.is
+      (c.in_ok-back.ensures.sweeps total whole c.args.written.now less known stretch is.0 now);
 }
 
 pub conjuncts::walk_rounds-returns-clause-orders : goal.conjuncts::walk_rounds-returns-clause-orders
 conjuncts::walk_rounds-returns-clause-orders t c = λ total known stretch.
     let modes = modes_of c.args.setting.now.predicates.now in
     let goals = c.args.goals.now in
-    rounds_end total modes (nodes_of goals) (all_settled (moves total modes (nodes_of goals)) (among c.args.bound.now)) c.loop-round.marks (among c.loop-round.bound) c.args.written.now c.loop-round.written
-    (length goals - c.loop-round._round) (c.loop-round.invariant.paused total known stretch) (omega arith)
+    rounds_end total modes goals (all_settled (moves total modes (nodes_of goals)) (among c.args.bound.now)) c.loop-round.from.index c.loop-round.marks (among c.loop-round.bound) c.args.written.now c.loop-round.written
+    (length goals - c.loop-round._round) (c.loop-round.invariant.amid total known stretch).1 (omega arith)
 
 -- one time over the goals of a conjunction
 
-pub conjuncts::walk_sweep-loop-goal-init : goal.conjuncts::walk_sweep-loop-goal-init
-conjuncts::walk_sweep-loop-goal-init t c = record {
-  at_is = omega arith;
+pub conjuncts::walk_sweep-loop-here-init : goal.conjuncts::walk_sweep-loop-here-init
+conjuncts::walk_sweep-loop-here-init t c = record {
+  at = c.requires.at;
   extends = extends_same c.args.bound.now;
   adds = record { more = omega arith; cleared = c.requires.seen };
-  not_again = refl;
-  amid = λ total start whole old count known stretch paused.
-      let modes = modes_of c.args.setting.now.predicates.now in (
-        record { front = []; back = c.args.facts.now; at_is = refl; facts_are = refl; known = known },
-        stretch,
-        amid_first total modes (nodes_of c.args.goals.now) start whole c.args.marks.now (among c.args.bound.now) old c.args.written.now count paused,
-      );
+  amid = λ total whole old count known stretch placed amid. (placed, amid);
 }
 
-pub conjuncts::walk_sweep-overflow_sub-own : goal.conjuncts::walk_sweep-overflow_sub-own
-conjuncts::walk_sweep-overflow_sub-own t c = omega (arith, some_parts c.goal-item.result c.part_count.result c.part_count.ensures)
-
-pub conjuncts::walk_sweep-returns-in_err-sweep-clause-sweeps : goal.conjuncts::walk_sweep-returns-in_err-sweep-clause-sweeps
-conjuncts::walk_sweep-returns-in_err-sweep-clause-sweeps t c =
+pub conjuncts::walk_sweep-returns-in_err-first-clause-sweeps : goal.conjuncts::walk_sweep-returns-in_err-first-clause-sweeps
+conjuncts::walk_sweep-returns-in_err-first-clause-sweeps t c =
     let p = err_from_is_err_and c.from_residual.result c.from_residual.ensures.1 in
-    rw (p.1, p.2) (λ total whole old less known stretch paused.
+    rw (p.1, p.2) (λ total whole old less known stretch placed amid.
     let modes = modes_of c.args.setting.now.predicates.now in
-    let goals = nodes_of c.args.goals.now in
-    let start = among c.args.bound.now in
-    let goal = c.goal-item.result in
-    let rest = drop (c.loop-goal.goal-index + 1) c.args.goals.now in
-    let all = subst (λ l. AreKnownFrom total modes (all_subgoals (nodes_of l)) c.args.facts.now c.loop-goal.at
-    × IsStretch total c.args.setting.now.all.now c.loop-goal.place (c.loop-goal.place + length (all_variables (nodes_of l))) (all_variables (nodes_of l))
-    × Amid total modes goals start whole (nodes_of l) c.loop-goal.marks c.loop-goal.at (among c.loop-goal.bound) c.loop-goal.sweep.is_left c.loop-goal.sweep.is_again old c.loop-goal.written (suc less))
-    (next_item c.args.goals.now c.loop-goal.goal-index goal c.loop-goal-test.true c.goal-item.is) (c.loop-goal.invariant.amid total start whole old (suc less) known stretch paused) in
-    let step = c.in_err-sweep.ensures.steps total goals (nodes_of rest) start whole old (suc less) all.0 all.1 c.loop-goal.invariant.not_again all.2 in
-    sweep_err total modes goals start whole (nodes_of rest) c.walk_member.new.marks c.walk_member.new.marks (c.loop-goal.at + length (parts_of goal)) (among c.walk_member.new.bound) (among c.walk_member.new.bound)
-    old c.walk_member.new.written c.walk_member.new.written (suc less) less c.in_err-sweep.field-0.0 step)
+    let goals = c.args.goals.now in
+    let goal = c.index-goals-here.result in
+    let rest = drop (c.loop-here.here.index + 1) goals in
+    let there = next_item goals c.loop-here.here.index goal c.loop-here-test.true c.index-goals-here.is in
+    let is = c.loop-here.invariant.amid total whole old (suc less) known stretch placed amid in
+    let step = c.in_err-first.ensures.steps total goals rest whole old (suc less) known stretch there c.loop-here.invariant.at is.0 is.1 in
+    sweep_err total modes goals whole c.args.start c.loop-here.here.place c.loop-here.here.index c.walk_member.new.marks c.walk_member.new.marks (among c.walk_member.new.bound) (among c.walk_member.new.bound)
+    old c.walk_member.new.written c.walk_member.new.written (suc less) less c.in_err-first.field-0.0 step)
 
-pub conjuncts::walk_sweep-returns-then-sweep-clause-sweeps : goal.conjuncts::walk_sweep-returns-then-sweep-clause-sweeps
-conjuncts::walk_sweep-returns-then-sweep-clause-sweeps t c = λ total whole old less known stretch waits.
+pub conjuncts::walk_sweep-returns-then-first-here-clause-sweeps : goal.conjuncts::walk_sweep-returns-then-first-here-clause-sweeps
+conjuncts::walk_sweep-returns-then-first-here-clause-sweeps t c = λ total whole old less known stretch placed amid.
     let modes = modes_of c.args.setting.now.predicates.now in
-    let goals = nodes_of c.args.goals.now in
-    let start = among c.args.bound.now in
-    let goal = c.goal-item.result in
-    let rest = drop (c.loop-goal.goal-index + 1) c.args.goals.now in
-    let all = subst (λ l. AreKnownFrom total modes (all_subgoals (nodes_of l)) c.args.facts.now c.loop-goal.at
-    × IsStretch total c.args.setting.now.all.now c.loop-goal.place (c.loop-goal.place + length (all_variables (nodes_of l))) (all_variables (nodes_of l))
-    × Amid total modes goals start whole (nodes_of l) c.loop-goal.marks c.loop-goal.at (among c.loop-goal.bound) c.loop-goal.sweep.is_left c.loop-goal.sweep.is_again old c.loop-goal.written (suc less))
-    (next_item c.args.goals.now c.loop-goal.goal-index goal c.loop-goal-test.true c.goal-item.is) (c.loop-goal.invariant.amid total start whole old (suc less) known stretch waits) in
-    let step = c.in_ok-sweep.ensures.steps total goals (nodes_of rest) start whole old (suc less) all.0 all.1 c.loop-goal.invariant.not_again all.2 in
-    paused total modes goals start whole (nodes_of rest) c.walk_member.new.marks (c.loop-goal.at + length (parts_of goal)) (among c.walk_member.new.bound) c.in_ok-sweep.sweep.is_left c.in_ok-sweep.sweep.is_again
-    old c.walk_member.new.written less step c.if-sweep.true
+    let goals = c.args.goals.now in
+    let goal = c.index-goals-here.result in
+    let rest = drop (c.loop-here.here.index + 1) goals in
+    let there = next_item goals c.loop-here.here.index goal c.loop-here-test.true c.index-goals-here.is in
+    let is = c.loop-here.invariant.amid total whole old (suc less) known stretch placed amid in
+    let step = c.in_ok-first.ensures.steps total goals rest whole old (suc less) known stretch there c.loop-here.invariant.at is.0 is.1 in
+    let back = c.step_back.ensures.placed total modes c.args.start known is.0 in (
+      back,
+      sweep_back total modes goals whole c.loop-here.here.index c.loop-here.here.place c.in_ok-first.first c.args.start c.step_back.result.index c.step_back.result.place c.walk_member.new.marks (among c.walk_member.new.bound)
+          old c.walk_member.new.written less step c.if-first-here.true c.step_back.ensures.back c.step_back.ensures.far back,
+    )
 
-pub conjuncts::walk_sweep-bounds-facts-own : goal.conjuncts::walk_sweep-bounds-facts-own
-conjuncts::walk_sweep-bounds-facts-own t c =
-    let one = some_parts c.goal-item.result c.part_count.result c.part_count.ensures in
-    let end = end_within c.args.goals.now c.loop-goal.goal-index c.goal-item.result c.loop-goal.at c.part_count.result c.loop-goal-test.true c.goal-item.is c.part_count.ensures c.loop-goal.invariant.at_is in
-    omega (arith, one, end, c.requires.known)
-
-pub conjuncts::walk_sweep-loop-goal-preserved : goal.conjuncts::walk_sweep-loop-goal-preserved
-conjuncts::walk_sweep-loop-goal-preserved t c = record {
-  at_is = at_behind c.args.goals.now c.loop-goal.goal-index c.goal-item.result c.loop-goal.at c.part_count.result c.loop-goal-test.true c.goal-item.is c.part_count.ensures c.loop-goal.invariant.at_is;
-  extends = extends_on c.args.bound.now c.loop-goal.bound c.walk_member.new.bound c.loop-goal.invariant.extends c.in_ok-sweep.ensures.extends;
-  adds = record { more = omega (arith, c.loop-goal.invariant.adds.more, c.in_ok-sweep.ensures.adds.more); cleared = c.in_ok-sweep.ensures.adds.cleared };
-  not_again = c.if-sweep.false;
-  amid = λ total start whole old count known stretch waits.
-      let modes = modes_of c.args.setting.now.predicates.now in
-      let goals = nodes_of c.args.goals.now in
-      let goal = c.goal-item.result in
-      let rest = drop (c.loop-goal.goal-index + 1) c.args.goals.now in
-      let end : c.loop-goal.at + length (parts_of goal) ≡ c.loop-goal.at + c.part_count.result = ap (λ n. c.loop-goal.at + n) (sym c.part_count.ensures) in
-      let one = some_parts goal c.part_count.result c.part_count.ensures in
-      let own : suc (c.loop-goal.at + c.part_count.result - 1) ≡ c.loop-goal.at + length (parts_of goal) = omega (arith, one, c.part_count.ensures) in
-      let all = subst (λ l. AreKnownFrom total modes (all_subgoals (nodes_of l)) c.args.facts.now c.loop-goal.at
-      × IsStretch total c.args.setting.now.all.now c.loop-goal.place (c.loop-goal.place + length (all_variables (nodes_of l))) (all_variables (nodes_of l))
-      × Amid total modes goals start whole (nodes_of l) c.loop-goal.marks c.loop-goal.at (among c.loop-goal.bound) c.loop-goal.sweep.is_left c.loop-goal.sweep.is_again old c.loop-goal.written count)
-      (next_item c.args.goals.now c.loop-goal.goal-index goal c.loop-goal-test.true c.goal-item.is) (c.loop-goal.invariant.amid total start whole old count known stretch waits) in
-      let step = c.in_ok-sweep.ensures.steps total goals (nodes_of rest) start whole old count all.0 all.1 c.loop-goal.invariant.not_again all.2 in
-      let found = known_next total modes goal (nodes_of rest) c.args.facts.now c.loop-goal.at (c.loop-goal.at + c.part_count.result - 1) c.index-facts-own.result all.0 own c.index-facts-own.is in (
-        subst (λ n. AreKnownFrom total modes (all_subgoals (nodes_of rest)) c.args.facts.now n) end (next_known total modes goal (nodes_of rest) c.args.facts.now c.loop-goal.at all.0).others_known,
-        next_stretch total modes goal c.args.setting.now.all.now c.loop-goal.place c.place_behind-place.result (all_variables (nodes_of rest)) c.index-facts-own.result found all.1 c.place_behind-place.ensures,
-        subst (λ n. Amid total modes goals start whole (nodes_of rest) c.walk_member.new.marks n (among c.walk_member.new.bound) c.in_ok-sweep.sweep.is_left c.in_ok-sweep.sweep.is_again old c.walk_member.new.written count) end step,
-      );
-}
+pub conjuncts::walk_sweep-loop-here-preserved : goal.conjuncts::walk_sweep-loop-here-preserved
+conjuncts::walk_sweep-loop-here-preserved t c =
+    let goals = c.args.goals.now in
+    let goal = c.index-goals-here.result in
+    let rest = drop (c.loop-here.here.index + 1) goals in
+    let there = next_item goals c.loop-here.here.index goal c.loop-here-test.true c.index-goals-here.is in
+    let next : c.step_on-here.result.index ≡ suc c.loop-here.here.index = omega (arith, c.step_on-here.ensures.index) in
+    record {
+      at = subst (λ n. IsAt goals n c.step_on-here.result.at) (sym next)
+          (subst (λ n. IsAt goals (suc c.loop-here.here.index) n) (sym c.step_on-here.ensures.at) (at_next goals c.loop-here.here.index c.loop-here.here.at goal rest there c.loop-here.invariant.at));
+      extends = extends_on c.args.bound.now c.loop-here.bound c.walk_member.new.bound c.loop-here.invariant.extends c.in_ok-first.ensures.extends;
+      adds = record { more = omega (arith, c.loop-here.invariant.adds.more, c.in_ok-first.ensures.adds.more); cleared = c.in_ok-first.ensures.adds.cleared };
+      amid = λ total whole old count known stretch placed amid.
+          let modes = modes_of c.args.setting.now.predicates.now in
+          let is = c.loop-here.invariant.amid total whole old count known stretch placed amid in
+          let step = c.in_ok-first.ensures.steps total goals rest whole old count known stretch there c.loop-here.invariant.at is.0 is.1 in (
+            placed_next total modes goals rest c.loop-here.here.index c.loop-here.here.at c.args.start c.loop-here.here.place c.step_on-here.result.index c.step_on-here.result.place c.args.facts.now c.args.setting.now.all.now goal
+                there next c.loop-here.invariant.at known stretch is.0 c.step_on-here.ensures.place,
+            subst (λ n. Amid total modes goals whole n c.walk_member.new.marks (among c.walk_member.new.bound) old c.walk_member.new.written count) (sym next)
+                (sweep_on total modes goals whole c.loop-here.here.index c.loop-here.here.place c.in_ok-first.first c.args.start c.walk_member.new.marks (among c.walk_member.new.bound) old c.walk_member.new.written count step c.if-first-here.false),
+          );
+    }
 
 pub conjuncts::walk_sweep-returns-in_err-walk_first_left-clause-sweeps : goal.conjuncts::walk_sweep-returns-in_err-walk_first_left-clause-sweeps
 conjuncts::walk_sweep-returns-in_err-walk_first_left-clause-sweeps t c =
     let p = err_from_is_err_and c.from_residual-in_err-walk_first_left.result c.from_residual-in_err-walk_first_left.ensures.1 in
-    rw (p.1, p.2) (λ total whole old less known stretch waits.
+    rw (p.1, p.2) (λ total whole old less known stretch placed amid.
     let modes = modes_of c.args.setting.now.predicates.now in
-    let goals = nodes_of c.args.goals.now in
-    let start = among c.args.bound.now in
-    let none : drop c.loop-goal.goal-index c.args.goals.now ≡ [] = drop_all c.loop-goal.goal-index c.args.goals.now (omega arith) in
-    let amid = subst (λ l. Amid total modes goals start whole (nodes_of l) c.loop-goal.marks c.loop-goal.at (among c.loop-goal.bound) c.loop-goal.sweep.is_left c.loop-goal.sweep.is_again old c.loop-goal.written (suc less)) none
-    (c.loop-goal.invariant.amid total start whole old (suc less) known stretch waits).2 in
-    told total modes goals start whole c.loop-goal.marks c.walk_first_left.new.marks c.loop-goal.at (among c.loop-goal.bound) (among c.walk_first_left.new.bound) c.loop-goal.sweep.is_left c.loop-goal.sweep.is_again
-    old c.loop-goal.written c.walk_first_left.new.written (suc less) less c.in_err-walk_first_left.field-0.0 amid c.if-sweep-2.true c.loop-goal.invariant.not_again
+    let goals = c.args.goals.now in
+    let is = c.loop-here.invariant.amid total whole old (suc less) known stretch placed amid in
+    end_told total modes goals whole c.args.start c.loop-here.here.index c.loop-here.marks c.walk_first_left.new.marks (among c.loop-here.bound) (among c.walk_first_left.new.bound)
+    old c.loop-here.written c.walk_first_left.new.written (suc less) less c.in_err-walk_first_left.field-0.0 is.1 c.loop-here-test.false
     (λ marked fits flags. c.in_err-walk_first_left.ensures.tells total marked fits flags known stretch))
 
-pub conjuncts::walk_sweep-returns-in_ok-walk_first_left-clause-sweeps : goal.conjuncts::walk_sweep-returns-in_ok-walk_first_left-clause-sweeps
-conjuncts::walk_sweep-returns-in_ok-walk_first_left-clause-sweeps t c = λ total whole old less known stretch waits.
+pub conjuncts::walk_sweep-returns-clause-sweeps : goal.conjuncts::walk_sweep-returns-clause-sweeps
+conjuncts::walk_sweep-returns-clause-sweeps t c = λ total whole old less known stretch placed amid.
     let modes = modes_of c.args.setting.now.predicates.now in
-    let goals = nodes_of c.args.goals.now in
-    let start = among c.args.bound.now in
-    let none : drop c.loop-goal.goal-index c.args.goals.now ≡ [] = drop_all c.loop-goal.goal-index c.args.goals.now (omega arith) in
-    let amid = subst (λ l. Amid total modes goals start whole (nodes_of l) c.loop-goal.marks c.loop-goal.at (among c.loop-goal.bound) c.loop-goal.sweep.is_left c.loop-goal.sweep.is_again old c.loop-goal.written (suc less)) none
-    (c.loop-goal.invariant.amid total start whole old (suc less) known stretch waits).2 in
-    absurd (not_ready total modes goals start whole c.loop-goal.marks c.loop-goal.at (among c.loop-goal.bound) c.loop-goal.sweep.is_left c.loop-goal.sweep.is_again old c.loop-goal.written (suc less)
-    c.in_ok-walk_first_left.field-0 amid c.if-sweep-2.true c.loop-goal.invariant.not_again (λ marked fits flags. c.in_ok-walk_first_left.ensures.tells total marked fits flags known stretch))
+    let goals = c.args.goals.now in
+    let is = c.loop-here.invariant.amid total whole old (suc less) known stretch placed amid in
+    end_ready total modes goals whole c.args.start c.loop-here.here.index c.loop-here.marks c.walk_first_left.new.marks (among c.loop-here.bound) (among c.walk_first_left.new.bound)
+    old c.loop-here.written c.walk_first_left.new.written (suc less) less c.in_ok-walk_first_left.field-0 is.1 c.loop-here-test.false
+    (λ marked fits flags. c.in_ok-walk_first_left.ensures.tells total marked fits flags known stretch)
 
-pub conjuncts::walk_sweep-returns-else-sweep-2-clause-sweeps : goal.conjuncts::walk_sweep-returns-else-sweep-2-clause-sweeps
-conjuncts::walk_sweep-returns-else-sweep-2-clause-sweeps t c = λ total whole old less known stretch waits.
-    let modes = modes_of c.args.setting.now.predicates.now in
-    let goals = nodes_of c.args.goals.now in
-    let start = among c.args.bound.now in
-    let none : drop c.loop-goal.goal-index c.args.goals.now ≡ [] = drop_all c.loop-goal.goal-index c.args.goals.now (omega arith) in
-    let amid = subst (λ l. Amid total modes goals start whole (nodes_of l) c.loop-goal.marks c.loop-goal.at (among c.loop-goal.bound) c.loop-goal.sweep.is_left c.loop-goal.sweep.is_again old c.loop-goal.written (suc less)) none
-    (c.loop-goal.invariant.amid total start whole old (suc less) known stretch waits).2 in
-    none_is_left total modes goals start whole c.loop-goal.marks c.loop-goal.at (among c.loop-goal.bound) c.loop-goal.sweep.is_left c.loop-goal.sweep.is_again old c.loop-goal.written less (suc less) amid c.if-sweep-2.false
+pub conjuncts::walk_sweep-walk_member-requires : goal.conjuncts::walk_sweep-walk_member-requires
+conjuncts::walk_sweep-walk_member-requires t c =
+    let there = next_item c.args.goals.now c.loop-here.here.index c.index-goals-here.result c.loop-here-test.true c.index-goals-here.is in
+    let within = parts_within c.args.goals.now c.loop-here.here.index c.loop-here.here.at c.index-goals-here.result (drop (c.loop-here.here.index + 1) c.args.goals.now) there c.loop-here.invariant.at in
+    (omega (arith, within), (omega (arith, within, c.requires.known), (omega (arith, within, c.requires.marked, c.loop-here.auto.marks), c.loop-here.invariant.adds.cleared)))
+
+pub conjuncts::walk_sweep-step_back-requires-clause-at : goal.conjuncts::walk_sweep-step_back-requires-clause-at
+conjuncts::walk_sweep-step_back-requires-clause-at t c = c.loop-here.invariant.at
+
+pub conjuncts::walk_sweep-returns-then-first-here-clause-extends : goal.conjuncts::walk_sweep-returns-then-first-here-clause-extends
+conjuncts::walk_sweep-returns-then-first-here-clause-extends t c = extends_on c.args.bound.now c.loop-here.bound c.walk_member.new.bound c.loop-here.invariant.extends c.in_ok-first.ensures.extends
+
+pub conjuncts::walk_sweep-returns-then-first-here-clause-adds : goal.conjuncts::walk_sweep-returns-then-first-here-clause-adds
+conjuncts::walk_sweep-returns-then-first-here-clause-adds t c = record {
+  more = omega (arith, c.loop-here.invariant.adds.more, c.in_ok-first.ensures.adds.more);
+  cleared = c.in_ok-first.ensures.adds.cleared;
+}
+
+pub conjuncts::walk_sweep-step_on-here-requires-clause-known : goal.conjuncts::walk_sweep-step_on-here-requires-clause-known
+conjuncts::walk_sweep-step_on-here-requires-clause-known t c =
+    let there = next_item c.args.goals.now c.loop-here.here.index c.index-goals-here.result c.loop-here-test.true c.index-goals-here.is in
+    let within = parts_within c.args.goals.now c.loop-here.here.index c.loop-here.here.at c.index-goals-here.result (drop (c.loop-here.here.index + 1) c.args.goals.now) there c.loop-here.invariant.at in
+    omega (arith, within, c.requires.known)
+
+pub conjuncts::walk_sweep-walk_first_left-requires : goal.conjuncts::walk_sweep-walk_first_left-requires
+conjuncts::walk_sweep-walk_first_left-requires t c = (omega arith, (c.requires.known, (omega (arith, c.requires.marked, c.loop-here.auto.marks), c.loop-here.invariant.adds.cleared)))
+
+pub conjuncts::walk_sweep-returns-clause-extends : goal.conjuncts::walk_sweep-returns-clause-extends
+conjuncts::walk_sweep-returns-clause-extends t c = subst (λ l. Extends c.args.bound.now l) (sym c.in_ok-walk_first_left.ensures.same) c.loop-here.invariant.extends
+
+pub conjuncts::walk_sweep-returns-clause-adds : goal.conjuncts::walk_sweep-returns-clause-adds
+conjuncts::walk_sweep-returns-clause-adds t c = record {
+  more = omega (arith, c.loop-here.invariant.adds.more, c.in_ok-walk_first_left.ensures.adds.more);
+  cleared = c.in_ok-walk_first_left.ensures.adds.cleared;
+}
+
+pub conjuncts::walk_member-bounds-facts-own : goal.conjuncts::walk_member-bounds-facts-own
+conjuncts::walk_member-bounds-facts-own t c = omega (arith, some_parts c.args.goal.now c.part_count.result c.part_count.ensures, c.part_count.ensures, c.requires.known)
 
 -- the next goal of a conjunction
 
@@ -416,61 +427,73 @@ conjuncts::walk_member-bounds-marks-own t c =
     omega (arith, one, c.part_count.ensures, c.requires.marked)
 
 pub conjuncts::walk_member-returns-then-marks-own-clause-steps : goal.conjuncts::walk_member-returns-then-marks-own-clause-steps
-conjuncts::walk_member-returns-then-marks-own-clause-steps t c = λ total goals rest start whole old count known stretch once amid.
+conjuncts::walk_member-returns-then-marks-own-clause-steps t c = λ total goals rest whole old count known stretch there at placed amid.
     let modes = modes_of c.args.setting.now.predicates.now in
     let one = some_parts c.args.goal.now c.part_count.result c.part_count.ensures in
-    member_passes total modes goals start whole c.args.goal.now rest c.args.marks.now c.args.at (among c.args.bound.now) c.args.sweep.is_left c.args.sweep.is_again old c.args.written.now count
-    (c.args.at + c.part_count.result - 1) amid (omega (arith, one, c.part_count.ensures)) c.if-marks-own.true
+    member_passes total modes goals whole c.args.goal.now rest c.args.here.index c.args.here.at (c.args.here.at + c.part_count.result - 1) c.args.start c.args.here.place c.args.marks.now (among c.args.bound.now)
+    old c.args.written.now count there at amid (omega (arith, one, c.part_count.ensures)) c.if-marks-own.true
 
 pub conjuncts::walk_member-returns-in_err-walk_if_ready-clause-steps : goal.conjuncts::walk_member-returns-in_err-walk_if_ready-clause-steps
 conjuncts::walk_member-returns-in_err-walk_if_ready-clause-steps t c =
     let p = err_from_is_err_and c.from_residual.result c.from_residual.ensures.1 in
-    rw (p.1, p.2) (λ total goals rest start whole old count known stretch once amid.
+    rw (p.1, p.2) (λ total goals rest whole old count known stretch there at placed amid.
     let modes = modes_of c.args.setting.now.predicates.now in
     let goal = c.args.goal.now in
     let one = some_parts goal c.part_count.result c.part_count.ensures in
-    let own : suc (c.args.at + c.part_count.result - 1) ≡ c.args.at + length (parts_of goal) = omega (arith, one, c.part_count.ensures) in
-    let end : c.args.at + c.part_count.result ≡ c.args.at + length (parts_of goal) = ap (λ n. c.args.at + n) c.part_count.ensures in
-    let k = facts_of_next total modes goal rest c.args.facts.now c.args.at (c.args.at + c.part_count.result) known end in
-    let s = stretch_front total c.args.setting.now.all.now c.args.place (variables goal) (all_variables rest) stretch in
-    let m = member_marks total modes goals start whole goal rest c.args.marks.now c.args.at (among c.args.bound.now) c.args.sweep.is_left c.args.sweep.is_again old c.args.written.now count
-    (c.args.at + c.part_count.result - 1) (c.args.at + c.part_count.result) amid own end c.if-marks-own.false in
-    step_err total modes goals start whole goal rest c.walk_if_ready.new.marks (put_mid c.args.at (c.args.at + c.part_count.result - c.args.at) c.args.marks.now c.walk_if_ready.new.marks) (c.args.at + length (parts_of goal)) c.args.bound.now c.walk_if_ready.new.bound (among c.walk_if_ready.new.bound)
+    let own : suc (c.args.here.at + c.part_count.result - 1) ≡ c.args.here.at + length (parts_of goal) = omega (arith, one, c.part_count.ensures) in
+    let end : c.args.here.at + c.part_count.result ≡ c.args.here.at + length (parts_of goal) = ap (λ n. c.args.here.at + n) c.part_count.ensures in
+    let from = known_from total modes goals rest c.args.here.index c.args.here.at c.args.facts.now goal there at known in
+    let k = facts_of_next total modes goal (nodes_of rest) c.args.facts.now c.args.here.at (c.args.here.at + c.part_count.result) from end in
+    let s = stretch_from total c.args.setting.now.all.now c.args.start goals rest c.args.here.index c.args.here.place goal there placed stretch in
+    let m = member_marks total modes goals whole goal rest c.args.here.index c.args.here.at (c.args.here.at + c.part_count.result - 1) (c.args.here.at + c.part_count.result) c.args.marks.now (among c.args.bound.now)
+    old c.args.written.now count there at amid own end c.if-marks-own.false in
+    step_err total modes goals whole goal c.walk_if_ready.new.marks c.walk_if_ready.new.marks c.args.start c.args.here.place c.args.here.index c.args.bound.now c.walk_if_ready.new.bound (among c.walk_if_ready.new.bound)
     old c.args.written.now c.walk_if_ready.new.written c.walk_if_ready.new.written count c.in_err-walk_if_ready.field-0.0 (c.in_err-walk_if_ready.ensures.goes total k s m))
 
 pub conjuncts::walk_member-returns-then-not-branch-clause-steps : goal.conjuncts::walk_member-returns-then-not-branch-clause-steps
-conjuncts::walk_member-returns-then-not-branch-clause-steps t c = λ total goals rest start whole old count known stretch once amid.
+conjuncts::walk_member-returns-then-not-branch-clause-steps t c = λ total goals rest whole old count known stretch there at placed amid.
     let modes = modes_of c.args.setting.now.predicates.now in
     let goal = c.args.goal.now in
     let one = some_parts goal c.part_count.result c.part_count.ensures in
-    let own : suc (c.args.at + c.part_count.result - 1) ≡ c.args.at + length (parts_of goal) = omega (arith, one, c.part_count.ensures) in
-    let end : c.args.at + c.part_count.result ≡ c.args.at + length (parts_of goal) = ap (λ n. c.args.at + n) c.part_count.ensures in
-    let k = facts_of_next total modes goal rest c.args.facts.now c.args.at (c.args.at + c.part_count.result) known end in
-    let s = stretch_front total c.args.setting.now.all.now c.args.place (variables goal) (all_variables rest) stretch in
-    let m = member_marks total modes goals start whole goal rest c.args.marks.now c.args.at (among c.args.bound.now) c.args.sweep.is_left c.args.sweep.is_again old c.args.written.now count
-    (c.args.at + c.part_count.result - 1) (c.args.at + c.part_count.result) amid own end c.if-marks-own.false in
+    let own : suc (c.args.here.at + c.part_count.result - 1) ≡ c.args.here.at + length (parts_of goal) = omega (arith, one, c.part_count.ensures) in
+    let end : c.args.here.at + c.part_count.result ≡ c.args.here.at + length (parts_of goal) = ap (λ n. c.args.here.at + n) c.part_count.ensures in
+    let from = known_from total modes goals rest c.args.here.index c.args.here.at c.args.facts.now goal there at known in
+    let k = facts_of_next total modes goal (nodes_of rest) c.args.facts.now c.args.here.at (c.args.here.at + c.part_count.result) from end in
+    let s = stretch_from total c.args.setting.now.all.now c.args.start goals rest c.args.here.index c.args.here.place goal there placed stretch in
+    let m = member_marks total modes goals whole goal rest c.args.here.index c.args.here.at (c.args.here.at + c.part_count.result - 1) (c.args.here.at + c.part_count.result) c.args.marks.now (among c.args.bound.now)
+    old c.args.written.now count there at amid own end c.if-marks-own.false in
     let stays = subst (λ b. GoesIfReady total modes goal c.walk_if_ready.new.marks c.args.bound.now c.walk_if_ready.new.bound c.args.written.now c.walk_if_ready.new.written (Ok b)) c.if-not-branch.true
     (c.in_ok-walk_if_ready.ensures.goes total k s m) in
-    member_stays total modes goals start whole goal rest c.args.marks.now c.walk_if_ready.new.marks c.args.at c.args.bound.now c.walk_if_ready.new.bound c.args.sweep.is_left c.args.sweep.is_again
-    old c.args.written.now c.walk_if_ready.new.written count (c.args.at + c.part_count.result - 1) (c.args.at + c.part_count.result - c.args.at) amid own c.if-marks-own.false
-    (omega (arith, c.part_count.ensures)) once stays
+    member_stays total modes goals whole goal rest c.args.here.index c.args.here.at (c.args.here.at + c.part_count.result - 1) (c.args.here.at + c.part_count.result - c.args.here.at) c.args.start c.args.here.place
+    c.args.marks.now c.walk_if_ready.new.marks c.args.bound.now c.walk_if_ready.new.bound old c.args.written.now c.walk_if_ready.new.written count there at amid own c.if-marks-own.false
+    (omega (arith, c.part_count.ensures)) stays
 
 pub conjuncts::walk_member-returns-clause-steps : goal.conjuncts::walk_member-returns-clause-steps
-conjuncts::walk_member-returns-clause-steps t c = λ total goals rest start whole old count known stretch once amid.
+conjuncts::walk_member-returns-clause-steps t c = λ total goals rest whole old count known stretch there at placed amid.
     let modes = modes_of c.args.setting.now.predicates.now in
     let goal = c.args.goal.now in
     let one = some_parts goal c.part_count.result c.part_count.ensures in
-    let own : suc (c.args.at + c.part_count.result - 1) ≡ c.args.at + length (parts_of goal) = omega (arith, one, c.part_count.ensures) in
-    let end : c.args.at + c.part_count.result ≡ c.args.at + length (parts_of goal) = ap (λ n. c.args.at + n) c.part_count.ensures in
-    let k = facts_of_next total modes goal rest c.args.facts.now c.args.at (c.args.at + c.part_count.result) known end in
-    let s = stretch_front total c.args.setting.now.all.now c.args.place (variables goal) (all_variables rest) stretch in
-    let m = member_marks total modes goals start whole goal rest c.args.marks.now c.args.at (among c.args.bound.now) c.args.sweep.is_left c.args.sweep.is_again old c.args.written.now count
-    (c.args.at + c.part_count.result - 1) (c.args.at + c.part_count.result) amid own end c.if-marks-own.false in
+    let own : suc (c.args.here.at + c.part_count.result - 1) ≡ c.args.here.at + length (parts_of goal) = omega (arith, one, c.part_count.ensures) in
+    let end : c.args.here.at + c.part_count.result ≡ c.args.here.at + length (parts_of goal) = ap (λ n. c.args.here.at + n) c.part_count.ensures in
+    let from = known_from total modes goals rest c.args.here.index c.args.here.at c.args.facts.now goal there at known in
+    let k = facts_of_next total modes goal (nodes_of rest) c.args.facts.now c.args.here.at (c.args.here.at + c.part_count.result) from end in
+    let s = stretch_from total c.args.setting.now.all.now c.args.start goals rest c.args.here.index c.args.here.place goal there placed stretch in
+    let m = member_marks total modes goals whole goal rest c.args.here.index c.args.here.at (c.args.here.at + c.part_count.result - 1) (c.args.here.at + c.part_count.result) c.args.marks.now (among c.args.bound.now)
+    old c.args.written.now count there at amid own end c.if-marks-own.false in
     let goes = subst (λ b. GoesIfReady total modes goal c.walk_if_ready.new.marks c.args.bound.now c.walk_if_ready.new.bound c.args.written.now c.walk_if_ready.new.written (Ok b)) c.if-not-branch.false
     (c.in_ok-walk_if_ready.ensures.goes total k s m) in
-    member_went total modes goals start whole goal rest c.args.marks.now c.walk_if_ready.new.marks c.args.at c.args.bound.now c.walk_if_ready.new.bound c.args.sweep.is_left c.args.sweep.is_again c.begins_again-is_again.result
-    old c.args.written.now c.walk_if_ready.new.written count (c.args.at + c.part_count.result - 1) (c.args.at + c.part_count.result - c.args.at) c.mark-known.result c.mark-now.result amid own c.if-marks-own.false
-    (omega (arith, c.part_count.ensures)) once goes c.begins_again-is_again.ensures c.mark-known.ensures c.mark-now.ensures c.in_ok-walk_if_ready.ensures.extends
+    let next : c.place_behind-next.result ≡ c.args.here.place + length (variables goal) =
+    place_from total modes goals rest c.args.here.index c.args.here.at (c.args.here.at + c.part_count.result - 1) c.args.start c.args.here.place c.place_behind-next.result c.args.facts.now c.args.setting.now.all.now goal
+    c.index-facts-own.result there own at known stretch placed c.index-facts-own.is c.place_behind-next.ensures in
+    let firsts = subst (λ l. IsFirst c.args.start c.args.setting.now.all.now (among l) (drop c.args.here.place (take c.place_behind-next.result c.args.setting.now.all.now)) c.in_ok-first.first) c.since-new.ensures
+    c.in_ok-first.ensures.first in
+    seen_same total modes goals whole c.args.here.index c.args.start c.args.here.place c.in_ok-first.first (put_mid c.args.here.at (c.args.here.at + c.part_count.result - c.args.here.at) c.args.marks.now c.walk_if_ready.new.marks)
+    (among c.walk_if_ready.new.bound) old c.walk_if_ready.new.written c.first_of.new.seen count (c.in_ok-walk_if_ready.ensures.adds.cleared) (c.in_ok-first.ensures.cleared)
+    (member_goes total modes goals whole goal rest c.args.here.index c.args.here.at (c.args.here.at + c.part_count.result - 1) (c.args.here.at + c.part_count.result - c.args.here.at) c.args.start c.args.here.place c.in_ok-first.first
+    c.args.marks.now c.walk_if_ready.new.marks c.args.bound.now c.walk_if_ready.new.bound old c.args.written.now c.walk_if_ready.new.written count there at placed amid own c.if-marks-own.false
+    (omega (arith, c.part_count.ensures)) goes
+    (λ other far. goes_agree total modes goal goals rest c.args.setting.now.all.now c.args.start c.in_ok-first.first c.args.here.index other c.args.here.place c.place_behind-next.result c.mark-known.result
+    c.args.bound.now c.walk_if_ready.new.bound stretch placed there next c.in_ok-walk_if_ready.ensures.extends c.mark-known.ensures goes.bound_is firsts far))
 
 -- a goal that goes if it is ready
 
@@ -535,7 +558,7 @@ conjuncts::walk_first_left-returns-then-not-marks-own-clause-tells t c = λ tota
     let s = stretch_front total c.args.setting.now.all.now c.loop-goal.place (variables goal) (all_variables (nodes_of rest)) p.stretch in
     let gives = subst (λ b. Gives modes (from total modes goal (among b)) c.loop-goal.written c.walk.new.written c.walk.result) c.loop-goal.invariant.same (c.walk.ensures.orders total k s) in
     first_tells total modes goal (nodes_of rest) c.args.facts.now c.args.marks.now c.loop-goal.at (c.loop-goal.at + c.part_count.result - 1) c.args.setting.now.all.now c.loop-goal.place those (among c.args.bound.now)
-    c.loop-goal.written c.walk.new.written c.walk.result p (omega (arith, one, c.part_count.ensures))
+    c.args.written.now c.loop-goal.written c.walk.new.written c.walk.result p (omega (arith, one, c.part_count.ensures))
     (ap (λ l. slice_index_or l (c.loop-goal.at + c.part_count.result - 1) false) (sym c.loop-goal.invariant.same_marks) ∙ c.if-not-marks-own.true) gives
 
 pub conjuncts::walk_first_left-loop-goal-preserved : goal.conjuncts::walk_first_left-loop-goal-preserved
@@ -556,6 +579,15 @@ conjuncts::walk_first_left-loop-goal-preserved t c = record {
       c.loop-goal.place c.place_behind-place.result c.index-facts-own.result those p (omega (arith, one, c.part_count.ensures)) (ap (λ n. c.loop-goal.at + n) c.part_count.ensures)
       (ap (λ l. slice_index_or l (c.loop-goal.at + c.part_count.result - 1) false) (sym c.loop-goal.invariant.same_marks) ∙ c.if-not-marks-own.false) c.index-facts-own.is c.place_behind-place.ensures;
 }
+
+pub conjuncts::walk_first_left-returns-clause-tells : goal.conjuncts::walk_first_left-returns-clause-tells
+conjuncts::walk_first_left-returns-clause-tells t c = λ total marked fits flags known stretch.
+    let modes = modes_of c.args.setting.now.predicates.now in
+    let none : drop c.loop-goal.goal-index c.args.goals.now ≡ [] = drop_all c.loop-goal.goal-index c.args.goals.now (omega arith) in
+    let those = left total modes (nodes_of c.args.goals.now) marked in
+    let p = subst (λ l. Passing total modes (nodes_of l) c.args.facts.now c.args.marks.now c.loop-goal.at c.args.setting.now.all.now c.loop-goal.place those) none
+    (c.loop-goal.invariant.passing total marked fits flags known stretch) in
+    none_told total modes c.args.facts.now c.args.marks.now c.loop-goal.at c.args.setting.now.all.now c.loop-goal.place those (among c.args.bound.now) c.args.written.now c.loop-goal.written tt p c.loop-goal.invariant.same_written
 
 -- goals that hold no others
 

@@ -1,8 +1,8 @@
-use Rattle.std.proofs.Common.{◌≡◌, ◌+◌, ◌*◌, ◌-◌, ◌≤◌, ℕ, [], drop, length, reverse, false}
+use Rattle.std.proofs.Common.{◌≡◌, ◌+◌, ◌*◌, ◌-◌, ◌≤◌, ℕ, [], drop, length, reverse}
 use Rattle.merc_goal_tree.specs.Nodes.{nodes_of}
 use Rattle.merc_goal_tree.specs.Parts.{parts_of, all_parts}
 use Rattle.merc_goal_tree.specs.Variables.{variables, all_variables}
-use Rattle.merc_order.specs.Bound.{Bound, among}
+use Rattle.merc_order.specs.Bound.{among}
 use Rattle.merc_order.specs.Marks.{Marked, left}
 use Rattle.merc_order.specs.Moves.{each_from, beside}
 use Rattle.merc_order.specs.Order.{moves}
@@ -11,10 +11,11 @@ use Rattle.merc_order.specs.Procedures.{modes_of}
 use Rattle.merc_readiness.specs.Asking.{AreKnown, Fits, flags_of}
 use Rattle.merc_modes.specs.Linked.{Within}
 use Rattle.merc_modes.specs.Beside.{all_beside}
-use Rattle.merc_modes.specs.Conjuncts.{Passing, Paused, Amid}
+use Rattle.merc_modes.specs.Conjuncts.{Passing, Amid}
+use Rattle.merc_modes.specs.Positions.{IsAt, IsPlaced}
 use Rattle.merc_readiness.specs.Facts.{subgoals, all_subgoals}
 use Rattle.merc_readiness.specs.Outside.{IsStretch}
-use Rattle.merc_readiness.specs.Sweeps.{AreKnownFrom, Extends}
+use Rattle.merc_readiness.specs.Sweeps.{Extends}
 use Rattle.merc_modes.specs.Walks.{Adds, Walked, all_settled}
 use Rattle.merc_modes.specs.declared.written.Written.{Written}
 use Rattle.merc_modes.proofs.+walking.Given as goal
@@ -72,25 +73,27 @@ abbrev pub invariant-conjuncts::walk_rounds-loop-round : goal.invariant-conjunct
 invariant-conjuncts::walk_rounds-loop-round l = record {
   extends : Extends l.fn.bound l.bound;
   adds : Adds l.fn.written l.written;
-  paused : (total : ℕ → ℕ) → AreKnown total (modes_of l.setting.predicates.now) (all_subgoals (nodes_of l.goals)) l.facts
+  at : IsAt l.goals l.from.index l.from.at;
+  amid : (total : ℕ → ℕ) → AreKnown total (modes_of l.setting.predicates.now) (all_subgoals (nodes_of l.goals)) l.facts
       → IsStretch total l.setting.all.now l.start (l.start + length (all_variables (nodes_of l.goals))) (all_variables (nodes_of l.goals))
-      → Paused total (modes_of l.setting.predicates.now) (nodes_of l.goals)
-      (all_settled (moves total (modes_of l.setting.predicates.now) (nodes_of l.goals)) (among l.fn.bound)) l.marks (among l.bound) l.fn.written l.written (length l.goals - l._round);
+      → IsPlaced l.start l.goals l.from.index l.from.place
+      × Amid total (modes_of l.setting.predicates.now) l.goals (all_settled (moves total (modes_of l.setting.predicates.now) (nodes_of l.goals)) (among l.fn.bound)) l.from.index
+      l.marks (among l.bound) l.fn.written l.written (length l.goals - l._round);
 }
 
-abbrev pub invariant-conjuncts::walk_sweep-loop-goal : goal.invariant-conjuncts::walk_sweep-loop-goal
-invariant-conjuncts::walk_sweep-loop-goal l = record {
-  at_is : l.at + length (all_parts (nodes_of (drop l.goal-index l.goals))) ≡ length (all_parts (nodes_of l.goals));
+abbrev pub invariant-conjuncts::walk_sweep-loop-here : goal.invariant-conjuncts::walk_sweep-loop-here
+invariant-conjuncts::walk_sweep-loop-here l = record {
+  at : IsAt l.goals l.here.index l.here.at;
   extends : Extends l.fn.bound l.bound;
   adds : Adds l.fn.written l.written;
-  not_again : l.sweep.is_again ≡ false;
-  amid : (total : ℕ → ℕ) (start : Bound) (whole : Outcomes) (old : Written) (count : ℕ) → AreKnown total (modes_of l.setting.predicates.now) (all_subgoals (nodes_of l.goals)) l.facts
-      → IsStretch total l.setting.all.now l.start (l.start + length (all_variables (nodes_of l.goals))) (all_variables (nodes_of l.goals))
-      → Paused total (modes_of l.setting.predicates.now) (nodes_of l.goals) whole l.fn.marks (among l.fn.bound) old l.fn.written count
-      → AreKnownFrom total (modes_of l.setting.predicates.now) (all_subgoals (nodes_of (drop l.goal-index l.goals))) l.facts l.at
-      × IsStretch total l.setting.all.now l.place (l.place + length (all_variables (nodes_of (drop l.goal-index l.goals)))) (all_variables (nodes_of (drop l.goal-index l.goals)))
-      × Amid total (modes_of l.setting.predicates.now) (nodes_of l.goals) start whole (nodes_of (drop l.goal-index l.goals)) l.marks l.at (among l.bound) l.sweep.is_left l.sweep.is_again old l.written count;
+  amid : (total : ℕ → ℕ) (whole : Outcomes) (old : Written) (count : ℕ) → AreKnown total (modes_of l.setting.predicates.now) (all_subgoals (nodes_of l.goals)) l.facts
+      → IsStretch total l.setting.all.now l.start (l.start + length (all_variables (nodes_of l.goals))) (all_variables (nodes_of l.goals)) → IsPlaced l.start l.goals l.fn.from.index l.fn.from.place
+      → Amid total (modes_of l.setting.predicates.now) l.goals whole l.fn.from.index l.fn.marks (among l.fn.bound) old l.fn.written count
+      → IsPlaced l.start l.goals l.here.index l.here.place × Amid total (modes_of l.setting.predicates.now) l.goals whole l.here.index l.marks (among l.bound) old l.written count;
 }
+
+abbrev pub decreases-conjuncts::walk_sweep-loop-here : goal.decreases-conjuncts::walk_sweep-loop-here
+decreases-conjuncts::walk_sweep-loop-here l = length l.goals - l.here.index
 
 abbrev pub invariant-conjuncts::walk_first_left-loop-goal : goal.invariant-conjuncts::walk_first_left-loop-goal
 invariant-conjuncts::walk_first_left-loop-goal l = record {

@@ -1,0 +1,13 @@
+pub mod Truthful
+pub mod SimpleTruth
+pub mod CallTruth
+pub mod Fewer
+pub mod Guarded
+pub mod Singles
+pub mod Befores
+pub mod NodeTruth
+pub mod JoinedTruth
+pub mod TreeTruth
+pub mod Procedures
+pub mod TruthLaw
+pub mod RunLaw

@@ -1,0 +1,4 @@
+pub mod Instances
+pub mod InstancesExamples
+pub mod Laws
+pub mod LawsExamples

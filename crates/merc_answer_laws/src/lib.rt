@@ -1,0 +1,4 @@
+//! Laws of answers: what they say of truth.
+#![tactic(auto)]
+
+pub mod laws;

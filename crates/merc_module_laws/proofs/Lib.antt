@@ -1,0 +1,13 @@
+pub mod Lists
+pub mod FormLiterals
+pub mod WrittenWords
+pub mod GoalLiterals
+pub mod ItemWords
+pub mod EntryFacts
+pub mod ModuleWords
+pub mod BodyLiterals
+pub mod ScopedTypes
+pub mod LibraryTypes
+pub mod ModuleTypes
+pub mod OrderedModules
+pub mod GoodModules

@@ -1,0 +1,5 @@
+pub mod ClauseWords
+pub mod ClauseWordsExamples
+pub mod Laws
+pub mod ProgramLaws
+pub mod ProgramLawsExamples

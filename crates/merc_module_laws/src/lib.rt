@@ -1,0 +1,4 @@
+//! That modules without faults are good programs.
+#![tactic(auto)]
+
+pub mod laws;
