@@ -1,0 +1,4 @@
+pub mod ListTrees
+pub mod ListCategories
+pub mod Allowed
+pub mod GoodModules

@@ -1,0 +1,2 @@
+pub mod AllowedUnits
+pub mod GoodModules
