@@ -1,12 +1,10 @@
 -- Accepted modules are good programs, and accepted goals good ones, of which the laws of answers and categories hold.
-use Rattle.std.proofs.Common.{◌≡◌, ℕ, List, [], ◌∷◌, map, None, refl, sym, ap, subst, ◌∙◌}
+use Rattle.std.proofs.Common.{◌≡◌, ℕ, List, [], ◌∷◌, map, refl, sym, ap, subst, ◌∙◌}
 use Rattle.merc_tree.specs.Term.{Term}
 use Rattle.merc_tree.specs.declared.declarations.Module.{Module}
 use Rattle.merc_graded_tree.specs.Nodes.{Node}
 use Rattle.merc_order.specs.Bound.{nothing}
 use Rattle.merc_order.specs.Procedures.{bound_at}
-use Rattle.merc_order.specs.Ordered.{Ordered, Outcome, Ready, Stuck}
-use Rattle.merc_modes.specs.Told.{fault_in}
 use Rattle.merc_grading.specs.Faults.{Body, Procedure, all_finished, procedures_of}
 use Rattle.merc_meaning.specs.Runs.{Program, call_trace, run}
 use Rattle.merc_category_laws.specs.Answers.{Each, KeepsTo}
@@ -18,10 +16,9 @@ use Rattle.merc_found_laws.specs.ProgramBodies.{finished_bodies}
 use Rattle.merc_answer_laws.specs.Laws.{AnswersAreYes, OthersAreNo, AnswersAreWhole, RunAnswersAreYes, RunOthersAreNo}
 use Rattle.merc_answer_laws.proofs.TruthLaw.{answers_law, others_law}
 use Rattle.merc_answer_laws.proofs.RunLaw.{whole_answers_law, run_answers_law, run_others_law}
-use Rattle.merc_fit_laws.proofs.ModesFitting.{module_modes_fit}
 use Rattle.merc_module_laws.specs.ProgramLaws.{BecomesGood, BecomesGoodQuery}
-use Rattle.merc_module_laws.proofs.GoodModules.{asked_becomes_good, module_becomes_good}
-use Rattle.merc_check.specs.Accepted.{query_answers, query_order}
+use Rattle.merc_library_laws.proofs.GoodModules.{accepted_becomes_good, accepted_goal_becomes_good}
+use Rattle.merc_check.specs.Accepted.{query_answers}
 use Rattle.merc_check.specs.Checked.{IsGoal}
 use Rattle.merc_accepted_laws.specs.Laws.{CallsAnswerInTypes, CallsAnswerTruly, CallsKeepToCategories, IsChecked, IsGradedGoal, RunsAnswerTruly, program_with}
 
@@ -32,16 +29,10 @@ finished_trees known (procedure ∷ procedures) [] = refl
 finished_trees known (procedure ∷ procedures) (body ∷ bodies) =
     ap (λ (l : List Node). (finished_body known (bound_at procedure.mode.args) body).tree ∷ l) (finished_trees known procedures bodies)
 
-ready_of : (outcome : Outcome) → fault_in outcome ≡ None → (ordered : Ordered) × (outcome ≡ Ready ordered)
-ready_of (Ready ordered) none = (ordered, refl)
-ready_of (Stuck fault) none = cc
-
 -- Given is an accepted module.
 module _ (before after : List (List ℕ)) (text : List ℕ) (items : List Term) (found : Module) (trees : List Node) (is : IsChecked before after text items found trees) where
   becomes : BecomesGood after found
-  becomes =
-      module_becomes_good before after text items found is.fixed is.distinct is.accepted.module_is
-      (record { typed = is.accepted.clauses.typed; ordered = is.accepted.clauses.ordered; categories = is.accepted.clauses.categories }) is.units
+  becomes = accepted_becomes_good before after text items found is.fixed is.distinct is.accepted
 
   good_bodies : List Body
   good_bodies = finished_bodies found (procedures_of found.preds) becomes.bodies
@@ -58,10 +49,7 @@ module _ (before after : List (List ℕ)) (text : List ℕ) (items : List Term) 
   -- Given is an accepted goal over it.
   module _ (names : List (List ℕ)) (asked : List ℕ) (goal : Term) (accepted : IsGoal after names found asked goal) (tree : Node) (graded : IsGradedGoal names found goal tree) where
     asks : BecomesGoodQuery names found (query_answers names found goal) goal
-    asks =
-        let ready = ready_of (query_order names found goal) accepted.accepted.ordered in
-        asked_becomes_good after names asked goal found (query_answers names found goal) ready.0 (module_modes_fit before after text items found is.accepted.module_is)
-        accepted.reads accepted.accepted.typed ready.1
+    asks = accepted_goal_becomes_good before after names text asked items found goal is.accepted accepted
 
     tree_is : (finished_body found nothing asks.body).tree ≡ tree
     tree_is = sym (graded asks.body asks.is)

@@ -18,7 +18,6 @@ use Rattle.merc_category_laws.specs.Answers.{Each, KeepsTo}
 use Rattle.merc_category_laws.specs.GoodPrograms.{body_of}
 use Rattle.merc_category_laws.specs.Laws.{Enters, Leaves, IsProcedure}
 use Rattle.merc_answer_laws.specs.Laws.{AnswersAreYes, OthersAreNo, AnswersAreWhole, RunAnswersAreYes, RunOthersAreNo}
-use Rattle.merc_module_laws.specs.ProgramLaws.{UnitsKeepTheirCategories}
 use Rattle.merc_check.specs.Accepted.{AreGraded, HasBody, query_answers}
 use Rattle.merc_check.specs.Checked.{IsAccepted, IsGoal}
 
@@ -27,13 +26,12 @@ abbrev pub program_with : List PredDecl → List Node → Program
 program_with predicates trees procedure = body_of predicates trees procedure.predicate procedure.mode
 
 -- A text is an accepted module, whose procedures have these trees with their switches and categories. The table of names holds the fixed ones first, and each
--- text once. The library units keep the categories that they declare.
+-- text once.
 pub record IsChecked (before after : List (List ℕ)) (text : List ℕ) (items : List Term) (found : Module) (trees : List Node) : Type 0 where
   pub fixed : HoldsFixed before
   pub distinct : IsDistinct bytes_eq before
   pub accepted : IsAccepted before after text items found
   pub graded : AreGraded after found trees
-  pub units : UnitsKeepTheirCategories after found
 
 -- What holds of each call over an accepted module, at each depth, whatever the type variables of the predicate's arguments stand for, where its inputs are
 -- well typed.

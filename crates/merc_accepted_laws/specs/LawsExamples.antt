@@ -2,7 +2,6 @@
 use Rattle.std.specs.Prelude.{◌≡◌, ℕ, List, [], ◌∷◌, Some, None, refl}
 use Rattle.merc_base.specs.declared.category.Category.TheVariants.{Det, Failure}
 use Rattle.merc_tree.specs.Term.{no_span}
-use Rattle.merc_tree.specs.declared.declarations.ModeDecl.{ModeDecl}
 use Rattle.merc_tree.specs.declared.declarations.PredDecl.{PredDecl}
 use Rattle.merc_graded_tree.specs.declared.basic.BasicGoal.TheVariants.{True, Fail}
 use Rattle.merc_graded_tree.specs.declared.basic.Procedure.{Procedure}
@@ -37,5 +36,5 @@ second_mode = refl
 no_third_mode : program_with two_modes (truth ∷ failure ∷ []) (mode_of_first 2) ≡ None
 no_third_mode = refl
 
-not_exchanged : program_with two_modes (truth ∷ failure ∷ []) (mode_of_first 0) ≡ Some (record { places = []; body = failure }) → ⊥
-not_exchanged wrong = cc
+no_tree : program_with two_modes [] (mode_of_first 0) ≡ Some (record { places = []; body = truth }) → ⊥
+no_tree wrong = cc

@@ -4,8 +4,6 @@ ghost use Rattle.merc_accepted_laws.specs.Laws.{CallsAnswerInTypes, CallsAnswerT
 /// Each call of a procedure of an accepted module, from inputs of their types, has no more answers than the category of
 /// its mode allows, and no fewer where it ends; each gives all arguments values of their types; each is true, and where the
 /// call ends with no exception nothing else is.
-///
-/// The library units keep the categories that they declare: that is a premise.
 pub fn accepted_calls_keep()
     ensures categories { CallsKeepToCategories }
     ensures types { CallsAnswerInTypes }
