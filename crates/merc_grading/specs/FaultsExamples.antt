@@ -6,13 +6,13 @@ use Rattle.merc_base.specs.Places.{place_of}
 use Rattle.merc_base.specs.declared.refusal.Detail.TheVariants.{Categories, Conjunct}
 use Rattle.merc_base.specs.declared.refusal.Refusal.{Refusal}
 use Rattle.merc_base.specs.declared.refusal.Rule.TheVariants.{WrongCategory, ParallelCategory}
-use Rattle.merc_tree.specs.declared.declarations.Arg.TheVariants.{Input}
+use Rattle.merc_tree.specs.declared.declarations.Arg.TheVariants.{Input, Output}
 use Rattle.merc_tree.specs.declared.declarations.ModeDecl.{ModeDecl}
 use Rattle.merc_tree.specs.declared.declarations.PredDecl.{PredDecl}
 use Rattle.merc_graded_tree.specs.declared.basic.BasicGoal.TheVariants.{True, Fail, Raise, Split}
 use Rattle.merc_graded_tree.specs.declared.entries.Running.TheVariants.{Sequential, Parallel}
 use Rattle.merc_graded_tree.specs.Nodes.{Node, node, Goal, Basic, Conjunction, Disjunction, Conditional, Negation, Quantified, nodes_of}
-use Rattle.merc_grading.specs.Faults.{allows, Body, category_fault, query_category_fault}
+use Rattle.merc_grading.specs.Faults.{allows, runs_beside, Body, category_fault, query_category_fault}
 use Rattle.merc_grading.specs.CategoriesExamples.{all}
 use Rattle.merc_grading.specs.GradingExamples.{at, red, green, declared, c, types}
 
@@ -78,9 +78,18 @@ looser = refl
 switch_is_det : fault_of (mode_at 5 Det) (goal_at 20 (Disjunction (nodes_of (is_red ∷ is_green ∷ [])))) ≡ None
 switch_is_det = refl
 
+-- the same, with the argument as an output
+abbrev colors : Node
+colors = node (Disjunction (nodes_of (is_red ∷ is_green ∷ []))) (c ∷ []) None (at 20)
+
 -- the categories that a library unit declares are not refused
 of_unit : category_fault declared (predicate (Some 90) (mode_at 5 Det ∷ []) ∷ []) (body is_red ∷ []) ≡ None
 of_unit = refl
+
+-- each mode binds its own arguments: `p(red). p(green).` with the modes `p(in) is det` and `p(out) is det`, of which the second has no switch
+own_arguments : category_fault declared (predicate None (mode_at 5 Det ∷ record { args = Output ∷ []; category = Det; span = at 6 } ∷ []) ∷ [])
+    (body colors ∷ body colors ∷ []) ≡ Some (wrong 6 Det Nondet)
+own_arguments = refl
 
 -- each mode of each predicate, and of several faults the one at the least place
 
@@ -116,6 +125,10 @@ semidet_beside = refl
 
 failure_beside : fault_of (mode_at 5 Nondet) (beside (truth ∷ truth ∷ fails ∷ [])) ≡ Some (wrong_beside 32 3 Failure)
 failure_beside = refl
+
+-- of all six categories
+beside_of_each : map runs_beside all ≡ true ∷ false ∷ false ∷ false ∷ true ∷ false ∷ []
+beside_of_each = refl
 
 -- one after the other they may fail
 in_sequence : fault_of (mode_at 5 Nondet) (goal_at 30 (Conjunction Sequential (nodes_of (truth ∷ is_red ∷ [])))) ≡ None
@@ -154,6 +167,14 @@ in_quantified = refl
 in_disjunct : fault_of (mode_at 5 Nondet) (goal_at 40 (Disjunction (nodes_of (truth ∷ beside (fails ∷ []) ∷ [])))) ≡ Some (wrong_beside 32 1 Failure)
 in_disjunct = refl
 
+-- in a library unit too
+in_unit : category_fault declared (predicate (Some 90) (mode_at 5 Det ∷ []) ∷ []) (body (beside (truth ∷ fails ∷ [])) ∷ []) ≡ Some (wrong_beside 32 2 Failure)
+in_unit = refl
+
+-- a conjunct that is det, with parallel conjuncts in it that are not
+in_conjunct : fault_of (mode_at 5 Nondet) (beside (truth ∷ goal_at 40 (Conditional (beside (fails ∷ [])) truth truth) ∷ [])) ≡ Some (wrong_beside 32 1 Failure)
+in_conjunct = refl
+
 in_arm : fault_of (mode_at 5 Nondet) (goal_at 40 (Disjunction (nodes_of (is_red ∷ goal_at 41 (Conjunction Sequential (nodes_of (is_green ∷ beside (fails ∷ []) ∷ []))) ∷ []))))
     ≡ Some (wrong_beside 32 1 Failure)
 in_arm = refl
@@ -165,6 +186,10 @@ asked = refl
 
 asked_beside : query_category_fault declared [] (body (beside (truth ∷ fails ∷ []))) ≡ Some (wrong_beside 32 2 Failure)
 asked_beside = refl
+
+-- nothing is bound before it: `( C = red ; C = green )` is no switch
+asked_unbound : query_category_fault declared [] (body (beside (truth ∷ goal_at 40 (Disjunction (nodes_of (is_red ∷ is_green ∷ []))) ∷ []))) ≡ Some (wrong_beside 40 2 Semidet)
+asked_unbound = refl
 
 failure_is_not_allowed_as_erroneous : allows Erroneous Failure ≡ true → ⊥
 failure_is_not_allowed_as_erroneous other = cc

@@ -1,5 +1,5 @@
 -- Worked examples of categories, over the types `color ---> red ; green`, `box ---> box(int)` and `int`, and a predicate with a mode of each category.
-use Rattle.std.specs.Prelude.{◌≡◌, ℕ, ◌+◌, false, ◌==◌, List, [], ◌∷◌, pos, Some, None, refl, if◌then◌else◌}
+use Rattle.std.specs.Prelude.{◌≡◌, ℕ, ◌+◌, true, false, ◌==◌, List, [], ◌∷◌, pos, Some, None, refl, if◌then◌else◌}
 use Rattle.merc_base.specs.declared.category.Category.{Category}
 use Rattle.merc_base.specs.declared.category.Category.TheVariants.{Det, Semidet, Multi, Nondet, Erroneous, Failure}
 use Rattle.merc_base.specs.declared.place.Span.{Span}
@@ -14,8 +14,8 @@ use Rattle.merc_graded_tree.specs.declared.basic.BasicGoal.{BasicGoal}
 use Rattle.merc_graded_tree.specs.declared.basic.BasicGoal.TheVariants.{True, Fail, Assign, Test, Build, Split, Arithmetic, Compare, Raise, Call, Wait, Signal}
 use Rattle.merc_graded_tree.specs.declared.entries.Running.TheVariants.{Sequential, Parallel}
 use Rattle.merc_graded_tree.specs.Nodes.{Node, node, Goal, Basic, Conjunction, Disjunction, Switch, Conditional, Negation, Quantified, nodes_of, no_arms, more_arms}
-use Rattle.merc_grading.specs.Known.{same_symbol, symbols_of_type, are_complete}
-use Rattle.merc_grading.specs.Grading.{category_from, graded}
+use Rattle.merc_grading.specs.Known.{same_symbol, symbols_of_type, are_complete, is_single, known_behind_basic}
+use Rattle.merc_grading.specs.Grading.{basic_category, category_at, category_from, graded}
 
 abbrev pub at : ℕ → Span
 at byte = record { first = byte; past = byte + 1; line = 1 }
@@ -150,6 +150,27 @@ calls_erroneous = refl
 calls_failure : gives (call 5) ≡ Failure
 calls_failure = refl
 
+-- a mode that is not there
+calls_nothing : gives (call 6) ≡ Nondet
+calls_nothing = refl
+
+-- the modes are those of the predicate that is called
+abbrev modes_of_seven : ℕ → List ModeDecl
+modes_of_seven predicate = if predicate == 7 then mode Det ∷ [] else mode Failure ∷ []
+
+calls_its_own : basic_category declared modes_of_seven types [] (Call (record { predicate = 7; mode = 0 }) []) ≡ Det
+calls_its_own = refl
+
+calls_the_other : basic_category declared modes_of_seven types [] (Call (record { predicate = 8; mode = 0 }) []) ≡ Det → ⊥
+calls_the_other wrong = cc
+
+-- a goal that has no category yet
+no_category : category_at (basic True) ≡ Nondet
+no_category = refl
+
+no_category_is_no_det : category_at (basic True) ≡ Det → ⊥
+no_category_is_no_det wrong = cc
+
 split : gives (is_red c) ≡ Semidet
 split = refl
 
@@ -193,6 +214,17 @@ learned_later = refl
 learned_back : gives (both (basic (Assign d c) ∷ is_red d ∷ is_green c ∷ [])) ≡ Semidet
 learned_back = refl
 
+-- a test hands on nothing
+tested : gives (both (basic (Build c red []) ∷ basic (Test d c) ∷ is_green d ∷ [])) ≡ Semidet
+tested = refl
+
+tested_back : gives (both (basic (Build c red []) ∷ basic (Test c d) ∷ is_green d ∷ [])) ≡ Semidet
+tested_back = refl
+
+-- the last symbol counts
+last_in_front : known_behind_basic (Split c green []) ((c, red) ∷ []) ≡ (c, green) ∷ (c, red) ∷ []
+last_in_front = refl
+
 beside : gives (of (Conjunction (Parallel None) (nodes_of (basic (Build c red []) ∷ is_red c ∷ [])))) ≡ Det
 beside = refl
 
@@ -202,8 +234,33 @@ out_of_conjunction = refl
 out_of_quantified : gives (both (of (Quantified (8 ∷ []) (basic (Build c red []))) ∷ is_red c ∷ [])) ≡ Det
 out_of_quantified = refl
 
+-- all that the goals of a conjunction tell, in their order
+all_out_of_conjunction : gives (both (both (basic (Build c red []) ∷ basic (Assign d c) ∷ []) ∷ is_red d ∷ [])) ≡ Det
+all_out_of_conjunction = refl
+
+learned_later_inside : gives (both (both (basic (Assign d c) ∷ basic (Build c red []) ∷ []) ∷ is_red d ∷ [])) ≡ Semidet
+learned_later_inside = refl
+
 into_negation : gives (both (basic (Build c red []) ∷ of (Negation (is_red c)) ∷ [])) ≡ Failure
 into_negation = refl
+
+into_conjunction : gives (both (basic (Build c red []) ∷ both (is_red c ∷ []) ∷ [])) ≡ Det
+into_conjunction = refl
+
+into_quantified : gives (both (basic (Build c red []) ∷ of (Quantified (8 ∷ []) (is_red c)) ∷ [])) ≡ Det
+into_quantified = refl
+
+into_condition : gives (both (basic (Build c red []) ∷ of (Conditional (is_red c) (basic True) (basic Fail)) ∷ [])) ≡ Det
+into_condition = refl
+
+into_then : gives (both (basic (Build c red []) ∷ of (Conditional (is_red d) (is_red c) (basic True)) ∷ [])) ≡ Det
+into_then = refl
+
+into_else : gives (both (basic (Build c red []) ∷ of (Conditional (is_red d) (basic True) (is_red c)) ∷ [])) ≡ Det
+into_else = refl
+
+into_arms : gives (both (basic (Build d red []) ∷ of (Switch c (more_arms red (is_red d) (more_arms green (is_red d) no_arms))) ∷ [])) ≡ Det
+into_arms = refl
 
 into_disjuncts : gives (both (basic (Build c red []) ∷ of (Disjunction (nodes_of (is_red c ∷ is_green c ∷ []))) ∷ [])) ≡ Det
 into_disjuncts = refl
@@ -229,6 +286,9 @@ out_of_negation = refl
 out_of_conditional : gives (both (of (Conditional (basic True) (basic (Build c red [])) (basic (Build c red []))) ∷ is_red c ∷ [])) ≡ Semidet
 out_of_conditional = refl
 
+out_of_condition : gives (both (of (Conditional (is_red c) (basic True) (basic True)) ∷ is_red c ∷ [])) ≡ Semidet
+out_of_condition = refl
+
 disjuncts_apart : gives (of (Disjunction (nodes_of (basic (Build c red []) ∷ is_red c ∷ [])))) ≡ Multi
 disjuncts_apart = refl
 
@@ -249,6 +309,10 @@ arm_fails = refl
 greatest_arm : gives (on_color (call 2) (call 0)) ≡ Multi
 greatest_arm = refl
 
+-- what one arm tells is not known in the next
+arms_apart : gives (on_color (basic (Build d red [])) (is_red d)) ≡ Semidet
+arms_apart = refl
+
 lacks_green : gives (of (Switch c (more_arms red (is_red c) no_arms))) ≡ Semidet
 lacks_green = refl
 
@@ -268,6 +332,39 @@ told_apart = refl
 
 other_arity : same_symbol (Constructor 51 0) (Constructor 51 1) ≡ false
 other_arity = refl
+
+-- Symbols of different kinds are never the same.
+
+same_text : same_symbol (Text 60) (Text 60) ≡ true
+same_text = refl
+
+other_text : same_symbol (Text 60) (Text 61) ≡ false
+other_text = refl
+
+integer_and_text : same_symbol (Integer (pos 60)) (Text 60) ≡ false
+integer_and_text = refl
+
+text_and_integer : same_symbol (Text 60) (Integer (pos 60)) ≡ false
+text_and_integer = refl
+
+text_and_constructor : same_symbol (Text 60) (Constructor 60 0) ≡ false
+text_and_constructor = refl
+
+constructor_and_text : same_symbol (Constructor 60 0) (Text 60) ≡ false
+constructor_and_text = refl
+
+integer_and_constructor : same_symbol (Integer (pos 60)) (Constructor 60 0) ≡ false
+integer_and_constructor = refl
+
+constructor_and_integer : same_symbol (Constructor 60 0) (Integer (pos 60)) ≡ false
+constructor_and_integer = refl
+
+-- a type without symbols
+none_is_not_single : is_single (Some []) ≡ false
+none_is_not_single = refl
+
+none_is_not_single_symbol : is_single (Some []) ≡ true → ⊥
+none_is_not_single_symbol wrong = cc
 
 -- The others that join goals: with their parts' categories.
 

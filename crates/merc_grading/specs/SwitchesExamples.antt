@@ -1,14 +1,15 @@
 -- Worked examples of switches, over the types and goals of the examples of categories. The variable 8 is an output of each disjunction.
 use Rattle.std.specs.Prelude.{◌≡◌, ℕ, List, [], ◌∷◌, pos, Some, None, refl}
+use Rattle.merc_base.specs.declared.category.Category.TheVariants.{Semidet}
 use Rattle.merc_goal_tree.specs.declared.goal.Comparison.TheVariants.{Less}
 use Rattle.merc_goal_tree.specs.declared.goal.Operation.TheVariants.{Add}
 use Rattle.merc_goal_tree.specs.declared.goal.Symbol.{Symbol}
 use Rattle.merc_goal_tree.specs.declared.goal.Symbol.TheVariants.{Constructor, Integer}
-use Rattle.merc_graded_tree.specs.declared.basic.BasicGoal.TheVariants.{True, Fail, Assign, Test, Build, Split, Arithmetic, Compare, Raise, Call}
+use Rattle.merc_graded_tree.specs.declared.basic.BasicGoal.TheVariants.{True, Fail, Assign, Test, Build, Split, Arithmetic, Compare, Raise, Call, Wait, Signal}
 use Rattle.merc_graded_tree.specs.declared.entries.Running.TheVariants.{Sequential, Parallel}
 use Rattle.merc_graded_tree.specs.Nodes.{Node, node, Goal, Basic, Conjunction, Disjunction, Switch, Conditional, Negation, Quantified, nodes_of, no_arms, more_arms}
 use Rattle.merc_order.specs.Bound.{among}
-use Rattle.merc_grading.specs.Switches.{find_goal, choice}
+use Rattle.merc_grading.specs.Switches.{find, find_goal, choice}
 use Rattle.merc_grading.specs.GradingExamples.{at, red, green, box, one, declared, c, d, b, n, m, types, of, with_outputs, basic, both, is_red, is_green}
 
 abbrev found : List ℕ → Goal → Goal
@@ -97,6 +98,12 @@ behind_comparison = refl
 
 behind_exception : IsNoneBehind (basic (Raise 6))
 behind_exception = refl
+
+behind_wait : IsNoneBehind (basic (Wait n 1))
+behind_wait = refl
+
+behind_signal : IsNoneBehind (basic (Signal n 1))
+behind_signal = refl
 
 behind_call : IsNoneBehind (basic (Call (record { predicate = 7; mode = 0 }) []))
 behind_call = refl
@@ -188,6 +195,11 @@ once_more : found (c ∷ d ∷ n ∷ []) (one_of (red_red_with one ∷ red_green
     ≡ on c (inner (on d (inner by_number) red_green)) (is_green c)
 once_more = refl
 
+-- two disjuncts come together by as many variables as they have
+by_all : found (c ∷ d ∷ n ∷ []) (one_of (red_red_with one ∷ red_red_with two ∷ []))
+    ≡ Switch c (more_arms red (inner (Switch d (more_arms red (inner by_number) no_arms))) no_arms)
+by_all = refl
+
 -- the first symbol of a variable counts
 first_symbol : found (c ∷ []) (one_of (both (is_red c ∷ is_green c ∷ []) ∷ is_green c ∷ [])) ≡ on c (both (is_red c ∷ is_green c ∷ [])) (is_green c)
 first_symbol = refl
@@ -260,6 +272,17 @@ in_quantified_goal = refl
 
 in_arm : found (c ∷ d ∷ []) (one_of (both (is_red d ∷ colors ∷ []) ∷ is_green d ∷ [])) ≡ on d (both (is_red d ∷ switched_colors ∷ [])) (is_green d)
 in_arm = refl
+
+-- Of what a goal has besides, nothing changes.
+
+abbrev truth_with : List ℕ → Node
+truth_with outputs = node (Basic True) outputs (Some Semidet) (at 30)
+
+kept : find declared types (among []) (truth_with (n ∷ [])) ≡ truth_with (n ∷ [])
+kept = refl
+
+kept_not : find declared types (among []) (truth_with (n ∷ [])) ≡ truth_with [] → ⊥
+kept_not wrong = cc
 
 not_bound_is_no_switch : found [] (one_of (is_red c ∷ is_green c ∷ [])) ≡ on c (is_red c) (is_green c) → ⊥
 not_bound_is_no_switch wrong = cc
