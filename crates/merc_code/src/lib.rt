@@ -1,0 +1,6 @@
+//! Compiled code, and what it does.
+#![tactic(auto)]
+
+pub mod instruction;
+
+pub use instruction::{Instruction, Mark, Target};
