@@ -1,6 +1,8 @@
 //! The check of the categories of procedures and of goals that are asked.
-ghost use Rattle.std.specs.Prelude.{◌≡◌, ◌<◌, ◌≤◌, ◌+◌, ℕ, List, [], ◌∷◌, ◌++◌, Some, length, slice_get, IfOk, OnOk};
+ghost use Rattle.std.specs.Prelude.{◌≡◌, ◌<◌, ◌≤◌, ◌+◌, ℕ, List, [], ◌∷◌, ◌++◌, Some, length, slice_get, IfErr, IfOk, OnOk};
 ghost use Rattle.merc_base.specs.FirstFault.{first_of_faults};
+ghost use Rattle.merc_base.specs.declared.refusal.Fault.TheVariants.{Refused};
+ghost use Rattle.merc_base.specs.declared.refusal.Refusal.{Refusal};
 ghost use Rattle.merc_tree.specs.Types.{TypeExpr};
 ghost use Rattle.merc_tree.specs.declared.declarations.Module.{Module};
 ghost use Rattle.merc_graded_tree.specs.Nodes.{Node};
@@ -77,6 +79,7 @@ pub fn check_query_categories(
 fn told(trees: Nodes, fault: Option<Refusal>) -> Result<Nodes, Fault>
     ensures told { IsTold fault result }
     ensures trees { IfOk result (λ same. same ≡ trees) }
+    ensures refused { IfErr result (λ reason. (refusal : Refusal) × (reason ≡ Refused refusal)) }
 {
     match fault {
         Some(refusal) => Err(Fault::Refused(refusal)),

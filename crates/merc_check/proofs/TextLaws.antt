@@ -9,9 +9,10 @@ use Rattle.merc_tree.specs.declared.declarations.Module.{Module}
 use Rattle.merc_terms.specs.Items.{IsRefusal}
 use Rattle.merc_terms.specs.Texts.{ReadsItems, ReadsGoal, RefusesText, RefusesGoalText}
 use Rattle.merc_items.specs.ReadModule.{IsModule, IsModuleOf, RefusesItemsOf, no_items, items as items_refused}
+use Rattle.merc_graded_tree.specs.Nodes.{Node as OrderedNode}
 use Rattle.merc_grading.specs.Fitting.{AreToldApart}
 use Rattle.merc_fit_laws.proofs.TypesApart.{types_are_told_apart}
-use Rattle.merc_check.specs.Accepted.{AcceptsClauses, AcceptsGoal, RefusesClauses, RefusesGoal}
+use Rattle.merc_check.specs.Accepted.{AcceptsClauses, AcceptsGoal, IsGradedGoal, RefusesClauses, RefusesGoal, query_answers}
 use Rattle.merc_check.specs.Checked.{IsAccepted, IsGoal, Refuses, RefusesQuery}
 use Rattle.merc_check.specs.Checked.Refuses.{no_module, clauses as clauses_refused}
 use Rattle.merc_check.specs.Checked.RefusesQuery.{no_term, goal as goal_refused}
@@ -73,3 +74,11 @@ module _ (before : List (List ℕ)) (text bytes : List ℕ) (same : bytes ≡ te
         reads = read_goal;
         accepted = subst (λ (some : Module). AcceptsGoal after some term) knows (subst (AcceptsGoal after known) seen accepts);
       }
+
+      pub goal-graded : (trees : List OrderedNode) → IsGradedGoal after known looked trees → IsGradedGoal after found term trees
+      goal-graded trees graded =
+          subst (λ (some : Module). IsGradedGoal after some term trees) knows (subst (λ (some : Term). IsGradedGoal after known some trees) seen graded)
+
+      pub goal-answers : (answers : List ℕ) → answers ≡ query_answers after known looked → answers ≡ query_answers after found term
+      goal-answers answers is =
+          subst (λ (some : Module). answers ≡ query_answers after some term) knows (subst (λ (some : Term). answers ≡ query_answers after known some) seen is)

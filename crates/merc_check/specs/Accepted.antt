@@ -17,9 +17,10 @@ use Rattle.merc_graded_tree.specs.Nodes.{Node as OrderedNode}
 use Rattle.merc_answer_variables.specs.AnswerVariables.{answer_variables}
 use Rattle.merc_bodies.specs.Bodies.{asked_body, body_of, numbered, own_variables}
 use Rattle.merc_order.specs.Ordered.{Outcome}
+use Rattle.merc_order.specs.Bound.{nothing}
 use Rattle.merc_order.specs.Procedures.{modes_of, order_fault, query_from}
 use Rattle.merc_modes.specs.Told.{fault_in}
-use Rattle.merc_grading.specs.Faults.{Body, procedures_of, all_finished, category_fault, query_category_fault}
+use Rattle.merc_grading.specs.Faults.{Body, procedures_of, all_finished, finished, category_fault, query_category_fault}
 use Rattle.merc_fit_laws.specs.HeadTypes.{declared_arguments}
 use Rattle.merc_fit_laws.specs.ProcedureBodies.{AreBodiesOf, IsAskedBody}
 
@@ -74,6 +75,10 @@ module _ (names : List (List ℕ)) (known : Module) where
   -- a body of the goal
   abbrev pub HasBody : Term → Body → Type 0
   HasBody goal = IsAskedBody known (query_answers goal) (asked_body (query_node names known (written 0 goal)))
+
+  -- the tree of a goal that is asked, with its switches and categories, alone in its list
+  abbrev pub IsGradedGoal : Term → List OrderedNode → Type 0
+  IsGradedGoal goal trees = (body : Body) → HasBody goal body → trees ≡ finished known.types known.preds nothing body ∷ []
 
   -- the same of a goal that is asked
   pub record AcceptsGoal (goal : Term) : Type 0 where

@@ -7,20 +7,21 @@ ghost use Rattle.merc_graded_tree.specs.Nodes.{Node as OrderedNode};
 ghost use Rattle.merc_type_check.specs.Checked.{Tells, head_of};
 ghost use Rattle.merc_type_check.specs.TypeNumbers.{AreDeclared};
 ghost use Rattle.merc_bodies.specs.Bodies.{asked_body, body_of, numbered, own_variables};
+ghost use Rattle.merc_order.specs.Bound.{nothing};
 ghost use Rattle.merc_order.specs.Procedures.{modes_of, order_fault, procedure_trees, query_from, IsQuery};
 ghost use Rattle.merc_modes.specs.Told.{IsTold, fault_in};
-ghost use Rattle.merc_grading.specs.Faults.{Body, all_finished, category_fault, procedures_of, query_category_fault};
+ghost use Rattle.merc_grading.specs.Faults.{Body, all_finished, category_fault, finished, procedures_of, query_category_fault};
 ghost use Rattle.merc_grading.specs.Fitting.{AreToldApart};
 ghost use Rattle.merc_fit_laws.specs.HeadTypes.{declared_arguments};
 ghost use Rattle.merc_fit_laws.specs.ProcedureBodies.{AreBodiesOf, IsAskedBody};
-ghost use Rattle.merc_check.specs.Accepted.{AcceptsClauses, AcceptsGoal, AreGraded, RefusesClauses, RefusesGoal, type_mismatch};
+ghost use Rattle.merc_check.specs.Accepted.{AcceptsClauses, AcceptsGoal, AreGraded, IsGradedGoal, RefusesClauses, RefusesGoal, query_answers, type_mismatch};
 ghost use Rattle.merc_check.specs.Untyped.{FindsUntyped};
 
 use merc_base::{Detail, Fault, Names, NoMemory, Refusal, Rule, Span};
 use merc_bodies::{Asked, asked_body, bodies};
 use merc_categories::{check_categories, check_query_categories};
 use merc_flat::{flatten, flatten_query};
-use merc_goal_tree::{NodeRef, Nodes, Predicate, Var};
+use merc_goal_tree::{NodeRef, Nodes, Predicate, Var, Vars};
 use merc_graded_tree::Nodes as OrderedNodes;
 use merc_known::{Callee, Known};
 use merc_modes::{order, order_query};
@@ -84,7 +85,16 @@ fn check_procedures(
     check_categories(alloc, known, ordered)
 }
 
-/// Checks a goal that is asked over a module.
+/// A goal that is asked, as it runs.
+#[derive(Drop)]
+pub(crate) struct AskedGoal {
+    /// Its tree, alone in its list: with its switches and categories.
+    pub(crate) trees: OrderedNodes,
+    /// Its answer variables, by their numbers in the tree.
+    pub(crate) answers: Vars,
+}
+
+/// The tree of a goal that is asked over a module.
 ///
 /// # Errors
 ///
@@ -94,9 +104,11 @@ pub(crate) fn check_goal(
     known: &Known<'_>,
     goal: &TermRef<'_>,
     names: &Names,
-) -> Result<(), Fault>
+) -> Result<AskedGoal, Fault>
     requires { AreToldApart known.now.types }
-    ensures accepted { IfOk result (λ done. AcceptsGoal names.now known.now goal.now) }
+    ensures accepted { IfOk result (λ asked. AcceptsGoal names.now known.now goal.now) }
+    ensures graded { IfOk result (λ asked. IsGradedGoal names.now known.now goal.now asked.trees) }
+    ensures answers { IfOk result (λ asked. asked.answers ≡ query_answers names.now known.now goal.now) }
     ensures refused { IfErr result (λ fault. IsRefusal (RefusesGoal names.now known.now goal.now) fault) }
 {
     let query = flatten_query(alloc, known, goal, names)?;
@@ -109,7 +121,11 @@ pub(crate) fn check_goal(
         return Err(Fault::Refused(type_mismatch(goal.span())));
     }
     let ordered = check_query_order(alloc, known, &form, query.answers.as_slice())?;
-    check_query_tree(alloc, known, &ordered)
+    let trees = check_query_tree(alloc, known, &ordered.trees)?;
+    Ok(AskedGoal {
+        trees,
+        answers: ordered.answers,
+    })
 }
 
 // The tree of a goal that is asked, of this form and with these answer variables, in an order.
@@ -118,27 +134,36 @@ fn check_query_order(
     known: &Known<'_>,
     form: &NodeRef<'_>,
     answers: &[Occurrence],
-) -> Result<OrderedNodes, Fault>
+) -> Result<AskedGoal, Fault>
     ensures told { IsTold (fault_in (query_from (modes_of known.now.preds) (map (numbered 0 0 (own_variables 0 form.now)) (map (λ variable. variable.at) answers.now)) (asked_body form.now))) result }
-    ensures tree { IfOk result (λ trees. (tree : OrderedNode) × (trees ≡ tree ∷ []) × IsQuery (modes_of known.now.preds) (map (numbered 0 0 (own_variables 0 form.now)) (map (λ variable. variable.at) answers.now)) (asked_body form.now) tree) }
+    ensures tree { IfOk result (λ asked. (tree : OrderedNode) × (asked.trees ≡ tree ∷ []) × IsQuery (modes_of known.now.preds) (map (numbered 0 0 (own_variables 0 form.now)) (map (λ variable. variable.at) answers.now)) (asked_body form.now) tree) }
+    ensures answers { IfOk result (λ asked. asked.answers ≡ map (numbered 0 0 (own_variables 0 form.now)) (map (λ variable. variable.at) answers.now)) }
 {
     let asked = body_with_answers(alloc, form, answers)?;
     let preds = known.module().preds.as_slice();
-    order_query(alloc, preds, asked.answers.as_slice(), &asked.goal.as_ref())
+    let trees = order_query(alloc, preds, asked.answers.as_slice(), &asked.goal.as_ref())?;
+    Ok(AskedGoal {
+        trees,
+        answers: asked.answers,
+    })
 }
 
-// Checks the categories of a goal that is asked. There is one tree.
-fn check_query_tree(alloc: Global, known: &Known<'_>, ordered: &OrderedNodes) -> Result<(), Fault>
+// The tree of a goal that is asked, with its switches and categories. There is one tree.
+fn check_query_tree(
+    alloc: Global,
+    known: &Known<'_>,
+    ordered: &OrderedNodes,
+) -> Result<OrderedNodes, Fault>
     requires apart { AreToldApart known.now.types }
     requires one { length ordered.now ≡ 1 }
-    ensures { (answers : List ℕ) (goal : Node) (tree : OrderedNode) (body : Body) → ordered.now ≡ tree ∷ [] → IsQuery (modes_of known.now.preds) answers goal tree → IsAskedBody known.now answers goal body → IsTold (query_category_fault known.now.types known.now.preds body) result }
+    ensures graded { IfOk result (λ trees. (answers : List ℕ) (goal : Node) (tree : OrderedNode) (body : Body) → ordered.now ≡ tree ∷ [] → IsQuery (modes_of known.now.preds) answers goal tree → IsAskedBody known.now answers goal body → trees ≡ finished known.now.types known.now.preds nothing body ∷ []) }
+    ensures told { (answers : List ℕ) (goal : Node) (tree : OrderedNode) (body : Body) → ordered.now ≡ tree ∷ [] → IsQuery (modes_of known.now.preds) answers goal tree → IsAskedBody known.now answers goal body → IsTold (query_category_fault known.now.types known.now.preds body) result }
 {
     let tree = match ordered.get(0) {
         Some(tree) => tree,
         None => unreachable!(),
     };
-    check_query_categories(alloc, known, &tree)?;
-    Ok(())
+    check_query_categories(alloc, known, &tree)
 }
 
 // The body of a goal that is asked, of this form and with these answer variables.

@@ -1,7 +1,7 @@
-//! Whether a text is accepted as a module, and another as a goal over it. Categories are not looked at yet.
+//! Whether a text is accepted as a module, and another as a goal over it.
 #![tactic(auto)]
 
 mod checking;
 mod texts;
 
-pub use texts::{Checked, check, check_query};
+pub use texts::{Checked, Query, check, check_query};

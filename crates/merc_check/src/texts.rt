@@ -4,11 +4,12 @@ ghost use Rattle.std.specs.List.{IsDistinct};
 ghost use Rattle.std.specs.Str.{bytes_eq};
 ghost use Rattle.merc_base.specs.Names.{HoldsFixed};
 ghost use Rattle.merc_terms.specs.Items.{IsRefusal};
-ghost use Rattle.merc_check.specs.Accepted.{AreGraded};
+ghost use Rattle.merc_check.specs.Accepted.{AreGraded, IsGradedGoal, query_answers};
 ghost use Rattle.merc_check.specs.Checked.{IsAccepted, IsGoal, Refuses, RefusesQuery};
 
 use crate::checking::{check_clauses, check_goal};
 use merc_base::{Fault, Names, Text};
+use merc_goal_tree::Vars;
 use merc_graded_tree::Nodes;
 use merc_items::module_of_items;
 use merc_known::Known;
@@ -99,6 +100,17 @@ pub fn check(alloc: Global, text: &Text, names: &mut Names) -> Result<Checked, F
     })
 }
 
+/// A goal that is accepted over a module.
+#[derive(Drop)]
+pub struct Query {
+    /// The goal as it is written.
+    pub goal: Term,
+    /// Its tree, alone in its list, as it runs: with its switches, and with the category of each part.
+    pub trees: Nodes,
+    /// Its answer variables in order, by their numbers in the tree.
+    pub answers: Vars,
+}
+
 /// Checks a goal that is asked over a module, whose names are in the table. Names that the goal spells are added behind
 /// them, also where it is refused.
 ///
@@ -111,13 +123,19 @@ pub fn check_query(
     checked: &Checked,
     text: &Text,
     names: &mut Names,
-) -> Result<Term, Fault>
-    ensures accepted { IfOk result (λ goal. IsGoal names.old names.new checked.now.module text.now goal) }
+) -> Result<Query, Fault>
+    ensures accepted { IfOk result (λ query. IsGoal names.old names.new checked.now.module text.now query.goal) }
+    ensures graded { IfOk result (λ query. IsGradedGoal names.new checked.now.module query.goal query.trees) }
+    ensures answers { IfOk result (λ query. query.answers ≡ query_answers names.new checked.now.module query.goal) }
     ensures refused { IfErr result (λ fault. IsRefusal (RefusesQuery names.old checked.now.module text.now) fault) }
     ensures grows { (more : List (List ℕ)) × (names.new ≡ names.old ++ more) }
 {
     let goal = read_goal_text(alloc, text.bytes(), names)?;
     let known = Known::of(alloc, &checked.module)?;
-    check_goal(alloc, &known, &goal.as_ref(), names)?;
-    Ok(goal)
+    let asked = check_goal(alloc, &known, &goal.as_ref(), names)?;
+    Ok(Query {
+        goal,
+        trees: asked.trees,
+        answers: asked.answers,
+    })
 }

@@ -125,7 +125,7 @@ fn text_due(alloc: Global, name: &Text, text: &Text, goal: &Text) -> Result<Due,
         Err(Fault::NoMemory) => return Err(NoMemory),
     };
     let term = match check_query(alloc, &checked, goal, &mut names) {
-        Ok(term) => term,
+        Ok(query) => query.goal,
         Err(Fault::Refused(refusal)) => {
             return refused(alloc, statuses::GOAL_REFUSED, b"goal", &refusal);
         }
