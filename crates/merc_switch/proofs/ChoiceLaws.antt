@@ -2,7 +2,6 @@
 use Rattle.std.specs.Prelude.{◌≡◌, ◌≤◌, ◌<◌, ℕ, Bool, true, false, not, ◌==◌, ◌||◌, ◌&&◌, nat_le, List, [], ◌∷◌, ◌++◌, reverse, length, slice_get, Option, Some, None, if◌then◌else◌, refl}
 use Rattle.std.specs.List.{filter, flat_map, list_all, AllByRecursion}
 use Rattle.std.proofs.Common.{◌∙◌, ◌⊎◌, inl, inr, ap, sym, subst, arith}
-use Rattle.std.proofs.lemmas.List.{reverse-append}
 use Rattle.std.proofs.lemmas.Bool.Decides.{Decides-eqb, nat_tests, leb_tells}
 use Rattle.merc_tree.specs.Types.{TypeExpr}
 use Rattle.merc_tree.specs.declared.declarations.TypeDef.{TypeDef}
@@ -15,8 +14,7 @@ use Rattle.merc_order.specs.Bound.{Bound, among}
 use Rattle.merc_grading.specs.Known.{symbols_of_type, are_complete}
 use Rattle.merc_grading.specs.Fitting.{FitsSymbol, Fits, FitsGoal, FitsAll, FitsBasic}
 use Rattle.merc_grading.specs.Switches.{beginning, goal_beginning, all_beginning, basic_beginning, symbol_in, symbol_at, is_there, listed, split_variables, lesser, least, or_else, is_complete, choice}
-use Rattle.merc_switch.specs.declared.choosing.Best.{Best}
-use Rattle.merc_switch.specs.Choosing.{symbols_in, fellows_of, is_covered, is_open, best, better, chosen}
+use Rattle.merc_switch.specs.Choosing.{symbols_in, fellows_of, is_covered, is_open, opened_in, chosen}
 use Rattle.merc_switch.proofs.Occurrences.{among-append, or_false, or_true}
 use Rattle.merc_switch.proofs.FoundVariables.{followed_either}
 
@@ -33,16 +31,6 @@ eq_turned a b = grind (arith, nat_tests)
 
 among_first : (x : ℕ) (xs : List ℕ) → among (x ∷ xs) x ≡ true
 among_first x xs = ap (λ b. b || among xs x) (eq_self x)
-
-or_turned : (a b : Bool) → (a || b) ≡ (b || a)
-or_turned true b = sym (or_true b)
-or_turned false b = sym (or_false b)
-
-pub among-reverse : (xs : List ℕ) (v : ℕ) → among (reverse xs) v ≡ among xs v
-among-reverse [] v = refl
-among-reverse (x ∷ xs) v =
-    ap (λ l. among l v) (reverse-append (x ∷ []) xs)
-    ∙ among-append (reverse xs) (x ∷ []) v ∙ ap (λ b. b || ((v == x) || false)) (among-reverse xs v) ∙ ap (λ b. among xs v || b) (or_false (v == x)) ∙ or_turned (among xs v) (v == x)
 
 -- the least of a list
 
@@ -81,15 +69,17 @@ least_in : (x : ℕ) (xs : List ℕ) → among (x ∷ xs) (least_of x xs) ≡ tr
 least_in x [] = among_first x []
 least_in x (y ∷ ys) = least_in_if x (least_of y ys) (y ∷ ys) (nat_le x (least_of y ys)) (least_in y ys)
 
-pub least_same : (xs ys : List ℕ) → ((v : ℕ) → among xs v ≡ among ys v) → least xs ≡ least ys
-least_same [] [] same = refl
-least_same [] (y ∷ ys) same = clash (among_first y ys) (sym (same y))
-least_same (x ∷ xs) [] same = clash (among_first x xs) (same x)
-least_same (x ∷ xs) (y ∷ ys) same =
-    let one = least_bound y ys (least_of x xs) (sym (same (least_of x xs)) ∙ least_in x xs) in
-    let other = least_bound x xs (least_of y ys) (same (least_of y ys) ∙ least_in y ys) in
-    let equal : least_of x xs ≡ least_of y ys = omega arith in
-    ap (λ n. Some n) equal
+pub least_is : (xs : List ℕ) (v : ℕ) → among xs v ≡ true → ((w : ℕ) → among xs w ≡ true → v ≤ w) → least xs ≡ Some v
+least_is [] v there below = clash there refl
+least_is (x ∷ xs) v there below =
+    let one = least_bound x xs v there in
+    let other = below (least_of x xs) (least_in x xs) in
+    let same : least_of x xs ≡ v = omega (arith, one, other) in
+    ap (λ n. Some n) same
+
+pub least_none : (xs : List ℕ) → ((w : ℕ) → among xs w ≡ false) → least xs ≡ None
+least_none [] none = refl
+least_none (x ∷ xs) none = clash (among_first x xs) (none x)
 
 -- a filter keeps the members that pass it
 
@@ -113,31 +103,6 @@ among-filter p (x ∷ xs) v =
     among_if (p x) x (filter p xs) v
     ∙ ap (λ b. if p x then ((v == x) || b) else b) (among-filter p xs v)
     ∙ filtered_if p x v (p x) (v == x) (among xs v) refl refl
-
--- what is best depends on the members alone on which disjuncts can be a switch
-
-and_cong : (a b c : Bool) → (a ≡ true → b ≡ c) → (a && b) ≡ (a && c)
-and_cong true b c h = h refl
-and_cong false b c h = refl
-
-module _ (declared : List TypeDef) (bound : Bound) (used : List ℕ) (disjuncts : List Node) where
-  abbrev opens : ℕ → Bool
-  opens v = is_open bound used disjuncts v
-
-  abbrev covered : ℕ → Bool
-  covered v = is_covered declared disjuncts v
-
-  opened_same : (xs ys : List ℕ) → ((v : ℕ) → opens v ≡ true → among xs v ≡ among ys v) → (v : ℕ) → among (filter opens xs) v ≡ among (filter opens ys) v
-  opened_same xs ys same v = among-filter opens xs v ∙ and_cong (opens v) (among xs v) (among ys v) (same v) ∙ sym (among-filter opens ys v)
-
-  pub best_same : (xs ys : List ℕ) → ((v : ℕ) → opens v ≡ true → among xs v ≡ among ys v) → best declared bound used disjuncts xs ≡ best declared bound used disjuncts ys
-  best_same xs ys same =
-      let opened = least_same (filter opens xs) (filter opens ys) (opened_same xs ys same) in
-      let all = least_same (filter covered (filter opens xs)) (filter covered (filter opens ys)) (λ v. among-filter covered (filter opens xs) v
-      ∙ ap (λ b. covered v && b) (opened_same xs ys same v) ∙ sym (among-filter covered (filter opens ys) v)) in
-      let with_all : Option ℕ → Best = λ o. record { covered = o; opened = least (filter opens xs) } in
-      let with_opened : Option ℕ → Best = λ o. record { covered = least (filter covered (filter opens ys)); opened = o } in
-      ap with_all all ∙ ap with_opened opened
 
 -- the variables that are split
 
@@ -169,13 +134,17 @@ split_first first rest v h =
     among-append (flat_map (λ one. one.0 ∷ []) (beginning first).splits) (split_variables rest) v
     ∙ ap (λ b. b || among (split_variables rest) v) (sym (split_there (beginning first).splits v) ∙ h)
 
+and_cong : (a b c : Bool) → (a ≡ true → b ≡ c) → (a && b) ≡ (a && c)
+and_cong true b c h = h refl
+and_cong false b c h = refl
+
 -- It is enough to go through the variables of the first disjunct.
-pub chosen_first : (declared : List TypeDef) (bound : Bound) (used : List ℕ) (first : Node) (rest : List Node) (variables : List ℕ)
-    → ((v : ℕ) → among variables v ≡ is_there (symbol_at v first))
-    → better (best declared bound used (first ∷ rest) (reverse variables)) ≡ chosen declared bound used (first ∷ rest)
-chosen_first declared bound used first rest variables are =
-    ap better (best_same declared bound used (first ∷ rest) (reverse variables) (split_variables (first ∷ rest))
-    (λ v h. let there = open_first bound used first rest v h in among-reverse variables v ∙ are v ∙ there ∙ sym (split_first first rest v there)))
+pub opened_first : (bound : Bound) (used : List ℕ) (first : Node) (rest : List Node) (variables : List ℕ) → ((v : ℕ) → among variables v ≡ is_there (symbol_at v first))
+    → (v : ℕ) → (is_open bound used (first ∷ rest) v && among variables v) ≡ among (opened_in bound used (first ∷ rest)) v
+opened_first bound used first rest variables are v =
+    and_cong (is_open bound used (first ∷ rest) v) (among variables v) (among (split_variables (first ∷ rest)) v)
+    (λ h. let there = open_first bound used first rest v h in are v ∙ there ∙ sym (split_first first rest v there))
+    ∙ sym (among-filter (λ w. is_open bound used (first ∷ rest) w) (split_variables (first ∷ rest)) v)
 
 -- the symbols of splits fit the types
 
@@ -254,16 +223,3 @@ module _ (declared : List TypeDef) (types : ℕ → TypeExpr) where
       ap (λ l. or_else (least l) (least opened))
       (filter_agrees (λ v. is_complete declared types (first ∷ rest) v) (λ v. is_covered declared (first ∷ rest) v) (λ v. is_open bound used (first ∷ rest) v) (split_variables (first ∷ rest))
       (λ v h. complete_is bound used (first ∷ rest) v fits (omega arith) h))
-
-no_first : {A : Type 0} {d : Node} → ◌≡◌ {A = Option Node} None (Some d) → A
-no_first h = absurd (cc)
-
-first_is : (ds : List Node) (d : Node) → slice_get ds 0 ≡ Some d → (rest : List Node) × (ds ≡ d ∷ rest)
-first_is [] d h = no_first h
-first_is (x ∷ xs) d h = let same : x ≡ d = cc in (xs, ap (λ n. n ∷ xs) same)
-
-pub chosen_by : (declared : List TypeDef) (bound : Bound) (used : List ℕ) (disjuncts : List Node) (first : Node) (numbers : List ℕ) (found : Best) → slice_get disjuncts 0 ≡ Some first
-    → ((v : ℕ) → among numbers v ≡ is_there (symbol_at v first)) → found ≡ best declared bound used disjuncts (reverse numbers) → better found ≡ chosen declared bound used disjuncts
-chosen_by declared bound used disjuncts first numbers found is are same =
-    let whole = first_is disjuncts first is in
-    ap better same ∙ subst (λ l. better (best declared bound used l (reverse numbers)) ≡ chosen declared bound used l) (sym whole.1) (chosen_first declared bound used first whole.0 numbers are)

@@ -34,7 +34,7 @@ use Rattle.merc_switch.proofs.Steps.{among-behind, among-all_behind, total-appen
 
 -- only which variables are used counts, in any order
 
-or_turned : (a b : Bool) → (a || b) ≡ (b || a)
+pub or_turned : (a b : Bool) → (a || b) ≡ (b || a)
 or_turned true b = sym (or_true b)
 or_turned false b = sym (or_false b)
 
@@ -50,7 +50,7 @@ module _ (declared : List TypeDef) (types : ℕ → TypeExpr) where
       ap (λ (u : Bound). let open_ones = filter (λ v. not (u v) && (bound v && list_all (λ d. is_there (symbol_at v d)) disjuncts)) (split_variables disjuncts) in
       or_else (least (filter (λ v. is_complete declared types disjuncts v) open_ones)) (least open_ones)) same
 
-  regrouped_used : (left : ℕ) (outputs : List ℕ) (span : Span) (bound : Bound) (one other : List ℕ) → among one ≡ among other → (disjuncts : List Node)
+  pub regrouped_used : (left : ℕ) (outputs : List ℕ) (span : Span) (bound : Bound) (one other : List ℕ) → among one ≡ among other → (disjuncts : List Node)
       → regrouped declared types left outputs span bound one disjuncts ≡ regrouped declared types left outputs span bound other disjuncts
   regrouped_used zero outputs span bound one other same disjuncts = refl
   regrouped_used (suc left) outputs span bound one other same disjuncts =
@@ -349,7 +349,7 @@ plans_switch variable group symbols symbols' arms span rest closed tasks are sam
     ∙ ap (λ l. l ++ last (map (λ a. a.0) all) (span_of group.whole)) (map_seconds arm all)
     ∙ sym (append_assoc (arm_plans variable group all) (Close (switch_label variable group (map (λ a. a.0) all) (span_of group.whole)) ∷ []) rest)
 
-several_arm : (whole : Node) (used : List ℕ) (left variable : ℕ) (disjuncts : List Node) → (length disjuncts == 1) ≡ false
+pub several_arm : (whole : Node) (used : List ℕ) (left variable : ℕ) (disjuncts : List Node) → (length disjuncts == 1) ≡ false
     → Judge (record {
       whole = whole;
       disjuncts = disjuncts;

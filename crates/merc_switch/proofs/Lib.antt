@@ -17,3 +17,6 @@ pub mod SplitCounts
 pub mod PlanLaws
 pub mod FoundTasks
 pub mod TaskSteps
+pub mod OrderLaws
+pub mod LeftLaws
+pub mod InnerGroups

@@ -10,11 +10,9 @@ use Rattle.merc_switch.specs.declared.tasks.Group.{Group}
 use Rattle.merc_switch.specs.declared.tasks.Task.{Task}
 use Rattle.merc_switch.specs.declared.tasks.Task.TheVariants.{Find, Keep, Bind, Unbind, Judge, Close}
 use Rattle.merc_switch.specs.Variables.{all_behind}
-use Rattle.merc_switch.specs.Choosing.{chosen}
 use Rattle.merc_switch.specs.Tasks.{HaveEnough, Performs}
-use Rattle.merc_switch.specs.Plans.{plan, group_plan, choice_left}
+use Rattle.merc_switch.specs.Plans.{plan}
 use Rattle.merc_switch.proofs.Steps.{finds_goal, keeps_goal, binds_goal, unbinds, closes}
-use Rattle.merc_switch.proofs.JudgedGroups.{judges}
 
 module _ (declared : List TypeDef) (task : Task) (rest : List Task) (goals : List Node) (bound : List ℕ) where
   whole_task : (other : Task) (tasks : List Task) (now : List Node) (after : List ℕ) → task ≡ other → Performs declared (other ∷ rest) goals bound tasks now after
@@ -37,8 +35,8 @@ module _ (declared : List TypeDef) (task : Task) (rest : List Task) (goals : Lis
   performs_unbind mark after is put = whole_task (Unbind mark) rest goals after is (unbinds declared mark rest goals bound after put)
 
   pub performs_judge : (group : Group) (tasks : List Task) → task ≡ Judge group
-      → tasks ≡ group_plan (choice_left group.left (chosen declared (among bound) group.used group.disjuncts)) group ++ rest → Performs declared (task ∷ rest) goals bound tasks goals bound
-  performs_judge group tasks is put = whole_task (Judge group) tasks goals bound is (judges declared group rest tasks goals bound put)
+      → ((before : List Node) → Performs declared (Judge group ∷ rest) before bound tasks before bound) → Performs declared (task ∷ rest) goals bound tasks goals bound
+  performs_judge group tasks is performs = whole_task (Judge group) tasks goals bound is (performs goals)
 
   pub performs_close : (label : Label) (now : List Node) → task ≡ Close label → now ≡ last_joined label goals → Performs declared (task ∷ rest) goals bound rest now bound
   performs_close label now is put = whole_task (Close label) rest now bound is (closes declared label rest goals now bound put)

@@ -1,10 +1,12 @@
 -- The variable on which a few disjuncts are a switch, over the types and goals of the examples of categories.
-use Rattle.std.specs.Prelude.{◌≡◌, true, false, List, [], ◌∷◌, Some, None, refl}
+use Rattle.std.specs.Prelude.{◌≡◌, ℕ, Bool, ◌==◌, ◌||◌, true, false, List, [], ◌∷◌, Some, None, refl}
+use Rattle.std.proofs.Common.{ap}
+use Rattle.std.proofs.lemmas.Bool.Decides.{Decides-eqb}
 use Rattle.merc_graded_tree.specs.Nodes.{Node}
 use Rattle.merc_order.specs.Bound.{among}
 use Rattle.merc_grading.specs.GradingExamples.{red, green, declared, c, d, both, is_red, is_green}
-use Rattle.merc_switch.specs.declared.choosing.Best.{Best}
-use Rattle.merc_switch.specs.Choosing.{symbols_in, fellows_of, is_covered, is_open, best, considered, better, chosen}
+use Rattle.merc_switch.specs.declared.choosing.Candidates.{Candidates}
+use Rattle.merc_switch.specs.Choosing.{symbols_in, fellows_of, is_covered, is_open, opened_in, chosen, AreLeft, Takes}
 
 -- `C = red, D = red` and `C = red, D = green`
 abbrev pairs : List Node
@@ -40,30 +42,44 @@ opened_used wrong = cc
 opened_lacking : is_open (among (d ∷ [])) [] (is_red c ∷ pairs) d ≡ true → ⊥
 opened_lacking wrong = cc
 
-abbrev found : Best
-found = record { covered = Some d; opened = Some c }
+opened_both : opened_in (among (c ∷ d ∷ [])) [] pairs ≡ c ∷ d ∷ c ∷ d ∷ []
+opened_both = refl
 
-best_of_both : best declared (among (c ∷ d ∷ [])) [] pairs (d ∷ c ∷ []) ≡ found
-best_of_both = refl
-
--- C is the lesser, and is not covered
-considered_c : considered declared (among (c ∷ d ∷ [])) [] pairs c (record { covered = Some d; opened = Some d }) ≡ found
-considered_c = refl
-
-considered_unbound : considered declared (among (d ∷ [])) [] pairs c (record { covered = None; opened = None }) ≡ record { covered = None; opened = None }
-considered_unbound = refl
-
-covered_first : better found ≡ Some d
+-- D is covered, C is the lesser
+covered_first : chosen declared (among (c ∷ d ∷ [])) [] pairs ≡ Some d
 covered_first = refl
 
-covered_first_not : better found ≡ Some c → ⊥
+covered_first_not : chosen declared (among (c ∷ d ∷ [])) [] pairs ≡ Some c → ⊥
 covered_first_not wrong = cc
-
-none_covered : better (record { covered = None; opened = Some c }) ≡ Some c
-none_covered = refl
 
 chosen_used : chosen declared (among (c ∷ d ∷ [])) (d ∷ []) pairs ≡ Some c
 chosen_used = refl
 
-chosen_not : chosen declared (among (c ∷ d ∷ [])) [] pairs ≡ Some c → ⊥
-chosen_not wrong = cc
+abbrev candidates : List ℕ → List ℕ → Candidates
+candidates untried uncovered = record { untried = untried; uncovered = uncovered }
+
+split_twice : (a b : Bool) → ((b || false) || (a || false)) ≡ (a || (b || (a || (b || false))))
+split_twice true true = refl
+split_twice true false = refl
+split_twice false true = refl
+split_twice false false = refl
+
+only_c : (variable : ℕ) → (b : Bool) → (variable == c) ≡ b → (b || false) ≡ true → is_covered declared pairs variable ≡ false
+only_c variable true same h = ap (is_covered declared pairs) ((Decides-eqb variable c).0 same)
+only_c variable false same h = absurd (cc)
+
+-- C was tried, and green lacks
+left : AreLeft declared (among (c ∷ d ∷ [])) [] pairs (d ∷ []) (c ∷ [])
+left = record { all_are = λ variable. split_twice (variable == c) (variable == d); uncovered_are = λ variable h. only_c variable (variable == c) refl h }
+
+-- D was forgotten
+left_not : AreLeft declared (among (c ∷ d ∷ [])) [] pairs [] (c ∷ []) → ⊥
+left_not left = let wrong : false ≡ true = left.all_are d in cc
+
+-- C was tried, and D is taken as the least of those that are left
+takes_not : Takes declared pairs (candidates (d ∷ []) (c ∷ [])) (candidates (d ∷ []) []) (Some c) → ⊥
+takes_not takes = let wrong : Some c ≡ Some d = takes.choice_is (among (c ∷ d ∷ [])) [] left in cc
+
+-- no disjuncts are no switch
+takes_none : Takes declared [] (candidates [] []) (candidates [] []) None
+takes_none = record { choice_is = λ bound used left. refl; left_are = λ bound used variable left is. absurd (cc) }

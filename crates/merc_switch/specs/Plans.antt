@@ -1,12 +1,13 @@
 -- How goals and disjuncts are taken apart into tasks.
-use Rattle.std.specs.Prelude.{ℕ, zero, suc, ◌-◌, List, [], ◌∷◌, ◌++◌, length, map, Option, Some, None}
-use Rattle.std.specs.List.{filter}
+use Rattle.std.specs.Prelude.{◌≡◌, ◌≤◌, ℕ, zero, suc, ◌-◌, List, [], ◌∷◌, ◌++◌, length, map, Option, Some, None}
+use Rattle.std.specs.List.{AllByRecursion, filter}
+use Rattle.merc_goal_tree.specs.declared.goal.Symbol.{Symbol}
 use Rattle.merc_graded_tree.specs.declared.entries.Label.{Label}
 use Rattle.merc_graded_tree.specs.declared.entries.Root.TheVariants.{Disjunction as DisjunctionRoot, Switch as SwitchRoot}
 use Rattle.merc_graded_tree.specs.Nodes.{Node, Goal, Basic, Conjunction, Disjunction, Switch, Conditional, Negation, Quantified, list_of, nodes_of, goal_of, outputs_of, category_of, span_of}
 use Rattle.merc_graded_tree.specs.Roots.{label_of}
 use Rattle.merc_graded_tree.specs.Variables.{in_nodes}
-use Rattle.merc_grading.specs.Switches.{Group as Arm, grouped, split_variables}
+use Rattle.merc_grading.specs.Switches.{Group as Arm, symbol_at, grouped, split_variables}
 use Rattle.merc_switch.specs.declared.tasks.Group.{Group}
 use Rattle.merc_switch.specs.declared.tasks.Task.{Task}
 use Rattle.merc_switch.specs.declared.tasks.Task.TheVariants.{Find, Keep, Bind, Unbind, Judge, Close}
@@ -84,3 +85,27 @@ group_plan (Some variable) group = switch_plan variable group
 abbrev pub choice_left : ℕ → Option ℕ → Option ℕ
 choice_left zero choice = None
 choice_left (suc left) choice = choice
+
+-- the group of all disjuncts in one arm of a switch on a variable
+abbrev pub inner_group : ℕ → Group → Group
+inner_group variable group = record {
+  whole = group.whole;
+  disjuncts = group.disjuncts;
+  used = behind group.used variable;
+  left = group.left - 1;
+  outputs = filter (λ output. in_nodes (nodes_of group.disjuncts) output) (outputs_of group.whole);
+  category = None;
+}
+
+-- the switch of that one arm, whose goal comes before it
+abbrev pub outer_label : ℕ → Symbol → Group → Label
+outer_label variable symbol group = record { root = SwitchRoot variable (symbol ∷ []); outputs = group.outputs; category = group.category; span = span_of group.whole }
+
+-- the outputs of a group are those of the whole that occur in its disjuncts
+abbrev pub AreNarrowed : Group → Type 0
+AreNarrowed group = group.outputs ≡ filter (λ output. in_nodes (nodes_of group.disjuncts) output) (outputs_of group.whole)
+
+-- there are several disjuncts, and all split a variable by one symbol
+pub record HaveSymbol (variable : ℕ) (symbol : Symbol) (disjuncts : List Node) : Type 0 where
+  pub several : 2 ≤ length disjuncts
+  pub symbols_are : AllByRecursion (λ disjunct. symbol_at variable disjunct ≡ Some symbol) disjuncts

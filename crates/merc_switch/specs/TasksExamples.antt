@@ -9,9 +9,9 @@ use Rattle.merc_graded_tree.specs.Roots.{label_of}
 use Rattle.merc_order.specs.Bound.{among}
 use Rattle.merc_grading.specs.GradingExamples.{red, green, declared, c, d, types, of, both, is_red, is_green}
 use Rattle.merc_switch.specs.declared.tasks.Group.{Group}
-use Rattle.merc_switch.specs.declared.tasks.Task.TheVariants.{Find, Close}
+use Rattle.merc_switch.specs.declared.tasks.Task.TheVariants.{Find, Judge, Close}
 use Rattle.merc_switch.specs.Tasks.{HaveEnough, done}
-use Rattle.merc_switch.specs.Plans.{plan, group_plan, choice_left}
+use Rattle.merc_switch.specs.Plans.{plan, switch_plan, group_plan, choice_left, inner_group, outer_label, AreNarrowed, HaveSymbol}
 use Rattle.merc_switch.specs.Choosing.{chosen}
 
 -- `not C = red`
@@ -62,3 +62,26 @@ unbound_not_chosen wrong = cc
 -- `D`, whose symbols are all there, goes before `C`
 covered_first : chosen declared (among (c ∷ d ∷ [])) [] (both (is_red c ∷ is_red d ∷ []) ∷ both (is_red c ∷ is_green d ∷ []) ∷ []) ≡ Some d
 covered_first = refl
+
+-- `( C = red, D = red ; C = red, D = green )`, where C is bound: both are the one arm of red
+abbrev reds : List Node
+reds = both (is_red c ∷ is_red d ∷ []) ∷ both (is_red c ∷ is_green d ∷ []) ∷ []
+
+abbrev outer : Group
+outer = record { whole = of (Disjunction (nodes_of reds)); disjuncts = reds; used = []; left = 4; outputs = []; category = None }
+
+both_red : HaveSymbol c red reds
+both_red = record { several = omega arith; symbols_are = (refl, (refl, tt)) }
+
+both_red_not : HaveSymbol d red reds → ⊥
+both_red_not have = let wrong : Some green ≡ Some red = have.symbols_are.1.0 in cc
+
+one_arm : switch_plan c outer ≡ Judge (inner_group c outer) ∷ Close (outer_label c red outer) ∷ []
+one_arm = refl
+
+narrowed : AreNarrowed outer
+narrowed = refl
+
+-- an output that does not occur
+narrowed_not : AreNarrowed (record { whole = of (Disjunction (nodes_of colors)); disjuncts = colors; used = []; left = 2; outputs = d ∷ []; category = None }) → ⊥
+narrowed_not wrong = cc

@@ -1,92 +1,92 @@
-//! The variable on which disjuncts are a switch.
-ghost use Rattle.std.specs.Prelude.{◌≡◌, reverse, IfOk, OnOk};
+//! The variables on which disjuncts can be a switch.
+ghost use Rattle.std.specs.Prelude.{◌≡◌, ℕ, ◌&&◌, [], List, IfOk};
 ghost use Rattle.std.specs.List.{list_all};
+ghost use Rattle.merc_tree.specs.declared.declarations.TypeDef.{TypeDef};
 ghost use Rattle.merc_order.specs.Bound.{among};
-ghost use Rattle.merc_grading.specs.Switches.{is_there, symbol_at, lesser};
-ghost use Rattle.merc_switch.specs.Choosing.{best, chosen, considered, is_open, better};
+ghost use Rattle.merc_grading.specs.Switches.{is_there, symbol_at};
+ghost use Rattle.merc_switch.specs.Choosing.{is_open, AreLeft, Takes};
 
 use crate::covering::is_covered;
 use crate::disjuncts::Disjunct;
+use crate::ordered::OrderedVars;
 use crate::variables::VarSet;
 use merc_base::NoMemory;
 use merc_goal_tree::Var;
 use merc_known::Known;
 use std::alloc::Global;
 
-// The least variable on which disjuncts can be a switch and whose symbols are all of its type, and the least of all on
-// which they can be one.
-#[derive(Clone, Copy, Debug, PartialEq, Eq)]
-struct Best {
-    covered: Option<Var>,
-    opened: Option<Var>,
+/// The variables on which disjuncts can still be a switch. They can be one on a variable that is bound, none of those that
+/// were used, and split by each of them at its beginning.
+#[derive(Drop)]
+pub(crate) struct Candidates {
+    // Those of which it is not yet known whether their symbols are all of the type. That is looked at only once they are
+    // the least.
+    untried: OrderedVars,
+    // those whose symbols are not all of the type
+    uncovered: OrderedVars,
 }
 
-/// The variable on which disjuncts are a switch, none where they are none. They are one on a variable that is bound, none
-/// of those that were used, and split by each of them at its beginning.
-///
-/// # Errors
-///
-/// `NoMemory` where memory was refused, here and in the calls below.
-pub(crate) fn choose(
-    alloc: Global,
-    known: &Known<'_>,
-    bound: &VarSet,
-    used: &VarSet,
-    disjuncts: &[Disjunct<'_>],
-) -> Result<Option<Var>, NoMemory>
-    ensures { IfOk result (λ choice. choice ≡ chosen known.now.types (among bound.now) used.now disjuncts.now) }
-{
-    match disjuncts.first() {
-        Some(first) => {
-            let best = best_of(alloc, known, bound, used, disjuncts, first.variables())?;
-            Ok(better(best))
+impl Candidates {
+    /// Those of the disjuncts.
+    ///
+    /// # Errors
+    ///
+    /// `NoMemory` where memory was refused, here and in the calls below.
+    pub(crate) fn of(
+        alloc: Global,
+        bound: &VarSet,
+        used: &VarSet,
+        disjuncts: &[Disjunct<'_>],
+    ) -> Result<Candidates, NoMemory>
+        ensures { IfOk result (λ left. (declared : List TypeDef) → AreLeft declared (among bound.now) used.now disjuncts.now left.untried left.uncovered) }
+    {
+        let untried = match disjuncts.first() {
+            Some(first) => open_among(alloc, bound, used, disjuncts, first.variables())?,
+            None => OrderedVars::new(alloc),
+        };
+        Ok(Candidates {
+            untried,
+            uncovered: OrderedVars::new(alloc),
+        })
+    }
+
+    /// Takes out the variable on which the disjuncts are a switch, none where they are none.
+    pub(crate) fn next(
+        &mut self,
+        alloc: Global,
+        known: &Known<'_>,
+        disjuncts: &[Disjunct<'_>],
+    ) -> Result<Option<Var>, NoMemory>
+        ensures { IfOk result (λ choice. Takes known.now.types disjuncts.now self.old self.new choice) }
+    {
+        while let Some(variable) = self.untried.pop_least() {
+            if is_covered(alloc, known, disjuncts, variable)? {
+                return Ok(Some(variable));
+            }
+            self.uncovered.add(variable)?;
         }
-        None => Ok(None),
+        Ok(self.uncovered.pop_least())
     }
 }
 
-// What is best among the variables of these numbers.
-fn best_of(
+// Those of the variables of these numbers on which disjuncts can be a switch.
+fn open_among(
     alloc: Global,
-    known: &Known<'_>,
     bound: &VarSet,
     used: &VarSet,
     disjuncts: &[Disjunct<'_>],
     numbers: &[usize],
-) -> Result<Best, NoMemory>
-    ensures { IfOk result (λ found. found ≡ best known.now.types (among bound.now) used.now disjuncts.now (reverse numbers.now)) }
+) -> Result<OrderedVars, NoMemory>
+    ensures { IfOk result (λ opened. (variable : ℕ) → among opened variable ≡ (is_open (among bound.now) used.now disjuncts.now variable && among numbers.now variable)) }
 {
-    let mut best = Best {
-        covered: None,
-        opened: None,
-    };
+    let mut opened = OrderedVars::new(alloc);
     for number in numbers {
         let variable = Var::new(*number);
-        consider(alloc, known, bound, used, disjuncts, variable, &mut best)?;
+        if is_open(bound, used, disjuncts, variable) {
+            opened.add(variable)?;
+        }
     }
-    Ok(best)
-}
-
-// Takes one variable more into account.
-fn consider(
-    alloc: Global,
-    known: &Known<'_>,
-    bound: &VarSet,
-    used: &VarSet,
-    disjuncts: &[Disjunct<'_>],
-    variable: Var,
-    best: &mut Best,
-) -> Result<(), NoMemory>
-    ensures { OnOk result (best.new ≡ considered known.now.types (among bound.now) used.now disjuncts.now variable best.old) }
-{
-    if !is_open(bound, used, disjuncts, variable) {
-        return Ok(());
-    }
-    if is_covered(alloc, known, disjuncts, variable)? {
-        best.covered = Some(lesser(variable, best.covered));
-    }
-    best.opened = Some(lesser(variable, best.opened));
-    Ok(())
+    Ok(opened)
 }
 
 // Whether disjuncts can be a switch on the variable. Where it is not the search ends at the first disjunct that does not
@@ -106,28 +106,4 @@ fn all_split(disjuncts: &[Disjunct<'_>], variable: Var) -> bool
         }
     }
     true
-}
-
-fn lesser(one: Var, other: Option<Var>) -> Var
-    ensures { result ≡ lesser one other }
-{
-    match other {
-        Some(other) => {
-            if one.number() <= other.number() {
-                one
-            } else {
-                other
-            }
-        }
-        None => one,
-    }
-}
-
-fn better(best: Best) -> Option<Var>
-    ensures { result ≡ better best }
-{
-    match best.covered {
-        Some(covered) => Some(covered),
-        None => best.opened,
-    }
 }

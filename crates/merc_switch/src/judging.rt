@@ -1,23 +1,27 @@
 //! How disjuncts are taken apart into tasks.
-ghost use Rattle.std.specs.Prelude.{◌≡◌, ◌∷◌, ◌++◌, ◌≤◌, [], length, map, IfOk, OnOk};
-ghost use Rattle.merc_order.specs.Bound.{among};
-ghost use Rattle.merc_grading.specs.Switches.{grouped};
-ghost use Rattle.merc_switch.specs.Choosing.{chosen};
-ghost use Rattle.merc_switch.specs.Plans.{group_plan, disjunction_plan, switch_plan, choice_left, finds, arm_plan};
+ghost use Rattle.std.specs.Prelude.{◌≡◌, ◌∷◌, ◌++◌, ◌≤◌, [], true, List, length, map, Some, IfOk, IfSome, OnOk};
+ghost use Rattle.std.specs.List.{AllByRecursion};
+ghost use Rattle.merc_graded_tree.specs.Nodes.{Node};
+ghost use Rattle.merc_grading.specs.Switches.{grouped, symbol_at};
+ghost use Rattle.merc_switch.specs.declared.tasks.Task.TheVariants.{Judge, Close};
+ghost use Rattle.merc_switch.specs.Tasks.{Performs};
+ghost use Rattle.merc_switch.specs.Plans.{disjunction_plan, switch_plan, finds, arm_plan, inner_group, outer_label, AreNarrowed, HaveSymbol};
 
 use crate::arms::arms_of;
-use crate::choosing::choose;
+use crate::choosing::Candidates;
+use crate::copying::copy_variables;
 use crate::disjuncts::Disjunct;
 use crate::occurring::outputs_in;
 use crate::tasks::{Group, Task, Tasks};
 use crate::variables::VarSet;
 use merc_base::{NoMemory, Sequence};
-use merc_goal_tree::Var;
+use merc_goal_tree::{Symbol, Var};
 use merc_graded_tree::{Label, NodeRef, Root};
 use merc_known::Known;
 use std::alloc::Global;
 
-/// Plans what disjuncts become: a switch, or else a disjunction.
+/// Plans what disjuncts become: a switch, or else a disjunction. Where all of them go to one arm of the switch they are
+/// looked at again at once, with the variables that are left.
 ///
 /// # Errors
 ///
@@ -29,16 +33,92 @@ pub(crate) fn judge<'a>(
     group: Group<'a>,
     tasks: &mut Tasks<'a>,
 ) -> Result<(), NoMemory>
-    ensures { OnOk result (tasks.new ≡ group_plan (choice_left group.entry.left (chosen known.now.types (among bound.now) group.entry.used group.entry.disjuncts)) group.entry ++ tasks.old) }
+    ensures { OnOk result ((goals : List Node) → Performs known.now.types (Judge group.entry ∷ tasks.old) goals bound.now tasks.new goals bound.now) }
 {
-    if group.left == 0 {
-        return plan_disjunction(group, tasks);
+    let mut group = group;
+    let disjuncts = group.disjuncts.as_slice();
+    let mut candidates = Candidates::of(alloc, bound, &group.used, disjuncts)?;
+    let mut narrowed = false;
+    while group.left > 0 {
+        let disjuncts = group.disjuncts.as_slice();
+        let Some(variable) = candidates.next(alloc, known, disjuncts)? else {
+            return plan_disjunction(group, tasks);
+        };
+        let Some(symbol) = common_symbol(disjuncts, variable) else {
+            return plan_switch(alloc, variable, group, tasks);
+        };
+        group = step_in(alloc, variable, symbol, group, narrowed, tasks)?;
+        narrowed = true;
     }
-    let choice = choose(alloc, known, bound, &group.used, group.disjuncts.as_slice())?;
-    match choice {
-        None => plan_disjunction(group, tasks),
-        Some(variable) => plan_switch(alloc, variable, group, tasks),
+    plan_disjunction(group, tasks)
+}
+
+// The symbol by which several disjuncts split a variable, none where they do not all do so by one symbol.
+fn common_symbol(disjuncts: &[Disjunct<'_>], variable: Var) -> Option<Symbol>
+    ensures { IfSome result (λ symbol. HaveSymbol variable symbol disjuncts.now) }
+{
+    let [first, _, ..] = disjuncts else {
+        return None;
+    };
+    let symbol = first.symbol(variable)?;
+    if !all_have(disjuncts, variable, &symbol) {
+        return None;
     }
+    Some(symbol)
+}
+
+fn all_have(disjuncts: &[Disjunct<'_>], variable: Var, symbol: &Symbol) -> bool
+    ensures { result ≡ true → AllByRecursion (λ disjunct. symbol_at variable disjunct ≡ Some symbol.now) disjuncts.now }
+{
+    for disjunct in disjuncts {
+        let Some(other) = disjunct.symbol(variable) else {
+            return false;
+        };
+        if other != *symbol {
+            return false;
+        }
+    }
+    true
+}
+
+// The disjuncts of the one arm that a switch on a variable has. Their outputs are known where they have been narrowed
+// already to those that occur in them.
+fn step_in<'a>(
+    alloc: Global,
+    variable: Var,
+    symbol: Symbol,
+    group: Group<'a>,
+    narrowed: bool,
+    tasks: &mut Tasks<'a>,
+) -> Result<Group<'a>, NoMemory>
+    requires { narrowed ≡ true → AreNarrowed group }
+    ensures group { IfOk result (λ inner. inner ≡ inner_group variable group.entry) }
+    ensures tasks { OnOk result (tasks.new ≡ Close (outer_label variable symbol group.entry) ∷ tasks.old) }
+{
+    let outputs = if narrowed {
+        copy_variables(alloc, &group.outputs)?
+    } else {
+        let outputs = group.whole.outputs();
+        outputs_in(alloc, outputs.as_slice(), group.disjuncts.as_slice())?
+    };
+    let mut symbols = Vec::new(alloc);
+    symbols.push(symbol)?;
+    tasks.push(Task::Close(Label {
+        root: Root::Switch(variable, Sequence::from_vec(symbols)),
+        outputs: group.outputs,
+        category: group.category,
+        span: group.whole.span(),
+    }))?;
+    let mut used = group.used;
+    used.add(variable)?;
+    Ok(Group {
+        whole: group.whole,
+        disjuncts: group.disjuncts,
+        used,
+        left: group.left.saturating_sub(1),
+        outputs,
+        category: None,
+    })
 }
 
 // Disjuncts as a disjunction.

@@ -10,6 +10,7 @@ mod disjuncts;
 mod finding;
 mod judging;
 mod occurring;
+mod ordered;
 mod planning;
 mod symbols;
 mod tasks;

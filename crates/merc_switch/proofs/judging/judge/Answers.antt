@@ -1,0 +1,59 @@
+use Rattle.std.proofs.Common.{◌≡◌, ◌∷◌, Some, None, subst, arith}
+use Rattle.std.proofs.lemmas.Result.{on_ok_weaker}
+use Rattle.merc_order.specs.Bound.{among}
+use Rattle.merc_switch.specs.declared.tasks.Task.TheVariants.{Judge}
+use Rattle.merc_switch.specs.Choosing.{chosen}
+use Rattle.merc_switch.specs.Plans.{HaveSymbol}
+use Rattle.merc_switch.proofs.InnerGroups.{reaches_end, reaches_inner, choice_told, inner_left, inner_narrowed, ends_open, ends_parted, ends_used_up}
+use Rattle.merc_switch.proofs.judging.judge.Goals as goal
+
+pub returns-in_default : goal.returns-in_default
+returns-in_default c =
+    let declared = c.args.known.now.types in
+    let bound = c.args.bound.now in
+    let group = c.loop-group.group in
+    let none : None ≡ chosen declared (among bound) group.used group.disjuncts =
+    choice_told declared bound group _ c.loop-group.candidates c.next.new.self c.in_ok-variable.field-0 c.as_slice-disjuncts-in-loop-group.ensures c.in_ok-variable.ensures c.loop-group.invariant.left None c.in_default.is in
+    on_ok_weaker c.plan_disjunction.result
+    (λ planned. λ goals. reaches_end declared _ (Judge group ∷ c.loop-group.tasks) _ goals bound (c.loop-group.invariant.reaches goals) (ends_open declared group c.loop-group.tasks _ goals bound none planned))
+    c.plan_disjunction.ensures
+
+pub returns-in_default-common_symbol : goal.returns-in_default-common_symbol
+returns-in_default-common_symbol c =
+    let declared = c.args.known.now.types in
+    let bound = c.args.bound.now in
+    let group = c.loop-group.group in
+    let variable = c.in-Some.variable in
+    let some : Some variable ≡ chosen declared (among bound) group.used group.disjuncts =
+    choice_told declared bound group _ c.loop-group.candidates c.next.new.self c.in_ok-variable.field-0 c.as_slice-disjuncts-in-loop-group.ensures c.in_ok-variable.ensures c.loop-group.invariant.left (Some variable) c.in-Some.is in
+    on_ok_weaker c.plan_switch.result
+    (λ planned. λ goals. reaches_end declared _ (Judge group ∷ c.loop-group.tasks) _ goals bound (c.loop-group.invariant.reaches goals)
+    (ends_parted declared variable group c.loop-group.tasks _ goals bound (omega (arith, c.loop-group-test.true)) some planned)) c.plan_switch.ensures
+
+pub loop-group-preserved : goal.loop-group-preserved
+loop-group-preserved c =
+    let declared = c.args.known.now.types in
+    let bound = c.args.bound.now in
+    let group = c.loop-group.group in
+    let variable = c.in-Some.variable in
+    let symbol = c.in-Some-common_symbol.symbol in
+    let inner = c.in_ok-group.group in
+    let same = c.as_slice-disjuncts-in-loop-group.ensures in
+    let some : Some variable ≡ chosen declared (among bound) group.used group.disjuncts =
+    choice_told declared bound group _ c.loop-group.candidates c.next.new.self c.in_ok-variable.field-0 same c.in_ok-variable.ensures c.loop-group.invariant.left (Some variable) c.in-Some.is in
+    let have : HaveSymbol variable symbol group.disjuncts = subst (λ l. HaveSymbol variable symbol l) same c.in-Some-common_symbol.ensures in
+    record {
+      reaches = λ goals. reaches_inner declared _ variable symbol group c.loop-group.tasks inner c.step_in.new.tasks goals bound (c.loop-group.invariant.reaches goals) c.in_ok-group.ensures.group
+          c.in_ok-group.ensures.tasks have (omega (arith, c.loop-group-test.true)) some;
+      left = inner_left declared bound group _ c.loop-group.candidates c.next.new.self c.in_ok-variable.field-0 same c.in_ok-variable.ensures c.loop-group.invariant.left variable inner c.in_ok-group.ensures.group c.in-Some.is;
+      narrowed = λ now. inner_narrowed variable group inner c.in_ok-group.ensures.group;
+    }
+
+pub returns : goal.returns
+returns c =
+    let declared = c.args.known.now.types in
+    let bound = c.args.bound.now in
+    let group = c.loop-group.group in
+    on_ok_weaker c.plan_disjunction-2.result
+    (λ planned. λ goals. reaches_end declared _ (Judge group ∷ c.loop-group.tasks) _ goals bound (c.loop-group.invariant.reaches goals)
+    (ends_used_up declared group c.loop-group.tasks _ goals bound (omega (arith, c.loop-group-test.false)) planned)) c.plan_disjunction-2.ensures
