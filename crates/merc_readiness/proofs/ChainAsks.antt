@@ -154,6 +154,22 @@ module _ (total : ℕ → ℕ) (modes : ℕ → List ModeDecl) where
       ∙ ap (λ b. is_arm_ready total modes condition then_part bound && (b && arms_agree condition then_part else_part span bound)) h
       ∙ and_false (is_arm_ready total modes condition then_part bound)
 
+  pub not_by_agreement : (condition then_part else_part : Node) (span : Span) (bound : Bound) → arms_agree condition then_part else_part span bound ≡ false
+      → is_ready (from total modes (Conditional condition then_part else_part span) bound) ≡ false
+  not_by_agreement condition then_part else_part span bound h =
+      conditional_ready condition then_part else_part span bound
+      ∙ ap (λ b. is_arm_ready total modes condition then_part bound && (is_ready (from total modes else_part bound) && b)) h
+      ∙ ap (λ b. is_arm_ready total modes condition then_part bound && b) (and_false (is_ready (from total modes else_part bound)))
+      ∙ and_false (is_arm_ready total modes condition then_part bound)
+
+  pub by_else : (condition then_part else_part : Node) (span : Span) (bound : Bound) (ready : Bool) → is_arm_ready total modes condition then_part bound ≡ true
+      → is_ready (from total modes else_part bound) ≡ ready → arms_agree condition then_part else_part span bound ≡ true
+      → is_ready (from total modes (Conditional condition then_part else_part span) bound) ≡ ready
+  by_else condition then_part else_part span bound ready arm last h =
+      conditional_ready condition then_part else_part span bound
+      ∙ ap (λ b. b && (is_ready (from total modes else_part bound) && arms_agree condition then_part else_part span bound)) arm
+      ∙ ap (λ b. is_ready (from total modes else_part bound) && b) h ∙ and_true (is_ready (from total modes else_part bound)) ∙ last
+
   pub by_agreement : (condition then_part else_part : Node) (span : Span) (bound : Bound) (ready : Bool) → is_arm_ready total modes condition then_part bound ≡ true
       → is_ready (from total modes else_part bound) ≡ true → arms_agree condition then_part else_part span bound ≡ ready
       → is_ready (from total modes (Conditional condition then_part else_part span) bound) ≡ ready
@@ -295,20 +311,13 @@ module _ (total : ℕ → ℕ) (modes : ℕ → List ModeDecl) where
   decision_by_arm condition then_part else_part span arm rest bound h a m =
       (not_by_arm condition then_part else_part span bound h, marked_link condition then_part else_part span arm rest bound a m)
 
-  -- The else part is not ready.
-  pub decision_by_else : (condition then_part else_part : Node) (span : Span) (arm rest : List Bool) (bound : Bound) → is_ready (from total modes else_part bound) ≡ false
-      → AreArmMarked total modes condition then_part arm bound → IsMarked total modes else_part rest bound
-      → (is_ready (from total modes (Conditional condition then_part else_part span) bound) ≡ false) × AreMarked total modes (Conditional condition then_part else_part span) (arm ++ rest) bound
-  decision_by_else condition then_part else_part span arm rest bound h a m =
-      (not_by_else condition then_part else_part span bound h, marked_link condition then_part else_part span arm rest bound a m)
-
-  -- Both are ready.
-  pub decision_by_both : (condition then_part else_part : Node) (span : Span) (arm rest : List Bool) (bound : Bound) (ready : Bool) → is_arm_ready total modes condition then_part bound ≡ true
-      → is_ready (from total modes else_part bound) ≡ true → arms_agree condition then_part else_part span bound ≡ ready
+  -- They agree: it is ready where the else part is.
+  pub decision_by_else : (condition then_part else_part : Node) (span : Span) (arm rest : List Bool) (bound : Bound) (ready : Bool) → is_arm_ready total modes condition then_part bound ≡ true
+      → is_ready (from total modes else_part bound) ≡ ready → arms_agree condition then_part else_part span bound ≡ true
       → AreArmMarked total modes condition then_part arm bound → IsMarked total modes else_part rest bound
       → (is_ready (from total modes (Conditional condition then_part else_part span) bound) ≡ ready) × AreMarked total modes (Conditional condition then_part else_part span) (arm ++ rest) bound
-  decision_by_both condition then_part else_part span arm rest bound ready arm_is else_is agrees a m =
-      (by_agreement condition then_part else_part span bound ready arm_is else_is agrees, marked_link condition then_part else_part span arm rest bound a m)
+  decision_by_else condition then_part else_part span arm rest bound ready arm_is else_is agrees a m =
+      (by_else condition then_part else_part span bound ready arm_is else_is agrees, marked_link condition then_part else_part span arm rest bound a m)
 
   -- where a condition and a then part stand
 

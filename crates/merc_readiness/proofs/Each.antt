@@ -43,6 +43,10 @@ ready_all : (outcomes : Outcomes) (made : Ordereds → Outcome) (b : Bool) → (
 ready_all (AllReady goals) made b h = h goals
 ready_all (OneStuck fault) made b h = refl
 
+and_false : (one : Bool) → (one && false) ≡ false
+and_false true = refl
+and_false false = refl
+
 module _ (total : ℕ → ℕ) (modes : ℕ → List ModeDecl) where
   disjunction_ready : (goals : Nodes) (span : Span) (bound : Bound) → is_ready (from total modes (Disjunction goals span) bound)
       ≡ (are_ready (each_from (moves total modes goals) bound) && agree total modes bound (all_variables goals) (arms total modes goals))
@@ -170,6 +174,11 @@ module _ (total : ℕ → ℕ) (modes : ℕ → List ModeDecl) where
           sound = whole_sound;
         },
       )
+
+  pub not_by_arms : (goals : Nodes) (span : Span) (bound : Bound) → agree total modes bound (all_variables goals) (arms total modes goals) ≡ false
+      → is_ready (from total modes (Disjunction goals span) bound) ≡ false
+  not_by_arms goals span bound h =
+      disjunction_ready goals span bound ∙ ap (λ b. are_ready (each_from (moves total modes goals) bound) && b) h ∙ and_false (are_ready (each_from (moves total modes goals) bound))
 
   pub end_arms : (goals : Nodes) (span : Span) (bound : Bound) (flags : List Bool) (at : ℕ) → DuringArms total modes goals bound no_nodes flags at
       → (is_ready (from total modes (Disjunction goals span) bound) ≡ agree total modes bound (all_variables goals) (arms total modes goals))

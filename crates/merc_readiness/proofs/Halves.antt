@@ -19,7 +19,7 @@ use Rattle.merc_readiness.specs.Chains.{is_arm_ready, AreArmMarked, AskedArm}
 use Rattle.merc_readiness.specs.Facts.{subgoals, AreFactsOf}
 use Rattle.merc_readiness.specs.declared.facts.Facts.{Facts}
 use Rattle.merc_readiness.proofs.Inner.{negation_ready, quantified_ready, inner_known, negation_inner, negation_marked, quantified_inner, quantified_marked}
-use Rattle.merc_readiness.proofs.ChainAsks.{arm_first, arm_second, both_marked, arm_length, flags_length, known_both, bound_by_first, arm_by_condition, arm_by_owed, arm_by_then, arms_agree, decision_known, decision_marked, decision_by_arm, decision_by_else, decision_by_both}
+use Rattle.merc_readiness.proofs.ChainAsks.{arm_first, arm_second, both_marked, arm_length, flags_length, known_both, bound_by_first, arm_by_condition, arm_by_owed, arm_by_then, arms_agree, decision_known, decision_marked, decision_by_arm, decision_by_else, not_by_agreement}
 use Rattle.merc_readiness.proofs.Marking.{put_middle, subgoals_length}
 
 -- the end of a list anew
@@ -98,27 +98,17 @@ arm_stops_decision predicates condition then_part else_part span facts own flags
     let (is, arm) = asked total else_part span k.first_known own_known d.arm_marked in
     decision_by_arm total modes condition then_part else_part span new (drop first flags) bound is arm d.else_marked
 
-pub else_stops_decision : (predicates : List PredDecl) (condition then_part else_part : Node) (span : Span) (facts : List Facts) (own : Facts) (flags new later : List Bool) (first : ℕ)
-    (bound : Bound) → first ≡ length (parts_of condition) + length (parts_of then_part) → AskedArm predicates condition then_part (take first facts) own (take first flags) new bound true
-    → Asked predicates else_part (slice_range facts first (length facts)) (slice_range (new ++ drop first flags) first (length (new ++ drop first flags))) later bound false
-    → AskedParts predicates (Conditional condition then_part else_part span) facts own flags (put_mid first (length (new ++ drop first flags) - first) (new ++ drop first flags) later) bound false
-else_stops_decision predicates condition then_part else_part span facts own flags new later first bound h asked else_told total known own_known m =
-    let modes = modes_of predicates in
-    let k = decision_known total modes condition then_part else_part facts first known h in
-    let d = decision_marked total modes condition then_part else_part span flags first bound m h in
-    let (is, arm) = asked total else_part span k.first_known own_known d.arm_marked in
-    let long : length new ≡ first = arm_length total modes condition then_part new bound arm ∙ sym h in
-    let else_known = subst (λ l. AreKnown total modes (subgoals else_part) l) (sym (take_rest facts first)) k.rest_known in
-    let else_marked = subst (λ l. IsMarked total modes else_part l bound) (sym (behind_is new (drop first flags) first long)) d.else_marked in
-    let (else_is, else_new) = else_told total else_known else_marked in
-    let both = decision_by_else total modes condition then_part else_part span new later bound else_is arm else_new.0 in
-    (both.0, subst (λ l. AreMarked total modes (Conditional condition then_part else_part span) l bound) (sym (put_behind new (drop first flags) later first long)) both.1)
+-- What the arms owe is not bound.
+pub decision_owes : (predicates : List PredDecl) (condition then_part else_part : Node) (span : Span) (facts : List Facts) (own : Facts) (flags : List Bool) (bound : Bound)
+    → are_bound bound own.owed ≡ false → AskedParts predicates (Conditional condition then_part else_part span) facts own flags flags bound false
+decision_owes predicates condition then_part else_part span facts own flags bound owed total known own_known m =
+    (not_by_agreement total (modes_of predicates) condition then_part else_part span bound (sym (own_known.owed_are bound) ∙ owed), m)
 
 pub decision_asked : (predicates : List PredDecl) (condition then_part else_part : Node) (span : Span) (facts : List Facts) (own : Facts) (flags new later : List Bool) (first : ℕ)
     (bound : Bound) (ready : Bool) → first ≡ length (parts_of condition) + length (parts_of then_part)
     → AskedArm predicates condition then_part (take first facts) own (take first flags) new bound true
-    → Asked predicates else_part (slice_range facts first (length facts)) (slice_range (new ++ drop first flags) first (length (new ++ drop first flags))) later bound true
-    → are_bound bound own.owed ≡ ready
+    → Asked predicates else_part (slice_range facts first (length facts)) (slice_range (new ++ drop first flags) first (length (new ++ drop first flags))) later bound ready
+    → are_bound bound own.owed ≡ true
     → AskedParts predicates (Conditional condition then_part else_part span) facts own flags (put_mid first (length (new ++ drop first flags) - first) (new ++ drop first flags) later) bound ready
 decision_asked predicates condition then_part else_part span facts own flags new later first bound ready h asked else_told owed total known own_known m =
     let modes = modes_of predicates in
@@ -129,8 +119,8 @@ decision_asked predicates condition then_part else_part span facts own flags new
     let else_known = subst (λ l. AreKnown total modes (subgoals else_part) l) (sym (take_rest facts first)) k.rest_known in
     let else_marked = subst (λ l. IsMarked total modes else_part l bound) (sym (behind_is new (drop first flags) first long)) d.else_marked in
     let (else_is, else_new) = else_told total else_known else_marked in
-    let agrees : arms_agree total modes condition then_part else_part span bound ≡ ready = sym (own_known.owed_are bound) ∙ owed in
-    let both = decision_by_both total modes condition then_part else_part span new later bound ready is else_is agrees arm else_new.0 in
+    let agrees : arms_agree total modes condition then_part else_part span bound ≡ true = sym (own_known.owed_are bound) ∙ owed in
+    let both = decision_by_else total modes condition then_part else_part span new later bound ready is else_is agrees arm else_new.0 in
     (both.0, subst (λ l. AreMarked total modes (Conditional condition then_part else_part span) l bound) (sym (put_behind new (drop first flags) later first long)) both.1)
 
 -- a negation, and a quantified goal

@@ -157,6 +157,10 @@ fn advance_arms(
     ensures same { OnOk result (bound.new ≡ bound.old) }
     ensures asked { IfOk result (λ ready. (span : Span) → AskedParts predicates.now (Disjunction (nodes_of arms.now) span) facts.now own.now marks.old marks.new (among bound.old) ready) }
 {
+    // What it owes is looked at before its arms are asked: they are not gone over each time that more is bound.
+    if !bound.are_bound(own.owed.as_slice()) {
+        return Ok(false);
+    }
     let mut at = 0;
     for arm in arms {
         let end = at + arm.part_count();
@@ -172,5 +176,5 @@ fn advance_arms(
         }
         at = end;
     }
-    Ok(bound.are_bound(own.owed.as_slice()))
+    Ok(true)
 }

@@ -43,6 +43,11 @@ pub(crate) fn advance_decision(
     ensures same { OnOk result (bound.new ≡ bound.old) }
     ensures asked { IfOk result (λ ready. (span : Span) → AskedParts predicates.now (Conditional link.now.condition link.now.then_part link.now.else_part span) facts.now own.now marks.old marks.new (among bound.old) ready) }
 {
+    // What it owes is looked at before its parts are asked: a chain that waits for that is not walked each time that more is
+    // bound.
+    if !bound.are_bound(own.owed.as_slice()) {
+        return Ok(false);
+    }
     let first = link.condition.part_count() + link.then_part.part_count();
     if !advance_arm(
         alloc,
@@ -55,17 +60,14 @@ pub(crate) fn advance_decision(
     )? {
         return Ok(false);
     }
-    if !advance_chain(
+    advance_chain(
         alloc,
         predicates,
         &link.else_part,
         &facts[first..],
         &mut marks[first..],
         bound,
-    )? {
-        return Ok(false);
-    }
-    Ok(bound.are_bound(own.owed.as_slice()))
+    )
 }
 
 // Asks the condition and, where what it binds is bound too, the then part. What the condition owes has to be bound.

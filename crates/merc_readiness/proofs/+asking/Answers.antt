@@ -16,8 +16,8 @@ use Rattle.merc_readiness.proofs.Asks.{not_true, not_false, undone, rest_nodes, 
 use Rattle.merc_readiness.proofs.Binding.{extends_same, extends_on, extends_all, next_known}
 use Rattle.merc_readiness.proofs.ChainLaws.{begin_chain, conditional_length}
 use Rattle.merc_readiness.proofs.Conjunctions.{begin_sweep, end_sweep}
-use Rattle.merc_readiness.proofs.Each.{begin_beside, end_arms, end_beside}
-use Rattle.merc_readiness.proofs.Halves.{condition_stops, owed_stops, then_asked, arm_stops_decision, else_stops_decision, decision_asked, negation_stops, negation_asked, quantified_asked}
+use Rattle.merc_readiness.proofs.Each.{begin_beside, not_by_arms, end_arms, end_beside}
+use Rattle.merc_readiness.proofs.Halves.{condition_stops, owed_stops, then_asked, arm_stops_decision, decision_owes, decision_asked, negation_stops, negation_asked, quantified_asked}
 use Rattle.merc_readiness.proofs.Marking.{parts_length}
 use Rattle.merc_readiness.proofs.Stepping.{step_over}
 use Rattle.merc_readiness.proofs.Turns.{arm_stops, arm_goes, beside_stops, beside_goes, link_stops, link_goes, last_stops, last_goes, member_stays, member_goes}
@@ -49,6 +49,12 @@ asking::advance-returns-clause-asked t c = λ total known m.
       marked_again total (modes_of c.args.predicates.now) c.args.goal.now c.args.marks.now c.advance_parts.new.marks (among c.args.bound.now)
           (c.part_count-own.result - 1) c.in_ok-ready.ready own_is m is marked,
     )
+
+pub asking::advance_arms-returns-then-not-are_bound-clause-asked : goal.asking::advance_arms-returns-then-not-are_bound-clause-asked
+asking::advance_arms-returns-then-not-are_bound-clause-asked t c = λ span total known own_known m.
+    let owed : are_bound (among c.args.bound.now) c.args.own.now.owed ≡ false =
+    sym (c.are_bound.ensures ∙ ap (λ l. are_bound (among c.args.bound.now) l) c.as_slice.ensures) ∙ c.if-not-are_bound.true in
+    (not_by_arms total (modes_of c.args.predicates.now) (nodes_of c.args.arms.now) span (among c.args.bound.now) (sym (own_known.owed_are (among c.args.bound.now)) ∙ owed), m)
 
 pub asking::advance_arms-returns-then-not-branch-clause-asked : goal.asking::advance_arms-returns-then-not-branch-clause-asked
 asking::advance_arms-returns-then-not-branch-clause-asked t c = λ span total known own_known m.
@@ -93,9 +99,9 @@ asking::advance_arms-returns-clause-asked t c = λ span total known own_known m.
     let none_left = no_rest c.args.arms.now c.loop-arm.arm-index (omega arith) in
     let last = subst (λ n. DuringArms total (modes_of c.args.predicates.now) (nodes_of c.args.arms.now) (among c.args.bound.now) n c.loop-arm.marks c.loop-arm.at) none_left d in
     let (is, marked) = end_arms total (modes_of c.args.predicates.now) (nodes_of c.args.arms.now) span (among c.args.bound.now) c.loop-arm.marks c.loop-arm.at last in
-    let told : are_bound (among c.args.bound.now) c.args.own.now.owed ≡ c.are_bound.result =
-    sym (c.are_bound.ensures ∙ ap (λ l. are_bound (among c.loop-arm.bound) l) c.as_slice.ensures ∙ ap (λ b. are_bound (among b) c.args.own.now.owed) c.loop-arm.invariant.same) in
-    (is ∙ sym (own_known.owed_are (among c.args.bound.now)) ∙ told, marked)
+    let owed : are_bound (among c.args.bound.now) c.args.own.now.owed ≡ true =
+    sym (c.are_bound.ensures ∙ ap (λ l. are_bound (among c.args.bound.now) l) c.as_slice.ensures) ∙ c.if-not-are_bound.false in
+    (is ∙ sym (own_known.owed_are (among c.args.bound.now)) ∙ owed, marked)
 
 pub asking::advance_beside-loop-goal-init : goal.asking::advance_beside-loop-goal-init
 asking::advance_beside-loop-goal-init t c = record {
@@ -274,6 +280,13 @@ chains::advance_chain-returns-in-None-clause-asked t c = λ total known m.
     subst (λ e. AskedLinks c.args.predicates.now c.args.goal.now c.args.facts.now c.args.marks.now c.advance_links.new.marks
     (among c.args.bound.now) e) c.in-None.is c.in_ok-end.ensures.asked total known m
 
+pub chains::advance_decision-returns-then-not-are_bound-clause-asked : goal.chains::advance_decision-returns-then-not-are_bound-clause-asked
+chains::advance_decision-returns-then-not-are_bound-clause-asked t c = λ span.
+    let owed : are_bound (among c.args.bound.now) c.args.own.now.owed ≡ false =
+    sym (c.are_bound.ensures ∙ ap (λ l. are_bound (among c.args.bound.now) l) c.as_slice.ensures) ∙ c.if-not-are_bound.true in
+    decision_owes c.args.predicates.now c.args.link.now.condition c.args.link.now.then_part c.args.link.now.else_part span c.args.facts.now c.args.own.now c.args.marks.now
+    (among c.args.bound.now) owed
+
 pub chains::advance_decision-returns-then-not-branch-clause-asked : goal.chains::advance_decision-returns-then-not-branch-clause-asked
 chains::advance_decision-returns-then-not-branch-clause-asked t c = λ span.
     let first_is : (c.part_count.result + c.part_count-2.result) ≡ length (parts_of c.args.link.now.condition) + length (parts_of c.args.link.now.then_part) = let one = c.part_count.ensures
@@ -283,40 +296,21 @@ chains::advance_decision-returns-then-not-branch-clause-asked t c = λ span.
     (subst (λ r. AskedArm c.args.predicates.now c.args.link.now.condition c.args.link.now.then_part (take (c.part_count.result + c.part_count-2.result) c.args.facts.now) c.args.own.now
     (take (c.part_count.result + c.part_count-2.result) c.args.marks.now) c.advance_arm.new.marks (among c.args.bound.now) r) c.if-not-branch.true c.in_ok-advance_arm.ensures.asked)
 
-pub chains::advance_decision-returns-then-not-branch-2-clause-asked : goal.chains::advance_decision-returns-then-not-branch-2-clause-asked
-chains::advance_decision-returns-then-not-branch-2-clause-asked t c = λ span.
-    let first_is : (c.part_count.result + c.part_count-2.result) ≡ length (parts_of c.args.link.now.condition) + length (parts_of c.args.link.now.then_part) = let one = c.part_count.ensures
-    in let two = c.part_count-2.ensures in omega arith in
-    else_stops_decision c.args.predicates.now c.args.link.now.condition c.args.link.now.then_part c.args.link.now.else_part span c.args.facts.now c.args.own.now c.args.marks.now
-    c.advance_arm.new.marks c.advance_chain.new.marks (c.part_count.result + c.part_count-2.result) (among c.args.bound.now) first_is
-    (subst (λ r. AskedArm c.args.predicates.now c.args.link.now.condition c.args.link.now.then_part (take (c.part_count.result + c.part_count-2.result) c.args.facts.now) c.args.own.now
-    (take (c.part_count.result + c.part_count-2.result) c.args.marks.now) c.advance_arm.new.marks (among c.args.bound.now) r) c.if-not-branch.false c.in_ok-advance_arm.ensures.asked)
-    (subst (λ r. Asked c.args.predicates.now c.args.link.now.else_part (slice_range c.args.facts.now (c.part_count.result + c.part_count-2.result) (length c.args.facts.now)) (slice_range
-    (c.advance_arm.new.marks ++ drop (c.part_count.result + c.part_count-2.result) c.args.marks.now) (c.part_count.result + c.part_count-2.result) (length
-    (c.advance_arm.new.marks ++ drop (c.part_count.result + c.part_count-2.result) c.args.marks.now))) c.advance_chain.new.marks (among c.args.bound.now) r) c.if-not-branch-2.true
-    (subst (λ b. Asked c.args.predicates.now c.args.link.now.else_part (slice_range c.args.facts.now (c.part_count.result + c.part_count-2.result) (length c.args.facts.now)) (slice_range
-    (c.advance_arm.new.marks ++ drop (c.part_count.result + c.part_count-2.result) c.args.marks.now) (c.part_count.result + c.part_count-2.result) (length
-    (c.advance_arm.new.marks ++ drop (c.part_count.result + c.part_count-2.result) c.args.marks.now))) c.advance_chain.new.marks (among b) c.in_ok-advance_chain.field-0)
-    c.in_ok-advance_arm.ensures.same c.in_ok-advance_chain.ensures.asked))
-
 pub chains::advance_decision-returns-clause-asked : goal.chains::advance_decision-returns-clause-asked
-chains::advance_decision-returns-clause-asked t c = λ span.
+chains::advance_decision-returns-clause-asked t c =
     let first_is : (c.part_count.result + c.part_count-2.result) ≡ length (parts_of c.args.link.now.condition) + length (parts_of c.args.link.now.then_part) = let one = c.part_count.ensures
     in let two = c.part_count-2.ensures in omega arith in
-    let owed : are_bound (among c.args.bound.now) c.args.own.now.owed ≡ c.are_bound.result =
-    sym (c.are_bound.ensures ∙ ap (λ l. are_bound (among c.advance_chain.new.bound) l) c.as_slice.ensures
-    ∙ ap (λ b. are_bound (among b) c.args.own.now.owed) (c.in_ok-advance_chain.ensures.same ∙ c.in_ok-advance_arm.ensures.same)) in
-    decision_asked c.args.predicates.now c.args.link.now.condition c.args.link.now.then_part c.args.link.now.else_part span c.args.facts.now c.args.own.now c.args.marks.now
-    c.advance_arm.new.marks c.advance_chain.new.marks (c.part_count.result + c.part_count-2.result) (among c.args.bound.now) c.are_bound.result first_is
+    let owed : are_bound (among c.args.bound.now) c.args.own.now.owed ≡ true =
+    sym (c.are_bound.ensures ∙ ap (λ l. are_bound (among c.args.bound.now) l) c.as_slice.ensures) ∙ c.if-not-are_bound.false in
+    IfOk-weaker c.advance_chain.result _ _
+    (λ ready told. λ span. decision_asked c.args.predicates.now c.args.link.now.condition c.args.link.now.then_part c.args.link.now.else_part span c.args.facts.now c.args.own.now
+    c.args.marks.now c.advance_arm.new.marks c.advance_chain.new.marks (c.part_count.result + c.part_count-2.result) (among c.args.bound.now) ready first_is
     (subst (λ r. AskedArm c.args.predicates.now c.args.link.now.condition c.args.link.now.then_part (take (c.part_count.result + c.part_count-2.result) c.args.facts.now) c.args.own.now
     (take (c.part_count.result + c.part_count-2.result) c.args.marks.now) c.advance_arm.new.marks (among c.args.bound.now) r) c.if-not-branch.false c.in_ok-advance_arm.ensures.asked)
-    (subst (λ r. Asked c.args.predicates.now c.args.link.now.else_part (slice_range c.args.facts.now (c.part_count.result + c.part_count-2.result) (length c.args.facts.now)) (slice_range
-    (c.advance_arm.new.marks ++ drop (c.part_count.result + c.part_count-2.result) c.args.marks.now) (c.part_count.result + c.part_count-2.result) (length
-    (c.advance_arm.new.marks ++ drop (c.part_count.result + c.part_count-2.result) c.args.marks.now))) c.advance_chain.new.marks (among c.args.bound.now) r) c.if-not-branch-2.false
     (subst (λ b. Asked c.args.predicates.now c.args.link.now.else_part (slice_range c.args.facts.now (c.part_count.result + c.part_count-2.result) (length c.args.facts.now)) (slice_range
     (c.advance_arm.new.marks ++ drop (c.part_count.result + c.part_count-2.result) c.args.marks.now) (c.part_count.result + c.part_count-2.result) (length
-    (c.advance_arm.new.marks ++ drop (c.part_count.result + c.part_count-2.result) c.args.marks.now))) c.advance_chain.new.marks (among b) c.in_ok-advance_chain.field-0)
-    c.in_ok-advance_arm.ensures.same c.in_ok-advance_chain.ensures.asked)) owed
+    (c.advance_arm.new.marks ++ drop (c.part_count.result + c.part_count-2.result) c.args.marks.now))) c.advance_chain.new.marks (among b) ready)
+    c.in_ok-advance_arm.ensures.same told) owed) c.advance_chain.ensures.asked
 
 pub chains::advance_links-loop-link-init : goal.chains::advance_links-loop-link-init
 chains::advance_links-loop-link-init t c = record {
