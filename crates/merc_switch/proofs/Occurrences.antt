@@ -1,5 +1,6 @@
 -- The variables of a goal are those of its parts.
-use Rattle.std.specs.Prelude.{◌≡◌, ◌≤◌, ◌||◌, ◌==◌, ℕ, Bool, true, false, List, [], ◌∷◌, ◌++◌, length, drop, refl}
+use Rattle.std.specs.Prelude.{◌≡◌, ◌≤◌, ◌||◌, ◌&&◌, ◌==◌, ℕ, Bool, true, false, List, [], ◌∷◌, ◌++◌, length, drop, if◌then◌else◌, refl}
+use Rattle.std.specs.List.{filter, list_all}
 use Rattle.std.proofs.Common.{◌∙◌, ap, sym}
 use Rattle.std.proofs.lemmas.List.{drop_all}
 use Rattle.merc_graded_tree.specs.declared.entries.Label.{Label}
@@ -97,3 +98,19 @@ pub all_known : (known : List ℕ) (goals : List Node) (index : ℕ) (variable :
     → among known variable ≡ in_nodes (nodes_of goals) variable
 all_known known goals index variable past same =
     sym (or_false (among known variable)) ∙ ap (λ l. among known variable || in_nodes (nodes_of l) variable) (sym (drop_all index goals past)) ∙ same
+
+-- Where all of some outputs are known, no more have to be looked for.
+pub outputs_known : (known : List ℕ) (goals : List Node) (index : ℕ) (outputs : List ℕ) → list_all (λ output. among known output) outputs ≡ true
+    → ((variable : ℕ) → (among known variable || in_nodes (nodes_of (drop index goals)) variable) ≡ in_nodes (nodes_of goals) variable)
+    → filter (λ output. among known output) outputs ≡ filter (λ output. in_nodes (nodes_of goals) output) outputs
+outputs_known known goals index [] all same = refl
+outputs_known known goals index (first ∷ rest) all same =
+    let parts = both (among known first) (list_all (λ output. among known output) rest) all in
+    let there : in_nodes (nodes_of goals) first ≡ true = sym (same first) ∙ ap (λ b. b || in_nodes (nodes_of (drop index goals)) first) parts.0 in
+    let kept = filter (λ output. among known output) rest in
+    ap (λ b. if b then first ∷ kept else kept) (parts.0 ∙ sym there)
+    ∙ ap (λ l. if in_nodes (nodes_of goals) first then first ∷ l else l) (outputs_known known goals index rest parts.1 same)
+  where
+    both : (a b : Bool) → (a && b) ≡ true → (a ≡ true) × (b ≡ true)
+    both true b h = (refl, h)
+    both false b h = absurd (cc)

@@ -1,12 +1,16 @@
 -- Worked examples of tasks and plans, over the types and goals of the examples of categories.
-use Rattle.std.specs.Prelude.{◌≡◌, List, [], ◌∷◌, Some, None, refl}
-use Rattle.std.proofs.Common.{arith}
+use Rattle.std.specs.Prelude.{◌≡◌, Bool, true, false, List, [], ◌∷◌, Option, Some, None, refl}
+use Rattle.std.specs.List.{list_all}
+use Rattle.std.proofs.Common.{ap, arith}
+use Rattle.merc_goal_tree.specs.declared.goal.Symbol.{Symbol}
 use Rattle.merc_graded_tree.specs.declared.entries.Label.{Label}
 use Rattle.merc_graded_tree.specs.declared.entries.Root.{Root}
 use Rattle.merc_graded_tree.specs.declared.entries.Root.TheVariants.{Disjunction as DisjunctionRoot, Switch as SwitchRoot}
 use Rattle.merc_graded_tree.specs.Nodes.{Node, Negation, Disjunction, nodes_of, span_of}
 use Rattle.merc_graded_tree.specs.Roots.{label_of}
 use Rattle.merc_order.specs.Bound.{among}
+use Rattle.merc_grading.specs.Known.{same_symbol}
+use Rattle.merc_grading.specs.Switches.{listed}
 use Rattle.merc_grading.specs.GradingExamples.{red, green, declared, c, d, types, of, both, is_red, is_green}
 use Rattle.merc_switch.specs.declared.tasks.Group.{Group}
 use Rattle.merc_switch.specs.declared.tasks.Task.TheVariants.{Find, Judge, Close}
@@ -74,7 +78,9 @@ both_red : HaveSymbol c red reds
 both_red = record { several = omega arith; symbols_are = (refl, (refl, tt)) }
 
 both_red_not : HaveSymbol d red reds → ⊥
-both_red_not have = let wrong : Some green ≡ Some red = have.symbols_are.1.0 in cc
+both_red_not have =
+    let wrong : ◌≡◌ {A = Bool} false true = ap (λ (symbol : Option Symbol). list_all (λ one. same_symbol red one) (listed symbol)) have.symbols_are.1.0 in
+    absurd (cc)
 
 one_arm : switch_plan c outer ≡ Judge (inner_group c outer) ∷ Close (outer_label c red outer) ∷ []
 one_arm = refl

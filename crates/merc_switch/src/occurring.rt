@@ -1,5 +1,6 @@
 //! The variables that occur in goals.
 ghost use Rattle.std.specs.Prelude.{◌≡◌, ℕ, ◌||◌, filter, IfOk, OnOk};
+ghost use Rattle.std.specs.List.{list_all};
 ghost use Rattle.merc_graded_tree.specs.Nodes.{nodes_of};
 ghost use Rattle.merc_graded_tree.specs.Variables.{in_node, in_nodes, variables_of};
 ghost use Rattle.merc_order.specs.Bound.{among};
@@ -13,7 +14,7 @@ use merc_goal_tree::{Var, Vars};
 use merc_graded_tree::{BasicGoal, NodeRef, Root};
 use std::alloc::Global;
 
-/// Those of the outputs that occur in the disjuncts.
+/// Those of the outputs that occur in the disjuncts. No more disjuncts are gone through than it takes to find them all.
 ///
 /// # Errors
 ///
@@ -27,9 +28,24 @@ pub(crate) fn outputs_in(
 {
     let mut variables = VarSet::new(alloc);
     for disjunct in disjuncts {
+        if has_all(&variables, outputs) {
+            return those_among(alloc, outputs, &variables);
+        }
         add_variables(&disjunct.goal(), &mut variables)?;
     }
     those_among(alloc, outputs, &variables)
+}
+
+// Whether all of the outputs are among the variables.
+fn has_all(variables: &VarSet, outputs: &[Var]) -> bool
+    ensures { result ≡ list_all (λ output. among variables.now output) outputs.now }
+{
+    for output in outputs {
+        if !variables.contains(*output) {
+            return false;
+        }
+    }
+    true
 }
 
 // Those of the outputs that are among the variables.

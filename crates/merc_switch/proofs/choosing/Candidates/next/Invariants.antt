@@ -1,4 +1,4 @@
-use Rattle.std.proofs.Common.{◌≡◌, ℕ, List, length}
+use Rattle.std.proofs.Common.{ℕ, List, length}
 use Rattle.merc_order.specs.Bound.{Bound}
 use Rattle.merc_switch.specs.Choosing.{AreLeft}
 use Rattle.merc_switch.proofs.choosing.Candidates.next.Given as goal
