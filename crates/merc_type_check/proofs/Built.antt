@@ -129,13 +129,18 @@ found_closed old new built more number place all closed placed updates =
     }
 
 -- a type variable
-pub found_variable : (old new : Checker) (built : BTreeMap ℕ ℕ) (number place name : ℕ) → AreBuilt old.graph.table old built
-    → type_at old.graph.table number ≡ TypeVariable name → Places old new place (λ types instance. instance name) → Finds old new built number (Some place)
-found_variable old new built number place name all is placed = record {
-  grows = placed.grows;
-  parts = built_on old.graph.table old new built placed.grows all;
-  stands = stands_as new place (λ types instance. instance name) (instance_at old.graph.table number) (λ types instance. ap (replaced instance) (sym is)) placed.stands;
-}
+pub found_variable : (old new : Checker) (built more : BTreeMap ℕ ℕ) (number place name : ℕ) → AreBuilt old.graph.table old built
+    → type_at old.graph.table number ≡ TypeVariable name → Places old new place (λ types instance. instance name) → MapUpdates built more number place
+    → Finds old new more number (Some place)
+found_variable old new built more number place name all is placed updates =
+    let table : List TypeExpr = old.graph.table in
+    let stands : Stands new place (instance_at table number) =
+    stands_as new place (λ types instance. instance name) (instance_at table number) (λ types instance. ap (replaced instance) (sym is)) placed.stands in
+    record {
+      grows = placed.grows;
+      parts = all_more (λ n p. Stands new p (instance_at table n)) built more number place updates (built_on table old new built placed.grows all) stands;
+      stands = stands;
+    }
 
 with_application : (first rest : TypeExpr) → is_application rest ≡ true → is_application (with_first first rest) ≡ true
 with_application first (TypeVariable name) e = absurd (cc)

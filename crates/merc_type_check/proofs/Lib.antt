@@ -3,4 +3,5 @@ pub mod Places
 pub mod Built
 pub mod Numbers
 pub mod Asked
+pub mod Repeating
 pub mod Told

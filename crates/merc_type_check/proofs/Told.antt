@@ -1,5 +1,5 @@
 -- What the check tells in the end.
-use Rattle.std.proofs.Common.{◌≡◌, ℕ, zero, suc, ◌+◌, ◌≤◌, Bool, true, false, Some, List, [], ◌∷◌, length, take, sym, subst, add-one}
+use Rattle.std.proofs.Common.{◌≡◌, ℕ, zero, suc, ◌+◌, ◌<◌, ◌≤◌, Bool, true, false, Some, List, [], ◌∷◌, length, take, sym, subst, add-one, arith}
 use Rattle.std.specs.Prelude.{slice_get}
 use Rattle.std.specs.List.{AllByRecursion}
 use Rattle.std.proofs.lemmas.List.{take_all}
@@ -7,6 +7,7 @@ use Rattle.merc_base.specs.declared.place.Span.{Span}
 use Rattle.merc_tree.specs.Types.{TypeExpr}
 use Rattle.merc_tree.specs.declared.declarations.Module.{Module}
 use Rattle.merc_goal_tree.specs.declared.entries.Root.{Root}
+use Rattle.merc_goal_tree.specs.declared.entries.Root.TheVariants.{Simple, Conjunction, Parallel, Disjunction, Conditional, Negation, Quantified}
 use Rattle.merc_goal_tree.specs.Nodes.{Node}
 use Rattle.merc_goal_tree.specs.Parts.{parts_of}
 use Rattle.merc_type_graph.specs.Changes.{Decides}
@@ -14,6 +15,7 @@ use Rattle.merc_type_check.specs.declared.checker.Checker.{Checker}
 use Rattle.merc_type_check.specs.Progress.{Types, Fits, Step, Refuses, GoalStep, GoalRefuses, Knows}
 use Rattle.merc_type_check.specs.Typing.{AreArguments, IsTypedPart, HasTyping}
 use Rattle.merc_type_check.specs.Checked.{Tells}
+use Rattle.merc_type_check.specs.Repeats.{IsRepeated}
 use Rattle.merc_type_check.proofs.Steps.{types_read, types_read_agree, plain_goal_takes}
 
 -- the predicate's arguments have their types, and so many parts are typed
@@ -87,6 +89,44 @@ part_untyped old known arguments goal k part part_is knows refuses typing =
     let both = part_pop (IsTypedPart known types) k (parts_of goal) part part_is (part_front (IsTypedPart known types) (suc k) (parts_of goal) typing.1.parts) in
     let before = knows.forth types (record { head = typing.1.head; parts = both.0 }) in
     refuses before.0 types before.1 both.1
+
+part_within : {A : Type 0} (P : A → Type 0) (k i : ℕ) (listed : List A) (x : A) → i < k → slice_get listed i ≡ Some x → AllByRecursion P (take k listed) → P x
+part_within P k i [] x less e all = absurd (cc)
+part_within P zero i (y ∷ ys) x less e all = absurd (omega arith)
+part_within P (suc k) zero (y ∷ ys) x less e all = subst P (same_some e) all.0
+  where
+    same_some : {B : Type 0} {a b : B} → Some a ≡ Some b → a ≡ b
+    same_some e = cc
+part_within P (suc k) (suc i) (y ∷ ys) x less e all = part_within P k i ys x (omega arith) e all.1
+
+-- where a part stands in the text is not looked at
+typed_elsewhere : (known : Module) (types : Types) (root : Root) (one other : Span) → IsTypedPart known types (root, one) → IsTypedPart known types (root, other)
+typed_elsewhere known types (Simple goal) one other typed = typed
+typed_elsewhere known types (Conjunction count) one other typed = typed
+typed_elsewhere known types (Parallel count) one other typed = typed
+typed_elsewhere known types (Disjunction count) one other typed = typed
+typed_elsewhere known types Conditional one other typed = typed
+typed_elsewhere known types Negation one other typed = typed
+typed_elsewhere known types (Quantified variables) one other typed = typed
+
+-- a part that stands before asks for nothing new
+pub part_repeated : (checker : Checker) (known : Module) (arguments : List TypeExpr) (goal : Node) (k : ℕ) (root : Root) (span : Span) → Some (root, span) ≡ slice_get (parts_of goal) k
+    → IsRepeated (parts_of goal) k root → Knows checker (IsTypedUpTo known arguments goal k) → Knows checker (IsTypedUpTo known arguments goal (k + 1))
+part_repeated checker known arguments goal k root span part_is repeated knows =
+    subst (λ (n : ℕ). Knows checker (IsTypedUpTo known arguments goal n)) (sym (add-one k)) (record {
+      sound = knows.sound;
+      back = λ places types holds.
+          let typed = knows.back places types holds in
+          let before : IsTypedPart known types (root, repeated.span) =
+          part_within (IsTypedPart known types) k repeated.earlier (parts_of goal) (root, repeated.span) repeated.before repeated.here typed.parts in
+          record {
+            head = typed.head;
+            parts = part_push (IsTypedPart known types) k (parts_of goal) (root, span) part_is typed.parts (typed_elsewhere known types root repeated.span span before);
+          };
+      forth = λ types typed.
+          let both = part_pop (IsTypedPart known types) k (parts_of goal) (root, span) part_is typed.parts in
+          knows.forth types (record { head = typed.head; parts = both.0 });
+    })
 
 -- all parts
 pub told : (solvable : Bool) (checker : Checker) (known : Module) (arguments : List TypeExpr) (goal : Node) (k : ℕ) → length (parts_of goal) ≤ k

@@ -79,6 +79,7 @@ impl<'a> Checker<'a> {
         match self.node(number) {
             TypeNode::Variable(name) => {
                 let place = self.type_variable(name)?;
+                built.insert(number, place)?;
                 Ok(Some(place))
             }
             _ => Ok(None),

@@ -6,6 +6,7 @@ ghost use Rattle.merc_tree.specs.declared.declarations.Module.{Module};
 
 use crate::checker::Checker;
 use crate::declared::DeclaredTypes;
+use crate::repeats::Repeats;
 use merc_base::NoMemory;
 use merc_goal_tree::{NodeRef, Predicate};
 use merc_known::Known;
@@ -18,9 +19,10 @@ use std::alloc::Global;
 /// own.
 ///
 /// Declared types of the predicate's arguments, and those without type variables, are taken as a whole, and two of them are
-/// compared by their numbers. With n parts of the goal and of the other declared types that it uses, where of each use the
-/// different parts with type variables are counted, with their arguments, this takes time of the order of n log n, however
-/// large the types are that solve it.
+/// compared by their numbers. A call or a unification with a constructor that stands in the goal before is passed over. With
+/// n parts of the goal and of the other declared types that it uses, where of each use the different parts with type
+/// variables are counted, with their arguments, this takes time of the order of n log n, however large the types are that
+/// solve it.
 ///
 /// # Errors
 ///
@@ -40,12 +42,15 @@ pub fn is_typed(
     if !done {
         return Ok(false);
     }
+    let mut repeats = Repeats::new(alloc);
     for index in 0..goal.part_count() {
         match goal.part(index) {
             Some((part, _)) => {
-                let done = checker.take_part(alloc, known, declared, part)?;
-                if !done {
-                    return Ok(false);
+                if !repeats.is_repeated(goal, index, part)? {
+                    let done = checker.take_part(alloc, known, declared, part)?;
+                    if !done {
+                        return Ok(false);
+                    }
                 }
             }
             None => unreachable!(),

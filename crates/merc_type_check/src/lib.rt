@@ -6,6 +6,7 @@ mod checker;
 mod checking;
 pub mod declared;
 mod goals;
+mod repeats;
 
 pub use checking::is_typed;
 pub use declared::DeclaredTypes;

@@ -34,8 +34,12 @@ pub(crate) fn fix(
     ensures sound { IsSound store.now cells.new }
     ensures made { IfOk result (λ done. FixesOrDiffers done store.now cells.old cells.new place (type_at store.now.table.now whole)) }
 {
+    // The list takes no memory where nothing or a whole type is known at the place.
     let mut fixings = Vec::new(alloc);
-    fixings.push(Fixing { place, whole })?;
+    let first = Fixing { place, whole };
+    if !fix_one(store, cells, first, &mut fixings)? {
+        return Ok(false);
+    }
     while let Some(fixing) = fixings.pop() {
         if !fix_one(store, cells, fixing, &mut fixings)? {
             return Ok(false);

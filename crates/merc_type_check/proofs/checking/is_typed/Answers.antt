@@ -1,15 +1,19 @@
-use Rattle.std.proofs.Common.{◌≡◌, ◌<◌, List, map, sym, subst, ◌∙◌, arith}
+use Rattle.std.proofs.Common.{◌≡◌, ◌+◌, ◌<◌, List, map, sym, ap, subst, ◌∙◌, arith}
 use Rattle.std.proofs.lemmas.Result.{IfOk-weaker}
 use Rattle.merc_goal_tree.specs.Parts.{parts_of}
 use Rattle.merc_tree.specs.Types.{TypeExpr}
 use Rattle.merc_type_table.specs.Table.{type_at}
 use Rattle.merc_type_check.specs.Checked.{head_of}
 use Rattle.merc_type_check.specs.TypeNumbers.{AreWithin}
-use Rattle.merc_type_check.specs.Progress.{GoalRefuses, GoalStep, GoalTakes, Takes}
+use Rattle.merc_tree.specs.declared.declarations.Module.{Module}
+use Rattle.merc_type_check.specs.declared.checker.Checker.{Checker}
+use Rattle.merc_type_check.specs.Progress.{GoalRefuses, GoalStep, GoalTakes, Knows, Takes}
+use Rattle.merc_type_check.specs.Repeats.{IsRepeatedIf}
 use Rattle.merc_type_check.specs.Typing.{AreArguments, IsTypedPart}
 use Rattle.merc_type_check.proofs.Asked.{taken, refused, some_there}
 use Rattle.merc_type_check.proofs.Numbers.{numbers_types, numbers_within}
-use Rattle.merc_type_check.proofs.Told.{head_known, head_untyped, part_known, part_untyped, told}
+use Rattle.merc_type_check.proofs.Told.{head_known, head_untyped, part_known, part_repeated, part_untyped, told, IsTypedUpTo}
+use Rattle.merc_type_check.proofs.checking.is_typed.Goals.{then-not-branch+in_ok-done-in-Some+else-not-done-2, else-not-branch}
 use Rattle.merc_type_check.proofs.checking.is_typed.Goals as goal
 
 pub take_head-requires-clause-numbers : goal.take_head-requires-clause-numbers
@@ -58,14 +62,27 @@ unreachable-requires c =
 
 pub loop-index-preserved : goal.loop-index-preserved
 loop-index-preserved c =
-    let step : GoalStep c.loop-index.checker c.take_part.new.self (λ types. IsTypedPart c.args.known.now types (c.in-Some.part.now, c.in-Some.field-0-1)) =
-    subst (λ b. GoalTakes b c.loop-index.checker c.take_part.new.self (λ types. IsTypedPart c.args.known.now types (c.in-Some.part.now, c.in-Some.field-0-1)))
-    c.if-not-done-2.false (c.in_ok-done-in-Some.ensures c.in-Some.field-0-1) in
-    record {
-      knows = part_known c.loop-index.checker c.take_part.new.self c.args.known.now (head_of c.args.known.now c.args.predicate) c.args.goal.now c.loop-index.index
-          (c.in-Some.part.now, c.in-Some.field-0-1) c.in-Some.ensures c.loop-index.invariant.knows step;
-      table = c.loop-index.invariant.table ∙ sym step.same_table;
-    }
+    let known : Module = c.args.known.now in
+    let arguments : List TypeExpr = head_of known c.args.predicate in
+    elim c.if-not-branch.branch [
+      | then-not-branch+in_ok-done-in-Some+else-not-done-2 w ↦
+          let step : GoalStep c.loop-index.checker w.take_part.new.self (λ types. IsTypedPart known types (c.in-Some.part.now, c.in-Some.field-0-1)) =
+          subst (λ b. GoalTakes b c.loop-index.checker w.take_part.new.self (λ types. IsTypedPart known types (c.in-Some.part.now, c.in-Some.field-0-1)))
+          w.if-not-done-2.false (w.in_ok-done-in-Some.ensures c.in-Some.field-0-1) in
+          record {
+            knows = subst (λ (one : Checker). Knows one (IsTypedUpTo known arguments c.args.goal.now (c.loop-index.index + 1))) (sym w.checker-is)
+                (part_known c.loop-index.checker w.take_part.new.self known arguments c.args.goal.now c.loop-index.index
+                (c.in-Some.part.now, c.in-Some.field-0-1) c.in-Some.ensures c.loop-index.invariant.knows step);
+            table = c.loop-index.invariant.table ∙ sym step.same_table ∙ ap (λ (one : Checker). one.graph.table) (sym w.checker-is);
+          }
+      | else-not-branch w ↦ record {
+        knows = subst (λ (one : Checker). Knows one (IsTypedUpTo known arguments c.args.goal.now (c.loop-index.index + 1))) (sym w.checker-is)
+            (part_repeated c.loop-index.checker known arguments c.args.goal.now c.loop-index.index c.in-Some.part.now c.in-Some.field-0-1 c.in-Some.ensures
+            (subst (λ b. IsRepeatedIf b (parts_of c.args.goal.now) c.loop-index.index c.in-Some.part.now) w.if-not-branch.false c.in_ok-is_repeated-in-Some.ensures)
+            c.loop-index.invariant.knows);
+        table = c.loop-index.invariant.table ∙ ap (λ (one : Checker). one.graph.table) (sym w.checker-is);
+      }
+    ]
 
 pub returns : goal.returns
 returns c =

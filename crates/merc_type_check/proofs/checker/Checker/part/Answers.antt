@@ -13,10 +13,10 @@ returns-then-is_closed c =
     found_closed c.args.self.now c.whole_place.new.self c.args.built.now c.insert.new.self c.args.number c.in_ok-place.place c.requires.built
     (sym c.is_closed.ensures ∙ c.if-is_closed.true) c.in_ok-place.ensures c.in_ok-insert.ensures.updates.0
 
-pub returns-in_ok-place-in-Variable : goal.returns-in_ok-place-in-Variable
-returns-in_ok-place-in-Variable c =
-    found_variable c.args.self.now c.type_variable.new.self c.args.built.now c.args.number c.in_ok-place-in-Variable.place c.in-Variable.name c.requires.built
-    c.in-Variable.ensures.is c.in_ok-place-in-Variable.ensures
+pub returns-in_ok-insert-in-Variable : goal.returns-in_ok-insert-in-Variable
+returns-in_ok-insert-in-Variable c =
+    found_variable c.args.self.now c.type_variable.new.self c.args.built.now c.insert-in-Variable.new.self c.args.number c.in_ok-place-in-Variable.place c.in-Variable.name c.requires.built
+    c.in-Variable.ensures.is c.in_ok-place-in-Variable.ensures c.in_ok-insert-in-Variable.ensures.updates.0
 
 pub returns-in_default-node : goal.returns-in_default-node
 returns-in_default-node c =
