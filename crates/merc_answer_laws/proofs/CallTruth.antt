@@ -23,11 +23,12 @@ use Rattle.merc_meaning.specs.Trace.{Env, Trace, taken_back}
 use Rattle.merc_meaning.specs.Steps.{value_at, with_entry, entered, brought_back}
 use Rattle.merc_meaning.specs.Runs.{Program, ProcedureBody, called}
 use Rattle.merc_meaning.specs.Truth.{Assignment, IsAssignment, Judgement}
+use Rattle.merc_meaning.proofs.Environments.{entry_same, entry_other}
 use Rattle.merc_category_laws.specs.ValueTypes.{HasType}
 use Rattle.merc_category_laws.specs.Answers.{Each, Has, IsDone, Single}
 use Rattle.merc_category_laws.specs.Laws.{AreTyped, Enters, Leaves, IsProcedure}
 use Rattle.merc_category_laws.proofs.Traces.{each_taken, has_each, has_taken, done_taken}
-use Rattle.merc_category_laws.proofs.Values.{Instance, composed, none_not, same_some, some_of, among_here, among_there, among_cases, not_here, not_there, entry_same, entry_other}
+use Rattle.merc_category_laws.proofs.Values.{Instance, composed, none_not, same_some, some_of, among_here, among_there, among_cases, not_here, not_there}
 use Rattle.merc_category_laws.proofs.Steps.{EnvTyped, free_not, placed}
 use Rattle.merc_category_laws.proofs.Lawful.{Fits}
 use Rattle.merc_category_laws.proofs.Calls.{LawfulCalls}

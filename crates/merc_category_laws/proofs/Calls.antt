@@ -25,12 +25,13 @@ use Rattle.merc_meaning.specs.Arithmetic.{comparison_of}
 use Rattle.merc_meaning.specs.Values.{same}
 use Rattle.merc_meaning.specs.Steps.{value_at, with_entry, entered, brought_back}
 use Rattle.merc_meaning.specs.Runs.{Program, ProcedureBody, called, basic_trace}
+use Rattle.merc_meaning.proofs.Environments.{entry_other}
 use Rattle.merc_category_laws.specs.ValueTypes.{HasType}
 use Rattle.merc_category_laws.specs.Answers.{Never, Any}
 use Rattle.merc_category_laws.specs.GoodPrograms.{AreGoodTypes}
 use Rattle.merc_category_laws.specs.Laws.{AreTyped, Enters, Leaves, IsProcedure}
 use Rattle.merc_category_laws.proofs.Traces.{each_taken, has_taken, done_taken}
-use Rattle.merc_category_laws.proofs.Values.{Instance, composed, none_not, same_some, same_number, among_here, among_there, among_cases, not_here, not_there, entry_other}
+use Rattle.merc_category_laws.proofs.Values.{Instance, composed, none_not, same_some, same_number, among_here, among_there, among_cases, not_here, not_there}
 use Rattle.merc_category_laws.proofs.Steps.{EnvTyped, free_not, entry_typed, bound_step, placed}
 use Rattle.merc_category_laws.proofs.Lawful.{Fits, Goes, Lawful}
 use Rattle.merc_category_laws.proofs.Knowing.{knows_on, one_law, none_law, goes_to, goes_more}

@@ -15,9 +15,10 @@ use Rattle.merc_value.specs.Value.{Value, Int, Text, Con, Values, none, more}
 use Rattle.merc_meaning.specs.Trace.{Env}
 use Rattle.merc_meaning.specs.Values.{count, made, fields}
 use Rattle.merc_meaning.specs.Steps.{value_at, with_entry, bound, joined, values_at, filled}
+use Rattle.merc_meaning.proofs.Environments.{entry_same, entry_other}
 use Rattle.merc_category_laws.specs.ValueTypes.{HasType, HaveTypes}
 use Rattle.merc_category_laws.specs.GoodPrograms.{AreGoodTypes, FitsArguments}
-use Rattle.merc_category_laws.proofs.Values.{Instance, composed, none_not, same_some, some_of, is_some_of, same_number, among_here, among_there, among_cases, not_here, not_there, IsMany, fields_constructor, fields_integer, fields_text, replaced_twice, parameters_replaced, same_type_arguments, same_arguments, at_same, at_other, entry_same, entry_other}
+use Rattle.merc_category_laws.proofs.Values.{Instance, composed, none_not, same_some, some_of, is_some_of, same_number, among_here, among_there, among_cases, not_here, not_there, IsMany, fields_constructor, fields_integer, fields_text, replaced_twice, parameters_replaced, same_type_arguments, same_arguments, at_same, at_other}
 use Rattle.merc_category_laws.proofs.Declared.{found_arity, found_scoped}
 
 -- what `joined` is made of

@@ -12,7 +12,8 @@ use Rattle.merc_grading.specs.Known.{same_symbol}
 use Rattle.merc_value.specs.Value.{Value, Int, Text, Con, Values, none}
 use Rattle.merc_meaning.specs.Trace.{Env}
 use Rattle.merc_meaning.specs.Values.{count, made, fields}
-use Rattle.merc_meaning.specs.Steps.{value_at, with_entry, bound}
+use Rattle.merc_meaning.specs.Steps.{value_at, bound}
+use Rattle.merc_meaning.proofs.Environments.{entry_same, entry_other}
 use Rattle.merc_order_laws.proofs.Facts.{clash, or_left, or_right, or_cases}
 use Rattle.merc_category_laws.specs.GoodPrograms.{MentionsOnly, AllMentionOnly}
 
@@ -254,22 +255,6 @@ same_arguments i j ps [] h e = refl
 same_arguments i j ps (t ∷ ts) h e = list_two (same_mentioned i j ps (same_parameter i j ps e) t h.0) (same_arguments i j ps ts h.1 e)
 
 -- environments
-
-pub entry_same : (env : Env) (x : ℕ) (o : Option Value) → value_at (with_entry env x o) x ≡ o
-entry_same [] zero o = refl
-entry_same [] (suc x) o = entry_same [] x o
-entry_same (e ∷ env) zero o = refl
-entry_same (e ∷ env) (suc x) o = entry_same env x o
-
-pub entry_other : (env : Env) (x y : ℕ) (o : Option Value) → (y ≡ x → ⊥) → value_at (with_entry env x o) y ≡ value_at env y
-entry_other [] zero zero o h = absurd (h refl)
-entry_other [] zero (suc y) o h = refl
-entry_other [] (suc x) zero o h = refl
-entry_other [] (suc x) (suc y) o h = entry_other [] x y o (λ e. h (ap suc e))
-entry_other (e ∷ env) zero zero o h = absurd (h refl)
-entry_other (e ∷ env) zero (suc y) o h = refl
-entry_other (e ∷ env) (suc x) zero o h = refl
-entry_other (e ∷ env) (suc x) (suc y) o h = entry_other env x y o (λ e. h (ap suc e))
 
 pub at_same : (env : Env) (x : ℕ) (v : Value) → value_at (bound env x v) x ≡ Some v
 at_same env x v = entry_same env x (Some v)
