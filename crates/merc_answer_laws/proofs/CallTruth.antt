@@ -1,5 +1,5 @@
 -- The truth law of calls.
-use Rattle.std.proofs.Common.{◌≡◌, ◌⊎◌, inl, inr, ℕ, zero, suc, ◌<◌, true, false, is_some, List, [], ◌∷◌, length, Option, Some, None, slice_get, refl, ap, sym, ◌∙◌, subst, arith}
+use Rattle.std.proofs.Common.{◌≡◌, ◌⊎◌, inl, inr, ℕ, zero, suc, true, false, is_some, List, [], ◌∷◌, length, Option, Some, None, slice_get, refl, ap, sym, ◌∙◌, subst, arith}
 use Rattle.merc_base.specs.Category.{most_of}
 use Rattle.merc_base.specs.declared.category.Most.TheVariants.{One}
 use Rattle.merc_tree.specs.Types.{TypeExpr, replaced}
@@ -20,14 +20,15 @@ use Rattle.merc_grading.specs.Known.{Known}
 use Rattle.merc_grading.specs.Grading.{declared_in}
 use Rattle.merc_value.specs.Value.{Value}
 use Rattle.merc_meaning.specs.Trace.{Env, Trace, taken_back}
-use Rattle.merc_meaning.specs.Steps.{value_at, bound_if, entered, brought_back}
+use Rattle.merc_meaning.specs.Steps.{value_at, with_entry, entered, brought_back}
 use Rattle.merc_meaning.specs.Runs.{Program, ProcedureBody, called}
 use Rattle.merc_meaning.specs.Truth.{Assignment, IsAssignment, Judgement}
+use Rattle.merc_meaning.proofs.Environments.{entry_same, entry_other}
 use Rattle.merc_category_laws.specs.ValueTypes.{HasType}
 use Rattle.merc_category_laws.specs.Answers.{Each, Has, IsDone, Single}
 use Rattle.merc_category_laws.specs.Laws.{AreTyped, Enters, Leaves, IsProcedure}
 use Rattle.merc_category_laws.proofs.Traces.{each_taken, has_each, has_taken, done_taken}
-use Rattle.merc_category_laws.proofs.Values.{Instance, composed, none_not, same_some, some_of, among_here, among_there, among_cases, not_here, not_there, at_same, at_other}
+use Rattle.merc_category_laws.proofs.Values.{Instance, composed, none_not, same_some, some_of, among_here, among_there, among_cases, not_here, not_there}
 use Rattle.merc_category_laws.proofs.Steps.{EnvTyped, free_not, placed}
 use Rattle.merc_category_laws.proofs.Lawful.{Fits}
 use Rattle.merc_category_laws.proofs.Calls.{LawfulCalls}
@@ -36,21 +37,13 @@ use Rattle.merc_answer_laws.proofs.Truthful.{IsInstance, Truthful, each_both, si
 
 -- Entering a body and coming back.
 
-bound_if_at : (env : Env) (a : ℕ) (o : Option Value) → is_some o ≡ true → value_at (bound_if env a o) a ≡ o
-bound_if_at env a None h = clash h refl
-bound_if_at env a (Some v) h = at_same env a v
-
-bound_if_other : (env : Env) (a x : ℕ) (o : Option Value) → (x ≡ a → ⊥) → value_at (bound_if env a o) x ≡ value_at env x
-bound_if_other env a x None h = refl
-bound_if_other env a x (Some v) h = at_other env a x v h
-
 brought_other : (places : List Arg) (args : List ℕ) (g : ℕ → Option Value) (env : Env) (x : ℕ) → among (written_by places args) x ≡ false → value_at (brought_back places args g env) x ≡ value_at env x
 brought_other [] args g env x h = refl
 brought_other (k ∷ places) [] g env x h = refl
 brought_other (Input ∷ places) (a ∷ args) g env x h = brought_other places args (λ y. g (suc y)) env x h
 brought_other (Output ∷ places) (a ∷ args) g env x h =
-    brought_other places args (λ y. g (suc y)) (bound_if env a (g zero)) x (not_there x a (written_by places args) h)
-    ∙ bound_if_other env a x (g zero) (not_here x a (written_by places args) h)
+    brought_other places args (λ y. g (suc y)) (with_entry env a (g zero)) x (not_there x a (written_by places args) h)
+    ∙ entry_other env a x (g zero) (not_here x a (written_by places args) h)
 
 -- exactly the inputs are bound when a body is entered
 entered_bound : (b : Bound) (places : List Arg) (args : List ℕ) (env : Env) → length places ≡ length args → AreBound b (inputs_of places args) → ((y : ℕ) → among args y ≡ true → is_some (value_at env y) ≡ b y)
@@ -69,14 +62,14 @@ OutsAt (k ∷ places) [] g env = Unit {0}
 OutsAt (Input ∷ places) (a ∷ args) g env = OutsAt places args (λ x. g (suc x)) env
 OutsAt (Output ∷ places) (a ∷ args) g env = (value_at env a ≡ g zero) × OutsAt places args (λ x. g (suc x)) env
 
-outs_at : (b : Bound) (places : List Arg) (args : List ℕ) (g : ℕ → Option Value) (env : Env) → AreFree b (written_by places args) → ((v : ℕ) → v < length places → is_some (g v) ≡ true)
+outs_at : (b : Bound) (places : List Arg) (args : List ℕ) (g : ℕ → Option Value) (env : Env) → AreFree b (written_by places args)
     → OutsAt places args g (brought_back places args g env)
-outs_at b [] args g env h k = tt
-outs_at b (p ∷ places) [] g env h k = tt
-outs_at b (Input ∷ places) (a ∷ args) g env h k = outs_at b places args (λ x. g (suc x)) env h (λ v l. k (suc v) (omega (arith, l)))
-outs_at b (Output ∷ places) (a ∷ args) g env h k = (
-  brought_other places args (λ x. g (suc x)) (bound_if env a (g zero)) a h.1 ∙ bound_if_at env a (g zero) (k zero (omega (arith))),
-  outs_at b places args (λ x. g (suc x)) (bound_if env a (g zero)) h.2 (λ v l. k (suc v) (omega (arith, l))),
+outs_at b [] args g env h = tt
+outs_at b (p ∷ places) [] g env h = tt
+outs_at b (Input ∷ places) (a ∷ args) g env h = outs_at b places args (λ x. g (suc x)) env h
+outs_at b (Output ∷ places) (a ∷ args) g env h = (
+  brought_other places args (λ x. g (suc x)) (with_entry env a (g zero)) a h.1 ∙ entry_same env a (g zero),
+  outs_at b places args (λ x. g (suc x)) (with_entry env a (g zero)) h.2,
 )
 
 -- an assignment that matches the caller's environment behind the call matches the body's
@@ -143,12 +136,6 @@ module _ (known : Module) (program : Program) (is_yes is_no : Judgement) (call :
   entered_typed j (Output ∷ places) (a ∷ args) (u ∷ ts) env h t zero type value p q = absurd (none_not q)
   entered_typed j (Output ∷ places) (a ∷ args) (u ∷ ts) env h t (suc v) type value p q = entered_typed j places args ts env h.1 t v type value p q
 
-  types_length : (j : Instance) (args : List ℕ) (ts : List TypeExpr) → VariablesHave known types j args ts → length args ≡ length ts
-  types_length j [] [] h = refl
-  types_length j [] (t ∷ ts) h = absurd h
-  types_length j (a ∷ args) [] h = absurd h
-  types_length j (a ∷ args) (t ∷ ts) h = ap suc (types_length j args ts h.1)
-
   abbrev CallTruth : Variables → Procedure → List ℕ → Env → Trace → Type 0
   CallTruth out p args env t = Truthful out (among args) (is_yes p args) (is_no p args) env t
 
@@ -167,12 +154,11 @@ module _ (known : Module) (program : Program) (is_yes is_no : Judgement) (call :
       let inner : Env = entered mode.args args env in
       let j : Instance = composed i typed.0 in
       let fit : Enters known.types j mode.args declared.args inner = enters out b seen outs args env declared mode typed good fits in
-      let long : length mode.args ≡ length declared.args = good.0 ∙ types_length typed.0 args declared.args typed.1 in
       let law = (calls p declared mode is).law j inner fit in
       let true_of = truth p declared mode is in
       let back : Env → Env = λ answer. brought_back mode.args args (value_at answer) env in
-      let outs_are : (answer : Env) → Leaves known.types j declared.args inner answer → OutsAt mode.args args (value_at answer) (back answer)
-      = λ answer ends. outs_at b mode.args args (value_at answer) env good.2 (λ v l. ends.bindings v (omega (arith, l, long))) in
+      let outs_are : (answer : Env) → OutsAt mode.args args (value_at answer) (back answer)
+      = λ answer. outs_at b mode.args args (value_at answer) env good.2 in
       let stays : (answer : Env) (x : ℕ) → among (inputs_of mode.args args) x ≡ true → value_at (back answer) x ≡ value_at env x
       = λ answer x m. brought_other mode.args args (value_at answer) env x (elim (either_way (among (written_by mode.args args) x)) as (λ _. among (written_by mode.args args) x ≡ false) [
         | inl w ↦ clash (bound_among b (inputs_of mode.args args) good.1 x m) (free_not b (written_by mode.args args) good.2 x w)
@@ -180,14 +166,14 @@ module _ (known : Module) (program : Program) (is_yes is_no : Judgement) (call :
       ]) in
       record {
         answers_yes = each_taken (λ answer. Leaves known.types j declared.args inner answer × ((s : Assignment) → IsAssignment s → ArgumentsAgree args s (value_at answer) → is_yes p args s)) _ back (call p inner)
-            (λ answer h s vals k. h.1 s vals (behind_agrees mode.args args env (back answer) (value_at answer) s good.0 fit.bindings h.0.keeps (outs_are answer h.0) (stays answer) k))
+            (λ answer h s vals k. h.1 s vals (behind_agrees mode.args args env (back answer) (value_at answer) s good.0 fit.bindings h.0.keeps (outs_are answer) (stays answer) k))
             (each_both _ _ (call p inner) law.goes (true_of.answers_yes j inner fit args good.0));
         others_no = λ d s vals h. elim (true_of.others_no j inner fit args good.0 (done_taken back (call p inner) d) s vals (before_agrees mode.args args env s good.0 h))
             as (λ _. is_no p args s ⊎ Has (λ env'. IsInstance out (among args) s env') (taken_back back (call p inner))) [
               | inl n ↦ inl n
               | inr k ↦ inr (has_taken (λ answer. Leaves known.types j declared.args inner answer × ArgumentsAgree args s (value_at answer)) _ back (call p inner)
                   (λ answer w x o m v z. elim (either_way (among (written_by mode.args args) x)) as (λ _. s x ≡ v) [
-                    | inl r ↦ back_agrees mode.args args (value_at answer) (back answer) s (outs_are answer w.0) w.1 x r v z
+                    | inl r ↦ back_agrees mode.args args (value_at answer) (back answer) s (outs_are answer) w.1 x r v z
                     | inr r ↦ h x o v (sym (brought_other mode.args args (value_at answer) env x r) ∙ z)
                   ])
                   (has_each _ _ (call p inner) law.goes k))

@@ -23,30 +23,27 @@ use Rattle.merc_value.specs.Value.{Value}
 use Rattle.merc_meaning.specs.Trace.{Env, Trace, taken_back}
 use Rattle.merc_meaning.specs.Arithmetic.{comparison_of}
 use Rattle.merc_meaning.specs.Values.{same}
-use Rattle.merc_meaning.specs.Steps.{value_at, bound_if, entered, brought_back}
+use Rattle.merc_meaning.specs.Steps.{value_at, with_entry, entered, brought_back}
 use Rattle.merc_meaning.specs.Runs.{Program, ProcedureBody, called, basic_trace}
+use Rattle.merc_meaning.proofs.Environments.{entry_other}
 use Rattle.merc_category_laws.specs.ValueTypes.{HasType}
 use Rattle.merc_category_laws.specs.Answers.{Never, Any}
 use Rattle.merc_category_laws.specs.GoodPrograms.{AreGoodTypes}
 use Rattle.merc_category_laws.specs.Laws.{AreTyped, Enters, Leaves, IsProcedure}
 use Rattle.merc_category_laws.proofs.Traces.{each_taken, has_taken, done_taken}
-use Rattle.merc_category_laws.proofs.Values.{Instance, composed, none_not, same_some, same_number, among_here, among_there, among_cases, not_here, not_there, at_other}
-use Rattle.merc_category_laws.proofs.Steps.{EnvTyped, free_not, bound_typed, bound_step, placed}
+use Rattle.merc_category_laws.proofs.Values.{Instance, composed, none_not, same_some, same_number, among_here, among_there, among_cases, not_here, not_there}
+use Rattle.merc_category_laws.proofs.Steps.{EnvTyped, free_not, entry_typed, bound_step, placed}
 use Rattle.merc_category_laws.proofs.Lawful.{Fits, Goes, Lawful}
 use Rattle.merc_category_laws.proofs.Knowing.{knows_on, one_law, none_law, goes_to, goes_more}
 use Rattle.merc_category_laws.proofs.Simple.{Before, BasicLaw, GoodBasicGoal, assign_law, build_law, split_law, two_law, arithmetic_law, raise_law}
-
-bound_if_other : (env : Env) (a x : ℕ) (o : Option Value) → (x ≡ a → ⊥) → value_at (bound_if env a o) x ≡ value_at env x
-bound_if_other env a x None h = refl
-bound_if_other env a x (Some v) h = at_other env a x v h
 
 brought_other : (places : List Arg) (args : List ℕ) (g : ℕ → Option Value) (env : Env) (x : ℕ) → among (written_by places args) x ≡ false → value_at (brought_back places args g env) x ≡ value_at env x
 brought_other [] args g env x h = refl
 brought_other (k ∷ places) [] g env x h = refl
 brought_other (Input ∷ places) (a ∷ args) g env x h = brought_other places args (λ y. g (suc y)) env x h
 brought_other (Output ∷ places) (a ∷ args) g env x h =
-    brought_other places args (λ y. g (suc y)) (bound_if env a (g zero)) x (not_there x a (written_by places args) h)
-    ∙ bound_if_other env a x (g zero) (not_here x a (written_by places args) h)
+    brought_other places args (λ y. g (suc y)) (with_entry env a (g zero)) x (not_there x a (written_by places args) h)
+    ∙ entry_other env a x (g zero) (not_here x a (written_by places args) h)
 
 written_within : (places : List Arg) (args : List ℕ) (x : ℕ) → among (written_by places args) x ≡ true → among args x ≡ true
 written_within [] args x h = clash h refl
@@ -85,10 +82,6 @@ module _ (known : Module) (types i : Instance) where
   entered_typed j (Output ∷ places) (a ∷ args) (u ∷ ts) env h t zero type value p q = absurd (none_not q)
   entered_typed j (Output ∷ places) (a ∷ args) (u ∷ ts) env h t (suc v) type value p q = entered_typed j places args ts env h.1 t v type value p q
 
-  bound_if_typed : (env : Env) (a : ℕ) (o : Option Value) → EnvTyped known types i env → ((v : Value) → o ≡ Some v → HasType known.types v (replaced i (types a))) → EnvTyped known types i (bound_if env a o)
-  bound_if_typed env a None h t = h
-  bound_if_typed env a (Some w) h t = bound_typed known types i env a w h (t w refl)
-
   -- the values of a body's first variables are of these types
   abbrev SlotsTyped : Instance → List TypeExpr → (ℕ → Option Value) → Type 0
   SlotsTyped j ts g = (v : ℕ) (type : TypeExpr) (value : Value) → slice_get ts v ≡ Some type → g v ≡ Some value → HasType known.types value (replaced (composed i j) type)
@@ -100,13 +93,13 @@ module _ (known : Module) (types i : Instance) where
   brought_typed j (p ∷ places) (a ∷ args) [] g env h k t = absurd h
   brought_typed j (Input ∷ places) (a ∷ args) (u ∷ ts) g env h k t = brought_typed j places args ts (λ y. g (suc y)) env h.1 (λ v type value p q. k (suc v) type value p q) t
   brought_typed j (Output ∷ places) (a ∷ args) (u ∷ ts) g env h k t =
-      brought_typed j places args ts (λ y. g (suc y)) (bound_if env a (g zero)) h.1 (λ v type value p q. k (suc v) type value p q)
-      (bound_if_typed env a (g zero) t (λ v e. subst (λ (z : TypeExpr). HasType known.types v z) (sym (placed known types i j a u h.0)) (k zero u v refl e)))
+      brought_typed j places args ts (λ y. g (suc y)) (with_entry env a (g zero)) h.1 (λ v type value p q. k (suc v) type value p q)
+      (entry_typed known types i env a (g zero) t (λ v e. subst (λ (z : TypeExpr). HasType known.types v z) (sym (placed known types i j a u h.0)) (k zero u v refl e)))
 
-  bound_if_step : (env : Env) (a : ℕ) (rest : List ℕ) (o : Option Value) (x : ℕ) → is_some o ≡ true → (among (a ∷ rest) x ≡ true) ⊎ (is_some (value_at env x) ≡ true)
-      → (among rest x ≡ true) ⊎ (is_some (value_at (bound_if env a o) x) ≡ true)
-  bound_if_step env a rest None x e h = clash e refl
-  bound_if_step env a rest (Some w) x e h = bound_step known types i env a rest w x h (same_number x a)
+  entry_step : (env : Env) (a : ℕ) (rest : List ℕ) (o : Option Value) (x : ℕ) → is_some o ≡ true → (among (a ∷ rest) x ≡ true) ⊎ (is_some (value_at env x) ≡ true)
+      → (among rest x ≡ true) ⊎ (is_some (value_at (with_entry env a o) x) ≡ true)
+  entry_step env a rest None x e h = clash e refl
+  entry_step env a rest (Some w) x e h = bound_step known types i env a rest w x h (same_number x a)
 
   brought_bound : (places : List Arg) (args : List ℕ) (g : ℕ → Option Value) (env : Env) → ((v : ℕ) → v < length places → is_some (g v) ≡ true) → (x : ℕ)
       → (among (written_by places args) x ≡ true) ⊎ (is_some (value_at env x) ≡ true) → is_some (value_at (brought_back places args g env) x) ≡ true
@@ -116,7 +109,7 @@ module _ (known : Module) (types i : Instance) where
   brought_bound (p ∷ places) [] g env k x (inr h) = h
   brought_bound (Input ∷ places) (a ∷ args) g env k x h = brought_bound places args (λ y. g (suc y)) env (λ v l. k (suc v) (omega (arith, l))) x h
   brought_bound (Output ∷ places) (a ∷ args) g env k x h =
-      brought_bound places args (λ y. g (suc y)) (bound_if env a (g zero)) (λ v l. k (suc v) (omega (arith, l))) x (bound_if_step env a (written_by places args) (g zero) x (k zero (omega (arith))) h)
+      brought_bound places args (λ y. g (suc y)) (with_entry env a (g zero)) (λ v l. k (suc v) (omega (arith, l))) x (entry_step env a (written_by places args) (g zero) x (k zero (omega (arith))) h)
 
 -- a call of a mode is lawful from each environment with which it can begin
 pub record LawfulCall (known : Module) (program : Program) (call : Procedure → Env → Trace) (p : Procedure) (declared : PredDecl) (mode : ModeDecl) : Type 0 where

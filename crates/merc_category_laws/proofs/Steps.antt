@@ -14,7 +14,8 @@ use Rattle.merc_order_laws.proofs.Facts.{clash}
 use Rattle.merc_value.specs.Value.{Value, Int, Text, Con, Values, none, more}
 use Rattle.merc_meaning.specs.Trace.{Env}
 use Rattle.merc_meaning.specs.Values.{count, made, fields}
-use Rattle.merc_meaning.specs.Steps.{value_at, bound, joined, values_at, filled}
+use Rattle.merc_meaning.specs.Steps.{value_at, with_entry, bound, joined, values_at, filled}
+use Rattle.merc_meaning.proofs.Environments.{entry_same, entry_other}
 use Rattle.merc_category_laws.specs.ValueTypes.{HasType, HaveTypes}
 use Rattle.merc_category_laws.specs.GoodPrograms.{AreGoodTypes, FitsArguments}
 use Rattle.merc_category_laws.proofs.Values.{Instance, composed, none_not, same_some, some_of, is_some_of, same_number, among_here, among_there, among_cases, not_here, not_there, IsMany, fields_constructor, fields_integer, fields_text, replaced_twice, parameters_replaced, same_type_arguments, same_arguments, at_same, at_other}
@@ -66,14 +67,14 @@ module _ (known : Module) (types i : Instance) where
   instances_count j (more v vs) [] h = absurd h
   instances_count j (more v vs) (t ∷ ts) h = ap suc (instances_count j vs ts h.1)
 
-  pub bound_typed : (env : Env) (x : ℕ) (v : Value) → EnvTyped env → HasType known.types v (replaced i (types x)) → EnvTyped (bound env x v)
-  bound_typed env x v h t y w e = elim (same_number y x) as (λ _. HasType known.types w (replaced i (types y))) [
-    | inl p ↦
-        let f : value_at (bound env x v) y ≡ Some v = ap (value_at (bound env x v)) p.1 ∙ at_same env x v in
-        let g : v ≡ w = same_some (sym f ∙ e) in
-        subst (λ (u : Value). HasType known.types u (replaced i (types y))) g (subst (λ (z : ℕ). HasType known.types v (replaced i (types z))) (sym p.1) t)
-    | inr p ↦ h y w (sym (at_other env x y v p.1) ∙ e)
+  pub entry_typed : (env : Env) (x : ℕ) (o : Option Value) → EnvTyped env → ((v : Value) → o ≡ Some v → HasType known.types v (replaced i (types x))) → EnvTyped (with_entry env x o)
+  entry_typed env x o h t y w e = elim (same_number y x) as (λ _. HasType known.types w (replaced i (types y))) [
+    | inl p ↦ subst (λ (z : ℕ). HasType known.types w (replaced i (types z))) (sym p.1) (t w (sym (ap (value_at (with_entry env x o)) p.1 ∙ entry_same env x o) ∙ e))
+    | inr p ↦ h y w (sym (entry_other env x y o p.1) ∙ e)
   ]
+
+  pub bound_typed : (env : Env) (x : ℕ) (v : Value) → EnvTyped env → HasType known.types v (replaced i (types x)) → EnvTyped (bound env x v)
+  bound_typed env x v h t = entry_typed env x (Some v) h (λ w e. subst (λ (u : Value). HasType known.types u (replaced i (types x))) (same_some e) t)
 
   -- the type of a variable whose type is that of a place of a declaration
   pub placed : (j : Instance) (y : ℕ) (t : TypeExpr) → types y ≡ replaced j t → replaced i (types y) ≡ replaced (composed i j) t

@@ -13,6 +13,7 @@ use Rattle.merc_value.specs.Value.{Value, Int, Text, Con, Values, none}
 use Rattle.merc_meaning.specs.Trace.{Env}
 use Rattle.merc_meaning.specs.Values.{count, made, fields}
 use Rattle.merc_meaning.specs.Steps.{value_at, bound}
+use Rattle.merc_meaning.proofs.Environments.{entry_same, entry_other}
 use Rattle.merc_order_laws.proofs.Facts.{clash, or_left, or_right, or_cases}
 use Rattle.merc_category_laws.specs.GoodPrograms.{MentionsOnly, AllMentionOnly}
 
@@ -256,17 +257,7 @@ same_arguments i j ps (t ∷ ts) h e = list_two (same_mentioned i j ps (same_par
 -- environments
 
 pub at_same : (env : Env) (x : ℕ) (v : Value) → value_at (bound env x v) x ≡ Some v
-at_same [] zero v = refl
-at_same [] (suc x) v = at_same [] x v
-at_same (e ∷ env) zero v = refl
-at_same (e ∷ env) (suc x) v = at_same env x v
+at_same env x v = entry_same env x (Some v)
 
 pub at_other : (env : Env) (x y : ℕ) (v : Value) → (y ≡ x → ⊥) → value_at (bound env x v) y ≡ value_at env y
-at_other [] zero zero v h = absurd (h refl)
-at_other [] zero (suc y) v h = refl
-at_other [] (suc x) zero v h = refl
-at_other [] (suc x) (suc y) v h = at_other [] x y v (λ e. h (ap suc e))
-at_other (e ∷ env) zero zero v h = absurd (h refl)
-at_other (e ∷ env) zero (suc y) v h = refl
-at_other (e ∷ env) (suc x) zero v h = refl
-at_other (e ∷ env) (suc x) (suc y) v h = at_other env x y v (λ e. h (ap suc e))
+at_other env x y v h = entry_other env x y (Some v) h

@@ -1,8 +1,8 @@
 -- What code means: the run that it makes from a state on.
-use Rattle.std.specs.Prelude.{◌≡◌, ℕ, zero, suc, List, [], ◌∷◌, map}
-use Rattle.merc_meaning.specs.Trace.{Env, Events, Run, RunEnd, Ends, Tick, Answer}
+use Rattle.std.specs.Prelude.{◌≡◌, ℕ, zero, suc, List, [], map}
+use Rattle.merc_meaning.specs.Trace.{Env, Run, RunEnd, Ends, Tick, Answer}
 use Rattle.merc_meaning.specs.Steps.{value_at}
-use Rattle.merc_code.specs.Steps.{Code, Codes, State, At, Back, Step, Stops, Moves, Ticks, Answers, step}
+use Rattle.merc_code.specs.Steps.{Code, Codes, State, At, Stops, Moves, Ticks, Answers, step}
 
 -- The run that a machine makes is what its steps say, one after the other; it has an end.
 pub data Yields (codes : Codes) : State → Run → Type 0 where

@@ -2,5 +2,6 @@
 #![tactic(auto)]
 
 pub mod instruction;
+pub mod laws;
 
 pub use instruction::{Instruction, Mark, Target};

@@ -16,17 +16,16 @@ value_at [] variable = None
 value_at (entry ∷ env) zero = entry
 value_at (entry ∷ env) (suc variable) = value_at env variable
 
+-- the environment with this entry for a variable
+abbrev pub with_entry : Env → ℕ → Option Value → Env
+with_entry [] zero new = new ∷ []
+with_entry [] (suc variable) new = None ∷ with_entry [] variable new
+with_entry (entry ∷ env) zero new = new ∷ env
+with_entry (entry ∷ env) (suc variable) new = entry ∷ with_entry env variable new
+
 -- the environment with this value for a variable
 abbrev pub bound : Env → ℕ → Value → Env
-bound [] zero value = Some value ∷ []
-bound [] (suc variable) value = None ∷ bound [] variable value
-bound (entry ∷ env) zero value = Some value ∷ env
-bound (entry ∷ env) (suc variable) value = entry ∷ bound env variable value
-
--- the same where there is a value
-abbrev pub bound_if : Env → ℕ → Option Value → Env
-bound_if env variable None = env
-bound_if env variable (Some value) = bound env variable value
+bound env variable value = with_entry env variable (Some value)
 
 -- the goal answers with this value for the variable; without a value it fails
 abbrev pub binds : Env → ℕ → Option Value → Trace
@@ -94,9 +93,9 @@ entered (place ∷ places) [] env = []
 entered (Input ∷ places) (argument ∷ arguments) env = value_at env argument ∷ entered places arguments env
 entered (Output ∷ places) (argument ∷ arguments) env = None ∷ entered places arguments env
 
--- the caller's environment once the called body has answered: each output has the value of the body's variable
+-- the caller's environment once the called body has answered: each output has the entry of the body's variable, and no value where that has none
 abbrev pub brought_back : List Arg → List ℕ → (ℕ → Option Value) → Env → Env
 brought_back [] arguments inner env = env
 brought_back (place ∷ places) [] inner env = env
 brought_back (Input ∷ places) (argument ∷ arguments) inner env = brought_back places arguments (λ variable. inner (suc variable)) env
-brought_back (Output ∷ places) (argument ∷ arguments) inner env = brought_back places arguments (λ variable. inner (suc variable)) (bound_if env argument (inner zero))
+brought_back (Output ∷ places) (argument ∷ arguments) inner env = brought_back places arguments (λ variable. inner (suc variable)) (with_entry env argument (inner zero))

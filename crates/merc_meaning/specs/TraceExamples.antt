@@ -5,7 +5,7 @@ use Rattle.merc_goal_tree.specs.declared.goal.Operation.TheVariants.{Add}
 use Rattle.merc_goal_tree.specs.declared.goal.Symbol.TheVariants.{Constructor}
 use Rattle.merc_value.specs.Value.{Value, Int, Text, none, more}
 use Rattle.merc_meaning.specs.Trace.{Env, Trace, Ends, Tick, Answer, Done, Raised, TooDeep, RunDone, RunRaised, LimitPassed, one_answer, after, each, taken_back, first_alone, choose, negated, cut}
-use Rattle.merc_meaning.specs.Steps.{value_at, bound, values_at, filled, split, operated, raised, entered, brought_back}
+use Rattle.merc_meaning.specs.Steps.{value_at, with_entry, bound, values_at, filled, split, operated, raised, entered, brought_back}
 
 abbrev int : ℕ → Option Value
 int number = Some (Int (pos number))
@@ -88,6 +88,12 @@ value_at-example = refl
 value_at-behind : value_at (int 5 ∷ []) 3 ≡ None
 value_at-behind = refl
 
+with_entry-example : with_entry two 2 (int 7) ≡ int 2 ∷ None ∷ int 7 ∷ []
+with_entry-example = refl
+
+with_entry-cleared : with_entry (int 1 ∷ int 2 ∷ []) 0 None ≡ None ∷ int 2 ∷ []
+with_entry-cleared = refl
+
 bound-fills_up : bound one 2 (Text 7) ≡ int 1 ∷ None ∷ Some (Text 7) ∷ []
 bound-fills_up = refl
 
@@ -125,7 +131,7 @@ entered-example = refl
 brought_back-example : brought_back (Input ∷ Output ∷ []) (1 ∷ 2 ∷ []) (value_at (int 6 ∷ int 7 ∷ int 8 ∷ [])) (None ∷ int 5 ∷ []) ≡ None ∷ int 5 ∷ int 7 ∷ []
 brought_back-example = refl
 
-brought_back-unbound : brought_back (Output ∷ []) (0 ∷ []) (value_at []) one ≡ one
+brought_back-unbound : brought_back (Output ∷ []) (0 ∷ []) (value_at []) one ≡ None ∷ []
 brought_back-unbound = refl
 
 brought_back-not : brought_back (Input ∷ Output ∷ []) (1 ∷ 2 ∷ []) (value_at (int 6 ∷ int 7 ∷ [])) (None ∷ int 5 ∷ []) ≡ None ∷ int 6 ∷ int 7 ∷ [] → ⊥

@@ -1,0 +1,125 @@
+-- Worked examples of last calls.
+use Rattle.std.specs.Prelude.{◌≡◌, pos, true, false, List, [], ◌∷◌, None, slice_get, refl}
+use Rattle.merc_tree.specs.declared.declarations.Arg.{Arg}
+use Rattle.merc_tree.specs.declared.declarations.Arg.TheVariants.{Input, Output}
+use Rattle.merc_meaning.specs.Trace.{Ends, Tick, Answer as AnswerOf, RunDone}
+use Rattle.merc_code.specs.declared.instruction.Instruction.TheVariants.{Integer, Copy, Jump, Commit, Call, Return, Fail, Answer}
+use Rattle.merc_code.specs.Steps.{Code, Codes, Caller, caller, State, At}
+use Rattle.merc_code.specs.StepsExamples.{int, procedure}
+use Rattle.merc_code.specs.Meaning.{Goes, stays as stays_too, ticks as ticks_too, start}
+use Rattle.merc_last_calls.specs.LastCalls.{comes_to_return, outputs, own_outputs, arguments_with, are_same, is_last, handed_to, with_call}
+use Rattle.merc_last_calls.specs.LeanMeaning.{YieldsLean, stops, moves, ticks, answers, GoesLean, stays}
+use Rattle.merc_last_calls.specs.Standing.{Stands, bottom, kept, handed}
+
+comes_to_return-jumps : comes_to_return 0 (Jump 1 ∷ Fail ∷ Jump 0 ∷ Return ∷ []) ≡ true
+comes_to_return-jumps = refl
+
+comes_to_return-behind : comes_to_return 1 (Fail ∷ Return ∷ []) ≡ true
+comes_to_return-behind = refl
+
+comes_to_return-commit : comes_to_return 0 (Commit 0 ∷ Return ∷ []) ≡ false
+comes_to_return-commit = refl
+
+comes_to_return-nowhere : comes_to_return 0 (Jump 2 ∷ Return ∷ []) ≡ false
+comes_to_return-nowhere = refl
+
+-- `p(in, out, out)` calls `q(out, in, out)`; its own outputs are the variables 1 and 2
+
+abbrev p_places : List Arg
+p_places = Input ∷ Output ∷ Output ∷ []
+
+abbrev q_places : List Arg
+q_places = Output ∷ Input ∷ Output ∷ []
+
+outputs-example : outputs q_places (1 ∷ 5 ∷ 2 ∷ []) ≡ 1 ∷ 2 ∷ []
+outputs-example = refl
+
+own_outputs-example : own_outputs 0 p_places ≡ 1 ∷ 2 ∷ []
+own_outputs-example = refl
+
+arguments_with-example : arguments_with (8 ∷ 9 ∷ []) q_places ≡ 8 ∷ 0 ∷ 9 ∷ []
+arguments_with-example = refl
+
+are_same-example : are_same (1 ∷ 2 ∷ []) (1 ∷ 2 ∷ []) ≡ true
+are_same-example = refl
+
+are_same-shorter : are_same (1 ∷ []) (1 ∷ 2 ∷ []) ≡ false
+are_same-shorter = refl
+
+abbrev returning : Code
+returning = Jump 1 ∷ Fail ∷ Return ∷ []
+
+is_last-example : is_last returning (outputs q_places (1 ∷ 5 ∷ 2 ∷ [])) p_places ≡ true
+is_last-example = refl
+
+-- not where the outputs are taken the other way round, or one is no output of `p`, or something is left to do
+
+is_last-exchanged : is_last returning (outputs q_places (2 ∷ 5 ∷ 1 ∷ [])) p_places ≡ false
+is_last-exchanged = refl
+
+is_last-other : is_last returning (outputs q_places (1 ∷ 5 ∷ 3 ∷ [])) p_places ≡ false
+is_last-other = refl
+
+is_last-copied : is_last (Copy 1 0 ∷ Return ∷ []) (outputs q_places (1 ∷ 5 ∷ 2 ∷ [])) p_places ≡ false
+is_last-copied = refl
+
+-- `p` was called with the arguments 7, 8 and 9
+
+abbrev outer : Caller
+outer = caller (Answer (8 ∷ []) ∷ []) (int 3 ∷ []) (4 ∷ []) p_places (7 ∷ 8 ∷ 9 ∷ [])
+
+handed_to-example : handed_to q_places outer ≡ caller (Answer (8 ∷ []) ∷ []) (int 3 ∷ []) (4 ∷ []) q_places (8 ∷ 0 ∷ 9 ∷ [])
+handed_to-example = refl
+
+with_call-last : with_call returning (int 5 ∷ []) [] q_places (1 ∷ 5 ∷ 2 ∷ []) (outer ∷ []) ≡ caller (Answer (8 ∷ []) ∷ []) (int 3 ∷ []) (4 ∷ []) q_places (8 ∷ 0 ∷ 9 ∷ []) ∷ []
+with_call-last = refl
+
+with_call-not_last : with_call (Commit 0 ∷ Return ∷ []) (int 5 ∷ []) [] q_places (1 ∷ 5 ∷ 2 ∷ []) (outer ∷ []) ≡ caller (Commit 0 ∷ Return ∷ []) (int 5 ∷ []) [] q_places (1 ∷ 5 ∷ 2 ∷ []) ∷ outer ∷ []
+with_call-not_last = refl
+
+with_call-no_caller : with_call returning [] [] [] [] [] ≡ caller returning [] [] [] [] ∷ []
+with_call-no_caller = refl
+
+-- The first procedure calls the second, as its last call; the second gives 7.
+
+abbrev one_output : List Arg
+one_output = Output ∷ []
+
+abbrev calling : Codes
+calling called = slice_get
+    (record { places = one_output; code = Call (procedure 1) (0 ∷ []) ∷ Return ∷ [] } ∷ record { places = one_output; code = Integer 0 (pos 7) ∷ Return ∷ [] } ∷ [])
+    called.predicate
+
+abbrev asking : Code
+asking = Call (procedure 0) (0 ∷ []) ∷ Answer (0 ∷ []) ∷ []
+
+abbrev waiting : Caller
+waiting = caller (Answer (0 ∷ []) ∷ []) [] [] one_output (0 ∷ [])
+
+abbrev passed_through : Caller
+passed_through = caller (Return ∷ []) (None ∷ []) [] one_output (0 ∷ [])
+
+abbrev second_with : List Caller → State
+second_with callers = At (Integer 0 (pos 7) ∷ Return ∷ []) (None ∷ []) [] callers [] 0
+
+lean_run : YieldsLean calling (start asking 2) (Tick (Tick (AnswerOf (int 7 ∷ []) (Ends RunDone))))
+lean_run = ticks _ _ _ refl (ticks _ _ _ refl (moves _ _ _ refl (moves _ _ _ refl (answers _ _ _ _ refl (stops _ _ refl)))))
+
+lean_run-not : YieldsLean calling (start asking 2) (AnswerOf (int 7 ∷ []) (Ends RunDone)) → ⊥
+lean_run-not (moves _ next run e later) = absurd cc
+lean_run-not (answers _ next values run e later) = absurd cc
+
+one_frame : GoesLean calling 2 (start asking 2) (second_with (waiting ∷ []))
+one_frame = ticks _ _ _ _ refl (ticks _ _ _ _ refl (stays _))
+
+two_frames : Goes calling 2 (start asking 2) (second_with (passed_through ∷ waiting ∷ []))
+two_frames = ticks_too _ _ _ _ refl (ticks_too _ _ _ _ refl (stays_too _))
+
+-- one stands for two
+
+stands-example : Stands (waiting ∷ []) (passed_through ∷ waiting ∷ [])
+stands-example = handed _ _ _ _ _ _ _ _ _ _ _ _ refl (kept waiting [] [] bottom)
+
+stands-not : (lean : List Caller) → lean ≡ waiting ∷ [] → Stands lean (caller (Commit 0 ∷ Return ∷ []) (None ∷ []) [] one_output (0 ∷ []) ∷ waiting ∷ []) → ⊥
+stands-not lean e (kept _ _ _ s) = absurd cc
+stands-not lean e (handed _ _ _ _ _ _ _ _ _ _ _ _ last s) = absurd cc

@@ -1,0 +1,4 @@
+pub mod LastCalls
+pub mod LastCallsExamples
+pub mod LeanMeaning
+pub mod Standing
