@@ -1,3 +1,0 @@
-pub mod Generated
-pub mod GeneratedExamples
-pub mod Following

@@ -1,4 +1,0 @@
-//! Compiled code of ordered goals.
-#![tactic(auto)]
-
-pub mod laws;
