@@ -1,0 +1,10 @@
+pub mod Lists
+pub mod Stays
+pub mod Moving
+pub mod Newest
+pub mod Reversed
+pub mod Entering
+pub mod Choices
+pub mod Returning
+pub mod StacksExamples
+pub mod ViewExamples

@@ -1,0 +1,141 @@
+-- What the newest choice point and the callers need bounds what all others do.
+use Rattle.std.proofs.Common.{◌≡◌, ◌⊎◌, inl, inr, ℕ, zero, suc, ◌+◌, ◌-◌, ◌<◌, ◌≤◌, Bool, true, false, if◌then◌else◌, nat_lt, List, [], ◌∷◌, length, take, map, reverse, Option, Some, None, slice_get, refl, sym, ap, ◌∙◌, subst, arith}
+use Rattle.merc_value.specs.declared.word.Word.{Word}
+use Rattle.merc_frames.specs.Stacks.{Stacks}
+use Rattle.merc_frames.specs.View.{frame_of, callers_of, seen, view_of, Fine, larger, newest, counted, lowered, top_of, caller_top}
+use Rattle.merc_frames.specs.declared.kept.Saved.{Saved}
+use Rattle.merc_frames.specs.declared.kept.Kept.{Kept}
+use Rattle.merc_frames.proofs.Lists.{get_within}
+use Rattle.merc_frames.proofs.Moving.{moved_fine, moved_view}
+use Rattle.std.proofs.lemmas.Bool.Decides.{nat_tests}
+
+-- the larger of two
+pub larger_left : (a b : ℕ) → a ≤ larger a b
+larger_left a b = grind (arith, nat_tests)
+
+pub larger_right : (a b : ℕ) → b ≤ larger a b
+larger_right a b = grind (arith, nat_tests)
+
+pub larger_under : (a b n : ℕ) → a ≤ n → b ≤ n → larger a b ≤ n
+larger_under a b n h k = grind (arith, nat_tests, h, k)
+
+larger_on : (t : Bool) (a b i : ℕ) → i < (if t then b else a) → (i < a) ⊎ (i < b)
+larger_on true a b i h = inr h
+larger_on false a b i h = inl h
+
+pub larger_below : (a b i : ℕ) → i < larger a b → (i < a) ⊎ (i < b)
+larger_below a b i h = larger_on (nat_lt a b) a b i h
+
+-- the newest choice point
+get_is : {A : Type 0} (xs : List A) (i : ℕ) → i < length xs → (x : A) × (slice_get xs i ≡ Some x)
+get_is [] i l = absurd (omega (arith, l))
+get_is (x ∷ xs) zero l = (x, refl)
+get_is (x ∷ xs) (suc i) l = get_is xs i (omega (arith, l))
+
+less_or : (a b : ℕ) → (a < b) ⊎ (b ≤ a)
+less_or zero zero = inr (omega arith)
+less_or zero (suc b) = inl (omega arith)
+less_or (suc a) zero = inr (omega arith)
+less_or (suc a) (suc b) = elim (less_or a b) as (λ _. (suc a < suc b) ⊎ (suc b ≤ suc a)) [ inl h ↦ inl (omega (arith, h)) | inr h ↦ inr (omega (arith, h)) ]
+
+same_one : {A : Type 0} (o : Option A) (x y : A) → o ≡ Some x → o ≡ Some y → x ≡ y
+same_one o x y e f = cc
+
+pub counted_left : (o : Option Kept) (h : ℕ) → h ≤ counted o h
+counted_left None h = omega arith
+counted_left (Some k) h = larger_left h k.saved
+
+pub counted_newest : (o : Option Kept) (h : ℕ) (k : Kept) → o ≡ Some k → k.saved ≤ counted o h
+counted_newest o h k e = subst (λ x. k.saved ≤ counted x h) (sym e) (larger_right h k.saved)
+
+counted_under : (o : Option Kept) (h n : ℕ) → h ≤ n → ((k : Kept) → o ≡ Some k → k.saved ≤ n) → counted o h ≤ n
+counted_under None h n l g = l
+counted_under (Some k) h n l g = larger_under h k.saved n l (g k refl)
+
+counted_below : (o : Option Kept) (h i : ℕ) → i < counted o h → (i < h) ⊎ ((k : Kept) × (o ≡ Some k) × (i < k.saved))
+counted_below None h i l = inl l
+counted_below (Some k) h i l = elim (larger_below h k.saved i l) as (λ _. (i < h) ⊎ ((m : Kept) × (Some k ≡ Some m) × (i < m.saved))) [ inl a ↦ inl a | inr a ↦ inr (k, refl, a) ]
+
+lowered_left : (o : Option Kept) (n : ℕ) → n ≤ lowered o n
+lowered_left None n = omega arith
+lowered_left (Some k) n = larger_left n (k.base + k.size)
+
+lowered_newest : (o : Option Kept) (n : ℕ) (k : Kept) → o ≡ Some k → k.base + k.size ≤ lowered o n
+lowered_newest o n k e = subst (λ x. k.base + k.size ≤ lowered x n) (sym e) (larger_right n (k.base + k.size))
+
+lowered_under : (o : Option Kept) (n b : ℕ) → n ≤ b → ((k : Kept) → o ≡ Some k → k.base + k.size ≤ b) → lowered o n ≤ b
+lowered_under None n b l g = l
+lowered_under (Some k) n b l g = larger_under n (k.base + k.size) b l (g k refl)
+
+module _ (w : List Word) (saved : List Saved) (cs : List Kept) (base size height : ℕ) (f : Fine w saved cs base size height) (h : ℕ) (hs : h ≤ length saved) where
+  -- what holds of the newest one bounds the others
+  pub bounded : (i : ℕ) (k : Kept) → slice_get cs i ≡ Some k → (m : Kept) × (newest cs ≡ Some m) × (k.base + k.size ≤ m.base + m.size) × (k.saved ≤ m.saved)
+  bounded i k e =
+      let l = get_within i cs k e in
+      let r = get_is cs (length cs - 1) (omega (arith, l)) in
+      let m = r.0 in
+      let q = r.1 in
+      elim (less_or i (length cs - 1)) as (λ _. (m : Kept) × (newest cs ≡ Some m) × (k.base + k.size ≤ m.base + m.size) × (k.saved ≤ m.saved)) [
+        | inl a ↦ (let u = f.rising i (length cs - 1) k m a e q in let u0 = u.0 in (m, q, omega (arith, u0), u.1))
+        | inr a ↦ (let same_place : i ≡ length cs - 1 = omega (arith, a, l) in (k, subst (λ x. slice_get cs x ≡ Some k) same_place e, omega arith, omega arith))
+      ]
+
+  pub kept_settle : (i : ℕ) (k : Kept) → slice_get cs i ≡ Some k → (k.base + k.size ≤ lowered (newest cs) (caller_top saved h)) × (k.saved ≤ counted (newest cs) h)
+  kept_settle i k e =
+      let r = bounded i k e in
+      let a = lowered_newest (newest cs) (caller_top saved h) r.0 r.1 in
+      let b = counted_newest (newest cs) h r.0 r.1 in
+      let c = r.2 in let d = r.3 in (omega (arith, a, c), omega (arith, b, d))
+
+  -- the newest caller of a height is its last saved frame
+  caller_above : (n : ℕ) → n ≤ length saved → (i : ℕ) (s : Saved) → i < n → slice_get saved i ≡ Some s → s.base + s.size ≤ caller_top saved n
+  caller_above zero c i s l e = absurd (omega (arith, l))
+  caller_above (suc n) c i s l e =
+      let r = get_is saved n (omega (arith, c)) in
+      let t = r.0 in let q = r.1 in
+      subst (λ o. s.base + s.size ≤ top_of o) (sym q)
+      (elim (less_or i n) as (λ _. s.base + s.size ≤ t.base + t.size) [
+        | inl a ↦ (let u = f.ordered i n s t a e q in omega (arith, u))
+        | inr a ↦ (let same_place : i ≡ n = omega (arith, a, l) in subst (λ x. s.base + s.size ≤ x.base + x.size) (same_one (slice_get saved n) s t (subst (λ x. slice_get saved x ≡ Some s) same_place e) q) (omega arith))
+      ])
+
+  caller_under : (n : ℕ) → n ≤ length saved → caller_top saved n ≤ base
+  caller_under zero c = omega arith
+  caller_under (suc n) c = let r = get_is saved n (omega (arith, c)) in subst (λ o. top_of o ≤ base) (sym r.1) (f.tops n r.0 r.1)
+
+  pub tops_settle : (i : ℕ) (s : Saved) → i < counted (newest cs) h → slice_get saved i ≡ Some s → s.base + s.size ≤ lowered (newest cs) (caller_top saved h)
+  tops_settle i s l e =
+      elim (counted_below (newest cs) h i l) as (λ _. s.base + s.size ≤ lowered (newest cs) (caller_top saved h)) [
+        | inl a ↦ (let b = caller_above h hs i s a e in let d = lowered_left (newest cs) (caller_top saved h) in omega (arith, b, d))
+        | inr r ↦ (let g = f.kept (length cs - 1) r.0 r.1 in let b = g.below i s r.2 e in let d = lowered_newest (newest cs) (caller_top saved h) r.0 r.1 in omega (arith, b, d))
+      ]
+
+  pub low_settle : lowered (newest cs) (caller_top saved h) ≤ base
+  low_settle = lowered_under _ _ _ (caller_under h hs) (λ k e. (f.kept (length cs - 1) k e).top)
+
+  pub count_settle : counted (newest cs) h ≤ length saved
+  count_settle = counted_under _ _ _ hs (λ k e. (f.kept (length cs - 1) k e).count)
+
+-- A current frame begins where all ends that the newest choice point and callers of this height need.
+module _ (w w' : List Word) (saved saved' : List Saved) (cs : List Kept) (base size height : ℕ) (f : Fine w saved cs base size height) (low size' h count : ℕ) (hs : h ≤ length saved)
+    (ec : count ≡ counted (newest cs) h) (el : low ≡ lowered (newest cs) (caller_top saved h)) (es : saved' ≡ take count saved) (same : take low w ≡ take low w') where
+  inside : count ≤ length saved
+  inside = subst (λ x. x ≤ length saved) (sym ec) (count_settle w saved cs base size height f h hs)
+
+  above : h ≤ count
+  above = subst (λ x. h ≤ x) (sym ec) (counted_left (newest cs) h)
+
+  tops : (i : ℕ) (s : Saved) → i < count → slice_get saved i ≡ Some s → s.base + s.size ≤ low
+  tops i s l e = subst (λ x. s.base + s.size ≤ x) (sym el) (tops_settle w saved cs base size height f h hs i s (subst (λ x. i < x) ec l) e)
+
+  kept : (i : ℕ) (k : Kept) → slice_get cs i ≡ Some k → (k.base + k.size ≤ low) × (k.saved ≤ count)
+  kept i k e =
+      let r = kept_settle w saved cs base size height f h hs i k e in
+      (subst (λ x. k.base + k.size ≤ x) (sym el) r.0, subst (λ x. k.saved ≤ x) (sym ec) r.1)
+
+  pub settled_fine : low + size' ≤ length w' → Fine w' saved' cs low size' h
+  settled_fine room = subst (λ x. Fine w' x cs low size' h) (sym es) (moved_fine w w' saved cs base size height f low size' h count inside above same tops kept room)
+
+  pub settled_view : (current : List Word) → frame_of w' low size' ≡ current
+      → view_of w' saved' cs low size' h ≡ (let r : Stacks = record { current = current; callers = callers_of w saved h; choices = reverse (map (λ k. seen w saved k) cs) } in r)
+  settled_view current e = ap (λ x. view_of w' x cs low size' h) es ∙ moved_view w w' saved cs base size height f low size' h count inside above same tops kept current e

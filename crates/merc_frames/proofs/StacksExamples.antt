@@ -1,0 +1,105 @@
+-- What the definitions of frames, callers and choice points say.
+use Rattle.std.proofs.Common.{◌≡◌, ℕ, List, [], ◌∷◌, Some, None, refl, ap, arith}
+use Rattle.merc_value.specs.declared.word.Word.{Word}
+use Rattle.merc_value.specs.declared.word.Word.TheVariants.{Cell}
+use Rattle.merc_frames.specs.declared.frames.Backed.TheVariants.{End as BackedEnd, Dead as BackedDead, On as BackedOn}
+use Rattle.merc_frames.specs.Stacks.{Caller, Dead, GoesOn, Stacks, caller_word, oldest, softened, Opens, Enters, Resizes, GivesBack, GoesBack}
+
+abbrev one : List Word
+one = Cell 1 ∷ []
+
+abbrev two : List Word
+two = Cell 1 ∷ Cell 2 ∷ []
+
+abbrev callers : List Caller
+callers = record { place = 9; words = two } ∷ []
+
+-- a frame with two words, no callers, and two choice points
+abbrev outer : Stacks
+outer = record { current = two; callers = []; choices = GoesOn 4 8 one [] ∷ GoesOn 3 7 [] [] ∷ [] }
+
+-- the same, with another frame that it has called
+abbrev inner : Stacks
+inner = record { current = one; callers = callers; choices = GoesOn 4 8 one [] ∷ GoesOn 3 7 [] [] ∷ [] }
+
+abbrev newest_place : List Caller → ℕ
+newest_place [] = 0
+newest_place (caller ∷ others) = caller.place
+
+abbrev newest_words : List Caller → List Word
+newest_words [] = []
+newest_words (caller ∷ others) = caller.words
+
+pub caller_word-example : caller_word callers 1 ≡ Some (Cell 2)
+caller_word-example = refl
+
+pub caller_word-past : (caller_word callers 2 ≡ None) × (caller_word [] 0 ≡ None)
+caller_word-past = (refl, refl)
+
+pub caller_word-counterexample : caller_word callers 0 ≡ Some (Cell 2) → ⊥
+caller_word-counterexample = λ same. absurd cc
+
+-- the newest goes first
+pub oldest-example : oldest 1 outer.choices ≡ GoesOn 3 7 [] [] ∷ []
+oldest-example = refl
+
+-- more than there are: all stay
+pub oldest-all : oldest 3 outer.choices ≡ outer.choices
+oldest-all = refl
+
+pub oldest-counterexample : oldest 1 outer.choices ≡ GoesOn 4 8 one [] ∷ [] → ⊥
+oldest-counterexample = λ same. absurd cc
+
+pub softened-example : softened 0 outer.choices ≡ GoesOn 4 8 one [] ∷ Dead ∷ []
+softened-example = refl
+
+pub softened-none : softened 2 outer.choices ≡ outer.choices
+softened-none = refl
+
+pub softened-counterexample : softened 1 outer.choices ≡ GoesOn 4 8 one [] ∷ Dead ∷ [] → ⊥
+softened-counterexample = λ same. absurd cc
+
+pub Opens-example : Opens (record { current = one; callers = []; choices = [] }) 1
+Opens-example = record { room = refl; callers = refl; choices = refl }
+
+pub Opens-counterexample : Opens inner 1 → ⊥
+Opens-counterexample = λ opens. absurd (let none = opens.callers in cc)
+
+pub Enters-example : Enters outer inner 9 1
+Enters-example = record { room = refl; callers = refl; choices = refl }
+
+-- another place
+pub Enters-counterexample : Enters outer inner 5 1 → ⊥
+Enters-counterexample = λ enters. absurd (let same : 9 ≡ 5 = ap newest_place enters.callers in omega (arith, same))
+
+-- the frame becomes smaller, and its first word stays
+pub Resizes-example : Resizes outer (record { current = one; callers = []; choices = outer.choices }) 1
+Resizes-example = record { room = refl; same = refl; callers = refl; choices = refl }
+
+-- a word is lost
+pub Resizes-counterexample : Resizes outer (record { current = Cell 2 ∷ []; callers = []; choices = outer.choices }) 1 → ⊥
+Resizes-counterexample = λ resizes. absurd (let same = resizes.same in cc)
+
+pub GivesBack-example : GivesBack inner outer (Some 9)
+GivesBack-example = (refl, refl)
+
+-- without a caller there is nothing to go back to
+pub GivesBack-none : GivesBack outer outer None
+GivesBack-none = (refl, refl)
+
+-- the called frame is not the caller's
+pub GivesBack-counterexample : GivesBack inner (record { current = one; callers = []; choices = outer.choices }) (Some 9) → ⊥
+GivesBack-counterexample = λ gives. absurd (let same : two ≡ one = ap newest_words gives.0 in cc)
+
+pub GoesBack-example : GoesBack inner (record { current = one; callers = []; choices = GoesOn 3 7 [] [] ∷ [] }) (BackedOn 4 8)
+GoesBack-example = refl
+
+pub GoesBack-end : GoesBack (record { current = one; callers = []; choices = [] }) (record { current = one; callers = []; choices = [] }) BackedEnd
+GoesBack-end = (refl, refl)
+
+pub GoesBack-dead : GoesBack (record { current = one; callers = callers; choices = Dead ∷ [] }) (record { current = one; callers = callers; choices = [] }) BackedDead
+GoesBack-dead = refl
+
+-- the callers are those of the choice point, and not those of now
+pub GoesBack-counterexample : GoesBack inner (record { current = one; callers = callers; choices = GoesOn 3 7 [] [] ∷ [] }) (BackedOn 4 8) → ⊥
+GoesBack-counterexample = λ back. absurd cc

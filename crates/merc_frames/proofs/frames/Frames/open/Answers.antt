@@ -1,0 +1,6 @@
+use Rattle.std.proofs.Common.{◌∙◌}
+use Rattle.merc_frames.proofs.Moving.{grown_view, on_err}
+use Rattle.merc_frames.proofs.frames.Frames.open.Goals as goal
+
+abbrev pub returns-in_err-make_room-clause-err : goal.returns-in_err-make_room-clause-err
+returns-in_err-make_room-clause-err c = on_err c.from_residual.result _ (grown_view _ _ _ _ _ _ _ c.self.invariant c.in_err-make_room.ensures.grows ∙ c.self.view_is)

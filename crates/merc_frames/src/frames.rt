@@ -1,0 +1,294 @@
+//! Frames of words in one list, with who called and the choice points.
+ghost use Rattle.std.specs.Prelude.{◌≡◌, ◌+◌, ◌-◌, ◌≤◌, ℕ, [], ◌∷◌, length, nat_lt, Some, slice_get, slice_set, IfOk, OnOk, OnErr};
+ghost use Rattle.merc_frames.specs.Stacks.{Stacks, GoesOn, caller_word, oldest, softened, Opens, Enters, Resizes, GivesBack, GoesBack};
+ghost use Rattle.merc_frames.specs.View.{larger, counted, lowered, caller_top, newest};
+ghost use Rattle.merc_frames.specs.declared.kept.Kept.{Kept};
+ghost use Rattle.merc_frames.specs.declared.kept.Saved.{Saved};
+
+use crate::copying::{copy_frame, make_room};
+use crate::kept::{Kept, Saved};
+use merc_base::NoMemory;
+use merc_value::Word;
+use std::alloc::Global;
+use std::marker::Model;
+
+/// What going back finds.
+#[derive(Clone, Copy, Debug, PartialEq, Eq)]
+pub enum Backed {
+    /// No choice point.
+    End,
+    /// One that only fails.
+    Dead,
+    /// One that goes on at this place, with this mark of the heap.
+    On(usize, usize),
+}
+
+/// Frames of words: the current one, those of the callers, and those that choice points keep. They are seen as lists
+/// of words, callers and choice points.
+#[derive(Drop)]
+pub struct Frames {
+    words: Vec<Word>,
+    saved: Vec<Saved>,
+    choices: Vec<Kept>,
+    base: usize,
+    size: usize,
+    height: usize,
+}
+
+impl Model for Frames {
+    ghost use Rattle.merc_frames.specs.Stacks.{Stacks};
+    ghost use Rattle.merc_frames.specs.View.{view_of, Fine};
+
+    ghost Value = { Stacks };
+
+    ghost view = { λ f. view_of f.words.items f.saved.items f.choices.items f.base f.size f.height };
+
+    ghost invariant = { λ f. Fine f.words.items f.saved.items f.choices.items f.base f.size f.height };
+}
+
+impl Frames {
+    /// A current frame without words, no callers and no choice points. It takes no memory yet.
+    pub fn new(alloc: Global) -> Frames
+        ensures { result ≡ record { current = []; callers = []; choices = [] } }
+    {
+        Frames {
+            words: Vec::new(alloc),
+            saved: Vec::new(alloc),
+            choices: Vec::new(alloc),
+            base: 0,
+            size: 0,
+            height: 0,
+        }
+    }
+
+    /// Begins anew with a current frame of so many words, no callers and no choice points. Where memory is refused,
+    /// nothing changes.
+    pub fn open(&mut self, size: usize) -> Result<(), NoMemory>
+        ensures ok { OnOk result (Opens self.new size) }
+        ensures err { OnErr result (self.new ≡ self.old) }
+    {
+        make_room(&mut self.words, 0, size)?;
+        self.saved.clear();
+        self.choices.clear();
+        self.base = 0;
+        self.size = size;
+        self.height = 0;
+        Ok(())
+    }
+
+    /// The word in a slot of the current frame; `None` past its last.
+    pub fn word(&self, slot: usize) -> Option<Word>
+        ensures { result ≡ slice_get self.now.current slot }
+    {
+        if slot < self.size {
+            Some(self.words[self.base + slot])
+        } else {
+            None
+        }
+    }
+
+    /// Writes a slot of the current frame. `false`, and nothing changed, past its last.
+    pub fn set(&mut self, slot: usize, word: Word) -> bool
+        ensures written { result ≡ nat_lt slot (length self.old.current) }
+        ensures after { self.new ≡ record self.old { current = slice_set self.old.current slot word } }
+    {
+        if slot < self.size {
+            self.words[self.base + slot] = word;
+            true
+        } else {
+            false
+        }
+    }
+
+    /// The word in a slot of the newest caller's frame; `None` past its last, and where there is no caller.
+    pub fn caller_word(&self, slot: usize) -> Option<Word>
+        ensures { result ≡ caller_word self.now.callers slot }
+    {
+        if self.height == 0 {
+            return None;
+        }
+        let caller = self.saved[self.height - 1];
+        if slot < caller.size {
+            Some(self.words[caller.base + slot])
+        } else {
+            None
+        }
+    }
+
+    /// A call: the current frame is the newest caller's, which goes on at `place`, and a frame of `size` words is the
+    /// current one, whatever they are. Where memory is refused, nothing changes.
+    pub fn enter(&mut self, place: usize, size: usize) -> Result<(), NoMemory>
+        ensures ok { OnOk result (Enters self.old self.new place size) }
+        ensures err { OnErr result (self.new ≡ self.old) }
+    {
+        let top = self.base + self.size;
+        make_room(&mut self.words, top, size)?;
+        self.saved.push(Saved {
+            base: self.base,
+            size: self.size,
+            place,
+            parent: self.height,
+        })?;
+        self.base = top;
+        self.size = size;
+        self.height = self.saved.len();
+        Ok(())
+    }
+
+    /// A last call: the current frame has `size` words. Those that it had before stay, up to the lesser size. Where
+    /// memory is refused, nothing changes.
+    pub fn resize(&mut self, size: usize) -> Result<(), NoMemory>
+        ensures ok { OnOk result (Resizes self.old self.new size) }
+        ensures err { OnErr result (self.new ≡ self.old) }
+    {
+        self.settle();
+        make_room(&mut self.words, self.base, size)?;
+        self.size = size;
+        Ok(())
+    }
+
+    /// Goes back to the newest caller, whose frame is the current one, and gives the place where it goes on; `None`
+    /// without a caller. Where memory is refused, nothing changes.
+    pub fn give_back(&mut self) -> Result<Option<usize>, NoMemory>
+        ensures ok { IfOk result (λ place. GivesBack self.old self.new place) }
+        ensures err { OnErr result (self.new ≡ self.old) }
+    {
+        if self.height == 0 {
+            return Ok(None);
+        }
+        let caller = self.saved[self.height - 1];
+        if self.height > count_of(&self.choices, 0) {
+            self.saved.truncate(self.height - 1);
+            self.base = caller.base;
+            self.size = caller.size;
+            self.height = caller.parent;
+            return Ok(Some(caller.place));
+        }
+        // The newest choice point keeps the caller's frame, which goes on in a copy.
+        let count = count_of(&self.choices, caller.parent);
+        let low = low_of(&self.saved, &self.choices, caller.parent, self.base);
+        make_room(&mut self.words, low, caller.size)?;
+        copy_frame(&mut self.words, caller.base, caller.size, low);
+        self.saved.truncate(count);
+        self.base = low;
+        self.size = caller.size;
+        self.height = caller.parent;
+        Ok(Some(caller.place))
+    }
+
+    /// Makes a choice point of the current frame and its callers, which goes on at `place` with this mark of the heap.
+    /// Where memory is refused, nothing changes.
+    pub fn attempt(&mut self, place: usize, heap: usize) -> Result<(), NoMemory>
+        ensures ok { OnOk result (self.new ≡ record self.old { choices = GoesOn place heap self.old.current self.old.callers ∷ self.old.choices }) }
+        ensures err { OnErr result (self.new ≡ self.old) }
+    {
+        // What a choice point keeps is not written any more: the current frame goes on in a copy.
+        let copy = self.base + self.size;
+        make_room(&mut self.words, copy, self.size)?;
+        self.choices.push(Kept {
+            live: true,
+            base: self.base,
+            size: self.size,
+            place,
+            heap,
+            height: self.height,
+            saved: self.saved.len(),
+        })?;
+        copy_frame(&mut self.words, self.base, self.size, copy);
+        self.base = copy;
+        Ok(())
+    }
+
+    /// Goes back to the newest choice point, which is taken away.
+    pub fn back(&mut self) -> Backed
+        ensures { GoesBack self.old self.new result }
+    {
+        match self.choices.pop() {
+            None => Backed::End,
+            Some(kept) => {
+                if kept.live {
+                    self.saved.truncate(kept.saved);
+                    self.base = kept.base;
+                    self.size = kept.size;
+                    self.height = kept.height;
+                    Backed::On(kept.place, kept.heap)
+                } else {
+                    Backed::Dead
+                }
+            }
+        }
+    }
+
+    /// How many choice points there are.
+    pub fn count(&self) -> usize
+        ensures { result ≡ length self.now.choices }
+    {
+        self.choices.len()
+    }
+
+    /// Takes choice points away: the oldest `count` stay.
+    pub fn commit(&mut self, count: usize)
+        ensures { self.new ≡ record self.old { choices = oldest count self.old.choices } }
+    {
+        self.choices.truncate(count);
+    }
+
+    /// The choice point with `count` older ones only fails from now on. Nothing changes where there is none.
+    pub fn soften(&mut self, count: usize)
+        ensures { self.new ≡ record self.old { choices = softened count self.old.choices } }
+    {
+        if count < self.choices.len() {
+            let kept = self.choices[count];
+            self.choices[count] = Kept {
+                live: false,
+                ..kept
+            };
+        }
+    }
+
+    // Moves the current frame down over what nobody needs any more.
+    fn settle(&mut self)
+        ensures { self.new ≡ self.old }
+    {
+        let count = count_of(&self.choices, self.height);
+        let low = low_of(&self.saved, &self.choices, self.height, self.base);
+        copy_frame(&mut self.words, self.base, self.size, low);
+        self.saved.truncate(count);
+        self.base = low;
+    }
+}
+
+// The larger of two.
+fn larger_of(one: usize, other: usize) -> usize
+    ensures { result ≡ larger one other }
+{
+    if one < other { other } else { one }
+}
+
+// How many saved frames the newest choice point and callers at this height need.
+fn count_of(choices: &[Kept], height: usize) -> usize
+    ensures { result ≡ counted (newest choices.now) height }
+{
+    match choices.last() {
+        Some(kept) => larger_of(height, kept.saved),
+        None => height,
+    }
+}
+
+// Where the words end that the newest choice point and callers at this height need.
+fn low_of(saved: &[Saved], choices: &[Kept], height: usize, base: usize) -> usize
+    requires callers { height ≤ length saved.now }
+    requires tops { (i : ℕ) (s : Saved) → slice_get saved.now i ≡ Some s → s.base + s.size ≤ base }
+    requires kept { (i : ℕ) (k : Kept) → slice_get choices.now i ≡ Some k → k.base + k.size ≤ base }
+    ensures { result ≡ lowered (newest choices.now) (caller_top saved.now height) }
+{
+    let mut low = 0;
+    if height > 0 {
+        let frame = saved[height - 1];
+        low = frame.base + frame.size;
+    }
+    match choices.last() {
+        Some(kept) => larger_of(low, kept.base + kept.size),
+        None => low,
+    }
+}
