@@ -2,9 +2,9 @@
 ghost use Rattle.std.specs.Prelude.{◌≡◌, ◌+◌, ◌++◌, ◌∷◌, ◌<◌, ◌≤◌, [], length, map, take, slice_get, IfOk, OnOk, OnErr};
 ghost use Rattle.std.specs.List.{All};
 ghost use Rattle.merc_value.specs.Value.{Con};
-ghost use Rattle.merc_value.specs.Block.{IsBelow, word_values, cell_values, value_of};
+ghost use Rattle.merc_value.specs.Block.{AreLower, IsBelow, word_values, cell_values, value_of};
 ghost use Rattle.merc_value.specs.Sharing.{IsWordFor};
-ghost use Rattle.merc_heap.specs.Heap.{Keeps, IsFlat, cell_ending, symbol_of, field_of};
+ghost use Rattle.merc_heap.specs.Heap.{Keeps, IsFlat, cell_ending, arguments_in, symbol_of};
 
 use crate::slot::Slot;
 use merc_base::{Name, NoMemory};
@@ -30,6 +30,7 @@ impl Model for Mark {
 /// It is seen as the list of what ends at each place.
 #[derive(Drop)]
 pub struct Heap {
+    alloc: Global,
     slots: Vec<Slot>,
 }
 
@@ -51,6 +52,7 @@ impl Heap {
         ensures { result ≡ [] }
     {
         Heap {
+            alloc,
             slots: Vec::new(alloc),
         }
     }
@@ -83,13 +85,38 @@ impl Heap {
         }
     }
 
+    /// The number of the fields of a word, 0 for all but a cell.
+    pub fn arity(&self, word: Word) -> usize
+        requires { IsBelow (length self.now) word }
+        ensures arity { result ≡ length (arguments_in self.now word) }
+        ensures lower { AreLower self.now }
+    {
+        match word {
+            Word::Cell(place) => arity_at(&self.slots, place),
+            _ => 0,
+        }
+    }
+
     /// The word of a field, from 0; `None` exactly where the word's value has no argument of this number.
     pub fn field(&self, word: Word, index: u32) -> Option<Word>
         requires { IsBelow (length self.now) word }
-        ensures { result ≡ field_of self.now word index }
+        ensures { result ≡ slice_get (arguments_in self.now word) index }
+    {
+        self.argument(word, index as usize)
+    }
+
+    // Where the heap takes its memory from.
+    pub(crate) fn alloc(&self) -> Global {
+        self.alloc
+    }
+
+    // The argument of this number of a word's value, from 0.
+    pub(crate) fn argument(&self, word: Word, index: usize) -> Option<Word>
+        requires { IsBelow (length self.now) word }
+        ensures { result ≡ slice_get (arguments_in self.now word) index }
     {
         match word {
-            Word::Cell(place) => field_at(&self.slots, place, index as usize),
+            Word::Cell(place) => field_at(&self.slots, place, index),
             _ => None,
         }
     }
@@ -119,6 +146,18 @@ fn symbol_at(slots: &[Slot], place: usize) -> Name
     match slots[place] {
         Slot::Field(_) => Name::NIL,
         Slot::Header(symbol, _) => symbol,
+    }
+}
+
+// The number of the fields of the cell that ends at a place.
+fn arity_at(slots: &[Slot], place: usize) -> usize
+    requires within { place < length slots.now }
+    requires flat { IsFlat slots.now }
+    ensures { result ≡ length (cell_ending slots.now place).arguments }
+{
+    match slots[place] {
+        Slot::Header(_, arity) => arity,
+        Slot::Field(_) => 0,
     }
 }
 

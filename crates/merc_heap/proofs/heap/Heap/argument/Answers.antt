@@ -4,10 +4,10 @@ use Rattle.merc_value.specs.Block.{CellData, IsBelow}
 use Rattle.merc_value.specs.Writing.{arguments_of, arguments_at}
 use Rattle.merc_value.specs.declared.word.Word.{Word}
 use Rattle.merc_value.specs.declared.word.Word.TheVariants.{Cell}
-use Rattle.merc_heap.specs.Heap.{cells_of, IsFlat, cell_ending, field_of}
+use Rattle.merc_heap.specs.Heap.{cells_of, IsFlat, cell_ending, arguments_in}
 use Rattle.merc_heap.specs.declared.slot.Slot.{Slot}
 use Rattle.merc_heap.proofs.CellsLemmas.{length-cells_of, found_ending}
-use Rattle.merc_heap.proofs.heap.Heap.field.Goals as goal
+use Rattle.merc_heap.proofs.heap.Heap.argument.Goals as goal
 
 pub field_at-requires-clause-within : goal.field_at-requires-clause-within
 field_at-requires-clause-within c =
@@ -24,4 +24,4 @@ returns-in-Cell c =
     c.field_at.ensures ∙ ap (λ (ss : List Slot). slice_get (cell_ending ss c.in-Cell.place).arguments c.args.index) c.deref.ensures.value
     ∙ ap (λ o. slice_get (arguments_of o) c.args.index) (sym (found_ending c.self.inside.slots.items c.in-Cell.place within'))
     ∙ ap (λ (cs : List CellData). slice_get (arguments_at cs c.in-Cell.place) c.args.index) c.self.view_is
-    ∙ ap (λ (w : Word). field_of c.args.self.now w c.args.index) (sym c.in-Cell.is)
+    ∙ ap (λ (w : Word). slice_get (arguments_in c.args.self.now w) c.args.index) (sym c.in-Cell.is)
