@@ -3,14 +3,14 @@ use Rattle.std.proofs.Common.{◌≡◌, ℕ, zero, suc, ◌+◌, ◌-◌, ◌<�
 use Rattle.std.specs.List.{All}
 use Rattle.std.proofs.lemmas.List.{length-map}
 use Rattle.merc_base.specs.Names.{nil_name}
-use Rattle.merc_value.specs.Value.{Value, Values, Con, none}
+use Rattle.merc_value.specs.Value.{Con}
 use Rattle.merc_value.specs.Block.{CellData, AreLower, IsBelow, word_values, cell_values, value_of, no_value}
 use Rattle.merc_value.specs.Sharing.{IsWordFor}
 use Rattle.merc_value.specs.declared.word.Word.{Word}
-use Rattle.merc_value.specs.declared.word.Word.TheVariants.{Int as IntWord, Text as TextWord, Atom as AtomWord, Cell as CellWord}
+use Rattle.merc_value.specs.declared.word.Word.TheVariants.{Atom as AtomWord, Cell as CellWord}
 use Rattle.merc_value.proofs.Values.{All-first, All-rest, cell_value_at}
 use Rattle.merc_value.proofs.BlockLaws.{raised, all_raised, value_of-with_cell, value_of-new_cell}
-use Rattle.merc_heap.specs.Heap.{word_of, no_cell, cell_behind, cells_behind, cells_of, cell_ending, IsFlat, Keeps}
+use Rattle.merc_heap.specs.Heap.{word_of, cell_behind, cells_behind, cells_of, cell_ending, IsFlat, Keeps}
 use Rattle.merc_heap.specs.declared.slot.Slot.{Slot}
 use Rattle.merc_heap.specs.declared.slot.Slot.TheVariants.{Field, Header}
 

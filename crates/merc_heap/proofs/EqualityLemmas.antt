@@ -2,8 +2,8 @@
 use Rattle.std.proofs.Common.{◌≡◌, ℕ, zero, suc, ◌+◌, ◌<◌, ◌≤◌, List, [], ◌∷◌, ◌++◌, length, Option, Some, None, refl, sym, ap, subst, ◌∙◌, arith, slice_get, take, append_assoc}
 use Rattle.std.specs.Prelude.{IfSome}
 use Rattle.std.specs.List.{All}
-use Rattle.merc_value.specs.Value.{Value, Values, Int, Text, Con, none, more}
-use Rattle.merc_value.specs.Block.{CellData, AreLower, IsBelow, word_value, word_values, cell_values, value_of, no_value}
+use Rattle.merc_value.specs.Value.{Value, Int, Text, Con, none}
+use Rattle.merc_value.specs.Block.{CellData, AreLower, IsBelow, word_values, cell_values, value_of, no_value}
 use Rattle.merc_value.specs.Writing.{arguments_of, arguments_at}
 use Rattle.merc_value.specs.declared.word.Word.{Word}
 use Rattle.merc_value.specs.declared.word.Word.TheVariants.{Int as IntWord, Text as TextWord, Atom as AtomWord, Cell as CellWord}

@@ -1,8 +1,8 @@
 -- What the definitions of Heap say of a small heap: the pair of a text with itself, and the pair of that pair with 7.
-use Rattle.std.proofs.Common.{◌≡◌, ℕ, pos, List, [], ◌∷◌, Some, refl, arith, slice_get}
+use Rattle.std.proofs.Common.{◌≡◌, pos, List, [], ◌∷◌, refl, arith}
 use Rattle.merc_base.specs.Names.{cons_name, nil_name}
 use Rattle.merc_value.specs.Value.{Value, Int, Text, Con, none, more}
-use Rattle.merc_value.specs.Block.{CellData, cell_values, value_of}
+use Rattle.merc_value.specs.Block.{cell_values, value_of}
 use Rattle.merc_value.specs.declared.word.Word.TheVariants.{Int as IntWord, Text as TextWord, Cell as CellWord}
 use Rattle.merc_heap.specs.Heap.{cells_of, IsFlat, arguments_in}
 use Rattle.merc_heap.specs.declared.slot.Slot.{Slot}

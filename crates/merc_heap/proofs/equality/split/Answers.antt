@@ -1,11 +1,11 @@
 -- Two words stand for one value where they are one, or have one constructor and the same arguments.
-use Rattle.std.proofs.Common.{◌≡◌, ◌∙◌, ℕ, List, [], Some, None, true, false, sym, ap, subst, length, append-nil}
-use Rattle.merc_value.specs.Block.{IsBelow, value_of}
+use Rattle.std.proofs.Common.{◌≡◌, ◌∙◌, [], Some, None, true, false, sym, ap, subst, length, append-nil}
+use Rattle.merc_value.specs.Block.{value_of}
 use Rattle.merc_value.specs.contracts.word.WordPartialEq.TheImpl.{eq-value}
 use Rattle.merc_value.specs.declared.word.Word.{Word}
 use Rattle.merc_value.proofs.WordEquality.{word_eq}
 use Rattle.merc_heap.specs.Heap.{arguments_in, symbol_of}
-use Rattle.merc_heap.specs.Equality.{pairs, IsSplit, Splits}
+use Rattle.merc_heap.specs.Equality.{pairs, IsSplit}
 use Rattle.merc_heap.proofs.EqualityLemmas.{split_one, split_pairs, plain_one, apart_count, no_symbol}
 use Rattle.merc_heap.proofs.equality.split.Goals as goal
 

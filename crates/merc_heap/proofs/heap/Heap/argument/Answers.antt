@@ -1,10 +1,9 @@
 -- The fields of a cell stand before its header.
-use Rattle.std.proofs.Common.{◌≡◌, ◌∙◌, ◌<◌, List, ℕ, sym, subst, ap, length, slice_get, arith}
+use Rattle.std.proofs.Common.{◌∙◌, ◌<◌, List, sym, subst, ap, length, slice_get, arith}
 use Rattle.merc_value.specs.Block.{CellData, IsBelow}
 use Rattle.merc_value.specs.Writing.{arguments_of, arguments_at}
 use Rattle.merc_value.specs.declared.word.Word.{Word}
-use Rattle.merc_value.specs.declared.word.Word.TheVariants.{Cell}
-use Rattle.merc_heap.specs.Heap.{cells_of, IsFlat, cell_ending, arguments_in}
+use Rattle.merc_heap.specs.Heap.{cell_ending, arguments_in}
 use Rattle.merc_heap.specs.declared.slot.Slot.{Slot}
 use Rattle.merc_heap.proofs.CellsLemmas.{length-cells_of, found_ending}
 use Rattle.merc_heap.proofs.heap.Heap.argument.Goals as goal

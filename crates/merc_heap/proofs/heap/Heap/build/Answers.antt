@@ -1,5 +1,5 @@
 -- The new cell goes behind the others.
-use Rattle.std.proofs.Common.{◌≡◌, ℕ, List, length, ap, sym, subst, ◌∙◌}
+use Rattle.std.proofs.Common.{List, length, sym, subst}
 use Rattle.std.specs.List.{All}
 use Rattle.merc_value.specs.Value.{Con}
 use Rattle.merc_value.specs.Block.{CellData, IsBelow, word_values, cell_values}
@@ -7,7 +7,7 @@ use Rattle.merc_value.specs.Sharing.{IsWordFor}
 use Rattle.merc_value.specs.declared.word.Word.TheVariants.{Cell}
 use Rattle.merc_heap.specs.Heap.{cells_of, IsFlat, Keeps}
 use Rattle.merc_heap.specs.declared.slot.Slot.{Slot}
-use Rattle.merc_heap.proofs.CellsLemmas.{flat_built, keeps_built, word_built, length-cells_of}
+use Rattle.merc_heap.proofs.CellsLemmas.{flat_built, keeps_built, word_built}
 use Rattle.merc_heap.proofs.heap.Heap.build.Goals as goal
 
 pub invariant_of-self-2 : goal.invariant_of-self-2

@@ -1,7 +1,6 @@
 -- The cells below the mark stay.
-use Rattle.std.proofs.Common.{◌≡◌, ◌∙◌, List, ℕ, sym, subst, ap, length, take, drop}
+use Rattle.std.proofs.Common.{◌∙◌, ℕ, sym, subst, ap, take, drop}
 use Rattle.std.proofs.lemmas.List.{take-append-drop, length-take-le}
-use Rattle.merc_value.specs.Block.{CellData}
 use Rattle.merc_heap.specs.Heap.{cells_of, IsFlat, Keeps}
 use Rattle.merc_heap.proofs.CellsLemmas.{flat_taken, cells_of-take, keeps_taken}
 use Rattle.merc_heap.proofs.heap.Heap.cut_to.Goals as goal

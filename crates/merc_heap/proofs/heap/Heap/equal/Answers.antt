@@ -1,6 +1,5 @@
 -- Each round splits the last pair of the stack.
-use Rattle.std.proofs.Common.{◌≡◌, ◌∷◌, ◌++◌, [], sym, ap, subst, length}
-use Rattle.merc_heap.specs.Equality.{Splits}
+use Rattle.std.proofs.Common.{[]}
 use Rattle.merc_heap.proofs.EqualityLemmas.{last_below, last_same, round_whole, round_each, round_below, round_falls}
 use Rattle.merc_heap.proofs.heap.Heap.equal.Goals as goal
 
@@ -16,7 +15,7 @@ pub returns-then-not-branch : goal.returns-then-not-branch
 returns-then-not-branch c = (
   (λ yes. absurd (cc (yes))),
   (λ same. absurd (c.in_ok-split.ensures.no c.if-not-branch.true
-  (last_same c.args.self.now c.loop-one.stack.items c.pop.new.self.items [] (c.in-Some.one, c.in-Some.other) c.in-Some.ensures.items (c.loop-one.invariant.each same)))),
+      (last_same c.args.self.now c.loop-one.stack.items c.pop.new.self.items [] (c.in-Some.one, c.in-Some.other) c.in-Some.ensures.items (c.loop-one.invariant.each same)))),
 )
 
 pub loop-one-smaller : goal.loop-one-smaller

@@ -1,5 +1,5 @@
 -- Nothing lies in a new heap.
-use Rattle.std.proofs.Common.{◌≡◌, sym, subst, ap, refl}
+use Rattle.std.proofs.Common.{sym, subst, ap}
 use Rattle.merc_heap.specs.Heap.{cells_of, IsFlat}
 use Rattle.merc_heap.proofs.CellsLemmas.{flat_nothing}
 use Rattle.merc_heap.proofs.heap.Heap.new.Goals as goal

@@ -1,10 +1,9 @@
 -- The constructor stands in the cell's header.
-use Rattle.std.proofs.Common.{◌≡◌, ◌∙◌, ◌<◌, List, ℕ, Some, sym, subst, ap, length, arith}
-use Rattle.merc_value.specs.Value.{Value}
+use Rattle.std.proofs.Common.{◌∙◌, ◌<◌, List, Some, sym, subst, ap, length, arith}
 use Rattle.merc_value.specs.Block.{CellData, IsBelow, value_of}
 use Rattle.merc_value.specs.declared.word.Word.{Word}
 use Rattle.merc_value.specs.declared.word.Word.TheVariants.{Cell}
-use Rattle.merc_heap.specs.Heap.{cells_of, IsFlat, cell_ending, symbol_of}
+use Rattle.merc_heap.specs.Heap.{cell_ending, symbol_of}
 use Rattle.merc_heap.specs.declared.slot.Slot.{Slot}
 use Rattle.merc_heap.proofs.CellsLemmas.{length-cells_of, value_ending}
 use Rattle.merc_heap.proofs.heap.Heap.symbol.Goals as goal
