@@ -1,0 +1,4 @@
+pub mod CellsLemmas
+pub mod HeapLaws
+pub mod EqualityLemmas
+mod HeapExamples

@@ -1,0 +1,202 @@
+//! The heap: one flat list of cells.
+ghost use Rattle.std.specs.Prelude.{◌≡◌, ◌+◌, ◌++◌, ◌∷◌, ◌<◌, ◌≤◌, [], length, map, take, slice_get, IfOk, OnOk, OnErr};
+ghost use Rattle.std.specs.List.{All};
+ghost use Rattle.merc_value.specs.Value.{Con};
+ghost use Rattle.merc_value.specs.Block.{AreLower, IsBelow, word_values, cell_values, value_of};
+ghost use Rattle.merc_value.specs.Sharing.{IsWordFor};
+ghost use Rattle.merc_heap.specs.Heap.{Keeps, IsFlat, cell_ending, arguments_in, symbol_of};
+
+use crate::slot::Slot;
+use merc_base::{Name, NoMemory};
+use merc_value::Word;
+use std::alloc::Global;
+use std::marker::Model;
+
+/// How far a heap went at some time, as its number of places.
+#[derive(Clone, Copy, Debug, PartialEq, Eq)]
+pub struct Mark(usize);
+
+impl Model for Mark {
+    ghost use Rattle.std.specs.Prelude.{ℕ};
+
+    ghost Value = { ℕ };
+
+    ghost view = { λ m. m.0 };
+
+    ghost inverse = { λ n. record { 0 = n } };
+}
+
+/// Cells on one flat list: the fields of each, and then its header, which names the constructor and counts the fields.
+/// It is seen as the list of what ends at each place.
+#[derive(Drop)]
+pub struct Heap {
+    alloc: Global,
+    slots: Vec<Slot>,
+}
+
+impl Model for Heap {
+    ghost use Rattle.std.specs.Prelude.{List};
+    ghost use Rattle.merc_value.specs.Block.{CellData};
+    ghost use Rattle.merc_heap.specs.Heap.{cells_of, IsFlat};
+
+    ghost Value = { List CellData };
+
+    ghost view = { λ h. cells_of h.slots.items };
+
+    ghost invariant = { λ h. IsFlat h.slots.items };
+}
+
+impl Heap {
+    /// A heap without cells. It takes no memory before something is built.
+    pub fn new(alloc: Global) -> Heap
+        ensures { result ≡ [] }
+    {
+        Heap {
+            alloc,
+            slots: Vec::new(alloc),
+        }
+    }
+
+    /// Puts a constructor with these arguments behind the other cells, and gives the word for it. Where memory is
+    /// refused the heap is unchanged.
+    pub fn build(&mut self, symbol: Name, arguments: &[Word]) -> Result<Word, NoMemory>
+        requires { All (IsBelow (length self.old)) arguments.now }
+        ensures word { IfOk result (IsWordFor self.new (Con symbol (word_values (cell_values self.old) arguments.now))) }
+        ensures kept { OnOk result (Keeps (length self.old) self.old self.new) }
+        ensures err { OnErr result (self.new ≡ self.old) }
+    {
+        if arguments.is_empty() {
+            return Ok(Word::Atom(symbol));
+        }
+        let place = push_cell(&mut self.slots, symbol, arguments)?;
+        Ok(Word::Cell(place))
+    }
+
+    /// The constructor of a word's value; `None` exactly for an integer and a text.
+    pub fn symbol(&self, word: Word) -> Option<Name>
+        requires { IsBelow (length self.now) word }
+        ensures { result ≡ symbol_of (value_of self.now word) }
+    {
+        match word {
+            Word::Int(_) => None,
+            Word::Text(_) => None,
+            Word::Atom(symbol) => Some(symbol),
+            Word::Cell(place) => Some(symbol_at(&self.slots, place)),
+        }
+    }
+
+    /// The number of the fields of a word, 0 for all but a cell.
+    pub fn arity(&self, word: Word) -> usize
+        requires { IsBelow (length self.now) word }
+        ensures arity { result ≡ length (arguments_in self.now word) }
+        ensures lower { AreLower self.now }
+    {
+        match word {
+            Word::Cell(place) => arity_at(&self.slots, place),
+            _ => 0,
+        }
+    }
+
+    /// The word of a field, from 0; `None` exactly where the word's value has no argument of this number.
+    pub fn field(&self, word: Word, index: u32) -> Option<Word>
+        requires { IsBelow (length self.now) word }
+        ensures { result ≡ slice_get (arguments_in self.now word) index }
+    {
+        self.argument(word, index as usize)
+    }
+
+    // Where the heap takes its memory from.
+    pub(crate) fn alloc(&self) -> Global {
+        self.alloc
+    }
+
+    // The argument of this number of a word's value, from 0.
+    pub(crate) fn argument(&self, word: Word, index: usize) -> Option<Word>
+        requires { IsBelow (length self.now) word }
+        ensures { result ≡ slice_get (arguments_in self.now word) index }
+    {
+        match word {
+            Word::Cell(place) => field_at(&self.slots, place, index),
+            _ => None,
+        }
+    }
+
+    /// How far the heap goes.
+    pub fn mark(&self) -> Mark
+        ensures { result ≡ length self.now }
+    {
+        Mark(self.slots.len())
+    }
+
+    /// Takes away all cells that were built since the mark.
+    pub fn cut_to(&mut self, mark: Mark)
+        requires { mark ≤ length self.old }
+        ensures cut { self.new ≡ take mark self.old }
+        ensures kept { Keeps mark self.old self.new }
+    {
+        self.slots.truncate(mark.0);
+    }
+}
+
+// The constructor of the cell that ends at a place.
+fn symbol_at(slots: &[Slot], place: usize) -> Name
+    requires within { place < length slots.now }
+    ensures { result ≡ (cell_ending slots.now place).symbol }
+{
+    match slots[place] {
+        Slot::Field(_) => Name::NIL,
+        Slot::Header(symbol, _) => symbol,
+    }
+}
+
+// The number of the fields of the cell that ends at a place.
+fn arity_at(slots: &[Slot], place: usize) -> usize
+    requires within { place < length slots.now }
+    requires flat { IsFlat slots.now }
+    ensures { result ≡ length (cell_ending slots.now place).arguments }
+{
+    match slots[place] {
+        Slot::Header(_, arity) => arity,
+        Slot::Field(_) => 0,
+    }
+}
+
+// The field of this number of the cell that ends at a place, from 0.
+fn field_at(slots: &[Slot], place: usize, index: usize) -> Option<Word>
+    requires within { place < length slots.now }
+    requires flat { IsFlat slots.now }
+    ensures { result ≡ slice_get (cell_ending slots.now place).arguments index }
+{
+    match slots[place] {
+        Slot::Header(_, arity) if index < arity => Some(slots[place - arity + index].word()),
+        _ => None,
+    }
+}
+
+// Puts a cell behind the others, and gives the place of its header. Where memory is refused nothing is put there.
+fn push_cell(slots: &mut Vec<Slot>, symbol: Name, arguments: &[Word]) -> Result<usize, NoMemory>
+    ensures place { IfOk result (λ place. place ≡ length slots.old.items + length arguments.now) }
+    ensures ok { OnOk result (slots.new.items ≡ (slots.old.items ++ map Slot.Field arguments.now) ++ Slot.Header symbol (length arguments.now) ∷ []) }
+    ensures err { OnErr result (slots.new.items ≡ slots.old.items) }
+{
+    let start = slots.len();
+    match push_slots(slots, symbol, arguments) {
+        Ok(()) => Ok(start + arguments.len()),
+        Err(refused) => {
+            slots.truncate(start);
+            Err(refused)
+        }
+    }
+}
+
+// Puts fields and their header behind the others. Where memory is refused, some of them stand there.
+fn push_slots(slots: &mut Vec<Slot>, symbol: Name, arguments: &[Word]) -> Result<(), NoMemory>
+    ensures ok { OnOk result (slots.new.items ≡ (slots.old.items ++ map Slot.Field arguments.now) ++ Slot.Header symbol (length arguments.now) ∷ []) }
+    ensures err { OnErr result (take (length slots.old.items) slots.new.items ≡ slots.old.items) }
+{
+    for argument in arguments {
+        slots.push(Slot::Field(*argument))?;
+    }
+    slots.push(Slot::Header(symbol, arguments.len()))?;
+    Ok(())
+}
