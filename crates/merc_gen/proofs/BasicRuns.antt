@@ -116,7 +116,7 @@ basic-runs codes single program call h (ArithmeticGoal op to one other) m k env 
     effect-runs codes (operates env op to (value_at env one) (value_at env other)) _ m k marks callers l n _ (operates-trace env op to (value_at env one) (value_at env other)) (λ B. refl)
 basic-runs codes single program call h (CompareGoal test one other) m k env marks callers l n =
     effect-runs codes (compares env (comparison_of test) (value_at env one) (value_at env other)) _ m k marks callers l n _
-        (compares-trace env (comparison_of test) (value_at env one) (value_at env other)) (λ B. refl)
+    (compares-trace env (comparison_of test) (value_at env one) (value_at env other)) (λ B. refl)
 basic-runs codes single program call h (RaiseGoal text) m k env marks callers l n =
     effect-runs codes (raises (value_at env text)) _ m k marks callers l n _ (raises-trace (value_at env text)) (λ B. refl)
 basic-runs codes single program call h (CallGoal p arguments) m k env marks callers l n = h p arguments m k env marks callers l n

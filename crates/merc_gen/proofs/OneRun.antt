@@ -1,7 +1,7 @@
 -- A state yields one run, since a state has one step.
 use Rattle.std.proofs.Common.{◌≡◌, [], sym, ap, ◌∙◌, subst}
 use Rattle.merc_meaning.specs.Trace.{Env, Run, RunEnd, RunDone, Ends, Tick, Answer}
-use Rattle.merc_code.specs.Steps.{Codes, State, Step, Stops, Moves, Ticks, Answers, Stuck, step}
+use Rattle.merc_code.specs.Steps.{Codes, State, Step, Stops, Moves, Ticks, Answers, Stuck}
 use Rattle.merc_code.specs.Meaning.{Yields, stops, moves, ticks, answers}
 
 state-of : Step → State → State

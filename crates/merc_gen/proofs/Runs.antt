@@ -1,9 +1,9 @@
 -- What a piece of code does over every list of choice points of one length, and how such pieces are joined.
-use Rattle.std.proofs.Common.{◌≡◌, ℕ, zero, suc, ◌+◌, ◌-◌, ◌<◌, ◌≤◌, Bool, true, false, ◌&&◌, List, [], ◌∷◌, ◌++◌, length, refl, sym, ap, ◌∙◌, subst, arith, if◌then◌else◌}
+use Rattle.std.proofs.Common.{◌≡◌, ℕ, zero, suc, ◌+◌, ◌<◌, ◌≤◌, Bool, true, false, ◌&&◌, List, [], ◌∷◌, ◌++◌, length, refl, sym, ap, ◌∙◌, subst, arith}
 use Rattle.std.proofs.lemmas.List.{append_assoc, length-append}
 use Rattle.merc_meaning.specs.Trace.{Env, Trace, Run, Ends, Tick, Answer, Done, Raised, TooDeep, RunRaised, LimitPassed, after, each, first_alone}
 use Rattle.merc_code.specs.Steps.{Code, Codes, Caller, ChoicePoint, State, At, Back, Moves, step, mark_at, marked}
-use Rattle.merc_code.specs.Meaning.{Yields, moves, answers}
+use Rattle.merc_code.specs.Meaning.{Yields, moves}
 
 -- so many steps before a run
 abbrev pub bulk : ℕ → Run → Run
@@ -121,12 +121,16 @@ module _ (codes : Codes) (out : Exit) (Ok : List ℕ → Type 0) where
   after-runs L1 L (Tick t) u X zero n n' j st e h r g = λ B q. r (X ++ B) (omega (arith, e, q, length-append X B))
   after-runs L1 L (Tick t) u X (suc l) n n' j st e h r g = after-runs L1 L t u X l n n' (suc j) st e h r g
   after-runs L1 L (Answer env t) u X l n n' j st e h r g =
-      let Y = r.0 in
-      (Y ++ X, r.1, h Y r.2, r.3,
-       (λ B q. subst (λ Z. Comes codes j (st (X ++ B)) (out env r.1 Z l)) (sym (append_assoc Y X B)) (r.4 (X ++ B) (omega (arith, e, q, length-append X B)))),
-       λ l'. late L (after t u) l' n 0 0 0 (λ B. Back ((Y ++ X) ++ B) l') (λ B. Back (Y ++ (X ++ B)) l') (omega arith)
-           (λ B q. same-state codes _ _ (ap (λ Z. Back Z l') (append_assoc Y X B)))
-           (after-runs L1 L t u X l' n n' 0 (λ C. Back (Y ++ C) l') e h (r.5 l') g))
+      let Y = r.0 in (
+        Y ++ X,
+        r.1,
+        h Y r.2,
+        r.3,
+        (λ B q. subst (λ Z. Comes codes j (st (X ++ B)) (out env r.1 Z l)) (sym (append_assoc Y X B)) (r.4 (X ++ B) (omega (arith, e, q, length-append X B)))),
+        λ l'. late L (after t u) l' n 0 0 0 (λ B. Back ((Y ++ X) ++ B) l') (λ B. Back (Y ++ (X ++ B)) l') (omega arith)
+            (λ B q. same-state codes _ _ (ap (λ Z. Back Z l') (append_assoc Y X B)))
+            (after-runs L1 L t u X l' n n' 0 (λ C. Back (Y ++ C) l') e h (r.5 l') g),
+      )
 
   -- Of a goal that leaves no choice point the answers after the first are cut by nobody, and no one comes back for them.
   pub alone-runs : (Left : List ChoicePoint → Type 0) → ((X : List ChoicePoint) → Left X → X ≡ []) → (t : Trace) (l n j : ℕ) (st : List ChoicePoint → State)
@@ -168,5 +172,5 @@ each-runs codes out1 out Ok1 Ok L1 L2 L f h g (Tick t) zero n j st r = r
 each-runs codes out1 out Ok1 Ok L1 L2 L f h g (Tick t) (suc l) n j st r = each-runs codes out1 out Ok1 Ok L1 L2 L f h g t l n (suc j) st r
 each-runs codes out1 out Ok1 Ok L1 L2 L f h g (Answer env t) l n j st r =
     late codes out Ok L (after (f env) (each f t)) l n 0 j j st (λ B. out1 env r.1 (r.0 ++ B) l) (omega arith) r.4
-        (after-runs codes out Ok L2 L (f env) (each f t) r.0 l n (length r.0 + n) 0 (λ C. out1 env r.1 C l) refl (λ Y a. h Y r.0 a r.2) (g env r.1 l (length r.0 + n) r.3)
-            (λ l'. each-runs codes out1 out Ok1 Ok L1 L2 L f h g t l' n 0 (λ B. Back (r.0 ++ B) l') (r.5 l')))
+    (after-runs codes out Ok L2 L (f env) (each f t) r.0 l n (length r.0 + n) 0 (λ C. out1 env r.1 C l) refl (λ Y a. h Y r.0 a r.2) (g env r.1 l (length r.0 + n) r.3)
+    (λ l'. each-runs codes out1 out Ok1 Ok L1 L2 L f h g t l' n 0 (λ B. Back (r.0 ++ B) l') (r.5 l')))
