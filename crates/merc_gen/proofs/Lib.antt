@@ -1,0 +1,10 @@
+pub mod Fronts
+pub mod Runs
+pub mod Leaving
+pub mod BasicRuns
+pub mod Parts
+pub mod GoalRuns
+pub mod CallRuns
+pub mod Depths
+pub mod Theorem
+pub mod OneRun

@@ -1,0 +1,36 @@
+-- The code of a goal yields the goal's run.
+use Rattle.std.proofs.Common.{ℕ, zero, suc, List, [], ◌∷◌, ◌++◌, map, refl}
+use Rattle.merc_graded_tree.specs.Nodes.{Node}
+use Rattle.merc_meaning.specs.Trace.{Trace, Ends, Tick, Answer, Done, Raised, TooDeep, RunDone, cut}
+use Rattle.merc_meaning.specs.Steps.{value_at}
+use Rattle.merc_meaning.specs.Runs.{Program, node_trace, call_trace}
+use Rattle.merc_code.specs.declared.instruction.Instruction.TheVariants.{Answer as AnswerInstruction}
+use Rattle.merc_code.specs.Steps.{Codes, ChoicePoint, State, At, Back}
+use Rattle.merc_code.specs.Meaning.{Yields, stops, answers, shown}
+use Rattle.merc_gen.specs.Generated.{is_single, node_quiet, codes_of, query_code}
+use Rattle.merc_gen.specs.Following.{Follows}
+use Rattle.merc_gen.proofs.Runs.{bulk, behind, Runs, Keeps, LeavesNone}
+use Rattle.merc_gen.proofs.GoalRuns.{node-runs}
+use Rattle.merc_gen.proofs.CallRuns.{call-runs}
+use Rattle.merc_gen.proofs.Depths.{Reaches, node-reaches, call-reaches}
+
+-- A goal over no choice points, with its answers shown behind it: its whole run.
+finish : (codes : Codes) (variables : List ℕ) (Ok : List ℕ → Type 0) (L : List ChoicePoint → Type 0) (t : Trace) (l j : ℕ) (st : List ChoicePoint → State)
+    → Reaches (suc l) t → Runs codes (behind (AnswerInstruction variables ∷ []) []) Ok L t l 0 j st → Yields codes (st []) (bulk j (shown variables (cut l t)))
+finish codes variables Ok L (Ends Done) l j st d r = (r [] refl).by (Ends RunDone) (stops _ _ refl)
+finish codes variables Ok L (Ends (Raised v)) l j st d r = r [] refl
+finish codes variables Ok L (Ends TooDeep) l j st d r = absurd d
+finish codes variables Ok L (Tick t) zero j st d r = r [] refl
+finish codes variables Ok L (Tick t) (suc l) j st d r = finish codes variables Ok L t l (suc j) st d r
+finish codes variables Ok L (Answer env t) l j st d r =
+    (r.4 [] refl).by (Answer (map (value_at env) variables) (shown variables (cut l t)))
+    (answers _ _ _ _ refl (finish codes variables Ok L t l 0 (λ B. Back (r.0 ++ B) l) d (r.5 l)))
+
+pub code-follows : (program : Program) (goal : Node) (variables : List ℕ) → Follows program goal variables (codes_of program) (query_code program goal variables)
+code-follows program goal variables = record {
+  each_limit = λ limit.
+      finish (codes_of program) variables (Keeps 0 []) (LeavesNone (node_quiet (λ p. is_single (program p)) goal)) (node_trace program (call_trace program (suc limit)) goal []) limit 0
+      (λ B. At (query_code program goal variables) [] [] [] B limit)
+      (node-reaches program (suc limit) (call_trace program (suc limit)) (λ p env. call-reaches program (suc limit) p env) goal [])
+      (node-runs (codes_of program) (λ p. is_single (program p)) program (call_trace program (suc limit)) (call-runs program (suc limit)) goal 0 (AnswerInstruction variables ∷ []) [] [] [] limit 0);
+}

@@ -1,0 +1,4 @@
+//! Compiled code of ordered goals.
+#![tactic(auto)]
+
+pub mod laws;
