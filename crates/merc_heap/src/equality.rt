@@ -10,6 +10,9 @@ use merc_value::Word;
 
 impl Heap {
     /// Whether two words stand for one value.
+    ///
+    /// Equal words are told at once. Else the cost is the number of parts of the value, in which a cell counts once for
+    /// each way that leads to it.
     pub fn equal(&self, one: Word, other: Word) -> Result<bool, NoMemory>
         requires one { IsBelow (length self.now) one }
         requires other { IsBelow (length self.now) other }
