@@ -1,4 +1,8 @@
 //! Compiled code of ordered goals.
 #![tactic(auto)]
 
-pub mod laws;
+mod arms;
+mod quiet;
+mod singles;
+
+pub use singles::Singles;
