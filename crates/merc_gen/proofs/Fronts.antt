@@ -61,9 +61,9 @@ module _ (single : Procedure → Bool) where
     goal-front (SwitchGoal x arms) m rest = ap (λ k. Switch x (targets single arms m 0) ∷ k) (arms-front arms m rest)
     goal-front (Conditional c t e) m rest =
         two-front _ _ (λ r. condition_code single c m (node_code single t m (Jump (length (node_code single e m [])) ∷ node_code single e m r)))
-            (λ r. front-then (λ k. condition_code single c m k) (λ k. node_code single t m (Jump (length (node_code single e m [])) ∷ node_code single e m k)) (λ k. condition-front c m k)
-                (λ k. front-then (λ k'. node_code single t m k') (λ k'. Jump (length (node_code single e m [])) ∷ node_code single e m k') (λ k'. node-front t m k')
-                    (λ k'. ap (λ x. Jump (length (node_code single e m [])) ∷ x) (node-front e m k')) k) r) rest
+        (λ r. front-then (λ k. condition_code single c m k) (λ k. node_code single t m (Jump (length (node_code single e m [])) ∷ node_code single e m k)) (λ k. condition-front c m k)
+        (λ k. front-then (λ k'. node_code single t m k') (λ k'. Jump (length (node_code single e m [])) ∷ node_code single e m k') (λ k'. node-front t m k')
+        (λ k'. ap (λ x. Jump (length (node_code single e m [])) ∷ x) (node-front e m k')) k) r) rest
     goal-front (Negation n) m rest = two-front _ _ (λ r. negated_code single n m r) (λ r. negated-front n m r) rest
     goal-front (Quantified own n) m rest = node-front n m rest
 

@@ -3,7 +3,7 @@ use Rattle.std.specs.Prelude.{◌≡◌, ◌≤◌, ◌<◌, ℕ, suc, List, [],
 use Rattle.std.proofs.Common.{◌∙◌, ap, sym, arith}
 use Rattle.std.proofs.lemmas.List.{append_assoc, length-append, reverse-append}
 use Rattle.merc_goal_tree.specs.declared.goal.Symbol.{Symbol}
-use Rattle.merc_graded_tree.specs.Nodes.{Node, more_arms}
+use Rattle.merc_graded_tree.specs.Nodes.{Node, no_arms, more_arms}
 use Rattle.merc_graded_tree.specs.Roots.{arms_of, bodies_of}
 
 pub reverse-last : {X : Type 0} (items : List X) (last : X) → reverse (items ++ last ∷ []) ≡ last ∷ reverse items
@@ -44,3 +44,7 @@ pub arms_cut : (symbols : List Symbol) (goals left : List Node) (last : Option N
     → MatchOption last ((goals ≡ []) × (left ≡ [])) (λ one. goals ≡ left ++ one ∷ []) → arms_of symbols goals ≡ whole → arms_of symbols left ≡ whole
 arms_cut symbols goals left None length_is count whole l h n (e, f) same = absurd (omega (arith, l, h, ap length e))
 arms_cut symbols goals left (Some last) length_is count whole l h n e same = arms_taken symbols goals left last count whole e (omega (arith, l, h)) n same
+
+pub arms_none : (symbols : List Symbol) → arms_of symbols [] ≡ no_arms
+arms_none [] = refl
+arms_none (first ∷ rest) = refl

@@ -4,3 +4,4 @@ pub mod Following
 pub mod Singles
 pub mod Turns
 pub mod Waiting
+pub mod Tasks

@@ -2,7 +2,12 @@
 #![tactic(auto)]
 
 mod arms;
+mod basics;
+mod generating;
 mod quiet;
 mod singles;
+mod suffix;
+mod tasks;
 
+pub use generating::generate_goal;
 pub use singles::Singles;

@@ -20,11 +20,7 @@ use std::alloc::Global;
 /// # Errors
 ///
 /// `NoMemory` where memory was refused.
-pub(crate) fn is_cut(
-    alloc: Global,
-    singles: &Singles,
-    goal: &NodeRef<'_>,
-) -> Result<bool, NoMemory>
+pub(crate) fn is_cut(alloc: Global, singles: &Singles, goal: &NodeRef<'_>) -> Result<bool, NoMemory>
     ensures { IfOk result (λ cut. cut ≡ is_once goal.now && not (quiet (contained singles.now) (goal_of goal.now))) }
 {
     if !is_once(goal) {
