@@ -5,3 +5,5 @@ pub mod Singles
 pub mod Turns
 pub mod Waiting
 pub mod Tasks
+pub mod SinglesExamples
+pub mod TasksExamples

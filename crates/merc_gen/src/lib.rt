@@ -4,6 +4,7 @@
 mod arms;
 mod basics;
 mod generating;
+pub mod laws;
 mod quiet;
 mod singles;
 mod suffix;
