@@ -8,3 +8,8 @@ pub mod CallRuns
 pub mod Depths
 pub mod Theorem
 pub mod OneRun
+pub mod Lists
+pub mod Quieting
+pub mod Performing
+pub mod Parting
+pub mod Switching

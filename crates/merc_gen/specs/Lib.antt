@@ -1,3 +1,9 @@
 pub mod Generated
 pub mod GeneratedExamples
 pub mod Following
+pub mod Singles
+pub mod Turns
+pub mod Waiting
+pub mod Tasks
+pub mod SinglesExamples
+pub mod TasksExamples

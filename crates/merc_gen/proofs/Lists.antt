@@ -1,0 +1,50 @@
+-- Goals that are taken from the last to the first.
+use Rattle.std.specs.Prelude.{◌≡◌, ◌≤◌, ◌<◌, ℕ, suc, List, [], ◌∷◌, ◌++◌, length, reverse, refl, Option, Some, None, MatchOption}
+use Rattle.std.proofs.Common.{◌∙◌, ap, sym, arith}
+use Rattle.std.proofs.lemmas.List.{append_assoc, length-append, reverse-append}
+use Rattle.merc_goal_tree.specs.declared.goal.Symbol.{Symbol}
+use Rattle.merc_graded_tree.specs.Nodes.{Node, no_arms, more_arms}
+use Rattle.merc_graded_tree.specs.Roots.{arms_of, bodies_of}
+
+pub reverse-last : {X : Type 0} (items : List X) (last : X) → reverse (items ++ last ∷ []) ≡ last ∷ reverse items
+reverse-last items last = reverse-append items (last ∷ [])
+
+pub reverse-first : {X : Type 0} (first : X) (items : List X) → reverse (first ∷ items) ≡ reverse items ++ first ∷ []
+reverse-first first items = reverse-append (first ∷ []) items
+
+pub reversed_step : {X : Type 0} (old new goals left : List X) (last : X) (whole : List X) → goals ≡ left ++ last ∷ [] → new ≡ old ++ last ∷ []
+    → old ++ reverse goals ≡ whole → new ++ reverse left ≡ whole
+reversed_step old new goals left last whole e f same =
+    ap (λ l. l ++ reverse left) f ∙ append_assoc old (last ∷ []) (reverse left) ∙ ap (λ l. old ++ l) (sym (ap reverse e ∙ reverse-last left last)) ∙ same
+
+pub length-last : {X : Type 0} (items : List X) (last : X) → length (items ++ last ∷ []) ≡ suc (length items)
+length-last [] last = refl
+length-last (first ∷ rest) last = ap suc (length-last rest last)
+
+pub arms_past : (symbols : List Symbol) (goals : List Node) (last : Node) → length symbols ≤ length goals → arms_of symbols (goals ++ last ∷ []) ≡ arms_of symbols goals
+arms_past [] goals last h = refl
+arms_past (first ∷ rest) [] last h = absurd (omega (arith, h))
+arms_past (first ∷ rest) (goal ∷ goals) last h =
+    let k : length rest ≤ length goals = omega (arith, h) in ap (more_arms first goal) (arms_past rest goals last k)
+
+-- one arm that has no symbol less
+pub arms_taken : (symbols : List Symbol) (goals left : List Node) (last : Node) (count : ℕ) (whole : _) → goals ≡ left ++ last ∷ [] → count < length goals → length symbols ≡ count
+    → arms_of symbols goals ≡ whole → arms_of symbols left ≡ whole
+arms_taken symbols goals left last count whole e h n same =
+    sym (arms_past symbols left last (omega (arith, h, n, ap length e, length-last left last))) ∙ ap (arms_of symbols) (sym e) ∙ same
+
+pub bodies_all : (symbols : List Symbol) (goals : List Node) → length goals ≤ length symbols → bodies_of (arms_of symbols goals) ≡ goals
+bodies_all [] [] h = refl
+bodies_all [] (goal ∷ goals) h = absurd (omega (arith, h))
+bodies_all (first ∷ rest) [] h = refl
+bodies_all (first ∷ rest) (goal ∷ goals) h = let k : length goals ≤ length rest = omega (arith, h) in ap (λ l. goal ∷ l) (bodies_all rest goals k)
+
+-- the same of what may have been there
+pub arms_cut : (symbols : List Symbol) (goals left : List Node) (last : Option Node) (length_is count : ℕ) (whole : _) → length_is ≡ length goals → count < length_is → length symbols ≡ count
+    → MatchOption last ((goals ≡ []) × (left ≡ [])) (λ one. goals ≡ left ++ one ∷ []) → arms_of symbols goals ≡ whole → arms_of symbols left ≡ whole
+arms_cut symbols goals left None length_is count whole l h n (e, f) same = absurd (omega (arith, l, h, ap length e))
+arms_cut symbols goals left (Some last) length_is count whole l h n e same = arms_taken symbols goals left last count whole e (omega (arith, l, h)) n same
+
+pub arms_none : (symbols : List Symbol) → arms_of symbols [] ≡ no_arms
+arms_none [] = refl
+arms_none (first ∷ rest) = refl

@@ -1,0 +1,359 @@
+//! The code of goals.
+ghost use Rattle.std.specs.Prelude.{◌≡◌, ◌+◌, ◌++◌, ◌-◌, suc, [], ◌∷◌, length, reverse, IfOk, OnOk};
+ghost use Rattle.merc_code.specs.declared.instruction.Instruction.{Instruction};
+ghost use Rattle.merc_graded_tree.specs.Nodes.{Disjunction, Negation, Switch, goal_of, nodes_of};
+ghost use Rattle.merc_graded_tree.specs.Roots.{arms_of};
+ghost use Rattle.merc_gen.specs.Generated.{goal_code, leaving, node_code};
+ghost use Rattle.merc_gen.specs.Singles.{contained};
+ghost use Rattle.merc_gen.specs.Tasks.{after, decided_code, disjuncts_code, in_turn_code, switched_code, targets_at, task_turns, Performs};
+ghost use Rattle.merc_gen.specs.Turns.{arms_turns, goal_turns, joined_turns, list_turns, node_turns};
+
+use crate::Singles;
+use crate::arms::with_symbols;
+use crate::basics::put_basic;
+use crate::quiet::{is_cut, is_once};
+use crate::suffix::Suffix;
+use crate::tasks::{Arms, Task};
+use merc_base::{NoMemory, Sequence};
+use merc_code::{Instruction, Mark, Target};
+use merc_goal_tree::{Symbol, Var};
+use merc_graded_tree::{NodeRef, NodeView, Parts};
+use std::alloc::Global;
+
+/// The goal's code before a last instruction, where some procedures are known to leave no choice point behind. It takes
+/// time and memory of the order of the goal's size.
+///
+/// # Errors
+///
+/// `NoMemory` where memory was refused.
+pub fn generate_goal(
+    alloc: Global,
+    singles: &Singles,
+    goal: &NodeRef<'_>,
+    last: Instruction,
+) -> Result<Vec<Instruction>, NoMemory>
+    ensures { IfOk result (λ code. code.items ≡ node_code (contained singles.now) goal.now 0 (last ∷ [])) }
+{
+    let mut code = Suffix::new(alloc);
+    code.put_first(last)?;
+    let mut tasks = Vec::new(alloc);
+    tasks.push(Task::Emit(goal.copy(), 0))?;
+    while let Some(task) = tasks.pop() {
+        perform(alloc, singles, task, &mut tasks, &mut code)?;
+    }
+    Ok(code.into_vec())
+}
+
+// Does one task. It may leave others to be done.
+fn perform<'a>(
+    alloc: Global,
+    singles: &Singles,
+    task: Task<'a>,
+    tasks: &mut Vec<Task<'a>>,
+    code: &mut Suffix,
+) -> Result<(), NoMemory>
+    ensures { OnOk result (Performs (contained singles.now) (after (contained singles.now) task.entry) (task_turns task.entry) tasks.old.items code.old tasks.new.items code.new) }
+{
+    match task {
+        Task::Emit(goal, mark) => emit(alloc, singles, goal, mark, tasks, code),
+        Task::Bare(goal, mark) => emit_bare(alloc, singles, &goal, mark, tasks, code),
+        Task::Put(instruction) => code.put_first(instruction),
+        Task::Branch(behind) => put_branch(behind, code),
+        Task::InTurn(goals, mark) => emit_in_turn(singles, goals, mark, tasks, code),
+        Task::Choose(goals, mark, behind) => {
+            emit_disjunct(singles, goals, mark, behind, tasks, code)
+        }
+        Task::Decide(condition, then_part, mark, behind) => {
+            emit_condition(singles, condition, then_part, mark, behind, tasks, code)
+        }
+        Task::Switch(arms) => emit_arm(alloc, singles, arms, tasks, code),
+    }
+}
+
+// The next number.
+fn next_number(mark: usize) -> Result<usize, NoMemory>
+    ensures { IfOk result (λ next. next ≡ suc mark) }
+{
+    match mark.checked_add(1) {
+        Some(next) => Ok(next),
+        // a goal that is nested so deep needs more memory than there is
+        None => Err(NoMemory),
+    }
+}
+
+// A choice point that goes on at a place.
+fn put_branch(behind: usize, code: &mut Suffix) -> Result<(), NoMemory>
+    ensures { OnOk result (code.new ≡ Instruction.Try (length code.old - behind) ∷ code.old) }
+{
+    code.put_first(Instruction::Try(code.len().saturating_sub(behind)))
+}
+
+// A jump to a place.
+fn put_jump(behind: usize, code: &mut Suffix) -> Result<(), NoMemory>
+    ensures { OnOk result (code.new ≡ Instruction.Jump (length code.old - behind) ∷ code.old) }
+{
+    code.put_first(Instruction::Jump(code.len().saturating_sub(behind)))
+}
+
+fn emit<'a>(
+    alloc: Global,
+    singles: &Singles,
+    goal: NodeRef<'a>,
+    mark: usize,
+    tasks: &mut Vec<Task<'a>>,
+    code: &mut Suffix,
+) -> Result<(), NoMemory>
+    ensures { OnOk result (Performs (contained singles.now) (node_code (contained singles.now) goal.entry mark) (node_turns goal.entry) tasks.old.items code.old tasks.new.items code.new) }
+{
+    if !is_cut(alloc, singles, &goal)? {
+        tasks.push(Task::Bare(goal, mark))?;
+        return Ok(());
+    }
+    let inner = next_number(mark)?;
+    code.put_first(Instruction::Commit(Mark::new(mark)))?;
+    tasks.push(Task::Put(Instruction::Mark(Mark::new(mark))))?;
+    tasks.push(Task::Bare(goal, inner))?;
+    Ok(())
+}
+
+fn emit_bare<'a>(
+    alloc: Global,
+    singles: &Singles,
+    goal: &NodeRef<'a>,
+    mark: usize,
+    tasks: &mut Vec<Task<'a>>,
+    code: &mut Suffix,
+) -> Result<(), NoMemory>
+    ensures { OnOk result (Performs (contained singles.now) (goal_code (contained singles.now) (goal_of goal.now) mark) (goal_turns (goal_of goal.now)) tasks.old.items code.old tasks.new.items code.new) }
+{
+    match goal.view() {
+        NodeView::Basic(basic) => put_basic(alloc, basic, code),
+        NodeView::Conjunction(_, goals) => {
+            tasks.push(Task::InTurn(goals, mark))?;
+            Ok(())
+        }
+        NodeView::Disjunction(goals) => start_disjunction(singles, goals, mark, tasks, code),
+        NodeView::Switch(variable, symbols, arms) => {
+            start_switch(alloc, singles, variable, symbols, arms, mark, tasks, code)
+        }
+        NodeView::Conditional(condition, then_part, else_part) => {
+            tasks.push(Task::Decide(condition, then_part, mark, code.len()))?;
+            tasks.push(Task::Emit(else_part, mark))?;
+            Ok(())
+        }
+        NodeView::Negation(inner) => emit_negation(singles, inner, mark, tasks, code),
+        NodeView::Quantified(_, inner) => {
+            tasks.push(Task::Emit(inner, mark))?;
+            Ok(())
+        }
+    }
+}
+
+fn emit_in_turn<'a>(
+    singles: &Singles,
+    goals: Parts<'a>,
+    mark: usize,
+    tasks: &mut Vec<Task<'a>>,
+    code: &mut Suffix,
+) -> Result<(), NoMemory>
+    ensures { OnOk result (Performs (contained singles.now) (in_turn_code (contained singles.now) mark goals.entry) (list_turns goals.entry) tasks.old.items code.old tasks.new.items code.new) }
+{
+    let mut left = goals;
+    match left.take_last() {
+        Some(last) => {
+            tasks.push(Task::InTurn(left, mark))?;
+            tasks.push(Task::Emit(last, mark))?;
+            Ok(())
+        }
+        None => Ok(()),
+    }
+}
+
+// The last disjunct makes no choice point.
+fn start_disjunction<'a>(
+    singles: &Singles,
+    goals: Parts<'a>,
+    mark: usize,
+    tasks: &mut Vec<Task<'a>>,
+    code: &mut Suffix,
+) -> Result<(), NoMemory>
+    ensures { OnOk result (Performs (contained singles.now) (goal_code (contained singles.now) (Disjunction (nodes_of goals.entry)) mark) (joined_turns (nodes_of goals.entry)) tasks.old.items code.old tasks.new.items code.new) }
+{
+    let mut left = goals;
+    match left.take_last() {
+        Some(last) => {
+            tasks.push(Task::Choose(left, mark, code.len()))?;
+            tasks.push(Task::Emit(last, mark))?;
+            Ok(())
+        }
+        None => code.put_first(Instruction::Fail),
+    }
+}
+
+// The last of disjuncts before others.
+fn emit_disjunct<'a>(
+    singles: &Singles,
+    goals: Parts<'a>,
+    mark: usize,
+    behind: usize,
+    tasks: &mut Vec<Task<'a>>,
+    code: &mut Suffix,
+) -> Result<(), NoMemory>
+    ensures { OnOk result (Performs (contained singles.now) (disjuncts_code (contained singles.now) mark behind goals.entry) (list_turns goals.entry) tasks.old.items code.old tasks.new.items code.new) }
+{
+    let mut left = goals;
+    match left.take_last() {
+        Some(last) => {
+            tasks.push(Task::Choose(left, mark, behind))?;
+            tasks.push(Task::Branch(code.len()))?;
+            tasks.push(Task::Emit(last, mark))?;
+            put_jump(behind, code)
+        }
+        None => Ok(()),
+    }
+}
+
+fn emit_condition<'a>(
+    singles: &Singles,
+    condition: NodeRef<'a>,
+    then_part: NodeRef<'a>,
+    mark: usize,
+    behind: usize,
+    tasks: &mut Vec<Task<'a>>,
+    code: &mut Suffix,
+) -> Result<(), NoMemory>
+    ensures { OnOk result (Performs (contained singles.now) (decided_code (contained singles.now) condition.entry then_part.entry mark behind) (suc (suc (suc (node_turns condition.entry + node_turns then_part.entry)))) tasks.old.items code.old tasks.new.items code.new) }
+{
+    let inner = next_number(mark)?;
+    let leaving = leaving(is_once(&condition), mark);
+    tasks.push(Task::Put(Instruction::Mark(Mark::new(mark))))?;
+    tasks.push(Task::Branch(code.len()))?;
+    tasks.push(Task::Bare(condition, inner))?;
+    tasks.push(Task::Put(leaving))?;
+    tasks.push(Task::Emit(then_part, mark))?;
+    put_jump(behind, code)
+}
+
+// What stands behind a condition.
+fn leaving(once: bool, mark: usize) -> Instruction
+    ensures { result ≡ leaving once mark }
+{
+    if once {
+        Instruction::Commit(Mark::new(mark))
+    } else {
+        Instruction::Soften(Mark::new(mark))
+    }
+}
+
+fn emit_negation<'a>(
+    singles: &Singles,
+    goal: NodeRef<'a>,
+    mark: usize,
+    tasks: &mut Vec<Task<'a>>,
+    code: &mut Suffix,
+) -> Result<(), NoMemory>
+    ensures { OnOk result (Performs (contained singles.now) (goal_code (contained singles.now) (Negation goal.entry) mark) (suc (node_turns goal.entry)) tasks.old.items code.old tasks.new.items code.new) }
+{
+    let inner = next_number(mark)?;
+    tasks.push(Task::Put(Instruction::Mark(Mark::new(mark))))?;
+    tasks.push(Task::Branch(code.len()))?;
+    tasks.push(Task::Bare(goal, inner))?;
+    code.put_first(Instruction::Fail)?;
+    code.put_first(Instruction::Commit(Mark::new(mark)))
+}
+
+// The last arm jumps nowhere.
+fn start_switch<'a>(
+    alloc: Global,
+    singles: &Singles,
+    variable: Var,
+    symbols: &'a Sequence<Symbol>,
+    arms: Parts<'a>,
+    mark: usize,
+    tasks: &mut Vec<Task<'a>>,
+    code: &mut Suffix,
+) -> Result<(), NoMemory>
+    ensures { OnOk result (Performs (contained singles.now) (goal_code (contained singles.now) (Switch variable (arms_of symbols.now arms.entry)) mark) (arms_turns (arms_of symbols.now arms.entry)) tasks.old.items code.old tasks.new.items code.new) }
+{
+    let mut left = with_symbols(arms, symbols.as_slice().len());
+    let Some(last) = left.take_last() else {
+        return code.put_first(Instruction::Switch(variable, Sequence::new(alloc)));
+    };
+    tasks.push(Task::Switch(Arms {
+        variable,
+        symbols,
+        left,
+        mark,
+        behind: code.len(),
+        starts: Vec::new(alloc),
+    }))?;
+    tasks.push(Task::Emit(last, mark))?;
+    Ok(())
+}
+
+// The last of the arms before those whose code is there, or the switch.
+fn emit_arm<'a>(
+    alloc: Global,
+    singles: &Singles,
+    arms: Arms<'a>,
+    tasks: &mut Vec<Task<'a>>,
+    code: &mut Suffix,
+) -> Result<(), NoMemory>
+    ensures { OnOk result (Performs (contained singles.now) (switched_code (contained singles.now) arms.entry) (list_turns arms.entry.left) tasks.old.items code.old tasks.new.items code.new) }
+{
+    let Arms {
+        variable,
+        symbols,
+        mut left,
+        mark,
+        behind,
+        mut starts,
+    } = arms;
+    let start = code.len();
+    starts.push(start)?;
+    match left.take_last() {
+        Some(last) => {
+            put_jump(behind, code)?;
+            tasks.push(Task::Switch(Arms {
+                variable,
+                symbols,
+                left,
+                mark,
+                behind,
+                starts,
+            }))?;
+            tasks.push(Task::Emit(last, mark))?;
+            Ok(())
+        }
+        None => {
+            let targets = targets(alloc, symbols.as_slice(), starts, start)?;
+            code.put_first(Instruction::Switch(variable, targets))
+        }
+    }
+}
+
+// The targets of symbols whose arms begin at these places, the last first, and of which the first begins at this one.
+fn targets(
+    alloc: Global,
+    symbols: &[Symbol],
+    starts: Vec<usize>,
+    first: usize,
+) -> Result<Sequence<Target>, NoMemory>
+    ensures { IfOk result (λ targets. targets ≡ targets_at symbols.now (reverse starts.items) first) }
+{
+    let mut starts = starts;
+    let mut targets = Sequence::new(alloc);
+    let mut left = symbols;
+    while let [symbol, rest @ ..] = left {
+        let start = match starts.pop() {
+            Some(start) => start,
+            None => return Ok(targets),
+        };
+        targets.push(Target {
+            symbol: *symbol,
+            skipped: first.saturating_sub(start),
+        })?;
+        left = rest;
+    }
+    Ok(targets)
+}

@@ -1,0 +1,156 @@
+//! Goals that leave no choice point behind.
+ghost use Rattle.std.specs.Prelude.{◌≡◌, ◌&&◌, ◌++◌, not, reverse, IfOk, OnOk};
+ghost use Rattle.merc_graded_tree.specs.Nodes.{nodes_of, goal_of, outputs_of, category_of};
+ghost use Rattle.merc_graded_tree.specs.Roots.{arms_of, bodies_of};
+ghost use Rattle.merc_graded_tree.specs.Views.{viewed};
+ghost use Rattle.merc_meaning.specs.Runs.{answers_once, is_at_most_one};
+ghost use Rattle.merc_gen.specs.Generated.{basic_quiet, is_once, quiet};
+ghost use Rattle.merc_gen.specs.Singles.{contained};
+ghost use Rattle.merc_gen.specs.Waiting.{Looks, Spreads};
+
+use crate::Singles;
+use crate::arms::with_symbols;
+use merc_base::{Category, Most, NoMemory};
+use merc_goal_tree::{Symbol, Vars};
+use merc_graded_tree::{BasicGoal, NodeRef, NodeView, Parts};
+use std::alloc::Global;
+
+/// Whether the goal's choice points have to be dropped behind it: it answers once and may leave some.
+///
+/// # Errors
+///
+/// `NoMemory` where memory was refused.
+pub(crate) fn is_cut(alloc: Global, singles: &Singles, goal: &NodeRef<'_>) -> Result<bool, NoMemory>
+    ensures { IfOk result (λ cut. cut ≡ is_once goal.now && not (quiet (contained singles.now) (goal_of goal.now))) }
+{
+    if !is_once(goal) {
+        return Ok(false);
+    }
+    Ok(!is_quiet(alloc, singles, goal)?)
+}
+
+/// Whether the goal answers once.
+pub(crate) fn is_once(goal: &NodeRef<'_>) -> bool
+    ensures { result ≡ is_once goal.now }
+{
+    answers_once(goal.outputs(), goal.category())
+}
+
+fn answers_once(outputs: &Vars, category: Option<Category>) -> bool
+    ensures { result ≡ answers_once outputs.now category }
+{
+    match (outputs.as_slice(), category) {
+        ([], _) => true,
+        (_, Some(category)) => is_at_most_one(category.most()),
+        (_, None) => false,
+    }
+}
+
+fn is_at_most_one(most: Most) -> bool
+    ensures { result ≡ is_at_most_one most }
+{
+    match most {
+        Most::Zero | Most::One => true,
+        Most::Many => false,
+    }
+}
+
+// Whether the goal leaves no choice point behind, without looking at whether it answers once. Parts of it that answer
+// once are not looked into.
+fn is_quiet(alloc: Global, singles: &Singles, goal: &NodeRef<'_>) -> Result<bool, NoMemory>
+    ensures { IfOk result (λ passes. passes ≡ quiet (contained singles.now) (goal_of goal.now)) }
+{
+    let mut left = Vec::new(alloc);
+    if !spread(singles, goal.view(), &mut left)? {
+        return Ok(false);
+    }
+    while let Some(next) = left.pop() {
+        if !look(singles, &next, &mut left)? {
+            return Ok(false);
+        }
+    }
+    Ok(true)
+}
+
+// Whether nothing speaks against a goal but what is put behind the others. One that answers once drops its choice points.
+fn look<'a>(
+    singles: &Singles,
+    goal: &NodeRef<'a>,
+    left: &mut Vec<NodeRef<'a>>,
+) -> Result<bool, NoMemory>
+    ensures { IfOk result (λ passes. Looks (contained singles.now) goal.now passes left.old.items left.new.items) }
+{
+    if is_once(goal) {
+        return Ok(true);
+    }
+    spread(singles, goal.view(), left)
+}
+
+// The same of a goal that may answer more than once.
+fn spread<'a>(
+    singles: &Singles,
+    view: NodeView<'a>,
+    left: &mut Vec<NodeRef<'a>>,
+) -> Result<bool, NoMemory>
+    ensures { IfOk result (λ passes. Spreads (contained singles.now) (viewed view.entry) passes left.old.items left.new.items) }
+{
+    match view {
+        NodeView::Basic(goal) => Ok(is_quiet_basic(singles, goal)),
+        NodeView::Conjunction(_, goals) => {
+            push_all(goals, left)?;
+            Ok(true)
+        }
+        NodeView::Disjunction(goals) => {
+            if goals.len() > 1 {
+                return Ok(false);
+            }
+            push_all(goals, left)?;
+            Ok(true)
+        }
+        NodeView::Switch(_, symbols, arms) => {
+            push_arms(symbols.as_slice(), arms, left)?;
+            Ok(true)
+        }
+        NodeView::Conditional(condition, then_part, else_part) => {
+            left.push(else_part)?;
+            left.push(then_part)?;
+            Ok(is_once(&condition))
+        }
+        NodeView::Negation(_) => Ok(true),
+        NodeView::Quantified(_, inner) => {
+            left.push(inner)?;
+            Ok(true)
+        }
+    }
+}
+
+fn is_quiet_basic(singles: &Singles, goal: &BasicGoal) -> bool
+    ensures { result ≡ basic_quiet (contained singles.now) goal.now }
+{
+    match goal {
+        BasicGoal::Call(procedure, _) => singles.contains(*procedure),
+        _ => true,
+    }
+}
+
+// Puts goals behind the others, from the last to the first.
+fn push_all<'a>(goals: Parts<'a>, left: &mut Vec<NodeRef<'a>>) -> Result<(), NoMemory>
+    ensures { OnOk result (left.new.items ≡ left.old.items ++ reverse goals.entry) }
+{
+    let mut goals = goals;
+    while let Some(last) = goals.take_last() {
+        left.push(last)?;
+    }
+    Ok(())
+}
+
+// Those of arms that have symbols.
+fn push_arms<'a>(
+    symbols: &[Symbol],
+    arms: Parts<'a>,
+    left: &mut Vec<NodeRef<'a>>,
+) -> Result<(), NoMemory>
+    ensures { OnOk result (left.new.items ≡ left.old.items ++ reverse (bodies_of (arms_of symbols.now arms.entry))) }
+{
+    push_all(with_symbols(arms, symbols.len()), left)
+}
