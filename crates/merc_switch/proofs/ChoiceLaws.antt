@@ -138,12 +138,18 @@ and_cong : (a b c : Bool) → (a ≡ true → b ≡ c) → (a && b) ≡ (a && c)
 and_cong true b c h = h refl
 and_cong false b c h = refl
 
--- It is enough to go through the variables of the first disjunct.
-pub opened_first : (bound : Bound) (used : List ℕ) (first : Node) (rest : List Node) (variables : List ℕ) → ((v : ℕ) → among variables v ≡ is_there (symbol_at v first))
-    → (v : ℕ) → (is_open bound used (first ∷ rest) v && among variables v) ≡ among (opened_in bound used (first ∷ rest)) v
-opened_first bound used first rest variables are v =
+open_all : (bound : Bound) (used : List ℕ) (disjuncts : List Node) (v : ℕ) → is_open bound used disjuncts v ≡ true → list_all (λ d. is_there (symbol_at v d)) disjuncts ≡ true
+open_all bound used disjuncts v h =
+    let all = list_all (λ d. is_there (symbol_at v d)) disjuncts in
+    and_second (bound v) all (and_second (not (among used v)) (bound v && all) h)
+
+-- It is enough to go through the variables of one disjunct.
+pub opened_one : (bound : Bound) (used : List ℕ) (disjuncts : List Node) (one : Node) (variables : List ℕ) → ((test : Node → Bool) → list_all test disjuncts ≡ true → test one ≡ true)
+    → ((v : ℕ) → among variables v ≡ is_there (symbol_at v one)) → (v : ℕ) → (is_open bound used disjuncts v && among variables v) ≡ among (opened_in bound used disjuncts) v
+opened_one bound used [] one variables member are v = clash (member (λ d. false) refl) refl
+opened_one bound used (first ∷ rest) one variables member are v =
     and_cong (is_open bound used (first ∷ rest) v) (among variables v) (among (split_variables (first ∷ rest)) v)
-    (λ h. let there = open_first bound used first rest v h in are v ∙ there ∙ sym (split_first first rest v there))
+    (λ h. are v ∙ member (λ d. is_there (symbol_at v d)) (open_all bound used (first ∷ rest) v h) ∙ sym (split_first first rest v (open_first bound used first rest v h)))
     ∙ sym (among-filter (λ w. is_open bound used (first ∷ rest) w) (split_variables (first ∷ rest)) v)
 
 -- the symbols of splits fit the types
@@ -223,3 +229,26 @@ module _ (declared : List TypeDef) (types : ℕ → TypeExpr) where
       ap (λ l. or_else (least l) (least opened))
       (filter_agrees (λ v. is_complete declared types (first ∷ rest) v) (λ v. is_covered declared (first ∷ rest) v) (λ v. is_open bound used (first ∷ rest) v) (split_variables (first ∷ rest))
       (λ v h. complete_is bound used (first ∷ rest) v fits (omega arith) h))
+
+-- What is chosen each disjunct splits.
+
+least_member : (xs : List ℕ) (v : ℕ) → least xs ≡ Some v → among xs v ≡ true
+least_member [] v h = absurd (cc)
+least_member (x ∷ xs) v h = let same : least_of x xs ≡ v = cc in subst (λ n. among (x ∷ xs) n ≡ true) same (least_in x xs)
+
+either_of : {A : Type 0} (one other : Option ℕ) (v : ℕ) → or_else one other ≡ Some v → (one ≡ Some v → A) → (other ≡ Some v → A) → A
+either_of None other v h f g = g h
+either_of (Some n) other v h f g = f h
+
+pub chosen_split : (declared : List TypeDef) (bound : Bound) (used : List ℕ) (disjuncts : List Node) (v : ℕ) → Some v ≡ chosen declared bound used disjuncts
+    → list_all (λ disjunct. is_there (symbol_at v disjunct)) disjuncts ≡ true
+chosen_split declared bound used disjuncts v h =
+    let covers : ℕ → Bool = λ w. is_covered declared disjuncts w in
+    let opened = opened_in bound used disjuncts in
+    let all = list_all (λ disjunct. is_there (symbol_at v disjunct)) disjuncts in
+    let there : among opened v ≡ true =
+    either_of (least (filter covers opened)) (least opened) v (sym h)
+    (λ k. and_second (covers v) (among opened v) (sym (among-filter covers opened v) ∙ least_member (filter covers opened) v k)) (λ k. least_member opened v k) in
+    let is : is_open bound used disjuncts v ≡ true =
+    and_first (is_open bound used disjuncts v) (among (split_variables disjuncts) v) (sym (among-filter (λ x. is_open bound used disjuncts x) (split_variables disjuncts) v) ∙ there) in
+    and_second (bound v) all (and_second (not (among used v)) (bound v && all) is)

@@ -118,6 +118,13 @@ inner_performs declared variable symbol group rest goals bound have some is =
       smaller = performs.smaller;
     }
 
+pub inner_is : (variable : ℕ) (group : Group) (used : List ℕ) (left : ℕ) (outputs : List ℕ) → used ≡ behind group.used variable → left ≡ group.left - 1
+    → outputs ≡ filter (λ output. in_nodes (nodes_of group.disjuncts) output) (outputs_of group.whole)
+    → record { whole = group.whole; disjuncts = group.disjuncts; used = used; left = left; outputs = outputs; category = None } ≡ inner_group variable group
+inner_is variable group used left outputs used_is left_is outputs_are =
+    let made : List ℕ → ℕ → List ℕ → Group = λ u l o. record { whole = group.whole; disjuncts = group.disjuncts; used = u; left = l; outputs = o; category = None } in
+    ap (λ u. made u left outputs) used_is ∙ ap (λ l. made (behind group.used variable) l outputs) left_is ∙ ap (made (behind group.used variable) (group.left - 1)) outputs_are
+
 -- what the candidates tell of a group, whose disjuncts they were given
 module _ (declared : List TypeDef) (bound : List ℕ) (group : Group) (disjuncts : List Node) (before after : Candidates) (choice : Option ℕ) (same : disjuncts ≡ group.disjuncts)
     (takes : Takes declared disjuncts before after choice) (left : AreLeft declared (among bound) group.used group.disjuncts before.untried before.uncovered) where

@@ -10,7 +10,7 @@ use Rattle.merc_grading.specs.Switches.{symbol_at, is_there, split_variables, le
 use Rattle.merc_switch.specs.declared.choosing.Candidates.{Candidates}
 use Rattle.merc_switch.specs.Choosing.{is_covered, is_open, opened_in, chosen, AreLeft, Takes}
 use Rattle.merc_switch.proofs.Occurrences.{or_assoc, or_false}
-use Rattle.merc_switch.proofs.ChoiceLaws.{among-filter, least_is, least_none, opened_first}
+use Rattle.merc_switch.proofs.ChoiceLaws.{among-filter, least_is, least_none, opened_one}
 
 clash : {A : Type 0} {b : Bool} → b ≡ true → b ≡ false → A
 clash p q = absurd (cc)
@@ -141,33 +141,22 @@ module _ (declared : List TypeDef) (bound : Bound) (used : List ℕ) (disjuncts 
       or_right true = refl
       or_right false = refl
 
--- those of the first disjunct
+-- those of one disjunct
 
-no_first : {A : Type 0} {d : Node} → ◌≡◌ {A = Option Node} None (Some d) → A
-no_first h = absurd (cc)
-
-no_none : {A : Type 0} {d : Node} → ◌≡◌ {A = Option Node} (Some d) None → A
-no_none h = absurd (cc)
-
-pub left_first : (declared : List TypeDef) (bound : Bound) (used : List ℕ) (disjuncts : List Node) (first : Node) (numbers untried uncovered : List ℕ) → slice_get disjuncts 0 ≡ Some first
-    → ((v : ℕ) → among numbers v ≡ is_there (symbol_at v first)) → ((v : ℕ) → among untried v ≡ (is_open bound used disjuncts v && among numbers v)) → uncovered ≡ []
-    → AreLeft declared bound used disjuncts untried uncovered
-left_first declared bound used [] first numbers untried uncovered is are opened none = no_first is
-left_first declared bound used (other ∷ rest) first numbers untried uncovered is are opened none =
-    let same : first ≡ other = cc in
-    record {
-      all_are = λ v. ap (λ l. among untried v || among l v) none ∙ or_false (among untried v) ∙ opened v
-          ∙ opened_first bound used other rest numbers (λ w. are w ∙ ap (λ d. is_there (symbol_at w d)) same) v;
-      uncovered_are = λ v h. clash h (ap (λ l. among l v) none);
-    }
-
-pub left_none : (declared : List TypeDef) (bound : Bound) (used : List ℕ) (disjuncts : List Node) (untried uncovered : List ℕ) → slice_get disjuncts 0 ≡ None → untried ≡ [] → uncovered ≡ []
-    → AreLeft declared bound used disjuncts untried uncovered
-left_none declared bound used [] untried uncovered is empty none = record {
-  all_are = λ v. ap (λ l. among untried v || among l v) none ∙ ap (λ l. among l v || false) empty;
+pub left_one : (declared : List TypeDef) (bound : Bound) (used : List ℕ) (disjuncts : List Node) (one : Node) (numbers untried uncovered : List ℕ)
+    → ((test : Node → Bool) → list_all test disjuncts ≡ true → test one ≡ true) → ((v : ℕ) → among numbers v ≡ is_there (symbol_at v one))
+    → ((v : ℕ) → among untried v ≡ (is_open bound used disjuncts v && among numbers v)) → uncovered ≡ [] → AreLeft declared bound used disjuncts untried uncovered
+left_one declared bound used disjuncts one numbers untried uncovered member are opened none = record {
+  all_are = λ v. ap (λ l. among untried v || among l v) none ∙ or_false (among untried v) ∙ opened v ∙ opened_one bound used disjuncts one numbers member are v;
   uncovered_are = λ v h. clash h (ap (λ l. among l v) none);
 }
-left_none declared bound used (first ∷ rest) untried uncovered is empty none = no_none is
+
+pub left_none : (declared : List TypeDef) (bound : Bound) (used : List ℕ) (disjuncts : List Node) (untried uncovered : List ℕ) → disjuncts ≡ [] → untried ≡ [] → uncovered ≡ []
+    → AreLeft declared bound used disjuncts untried uncovered
+left_none declared bound used disjuncts untried uncovered is empty none = subst (λ l. AreLeft declared bound used l untried uncovered) (sym is) (record {
+  all_are = λ v. ap (λ l. among untried v || among l v) none ∙ ap (λ l. among l v || false) empty;
+  uncovered_are = λ v h. clash h (ap (λ l. among l v) none);
+})
 
 -- what is taken, once those before it were tried
 

@@ -4,6 +4,8 @@ pub mod Beginnings
 pub mod BeginningsExamples
 pub mod Splits
 pub mod SplitsExamples
+pub mod Counting
+pub mod CountingExamples
 pub mod Keys
 pub mod KeysExamples
 pub mod Symbols

@@ -1,11 +1,12 @@
 //! Disjuncts by the symbols of a variable.
-ghost use Rattle.std.specs.Prelude.{◌≡◌, ◌<◌, ◌==◌, ◌++◌, ◌∷◌, [], length, if◌then◌else◌, IfOk, OnOk};
-ghost use Rattle.std.specs.List.{slice_index_or, slice_set, position_or_len};
+ghost use Rattle.std.specs.Prelude.{◌≡◌, ◌<◌, ◌==◌, ◌++◌, ◌∷◌, [], true, length, if◌then◌else◌, IfOk, OnOk};
+ghost use Rattle.std.specs.List.{list_all, slice_index_or, slice_set, position_or_len};
 ghost use Rattle.merc_grading.specs.Known.{same_symbol};
-ghost use Rattle.merc_grading.specs.Switches.{grouped};
+ghost use Rattle.merc_grading.specs.Switches.{symbol_at, is_there, grouped};
 ghost use Rattle.merc_switch.specs.Arms.{AreArms};
 ghost use Rattle.merc_switch.specs.Symbols.{with_symbol};
 
+use crate::counted::{Disjuncts, counted_each};
 use crate::disjuncts::Disjunct;
 use crate::symbols::SymbolSet;
 use merc_base::{NoMemory, Sequence};
@@ -16,11 +17,18 @@ use std::alloc::Global;
 #[derive(Drop)]
 pub(crate) struct Arms<'a> {
     pub(crate) symbols: Vec<Symbol>,
-    pub(crate) groups: Vec<Sequence<Disjunct<'a>>>,
+    pub(crate) groups: Vec<Disjuncts<'a>>,
 }
 
-/// Disjuncts by the symbols by which they split a variable at their beginnings. The symbols stand in the order in which
-/// they come first.
+// The same before the disjuncts of each are counted.
+#[derive(Drop)]
+struct Parts<'a> {
+    symbols: Vec<Symbol>,
+    groups: Vec<Sequence<Disjunct<'a>>>,
+}
+
+/// Disjuncts by the symbols by which they all split a variable at their beginnings. The symbols stand in the order in
+/// which they come first.
 ///
 /// # Errors
 ///
@@ -28,9 +36,26 @@ pub(crate) struct Arms<'a> {
 pub(crate) fn arms_of<'a>(
     alloc: Global,
     variable: Var,
-    disjuncts: Vec<Disjunct<'a>>,
+    disjuncts: Disjuncts<'a>,
 ) -> Result<Arms<'a>, NoMemory>
-    ensures { IfOk result (λ arms. AreArms arms.symbols.items arms.groups.items (grouped variable disjuncts.entry.items)) }
+    requires { list_all (λ disjunct. is_there (symbol_at variable disjunct)) disjuncts ≡ true }
+    ensures { IfOk result (λ arms. AreArms arms.symbols.items arms.groups.items (grouped variable disjuncts.entry)) }
+{
+    let (items, counts) = disjuncts.into_parts();
+    let parts = parts_of(alloc, variable, items)?;
+    Ok(Arms {
+        symbols: parts.symbols,
+        groups: counted_each(alloc, parts.groups, counts)?,
+    })
+}
+
+// Disjuncts by their symbols.
+fn parts_of<'a>(
+    alloc: Global,
+    variable: Var,
+    disjuncts: Vec<Disjunct<'a>>,
+) -> Result<Parts<'a>, NoMemory>
+    ensures { IfOk result (λ parts. AreArms parts.symbols.items parts.groups.items (grouped variable disjuncts.entry.items)) }
 {
     let mut places = SymbolSet::new(alloc);
     let mut symbols = Vec::new(alloc);
@@ -41,7 +66,7 @@ pub(crate) fn arms_of<'a>(
             push_at(&mut groups, place, disjunct)?;
         }
     }
-    Ok(Arms { symbols, groups })
+    Ok(Parts { symbols, groups })
 }
 
 // The place of a symbol's arm. A new symbol has an arm without disjuncts behind the others.

@@ -1,11 +1,10 @@
 //! The variables on which disjuncts can be a switch.
 ghost use Rattle.std.specs.Prelude.{◌≡◌, ℕ, ◌&&◌, [], List, IfOk};
-ghost use Rattle.std.specs.List.{list_all};
 ghost use Rattle.merc_tree.specs.declared.declarations.TypeDef.{TypeDef};
 ghost use Rattle.merc_order.specs.Bound.{among};
-ghost use Rattle.merc_grading.specs.Switches.{is_there, symbol_at};
 ghost use Rattle.merc_switch.specs.Choosing.{is_open, AreLeft, Takes};
 
+use crate::counted::Disjuncts;
 use crate::covering::is_covered;
 use crate::disjuncts::Disjunct;
 use crate::ordered::OrderedVars;
@@ -27,7 +26,7 @@ pub(crate) struct Candidates {
 }
 
 impl Candidates {
-    /// Those of the disjuncts.
+    /// Those of the disjuncts. They are looked for among the variables that one of the disjuncts splits.
     ///
     /// # Errors
     ///
@@ -36,12 +35,12 @@ impl Candidates {
         alloc: Global,
         bound: &VarSet,
         used: &VarSet,
-        disjuncts: &[Disjunct<'_>],
+        disjuncts: &Disjuncts<'_>,
     ) -> Result<Candidates, NoMemory>
         ensures { IfOk result (λ left. (declared : List TypeDef) → AreLeft declared (among bound.now) used.now disjuncts.now left.untried left.uncovered) }
     {
-        let untried = match disjuncts.first() {
-            Some(first) => open_among(alloc, bound, used, disjuncts, first.variables())?,
+        let untried = match disjuncts.as_slice().get(disjuncts.fewest()) {
+            Some(fewest) => open_among(alloc, bound, used, disjuncts, fewest.variables())?,
             None => OrderedVars::new(alloc),
         };
         Ok(Candidates {
@@ -74,7 +73,7 @@ fn open_among(
     alloc: Global,
     bound: &VarSet,
     used: &VarSet,
-    disjuncts: &[Disjunct<'_>],
+    disjuncts: &Disjuncts<'_>,
     numbers: &[usize],
 ) -> Result<OrderedVars, NoMemory>
     ensures { IfOk result (λ opened. (variable : ℕ) → among opened variable ≡ (is_open (among bound.now) used.now disjuncts.now variable && among numbers.now variable)) }
@@ -89,21 +88,9 @@ fn open_among(
     Ok(opened)
 }
 
-// Whether disjuncts can be a switch on the variable. Where it is not the search ends at the first disjunct that does not
-// split it.
-fn is_open(bound: &VarSet, used: &VarSet, disjuncts: &[Disjunct<'_>], variable: Var) -> bool
+// Whether disjuncts can be a switch on the variable.
+fn is_open(bound: &VarSet, used: &VarSet, disjuncts: &Disjuncts<'_>, variable: Var) -> bool
     ensures { result ≡ is_open (among bound.now) used.now disjuncts.now variable }
 {
-    !used.contains(variable) && bound.contains(variable) && all_split(disjuncts, variable)
-}
-
-fn all_split(disjuncts: &[Disjunct<'_>], variable: Var) -> bool
-    ensures { result ≡ list_all (λ disjunct. is_there (symbol_at variable disjunct)) disjuncts.now }
-{
-    for disjunct in disjuncts {
-        if disjunct.symbol(variable).is_none() {
-            return false;
-        }
-    }
-    true
+    !used.contains(variable) && bound.contains(variable) && disjuncts.all_split(variable)
 }

@@ -3,6 +3,7 @@ ghost use Rattle.std.specs.Prelude.{◌≡◌, ℕ, nat_eq, length, IfOk};
 ghost use Rattle.indexmap.specs.IndexMap.{get};
 ghost use Rattle.merc_order.specs.Bound.{among};
 ghost use Rattle.merc_grading.specs.Switches.{beginning, symbol_in, symbol_at, is_there};
+ghost use Rattle.merc_switch.specs.Counting.{one_if, occurrences};
 
 use crate::beginnings::splits_of;
 use indexmap::IndexMap;
@@ -72,7 +73,8 @@ impl<'a> Disjunct<'a> {
 
     /// The variables that it splits at its beginning, by their numbers, each once.
     pub(crate) fn variables(&self) -> &[usize]
-        ensures { (variable : ℕ) → among result.now variable ≡ is_there (symbol_at variable self.now) }
+        ensures members { (variable : ℕ) → among result.now variable ≡ is_there (symbol_at variable self.now) }
+        ensures once { (variable : ℕ) → occurrences result.now variable ≡ one_if (is_there (symbol_at variable self.now)) }
     {
         self.symbols.keys().as_slice()
     }

@@ -1,8 +1,8 @@
 //! How disjuncts are taken apart into tasks.
 ghost use Rattle.std.specs.Prelude.{◌≡◌, ◌∷◌, ◌++◌, ◌≤◌, [], true, List, length, map, Some, IfOk, IfSome, OnOk};
-ghost use Rattle.std.specs.List.{AllByRecursion};
+ghost use Rattle.std.specs.List.{list_all, AllByRecursion};
 ghost use Rattle.merc_graded_tree.specs.Nodes.{Node};
-ghost use Rattle.merc_grading.specs.Switches.{grouped, symbol_at};
+ghost use Rattle.merc_grading.specs.Switches.{grouped, symbol_at, is_there};
 ghost use Rattle.merc_switch.specs.declared.tasks.Task.TheVariants.{Judge, Close};
 ghost use Rattle.merc_switch.specs.Tasks.{Performs};
 ghost use Rattle.merc_switch.specs.Plans.{disjunction_plan, switch_plan, finds, arm_plan, inner_group, outer_label, AreNarrowed, HaveSymbol};
@@ -10,6 +10,7 @@ ghost use Rattle.merc_switch.specs.Plans.{disjunction_plan, switch_plan, finds, 
 use crate::arms::arms_of;
 use crate::choosing::Candidates;
 use crate::copying::copy_variables;
+use crate::counted::Disjuncts;
 use crate::disjuncts::Disjunct;
 use crate::occurring::outputs_in;
 use crate::tasks::{Group, Task, Tasks};
@@ -36,8 +37,7 @@ pub(crate) fn judge<'a>(
     ensures { OnOk result ((goals : List Node) → Performs known.now.types (Judge group.entry ∷ tasks.old) goals bound.now tasks.new goals bound.now) }
 {
     let mut group = group;
-    let disjuncts = group.disjuncts.as_slice();
-    let mut candidates = Candidates::of(alloc, bound, &group.used, disjuncts)?;
+    let mut candidates = Candidates::of(alloc, bound, &group.used, &group.disjuncts)?;
     let mut narrowed = false;
     while group.left > 0 {
         let disjuncts = group.disjuncts.as_slice();
@@ -161,9 +161,10 @@ fn plan_switch<'a>(
     group: Group<'a>,
     tasks: &mut Tasks<'a>,
 ) -> Result<(), NoMemory>
+    requires { list_all (λ disjunct. is_there (symbol_at variable disjunct)) group.disjuncts ≡ true }
     ensures { OnOk result (tasks.new ≡ switch_plan variable group.entry ++ tasks.old) }
 {
-    let arms = arms_of(alloc, variable, group.disjuncts.into_vec())?;
+    let arms = arms_of(alloc, variable, group.disjuncts)?;
     tasks.push(Task::Close(Label {
         root: Root::Switch(variable, Sequence::from_vec(arms.symbols)),
         outputs: group.outputs,
@@ -183,7 +184,7 @@ fn plan_switch<'a>(
 fn push_arms<'a>(
     alloc: Global,
     outer: &Outer<'a>,
-    arms: Vec<Sequence<Disjunct<'a>>>,
+    arms: Vec<Disjuncts<'a>>,
     tasks: &mut Tasks<'a>,
 ) -> Result<(), NoMemory>
     ensures { OnOk result (tasks.new ≡ map (λ disjuncts. arm_plan outer.now.whole outer.now.used outer.now.left outer.now.variable disjuncts) arms.entry.items ++ tasks.old) }
@@ -199,7 +200,7 @@ fn push_arms<'a>(
 fn arm_task<'a>(
     alloc: Global,
     outer: &Outer<'a>,
-    disjuncts: Sequence<Disjunct<'a>>,
+    disjuncts: Disjuncts<'a>,
 ) -> Result<Task<'a>, NoMemory>
     ensures { IfOk result (λ task. task ≡ arm_plan outer.now.whole outer.now.used outer.now.left outer.now.variable disjuncts.entry) }
 {

@@ -5,6 +5,8 @@ mod arms;
 mod beginnings;
 mod choosing;
 mod copying;
+mod counted;
+mod counts;
 mod covering;
 mod disjuncts;
 mod finding;

@@ -6,10 +6,11 @@ ghost use Rattle.merc_grading.specs.Switches.{split_variables};
 ghost use Rattle.merc_switch.specs.Plans.{plan, in_turn, disjoined, decided};
 
 use crate::copying::{copy_variables, label_with};
+use crate::counted::Disjuncts;
 use crate::disjuncts::Disjunct;
 use crate::tasks::{Group, Task, Tasks};
 use crate::variables::VarSet;
-use merc_base::{NoMemory, Sequence};
+use merc_base::NoMemory;
 use merc_graded_tree::{Label, NodeRef, NodeView, Parts, Root};
 use std::alloc::Global;
 
@@ -105,7 +106,7 @@ fn plan_disjunction<'a>(
     let left = split_count(&disjuncts)?;
     tasks.push(Task::Judge(Group {
         whole: whole.copy(),
-        disjuncts: Sequence::from_vec(disjuncts),
+        disjuncts: Disjuncts::of(alloc, disjuncts)?,
         used: VarSet::new(alloc),
         left,
         outputs: copy_variables(alloc, whole.outputs())?,

@@ -1,9 +1,9 @@
 //! What is to be done to find the switches of a goal.
 ghost use Rattle.std.specs.Prelude.{◌≡◌, [], ◌∷◌, MatchOption, OnOk};
 
-use crate::disjuncts::Disjunct;
+use crate::counted::Disjuncts;
 use crate::variables::VarSet;
-use merc_base::{Category, NoMemory, Sequence};
+use merc_base::{Category, NoMemory};
 use merc_goal_tree::Vars;
 use merc_graded_tree::{Label, NodeRef};
 use std::alloc::Global;
@@ -31,7 +31,7 @@ pub(crate) enum Task<'a> {
 pub(crate) struct Group<'a> {
     /// The disjunction whose disjuncts they are.
     pub(crate) whole: NodeRef<'a>,
-    pub(crate) disjuncts: Sequence<Disjunct<'a>>,
+    pub(crate) disjuncts: Disjuncts<'a>,
     /// The variables by whose symbols they came together.
     pub(crate) used: VarSet,
     /// By how many variables they can come together still, at most.

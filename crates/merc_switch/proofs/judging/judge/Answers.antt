@@ -4,6 +4,7 @@ use Rattle.merc_order.specs.Bound.{among}
 use Rattle.merc_switch.specs.declared.tasks.Task.TheVariants.{Judge}
 use Rattle.merc_switch.specs.Choosing.{chosen}
 use Rattle.merc_switch.specs.Plans.{HaveSymbol}
+use Rattle.merc_switch.proofs.ChoiceLaws.{chosen_split}
 use Rattle.merc_switch.proofs.InnerGroups.{reaches_end, reaches_inner, choice_told, inner_left, inner_narrowed, ends_open, ends_parted, ends_used_up}
 use Rattle.merc_switch.proofs.judging.judge.Goals as goal
 
@@ -13,10 +14,19 @@ returns-in_default c =
     let bound = c.args.bound.now in
     let group = c.loop-group.group in
     let none : None ≡ chosen declared (among bound) group.used group.disjuncts =
-    choice_told declared bound group _ c.loop-group.candidates c.next.new.self c.in_ok-variable.field-0 c.as_slice-disjuncts-in-loop-group.ensures c.in_ok-variable.ensures c.loop-group.invariant.left None c.in_default.is in
+    choice_told declared bound group _ c.loop-group.candidates c.next.new.self c.in_ok-variable.field-0 c.as_slice-disjuncts.ensures c.in_ok-variable.ensures c.loop-group.invariant.left None c.in_default.is in
     on_ok_weaker c.plan_disjunction.result
     (λ planned. λ goals. reaches_end declared _ (Judge group ∷ c.loop-group.tasks) _ goals bound (c.loop-group.invariant.reaches goals) (ends_open declared group c.loop-group.tasks _ goals bound none planned))
     c.plan_disjunction.ensures
+
+pub plan_switch-requires : goal.plan_switch-requires
+plan_switch-requires c =
+    let declared = c.args.known.now.types in
+    let bound = c.args.bound.now in
+    let group = c.loop-group.group in
+    let variable = c.in-Some.variable in
+    chosen_split declared (among bound) group.used group.disjuncts variable
+    (choice_told declared bound group _ c.loop-group.candidates c.next.new.self c.in_ok-variable.field-0 c.as_slice-disjuncts.ensures c.in_ok-variable.ensures c.loop-group.invariant.left (Some variable) c.in-Some.is)
 
 pub returns-in_default-common_symbol : goal.returns-in_default-common_symbol
 returns-in_default-common_symbol c =
@@ -25,7 +35,7 @@ returns-in_default-common_symbol c =
     let group = c.loop-group.group in
     let variable = c.in-Some.variable in
     let some : Some variable ≡ chosen declared (among bound) group.used group.disjuncts =
-    choice_told declared bound group _ c.loop-group.candidates c.next.new.self c.in_ok-variable.field-0 c.as_slice-disjuncts-in-loop-group.ensures c.in_ok-variable.ensures c.loop-group.invariant.left (Some variable) c.in-Some.is in
+    choice_told declared bound group _ c.loop-group.candidates c.next.new.self c.in_ok-variable.field-0 c.as_slice-disjuncts.ensures c.in_ok-variable.ensures c.loop-group.invariant.left (Some variable) c.in-Some.is in
     on_ok_weaker c.plan_switch.result
     (λ planned. λ goals. reaches_end declared _ (Judge group ∷ c.loop-group.tasks) _ goals bound (c.loop-group.invariant.reaches goals)
     (ends_parted declared variable group c.loop-group.tasks _ goals bound (omega (arith, c.loop-group-test.true)) some planned)) c.plan_switch.ensures
@@ -38,7 +48,7 @@ loop-group-preserved c =
     let variable = c.in-Some.variable in
     let symbol = c.in-Some-common_symbol.symbol in
     let inner = c.in_ok-group.group in
-    let same = c.as_slice-disjuncts-in-loop-group.ensures in
+    let same = c.as_slice-disjuncts.ensures in
     let some : Some variable ≡ chosen declared (among bound) group.used group.disjuncts =
     choice_told declared bound group _ c.loop-group.candidates c.next.new.self c.in_ok-variable.field-0 same c.in_ok-variable.ensures c.loop-group.invariant.left (Some variable) c.in-Some.is in
     let have : HaveSymbol variable symbol group.disjuncts = subst (λ l. HaveSymbol variable symbol l) same c.in-Some-common_symbol.ensures in

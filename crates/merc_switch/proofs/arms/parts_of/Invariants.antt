@@ -1,7 +1,7 @@
 use Rattle.std.proofs.Common.{◌≡◌}
 use Rattle.merc_grading.specs.Switches.{grouped}
 use Rattle.merc_switch.specs.Arms.{AreArms}
-use Rattle.merc_switch.proofs.arms.arms_of.Given as goal
+use Rattle.merc_switch.proofs.arms.parts_of.Given as goal
 
 abbrev pub invariant-loop-disjunct : goal.invariant-loop-disjunct
 invariant-loop-disjunct l = record {
