@@ -1,6 +1,5 @@
 -- Pairs of words whose values are compared.
-use Rattle.std.proofs.Common.{◌≡◌, ℕ, zero, suc, ◌+◌, ◌<◌, ◌≤◌, List, [], ◌∷◌, ◌++◌, length, Option, Some, None, refl, sym, ap, subst, ◌∙◌, arith, slice_get, take, append_assoc}
-use Rattle.std.specs.Prelude.{IfSome}
+use Rattle.std.proofs.Common.{◌≡◌, ℕ, zero, suc, ◌+◌, ◌<◌, ◌≤◌, List, [], ◌∷◌, ◌++◌, length, Option, Some, None, refl, sym, ap, subst, ◌∙◌, arith, slice_get, take}
 use Rattle.std.specs.List.{All}
 use Rattle.merc_value.specs.Value.{Value, Int, Text, Con, none}
 use Rattle.merc_value.specs.Block.{CellData, AreLower, IsBelow, word_values, cell_values, value_of, no_value}
@@ -10,7 +9,7 @@ use Rattle.merc_value.specs.declared.word.Word.TheVariants.{Int as IntWord, Text
 use Rattle.merc_value.proofs.Values.{All-first, All-rest, cell_value_at}
 use Rattle.merc_value.proofs.BlockLaws.{all_raised, found_below}
 use Rattle.merc_heap.specs.Heap.{symbol_of, arguments_in}
-use Rattle.merc_heap.specs.Equality.{size, sizes, pairs, AreSame, AreBelow, weight, IsSplit, Splits}
+use Rattle.merc_heap.specs.Equality.{size, sizes, pairs, AreSame, weight, IsSplit}
 
 size_some : (value : Value) → 0 < size value
 size_some (Int number) = omega arith
@@ -19,67 +18,21 @@ size_some (Con symbol arguments) = omega arith
 
 -- lists of pairs one behind the other
 
-same_front : (cells : List CellData) (xs ys : List (Word × Word)) → AreSame cells (xs ++ ys) → AreSame cells xs
+pub same_front : (cells : List CellData) (xs ys : List (Word × Word)) → AreSame cells (xs ++ ys) → AreSame cells xs
 same_front cells [] ys same = tt
 same_front cells (x ∷ xs) ys same = (same.0, same_front cells xs ys same.1)
 
-same_back : (cells : List CellData) (xs ys : List (Word × Word)) → AreSame cells (xs ++ ys) → AreSame cells ys
+pub same_back : (cells : List CellData) (xs ys : List (Word × Word)) → AreSame cells (xs ++ ys) → AreSame cells ys
 same_back cells [] ys same = same
 same_back cells (x ∷ xs) ys same = same_back cells xs ys same.1
 
-same_both : (cells : List CellData) (xs ys : List (Word × Word)) → AreSame cells xs → AreSame cells ys → AreSame cells (xs ++ ys)
+pub same_both : (cells : List CellData) (xs ys : List (Word × Word)) → AreSame cells xs → AreSame cells ys → AreSame cells (xs ++ ys)
 same_both cells [] ys one other = other
 same_both cells (x ∷ xs) ys one other = (one.0, same_both cells xs ys one.1 other)
 
-below_front : (place : ℕ) (xs ys : List (Word × Word)) → AreBelow place (xs ++ ys) → AreBelow place xs
-below_front place [] ys below = tt
-below_front place (x ∷ xs) ys below = (below.0, below_front place xs ys below.1)
-
-below_back : (place : ℕ) (xs ys : List (Word × Word)) → AreBelow place (xs ++ ys) → AreBelow place ys
-below_back place [] ys below = below
-below_back place (x ∷ xs) ys below = below_back place xs ys below.1
-
-below_both : (place : ℕ) (xs ys : List (Word × Word)) → AreBelow place xs → AreBelow place ys → AreBelow place (xs ++ ys)
-below_both place [] ys one other = other
-below_both place (x ∷ xs) ys one other = (one.0, below_both place xs ys one.1 other)
-
-weight_both : (cells : List CellData) (xs ys : List (Word × Word)) → weight cells (xs ++ ys) ≡ weight cells xs + weight cells ys
+pub weight_both : (cells : List CellData) (xs ys : List (Word × Word)) → weight cells (xs ++ ys) ≡ weight cells xs + weight cells ys
 weight_both cells [] ys = omega arith
 weight_both cells (x ∷ xs) ys = omega (arith, weight_both cells xs ys)
-
--- One round, where the last pair is taken from the stack and split.
-module _ (cells : List CellData) (old popped new : List (Word × Word)) (pair : Word × Word) (last : old ≡ popped ++ pair ∷ []) where
-  pub last_below : AreBelow (length cells) old → IsBelow (length cells) pair.0 × IsBelow (length cells) pair.1
-  last_below below = (below_back (length cells) popped (pair ∷ []) (subst (AreBelow (length cells)) last below)).0
-
-  pub last_same : AreSame cells old → value_of cells pair.0 ≡ value_of cells pair.1
-  last_same same = (same_back cells popped (pair ∷ []) (subst (AreSame cells) last same)).0
-
-  module _ (splits : Splits cells pair.0 pair.1 popped new) where
-    pub round_whole : AreSame cells new → AreSame cells old
-    round_whole same =
-        let same' : AreSame cells (popped ++ splits.parts) = subst (AreSame cells) splits.pushed same in
-        subst (AreSame cells) (sym last) (same_both cells popped (pair ∷ []) (same_front cells popped splits.parts same') (splits.split.whole (same_back cells popped splits.parts same'), tt))
-
-    pub round_each : AreSame cells old → AreSame cells new
-    round_each same =
-        let same' : AreSame cells (popped ++ pair ∷ []) = subst (AreSame cells) last same in
-        subst (AreSame cells) (sym splits.pushed) (same_both cells popped splits.parts (same_front cells popped (pair ∷ []) same') (splits.split.each (same_back cells popped (pair ∷ []) same').0))
-
-    pub round_below : AreBelow (length cells) old → AreBelow (length cells) new
-    round_below below =
-        subst (AreBelow (length cells)) (sym splits.pushed)
-        (below_both (length cells) popped splits.parts (below_front (length cells) popped (pair ∷ []) (subst (AreBelow (length cells)) last below)) splits.split.below)
-
-    pub round_falls : weight cells new < weight cells old
-    round_falls =
-        let before : weight cells old ≡ weight cells popped + weight cells (pair ∷ []) = ap (weight cells) last ∙ weight_both cells popped (pair ∷ []) in
-        let after : weight cells new ≡ weight cells popped + weight cells splits.parts = ap (weight cells) splits.pushed ∙ weight_both cells popped splits.parts in
-        omega (arith, before, after, splits.split.lighter)
-
--- nothing is to be compared of one word
-pub split_one : (cells : List CellData) (word : Word) → IsSplit cells word word []
-split_one cells word = record { whole = λ same. refl; each = λ same. tt; below = tt; lighter = size_some (value_of cells word) }
 
 -- A word whose value is a constructor's has the values of its arguments.
 module _ (cells : List CellData) (lower : AreLower cells) where
@@ -98,7 +51,7 @@ module _ (cells : List CellData) (lower : AreLower cells) where
           value ∙ ap (λ s. Con s (word_values (cell_values cells) found.0.arguments)) symbols'
           ∙ ap (λ o. Con symbol (word_values (cell_values cells) (arguments_of o))) (sym found.1)
 
-  arguments_below : (word : Word) → IsBelow (length cells) word → All (IsBelow (length cells)) (arguments_in cells word)
+  pub arguments_below : (word : Word) → IsBelow (length cells) word → All (IsBelow (length cells)) (arguments_in cells word)
   arguments_below (IntWord number) below k d within = absurd (omega (arith, within))
   arguments_below (TextWord name) below k d within = absurd (omega (arith, within))
   arguments_below (AtomWord name) below k d within = absurd (omega (arith, within))
@@ -156,12 +109,6 @@ pairs_each cells (x ∷ xs) (y ∷ ys) same =
     let rest : word_values (cell_values cells) xs ≡ word_values (cell_values cells) ys = cc in
     (first, pairs_each cells xs ys rest)
 
-pairs_below : (place : ℕ) (xs ys : List Word) → All (IsBelow place) xs → All (IsBelow place) ys → AreBelow place (pairs xs ys)
-pairs_below place [] ys below below' = tt
-pairs_below place (x ∷ xs) [] below below' = tt
-pairs_below place (x ∷ xs) (y ∷ ys) below below' =
-    ((All-first (IsBelow place) x xs below, All-first (IsBelow place) y ys below'), pairs_below place xs ys (All-rest (IsBelow place) x xs below) (All-rest (IsBelow place) y ys below'))
-
 pairs_weight : (cells : List CellData) (xs ys : List Word) → weight cells (pairs xs ys) ≤ sizes (word_values (cell_values cells) xs)
 pairs_weight cells [] ys = omega arith
 pairs_weight cells (x ∷ xs) [] = omega arith
@@ -179,7 +126,6 @@ split_pairs cells lower one other symbol below below' is is' count =
       each = λ same.
           let con : Con symbol (word_values (cell_values cells) (arguments_in cells one)) ≡ Con symbol (word_values (cell_values cells) (arguments_in cells other)) = sym value ∙ same ∙ value' in
           pairs_each cells (arguments_in cells one) (arguments_in cells other) (cc);
-      below = pairs_below (length cells) (arguments_in cells one) (arguments_in cells other) (arguments_below cells lower one below) (arguments_below cells lower other below');
       lighter = omega (arith, pairs_weight cells (arguments_in cells one) (arguments_in cells other), ap size value);
     }
 
@@ -211,20 +157,26 @@ word_found [] k within = absurd (omega (arith, within))
 word_found (x ∷ xs) zero within = (x, refl)
 word_found (x ∷ xs) (suc k) within = word_found xs k (omega (arith, within))
 
--- one round of the loop that puts pairs on the stack
-pub pushed_next : (xs ys : List Word) (k : ℕ) (old stack new : List (Word × Word)) → k < length xs → length xs ≡ length ys
-    → stack ≡ old ++ pairs (take k xs) (take k ys)
-    → IfSome (slice_get xs k) (λ x. IfSome (slice_get ys k) (λ y. new ≡ stack ++ (x, y) ∷ []))
-    → new ≡ old ++ pairs (take (k + 1) xs) (take (k + 1) ys)
-pushed_next xs ys k old stack new within count so_far step = by (word_found xs k within) (word_found ys k (omega (arith, within, count)))
-  where
-    by : (x : Word) × (slice_get xs k ≡ Some x) → (y : Word) × (slice_get ys k ≡ Some y) → new ≡ old ++ pairs (take (k + 1) xs) (take (k + 1) ys)
-    by x y =
-        let step' : IfSome (slice_get ys k) (λ y'. new ≡ stack ++ (x.0, y') ∷ []) = subst (λ o. IfSome o (λ x'. IfSome (slice_get ys k) (λ y'. new ≡ stack ++ (x', y') ∷ []))) x.1 step in
-        let step'' : new ≡ stack ++ (x.0, y.0) ∷ [] = subst (λ o. IfSome o (λ y'. new ≡ stack ++ (x.0, y') ∷ [])) y.1 step' in
-        step'' ∙ ap (λ (s : List (Word × Word)). s ++ (x.0, y.0) ∷ []) so_far
-        ∙ append_assoc old (pairs (take k xs) (take k ys)) ((x.0, y.0) ∷ [])
-        ∙ ap (λ (s : List (Word × Word)). old ++ s) (sym (pairs_next xs ys k x.0 y.0 x.1 y.1))
+-- the next words of both lists
+pub words_found : (xs ys : List Word) (k : ℕ) → k < length xs → length xs ≡ length ys
+    → ((x : Word) × (slice_get xs k ≡ Some x)) × ((y : Word) × (slice_get ys k ≡ Some y))
+words_found xs ys k within count = (word_found xs k within, word_found ys k (omega (arith, within, count)))
+
+-- the words of one place
+pub word_below : (place : ℕ) (xs : List Word) (k : ℕ) (x : Word) → All (IsBelow place) xs → slice_get xs k ≡ Some x → IsBelow place x
+word_below place [] k x below found = absurd (cc)
+word_below place (first ∷ xs) zero x below found = let one : first ≡ x = cc in subst (IsBelow place) one (All-first (IsBelow place) first xs below)
+word_below place (first ∷ xs) (suc k) x below found = word_below place xs k x (All-rest (IsBelow place) first xs below) found
+
+pub pairs_same : (cells : List CellData) (xs ys : List Word) (k : ℕ) (x y : Word) → slice_get xs k ≡ Some x → slice_get ys k ≡ Some y
+    → AreSame cells (pairs xs ys) → value_of cells x ≡ value_of cells y
+pairs_same cells [] ys k x y found found' same = absurd (cc)
+pairs_same cells (first ∷ xs) [] k x y found found' same = absurd (cc)
+pairs_same cells (first ∷ xs) (second ∷ ys) zero x y found found' same =
+    let one : first ≡ x = cc in
+    let other : second ≡ y = cc in
+    ap (value_of cells) (sym one) ∙ same.0 ∙ ap (value_of cells) other
+pairs_same cells (first ∷ xs) (second ∷ ys) (suc k) x y found found' same = pairs_same cells xs ys k x y found found' same.1
 
 pub no_symbol : (found : Option ℕ) → ((symbol : ℕ) → found ≡ Some symbol → ⊥) → found ≡ None
 no_symbol None apart = refl

@@ -1,4 +1,5 @@
 pub mod CellsLemmas
 pub mod HeapLaws
 pub mod EqualityLemmas
+pub mod MetLemmas
 mod HeapExamples

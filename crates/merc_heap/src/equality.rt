@@ -1,45 +1,53 @@
 //! Values of a heap compared.
-ghost use Rattle.std.specs.Prelude.{◌≡◌, ◌∷◌, ◌++◌, ◌↔◌, [], length, slice_get, IfOk, IfSome, OnOk, IsTrue, IsFalse};
-ghost use Rattle.merc_value.specs.Block.{IsBelow, value_of};
+ghost use Rattle.std.specs.Prelude.{◌≡◌, ◌∷◌, ◌↔◌, [], length, take, IfOk, OnOk, IsTrue, IsFalse};
+ghost use Rattle.merc_value.specs.Block.{AreLower, IsBelow, value_of};
 ghost use Rattle.merc_heap.specs.Heap.{arguments_in};
-ghost use Rattle.merc_heap.specs.Equality.{pairs, Splits};
+ghost use Rattle.merc_heap.specs.Equality.{AreSame, Meets, Notes, pairs};
 
 use crate::Heap;
+use indexmap::IndexSet;
 use merc_base::{Name, NoMemory};
 use merc_value::Word;
 
 impl Heap {
     /// Whether two words stand for one value.
     ///
-    /// Equal words are told at once. Else the cost is the number of parts of the value, in which a cell counts once for
-    /// each way that leads to it.
+    /// Equal words are told at once. Else the cost is the number of arguments of the pairs of cells that are met, in
+    /// which a pair counts once however often it is met: for two values without sharing, at most their size.
     pub fn equal(&self, one: Word, other: Word) -> Result<bool, NoMemory>
         requires one { IsBelow (length self.now) one }
         requires other { IsBelow (length self.now) other }
         ensures { IfOk result (λ same. IsTrue same ↔ (value_of self.now one ≡ value_of self.now other)) }
     {
-        let mut stack = Vec::new(self.alloc());
-        stack.push((one, other))?;
-        while let Some((one, other)) = stack.pop() {
-            if !split(self, one, other, &mut stack)? {
+        let mut met = IndexSet::new(self.alloc());
+        if !meet(self, one, other, &mut met)? {
+            return Ok(false);
+        }
+        let mut next = 0;
+        while next < met.len() {
+            let (place, other_place) = met[next];
+            if !meet_arguments(self, Word::Cell(place), Word::Cell(other_place), &mut met)? {
                 return Ok(false);
             }
+            next += 1;
         }
         Ok(true)
     }
 }
 
-// Puts the pairs on the stack on which it depends whether two words stand for one value; `false` where they do not.
-fn split(
+// Meets two words: the pair of their cells is put behind those that were met, unless it is one of them. `false` where
+// the words do not stand for one value, since their constructors differ.
+fn meet(
     heap: &Heap,
     one: Word,
     other: Word,
-    stack: &mut Vec<(Word, Word)>,
+    met: &mut IndexSet<(usize, usize)>,
 ) -> Result<bool, NoMemory>
     requires one { IsBelow (length heap.now) one }
     requires other { IsBelow (length heap.now) other }
-    ensures yes { IfOk result (λ same. IsTrue same → Splits heap.now one other stack.old.items stack.new.items) }
+    ensures yes { IfOk result (λ same. IsTrue same → Meets heap.now ((one, other) ∷ []) met.old.keys met.new.keys) }
     ensures no { IfOk result (λ same. IsFalse same → value_of heap.now one ≡ value_of heap.now other → ⊥) }
+    ensures lower { AreLower heap.now }
 {
     let count = heap.arity(one);
     let other_count = heap.arity(other);
@@ -55,7 +63,7 @@ fn split(
     if !is_one_header(symbol, other_symbol, count, other_count) {
         return Ok(false);
     }
-    push_pairs(heap, &one, &other, stack)?;
+    note(one, other, met)?;
     Ok(true)
 }
 
@@ -66,40 +74,42 @@ fn is_one_header(symbol: Name, other: Name, count: usize, other_count: usize) ->
     symbol == other && count == other_count
 }
 
-// Puts the pairs of two words' arguments on the stack.
-fn push_pairs(
-    heap: &Heap,
-    one: &Word,
-    other: &Word,
-    stack: &mut Vec<(Word, Word)>,
-) -> Result<(), NoMemory>
-    requires one { IsBelow (length heap.now) one.now }
-    requires other { IsBelow (length heap.now) other.now }
-    requires count { length (arguments_in heap.now one.now) ≡ length (arguments_in heap.now other.now) }
-    ensures { OnOk result (stack.new.items ≡ stack.old.items ++ pairs (arguments_in heap.now one.now) (arguments_in heap.now other.now)) }
+// Puts the pair of two words' cells behind those that were met, unless it is one of them.
+fn note(one: Word, other: Word, met: &mut IndexSet<(usize, usize)>) -> Result<(), NoMemory>
+    ensures { OnOk result (Notes one other met.old.keys met.new.keys) }
 {
-    for index in 0..heap.arity(*one) {
-        push_pair(heap, one, other, index, stack)?;
+    if let Word::Cell(place) = one {
+        if let Word::Cell(other_place) = other {
+            met.insert((place, other_place))?;
+        }
     }
     Ok(())
 }
 
-// Puts the pair of two words' arguments of this number on the stack.
-fn push_pair(
+// Meets the arguments of two words, one after the other. `false` where a pair does not stand for one value.
+fn meet_arguments(
     heap: &Heap,
-    one: &Word,
-    other: &Word,
-    index: usize,
-    stack: &mut Vec<(Word, Word)>,
-) -> Result<(), NoMemory>
-    requires one { IsBelow (length heap.now) one.now }
-    requires other { IsBelow (length heap.now) other.now }
-    ensures { OnOk result (IfSome (slice_get (arguments_in heap.now one.now) index) (λ first. IfSome (slice_get (arguments_in heap.now other.now) index) (λ second. stack.new.items ≡ stack.old.items ++ (first, second) ∷ []))) }
+    one: Word,
+    other: Word,
+    met: &mut IndexSet<(usize, usize)>,
+) -> Result<bool, NoMemory>
+    requires one { IsBelow (length heap.now) one }
+    requires other { IsBelow (length heap.now) other }
+    requires count { length (arguments_in heap.now one) ≡ length (arguments_in heap.now other) }
+    ensures yes { IfOk result (λ same. IsTrue same → Meets heap.now (pairs (arguments_in heap.now one) (arguments_in heap.now other)) met.old.keys met.new.keys) }
+    ensures no { IfOk result (λ same. IsFalse same → AreSame heap.now (pairs (arguments_in heap.now one) (arguments_in heap.now other)) → ⊥) }
+    ensures lower { AreLower heap.now }
 {
-    if let Some(first) = heap.argument(*one, index) {
-        if let Some(second) = heap.argument(*other, index) {
-            stack.push((first, second))?;
+    for index in 0..heap.arity(one) {
+        let Some(first) = heap.argument(one, index) else {
+            continue;
+        };
+        let Some(second) = heap.argument(other, index) else {
+            continue;
+        };
+        if !meet(heap, first, second, met)? {
+            return Ok(false);
         }
     }
-    Ok(())
+    Ok(true)
 }

@@ -1,35 +1,45 @@
--- Each round splits the last pair of the stack.
-use Rattle.std.proofs.Common.{[]}
-use Rattle.merc_heap.proofs.EqualityLemmas.{last_below, last_same, round_whole, round_each, round_below, round_falls}
+-- Each round meets the arguments of the next pair of cells.
+use Rattle.std.proofs.Common.{arith, length, refl}
+use Rattle.merc_heap.proofs.MetLemmas.{met_found, all_same, round_met, round_each, round_parts, round_before, round_covered, round_falls}
 use Rattle.merc_heap.proofs.heap.Heap.equal.Goals as goal
 
-pub split-requires-clause-one : goal.split-requires-clause-one
-split-requires-clause-one c =
-    (last_below c.args.self.now c.loop-one.stack.items c.pop.new.self.items [] (c.in-Some.one, c.in-Some.other) c.in-Some.ensures.items c.loop-one.invariant.below).0
+pub meet_arguments-requires-clause-one : goal.meet_arguments-requires-clause-one
+meet_arguments-requires-clause-one c =
+    (met_found c.args.self.now c.loop-next.met.keys c.loop-next.next (c.index.result.now.0, c.index.result.now.1) c.loop-next.invariant.met c.index.ensures).below
 
-pub split-requires-clause-other : goal.split-requires-clause-other
-split-requires-clause-other c =
-    (last_below c.args.self.now c.loop-one.stack.items c.pop.new.self.items [] (c.in-Some.one, c.in-Some.other) c.in-Some.ensures.items c.loop-one.invariant.below).1
+pub meet_arguments-requires-clause-other : goal.meet_arguments-requires-clause-other
+meet_arguments-requires-clause-other c =
+    (met_found c.args.self.now c.loop-next.met.keys c.loop-next.next (c.index.result.now.0, c.index.result.now.1) c.loop-next.invariant.met c.index.ensures).other_below
 
-pub returns-then-not-branch : goal.returns-then-not-branch
-returns-then-not-branch c = (
+pub meet_arguments-requires-clause-count : goal.meet_arguments-requires-clause-count
+meet_arguments-requires-clause-count c =
+    (met_found c.args.self.now c.loop-next.met.keys c.loop-next.next (c.index.result.now.0, c.index.result.now.1) c.loop-next.invariant.met c.index.ensures).count
+
+pub returns-then-not-branch-2 : goal.returns-then-not-branch-2
+returns-then-not-branch-2 c = (
   (λ yes. absurd (cc (yes))),
-  (λ same. absurd (c.in_ok-split.ensures.no c.if-not-branch.true
-      (last_same c.args.self.now c.loop-one.stack.items c.pop.new.self.items [] (c.in-Some.one, c.in-Some.other) c.in-Some.ensures.items (c.loop-one.invariant.each same)))),
+  (λ same. absurd (c.in_ok-meet_arguments.ensures.no c.if-not-branch-2.true
+      (round_parts c.args.self.now c.in_ok-meet.ensures.lower c.loop-next.met.keys c.loop-next.met.keys c.loop-next.next c.index.result.now.0 c.index.result.now.1 c.index.ensures c.loop-next.invariant.met (c.loop-next.invariant.each same)))),
 )
 
-pub loop-one-smaller : goal.loop-one-smaller
-loop-one-smaller c =
-    round_falls c.args.self.now c.loop-one.stack.items c.pop.new.self.items c.split.new.stack.items (c.in-Some.one, c.in-Some.other) c.in-Some.ensures.items
-    (c.in_ok-split.ensures.yes c.if-not-branch.false)
+pub loop-next-smaller : goal.loop-next-smaller
+loop-next-smaller c =
+    round_falls c.args.self.now c.in_ok-meet.ensures.lower c.loop-next.met.keys c.meet_arguments.new.met.keys c.loop-next.next c.index.result.now.0 c.index.result.now.1 c.index.ensures c.loop-next.invariant.met (c.in_ok-meet_arguments.ensures.yes c.if-not-branch-2.false)
 
-pub loop-one-preserved : goal.loop-one-preserved
-loop-one-preserved c =
-    let splits = c.in_ok-split.ensures.yes c.if-not-branch.false in
-    let whole = round_whole c.args.self.now c.loop-one.stack.items c.pop.new.self.items c.split.new.stack.items (c.in-Some.one, c.in-Some.other) c.in-Some.ensures.items splits in
-    let each = round_each c.args.self.now c.loop-one.stack.items c.pop.new.self.items c.split.new.stack.items (c.in-Some.one, c.in-Some.other) c.in-Some.ensures.items splits in
+pub loop-next-preserved : goal.loop-next-preserved
+loop-next-preserved c =
+    let meets = c.in_ok-meet_arguments.ensures.yes c.if-not-branch-2.false in
     record {
-      whole = λ same. c.loop-one.invariant.whole (whole same);
-      each = λ same. each (c.loop-one.invariant.each same);
-      below = round_below c.args.self.now c.loop-one.stack.items c.pop.new.self.items c.split.new.stack.items (c.in-Some.one, c.in-Some.other) c.in-Some.ensures.items splits c.loop-one.invariant.below;
+      whole = λ same. c.loop-next.invariant.whole (round_before c.args.self.now c.in_ok-meet.ensures.lower c.loop-next.met.keys c.meet_arguments.new.met.keys c.loop-next.next c.index.result.now.0 c.index.result.now.1 c.index.ensures c.loop-next.invariant.met meets (length c.args.self.now) same);
+      each = λ same. round_each c.args.self.now c.in_ok-meet.ensures.lower c.loop-next.met.keys c.meet_arguments.new.met.keys c.loop-next.next c.index.result.now.0 c.index.result.now.1 c.index.ensures c.loop-next.invariant.met meets (c.loop-next.invariant.each same);
+      met = round_met c.args.self.now c.in_ok-meet.ensures.lower c.loop-next.met.keys c.meet_arguments.new.met.keys c.loop-next.next c.index.result.now.0 c.index.result.now.1 c.index.ensures c.loop-next.invariant.met meets;
+      covered = round_covered c.args.self.now c.in_ok-meet.ensures.lower c.loop-next.met.keys c.meet_arguments.new.met.keys c.loop-next.next c.index.result.now.0 c.index.result.now.1 c.index.ensures c.loop-next.invariant.met meets c.loop-next.invariant.covered;
     }
+
+pub returns : goal.returns
+returns c = (
+  (λ yes. c.loop-next.invariant.whole
+      (all_same c.args.self.now c.loop-next.met.keys
+      (λ k one other within. c.loop-next.invariant.covered k one other (omega (arith, within, c.len.ensures.len, c.loop-next-test.false))) (length c.args.self.now))),
+  (λ same. refl),
+)

@@ -1,22 +1,17 @@
 -- Two words stand for one value where they are one, or have one constructor and the same arguments.
-use Rattle.std.proofs.Common.{◌≡◌, ◌∙◌, [], Some, None, true, false, sym, ap, subst, length, append-nil}
+use Rattle.std.proofs.Common.{◌≡◌, ◌∙◌, Some, None, true, false, refl, sym, ap, length}
 use Rattle.merc_value.specs.Block.{value_of}
 use Rattle.merc_value.specs.contracts.word.WordPartialEq.TheImpl.{eq-value}
-use Rattle.merc_value.specs.declared.word.Word.{Word}
 use Rattle.merc_value.proofs.WordEquality.{word_eq}
 use Rattle.merc_heap.specs.Heap.{arguments_in, symbol_of}
-use Rattle.merc_heap.specs.Equality.{pairs, IsSplit}
-use Rattle.merc_heap.proofs.EqualityLemmas.{split_one, split_pairs, plain_one, apart_count, no_symbol}
-use Rattle.merc_heap.proofs.equality.split.Goals as goal
+use Rattle.merc_heap.proofs.EqualityLemmas.{plain_one, apart_count, no_symbol}
+use Rattle.merc_heap.proofs.MetLemmas.{meets_same, meets_noted}
+use Rattle.merc_heap.proofs.equality.meet.Goals as goal
 
 pub returns-then-eq-clause-yes : goal.returns-then-eq-clause-yes
 returns-then-eq-clause-yes c held =
     let one_word : c.args.one ≡ c.args.other = (word_eq c.args.one c.args.other).0 (sym c.eq.ensures ∙ c.if-eq.true) in
-    record {
-      parts = [];
-      pushed = sym (append-nil c.args.stack.now.items);
-      split = subst (λ (w : Word). IsSplit c.args.heap.now c.args.one w []) one_word (split_one c.args.heap.now c.args.one);
-    }
+    meets_same c.args.heap.now c.args.one c.args.other c.args.met.now.keys c.args.met.now.keys (ap (value_of c.args.heap.now) one_word) refl
 
 pub returns-in_default-clause-no : goal.returns-in_default-clause-no
 returns-in_default-clause-no c failed same =
@@ -39,18 +34,11 @@ returns-then-not-is_one_header-clause-no c failed same =
     let apart : c.is_one_header.result ≡ false = c.if-not-is_one_header.true in
     absurd (cc (one_header, apart))
 
-pub push_pairs-requires-clause-count : goal.push_pairs-requires-clause-count
-push_pairs-requires-clause-count c =
-    sym c.arity-count.ensures.arity ∙ (c.is_one_header.ensures.0 c.if-not-is_one_header.false).1 ∙ c.arity-other_count.ensures.arity
-
 pub returns-clause-yes : goal.returns-clause-yes
 returns-clause-yes c held =
     let is : symbol_of (value_of c.args.heap.now c.args.one) ≡ Some c.in-Some.symbol = sym c.symbol.ensures ∙ c.in-Some.is in
     let is' : symbol_of (value_of c.args.heap.now c.args.other) ≡ Some c.in-Some-symbol.other_symbol = sym c.symbol-2.ensures ∙ c.in-Some-symbol.is in
     let both = c.is_one_header.ensures.0 c.if-not-is_one_header.false in
     let count : length (arguments_in c.args.heap.now c.args.one) ≡ length (arguments_in c.args.heap.now c.args.other) = sym c.arity-count.ensures.arity ∙ both.1 ∙ c.arity-other_count.ensures.arity in
-    record {
-      parts = pairs (arguments_in c.args.heap.now c.args.one) (arguments_in c.args.heap.now c.args.other);
-      pushed = c.in_ok-push_pairs.ensures;
-      split = split_pairs c.args.heap.now c.arity-count.ensures.lower c.args.one c.args.other c.in-Some.symbol c.requires.one c.requires.other is (is' ∙ ap Some (sym both.0)) count;
-    }
+    meets_noted c.args.heap.now c.arity-count.ensures.lower c.args.one c.args.other c.in-Some.symbol c.args.met.now.keys c.note.new.met.keys
+    c.requires.one c.requires.other is (is' ∙ ap Some (sym both.0)) count c.in_ok-note.ensures
