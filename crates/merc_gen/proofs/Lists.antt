@@ -1,7 +1,7 @@
 -- Goals that are taken from the last to the first.
 use Rattle.std.specs.Prelude.{◌≡◌, ◌≤◌, ◌<◌, ℕ, suc, List, [], ◌∷◌, ◌++◌, length, reverse, refl, Option, Some, None, MatchOption}
 use Rattle.std.proofs.Common.{◌∙◌, ap, sym, arith}
-use Rattle.std.proofs.lemmas.List.{append_assoc, length-append, reverse-append}
+use Rattle.std.proofs.lemmas.List.{append_assoc, reverse-append}
 use Rattle.merc_goal_tree.specs.declared.goal.Symbol.{Symbol}
 use Rattle.merc_graded_tree.specs.Nodes.{Node, no_arms, more_arms}
 use Rattle.merc_graded_tree.specs.Roots.{arms_of, bodies_of}

@@ -1,11 +1,10 @@
 -- Goals one after the other, disjuncts and negations, taken from the last to the first.
-use Rattle.std.specs.Prelude.{◌≡◌, ◌≤◌, ◌<◌, ◌+◌, ◌-◌, ℕ, suc, Bool, true, false, if◌then◌else◌, List, [], ◌∷◌, ◌++◌, length, refl}
-use Rattle.std.proofs.Common.{◌∙◌, ap, sym, subst, arith}
+use Rattle.std.specs.Prelude.{◌≡◌, ◌+◌, ◌-◌, ℕ, suc, Bool, false, if◌then◌else◌, List, [], ◌∷◌, ◌++◌, length, refl}
+use Rattle.std.proofs.Common.{◌∙◌, ap, sym, arith}
 use Rattle.std.proofs.lemmas.List.{append_assoc, length-append}
 use Rattle.merc_graded_tree.specs.declared.basic.Procedure.{Procedure}
 use Rattle.merc_graded_tree.specs.declared.entries.Running.{Running}
-use Rattle.merc_graded_tree.specs.Nodes.{Node, node, Goal, Conjunction, Disjunction, Conditional, Negation, Quantified, goal_of, nodes_of}
-use Rattle.merc_code.specs.declared.instruction.Instruction.{Instruction}
+use Rattle.merc_graded_tree.specs.Nodes.{Node, node, Conjunction, Disjunction, Conditional, Negation, Quantified, goal_of, nodes_of}
 use Rattle.merc_code.specs.declared.instruction.Instruction.TheVariants.{Jump, Try, Mark, Commit, Fail}
 use Rattle.merc_code.specs.Steps.{Code}
 use Rattle.merc_gen.specs.Generated.{are_none, goal_code, node_code, condition_code, negated_code, all_code, any_code}
@@ -14,7 +13,7 @@ use Rattle.merc_gen.specs.Turns.{node_turns, goal_turns, list_turns, joined_turn
 use Rattle.merc_gen.specs.declared.tasks.Task.{Task}
 use Rattle.merc_gen.specs.declared.tasks.Task.TheVariants.{Emit, Bare, Put, Branch, InTurn, Choose, Decide}
 use Rattle.merc_gen.proofs.Fronts.{front-then, node-front, condition-front, negated-front, disjuncts-front}
-use Rattle.merc_gen.proofs.Performing.{one_more, performs, done, skipped_is}
+use Rattle.merc_gen.proofs.Performing.{one_more, performs, skipped_is}
 use Rattle.merc_gen.proofs.Quieting.{turns-joined}
 use Rattle.merc_gen.proofs.Quieting as quieting
 
@@ -48,9 +47,6 @@ module _ (single : Procedure → Bool) where
       performs single (in_turn_code single mark goals) (list_turns goals) tasks later (InTurn left mark ∷ Emit last mark ∷ []) code code
       (one_more tasks between later (InTurn left mark ∷ []) (Emit last mark) e f)
       (sym (in_turn-last left last mark code) ∙ ap (λ l. in_turn_code single mark l code) (sym g)) (omega (arith, turns-last goals left last g))
-
-  pub in_turn_end : (goals : List Node) (mark : ℕ) (tasks : List Task) (code : Code) → goals ≡ [] → Performs single (in_turn_code single mark goals) (list_turns goals) tasks code tasks code
-  in_turn_end goals mark tasks code g = done single (in_turn_code single mark goals) (list_turns goals) tasks code code (ap (λ l. in_turn_code single mark l code) (sym g))
 
   -- disjuncts
 
@@ -91,11 +87,6 @@ module _ (single : Procedure → Bool) where
       (ap (λ n. disjuncts_code single mark n left (node_code single last mark code)) p ∙ sym (any_is left last mark code) ∙ ap (λ l. any_code single (nodes_of l) mark code) (sym g))
       (omega (arith, turns-joined goals, turns-last goals left last g))
 
-  pub disjuncts_none : (goals : List Node) (mark : ℕ) (tasks : List Task) (code now : Code) → goals ≡ [] → now ≡ Fail ∷ code
-      → Performs single (goal_code single (Disjunction (nodes_of goals)) mark) (joined_turns (nodes_of goals)) tasks code tasks now
-  disjuncts_none goals mark tasks code now g n =
-      done single (any_code single (nodes_of goals) mark) (joined_turns (nodes_of goals)) tasks code now (n ∙ ap (λ l. any_code single (nodes_of l) mark code) (sym g))
-
   pub disjunct_step : (goals left : List Node) (last : Node) (mark behind place : ℕ) (tasks one two later : List Task) (code now : Code) → goals ≡ left ++ last ∷ [] → place ≡ length code
       → one ≡ tasks ++ Choose left mark behind ∷ [] → two ≡ one ++ Branch place ∷ [] → later ≡ two ++ Emit last mark ∷ [] → now ≡ Jump (length code - behind) ∷ code
       → Performs single (disjuncts_code single mark behind goals) (list_turns goals) tasks code later now
@@ -107,11 +98,6 @@ module _ (single : Procedure → Bool) where
       ∙ ap (λ m. disjuncts_code single mark behind left (Try (length (arm_code single mark behind last code) - m) ∷ arm_code single mark behind last code)) p
       ∙ sym (disjuncts-last left last mark behind code) ∙ ap (λ l. disjuncts_code single mark behind l code) (sym g))
       (omega (arith, turns-last goals left last g))
-
-  pub disjuncts_end : (goals : List Node) (mark behind : ℕ) (tasks : List Task) (code : Code) → goals ≡ []
-      → Performs single (disjuncts_code single mark behind goals) (list_turns goals) tasks code tasks code
-  disjuncts_end goals mark behind tasks code g =
-      done single (disjuncts_code single mark behind goals) (list_turns goals) tasks code code (ap (λ l. disjuncts_code single mark behind l code) (sym g))
 
   -- a conditional
 

@@ -1,5 +1,5 @@
 -- What tasks leave to do leads to the same code.
-use Rattle.std.specs.Prelude.{◌≡◌, ◌≤◌, ◌<◌, ◌+◌, ◌-◌, ℕ, suc, Bool, true, false, not, ◌&&◌, if◌then◌else◌, List, [], ◌∷◌, ◌++◌, length, reverse, refl}
+use Rattle.std.specs.Prelude.{◌≡◌, ◌≤◌, ◌<◌, ◌+◌, ◌-◌, ℕ, suc, Bool, true, false, not, ◌&&◌, if◌then◌else◌, List, [], ◌∷◌, ◌++◌, length, refl}
 use Rattle.std.proofs.Common.{◌∙◌, ap, sym, subst, arith}
 use Rattle.std.proofs.lemmas.List.{append_assoc, length-append}
 use Rattle.merc_graded_tree.specs.declared.basic.Procedure.{Procedure}
@@ -9,9 +9,9 @@ use Rattle.merc_code.specs.declared.instruction.Instruction.TheVariants.{Jump, T
 use Rattle.merc_code.specs.Steps.{Code}
 use Rattle.merc_gen.specs.Generated.{is_once, quiet, leaving, goal_code, node_code, condition_code}
 use Rattle.merc_gen.specs.Tasks.{after, after_all, task_turns, all_turns, Performs, arm_code, decided_code}
-use Rattle.merc_gen.specs.Turns.{node_turns, goal_turns, list_turns}
+use Rattle.merc_gen.specs.Turns.{node_turns, goal_turns}
 use Rattle.merc_gen.specs.declared.tasks.Task.{Task}
-use Rattle.merc_gen.specs.declared.tasks.Task.TheVariants.{Emit, Bare, Put, Branch, InTurn, Choose, Decide, Switch}
+use Rattle.merc_gen.specs.declared.tasks.Task.TheVariants.{Emit, Bare, Put, Branch}
 
 -- one more behind others
 pub one_more : {X : Type 0} (tasks between later : List X) (pushed : List X) (last : X) → between ≡ tasks ++ pushed → later ≡ between ++ last ∷ [] → later ≡ tasks ++ (pushed ++ last ∷ [])
@@ -41,11 +41,6 @@ module _ (single : Procedure → Bool) where
   -- one that leaves none
   pub done : (change : Code → Code) (turns : ℕ) (tasks : List Task) (code now : Code) → now ≡ change code → Performs single change turns tasks code tasks now
   done change turns tasks code now e = record { same = ap (after_all single tasks) e; within = omega arith }
-
-  -- the same of a task that is known
-  pub performs_task : (task one : Task) (tasks later : List Task) (code now : Code) → task ≡ one → Performs single (after single one) (task_turns one) tasks code later now
-      → Performs single (after single task) (task_turns task) tasks code later now
-  performs_task task one tasks later code now e = subst (λ t. Performs single (after single t) (task_turns t) tasks code later now) (sym e)
 
   pub performs_goal : (goal one : Goal) (mark : ℕ) (tasks later : List Task) (code now : Code) → goal ≡ one
       → Performs single (goal_code single one mark) (goal_turns one) tasks code later now → Performs single (goal_code single goal mark) (goal_turns goal) tasks code later now

@@ -1,20 +1,16 @@
 -- Goals that are looked at, for whether a goal leaves a choice point behind.
-use Rattle.std.specs.Prelude.{◌≡◌, ◌≤◌, ◌<◌, ◌+◌, ℕ, suc, Bool, true, false, ◌&&◌, if◌then◌else◌, List, [], ◌∷◌, ◌++◌, length, reverse, refl, Option, Some, None}
+use Rattle.std.specs.Prelude.{◌≡◌, ◌≤◌, ◌<◌, ◌+◌, ℕ, suc, Bool, true, false, ◌&&◌, List, [], ◌∷◌, ◌++◌, length, reverse, refl}
 use Rattle.std.proofs.Common.{◌∙◌, ap, sym, arith}
-use Rattle.merc_base.specs.declared.category.Category.{Category}
-use Rattle.merc_goal_tree.specs.declared.goal.Symbol.{Symbol}
-use Rattle.merc_graded_tree.specs.declared.basic.BasicGoal.{BasicGoal}
 use Rattle.merc_graded_tree.specs.declared.basic.Procedure.{Procedure}
 use Rattle.merc_graded_tree.specs.declared.entries.Running.{Running}
 use Rattle.merc_graded_tree.specs.declared.node_ref.NodeView.{NodeView}
-use Rattle.merc_graded_tree.specs.Nodes.{Node, node, Goal, Basic, Conjunction, Disjunction, Switch, Conditional, Negation, Quantified, Nodes, no_nodes, more_nodes, Arms, no_arms, more_arms, nodes_of, goal_of, outputs_of, category_of}
-use Rattle.merc_graded_tree.specs.Roots.{arms_of, bodies_of}
+use Rattle.merc_graded_tree.specs.Nodes.{Node, node, Goal, Conjunction, Disjunction, Switch, Conditional, Quantified, Arms, no_arms, more_arms, nodes_of}
+use Rattle.merc_graded_tree.specs.Roots.{bodies_of}
 use Rattle.merc_graded_tree.specs.Views.{viewed}
-use Rattle.merc_meaning.specs.Runs.{answers_once}
 use Rattle.merc_gen.specs.Generated.{is_once, quiet, node_quiet, all_quiet, any_quiet, arms_quiet}
 use Rattle.merc_gen.specs.Turns.{node_turns, goal_turns, joined_turns, arms_turns, list_turns}
-use Rattle.merc_gen.specs.Waiting.{are_quiet, Spreads, Looks}
-use Rattle.merc_gen.proofs.Lists.{reverse-first, bodies_all}
+use Rattle.merc_gen.specs.Waiting.{are_quiet, Spreads}
+use Rattle.merc_gen.proofs.Lists.{reverse-first}
 
 pub and-assoc : (a b c : Bool) → (a && b) && c ≡ a && (b && c)
 and-assoc true b c = refl
@@ -31,11 +27,6 @@ and-false false = refl
 pub and-comm : (a b : Bool) → a && b ≡ b && a
 and-comm true b = sym (and-true b)
 and-comm false b = sym (and-false b)
-
--- whether it answers once, from what is seen of it
-pub once_is : (goal : Node) (result : Bool) (outputs : List ℕ) (category : Option Category) → outputs ≡ outputs_of goal → category ≡ category_of goal → result ≡ answers_once outputs category
-    → result ≡ is_once goal
-once_is (node goal own found span) result outputs category e f same = same ∙ ap (λ l. answers_once l category) e ∙ ap (λ c. answers_once own c) f
 
 -- turns
 
@@ -58,9 +49,6 @@ turns-arms (more_arms symbol body rest) = ap (λ n. suc (suc (suc (node_turns bo
 
 some_turns : (goal : Node) → 2 ≤ node_turns goal
 some_turns (node goal outputs category span) = omega arith
-
-goal_less : (goal : Node) → suc (suc (goal_turns (goal_of goal))) ≡ node_turns goal
-goal_less (node goal outputs category span) = refl
 
 pub looked_fewer : (before rest after : List Node) (last : Node) → before ≡ rest ++ last ∷ [] → list_turns after ≤ node_turns last + list_turns rest → list_turns after < list_turns before
 looked_fewer before rest after last e h = omega (arith, h, ap list_turns e, turns-append rest (last ∷ []))
@@ -147,16 +135,4 @@ module _ (single : Procedure → Bool) where
   seen view goal passes now before after e f spread = record {
     same = ap (λ b. b && each_quiet after) f ∙ spread.same ∙ ap (λ g. quiet single g && each_quiet before) e;
     fewer = let h = spread.fewer in omega (arith, h, ap goal_turns e);
-  }
-
-  pub looked_once : (goal : Node) (left : List Node) → is_once goal ≡ true → Looks single goal true left left
-  looked_once (node goal outputs category span) left once = record {
-    looked = ap (λ b. (if b then true else quiet single goal) && each_quiet left) (sym once);
-    less = omega arith;
-  }
-
-  pub looked_into : (goal : Node) (passes : Bool) (before after : List Node) → is_once goal ≡ false → Spreads single (goal_of goal) passes before after → Looks single goal passes before after
-  looked_into (node goal outputs category span) passes before after once spread = record {
-    looked = spread.same ∙ ap (λ b. (if b then true else quiet single goal) && each_quiet before) (sym once);
-    less = let h = spread.fewer in omega (arith, h);
   }

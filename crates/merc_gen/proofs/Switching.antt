@@ -1,18 +1,16 @@
 -- The arms of a switch, taken from the last to the first.
-use Rattle.std.specs.Prelude.{◌≡◌, ◌≤◌, ◌<◌, ◌+◌, ◌-◌, ℕ, suc, Bool, true, false, if◌then◌else◌, List, [], ◌∷◌, ◌++◌, length, reverse, refl}
-use Rattle.std.proofs.Common.{◌∙◌, ap, sym, subst, arith}
-use Rattle.std.proofs.lemmas.List.{append_assoc, append-nil, length-append}
+use Rattle.std.specs.Prelude.{◌≡◌, ◌≤◌, ◌+◌, ◌-◌, ℕ, suc, Bool, false, if◌then◌else◌, List, [], ◌∷◌, ◌++◌, length, reverse, refl}
+use Rattle.std.proofs.Common.{◌∙◌, ap, sym, arith}
+use Rattle.std.proofs.lemmas.List.{append_assoc, length-append}
 use Rattle.merc_goal_tree.specs.declared.goal.Symbol.{Symbol}
 use Rattle.merc_graded_tree.specs.declared.basic.Procedure.{Procedure}
-use Rattle.merc_graded_tree.specs.Nodes.{Node, Arms, Switch, no_arms, more_arms}
-use Rattle.merc_graded_tree.specs.Roots.{arms_of, bodies_of}
-use Rattle.merc_code.specs.declared.instruction.Instruction.{Instruction}
+use Rattle.merc_graded_tree.specs.Nodes.{Node, Switch}
+use Rattle.merc_graded_tree.specs.Roots.{arms_of}
 use Rattle.merc_code.specs.declared.instruction.Instruction.TheVariants.{Jump, Switch as SwitchTo}
-use Rattle.merc_code.specs.declared.instruction.Target.{Target}
 use Rattle.merc_code.specs.Steps.{Code}
 use Rattle.merc_gen.specs.Generated.{are_no_arms, goal_code, node_code, arms_code, targets}
 use Rattle.merc_gen.specs.Tasks.{Performs, targets_at, arm_code, arms_before, starts_before, switched_code}
-use Rattle.merc_gen.specs.Turns.{node_turns, list_turns, arms_turns}
+use Rattle.merc_gen.specs.Turns.{list_turns, arms_turns}
 use Rattle.merc_gen.specs.declared.tasks.Arms.{Arms as LeftArms}
 use Rattle.merc_gen.specs.declared.tasks.Task.{Task}
 use Rattle.merc_gen.specs.declared.tasks.Task.TheVariants.{Emit, Switch as SwitchTask}
@@ -58,10 +56,6 @@ module _ (single : Procedure → Bool) where
       ∙ ap (λ n. own (Jump n ∷ arms_code single others mark code))
       (sym (skipped_is (arms_code single others mark code) (arms_code single others mark []) code (arms-front single others mark code)))
       ∙ ap (arm_code single mark (length code) first) (arms_is symbols rest last mark code k)
-
-  no_targets : (symbols : List Symbol) (first : ℕ) → targets_at symbols [] first ≡ []
-  no_targets [] first = refl
-  no_targets (symbol ∷ symbols) first = refl
 
   -- where the first of arms begins, and where those behind it
   arm_length : (first : Node) (mark behind : ℕ) (others : Code) → length (arm_code single mark behind first others) ≡ suc (length (node_code single first mark [])) + length others
@@ -161,30 +155,3 @@ module _ (single : Procedure → Bool) where
       ∙ arm_is arms.variable arms.symbols.now left last arms.mark arms.behind arms.starts.items code
       ∙ ap (λ x. switched arms.variable arms.symbols.now x arms.mark arms.behind arms.starts.items code) (sym k))
       (omega (arith, ap list_turns l, turns-last arms.left left last k))
-
-  pub switch_end : (arms : LeftArms) (start : ℕ) (starts : List ℕ) (found : List Target) (tasks : List Task) (code now : Code) → arms.left ≡ [] → start ≡ length code
-      → starts ≡ arms.starts.items ++ start ∷ [] → found ≡ targets_at arms.symbols.now (reverse starts) start → now ≡ SwitchTo arms.variable found ∷ code
-      → Performs single (switched_code single arms) (list_turns arms.left) tasks code tasks now
-  switch_end arms start starts found tasks code now k p s t n =
-      done single (switched_code single arms) (list_turns arms.left) tasks code now
-      (n ∙ ap (λ l. SwitchTo arms.variable l ∷ code) (t ∙ ap (λ l. targets_at arms.symbols.now l start) (ap reverse s ∙ reverse-last arms.starts.items start)
-      ∙ ap (λ x. targets_at arms.symbols.now (x ∷ reverse arms.starts.items) x) p)
-      ∙ ap (λ x. switched arms.variable arms.symbols.now x arms.mark arms.behind arms.starts.items code) (sym k))
-
--- targets
-
-pub target_step : (symbols rest : List Symbol) (symbol : Symbol) (starts left : List ℕ) (start first : ℕ) (skipped : ℕ) (old new whole : List Target) → symbols ≡ symbol ∷ rest → starts ≡ left ++ start ∷ []
-    → skipped ≡ first - start → new ≡ old ++ record { symbol = symbol; skipped = skipped } ∷ [] → old ++ targets_at symbols (reverse starts) first ≡ whole
-    → new ++ targets_at rest (reverse left) first ≡ whole
-target_step symbols rest symbol starts left start first skipped old new whole s t k n same =
-    ap (λ l. l ++ targets_at rest (reverse left) first) (n ∙ ap (λ x. old ++ record { symbol = symbol; skipped = x } ∷ []) k)
-    ∙ append_assoc old (record { symbol = symbol; skipped = first - start } ∷ []) (targets_at rest (reverse left) first)
-    ∙ ap (λ l. old ++ targets_at (symbol ∷ rest) l first) (sym (ap reverse t ∙ reverse-last left start))
-    ∙ ap (λ l. old ++ targets_at l (reverse starts) first) (sym s) ∙ same
-
-pub targets_end : (symbols : List Symbol) (starts : List ℕ) (first : ℕ) (found whole : List Target) → starts ≡ [] → found ++ targets_at symbols (reverse starts) first ≡ whole → found ≡ whole
-targets_end [] starts first found whole e same = sym (append-nil found) ∙ same
-targets_end (symbol ∷ symbols) starts first found whole e same = sym (append-nil found) ∙ ap (λ l. found ++ targets_at (symbol ∷ symbols) (reverse l) first) (sym e) ∙ same
-
-pub no_symbols : (symbols : List Symbol) (starts : List ℕ) (first : ℕ) (found whole : List Target) → symbols ≡ [] → found ++ targets_at symbols (reverse starts) first ≡ whole → found ≡ whole
-no_symbols symbols starts first found whole e same = sym (append-nil found) ∙ ap (λ l. found ++ targets_at l (reverse starts) first) (sym e) ∙ same

@@ -6,7 +6,7 @@ use Rattle.merc_graded_tree.specs.Nodes.{Node, goal_of}
 use Rattle.merc_code.specs.Steps.{Code}
 use Rattle.merc_code.specs.declared.instruction.Instruction.TheVariants.{Jump, Switch as SwitchTo, Try, Mark}
 use Rattle.merc_code.specs.declared.instruction.Target.{Target}
-use Rattle.merc_gen.specs.Generated.{node_code, goal_code, condition_code, all_code}
+use Rattle.merc_gen.specs.Generated.{node_code, goal_code, condition_code}
 use Rattle.merc_gen.specs.Turns.{node_turns, goal_turns, list_turns}
 use Rattle.merc_gen.specs.declared.tasks.Arms.{Arms}
 use Rattle.merc_gen.specs.declared.tasks.Task.{Task}

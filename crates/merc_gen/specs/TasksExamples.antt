@@ -1,20 +1,18 @@
 -- What is still to be done for a few goals, and what comes of it.
-use Rattle.std.specs.Prelude.{◌≡◌, ◌≤◌, Bool, true, false, List, [], ◌∷◌, None, refl}
-use Rattle.std.proofs.Common.{ap, arith}
+use Rattle.std.specs.Prelude.{◌≡◌, Bool, true, false, [], ◌∷◌, None, refl}
+use Rattle.std.proofs.Common.{arith}
 use Rattle.merc_tree.specs.Term.{no_span}
 use Rattle.merc_goal_tree.specs.declared.goal.Symbol.{Symbol}
 use Rattle.merc_goal_tree.specs.declared.goal.Symbol.TheVariants.{Constructor}
 use Rattle.merc_graded_tree.specs.declared.basic.BasicGoal.TheVariants.{Fail as FailGoal, Call as CallGoal}
 use Rattle.merc_graded_tree.specs.declared.basic.Procedure.{Procedure}
-use Rattle.merc_graded_tree.specs.declared.entries.Running.TheVariants.{Sequential}
-use Rattle.merc_graded_tree.specs.Nodes.{Node, node, Basic, Conjunction, Disjunction, Conditional, Negation, Quantified, Switch, nodes_of, no_arms, more_arms}
+use Rattle.merc_graded_tree.specs.Nodes.{Node, node, Basic, Conditional, Quantified, nodes_of, no_arms, more_arms}
 use Rattle.merc_code.specs.declared.instruction.Instruction.TheVariants.{Jump, Try, Mark, Commit, Call, Fail, Return}
 use Rattle.merc_code.specs.Steps.{Code}
-use Rattle.merc_gen.specs.Generated.{node_code}
 use Rattle.merc_gen.specs.Tasks.{targets_at, arm_code, disjunct_code, disjuncts_code, arms_before, starts_before, decided_code, in_turn_code, after, after_all, task_turns, all_turns, Performs}
 use Rattle.merc_gen.specs.Turns.{node_turns, goal_turns, joined_turns, arms_turns, list_turns}
 use Rattle.merc_gen.specs.Waiting.{are_quiet, Spreads, Looks}
-use Rattle.merc_gen.specs.declared.tasks.Task.TheVariants.{Emit, Bare, Put, Branch, InTurn, Choose}
+use Rattle.merc_gen.specs.declared.tasks.Task.TheVariants.{Emit, Bare, Put, Branch}
 
 -- no procedure is known to leave no choice point behind
 abbrev none : Procedure → Bool

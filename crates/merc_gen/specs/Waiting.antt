@@ -1,5 +1,5 @@
 -- Goals that are still to be looked at, for whether a goal leaves a choice point behind.
-use Rattle.std.specs.Prelude.{◌≡◌, ◌≤◌, ◌+◌, ℕ, Bool, true, ◌&&◌, List, [], ◌∷◌}
+use Rattle.std.specs.Prelude.{◌≡◌, ◌≤◌, ◌+◌, Bool, true, ◌&&◌, List, [], ◌∷◌}
 use Rattle.merc_graded_tree.specs.declared.basic.Procedure.{Procedure}
 use Rattle.merc_graded_tree.specs.Nodes.{Node, Goal}
 use Rattle.merc_gen.specs.Generated.{quiet, node_quiet}

@@ -1,6 +1,8 @@
 //! The code of goals.
-ghost use Rattle.std.specs.Prelude.{◌≡◌, ◌+◌, ◌++◌, ◌-◌, suc, [], ◌∷◌, length, reverse, IfOk, OnOk};
+ghost use Rattle.std.specs.Prelude.{◌≡◌, Bool, ◌+◌, ◌++◌, ◌-◌, suc, [], ◌∷◌, length, reverse, IfOk, OnOk};
+ghost use Rattle.merc_code.specs.Steps.{Code};
 ghost use Rattle.merc_code.specs.declared.instruction.Instruction.{Instruction};
+ghost use Rattle.merc_graded_tree.specs.declared.basic.Procedure.{Procedure};
 ghost use Rattle.merc_graded_tree.specs.Nodes.{Disjunction, Negation, Switch, goal_of, nodes_of};
 ghost use Rattle.merc_graded_tree.specs.Roots.{arms_of};
 ghost use Rattle.merc_gen.specs.Generated.{goal_code, leaving, node_code};
@@ -56,17 +58,15 @@ fn perform<'a>(
 {
     match task {
         Task::Emit(goal, mark) => emit(alloc, singles, goal, mark, tasks, code),
-        Task::Bare(goal, mark) => emit_bare(alloc, singles, &goal, mark, tasks, code),
+        Task::Bare(goal, mark) => emit_bare(alloc, &goal, mark, tasks, code),
         Task::Put(instruction) => code.put_first(instruction),
         Task::Branch(behind) => put_branch(behind, code),
-        Task::InTurn(goals, mark) => emit_in_turn(singles, goals, mark, tasks, code),
-        Task::Choose(goals, mark, behind) => {
-            emit_disjunct(singles, goals, mark, behind, tasks, code)
-        }
+        Task::InTurn(goals, mark) => emit_in_turn(goals, mark, tasks),
+        Task::Choose(goals, mark, behind) => { emit_disjunct(goals, mark, behind, tasks, code) }
         Task::Decide(condition, then_part, mark, behind) => {
-            emit_condition(singles, condition, then_part, mark, behind, tasks, code)
+            emit_condition(condition, then_part, mark, behind, tasks, code)
         }
-        Task::Switch(arms) => emit_arm(alloc, singles, arms, tasks, code),
+        Task::Switch(arms) => emit_arm(alloc, arms, tasks, code),
     }
 }
 
@@ -118,13 +118,12 @@ fn emit<'a>(
 
 fn emit_bare<'a>(
     alloc: Global,
-    singles: &Singles,
     goal: &NodeRef<'a>,
     mark: usize,
     tasks: &mut Vec<Task<'a>>,
     code: &mut Suffix,
 ) -> Result<(), NoMemory>
-    ensures { OnOk result (Performs (contained singles.now) (goal_code (contained singles.now) (goal_of goal.now) mark) (goal_turns (goal_of goal.now)) tasks.old.items code.old tasks.new.items code.new) }
+    ensures { OnOk result ((single : Procedure → Bool) → Performs single (goal_code single (goal_of goal.now) mark) (goal_turns (goal_of goal.now)) tasks.old.items code.old tasks.new.items code.new) }
 {
     match goal.view() {
         NodeView::Basic(basic) => put_basic(alloc, basic, code),
@@ -132,16 +131,16 @@ fn emit_bare<'a>(
             tasks.push(Task::InTurn(goals, mark))?;
             Ok(())
         }
-        NodeView::Disjunction(goals) => start_disjunction(singles, goals, mark, tasks, code),
+        NodeView::Disjunction(goals) => start_disjunction(goals, mark, tasks, code),
         NodeView::Switch(variable, symbols, arms) => {
-            start_switch(alloc, singles, variable, symbols, arms, mark, tasks, code)
+            start_switch(alloc, variable, symbols, arms, mark, tasks, code)
         }
         NodeView::Conditional(condition, then_part, else_part) => {
             tasks.push(Task::Decide(condition, then_part, mark, code.len()))?;
             tasks.push(Task::Emit(else_part, mark))?;
             Ok(())
         }
-        NodeView::Negation(inner) => emit_negation(singles, inner, mark, tasks, code),
+        NodeView::Negation(inner) => emit_negation(inner, mark, tasks, code),
         NodeView::Quantified(_, inner) => {
             tasks.push(Task::Emit(inner, mark))?;
             Ok(())
@@ -150,13 +149,11 @@ fn emit_bare<'a>(
 }
 
 fn emit_in_turn<'a>(
-    singles: &Singles,
     goals: Parts<'a>,
     mark: usize,
     tasks: &mut Vec<Task<'a>>,
-    code: &mut Suffix,
 ) -> Result<(), NoMemory>
-    ensures { OnOk result (Performs (contained singles.now) (in_turn_code (contained singles.now) mark goals.entry) (list_turns goals.entry) tasks.old.items code.old tasks.new.items code.new) }
+    ensures { OnOk result ((single : Procedure → Bool) (code : Code) → Performs single (in_turn_code single mark goals.entry) (list_turns goals.entry) tasks.old.items code tasks.new.items code) }
 {
     let mut left = goals;
     match left.take_last() {
@@ -171,13 +168,12 @@ fn emit_in_turn<'a>(
 
 // The last disjunct makes no choice point.
 fn start_disjunction<'a>(
-    singles: &Singles,
     goals: Parts<'a>,
     mark: usize,
     tasks: &mut Vec<Task<'a>>,
     code: &mut Suffix,
 ) -> Result<(), NoMemory>
-    ensures { OnOk result (Performs (contained singles.now) (goal_code (contained singles.now) (Disjunction (nodes_of goals.entry)) mark) (joined_turns (nodes_of goals.entry)) tasks.old.items code.old tasks.new.items code.new) }
+    ensures { OnOk result ((single : Procedure → Bool) → Performs single (goal_code single (Disjunction (nodes_of goals.entry)) mark) (joined_turns (nodes_of goals.entry)) tasks.old.items code.old tasks.new.items code.new) }
 {
     let mut left = goals;
     match left.take_last() {
@@ -192,14 +188,13 @@ fn start_disjunction<'a>(
 
 // The last of disjuncts before others.
 fn emit_disjunct<'a>(
-    singles: &Singles,
     goals: Parts<'a>,
     mark: usize,
     behind: usize,
     tasks: &mut Vec<Task<'a>>,
     code: &mut Suffix,
 ) -> Result<(), NoMemory>
-    ensures { OnOk result (Performs (contained singles.now) (disjuncts_code (contained singles.now) mark behind goals.entry) (list_turns goals.entry) tasks.old.items code.old tasks.new.items code.new) }
+    ensures { OnOk result ((single : Procedure → Bool) → Performs single (disjuncts_code single mark behind goals.entry) (list_turns goals.entry) tasks.old.items code.old tasks.new.items code.new) }
 {
     let mut left = goals;
     match left.take_last() {
@@ -214,7 +209,6 @@ fn emit_disjunct<'a>(
 }
 
 fn emit_condition<'a>(
-    singles: &Singles,
     condition: NodeRef<'a>,
     then_part: NodeRef<'a>,
     mark: usize,
@@ -222,7 +216,7 @@ fn emit_condition<'a>(
     tasks: &mut Vec<Task<'a>>,
     code: &mut Suffix,
 ) -> Result<(), NoMemory>
-    ensures { OnOk result (Performs (contained singles.now) (decided_code (contained singles.now) condition.entry then_part.entry mark behind) (suc (suc (suc (node_turns condition.entry + node_turns then_part.entry)))) tasks.old.items code.old tasks.new.items code.new) }
+    ensures { OnOk result ((single : Procedure → Bool) → Performs single (decided_code single condition.entry then_part.entry mark behind) (suc (suc (suc (node_turns condition.entry + node_turns then_part.entry)))) tasks.old.items code.old tasks.new.items code.new) }
 {
     let inner = next_number(mark)?;
     let leaving = leaving(is_once(&condition), mark);
@@ -246,13 +240,12 @@ fn leaving(once: bool, mark: usize) -> Instruction
 }
 
 fn emit_negation<'a>(
-    singles: &Singles,
     goal: NodeRef<'a>,
     mark: usize,
     tasks: &mut Vec<Task<'a>>,
     code: &mut Suffix,
 ) -> Result<(), NoMemory>
-    ensures { OnOk result (Performs (contained singles.now) (goal_code (contained singles.now) (Negation goal.entry) mark) (suc (node_turns goal.entry)) tasks.old.items code.old tasks.new.items code.new) }
+    ensures { OnOk result ((single : Procedure → Bool) → Performs single (goal_code single (Negation goal.entry) mark) (suc (node_turns goal.entry)) tasks.old.items code.old tasks.new.items code.new) }
 {
     let inner = next_number(mark)?;
     tasks.push(Task::Put(Instruction::Mark(Mark::new(mark))))?;
@@ -265,7 +258,6 @@ fn emit_negation<'a>(
 // The last arm jumps nowhere.
 fn start_switch<'a>(
     alloc: Global,
-    singles: &Singles,
     variable: Var,
     symbols: &'a Sequence<Symbol>,
     arms: Parts<'a>,
@@ -273,7 +265,7 @@ fn start_switch<'a>(
     tasks: &mut Vec<Task<'a>>,
     code: &mut Suffix,
 ) -> Result<(), NoMemory>
-    ensures { OnOk result (Performs (contained singles.now) (goal_code (contained singles.now) (Switch variable (arms_of symbols.now arms.entry)) mark) (arms_turns (arms_of symbols.now arms.entry)) tasks.old.items code.old tasks.new.items code.new) }
+    ensures { OnOk result ((single : Procedure → Bool) → Performs single (goal_code single (Switch variable (arms_of symbols.now arms.entry)) mark) (arms_turns (arms_of symbols.now arms.entry)) tasks.old.items code.old tasks.new.items code.new) }
 {
     let mut left = with_symbols(arms, symbols.as_slice().len());
     let Some(last) = left.take_last() else {
@@ -294,12 +286,11 @@ fn start_switch<'a>(
 // The last of the arms before those whose code is there, or the switch.
 fn emit_arm<'a>(
     alloc: Global,
-    singles: &Singles,
     arms: Arms<'a>,
     tasks: &mut Vec<Task<'a>>,
     code: &mut Suffix,
 ) -> Result<(), NoMemory>
-    ensures { OnOk result (Performs (contained singles.now) (switched_code (contained singles.now) arms.entry) (list_turns arms.entry.left) tasks.old.items code.old tasks.new.items code.new) }
+    ensures { OnOk result ((single : Procedure → Bool) → Performs single (switched_code single arms.entry) (list_turns arms.entry.left) tasks.old.items code.old tasks.new.items code.new) }
 {
     let Arms {
         variable,

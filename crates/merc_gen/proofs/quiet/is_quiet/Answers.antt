@@ -1,4 +1,4 @@
-use Rattle.std.proofs.Common.{sym, ap, refl, false, true, ◌∙◌, ◌≡◌, ◌&&◌, arith}
+use Rattle.std.proofs.Common.{sym, ap, ◌∙◌, ◌&&◌}
 use Rattle.merc_gen.specs.Singles.{contained}
 use Rattle.merc_gen.specs.Waiting.{are_quiet}
 use Rattle.merc_gen.proofs.Quieting.{looked_fewer, quiet-last}

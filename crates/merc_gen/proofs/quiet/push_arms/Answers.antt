@@ -1,4 +1,4 @@
-use Rattle.std.proofs.Common.{◌≡◌, ◌∙◌, ap, sym, ◌++◌, length, reverse, refl}
+use Rattle.std.proofs.Common.{◌∙◌, ap, sym, ◌++◌, reverse, refl}
 use Rattle.std.proofs.lemmas.Result.{on_ok_weaker}
 use Rattle.merc_graded_tree.specs.Roots.{bodies_of}
 use Rattle.merc_gen.proofs.Lists.{bodies_all}
