@@ -3,7 +3,7 @@ use Rattle.std.proofs.Common.{◌≡◌, pos, List, [], ◌∷◌, refl, arith}
 use Rattle.merc_base.specs.Names.{cons_name, nil_name}
 use Rattle.merc_value.specs.Value.{Value, Int, Text, Con, none, more}
 use Rattle.merc_value.specs.Block.{cell_values, value_of}
-use Rattle.merc_value.specs.declared.word.Word.TheVariants.{Int as IntWord, Text as TextWord, Cell as CellWord}
+use Rattle.merc_value.specs.declared.word.Word.TheVariants.{Int as IntWord, Cell as CellWord}
 use Rattle.merc_heap.specs.Heap.{cells_of, IsFlat, arguments_in}
 use Rattle.merc_heap.specs.declared.slot.Slot.{Slot}
 use Rattle.merc_heap.specs.declared.slot.Slot.TheVariants.{Integer, Text as TextSlot, Cell as CellSlot, Header}
