@@ -160,6 +160,11 @@ drop_front : {A : Type 0} (xs ys : List A) → drop (length xs) (xs ++ ys) ≡ y
 drop_front [] ys = refl
 drop_front (x ∷ xs) ys = drop_front xs ys
 
+take_front : {A : Type 0} (xs ys : List A) → take (length xs) (xs ++ ys) ≡ xs
+take_front [] [] = refl
+take_front [] (y ∷ ys) = refl
+take_front (x ∷ xs) ys = ap (λ zs. x ∷ zs) (take_front xs ys)
+
 -- A cell that is put behind the others: its fields, and then its header.
 module _ (slots : List Slot) (symbol : ℕ) (words : List Word) where
   abbrev cell_with : List Word → CellData
@@ -194,6 +199,11 @@ module _ (slots : List Slot) (symbol : ℕ) (words : List Word) where
   pub keeps_built : Keeps (length (cells_of slots)) (cells_of slots) (cells_of built)
   keeps_built = subst (Keeps (length (cells_of slots)) (cells_of slots)) (sym (ap cells_of (append_assoc slots (map field_of words) (Header (length words) symbol ∷ [])) ∙ cells_of-append slots (map field_of words ++ Header (length words) symbol ∷ [])))
       (keeps_front (cells_of slots) (cells_behind slots (map field_of words ++ Header (length words) symbol ∷ [])))
+
+  pub front_built : take (length (cells_of slots)) (cells_of built) ≡ cells_of slots
+  front_built =
+      ap (take (length (cells_of slots))) (ap cells_of (append_assoc slots (map field_of words) (Header (length words) symbol ∷ [])) ∙ cells_of-append slots (map field_of words ++ Header (length words) symbol ∷ []))
+      ∙ take_front (cells_of slots) _
 
   keeps_fields : Keeps (length (cells_of slots)) (cells_of slots) (cells_of fields)
   keeps_fields = subst (Keeps (length (cells_of slots)) (cells_of slots)) (sym (cells_of-append slots (map field_of words))) (keeps_front (cells_of slots) (cells_behind slots (map field_of words)))

@@ -63,6 +63,7 @@ impl Heap {
         requires { All (IsBelow (length self.old)) arguments.now }
         ensures word { IfOk result (IsWordFor self.new (Con symbol (word_values (cell_values self.old) arguments.now))) }
         ensures kept { OnOk result (Keeps (length self.old) self.old self.new) }
+        ensures front { OnOk result (take (length self.old) self.new ≡ self.old) }
         ensures err { OnErr result (self.new ≡ self.old) }
     {
         if arguments.is_empty() {
@@ -105,8 +106,8 @@ impl Heap {
         self.argument(word, index as usize)
     }
 
-    // Where the heap takes its memory from.
-    pub(crate) fn alloc(&self) -> Global {
+    /// Where the heap takes its memory from.
+    pub fn alloc(&self) -> Global {
         self.alloc
     }
 
