@@ -7,7 +7,7 @@ use Rattle.merc_tree.specs.declared.declarations.Arg.{Arg}
 use Rattle.merc_tree.specs.declared.declarations.Arg.TheVariants.{Input, Output}
 use Rattle.merc_tree.specs.declared.declarations.ModeDecl.{ModeDecl}
 use Rattle.merc_tree.specs.declared.declarations.PredDecl.{PredDecl}
-use Rattle.merc_graded_tree.specs.declared.basic.BasicGoal.TheVariants.{True, Fail}
+use Rattle.merc_graded_tree.specs.declared.basic.BasicGoal.TheVariants.{True}
 use Rattle.merc_graded_tree.specs.Nodes.{Node, node, Basic}
 use Rattle.merc_meaning.specs.Runs.{ProcedureBody}
 use Rattle.merc_gen.specs.Procedures.{mode_bodies, program_bodies, answer_once}
