@@ -9,6 +9,7 @@ pub mod CountingExamples
 pub mod Gaps
 pub mod GapsExamples
 pub mod Summaries
+pub mod SummariesExamples
 pub mod Keys
 pub mod KeysExamples
 pub mod Symbols
