@@ -1,5 +1,5 @@
 -- Disjuncts that all go to one arm of a switch are looked at again at once.
-use Rattle.std.specs.Prelude.{◌≡◌, ◌≤◌, ◌<◌, ℕ, zero, suc, ◌-◌, Bool, ◌||◌, ◌==◌, not, List, [], ◌∷◌, ◌++◌, length, map, Option, Some, None, if◌then◌else◌, true, false, refl}
+use Rattle.std.specs.Prelude.{◌≡◌, ◌≤◌, ◌<◌, ℕ, zero, suc, ◌-◌, ◌||◌, ◌==◌, not, List, [], ◌∷◌, ◌++◌, length, map, Option, Some, None, if◌then◌else◌, false, refl}
 use Rattle.std.specs.List.{AllByRecursion, filter}
 use Rattle.std.proofs.Common.{◌∙◌, ap, sym, subst, arith}
 use Rattle.std.proofs.lemmas.Bool.Decides.{nat_tests}
@@ -7,12 +7,10 @@ use mathlib.Core.Path.{fun_ext}
 use Rattle.merc_tree.specs.Types.{TypeExpr}
 use Rattle.merc_tree.specs.declared.declarations.TypeDef.{TypeDef}
 use Rattle.merc_goal_tree.specs.declared.goal.Symbol.{Symbol}
-use Rattle.merc_graded_tree.specs.declared.entries.Label.{Label}
 use Rattle.merc_graded_tree.specs.declared.entries.Root.TheVariants.{Switch as SwitchRoot}
 use Rattle.merc_graded_tree.specs.Nodes.{Node, node, nodes_of, outputs_of, span_of}
 use Rattle.merc_graded_tree.specs.Variables.{in_nodes}
 use Rattle.merc_order.specs.Bound.{among}
-use Rattle.merc_grading.specs.Known.{same_symbol}
 use Rattle.merc_grading.specs.Switches.{Group as Arm, symbol_at, with_disjunct, grouped}
 use Rattle.merc_switch.specs.declared.tasks.Group.{Group}
 use Rattle.merc_switch.specs.declared.tasks.Task.{Task}
@@ -124,6 +122,9 @@ pub inner_is : (variable : ℕ) (group : Group) (used : List ℕ) (left : ℕ) (
 inner_is variable group used left outputs used_is left_is outputs_are =
     let made : List ℕ → ℕ → List ℕ → Group = λ u l o. record { whole = group.whole; disjuncts = group.disjuncts; used = u; left = l; outputs = o; category = None } in
     ap (λ u. made u left outputs) used_is ∙ ap (λ l. made (behind group.used variable) l outputs) left_is ∙ ap (made (behind group.used variable) (group.left - 1)) outputs_are
+
+abbrev pub with_disjuncts : Group → List Node → Group
+with_disjuncts group disjuncts = record { whole = group.whole; disjuncts = disjuncts; used = group.used; left = group.left; outputs = group.outputs; category = group.category }
 
 -- what the candidates tell of a group, whose disjuncts they were given
 module _ (declared : List TypeDef) (bound : List ℕ) (group : Group) (disjuncts : List Node) (before after : Candidates) (choice : Option ℕ) (same : disjuncts ≡ group.disjuncts)

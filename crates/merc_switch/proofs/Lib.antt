@@ -13,6 +13,7 @@ pub mod BeginningLaws
 pub mod KeyLaws
 pub mod CoverLaws
 pub mod ArmLaws
+pub mod GapLaws
 pub mod CountLaws
 pub mod SplitCounts
 pub mod PlanLaws

@@ -1,7 +1,7 @@
 -- The variables of a goal are those of its parts.
-use Rattle.std.specs.Prelude.{◌≡◌, ◌≤◌, ◌||◌, ◌&&◌, ◌==◌, ℕ, Bool, true, false, List, [], ◌∷◌, ◌++◌, length, drop, if◌then◌else◌, refl}
-use Rattle.std.specs.List.{filter, list_all}
-use Rattle.std.proofs.Common.{◌∙◌, ap, sym}
+use Rattle.std.specs.Prelude.{◌≡◌, ◌≤◌, ◌<◌, ◌||◌, ◌&&◌, ◌==◌, ℕ, zero, suc, Bool, true, false, List, [], ◌∷◌, ◌++◌, length, drop, if◌then◌else◌, refl}
+use Rattle.std.specs.List.{filter, list_all, slice_index_or}
+use Rattle.std.proofs.Common.{◌∙◌, ap, sym, arith}
 use Rattle.std.proofs.lemmas.List.{drop_all}
 use Rattle.merc_graded_tree.specs.declared.entries.Label.{Label}
 use Rattle.merc_graded_tree.specs.Nodes.{Node, node, Goal, Basic, Conjunction, Disjunction, Switch, Conditional, Negation, Quantified, Nodes, no_nodes, more_nodes, Arms, no_arms, more_arms, nodes_of}
@@ -98,6 +98,26 @@ pub all_known : (known : List ℕ) (goals : List Node) (index : ℕ) (variable :
     → among known variable ≡ in_nodes (nodes_of goals) variable
 all_known known goals index variable past same =
     sym (or_false (among known variable)) ∙ ap (λ l. among known variable || in_nodes (nodes_of l) variable) (sym (drop_all index goals past)) ∙ same
+
+-- the variables of one of the goals are among those of all
+
+occurs_in_one : (goals : List Node) (index : ℕ) (one : Node) (variable : ℕ) → index < length goals → one ≡ slice_index_or goals index one → in_node one variable ≡ true
+    → in_nodes (nodes_of goals) variable ≡ true
+occurs_in_one [] index one variable within is occurs = absurd (omega (arith, within))
+occurs_in_one (first ∷ rest) zero one variable within is occurs = ap (λ b. b || in_nodes (nodes_of rest) variable) (ap (λ g. in_node g variable) (sym is) ∙ occurs)
+occurs_in_one (first ∷ rest) (suc index) one variable within is occurs =
+    ap (λ b. in_node first variable || b) (occurs_in_one rest index one variable (omega (arith, within)) is occurs) ∙ or_true (in_node first variable)
+
+absorbed : (a b c : Bool) → (b ≡ true → c ≡ true) → ((a || b) || c) ≡ (a || c)
+absorbed true b c h = refl
+absorbed false true c h = sym (h refl)
+absorbed false false c h = refl
+
+pub one_more_goal : (goals : List Node) (index : ℕ) (one : Node) (before after : List ℕ) (variable : ℕ) → index < length goals → one ≡ slice_index_or goals index one
+    → among after variable ≡ (among before variable || in_node one variable) → (among after variable || in_nodes (nodes_of goals) variable) ≡ (among before variable || in_nodes (nodes_of goals) variable)
+one_more_goal goals index one before after variable within is put =
+    ap (λ b. b || in_nodes (nodes_of goals) variable) put
+    ∙ absorbed (among before variable) (in_node one variable) (in_nodes (nodes_of goals) variable) (occurs_in_one goals index one variable within is)
 
 -- Where all of some outputs are known, no more have to be looked for.
 pub outputs_known : (known : List ℕ) (goals : List Node) (index : ℕ) (outputs : List ℕ) → list_all (λ output. among known output) outputs ≡ true

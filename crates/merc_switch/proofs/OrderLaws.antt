@@ -2,9 +2,8 @@
 use Rattle.std.specs.Prelude.{◌≡◌, ◌<◌, ℕ, Bool, true, false, ◌==◌, ◌||◌, List, [], ◌∷◌, refl}
 use Rattle.std.specs.List.{list_any}
 use Rattle.std.specs.Cmp.{unsigned_ties, nat_cmp_is}
-use Rattle.std.specs.Ordering.{is_eq, is_gt, nat_cmp}
+use Rattle.std.specs.Ordering.{is_gt, nat_cmp}
 use Rattle.std.specs.BTreeMap.{is_at}
-use Rattle.std.specs.BTreeSet.{contains, BTreeSet}
 use Rattle.std.proofs.Common.{◌∙◌, ◌⊎◌, inl, inr, ap, sym, cond, arith, Greater}
 use Rattle.std.proofs.lemmas.Bool.Decides.{Decides-eqb, leb_tells, nat_tests}
 use Rattle.merc_order.specs.Bound.{among}

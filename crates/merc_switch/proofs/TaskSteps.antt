@@ -5,7 +5,6 @@ use Rattle.merc_tree.specs.declared.declarations.TypeDef.{TypeDef}
 use Rattle.merc_graded_tree.specs.declared.entries.Label.{Label}
 use Rattle.merc_graded_tree.specs.Nodes.{Node, outputs_of}
 use Rattle.merc_graded_tree.specs.Roots.{arity_of, last_joined}
-use Rattle.merc_order.specs.Bound.{among}
 use Rattle.merc_switch.specs.declared.tasks.Group.{Group}
 use Rattle.merc_switch.specs.declared.tasks.Task.{Task}
 use Rattle.merc_switch.specs.declared.tasks.Task.TheVariants.{Find, Keep, Bind, Unbind, Judge, Close}

@@ -5,7 +5,6 @@ use Rattle.merc_goal_tree.specs.declared.goal.Symbol.{Symbol}
 use Rattle.merc_graded_tree.specs.declared.basic.BasicGoal.TheVariants.{True, Test}
 use Rattle.merc_graded_tree.specs.declared.entries.Running.TheVariants.{Sequential, Parallel}
 use Rattle.merc_graded_tree.specs.Labels.{all_labels}
-use Rattle.merc_graded_tree.specs.Nodes.{Node}
 use Rattle.merc_grading.specs.GradingExamples.{red, green, c, d, n, m, basic, is_red, is_green}
 use Rattle.merc_switch.specs.Beginnings.{splits_with, left_with, Begins}
 

@@ -6,6 +6,10 @@ pub mod Splits
 pub mod SplitsExamples
 pub mod Counting
 pub mod CountingExamples
+pub mod Gaps
+pub mod GapsExamples
+pub mod Summaries
+pub mod SummariesExamples
 pub mod Keys
 pub mod KeysExamples
 pub mod Symbols

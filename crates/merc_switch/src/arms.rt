@@ -41,11 +41,11 @@ pub(crate) fn arms_of<'a>(
     requires { list_all (λ disjunct. is_there (symbol_at variable disjunct)) disjuncts ≡ true }
     ensures { IfOk result (λ arms. AreArms arms.symbols.items arms.groups.items (grouped variable disjuncts.entry)) }
 {
-    let (items, counts) = disjuncts.into_parts();
+    let (items, summary) = disjuncts.into_parts();
     let parts = parts_of(alloc, variable, items)?;
     Ok(Arms {
         symbols: parts.symbols,
-        groups: counted_each(alloc, parts.groups, counts)?,
+        groups: counted_each(alloc, parts.groups, summary)?,
     })
 }
 

@@ -1,12 +1,11 @@
 //! The variables on which disjuncts can be a switch.
-ghost use Rattle.std.specs.Prelude.{◌≡◌, ℕ, ◌&&◌, [], List, IfOk};
+ghost use Rattle.std.specs.Prelude.{◌≡◌, ℕ, ◌&&◌, [], List, IfOk, OnOk};
 ghost use Rattle.merc_tree.specs.declared.declarations.TypeDef.{TypeDef};
 ghost use Rattle.merc_order.specs.Bound.{among};
 ghost use Rattle.merc_switch.specs.Choosing.{is_open, AreLeft, Takes};
 
 use crate::counted::Disjuncts;
 use crate::covering::is_covered;
-use crate::disjuncts::Disjunct;
 use crate::ordered::OrderedVars;
 use crate::variables::VarSet;
 use merc_base::NoMemory;
@@ -54,9 +53,10 @@ impl Candidates {
         &mut self,
         alloc: Global,
         known: &Known<'_>,
-        disjuncts: &[Disjunct<'_>],
+        disjuncts: &mut Disjuncts<'_>,
     ) -> Result<Option<Var>, NoMemory>
-        ensures { IfOk result (λ choice. Takes known.now.types disjuncts.now self.old self.new choice) }
+        ensures choice { IfOk result (λ choice. Takes known.now.types disjuncts.old self.old self.new choice) }
+        ensures disjuncts { OnOk result (disjuncts.new ≡ disjuncts.old) }
     {
         while let Some(variable) = self.untried.pop_least() {
             if is_covered(alloc, known, disjuncts, variable)? {

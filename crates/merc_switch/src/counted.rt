@@ -1,11 +1,15 @@
 //! Several disjuncts together, of which it is known how many split each variable.
-ghost use Rattle.std.specs.Prelude.{◌≡◌, ◌<◌, ◌-◌, ℕ, length, IfOk, OnOk};
-ghost use Rattle.std.specs.List.{list_all};
+ghost use Rattle.std.specs.Prelude.{◌≡◌, ◌<◌, ◌-◌, ℕ, length, IfOk, IfSome, OnOk};
+ghost use Rattle.std.specs.List.{list_all, AllByRecursion};
 ghost use Rattle.merc_grading.specs.Switches.{symbol_at, is_there};
-ghost use Rattle.merc_switch.specs.Counting.{count_of, all_splitting, Counts};
+ghost use Rattle.merc_switch.specs.Counting.{count_of, all_splitting};
+ghost use Rattle.merc_switch.specs.Gaps.{symbol_of_gap, Avoids};
+ghost use Rattle.merc_switch.specs.Summaries.{Describes, DescribesAll};
 
 use crate::counts::SplitCounts;
 use crate::disjuncts::Disjunct;
+use crate::gaps::Gap;
+use crate::summary::Summary;
 use merc_base::{NoMemory, Sequence};
 use merc_goal_tree::Var;
 use std::alloc::Global;
@@ -15,8 +19,7 @@ use std::marker::Model;
 #[derive(Drop)]
 pub(crate) struct Disjuncts<'a> {
     items: Vec<Disjunct<'a>>,
-    // how many of them split each variable
-    counts: SplitCounts,
+    summary: Summary,
 }
 
 impl<'a> Model for Disjuncts<'a> {
@@ -32,9 +35,9 @@ impl<'a> Model for Disjuncts<'a> {
 
     ghost view = { λ d. d.items.items };
 
-    ghost use Rattle.merc_switch.specs.Counting.{Counts};
+    ghost use Rattle.merc_switch.specs.Summaries.{Describes};
 
-    ghost invariant = { λ d. Counts d.counts d.items.items };
+    ghost invariant = { λ d. Describes d.summary d.items.items };
 }
 
 impl<'a> Disjuncts<'a> {
@@ -46,16 +49,16 @@ impl<'a> Disjuncts<'a> {
     pub(crate) fn of(alloc: Global, items: Vec<Disjunct<'a>>) -> Result<Disjuncts<'a>, NoMemory>
         ensures { IfOk result (λ disjuncts. disjuncts ≡ items.entry.items) }
     {
-        let counts = counts_of(alloc, &items)?;
-        Ok(Disjuncts { items, counts })
+        let summary = Summary::of(alloc, &items)?;
+        Ok(Disjuncts { items, summary })
     }
 
-    // These disjuncts, which have these counts.
-    fn with_counts(items: Vec<Disjunct<'a>>, counts: SplitCounts) -> Disjuncts<'a>
-        requires { Counts counts items.items }
+    // These disjuncts, of which this is known.
+    fn with_summary(items: Vec<Disjunct<'a>>, summary: Summary) -> Disjuncts<'a>
+        requires { Describes summary items.items }
         ensures { result ≡ items.entry.items }
     {
-        Disjuncts { items, counts }
+        Disjuncts { items, summary }
     }
 
     /// The disjuncts.
@@ -65,12 +68,12 @@ impl<'a> Disjuncts<'a> {
         &self.items
     }
 
-    /// Gives the disjuncts and the counts. It takes no memory.
-    pub(crate) fn into_parts(self) -> (Vec<Disjunct<'a>>, SplitCounts)
+    /// Gives the disjuncts and what is known of them. It takes no memory.
+    pub(crate) fn into_parts(self) -> (Vec<Disjunct<'a>>, Summary)
         ensures items { result.0.items ≡ self.entry }
-        ensures counts { Counts result.1 self.entry }
+        ensures summary { Describes result.1 self.entry }
     {
-        (self.items, self.counts)
+        (self.items, self.summary)
     }
 
     /// Gives the disjuncts back. It takes no memory.
@@ -84,7 +87,26 @@ impl<'a> Disjuncts<'a> {
     pub(crate) fn all_split(&self, variable: Var) -> bool
         ensures { result ≡ list_all (λ disjunct. is_there (symbol_at variable disjunct)) self.now }
     {
-        self.counts.of(variable) == self.as_slice().len()
+        self.summary.counts.of(variable) == self.as_slice().len()
+    }
+
+    /// A symbol by which none of them splits the variable, where one is known.
+    pub(crate) fn gap(&self, variable: Var) -> Option<Gap>
+        ensures { IfSome result (λ gap. AllByRecursion (Avoids variable (symbol_of_gap gap)) self.now) }
+    {
+        self.summary.gaps.of(variable)
+    }
+
+    /// Keeps a symbol by which none of them splits the variable.
+    ///
+    /// # Errors
+    ///
+    /// `NoMemory` where memory was refused.
+    pub(crate) fn keep_gap(&mut self, variable: Var, gap: Gap) -> Result<(), NoMemory>
+        requires { AllByRecursion (Avoids variable (symbol_of_gap gap)) self.old }
+        ensures { OnOk result (self.new ≡ self.old) }
+    {
+        self.summary.gaps.put(variable, gap)
     }
 
     /// The index of one that splits the fewest variables, 0 where there are no disjuncts.
@@ -93,16 +115,6 @@ impl<'a> Disjuncts<'a> {
     {
         fewest_of(&self.items)
     }
-}
-
-fn counts_of(alloc: Global, disjuncts: &[Disjunct<'_>]) -> Result<SplitCounts, NoMemory>
-    ensures { IfOk result (λ counts. Counts counts disjuncts.now) }
-{
-    let mut counts = SplitCounts::new(alloc);
-    for disjunct in disjuncts {
-        counts.add(disjunct)?;
-    }
-    Ok(counts)
 }
 
 // The index of one that splits the fewest variables.
@@ -118,8 +130,8 @@ fn fewest_of(disjuncts: &[Disjunct<'_>]) -> usize
     fewest
 }
 
-/// Groups of disjuncts, counted. Given are the counts of all together: the largest group takes them over without those of
-/// the others, so that only the others are gone through.
+/// Groups of disjuncts, counted. Given is what is known of all together: the largest group takes it over without the counts
+/// of the others, so that only the others are gone through.
 ///
 /// # Errors
 ///
@@ -127,22 +139,22 @@ fn fewest_of(disjuncts: &[Disjunct<'_>]) -> usize
 pub(crate) fn counted_each<'a>(
     alloc: Global,
     groups: Vec<Sequence<Disjunct<'a>>>,
-    counts: SplitCounts,
+    summary: Summary,
 ) -> Result<Vec<Disjuncts<'a>>, NoMemory>
-    requires { (variable : ℕ) → count_of counts variable ≡ all_splitting groups.items variable }
+    requires { DescribesAll summary groups.items }
     ensures { IfOk result (λ counted. counted.items ≡ groups.entry.items) }
 {
     if groups.is_empty() {
         return Ok(Vec::new(alloc));
     }
     let mut groups = groups;
-    let mut counts = counts;
+    let mut summary = summary;
     let largest = largest_of(&groups);
     let largest_group = groups.remove(largest);
-    let mut counted = counted_anew(alloc, groups, &mut counts)?;
+    let mut counted = counted_anew(alloc, groups, &mut summary.counts)?;
     counted.insert(
         largest,
-        Disjuncts::with_counts(largest_group.into_vec(), counts),
+        Disjuncts::with_summary(largest_group.into_vec(), summary),
     )?;
     Ok(counted)
 }

@@ -40,11 +40,10 @@ pub(crate) fn judge<'a>(
     let mut candidates = Candidates::of(alloc, bound, &group.used, &group.disjuncts)?;
     let mut narrowed = false;
     while group.left > 0 {
-        let disjuncts = group.disjuncts.as_slice();
-        let Some(variable) = candidates.next(alloc, known, disjuncts)? else {
+        let Some(variable) = candidates.next(alloc, known, &mut group.disjuncts)? else {
             return plan_disjunction(group, tasks);
         };
-        let Some(symbol) = common_symbol(disjuncts, variable) else {
+        let Some(symbol) = common_symbol(group.disjuncts.as_slice(), variable) else {
             return plan_switch(alloc, variable, group, tasks);
         };
         group = step_in(alloc, variable, symbol, group, narrowed, tasks)?;

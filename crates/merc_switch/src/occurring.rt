@@ -14,7 +14,8 @@ use merc_goal_tree::{Var, Vars};
 use merc_graded_tree::{BasicGoal, NodeRef, Root};
 use std::alloc::Global;
 
-/// Those of the outputs that occur in the disjuncts. No more disjuncts are gone through than it takes to find them all.
+/// Those of the outputs that occur in the disjuncts. No more disjuncts are gone through than it takes to find them all, and
+/// the smallest comes first: where each has all outputs no larger one is gone through.
 ///
 /// # Errors
 ///
@@ -27,6 +28,7 @@ pub(crate) fn outputs_in(
     ensures { IfOk result (λ kept. kept ≡ filter (λ output. in_nodes (nodes_of disjuncts.now) output) outputs.now) }
 {
     let mut variables = VarSet::new(alloc);
+    add_smallest(disjuncts, &mut variables)?;
     for disjunct in disjuncts {
         if has_all(&variables, outputs) {
             return those_among(alloc, outputs, &variables);
@@ -34,6 +36,27 @@ pub(crate) fn outputs_in(
         add_variables(&disjunct.goal(), &mut variables)?;
     }
     those_among(alloc, outputs, &variables)
+}
+
+// Adds the variables that occur in the disjunct of the fewest parts.
+fn add_smallest(disjuncts: &[Disjunct<'_>], variables: &mut VarSet) -> Result<(), NoMemory>
+    ensures { OnOk result ((variable : ℕ) → (among variables.new variable || in_nodes (nodes_of disjuncts.now) variable) ≡ (among variables.old variable || in_nodes (nodes_of disjuncts.now) variable)) }
+{
+    match disjuncts.get(smallest_of(disjuncts)) {
+        Some(smallest) => add_variables(&smallest.goal(), variables),
+        None => Ok(()),
+    }
+}
+
+// The index of the disjunct of the fewest parts, 0 where there are no disjuncts.
+fn smallest_of(disjuncts: &[Disjunct<'_>]) -> usize {
+    let mut smallest = 0;
+    for index in 0..disjuncts.len() {
+        if disjuncts[index].goal().part_count() < disjuncts[smallest].goal().part_count() {
+            smallest = index;
+        }
+    }
+    smallest
 }
 
 // Whether all of the outputs are among the variables.

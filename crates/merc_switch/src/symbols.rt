@@ -3,7 +3,7 @@ ghost use Rattle.std.specs.Prelude.{◌≡◌, [], IfOk, OnOk};
 ghost use Rattle.std.specs.List.{position_or_len};
 ghost use Rattle.merc_grading.specs.Known.{same_symbol, has_symbol};
 ghost use Rattle.merc_switch.specs.Keys.{symbol_of_key};
-ghost use Rattle.merc_switch.specs.Symbols.{with_symbol, all_symbols};
+ghost use Rattle.merc_switch.specs.Symbols.{with_symbol};
 
 use indexmap::IndexSet;
 use merc_base::{Name, NoMemory};
@@ -64,21 +64,6 @@ impl SymbolSet {
     {
         let (place, _) = self.keys.insert_full(key_of(symbol))?;
         Ok(place)
-    }
-
-    /// The set of these symbols.
-    ///
-    /// # Errors
-    ///
-    /// `NoMemory` where memory was refused.
-    pub(crate) fn of(alloc: Global, symbols: &[Symbol]) -> Result<SymbolSet, NoMemory>
-        ensures { IfOk result (λ set. set ≡ all_symbols [] symbols.now) }
-    {
-        let mut set = SymbolSet::new(alloc);
-        for symbol in symbols {
-            set.add(*symbol)?;
-        }
-        Ok(set)
     }
 }
 

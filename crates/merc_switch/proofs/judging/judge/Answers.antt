@@ -1,11 +1,13 @@
-use Rattle.std.proofs.Common.{◌≡◌, ◌∷◌, Some, None, subst, arith}
+use Rattle.std.proofs.Common.{◌≡◌, ◌∙◌, ◌∷◌, ◌++◌, Some, None, ap, sym, subst, arith, refl, true}
+use Rattle.std.specs.List.{list_all}
 use Rattle.std.proofs.lemmas.Result.{on_ok_weaker}
 use Rattle.merc_order.specs.Bound.{among}
+use Rattle.merc_grading.specs.Switches.{symbol_at, is_there}
 use Rattle.merc_switch.specs.declared.tasks.Task.TheVariants.{Judge}
 use Rattle.merc_switch.specs.Choosing.{chosen}
-use Rattle.merc_switch.specs.Plans.{HaveSymbol}
+use Rattle.merc_switch.specs.Plans.{HaveSymbol, AreNarrowed, disjunction_plan, switch_plan, inner_group}
 use Rattle.merc_switch.proofs.ChoiceLaws.{chosen_split}
-use Rattle.merc_switch.proofs.InnerGroups.{reaches_end, reaches_inner, choice_told, inner_left, inner_narrowed, ends_open, ends_parted, ends_used_up}
+use Rattle.merc_switch.proofs.InnerGroups.{with_disjuncts, reaches_end, reaches_inner, choice_told, inner_left, inner_narrowed, ends_open, ends_parted, ends_used_up}
 use Rattle.merc_switch.proofs.judging.judge.Goals as goal
 
 pub returns-in_default : goal.returns-in_default
@@ -13,10 +15,12 @@ returns-in_default c =
     let declared = c.args.known.now.types in
     let bound = c.args.bound.now in
     let group = c.loop-group.group in
+    let next = c.in_ok-variable.ensures in
     let none : None ≡ chosen declared (among bound) group.used group.disjuncts =
-    choice_told declared bound group _ c.loop-group.candidates c.next.new.self c.in_ok-variable.field-0 c.as_slice-disjuncts.ensures c.in_ok-variable.ensures c.loop-group.invariant.left None c.in_default.is in
+    choice_told declared bound group group.disjuncts c.loop-group.candidates c.next.new.self c.in_ok-variable.field-0 refl next.choice c.loop-group.invariant.left None c.in_default.is in
     on_ok_weaker c.plan_disjunction.result
-    (λ planned. λ goals. reaches_end declared _ (Judge group ∷ c.loop-group.tasks) _ goals bound (c.loop-group.invariant.reaches goals) (ends_open declared group c.loop-group.tasks _ goals bound none planned))
+    (λ planned. λ goals. reaches_end declared _ (Judge group ∷ c.loop-group.tasks) _ goals bound (c.loop-group.invariant.reaches goals)
+    (ends_open declared group c.loop-group.tasks _ goals bound none (planned ∙ ap (λ d. disjunction_plan (with_disjuncts group d) ++ c.loop-group.tasks) next.disjuncts)))
     c.plan_disjunction.ensures
 
 pub plan_switch-requires : goal.plan_switch-requires
@@ -25,8 +29,9 @@ plan_switch-requires c =
     let bound = c.args.bound.now in
     let group = c.loop-group.group in
     let variable = c.in-Some.variable in
-    chosen_split declared (among bound) group.used group.disjuncts variable
-    (choice_told declared bound group _ c.loop-group.candidates c.next.new.self c.in_ok-variable.field-0 c.as_slice-disjuncts.ensures c.in_ok-variable.ensures c.loop-group.invariant.left (Some variable) c.in-Some.is)
+    let next = c.in_ok-variable.ensures in
+    subst (λ d. list_all (λ disjunct. is_there (symbol_at variable disjunct)) d ≡ true) (sym next.disjuncts) (chosen_split declared (among bound) group.used group.disjuncts variable
+    (choice_told declared bound group group.disjuncts c.loop-group.candidates c.next.new.self c.in_ok-variable.field-0 refl next.choice c.loop-group.invariant.left (Some variable) c.in-Some.is))
 
 pub returns-in_default-common_symbol : goal.returns-in_default-common_symbol
 returns-in_default-common_symbol c =
@@ -34,11 +39,16 @@ returns-in_default-common_symbol c =
     let bound = c.args.bound.now in
     let group = c.loop-group.group in
     let variable = c.in-Some.variable in
+    let next = c.in_ok-variable.ensures in
     let some : Some variable ≡ chosen declared (among bound) group.used group.disjuncts =
-    choice_told declared bound group _ c.loop-group.candidates c.next.new.self c.in_ok-variable.field-0 c.as_slice-disjuncts.ensures c.in_ok-variable.ensures c.loop-group.invariant.left (Some variable) c.in-Some.is in
+    choice_told declared bound group group.disjuncts c.loop-group.candidates c.next.new.self c.in_ok-variable.field-0 refl next.choice c.loop-group.invariant.left (Some variable) c.in-Some.is in
     on_ok_weaker c.plan_switch.result
     (λ planned. λ goals. reaches_end declared _ (Judge group ∷ c.loop-group.tasks) _ goals bound (c.loop-group.invariant.reaches goals)
-    (ends_parted declared variable group c.loop-group.tasks _ goals bound (omega (arith, c.loop-group-test.true)) some planned)) c.plan_switch.ensures
+    (ends_parted declared variable group c.loop-group.tasks _ goals bound (omega (arith, c.loop-group-test.true)) some
+    (planned ∙ ap (λ d. switch_plan variable (with_disjuncts group d) ++ c.loop-group.tasks) next.disjuncts))) c.plan_switch.ensures
+
+pub step_in-requires : goal.step_in-requires
+step_in-requires c = λ now. subst (λ d. AreNarrowed (with_disjuncts c.loop-group.group d)) (sym c.in_ok-variable.ensures.disjuncts) (c.loop-group.invariant.narrowed now)
 
 pub loop-group-preserved : goal.loop-group-preserved
 loop-group-preserved c =
@@ -48,15 +58,16 @@ loop-group-preserved c =
     let variable = c.in-Some.variable in
     let symbol = c.in-Some-common_symbol.symbol in
     let inner = c.in_ok-group.group in
-    let same = c.as_slice-disjuncts.ensures in
+    let next = c.in_ok-variable.ensures in
     let some : Some variable ≡ chosen declared (among bound) group.used group.disjuncts =
-    choice_told declared bound group _ c.loop-group.candidates c.next.new.self c.in_ok-variable.field-0 same c.in_ok-variable.ensures c.loop-group.invariant.left (Some variable) c.in-Some.is in
-    let have : HaveSymbol variable symbol group.disjuncts = subst (λ l. HaveSymbol variable symbol l) same c.in-Some-common_symbol.ensures in
+    choice_told declared bound group group.disjuncts c.loop-group.candidates c.next.new.self c.in_ok-variable.field-0 refl next.choice c.loop-group.invariant.left (Some variable) c.in-Some.is in
+    let have : HaveSymbol variable symbol group.disjuncts = subst (λ l. HaveSymbol variable symbol l) (c.as_slice.ensures ∙ next.disjuncts) c.in-Some-common_symbol.ensures in
+    let made : inner ≡ inner_group variable group = c.in_ok-group.ensures.group ∙ ap (λ d. inner_group variable (with_disjuncts group d)) next.disjuncts in
     record {
-      reaches = λ goals. reaches_inner declared _ variable symbol group c.loop-group.tasks inner c.step_in.new.tasks goals bound (c.loop-group.invariant.reaches goals) c.in_ok-group.ensures.group
+      reaches = λ goals. reaches_inner declared _ variable symbol group c.loop-group.tasks inner c.step_in.new.tasks goals bound (c.loop-group.invariant.reaches goals) made
           c.in_ok-group.ensures.tasks have (omega (arith, c.loop-group-test.true)) some;
-      left = inner_left declared bound group _ c.loop-group.candidates c.next.new.self c.in_ok-variable.field-0 same c.in_ok-variable.ensures c.loop-group.invariant.left variable inner c.in_ok-group.ensures.group c.in-Some.is;
-      narrowed = λ now. inner_narrowed variable group inner c.in_ok-group.ensures.group;
+      left = inner_left declared bound group group.disjuncts c.loop-group.candidates c.next.new.self c.in_ok-variable.field-0 refl next.choice c.loop-group.invariant.left variable inner made c.in-Some.is;
+      narrowed = λ now. inner_narrowed variable group inner made;
     }
 
 pub returns : goal.returns

@@ -1,4 +1,4 @@
-use Rattle.std.proofs.Common.{◌∙◌, ap, sym, subst, ◌≡◌, ◌<◌, length, false, nat_lt}
+use Rattle.std.proofs.Common.{◌∙◌, ap, subst, ◌≡◌, ◌<◌, length, false, nat_lt}
 use Rattle.std.specs.List.{slice_index_or}
 use Rattle.merc_order.specs.Bound.{among}
 use Rattle.merc_switch.proofs.CountLaws.{one_of, none_of}
