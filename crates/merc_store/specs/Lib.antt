@@ -1,0 +1,4 @@
+pub mod Data
+pub mod Effects
+pub mod Fitting
+pub mod Moves

@@ -1,0 +1,6 @@
+//! The memory of a run: a heap, and frames whose slots stand for values over it.
+#![tactic(auto)]
+
+pub mod store;
+
+pub use store::{Backed, Done, Store};
