@@ -7,6 +7,7 @@ use Rattle.merc_order.specs.Bound.{nothing}
 use Rattle.merc_order.specs.Procedures.{bound_at}
 use Rattle.merc_grading.specs.Faults.{Body, Procedure, all_finished, procedures_of}
 use Rattle.merc_meaning.specs.Runs.{Program, call_trace, run}
+use Rattle.merc_meaning.specs.Programs.{program_with}
 use Rattle.merc_category_laws.specs.Answers.{Each, KeepsTo}
 use Rattle.merc_category_laws.specs.GoodPrograms.{IsGoodProgram, program_of}
 use Rattle.merc_category_laws.specs.Laws.{Leaves}
@@ -20,7 +21,7 @@ use Rattle.merc_module_laws.specs.ProgramLaws.{BecomesGood, BecomesGoodQuery}
 use Rattle.merc_library_laws.proofs.GoodModules.{accepted_becomes_good, accepted_goal_becomes_good}
 use Rattle.merc_check.specs.Accepted.{query_answers}
 use Rattle.merc_check.specs.Checked.{IsGoal}
-use Rattle.merc_accepted_laws.specs.Laws.{CallsAnswerInTypes, CallsAnswerTruly, CallsKeepToCategories, IsChecked, IsGradedGoal, RunsAnswerTruly, program_with}
+use Rattle.merc_accepted_laws.specs.Laws.{CallsAnswerInTypes, CallsAnswerTruly, CallsKeepToCategories, IsChecked, IsGradedGoal, RunsAnswerTruly}
 
 finished_trees : (known : Module) (procedures : List Procedure) (bodies : List Body)
     → map (λ (body : Body). body.tree) (finished_bodies known procedures bodies) ≡ all_finished known.types known.preds procedures bodies

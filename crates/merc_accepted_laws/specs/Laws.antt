@@ -14,16 +14,12 @@ use Rattle.merc_order.specs.Bound.{nothing}
 use Rattle.merc_grading.specs.Faults.{Body, finished}
 use Rattle.merc_meaning.specs.Trace.{Env, Trace}
 use Rattle.merc_meaning.specs.Runs.{Program, call_trace, run}
+use Rattle.merc_meaning.specs.Programs.{program_with}
 use Rattle.merc_category_laws.specs.Answers.{Each, KeepsTo}
-use Rattle.merc_category_laws.specs.GoodPrograms.{body_of}
 use Rattle.merc_category_laws.specs.Laws.{Enters, Leaves, IsProcedure}
 use Rattle.merc_answer_laws.specs.Laws.{AnswersAreYes, OthersAreNo, AnswersAreWhole, RunAnswersAreYes, RunOthersAreNo}
 use Rattle.merc_check.specs.Accepted.{AreGraded, HasBody, query_answers}
 use Rattle.merc_check.specs.Checked.{IsAccepted, IsGoal}
-
--- the program of predicates whose procedures have these trees
-abbrev pub program_with : List PredDecl → List Node → Program
-program_with predicates trees procedure = body_of predicates trees procedure.predicate procedure.mode
 
 -- A text is an accepted module, whose procedures have these trees with their switches and categories. The table of names holds the fixed ones first, and each
 -- text once.

@@ -24,10 +24,11 @@ use Rattle.merc_grading.specs.Faults.{Procedure, Body, with_modes, procedures_of
 use Rattle.merc_meaning.specs.Trace.{Env}
 use Rattle.merc_meaning.specs.Steps.{value_at}
 use Rattle.merc_meaning.specs.Runs.{ProcedureBody, call_trace}
+use Rattle.merc_meaning.specs.Programs.{body_of_mode, body_of}
 use Rattle.merc_meaning.specs.Truth.{is_argument}
 use Rattle.merc_category_laws.specs.ValueTypes.{HasType}
 use Rattle.merc_category_laws.specs.Answers.{AreAtMost, Single}
-use Rattle.merc_category_laws.specs.GoodPrograms.{HasLiteral, IsGoodProcedure, AreGoodProcedures, IsGoodProgram, body_of_mode, body_of, program_of}
+use Rattle.merc_category_laws.specs.GoodPrograms.{HasLiteral, IsGoodProcedure, AreGoodProcedures, IsGoodProgram, program_of}
 use Rattle.merc_category_laws.specs.Laws.{Enters, IsProcedure}
 use Rattle.merc_category_laws.proofs.Values.{Instance, none_not, same_some, is_some_of}
 use Rattle.merc_category_laws.proofs.Lawful.{Fits}

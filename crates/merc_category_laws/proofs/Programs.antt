@@ -26,9 +26,10 @@ use Rattle.merc_grading.specs.Faults.{at_most, Procedure, Body, with_modes, proc
 use Rattle.merc_meaning.specs.Trace.{Env, Trace, Tick}
 use Rattle.merc_meaning.specs.Steps.{value_at}
 use Rattle.merc_meaning.specs.Runs.{Program, ProcedureBody, is_at_most_one, once_if, goal_trace, node_trace, body_trace, call_trace}
+use Rattle.merc_meaning.specs.Programs.{body_of_mode, body_of}
 use Rattle.merc_category_laws.specs.ValueTypes.{HasType}
 use Rattle.merc_category_laws.specs.Answers.{Each, Never, Single, AreAtMost}
-use Rattle.merc_category_laws.specs.GoodPrograms.{HasLiteral, IsGoodProcedure, AreGoodProcedures, IsGoodProgram, IsGoodQuery, body_of_mode, body_of, program_of}
+use Rattle.merc_category_laws.specs.GoodPrograms.{HasLiteral, IsGoodProcedure, AreGoodProcedures, IsGoodProgram, IsGoodQuery, program_of}
 use Rattle.merc_category_laws.specs.Laws.{Enters, Leaves, IsProcedure, CategoryLaw, ErroneousLaw, TypeLaw, GivesAll, QueryCategoryLaw, QueryTypeLaw}
 use Rattle.merc_category_laws.proofs.Traces.{single_first, never_has}
 use Rattle.merc_category_laws.proofs.Values.{Instance, none_not, same_some, some_of, is_some_of, both}

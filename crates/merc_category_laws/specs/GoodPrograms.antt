@@ -1,5 +1,5 @@
 -- What the passes establish of a program.
-use Rattle.std.specs.Prelude.{◌≡◌, ℕ, zero, suc, true, FitsSigned, List, [], ◌∷◌, length, map, drop, Option, Some, None}
+use Rattle.std.specs.Prelude.{◌≡◌, ℕ, true, FitsSigned, List, [], ◌∷◌, length, map}
 use Rattle.std.specs.Int.{w64}
 use Rattle.std.specs.List.{AllByRecursion}
 use Rattle.merc_tree.specs.Types.{TypeExpr, TypeVariable, IntType, TextType, TypeApplication, TypeExprs, no_types, more_types}
@@ -22,7 +22,8 @@ use Rattle.merc_order_laws.specs.GoodTree.{GoodNode}
 use Rattle.merc_order_laws.specs.Laws.{BindsHeads}
 use Rattle.merc_order_laws.specs.TypedTree.{IsTypedTree}
 use Rattle.merc_order_laws.specs.WrittenGoals.{basic_goals}
-use Rattle.merc_meaning.specs.Runs.{Program, ProcedureBody}
+use Rattle.merc_meaning.specs.Runs.{Program}
+use Rattle.merc_meaning.specs.Programs.{body_of}
 use Rattle.merc_category_laws.specs.Guarding.{HasGuards}
 
 -- Declared types.
@@ -105,19 +106,6 @@ AreGoodProcedures known (procedure ∷ procedures) (body ∷ bodies) =
 pub record IsGoodProgram (known : Module) (bodies : List Body) : Type 0 where
   pub good_types : AreGoodTypes known.types
   pub procedures : AreGoodProcedures known (procedures_of known.preds) bodies
-
--- the body of a mode by its number, of modes that have these trees
-abbrev pub body_of_mode : List ModeDecl → List Node → ℕ → Option ProcedureBody
-body_of_mode [] trees number = None
-body_of_mode (mode ∷ modes) [] number = None
-body_of_mode (mode ∷ modes) (tree ∷ trees) zero = Some (record { places = mode.args; body = tree })
-body_of_mode (mode ∷ modes) (tree ∷ trees) (suc number) = body_of_mode modes trees number
-
--- the same of a predicate by its number, of predicates whose modes have these trees
-abbrev pub body_of : List PredDecl → List Node → ℕ → ℕ → Option ProcedureBody
-body_of [] trees predicate mode = None
-body_of (declared ∷ rest) trees zero mode = body_of_mode declared.modes trees mode
-body_of (declared ∷ rest) trees (suc predicate) mode = body_of rest (drop (length declared.modes) trees) predicate mode
 
 -- the program of predicates whose modes have these bodies
 abbrev pub program_of : List PredDecl → List Body → Program

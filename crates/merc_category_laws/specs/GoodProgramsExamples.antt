@@ -21,7 +21,7 @@ use Rattle.merc_order.specs.Procedures.{bound_at, modes_of}
 use Rattle.merc_grading.specs.Grading.{graded_goal, with_category}
 use Rattle.merc_grading.specs.Faults.{Body}
 use Rattle.merc_category_laws.specs.ValueTypesExamples.{declared, parameter, list_of}
-use Rattle.merc_category_laws.specs.GoodPrograms.{AreGoodTypes, FitsArguments, IsGraded, IsGoodProcedure, IsGoodProgram, IsGoodQuery, body_of, program_of}
+use Rattle.merc_category_laws.specs.GoodPrograms.{AreGoodTypes, FitsArguments, IsGraded, IsGoodProcedure, IsGoodProgram, IsGoodQuery, program_of}
 
 -- The types of the examples of values are good. One whose constructor mentions another type variable is not.
 
@@ -162,11 +162,6 @@ found = refl
 
 no_such_mode : program_of (same Semidet ∷ []) (body ∷ []) (record { predicate = 0; mode = 1 }) ≡ None
 no_such_mode = refl
-
--- the second mode of the second predicate, behind one mode of the first
-second : body_of (same Det ∷ record { name = 85; args = []; modes = mode Det ∷ mode Semidet ∷ []; span = no_span; unit = None } ∷ [])
-    (body.tree ∷ body.tree ∷ (body_with Semidet).tree ∷ []) 1 1 ≡ Some (record { places = Input ∷ Output ∷ []; body = (body_with Semidet).tree })
-second = refl
 
 -- Goals that are asked over it: `X = "a"` is good where X is an answer variable. Where Y is one too it is not, and `same(X, X)` has an input that is not bound.
 

@@ -6,6 +6,8 @@ pub mod Trace
 pub mod Steps
 pub mod TraceExamples
 pub mod Runs
+pub mod Programs
 pub mod Truth
 pub mod RunExamples
+pub mod ProgramsExamples
 pub mod TruthExamples

@@ -18,7 +18,7 @@ use Rattle.merc_graded_tree.specs.Nodes.{Node, node, Goal, Basic, Conjunction, D
 use Rattle.merc_meaning.specs.Trace.{Run, Ends, Tick, Answer, RunDone, RunRaised, LimitPassed}
 use Rattle.merc_meaning.specs.Runs.{Program, ProcedureBody, run}
 
-abbrev nowhere : Span
+abbrev pub nowhere : Span
 nowhere = record { first = 0; past = 0; line = 1 }
 
 -- a goal with these outputs, without a category and with one
@@ -51,10 +51,10 @@ is_int variable number = basic (Build variable (Integer (pos number)) []) (varia
 abbrev is_text : ℕ → ℕ → Node
 is_text variable text = basic (Build variable (TextSymbol text) []) (variable ∷ [])
 
-abbrev truth : Node
+abbrev pub truth : Node
 truth = basic True []
 
-abbrev failure : Node
+abbrev pub failure : Node
 failure = basic Fail []
 
 abbrev either : List Node → List ℕ → Node
