@@ -1,6 +1,6 @@
 -- Choice points: made, gone back to, taken away, and only failing.
 use Rattle.std.proofs.Common.{◌≡◌, inl, inr, ℕ, ◌+◌, ◌<◌, ◌≤◌, true, false, if◌then◌else◌, List, [], ◌∷◌, ◌++◌, length, take, map, reverse, Some, slice_get, slice_set, slice_index_or, refl, sym, ap, ◌∙◌, subst, arith}
-use Rattle.merc_value.specs.declared.word.Word.{Word}
+use Rattle.merc_frames.specs.declared.slot.Slot.{Slot}
 use Rattle.merc_frames.specs.Stacks.{Dead, GoesOn, Stacks}
 use Rattle.merc_frames.specs.View.{frame_of, callers_of, seen, view_of, Fine, FineChoice}
 use Rattle.merc_frames.specs.declared.kept.Saved.{Saved}
@@ -15,7 +15,7 @@ use Rattle.std.proofs.lemmas.List.{map-set, take-map, set_past, length-map}
 use Rattle.std.proofs.lemmas.Option.{slice_get_read}
 
 -- a choice point keeps the current frame, which goes on in a copy at its end
-module _ (w w' : List Word) (saved : List Saved) (cs : List Kept) (base size h : ℕ) (k : Kept) (f : Fine w saved cs base size h)
+module _ (w w' : List Slot) (saved : List Saved) (cs : List Kept) (base size h : ℕ) (k : Kept) (f : Fine w saved cs base size h)
     (b : k.base ≡ base) (z : k.size ≡ size) (eh : k.height ≡ h) (es : k.saved ≡ length saved) (same : take (base + size) w ≡ take (base + size) w') where
   kept_attempt : (i : ℕ) (m : Kept) → slice_get (cs ++ k ∷ []) i ≡ Some m → FineChoice saved (base + size) m
   kept_attempt i m e = elim (get_more i cs k m e) as (λ _. FineChoice saved (base + size) m) [
@@ -57,7 +57,7 @@ module _ (w w' : List Word) (saved : List Saved) (cs : List Kept) (base size h :
       subst (λ x. Fine w' saved x base' size h) (sym ec) (subst (λ x. Fine w' saved (cs ++ k ∷ []) x size h) (sym eb) r)
 
   stays_attempt : Stays (base + size) (length saved) w w' saved saved
-  stays_attempt = record { words_same = same; get_same = λ i l. refl; tops = λ i s l e. (let a = f.tops i s e in omega (arith, a)); parents = f.parents }
+  stays_attempt = record { slots_same = same; get_same = λ i l. refl; tops = λ i s l e. (let a = f.tops i s e in omega (arith, a)); parents = f.parents }
 
   seen_attempt : k.live ≡ true → seen w' saved k ≡ GoesOn k.place k.heap (frame_of w base size) (callers_of w saved h)
   seen_attempt live =
@@ -83,21 +83,21 @@ module _ (w w' : List Word) (saved : List Saved) (cs : List Kept) (base size h :
       (ap (λ x. reverse (map (λ m. seen w' saved m) x)) ec ∙ choices_attempt live)
 
 -- fewer choice points
-pub fewer_fine : (w : List Word) (saved : List Saved) (cs cs' : List Kept) (base size h : ℕ) → Fine w saved cs base size h
+pub fewer_fine : (w : List Slot) (saved : List Saved) (cs cs' : List Kept) (base size h : ℕ) → Fine w saved cs base size h
     → ((i : ℕ) (k : Kept) → slice_get cs' i ≡ Some k → slice_get cs i ≡ Some k) → Fine w saved cs' base size h
 fewer_fine w saved cs cs' base size h f g =
     record { within = f.within; stack = f.stack; parents = f.parents; tops = f.tops; ordered = f.ordered; kept = λ i k e. f.kept i k (g i k e); rising = λ i j k m l e q. f.rising i j k m l (g i k e) (g j m q) }
 
-pub commit_fine : (w : List Word) (saved : List Saved) (cs : List Kept) (base size h count : ℕ) → Fine w saved cs base size h → Fine w saved (take count cs) base size h
+pub commit_fine : (w : List Slot) (saved : List Saved) (cs : List Kept) (base size h count : ℕ) → Fine w saved cs base size h → Fine w saved (take count cs) base size h
 commit_fine w saved cs base size h count f = fewer_fine w saved cs (take count cs) base size h f (λ i k e. (get_take_in count i cs k e).1)
 
-pub commit_view : (w : List Word) (saved : List Saved) (cs : List Kept) (base size h count : ℕ)
+pub commit_view : (w : List Slot) (saved : List Saved) (cs : List Kept) (base size h count : ℕ)
     → view_of w saved (take count cs) base size h ≡ (let r : Stacks = record { current = frame_of w base size; callers = callers_of w saved h; choices = oldest count (reverse (map (λ k. seen w saved k) cs)) } in r)
 commit_view w saved cs base size h count = stacks_at _ _ _ _ _ _ refl refl
     (ap reverse (sym (take-map (λ k. seen w saved k) count cs)) ∙ sym (reversed_take count (map (λ k. seen w saved k) cs)))
 
 -- the newest choice point is taken away
-module _ (w : List Word) (saved : List Saved) (cs front : List Kept) (base size h : ℕ) (k : Kept) (f : Fine w saved cs base size h) (ec : cs ≡ front ++ k ∷ []) where
+module _ (w : List Slot) (saved : List Saved) (cs front : List Kept) (base size h : ℕ) (k : Kept) (f : Fine w saved cs base size h) (ec : cs ≡ front ++ k ∷ []) where
   at_end : slice_get cs (length front) ≡ Some k
   at_end = ap (λ x. slice_get x (length front)) ec ∙ get_seam front k
 
@@ -156,7 +156,7 @@ alike_rising k k' m m' a b r =
     let r0 = r.0 in let r1 = r.1 in (omega (arith, a0, a1, b0, r0), omega (arith, a3, b3, r1))
 
 -- one choice point only fails
-module _ (w : List Word) (saved : List Saved) (cs : List Kept) (base size h count : ℕ) (k m : Kept) (f : Fine w saved cs base size h) (l : count < length cs) (r : k ≡ slice_index_or cs count k)
+module _ (w : List Slot) (saved : List Saved) (cs : List Kept) (base size h count : ℕ) (k m : Kept) (f : Fine w saved cs base size h) (l : count < length cs) (r : k ≡ slice_index_or cs count k)
     (b : m.base ≡ k.base) (z : m.size ≡ k.size) (eh : m.height ≡ k.height) (es : m.saved ≡ k.saved) where
   twin : (i : ℕ) (x : Kept) → slice_get (slice_set cs count m) i ≡ Some x → (y : Kept) × (slice_get cs i ≡ Some y) × Alike y x
   twin i x e = elim (get_set count i cs m x e) as (λ _. (y : Kept) × (slice_get cs i ≡ Some y) × Alike y x) [
@@ -179,14 +179,14 @@ module _ (w : List Word) (saved : List Saved) (cs : List Kept) (base size h coun
     rising = λ i j x y o e q. (let t = twin i x e in let u = twin j y q in alike_rising t.0 x u.0 y t.2 u.2 (f.rising i j t.0 u.0 o t.1 u.1));
   }
 
-pub soften_view : (w : List Word) (saved : List Saved) (cs : List Kept) (base size h count : ℕ) (m : Kept) → m.live ≡ false
+pub soften_view : (w : List Slot) (saved : List Saved) (cs : List Kept) (base size h count : ℕ) (m : Kept) → m.live ≡ false
     → view_of w saved (slice_set cs count m) base size h ≡ (let r : Stacks = record { current = frame_of w base size; callers = callers_of w saved h; choices = softened count (reverse (map (λ k. seen w saved k) cs)) } in r)
 soften_view w saved cs base size h count m dead = stacks_at _ _ _ _ _ _ refl refl
     (ap reverse (map-set (λ k. seen w saved k) cs count m
     ∙ ap (λ x. slice_set (map (λ k. seen w saved k) cs) count (if x then GoesOn m.place m.heap (frame_of w m.base m.size) (callers_of w saved m.height) else Dead)) dead)
     ∙ sym (softened_reverse count (map (λ k. seen w saved k) cs)))
 
-pub soften_none : (w : List Word) (saved : List Saved) (cs : List Kept) (base size h count : ℕ) → length cs ≤ count
+pub soften_none : (w : List Slot) (saved : List Saved) (cs : List Kept) (base size h count : ℕ) → length cs ≤ count
     → view_of w saved cs base size h ≡ (let r : Stacks = record { current = frame_of w base size; callers = callers_of w saved h; choices = softened count (reverse (map (λ k. seen w saved k) cs)) } in r)
 soften_none w saved cs base size h count l = stacks_at _ _ _ _ _ _ refl refl
     (ap reverse (sym (set_past (map (λ k. seen w saved k) cs) count Dead (omega (arith, l, length-map cs (λ k. seen w saved k))))) ∙ sym (softened_reverse count (map (λ k. seen w saved k) cs)))

@@ -1,6 +1,6 @@
 -- The calls, on plain lists.
 use Rattle.std.proofs.Common.{◌≡◌, inl, inr, ℕ, suc, ◌+◌, ◌<◌, ◌≤◌, List, [], ◌∷◌, ◌++◌, length, take, drop, map, reverse, Some, slice_get, slice_set, refl, sym, ap, ◌∙◌, subst, arith}
-use Rattle.merc_value.specs.declared.word.Word.{Word}
+use Rattle.merc_frames.specs.declared.slot.Slot.{Slot}
 use Rattle.merc_frames.specs.Stacks.{Stacks}
 use Rattle.merc_frames.specs.View.{frame_of, linked, chain, callers_of, seen, view_of, Fine, FineChoice, Grows}
 use Rattle.merc_frames.specs.declared.kept.Saved.{Saved}
@@ -9,13 +9,13 @@ use Rattle.merc_frames.proofs.Lists.{get_left, get_seam, get_more, get_within}
 use Rattle.merc_frames.proofs.Stays.{Stays, frame_same, chain_fuel, callers_same, all_seen}
 use Rattle.merc_frames.specs.Stacks.{Opens, Enters, Resizes}
 use Rattle.merc_frames.proofs.Lists.{take_set, take_either}
-use Rattle.merc_frames.proofs.Moving.{below_base, words_view, grown_same}
+use Rattle.merc_frames.proofs.Moving.{below_base, slots_view, grown_same}
 use Rattle.std.proofs.lemmas.List.{length-append, length-drop, length-take-le, take-set-le, drop-set-add}
 
 -- a call: the current frame is saved, and another begins at its end
-module _ (w : List Word) (saved : List Saved) (cs : List Kept) (base size h : ℕ) (s : Saved) (f : Fine w saved cs base size h) (b : s.base ≡ base) (z : s.size ≡ size) (p : s.parent ≡ h) where
+module _ (w : List Slot) (saved : List Saved) (cs : List Kept) (base size h : ℕ) (s : Saved) (f : Fine w saved cs base size h) (b : s.base ≡ base) (z : s.size ≡ size) (p : s.parent ≡ h) where
   stays_enter : Stays base (length saved) w w saved (saved ++ s ∷ [])
-  stays_enter = record { words_same = refl; get_same = λ i l. sym (get_left i saved (s ∷ []) l); tops = λ i t l q. f.tops i t q; parents = f.parents }
+  stays_enter = record { slots_same = refl; get_same = λ i l. sym (get_left i saved (s ∷ []) l); tops = λ i t l q. f.tops i t q; parents = f.parents }
 
   parents_enter : (i : ℕ) (t : Saved) → slice_get (saved ++ s ∷ []) i ≡ Some t → t.parent ≤ i
   parents_enter i t e = elim (get_more i saved s t e) as (λ _. t.parent ≤ i) [
@@ -65,35 +65,35 @@ module _ (w : List Word) (saved : List Saved) (cs : List Kept) (base size h : �
       record { within = omega (arith, eb, room); stack = omega (arith, eh, ap length es); parents = parents_enter; tops = tops_enter; ordered = ordered_enter; kept = kept_enter; rising = f.rising } in
       subst (λ x. Fine w x cs base' size' h') (sym es) (subst (λ x. Fine w (saved ++ s ∷ []) cs x size' h') (sym eb) r)
 
-  callers_enter : callers_of w (saved ++ s ∷ []) (suc (length saved)) ≡ record { place = s.place; words = frame_of w base size } ∷ callers_of w saved h
+  callers_enter : callers_of w (saved ++ s ∷ []) (suc (length saved)) ≡ record { place = s.place; slots = frame_of w base size } ∷ callers_of w saved h
   callers_enter =
       ap (λ o. linked w o (λ q. chain (length saved) w (saved ++ s ∷ []) q)) (get_seam saved s)
-      ∙ ap (λ v. record { place = s.place; words = v } ∷ chain (length saved) w (saved ++ s ∷ []) s.parent) (ap (λ x. frame_of w x s.size) b ∙ ap (λ x. frame_of w base x) z)
-      ∙ ap (λ x. record { place = s.place; words = frame_of w base size } ∷ chain (length saved) w (saved ++ s ∷ []) x) p
-      ∙ ap (λ rest. record { place = s.place; words = frame_of w base size } ∷ rest)
+      ∙ ap (λ v. record { place = s.place; slots = v } ∷ chain (length saved) w (saved ++ s ∷ []) s.parent) (ap (λ x. frame_of w x s.size) b ∙ ap (λ x. frame_of w base x) z)
+      ∙ ap (λ x. record { place = s.place; slots = frame_of w base size } ∷ chain (length saved) w (saved ++ s ∷ []) x) p
+      ∙ ap (λ rest. record { place = s.place; slots = frame_of w base size } ∷ rest)
       (chain_fuel (length saved) h h w (saved ++ s ∷ []) parents_enter f.stack (omega arith) ∙ sym (callers_same h base (length saved) w w saved (saved ++ s ∷ []) stays_enter f.stack))
 
   height_enter : (saved' : List Saved) (h' : ℕ) → saved' ≡ saved ++ s ∷ [] → h' ≡ length saved' → h' ≡ suc (length saved)
   height_enter saved' h' es eh = eh ∙ ap length es ∙ omega (arith, length-append saved (s ∷ []))
 
   pub enter_callers : (saved' : List Saved) (h' : ℕ) → saved' ≡ saved ++ s ∷ [] → h' ≡ length saved'
-      → callers_of w saved' h' ≡ record { place = s.place; words = frame_of w base size } ∷ callers_of w saved h
+      → callers_of w saved' h' ≡ record { place = s.place; slots = frame_of w base size } ∷ callers_of w saved h
   enter_callers saved' h' es eh = ap (λ x. callers_of w x h') es ∙ ap (λ x. callers_of w (saved ++ s ∷ []) x) (height_enter saved' h' es eh) ∙ callers_enter
 
   pub enter_choices : (saved' : List Saved) → saved' ≡ saved ++ s ∷ [] → reverse (map (λ k. seen w saved' k) cs) ≡ reverse (map (λ k. seen w saved k) cs)
   enter_choices saved' es = ap (λ x. reverse (map (λ k. seen w x k) cs)) es ∙ ap reverse (sym (all_seen cs base (length saved) w w saved (saved ++ s ∷ []) stays_enter (below_base w saved cs base size h f)))
 
--- a frame with room for it has all its words
-pub frame_length : (w : List Word) (base size : ℕ) → base + size ≤ length w → length (frame_of w base size) ≡ size
+-- a frame with room for it has all its slots
+pub frame_length : (w : List Slot) (base size : ℕ) → base + size ≤ length w → length (frame_of w base size) ≡ size
 frame_length w base size room = length-take-le size (drop base w) (omega (arith, room, length-drop base w))
 
-pub set_view : (w : List Word) (saved : List Saved) (cs : List Kept) (base size h slot : ℕ) (v : Word) → Fine w saved cs base size h
-    → view_of (slice_set w (base + slot) v) saved cs base size h ≡ (let r : Stacks = record { current = slice_set (frame_of w base size) slot v; callers = callers_of w saved h; choices = reverse (map (λ k. seen w saved k) cs) } in r)
-set_view w saved cs base size h slot v f = words_view w (slice_set w (base + slot) v) saved cs base size h f (sym (take-set-le base w (base + slot) v (omega arith))) size _
-    (ap (λ x. take size x) (drop-set-add base w slot v) ∙ take_set size slot (drop base w) v)
+pub set_view : (w : List Slot) (saved : List Saved) (cs : List Kept) (base size h number : ℕ) (v : Slot) → Fine w saved cs base size h
+    → view_of (slice_set w (base + number) v) saved cs base size h ≡ (let r : Stacks = record { current = slice_set (frame_of w base size) number v; callers = callers_of w saved h; choices = reverse (map (λ k. seen w saved k) cs) } in r)
+set_view w saved cs base size h number v f = slots_view w (slice_set w (base + number) v) saved cs base size h f (sym (take-set-le base w (base + number) v (omega arith))) size _
+    (ap (λ x. take size x) (drop-set-add base w number v) ∙ take_set size number (drop base w) v)
 
 -- a first frame
-pub open_fine : (w : List Word) (saved : List Saved) (cs : List Kept) (size : ℕ) → saved ≡ [] → cs ≡ [] → size ≤ length w → Fine w saved cs 0 size 0
+pub open_fine : (w : List Slot) (saved : List Saved) (cs : List Kept) (size : ℕ) → saved ≡ [] → cs ≡ [] → size ≤ length w → Fine w saved cs 0 size 0
 open_fine w saved cs size es ec room =
     subst (λ x. Fine w x cs 0 size 0) (sym es) (subst (λ x. Fine w [] x 0 size 0) (sym ec) (record {
       within = omega (arith, room);
@@ -105,7 +105,7 @@ open_fine w saved cs size es ec room =
       rising = λ i j k m l e q. absurd (let a = get_within i [] k e in omega (arith, a));
     }))
 
-pub open_opens : (w : List Word) (saved : List Saved) (cs : List Kept) (size : ℕ) → cs ≡ [] → size ≤ length w → Opens (view_of w saved cs 0 size 0) size
+pub open_opens : (w : List Slot) (saved : List Saved) (cs : List Kept) (size : ℕ) → cs ≡ [] → size ≤ length w → Opens (view_of w saved cs 0 size 0) size
 open_opens w saved cs size ec room = record {
   room = frame_length w 0 size (omega (arith, room));
   callers = refl;
@@ -113,11 +113,11 @@ open_opens w saved cs size ec room = record {
 }
 
 -- another size, over a list that grew
-pub resized : (w w' : List Word) (saved : List Saved) (cs : List Kept) (base size h size' : ℕ) → Fine w saved cs base size h → Grows w w' → base + size' ≤ length w'
+pub resized : (w w' : List Slot) (saved : List Saved) (cs : List Kept) (base size h size' : ℕ) → Fine w saved cs base size h → Grows w w' → base + size' ≤ length w'
     → Resizes (view_of w saved cs base size h) (view_of w' saved cs base size' h) size'
 resized w w' saved cs base size h size' f g room =
     let a = f.within in
-    let v = words_view w w' saved cs base size h f (grown_same w w' saved cs base size h f g base (omega (arith, a))) size' (frame_of w' base size') refl in
+    let v = slots_view w w' saved cs base size h f (grown_same w w' saved cs base size h f g base (omega (arith, a))) size' (frame_of w' base size') refl in
     record {
       room = frame_length w' base size' room;
       same = ap (λ x. take x (frame_of w' base size')) (frame_length w base size a) ∙ take_either size size' (drop base w')
@@ -127,7 +127,7 @@ resized w w' saved cs base size h size' f g room =
     }
 
 -- what a call is seen to have done
-pub enter_enters : (w : List Word) (saved : List Saved) (cs : List Kept) (base size h : ℕ) (s : Saved) → Fine w saved cs base size h → s.base ≡ base → s.size ≡ size → s.parent ≡ h
+pub enter_enters : (w : List Slot) (saved : List Saved) (cs : List Kept) (base size h : ℕ) (s : Saved) → Fine w saved cs base size h → s.base ≡ base → s.size ≡ size → s.parent ≡ h
     → (saved' : List Saved) (size' h' : ℕ) → saved' ≡ saved ++ s ∷ [] → base + size + size' ≤ length w → h' ≡ length saved'
     → Enters (view_of w saved cs base size h) (view_of w saved' cs (base + size) size' h') s.place size'
 enter_enters w saved cs base size h s f b z p saved' size' h' es room eh = record {

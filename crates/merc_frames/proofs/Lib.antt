@@ -6,5 +6,7 @@ pub mod Reversed
 pub mod Entering
 pub mod Choices
 pub mod Returning
+pub mod SlotLaws
+pub mod SlotsExamples
 pub mod StacksExamples
 pub mod ViewExamples

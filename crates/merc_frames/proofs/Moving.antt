@@ -1,6 +1,6 @@
 -- Another current frame, over what nobody else needs.
 use Rattle.std.proofs.Common.{◌≡◌, ℕ, ◌+◌, ◌<◌, ◌≤◌, List, length, take, map, reverse, Some, slice_get, Result, Ok, Err, OnErr, refl, sym, ap, ◌∙◌, arith}
-use Rattle.merc_value.specs.declared.word.Word.{Word}
+use Rattle.merc_frames.specs.declared.slot.Slot.{Slot}
 use Rattle.merc_frames.specs.Stacks.{Caller, ChoicePoint, Stacks}
 use Rattle.merc_frames.specs.View.{frame_of, callers_of, seen, view_of, Fine, FineChoice, Grows}
 use Rattle.merc_frames.specs.declared.kept.Saved.{Saved}
@@ -9,34 +9,34 @@ use Rattle.merc_frames.proofs.Lists.{get_take, get_take_in}
 use Rattle.merc_frames.proofs.Stays.{Stays, frame_same, callers_same, all_seen}
 use Rattle.std.proofs.lemmas.List.{length-append, length-take-le, take-append-le}
 
-pub stacks_at : (a a' : List Word) (b b' : List Caller) (c c' : List ChoicePoint) → a ≡ a' → b ≡ b' → c ≡ c' → record { current = a; callers = b; choices = c } ≡ (let r : Stacks = record { current = a'; callers = b'; choices = c' } in r)
+pub stacks_at : (a a' : List Slot) (b b' : List Caller) (c c' : List ChoicePoint) → a ≡ a' → b ≡ b' → c ≡ c' → record { current = a; callers = b; choices = c } ≡ (let r : Stacks = record { current = a'; callers = b'; choices = c' } in r)
 stacks_at a a' b b' c c' e f g =
     ap (λ x. (let r : Stacks = record { current = x; callers = b; choices = c } in r)) e ∙ ap (λ x. (let r : Stacks = record { current = a'; callers = x; choices = c } in r)) f ∙ ap (λ x. (let r : Stacks = record { current = a'; callers = b'; choices = x } in r)) g
 
 -- what lies below n, and the first m saved frames, are as they were: so are callers up to height m and choice points
-pub view_stays : (n m : ℕ) (w w' : List Word) (saved saved' : List Saved) (cs : List Kept) (base' size' h : ℕ) (current : List Word) → Stays n m w w' saved saved' → h ≤ m
+pub view_stays : (n m : ℕ) (w w' : List Slot) (saved saved' : List Saved) (cs : List Kept) (base' size' h : ℕ) (current : List Slot) → Stays n m w w' saved saved' → h ≤ m
     → ((i : ℕ) (k : Kept) → slice_get cs i ≡ Some k → (k.base + k.size ≤ n) × (k.height ≤ m)) → frame_of w' base' size' ≡ current
     → view_of w' saved' cs base' size' h ≡ (let r : Stacks = record { current = current; callers = callers_of w saved h; choices = reverse (map (λ k. seen w saved k) cs) } in r)
 view_stays n m w w' saved saved' cs base' size' h current p l f e =
     stacks_at _ _ _ _ _ _ e (sym (callers_same h n m w w' saved saved' p l)) (ap reverse (sym (all_seen cs n m w w' saved saved' p f)))
 
-pub below_base : (w : List Word) (saved : List Saved) (cs : List Kept) (base size h : ℕ) → Fine w saved cs base size h → (i : ℕ) (k : Kept) → slice_get cs i ≡ Some k → (k.base + k.size ≤ base) × (k.height ≤ length saved)
+pub below_base : (w : List Slot) (saved : List Saved) (cs : List Kept) (base size h : ℕ) → Fine w saved cs base size h → (i : ℕ) (k : Kept) → slice_get cs i ≡ Some k → (k.base + k.size ≤ base) × (k.height ≤ length saved)
 below_base w saved cs base size h f i k e = let g = f.kept i k e in let a = g.height in let b = g.count in (g.top, omega (arith, a, b))
 
--- only words of the current frame and above it changed
-module _ (w w' : List Word) (saved : List Saved) (cs : List Kept) (base size h : ℕ) (f : Fine w saved cs base size h) (same : take base w ≡ take base w') where
-  pub stays_words : Stays base (length saved) w w' saved saved
-  stays_words = record { words_same = same; get_same = λ i l. refl; tops = λ i s l q. f.tops i s q; parents = f.parents }
+-- only slots of the current frame and above it changed
+module _ (w w' : List Slot) (saved : List Saved) (cs : List Kept) (base size h : ℕ) (f : Fine w saved cs base size h) (same : take base w ≡ take base w') where
+  pub stays_slots : Stays base (length saved) w w' saved saved
+  stays_slots = record { slots_same = same; get_same = λ i l. refl; tops = λ i s l q. f.tops i s q; parents = f.parents }
 
-  pub words_fine : (size' : ℕ) → base + size' ≤ length w' → Fine w' saved cs base size' h
-  words_fine size' room = record { within = room; stack = f.stack; parents = f.parents; tops = f.tops; ordered = f.ordered; kept = f.kept; rising = f.rising }
+  pub slots_fine : (size' : ℕ) → base + size' ≤ length w' → Fine w' saved cs base size' h
+  slots_fine size' room = record { within = room; stack = f.stack; parents = f.parents; tops = f.tops; ordered = f.ordered; kept = f.kept; rising = f.rising }
 
-  pub words_view : (size' : ℕ) (current : List Word) → frame_of w' base size' ≡ current
+  pub slots_view : (size' : ℕ) (current : List Slot) → frame_of w' base size' ≡ current
       → view_of w' saved cs base size' h ≡ (let r : Stacks = record { current = current; callers = callers_of w saved h; choices = reverse (map (λ k. seen w saved k) cs) } in r)
-  words_view size' current e = view_stays base (length saved) w w' saved saved cs base size' h current stays_words f.stack (below_base w saved cs base size h f) e
+  slots_view size' current e = view_stays base (length saved) w w' saved saved cs base size' h current stays_slots f.stack (below_base w saved cs base size h f) e
 
--- more words behind all
-module _ (w w' : List Word) (saved : List Saved) (cs : List Kept) (base size h : ℕ) (f : Fine w saved cs base size h) (g : Grows w w') where
+-- more slots behind all
+module _ (w w' : List Slot) (saved : List Saved) (cs : List Kept) (base size h : ℕ) (f : Fine w saved cs base size h) (g : Grows w w') where
   pub grown_same : (n : ℕ) → n ≤ length w → take n w ≡ take n w'
   grown_same n l = sym (ap (take n) g.whole ∙ take-append-le n w g.more l)
 
@@ -44,14 +44,14 @@ module _ (w w' : List Word) (saved : List Saved) (cs : List Kept) (base size h :
   grown_length = let e = ap length g.whole in omega (arith, e, length-append w g.more)
 
   pub grown_fine : Fine w' saved cs base size h
-  grown_fine = let a = f.within in let b = grown_length in words_fine w w' saved cs base size h f (grown_same base (omega (arith, a))) size (omega (arith, a, b))
+  grown_fine = let a = f.within in let b = grown_length in slots_fine w w' saved cs base size h f (grown_same base (omega (arith, a))) size (omega (arith, a, b))
 
   pub grown_view : view_of w' saved cs base size h ≡ view_of w saved cs base size h
-  grown_view = let a = f.within in words_view w w' saved cs base size h f (grown_same base (omega (arith, a))) size (frame_of w base size)
+  grown_view = let a = f.within in slots_view w w' saved cs base size h f (grown_same base (omega (arith, a))) size (frame_of w base size)
       (sym (frame_same (base + size) w w' base size (grown_same (base + size) a) (omega arith)))
 
 -- A current frame begins at low, over the first count saved frames, where all that callers and choice points need lies below.
-module _ (w w' : List Word) (saved : List Saved) (cs : List Kept) (base size h : ℕ) (f : Fine w saved cs base size h)
+module _ (w w' : List Slot) (saved : List Saved) (cs : List Kept) (base size h : ℕ) (f : Fine w saved cs base size h)
     (low size' h' count : ℕ) (cl : count ≤ length saved) (hc : h' ≤ count) (same : take low w ≡ take low w')
     (tops : (i : ℕ) (s : Saved) → i < count → slice_get saved i ≡ Some s → s.base + s.size ≤ low)
     (kept : (i : ℕ) (k : Kept) → slice_get cs i ≡ Some k → (k.base + k.size ≤ low) × (k.saved ≤ count)) where
@@ -78,9 +78,9 @@ module _ (w w' : List Word) (saved : List Saved) (cs : List Kept) (base size h :
   }
 
   stays_moved : Stays low count w w' saved (take count saved)
-  stays_moved = record { words_same = same; get_same = λ i l. sym (get_take count i saved l); tops = tops; parents = f.parents }
+  stays_moved = record { slots_same = same; get_same = λ i l. sym (get_take count i saved l); tops = tops; parents = f.parents }
 
-  pub moved_view : (current : List Word) → frame_of w' low size' ≡ current
+  pub moved_view : (current : List Slot) → frame_of w' low size' ≡ current
       → view_of w' (take count saved) cs low size' h' ≡ (let r : Stacks = record { current = current; callers = callers_of w saved h'; choices = reverse (map (λ k. seen w saved k) cs) } in r)
   moved_view current e = view_stays low count w w' saved (take count saved) cs low size' h' current stays_moved hc
       (λ i k q. (let d = kept i k q in let d1 = d.1 in let g = f.kept i k q in let gh = g.height in (d.0, omega (arith, d1, gh)))) e

@@ -1,6 +1,6 @@
 -- What the newest choice point and the callers need bounds what all others do.
 use Rattle.std.proofs.Common.{◌≡◌, ◌⊎◌, inl, inr, ℕ, zero, suc, ◌+◌, ◌-◌, ◌<◌, ◌≤◌, Bool, true, false, if◌then◌else◌, nat_lt, List, [], ◌∷◌, length, take, map, reverse, Option, Some, None, slice_get, refl, sym, ap, ◌∙◌, subst, arith}
-use Rattle.merc_value.specs.declared.word.Word.{Word}
+use Rattle.merc_frames.specs.declared.slot.Slot.{Slot}
 use Rattle.merc_frames.specs.Stacks.{Stacks}
 use Rattle.merc_frames.specs.View.{frame_of, callers_of, seen, view_of, Fine, larger, newest, counted, lowered, top_of, caller_top}
 use Rattle.merc_frames.specs.declared.kept.Saved.{Saved}
@@ -67,7 +67,7 @@ lowered_under : (o : Option Kept) (n b : ℕ) → n ≤ b → ((k : Kept) → o 
 lowered_under None n b l g = l
 lowered_under (Some k) n b l g = larger_under n (k.base + k.size) b l (g k refl)
 
-module _ (w : List Word) (saved : List Saved) (cs : List Kept) (base size height : ℕ) (f : Fine w saved cs base size height) (h : ℕ) (hs : h ≤ length saved) where
+module _ (w : List Slot) (saved : List Saved) (cs : List Kept) (base size height : ℕ) (f : Fine w saved cs base size height) (h : ℕ) (hs : h ≤ length saved) where
   -- what holds of the newest one bounds the others
   pub bounded : (i : ℕ) (k : Kept) → slice_get cs i ≡ Some k → (m : Kept) × (newest cs ≡ Some m) × (k.base + k.size ≤ m.base + m.size) × (k.saved ≤ m.saved)
   bounded i k e =
@@ -117,7 +117,7 @@ module _ (w : List Word) (saved : List Saved) (cs : List Kept) (base size height
   count_settle = counted_under _ _ _ hs (λ k e. (f.kept (length cs - 1) k e).count)
 
 -- A current frame begins where all ends that the newest choice point and callers of this height need.
-module _ (w w' : List Word) (saved saved' : List Saved) (cs : List Kept) (base size height : ℕ) (f : Fine w saved cs base size height) (low size' h count : ℕ) (hs : h ≤ length saved)
+module _ (w w' : List Slot) (saved saved' : List Saved) (cs : List Kept) (base size height : ℕ) (f : Fine w saved cs base size height) (low size' h count : ℕ) (hs : h ≤ length saved)
     (ec : count ≡ counted (newest cs) h) (el : low ≡ lowered (newest cs) (caller_top saved h)) (es : saved' ≡ take count saved) (same : take low w ≡ take low w') where
   inside : count ≤ length saved
   inside = subst (λ x. x ≤ length saved) (sym ec) (count_settle w saved cs base size height f h hs)
@@ -136,6 +136,6 @@ module _ (w w' : List Word) (saved saved' : List Saved) (cs : List Kept) (base s
   pub settled_fine : low + size' ≤ length w' → Fine w' saved' cs low size' h
   settled_fine room = subst (λ x. Fine w' x cs low size' h) (sym es) (moved_fine w w' saved cs base size height f low size' h count inside above same tops kept room)
 
-  pub settled_view : (current : List Word) → frame_of w' low size' ≡ current
+  pub settled_view : (current : List Slot) → frame_of w' low size' ≡ current
       → view_of w' saved' cs low size' h ≡ (let r : Stacks = record { current = current; callers = callers_of w saved h; choices = reverse (map (λ k. seen w saved k) cs) } in r)
   settled_view current e = ap (λ x. view_of w' x cs low size' h) es ∙ moved_view w w' saved cs base size height f low size' h count inside above same tops kept current e

@@ -1,41 +1,58 @@
 -- Going back to a caller.
-use Rattle.std.proofs.Common.{◌≡◌, ℕ, suc, ◌+◌, ◌-◌, ◌<◌, ◌≤◌, List, ◌∷◌, length, take, Some, slice_get, slice_index_or, refl, sym, ap, ◌∙◌, subst, arith}
-use Rattle.merc_value.specs.declared.word.Word.{Word}
-use Rattle.merc_frames.specs.Stacks.{Caller, Stacks}
+use Rattle.std.proofs.Common.{◌≡◌, ℕ, suc, ◌+◌, ◌-◌, ◌<◌, ◌≤◌, List, ◌∷◌, length, take, drop, Some, None, slice_get, slice_index_or, refl, sym, ap, ◌∙◌, subst, arith}
+use Rattle.merc_frames.specs.declared.slot.Slot.{Slot}
+use Rattle.merc_frames.specs.Stacks.{Caller, Stacks, caller_slot}
 use Rattle.merc_frames.specs.View.{frame_of, linked, chain, callers_of, view_of, Fine, Grows, newest, counted, lowered, caller_top}
 use Rattle.merc_frames.specs.declared.kept.Saved.{Saved}
 use Rattle.merc_frames.specs.declared.kept.Kept.{Kept}
 use Rattle.merc_frames.proofs.Stays.{chain_fuel}
-use Rattle.std.proofs.lemmas.Option.{slice_get_read}
+use Rattle.std.proofs.lemmas.List.{length-drop, length-take-le, get_or-take, get_or-drop}
+use Rattle.std.proofs.lemmas.Option.{slice_get_read, slice_get_past}
 use Rattle.merc_frames.specs.Stacks.{GivesBack}
 use Rattle.merc_frames.proofs.Moving.{moved_fine, moved_view, grown_length, grown_fine, grown_view}
 use Rattle.merc_frames.proofs.Newest.{bounded, counted_newest, settled_fine, settled_view}
 
 -- the newest caller, and its own callers
-callers_are : (w : List Word) (saved : List Saved) (cs : List Kept) (base size h n : ℕ) (s : Saved) → Fine w saved cs base size h → slice_get saved n ≡ Some s
-    → callers_of w saved (suc n) ≡ record { place = s.place; words = frame_of w s.base s.size } ∷ callers_of w saved s.parent
+callers_are : (w : List Slot) (saved : List Saved) (cs : List Kept) (base size h n : ℕ) (s : Saved) → Fine w saved cs base size h → slice_get saved n ≡ Some s
+    → callers_of w saved (suc n) ≡ record { place = s.place; slots = frame_of w s.base s.size } ∷ callers_of w saved s.parent
 callers_are w saved cs base size h n s f e =
     ap (λ o. linked w o (λ q. chain n w saved q)) e
-    ∙ ap (λ rest. record { place = s.place; words = frame_of w s.base s.size } ∷ rest) (chain_fuel n s.parent s.parent w saved f.parents (f.parents n s e) (omega arith))
+    ∙ ap (λ rest. record { place = s.place; slots = frame_of w s.base s.size } ∷ rest) (chain_fuel n s.parent s.parent w saved f.parents (f.parents n s e) (omega arith))
 
 -- the frame of the newest caller, as the code reads it
-pub caller_is : (w : List Word) (saved : List Saved) (cs : List Kept) (base size h : ℕ) (s : Saved) → Fine w saved cs base size h → 0 < h → s ≡ slice_index_or saved (h - 1) s → slice_get saved (h - 1) ≡ Some s
+pub caller_is : (w : List Slot) (saved : List Saved) (cs : List Kept) (base size h : ℕ) (s : Saved) → Fine w saved cs base size h → 0 < h → s ≡ slice_index_or saved (h - 1) s → slice_get saved (h - 1) ≡ Some s
 caller_is w saved cs base size h s f l e = slice_get_read saved (length saved) (h - 1) s refl (let a = f.stack in omega (arith, a, l)) e
 
 -- where the parts of what is behind are known, a return is seen
-given_back : (before after : Stacks) (place : ℕ) (words : List Word) (callers : List Caller) → before.callers ≡ record { place = place; words = words } ∷ callers
-    → after ≡ record { current = words; callers = callers; choices = before.choices } → GivesBack before after (Some place)
-given_back before after place words callers p q =
-    (p ∙ ap (λ (x : Stacks). record { place = place; words = x.current } ∷ x.callers) (sym q), ap (λ (x : Stacks). x.choices) q)
+given_back : (before after : Stacks) (place : ℕ) (slots : List Slot) (callers : List Caller) → before.callers ≡ record { place = place; slots = slots } ∷ callers
+    → after ≡ record { current = slots; callers = callers; choices = before.choices } → GivesBack before after (Some place)
+given_back before after place slots callers p q =
+    (p ∙ ap (λ (x : Stacks). record { place = place; slots = x.current } ∷ x.callers) (sym q), ap (λ (x : Stacks). x.choices) q)
 
-module _ (w : List Word) (saved : List Saved) (cs : List Kept) (base size h : ℕ) (s : Saved) (f : Fine w saved cs base size h) (l : 0 < h) (e : slice_get saved (h - 1) ≡ Some s) where
-  pub return_callers : callers_of w saved h ≡ record { place = s.place; words = frame_of w s.base s.size } ∷ callers_of w saved s.parent
+module _ (w : List Slot) (saved : List Saved) (cs : List Kept) (base size h : ℕ) (s : Saved) (f : Fine w saved cs base size h) (l : 0 < h) (e : slice_get saved (h - 1) ≡ Some s) where
+  pub return_callers : callers_of w saved h ≡ record { place = s.place; slots = frame_of w s.base s.size } ∷ callers_of w saved s.parent
   return_callers = let n : h ≡ suc (h - 1) = omega (arith, l) in ap (λ x. callers_of w saved x) n ∙ callers_are w saved cs base size h (h - 1) s f e
+
+  return_slot : (number : ℕ) → caller_slot (callers_of w saved h) number ≡ slice_get (frame_of w s.base s.size) number
+  return_slot number = ap (λ x. caller_slot x number) return_callers
+
+  return_length : length (frame_of w s.base s.size) ≡ s.size
+  return_length = let a = f.within in let b = f.tops (h - 1) s e in length-take-le s.size (drop s.base w) (omega (arith, a, b, length-drop s.base w))
+
+  -- a slot of the newest caller's frame, as the code reads it
+  pub slot_inside : (number : ℕ) (x : Slot) → number < s.size → x ≡ slice_index_or w (s.base + number) x → caller_slot (callers_of w saved h) number ≡ Some x
+  slot_inside number x within read =
+      return_slot number
+      ∙ slice_get_read (frame_of w s.base s.size) s.size number x (sym return_length) within
+      (read ∙ sym (get_or-take s.size (drop s.base w) number x within ∙ get_or-drop s.base w number x))
+
+  pub slot_past : (number : ℕ) → s.size ≤ number → caller_slot (callers_of w saved h) number ≡ None
+  slot_past number past = return_slot number ∙ slice_get_past (frame_of w s.base s.size) number (omega (arith, return_length, past))
 
   pub parent_inside : s.parent ≤ length saved
   parent_inside = let a = f.stack in let b = f.parents (h - 1) s e in omega (arith, a, b, l)
 
-  pub source_inside : (w' : List Word) → Grows w w' → s.base + s.size ≤ length w'
+  pub source_inside : (w' : List Slot) → Grows w w' → s.base + s.size ≤ length w'
   source_inside w' g = let a = f.within in let b = f.tops (h - 1) s e in omega (arith, a, b, grown_length w w' saved cs base size h f g)
 
   -- in place: no choice point was made since the call
@@ -65,7 +82,7 @@ module _ (w : List Word) (saved : List Saved) (cs : List Kept) (base size h : �
         ∙ moved_view w w saved cs base size h f s.base s.size s.parent (h - 1) inside (f.parents (h - 1) s e) refl ordered kept (frame_of w s.base s.size) refl)
 
   -- in a copy
-  module _ (w' w'' : List Word) (g : Grows w w') (saved' : List Saved) (low count : ℕ) (ec : count ≡ counted (newest cs) s.parent) (el : low ≡ lowered (newest cs) (caller_top saved s.parent))
+  module _ (w' w'' : List Slot) (g : Grows w w') (saved' : List Saved) (low count : ℕ) (ec : count ≡ counted (newest cs) s.parent) (el : low ≡ lowered (newest cs) (caller_top saved s.parent))
       (es : saved' ≡ take count saved) (same : take low w' ≡ take low w'') where
     fine : Fine w' saved cs base size h
     fine = grown_fine w w' saved cs base size h f g

@@ -1,20 +1,20 @@
 -- What the definitions of frames, callers and choice points say.
 use Rattle.std.proofs.Common.{◌≡◌, ℕ, List, [], ◌∷◌, Some, None, refl, ap, arith}
-use Rattle.merc_value.specs.declared.word.Word.{Word}
-use Rattle.merc_value.specs.declared.word.Word.TheVariants.{Cell}
+use Rattle.merc_frames.specs.declared.slot.Slot.{Slot}
+use Rattle.merc_frames.specs.declared.slot.Slot.TheVariants.{Cell}
 use Rattle.merc_frames.specs.declared.frames.Backed.TheVariants.{End as BackedEnd, Dead as BackedDead, On as BackedOn}
-use Rattle.merc_frames.specs.Stacks.{Caller, Dead, GoesOn, Stacks, caller_word, oldest, softened, Opens, Enters, Resizes, GivesBack, GoesBack}
+use Rattle.merc_frames.specs.Stacks.{Caller, Dead, GoesOn, Stacks, caller_slot, oldest, softened, Opens, Enters, Resizes, GivesBack, GoesBack}
 
-abbrev one : List Word
+abbrev one : List Slot
 one = Cell 1 ∷ []
 
-abbrev two : List Word
+abbrev two : List Slot
 two = Cell 1 ∷ Cell 2 ∷ []
 
 abbrev callers : List Caller
-callers = record { place = 9; words = two } ∷ []
+callers = record { place = 9; slots = two } ∷ []
 
--- a frame with two words, no callers, and two choice points
+-- a frame with two slots, no callers, and two choice points
 abbrev outer : Stacks
 outer = record { current = two; callers = []; choices = GoesOn 4 8 one [] ∷ GoesOn 3 7 [] [] ∷ [] }
 
@@ -26,18 +26,18 @@ abbrev newest_place : List Caller → ℕ
 newest_place [] = 0
 newest_place (caller ∷ others) = caller.place
 
-abbrev newest_words : List Caller → List Word
-newest_words [] = []
-newest_words (caller ∷ others) = caller.words
+abbrev newest_slots : List Caller → List Slot
+newest_slots [] = []
+newest_slots (caller ∷ others) = caller.slots
 
-pub caller_word-example : caller_word callers 1 ≡ Some (Cell 2)
-caller_word-example = refl
+pub caller_slot-example : caller_slot callers 1 ≡ Some (Cell 2)
+caller_slot-example = refl
 
-pub caller_word-past : (caller_word callers 2 ≡ None) × (caller_word [] 0 ≡ None)
-caller_word-past = (refl, refl)
+pub caller_slot-past : (caller_slot callers 2 ≡ None) × (caller_slot [] 0 ≡ None)
+caller_slot-past = (refl, refl)
 
-pub caller_word-counterexample : caller_word callers 0 ≡ Some (Cell 2) → ⊥
-caller_word-counterexample = λ same. absurd cc
+pub caller_slot-counterexample : caller_slot callers 0 ≡ Some (Cell 2) → ⊥
+caller_slot-counterexample = λ same. absurd cc
 
 -- the newest goes first
 pub oldest-example : oldest 1 outer.choices ≡ GoesOn 3 7 [] [] ∷ []
@@ -72,11 +72,11 @@ Enters-example = record { room = refl; callers = refl; choices = refl }
 pub Enters-counterexample : Enters outer inner 5 1 → ⊥
 Enters-counterexample = λ enters. absurd (let same : 9 ≡ 5 = ap newest_place enters.callers in omega (arith, same))
 
--- the frame becomes smaller, and its first word stays
+-- the frame becomes smaller, and its first slot stays
 pub Resizes-example : Resizes outer (record { current = one; callers = []; choices = outer.choices }) 1
 Resizes-example = record { room = refl; same = refl; callers = refl; choices = refl }
 
--- a word is lost
+-- a slot is lost
 pub Resizes-counterexample : Resizes outer (record { current = Cell 2 ∷ []; callers = []; choices = outer.choices }) 1 → ⊥
 Resizes-counterexample = λ resizes. absurd (let same = resizes.same in cc)
 
@@ -89,7 +89,7 @@ GivesBack-none = (refl, refl)
 
 -- the called frame is not the caller's
 pub GivesBack-counterexample : GivesBack inner (record { current = one; callers = []; choices = outer.choices }) (Some 9) → ⊥
-GivesBack-counterexample = λ gives. absurd (let same : two ≡ one = ap newest_words gives.0 in cc)
+GivesBack-counterexample = λ gives. absurd (let same : two ≡ one = ap newest_slots gives.0 in cc)
 
 pub GoesBack-example : GoesBack inner (record { current = one; callers = []; choices = GoesOn 3 7 [] [] ∷ [] }) (BackedOn 4 8)
 GoesBack-example = refl

@@ -1,15 +1,15 @@
 -- What the lists of the frames stand for, at one place: a frame called another, which made a choice point and went back to its caller.
 use Rattle.std.proofs.Common.{◌≡◌, ℕ, zero, suc, ◌+◌, ◌≤◌, true, List, [], ◌∷◌, Some, None, slice_get, refl, ap, subst, arith}
-use Rattle.merc_value.specs.declared.word.Word.{Word}
-use Rattle.merc_value.specs.declared.word.Word.TheVariants.{Cell}
+use Rattle.merc_frames.specs.declared.slot.Slot.{Slot}
+use Rattle.merc_frames.specs.declared.slot.Slot.TheVariants.{Cell}
 use Rattle.merc_frames.specs.Stacks.{Stacks, GoesOn}
 use Rattle.merc_frames.specs.View.{frame_of, callers_of, view_of, Fine, FineChoice, Grows, larger, newest, counted, lowered, caller_top}
 use Rattle.merc_frames.specs.declared.kept.Saved.{Saved}
 use Rattle.merc_frames.specs.declared.kept.Kept.{Kept}
 
 -- the caller's frame, the called one's, which the choice point keeps, and the caller's copy
-abbrev words : List Word
-words = Cell 1 ∷ Cell 2 ∷ Cell 3 ∷ []
+abbrev slots : List Slot
+slots = Cell 1 ∷ Cell 2 ∷ Cell 3 ∷ []
 
 abbrev caller : Saved
 caller = record { base = 0; size = 1; place = 10; parent = 0 }
@@ -17,25 +17,25 @@ caller = record { base = 0; size = 1; place = 10; parent = 0 }
 abbrev choice : Kept
 choice = record { live = true; base = 1; size = 1; place = 20; heap = 5; height = 1; saved = 1 }
 
-pub frame_of-example : frame_of words 1 2 ≡ Cell 2 ∷ Cell 3 ∷ []
+pub frame_of-example : frame_of slots 1 2 ≡ Cell 2 ∷ Cell 3 ∷ []
 frame_of-example = refl
 
-pub frame_of-counterexample : frame_of words 1 2 ≡ Cell 1 ∷ Cell 2 ∷ [] → ⊥
+pub frame_of-counterexample : frame_of slots 1 2 ≡ Cell 1 ∷ Cell 2 ∷ [] → ⊥
 frame_of-counterexample = λ same. absurd cc
 
 -- the choice point has the caller, and the copy has none
-pub callers_of-example : (callers_of words (caller ∷ []) 1 ≡ record { place = 10; words = Cell 1 ∷ [] } ∷ []) × (callers_of words (caller ∷ []) 0 ≡ [])
+pub callers_of-example : (callers_of slots (caller ∷ []) 1 ≡ record { place = 10; slots = Cell 1 ∷ [] } ∷ []) × (callers_of slots (caller ∷ []) 0 ≡ [])
 callers_of-example = (refl, refl)
 
-pub callers_of-counterexample : callers_of words (caller ∷ []) 1 ≡ [] → ⊥
+pub callers_of-counterexample : callers_of slots (caller ∷ []) 1 ≡ [] → ⊥
 callers_of-counterexample = λ none. absurd cc
 
-pub view_of-example : view_of words (caller ∷ []) (choice ∷ []) 2 1 0
-    ≡ (let r : Stacks = record { current = Cell 3 ∷ []; callers = []; choices = GoesOn 20 5 (Cell 2 ∷ []) (record { place = 10; words = Cell 1 ∷ [] } ∷ []) ∷ [] } in r)
+pub view_of-example : view_of slots (caller ∷ []) (choice ∷ []) 2 1 0
+    ≡ (let r : Stacks = record { current = Cell 3 ∷ []; callers = []; choices = GoesOn 20 5 (Cell 2 ∷ []) (record { place = 10; slots = Cell 1 ∷ [] } ∷ []) ∷ [] } in r)
 view_of-example = refl
 
-pub view_of-counterexample : view_of words (caller ∷ []) (choice ∷ []) 2 1 0
-    ≡ (let r : Stacks = record { current = Cell 1 ∷ []; callers = []; choices = GoesOn 20 5 (Cell 2 ∷ []) (record { place = 10; words = Cell 1 ∷ [] } ∷ []) ∷ [] } in r) → ⊥
+pub view_of-counterexample : view_of slots (caller ∷ []) (choice ∷ []) 2 1 0
+    ≡ (let r : Stacks = record { current = Cell 1 ∷ []; callers = []; choices = GoesOn 20 5 (Cell 2 ∷ []) (record { place = 10; slots = Cell 1 ∷ [] } ∷ []) ∷ [] } in r) → ⊥
 view_of-counterexample = λ same. absurd (let current = ap (λ (x : Stacks). x.current) same in cc)
 
 -- what lies in a list of one
@@ -59,7 +59,7 @@ FineChoice-example = choice_fine
 pub FineChoice-counterexample : FineChoice (caller ∷ []) 1 choice → ⊥
 FineChoice-counterexample = λ fine. absurd (let top = fine.top in omega (arith, top))
 
-pub Fine-example : Fine words (caller ∷ []) (choice ∷ []) 2 1 0
+pub Fine-example : Fine slots (caller ∷ []) (choice ∷ []) 2 1 0
 Fine-example = record {
   within = omega arith;
   stack = omega arith;
@@ -71,7 +71,7 @@ Fine-example = record {
 }
 
 -- the caller's frame lies over the current one
-pub Fine-counterexample : Fine words (caller ∷ []) [] 0 1 0 → ⊥
+pub Fine-counterexample : Fine slots (caller ∷ []) [] 0 1 0 → ⊥
 Fine-counterexample = λ fine. absurd (let top = fine.tops 0 caller refl in omega (arith, top))
 
 pub Grows-example : Grows (Cell 1 ∷ []) (Cell 1 ∷ Cell 2 ∷ [])

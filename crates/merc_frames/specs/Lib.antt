@@ -1,2 +1,3 @@
+pub mod Slots
 pub mod Stacks
 pub mod View

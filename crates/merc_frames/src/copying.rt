@@ -2,18 +2,18 @@
 ghost use Rattle.std.specs.Prelude.{◌≡◌, ◌+◌, ◌≤◌, length, take, OnOk};
 ghost use Rattle.merc_frames.specs.View.{frame_of, Grows};
 
+use crate::Slot;
 use merc_base::NoMemory;
-use merc_value::Word;
 
 /// Makes the list long enough for a frame. Where memory is refused, it may have become longer.
-pub(crate) fn make_room(words: &mut Vec<Word>, base: usize, size: usize) -> Result<(), NoMemory>
-    ensures ok { OnOk result (base + size ≤ length words.new.items) }
-    ensures grows { Grows words.old.items words.new.items }
+pub(crate) fn make_room(slots: &mut Vec<Slot>, base: usize, size: usize) -> Result<(), NoMemory>
+    ensures ok { OnOk result (base + size ≤ length slots.new.items) }
+    ensures grows { Grows slots.old.items slots.new.items }
 {
     match base.checked_add(size) {
         Some(end) => {
-            while words.len() < end {
-                words.push(Word::Int(0))?;
+            while slots.len() < end {
+                slots.push(Slot::Empty)?;
             }
             Ok(())
         }
@@ -22,14 +22,14 @@ pub(crate) fn make_room(words: &mut Vec<Word>, base: usize, size: usize) -> Resu
 }
 
 /// Copies a frame to where another base is. What lies below that stays.
-pub(crate) fn copy_frame(words: &mut Vec<Word>, from: usize, size: usize, to: usize)
-    requires source { from + size ≤ length words.old.items }
-    requires target { to + size ≤ length words.old.items }
-    ensures long { length words.new.items ≡ length words.old.items }
-    ensures below { take to words.old.items ≡ take to words.new.items }
-    ensures copied { frame_of words.new.items to size ≡ frame_of words.old.items from size }
+pub(crate) fn copy_frame(slots: &mut Vec<Slot>, from: usize, size: usize, to: usize)
+    requires source { from + size ≤ length slots.old.items }
+    requires target { to + size ≤ length slots.old.items }
+    ensures long { length slots.new.items ≡ length slots.old.items }
+    ensures below { take to slots.old.items ≡ take to slots.new.items }
+    ensures copied { frame_of slots.new.items to size ≡ frame_of slots.old.items from size }
 {
     if from != to {
-        words.copy_within(from..from + size, to);
+        slots.copy_within(from..from + size, to);
     }
 }

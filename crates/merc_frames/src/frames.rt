@@ -1,14 +1,14 @@
-//! Frames of words in one list, with who called and the choice points.
+//! Frames of slots in one list, with who called and the choice points.
 ghost use Rattle.std.specs.Prelude.{◌≡◌, ◌+◌, ◌-◌, ◌≤◌, ℕ, [], ◌∷◌, length, nat_lt, Some, slice_get, slice_set, IfOk, OnOk, OnErr};
-ghost use Rattle.merc_frames.specs.Stacks.{Stacks, GoesOn, caller_word, oldest, softened, Opens, Enters, Resizes, GivesBack, GoesBack};
+ghost use Rattle.merc_frames.specs.Stacks.{Stacks, GoesOn, caller_slot, oldest, softened, Opens, Enters, Resizes, GivesBack, GoesBack};
 ghost use Rattle.merc_frames.specs.View.{larger, counted, lowered, caller_top, newest};
 ghost use Rattle.merc_frames.specs.declared.kept.Kept.{Kept};
 ghost use Rattle.merc_frames.specs.declared.kept.Saved.{Saved};
 
+use crate::Slot;
 use crate::copying::{copy_frame, make_room};
 use crate::kept::{Kept, Saved};
 use merc_base::NoMemory;
-use merc_value::Word;
 use std::alloc::Global;
 use std::marker::Model;
 
@@ -23,11 +23,11 @@ pub enum Backed {
     On(usize, usize),
 }
 
-/// Frames of words: the current one, those of the callers, and those that choice points keep. They are seen as lists
-/// of words, callers and choice points.
+/// Frames of slots: the current one, those of the callers, and those that choice points keep. They are seen as lists
+/// of slots, callers and choice points.
 #[derive(Drop)]
 pub struct Frames {
-    words: Vec<Word>,
+    slots: Vec<Slot>,
     saved: Vec<Saved>,
     choices: Vec<Kept>,
     base: usize,
@@ -41,18 +41,18 @@ impl Model for Frames {
 
     ghost Value = { Stacks };
 
-    ghost view = { λ f. view_of f.words.items f.saved.items f.choices.items f.base f.size f.height };
+    ghost view = { λ f. view_of f.slots.items f.saved.items f.choices.items f.base f.size f.height };
 
-    ghost invariant = { λ f. Fine f.words.items f.saved.items f.choices.items f.base f.size f.height };
+    ghost invariant = { λ f. Fine f.slots.items f.saved.items f.choices.items f.base f.size f.height };
 }
 
 impl Frames {
-    /// A current frame without words, no callers and no choice points. It takes no memory yet.
+    /// A current frame without slots, no callers and no choice points. It takes no memory yet.
     pub fn new(alloc: Global) -> Frames
         ensures { result ≡ record { current = []; callers = []; choices = [] } }
     {
         Frames {
-            words: Vec::new(alloc),
+            slots: Vec::new(alloc),
             saved: Vec::new(alloc),
             choices: Vec::new(alloc),
             base: 0,
@@ -61,13 +61,13 @@ impl Frames {
         }
     }
 
-    /// Begins anew with a current frame of so many words, no callers and no choice points. Where memory is refused,
+    /// Begins anew with a current frame of so many slots, no callers and no choice points. Where memory is refused,
     /// nothing changes.
     pub fn open(&mut self, size: usize) -> Result<(), NoMemory>
         ensures ok { OnOk result (Opens self.new size) }
         ensures err { OnErr result (self.new ≡ self.old) }
     {
-        make_room(&mut self.words, 0, size)?;
+        make_room(&mut self.slots, 0, size)?;
         self.saved.clear();
         self.choices.clear();
         self.base = 0;
@@ -76,53 +76,53 @@ impl Frames {
         Ok(())
     }
 
-    /// The word in a slot of the current frame; `None` past its last.
-    pub fn word(&self, slot: usize) -> Option<Word>
-        ensures { result ≡ slice_get self.now.current slot }
+    /// The slot of this number of the current frame, from 0; `None` past its last.
+    pub fn slot(&self, number: usize) -> Option<Slot>
+        ensures { result ≡ slice_get self.now.current number }
     {
-        if slot < self.size {
-            Some(self.words[self.base + slot])
+        if number < self.size {
+            Some(self.slots[self.base + number])
         } else {
             None
         }
     }
 
-    /// Writes a slot of the current frame. `false`, and nothing changed, past its last.
-    pub fn set(&mut self, slot: usize, word: Word) -> bool
-        ensures written { result ≡ nat_lt slot (length self.old.current) }
-        ensures after { self.new ≡ record self.old { current = slice_set self.old.current slot word } }
+    /// Writes the slot of this number of the current frame, from 0. `false`, and nothing changed, past its last.
+    pub fn set(&mut self, number: usize, slot: Slot) -> bool
+        ensures written { result ≡ nat_lt number (length self.old.current) }
+        ensures after { self.new ≡ record self.old { current = slice_set self.old.current number slot } }
     {
-        if slot < self.size {
-            self.words[self.base + slot] = word;
+        if number < self.size {
+            self.slots[self.base + number] = slot;
             true
         } else {
             false
         }
     }
 
-    /// The word in a slot of the newest caller's frame; `None` past its last, and where there is no caller.
-    pub fn caller_word(&self, slot: usize) -> Option<Word>
-        ensures { result ≡ caller_word self.now.callers slot }
+    /// The slot of this number of the newest caller's frame, from 0; `None` past its last, and where there is no caller.
+    pub fn caller_slot(&self, number: usize) -> Option<Slot>
+        ensures { result ≡ caller_slot self.now.callers number }
     {
         if self.height == 0 {
             return None;
         }
         let caller = self.saved[self.height - 1];
-        if slot < caller.size {
-            Some(self.words[caller.base + slot])
+        if number < caller.size {
+            Some(self.slots[caller.base + number])
         } else {
             None
         }
     }
 
-    /// A call: the current frame is the newest caller's, which goes on at `place`, and a frame of `size` words is the
+    /// A call: the current frame is the newest caller's, which goes on at `place`, and a frame of `size` slots is the
     /// current one, whatever they are. Where memory is refused, nothing changes.
     pub fn enter(&mut self, place: usize, size: usize) -> Result<(), NoMemory>
         ensures ok { OnOk result (Enters self.old self.new place size) }
         ensures err { OnErr result (self.new ≡ self.old) }
     {
         let top = self.base + self.size;
-        make_room(&mut self.words, top, size)?;
+        make_room(&mut self.slots, top, size)?;
         self.saved.push(Saved {
             base: self.base,
             size: self.size,
@@ -135,14 +135,14 @@ impl Frames {
         Ok(())
     }
 
-    /// A last call: the current frame has `size` words. Those that it had before stay, up to the lesser size. Where
+    /// A last call: the current frame has `size` slots. Those that it had before stay, up to the lesser size. Where
     /// memory is refused, nothing changes.
     pub fn resize(&mut self, size: usize) -> Result<(), NoMemory>
         ensures ok { OnOk result (Resizes self.old self.new size) }
         ensures err { OnErr result (self.new ≡ self.old) }
     {
         self.settle();
-        make_room(&mut self.words, self.base, size)?;
+        make_room(&mut self.slots, self.base, size)?;
         self.size = size;
         Ok(())
     }
@@ -167,8 +167,8 @@ impl Frames {
         // The newest choice point keeps the caller's frame, which goes on in a copy.
         let count = count_of(&self.choices, caller.parent);
         let low = low_of(&self.saved, &self.choices, caller.parent, self.base);
-        make_room(&mut self.words, low, caller.size)?;
-        copy_frame(&mut self.words, caller.base, caller.size, low);
+        make_room(&mut self.slots, low, caller.size)?;
+        copy_frame(&mut self.slots, caller.base, caller.size, low);
         self.saved.truncate(count);
         self.base = low;
         self.size = caller.size;
@@ -184,7 +184,7 @@ impl Frames {
     {
         // What a choice point keeps is not written any more: the current frame goes on in a copy.
         let copy = self.base + self.size;
-        make_room(&mut self.words, copy, self.size)?;
+        make_room(&mut self.slots, copy, self.size)?;
         self.choices.push(Kept {
             live: true,
             base: self.base,
@@ -194,7 +194,7 @@ impl Frames {
             height: self.height,
             saved: self.saved.len(),
         })?;
-        copy_frame(&mut self.words, self.base, self.size, copy);
+        copy_frame(&mut self.slots, self.base, self.size, copy);
         self.base = copy;
         Ok(())
     }
@@ -252,7 +252,7 @@ impl Frames {
     {
         let count = count_of(&self.choices, self.height);
         let low = low_of(&self.saved, &self.choices, self.height, self.base);
-        copy_frame(&mut self.words, self.base, self.size, low);
+        copy_frame(&mut self.slots, self.base, self.size, low);
         self.saved.truncate(count);
         self.base = low;
     }
@@ -275,7 +275,7 @@ fn count_of(choices: &[Kept], height: usize) -> usize
     }
 }
 
-// Where the words end that the newest choice point and callers at this height need.
+// Where the slots end that the newest choice point and callers at this height need.
 fn low_of(saved: &[Saved], choices: &[Kept], height: usize, base: usize) -> usize
     requires callers { height ≤ length saved.now }
     requires tops { (i : ℕ) (s : Saved) → slice_get saved.now i ≡ Some s → s.base + s.size ≤ base }

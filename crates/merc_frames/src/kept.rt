@@ -1,6 +1,6 @@
 //! What is kept of frames that are not the current one.
 
-// A caller's frame: its words, where the caller goes on, and how many saved frames stood when it was saved below
+// A caller's frame: its slots, where the caller goes on, and how many saved frames stood when it was saved below
 // which the frame of its own caller is.
 #[derive(Clone, Copy, Drop)]
 pub(crate) struct Saved {

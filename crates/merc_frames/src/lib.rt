@@ -1,8 +1,10 @@
-//! Frames of words, callers and choice points in memory.
+//! Frames of slots, callers and choice points in memory.
 #![tactic(auto)]
 
 mod copying;
 pub mod frames;
 mod kept;
+pub mod slot;
 
 pub use frames::{Backed, Frames};
+pub use slot::Slot;

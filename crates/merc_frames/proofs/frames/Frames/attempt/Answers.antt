@@ -9,7 +9,7 @@ returns-in_err-make_room-clause-err c = on_err c.from_residual.result _ (grown_v
 
 abbrev pub returns-in_err-push-clause-err : goal.returns-in_err-push-clause-err
 returns-in_err-push-clause-err c = on_err c.from_residual-in_err-push.result _
-    (ap (λ x. view_of c.make_room.new.words.items c.self.inside.saved.items x c.self.inside.base c.self.inside.size c.self.inside.height) c.in_err-push.ensures.items
+    (ap (λ x. view_of c.make_room.new.slots.items c.self.inside.saved.items x c.self.inside.base c.self.inside.size c.self.inside.height) c.in_err-push.ensures.items
     ∙ grown_view _ _ _ _ _ _ _ c.self.invariant c.in_ok-make_room.ensures.grows ∙ c.self.view_is)
 
 abbrev pub invariant_of-self-2 : goal.invariant_of-self-2

@@ -9,4 +9,4 @@ returns-in_err-make_room-clause-err c = on_err c.from_residual.result _
 
 abbrev pub returns-clause-ok : goal.returns-clause-ok
 returns-clause-ok c = rw (← (c.self.view_is ∙ c.settle.ensures))
-    (resized _ c.make_room.new.words.items _ _ _ _ _ c.args.size c.self.invariant c.in_ok-make_room.ensures.grows c.in_ok-make_room.ensures.ok)
+    (resized _ c.make_room.new.slots.items _ _ _ _ _ c.args.size c.self.invariant c.in_ok-make_room.ensures.grows c.in_ok-make_room.ensures.ok)

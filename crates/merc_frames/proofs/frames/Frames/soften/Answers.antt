@@ -8,9 +8,9 @@ invariant_of-self c =
     soften_fine _ _ _ _ _ _ _ _ _ c.self.invariant within c.index-kept.ensures refl refl refl refl
 
 abbrev pub returns-then-count-len : goal.returns-then-count-len
-returns-then-count-len c = rw (← c.self.view_is) (soften_view c.self.inside.words.items c.self.inside.saved.items c.self.inside.choices.items c.self.inside.base c.self.inside.size c.self.inside.height c.args.count _ refl)
+returns-then-count-len c = rw (← c.self.view_is) (soften_view c.self.inside.slots.items c.self.inside.saved.items c.self.inside.choices.items c.self.inside.base c.self.inside.size c.self.inside.height c.args.count _ refl)
 
 abbrev pub returns-else-count-len : goal.returns-else-count-len
 returns-else-count-len c =
     let past : length c.self.inside.choices.items ≤ c.args.count = subst (λ x. x ≤ c.args.count) (c.len.ensures ∙ c.self.inside.choices.ok.0) c.if-count-len.false in
-    rw (← c.self.view_is) (soften_none c.self.inside.words.items c.self.inside.saved.items c.self.inside.choices.items c.self.inside.base c.self.inside.size c.self.inside.height c.args.count past)
+    rw (← c.self.view_is) (soften_none c.self.inside.slots.items c.self.inside.saved.items c.self.inside.choices.items c.self.inside.base c.self.inside.size c.self.inside.height c.args.count past)

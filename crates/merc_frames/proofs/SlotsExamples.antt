@@ -1,0 +1,31 @@
+-- What the definitions of slots say.
+use Rattle.std.proofs.Common.{◌≡◌, Some, None, refl}
+use Rattle.merc_value.specs.declared.word.Word.TheVariants.{Text as TextWord, Atom as AtomWord, Cell as CellWord}
+use Rattle.merc_frames.specs.declared.slot.Slot.TheVariants.{Empty, Text, Atom, Cell, Mark}
+use Rattle.merc_frames.specs.Slots.{holding, word_in, mark_in}
+
+pub holding-example : holding (CellWord 3) ≡ Cell 3
+holding-example = refl
+
+-- a text is no constructor of that name
+pub holding-counterexample : holding (TextWord 3) ≡ Atom 3 → ⊥
+holding-counterexample = λ same. absurd cc
+
+pub word_in-example : word_in (Atom 7) ≡ Some (AtomWord 7)
+word_in-example = refl
+
+pub word_in-none : (word_in Empty ≡ None) × (word_in (Mark 2) ≡ None)
+word_in-none = (refl, refl)
+
+-- a mark is no cell
+pub word_in-counterexample : word_in (Mark 2) ≡ Some (CellWord 2) → ⊥
+word_in-counterexample = λ same. absurd cc
+
+pub mark_in-example : mark_in (Mark 2) ≡ 2
+mark_in-example = refl
+
+pub mark_in-none : (mark_in Empty ≡ 0) × (mark_in (Cell 2) ≡ 0)
+mark_in-none = (refl, refl)
+
+pub mark_in-counterexample : mark_in (Cell 2) ≡ 2 → ⊥
+mark_in-counterexample = λ same. absurd cc

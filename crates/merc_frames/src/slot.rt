@@ -1,0 +1,60 @@
+//! Slots: what a frame holds at each of its numbers.
+ghost use Rattle.std.specs.Prelude.{◌≡◌};
+ghost use Rattle.merc_frames.specs.Slots.{holding, word_in, mark_in};
+
+use merc_base::Name;
+use merc_value::Word;
+
+/// What a slot of a frame holds.
+#[derive(Clone, Copy, Debug, PartialEq, Eq, Drop)]
+pub enum Slot {
+    /// Nothing.
+    Empty,
+    /// The word of an integer.
+    Int(i64),
+    /// The word of a text, which this name has.
+    Text(Name),
+    /// The word of a constructor without arguments.
+    Atom(Name),
+    /// The word of the cell at this place, from 0.
+    Cell(usize),
+    /// A mark: a number of choice points.
+    Mark(usize),
+}
+
+impl Slot {
+    /// A slot that holds a word.
+    pub fn holding(word: Word) -> Slot
+        ensures { result ≡ holding word }
+    {
+        match word {
+            Word::Int(number) => Slot::Int(number),
+            Word::Text(name) => Slot::Text(name),
+            Word::Atom(name) => Slot::Atom(name),
+            Word::Cell(place) => Slot::Cell(place),
+        }
+    }
+
+    /// The word that it holds, if it holds one.
+    pub fn word(self) -> Option<Word>
+        ensures { result ≡ word_in self }
+    {
+        match self {
+            Slot::Int(number) => Some(Word::Int(number)),
+            Slot::Text(name) => Some(Word::Text(name)),
+            Slot::Atom(name) => Some(Word::Atom(name)),
+            Slot::Cell(place) => Some(Word::Cell(place)),
+            Slot::Empty | Slot::Mark(_) => None,
+        }
+    }
+
+    /// The mark that it holds; 0 where it holds none.
+    pub fn mark(self) -> usize
+        ensures { result ≡ mark_in self }
+    {
+        match self {
+            Slot::Mark(count) => count,
+            Slot::Empty | Slot::Int(_) | Slot::Text(_) | Slot::Atom(_) | Slot::Cell(_) => 0,
+        }
+    }
+}
