@@ -1,16 +1,17 @@
 -- The calls, on plain lists.
-use Rattle.std.proofs.Common.{◌≡◌, inl, inr, ℕ, suc, ◌+◌, ◌<◌, ◌≤◌, List, [], ◌∷◌, ◌++◌, length, take, drop, map, reverse, Some, slice_get, slice_set, refl, sym, ap, ◌∙◌, subst, arith}
+use Rattle.std.proofs.Common.{◌≡◌, inl, inr, ℕ, suc, ◌+◌, ◌<◌, ◌≤◌, List, [], ◌∷◌, ◌++◌, length, take, drop, replicate, map, reverse, Some, slice_get, slice_set, refl, sym, ap, ◌∙◌, subst, arith}
 use Rattle.merc_frames.specs.declared.slot.Slot.{Slot}
+use Rattle.merc_frames.specs.declared.slot.Slot.TheVariants.{Empty}
 use Rattle.merc_frames.specs.Stacks.{Stacks}
 use Rattle.merc_frames.specs.View.{frame_of, linked, chain, callers_of, seen, view_of, Fine, FineChoice, Grows}
 use Rattle.merc_frames.specs.declared.kept.Saved.{Saved}
 use Rattle.merc_frames.specs.declared.kept.Kept.{Kept}
 use Rattle.merc_frames.proofs.Lists.{get_left, get_seam, get_more, get_within}
-use Rattle.merc_frames.proofs.Stays.{Stays, frame_same, chain_fuel, callers_same, all_seen}
-use Rattle.merc_frames.specs.Stacks.{Opens, Enters, Resizes}
-use Rattle.merc_frames.proofs.Lists.{take_set, take_either}
-use Rattle.merc_frames.proofs.Moving.{below_base, slots_view, grown_same}
-use Rattle.std.proofs.lemmas.List.{length-append, length-drop, length-take-le, take-set-le, drop-set-add}
+use Rattle.merc_frames.proofs.Stays.{Stays, chain_fuel, callers_same, all_seen}
+use Rattle.merc_frames.specs.Stacks.{Enters, Renews}
+use Rattle.merc_frames.proofs.Lists.{take_set}
+use Rattle.merc_frames.proofs.Moving.{below_base, slots_view}
+use Rattle.std.proofs.lemmas.List.{length-append, take-set-le, drop-set-add}
 
 -- a call: the current frame is saved, and another begins at its end
 module _ (w : List Slot) (saved : List Saved) (cs : List Kept) (base size h : ℕ) (s : Saved) (f : Fine w saved cs base size h) (b : s.base ≡ base) (z : s.size ≡ size) (p : s.parent ≡ h) where
@@ -83,55 +84,24 @@ module _ (w : List Slot) (saved : List Saved) (cs : List Kept) (base size h : �
   pub enter_choices : (saved' : List Saved) → saved' ≡ saved ++ s ∷ [] → reverse (map (λ k. seen w saved' k) cs) ≡ reverse (map (λ k. seen w saved k) cs)
   enter_choices saved' es = ap (λ x. reverse (map (λ k. seen w x k) cs)) es ∙ ap reverse (sym (all_seen cs base (length saved) w w saved (saved ++ s ∷ []) stays_enter (below_base w saved cs base size h f)))
 
--- a frame with room for it has all its slots
-pub frame_length : (w : List Slot) (base size : ℕ) → base + size ≤ length w → length (frame_of w base size) ≡ size
-frame_length w base size room = length-take-le size (drop base w) (omega (arith, room, length-drop base w))
-
 pub set_view : (w : List Slot) (saved : List Saved) (cs : List Kept) (base size h number : ℕ) (v : Slot) → Fine w saved cs base size h
     → view_of (slice_set w (base + number) v) saved cs base size h ≡ (let r : Stacks = record { current = slice_set (frame_of w base size) number v; callers = callers_of w saved h; choices = reverse (map (λ k. seen w saved k) cs) } in r)
 set_view w saved cs base size h number v f = slots_view w (slice_set w (base + number) v) saved cs base size h f (sym (take-set-le base w (base + number) v (omega arith))) size _
     (ap (λ x. take size x) (drop-set-add base w number v) ∙ take_set size number (drop base w) v)
 
--- a first frame
-pub open_fine : (w : List Slot) (saved : List Saved) (cs : List Kept) (size : ℕ) → saved ≡ [] → cs ≡ [] → size ≤ length w → Fine w saved cs 0 size 0
-open_fine w saved cs size es ec room =
-    subst (λ x. Fine w x cs 0 size 0) (sym es) (subst (λ x. Fine w [] x 0 size 0) (sym ec) (record {
-      within = omega (arith, room);
-      stack = omega arith;
-      parents = λ i s e. absurd (let a = get_within i [] s e in omega (arith, a));
-      tops = λ i s e. absurd (let a = get_within i [] s e in omega (arith, a));
-      ordered = λ i j s t l e q. absurd (let a = get_within i [] s e in omega (arith, a));
-      kept = λ i k e. absurd (let a = get_within i [] k e in omega (arith, a));
-      rising = λ i j k m l e q. absurd (let a = get_within i [] k e in omega (arith, a));
-    }))
-
-pub open_opens : (w : List Slot) (saved : List Saved) (cs : List Kept) (size : ℕ) → cs ≡ [] → size ≤ length w → Opens (view_of w saved cs 0 size 0) size
-open_opens w saved cs size ec room = record {
-  room = frame_length w 0 size (omega (arith, room));
-  callers = refl;
-  choices = ap (λ x. reverse (map (λ k. seen w saved k) x)) ec;
-}
-
--- another size, over a list that grew
-pub resized : (w w' : List Slot) (saved : List Saved) (cs : List Kept) (base size h size' : ℕ) → Fine w saved cs base size h → Grows w w' → base + size' ≤ length w'
-    → Resizes (view_of w saved cs base size h) (view_of w' saved cs base size' h) size'
-resized w w' saved cs base size h size' f g room =
-    let a = f.within in
-    let v = slots_view w w' saved cs base size h f (grown_same w w' saved cs base size h f g base (omega (arith, a))) size' (frame_of w' base size') refl in
-    record {
-      room = frame_length w' base size' room;
-      same = ap (λ x. take x (frame_of w' base size')) (frame_length w base size a) ∙ take_either size size' (drop base w')
-          ∙ ap (λ x. take size' x) (frame_same (base + size) w' w base size (sym (grown_same w w' saved cs base size h f g (base + size) a)) (omega arith));
-      callers = ap (λ (x : Stacks). x.callers) v;
-      choices = ap (λ (x : Stacks). x.choices) v;
-    }
+-- a last call: the current frame and what lies above it are other slots, all empty
+pub renewed : (w w' : List Slot) (saved : List Saved) (cs : List Kept) (base size h size' : ℕ) → Fine w saved cs base size h → take base w ≡ take base w' → frame_of w' base size' ≡ replicate size' Empty
+    → Renews (view_of w saved cs base size h) (view_of w' saved cs base size' h) size'
+renewed w w' saved cs base size h size' f same emptied =
+    let v = slots_view w w' saved cs base size h f same size' (frame_of w' base size') refl in
+    record { current = emptied; callers = ap (λ (x : Stacks). x.callers) v; choices = ap (λ (x : Stacks). x.choices) v }
 
 -- what a call is seen to have done
 pub enter_enters : (w : List Slot) (saved : List Saved) (cs : List Kept) (base size h : ℕ) (s : Saved) → Fine w saved cs base size h → s.base ≡ base → s.size ≡ size → s.parent ≡ h
-    → (saved' : List Saved) (size' h' : ℕ) → saved' ≡ saved ++ s ∷ [] → base + size + size' ≤ length w → h' ≡ length saved'
+    → (saved' : List Saved) (size' h' : ℕ) → saved' ≡ saved ++ s ∷ [] → frame_of w (base + size) size' ≡ replicate size' Empty → h' ≡ length saved'
     → Enters (view_of w saved cs base size h) (view_of w saved' cs (base + size) size' h') s.place size'
-enter_enters w saved cs base size h s f b z p saved' size' h' es room eh = record {
-  room = frame_length w (base + size) size' room;
+enter_enters w saved cs base size h s f b z p saved' size' h' es emptied eh = record {
+  current = emptied;
   callers = enter_callers w saved cs base size h s f b z p saved' h' es eh;
   choices = enter_choices w saved cs base size h s f b z p saved' es;
 }

@@ -44,7 +44,7 @@ module _ {A : Type 0} where
   map_same f g [] h = refl
   map_same f g (x ∷ xs) h = ap (λ y. y ∷ map f xs) (h zero x refl) ∙ ap (λ ys. g x ∷ ys) (map_same f g xs (λ i y e. h (suc i) y e))
 
-  take_less : (n z : ℕ) (w : List A) → z ≤ n → take z (take n w) ≡ take z w
+  pub take_less : (n z : ℕ) (w : List A) → z ≤ n → take z (take n w) ≡ take z w
   take_less n zero w h = refl
   take_less zero (suc z) w h = absurd (omega (arith, h))
   take_less (suc n) (suc z) [] h = refl
@@ -72,10 +72,3 @@ module _ {A : Type 0} where
   take_set (suc n) (suc i) [] y = refl
   take_set (suc n) zero (x ∷ xs) y = refl
   take_set (suc n) (suc i) (x ∷ xs) y = ap (λ v. x ∷ v) (take_set n i xs y)
-
-  pub take_either : (n m : ℕ) (xs : List A) → take n (take m xs) ≡ take m (take n xs)
-  take_either zero zero xs = refl
-  take_either zero (suc m) xs = refl
-  take_either (suc n) zero xs = refl
-  take_either (suc n) (suc m) [] = refl
-  take_either (suc n) (suc m) (x ∷ xs) = ap (λ v. x ∷ v) (take_either n m xs)

@@ -5,7 +5,7 @@ use Rattle.merc_frames.specs.Stacks.{Caller, ChoicePoint, Stacks}
 use Rattle.merc_frames.specs.View.{frame_of, callers_of, seen, view_of, Fine, FineChoice, Grows}
 use Rattle.merc_frames.specs.declared.kept.Saved.{Saved}
 use Rattle.merc_frames.specs.declared.kept.Kept.{Kept}
-use Rattle.merc_frames.proofs.Lists.{get_take, get_take_in}
+use Rattle.merc_frames.proofs.Lists.{get_take, get_take_in, take_less}
 use Rattle.merc_frames.proofs.Stays.{Stays, frame_same, callers_same, all_seen}
 use Rattle.std.proofs.lemmas.List.{length-append, length-take-le, take-append-le}
 
@@ -35,6 +35,17 @@ module _ (w w' : List Slot) (saved : List Saved) (cs : List Kept) (base size h :
       → view_of w' saved cs base size' h ≡ (let r : Stacks = record { current = current; callers = callers_of w saved h; choices = reverse (map (λ k. seen w saved k) cs) } in r)
   slots_view size' current e = view_stays base (length saved) w w' saved saved cs base size' h current stays_slots f.stack (below_base w saved cs base size h f) e
 
+-- only what lies above the current frame changed
+module _ (w w' : List Slot) (saved : List Saved) (cs : List Kept) (base size h : ℕ) (f : Fine w saved cs base size h) (same : take (base + size) w ≡ take (base + size) w') where
+  same_below : take base w ≡ take base w'
+  same_below = sym (take_less (base + size) base w (omega arith)) ∙ ap (take base) same ∙ take_less (base + size) base w' (omega arith)
+
+  pub above_fine : base + size ≤ length w' → Fine w' saved cs base size h
+  above_fine room = slots_fine w w' saved cs base size h f same_below size room
+
+  pub above_view : view_of w' saved cs base size h ≡ view_of w saved cs base size h
+  above_view = slots_view w w' saved cs base size h f same_below size (frame_of w base size) (sym (frame_same (base + size) w w' base size same (omega arith)))
+
 -- more slots behind all
 module _ (w w' : List Slot) (saved : List Saved) (cs : List Kept) (base size h : ℕ) (f : Fine w saved cs base size h) (g : Grows w w') where
   pub grown_same : (n : ℕ) → n ≤ length w → take n w ≡ take n w'
@@ -44,11 +55,14 @@ module _ (w w' : List Slot) (saved : List Saved) (cs : List Kept) (base size h :
   grown_length = let e = ap length g.whole in omega (arith, e, length-append w g.more)
 
   pub grown_fine : Fine w' saved cs base size h
-  grown_fine = let a = f.within in let b = grown_length in slots_fine w w' saved cs base size h f (grown_same base (omega (arith, a))) size (omega (arith, a, b))
+  grown_fine = let a = f.within in let b = grown_length in above_fine w w' saved cs base size h f (grown_same (base + size) a) (omega (arith, a, b))
 
   pub grown_view : view_of w' saved cs base size h ≡ view_of w saved cs base size h
-  grown_view = let a = f.within in slots_view w w' saved cs base size h f (grown_same base (omega (arith, a))) size (frame_of w base size)
-      (sym (frame_same (base + size) w w' base size (grown_same (base + size) a) (omega arith)))
+  grown_view = above_view w w' saved cs base size h f (grown_same (base + size) f.within)
+
+  -- slots at the end of the current frame, or behind it, were written then
+  pub emptied_same : (w'' : List Slot) (n : ℕ) → n ≤ base + size → take n w' ≡ take n w'' → take n w ≡ take n w''
+  emptied_same w'' n l e = let a = f.within in grown_same n (omega (arith, a, l)) ∙ e
 
 -- A current frame begins at low, over the first count saved frames, where all that callers and choice points need lies below.
 module _ (w w' : List Slot) (saved : List Saved) (cs : List Kept) (base size h : ℕ) (f : Fine w saved cs base size h)

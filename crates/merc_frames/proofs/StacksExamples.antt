@@ -1,9 +1,9 @@
 -- What the definitions of frames, callers and choice points say.
 use Rattle.std.proofs.Common.{◌≡◌, ℕ, List, [], ◌∷◌, Some, None, refl, ap, arith}
 use Rattle.merc_frames.specs.declared.slot.Slot.{Slot}
-use Rattle.merc_frames.specs.declared.slot.Slot.TheVariants.{Cell}
+use Rattle.merc_frames.specs.declared.slot.Slot.TheVariants.{Empty, Cell}
 use Rattle.merc_frames.specs.declared.frames.Backed.TheVariants.{End as BackedEnd, Dead as BackedDead, On as BackedOn}
-use Rattle.merc_frames.specs.Stacks.{Caller, Dead, GoesOn, Stacks, caller_slot, oldest, softened, Opens, Enters, Resizes, GivesBack, GoesBack}
+use Rattle.merc_frames.specs.Stacks.{Caller, Dead, GoesOn, Stacks, caller_slot, oldest, softened, Opens, Enters, Renews, GivesBack, GoesBack}
 
 abbrev one : List Slot
 one = Cell 1 ∷ []
@@ -20,7 +20,7 @@ outer = record { current = two; callers = []; choices = GoesOn 4 8 one [] ∷ Go
 
 -- the same, with another frame that it has called
 abbrev inner : Stacks
-inner = record { current = one; callers = callers; choices = GoesOn 4 8 one [] ∷ GoesOn 3 7 [] [] ∷ [] }
+inner = record { current = Empty ∷ []; callers = callers; choices = GoesOn 4 8 one [] ∷ GoesOn 3 7 [] [] ∷ [] }
 
 abbrev newest_place : List Caller → ℕ
 newest_place [] = 0
@@ -59,26 +59,34 @@ softened-none = refl
 pub softened-counterexample : softened 1 outer.choices ≡ GoesOn 4 8 one [] ∷ Dead ∷ [] → ⊥
 softened-counterexample = λ same. absurd cc
 
-pub Opens-example : Opens (record { current = one; callers = []; choices = [] }) 1
-Opens-example = record { room = refl; callers = refl; choices = refl }
+pub Opens-example : Opens (record { current = Empty ∷ Empty ∷ []; callers = []; choices = [] }) 2
+Opens-example = record { current = refl; callers = refl; choices = refl }
 
 pub Opens-counterexample : Opens inner 1 → ⊥
 Opens-counterexample = λ opens. absurd (let none = opens.callers in cc)
 
+-- the slot is not empty
+pub Opens-filled : Opens (record { current = one; callers = []; choices = [] }) 1 → ⊥
+Opens-filled = λ opens. absurd (let current = opens.current in cc)
+
 pub Enters-example : Enters outer inner 9 1
-Enters-example = record { room = refl; callers = refl; choices = refl }
+Enters-example = record { current = refl; callers = refl; choices = refl }
 
 -- another place
 pub Enters-counterexample : Enters outer inner 5 1 → ⊥
 Enters-counterexample = λ enters. absurd (let same : 9 ≡ 5 = ap newest_place enters.callers in omega (arith, same))
 
--- the frame becomes smaller, and its first slot stays
-pub Resizes-example : Resizes outer (record { current = one; callers = []; choices = outer.choices }) 1
-Resizes-example = record { room = refl; same = refl; callers = refl; choices = refl }
+-- the slot is not empty
+pub Enters-filled : Enters outer (record { current = one; callers = callers; choices = outer.choices }) 9 1 → ⊥
+Enters-filled = λ enters. absurd (let current = enters.current in cc)
 
--- a slot is lost
-pub Resizes-counterexample : Resizes outer (record { current = Cell 2 ∷ []; callers = []; choices = outer.choices }) 1 → ⊥
-Resizes-counterexample = λ resizes. absurd (let same = resizes.same in cc)
+-- the new frame is larger
+pub Renews-example : Renews outer (record { current = Empty ∷ Empty ∷ Empty ∷ []; callers = []; choices = outer.choices }) 3
+Renews-example = record { current = refl; callers = refl; choices = refl }
+
+-- a slot of the old frame stays
+pub Renews-counterexample : Renews outer (record { current = one; callers = []; choices = outer.choices }) 1 → ⊥
+Renews-counterexample = λ renews. absurd (let current = renews.current in cc)
 
 pub GivesBack-example : GivesBack inner outer (Some 9)
 GivesBack-example = (refl, refl)

@@ -1,5 +1,5 @@
-//! Room for frames, and frames copied within their list.
-ghost use Rattle.std.specs.Prelude.{◌≡◌, ◌+◌, ◌≤◌, length, take, OnOk};
+//! Room for frames, and frames emptied and copied within their list.
+ghost use Rattle.std.specs.Prelude.{◌≡◌, ◌+◌, ◌≤◌, length, take, replicate, OnOk};
 ghost use Rattle.merc_frames.specs.View.{frame_of, Grows};
 
 use crate::Slot;
@@ -19,6 +19,16 @@ pub(crate) fn make_room(slots: &mut Vec<Slot>, base: usize, size: usize) -> Resu
         }
         None => Err(NoMemory),
     }
+}
+
+/// Empties each slot of a frame. What lies below the frame stays.
+pub(crate) fn empty_frame(slots: &mut Vec<Slot>, base: usize, size: usize)
+    requires { base + size ≤ length slots.old.items }
+    ensures long { length slots.new.items ≡ length slots.old.items }
+    ensures below { take base slots.old.items ≡ take base slots.new.items }
+    ensures emptied { frame_of slots.new.items base size ≡ replicate size Slot.Empty }
+{
+    slots[base..base + size].fill(Slot::Empty);
 }
 
 /// Copies a frame to where another base is. What lies below that stays.

@@ -1,12 +1,12 @@
 //! Frames of slots in one list, with who called and the choice points.
 ghost use Rattle.std.specs.Prelude.{◌≡◌, ◌+◌, ◌-◌, ◌≤◌, ℕ, [], ◌∷◌, length, nat_lt, Some, slice_get, slice_set, IfOk, OnOk, OnErr};
-ghost use Rattle.merc_frames.specs.Stacks.{Stacks, GoesOn, caller_slot, oldest, softened, Opens, Enters, Resizes, GivesBack, GoesBack};
+ghost use Rattle.merc_frames.specs.Stacks.{Stacks, GoesOn, caller_slot, oldest, softened, Opens, Enters, Renews, GivesBack, GoesBack};
 ghost use Rattle.merc_frames.specs.View.{larger, counted, lowered, caller_top, newest};
 ghost use Rattle.merc_frames.specs.declared.kept.Kept.{Kept};
 ghost use Rattle.merc_frames.specs.declared.kept.Saved.{Saved};
 
 use crate::Slot;
-use crate::copying::{copy_frame, make_room};
+use crate::copying::{copy_frame, empty_frame, make_room};
 use crate::kept::{Kept, Saved};
 use merc_base::NoMemory;
 use std::alloc::Global;
@@ -61,13 +61,14 @@ impl Frames {
         }
     }
 
-    /// Begins anew with a current frame of so many slots, no callers and no choice points. Where memory is refused,
-    /// nothing changes.
+    /// Begins anew with a current frame of `size` slots, all empty, no callers and no choice points. Where memory is
+    /// refused, nothing changes.
     pub fn open(&mut self, size: usize) -> Result<(), NoMemory>
         ensures ok { OnOk result (Opens self.new size) }
         ensures err { OnErr result (self.new ≡ self.old) }
     {
         make_room(&mut self.slots, 0, size)?;
+        empty_frame(&mut self.slots, 0, size);
         self.saved.clear();
         self.choices.clear();
         self.base = 0;
@@ -115,8 +116,8 @@ impl Frames {
         }
     }
 
-    /// A call: the current frame is the newest caller's, which goes on at `place`, and a frame of `size` slots is the
-    /// current one, whatever they are. Where memory is refused, nothing changes.
+    /// A call: the current frame is the newest caller's, which goes on at `place`, and a frame of `size` slots, all
+    /// empty, is the current one. Where memory is refused, nothing changes.
     pub fn enter(&mut self, place: usize, size: usize) -> Result<(), NoMemory>
         ensures ok { OnOk result (Enters self.old self.new place size) }
         ensures err { OnErr result (self.new ≡ self.old) }
@@ -129,20 +130,22 @@ impl Frames {
             place,
             parent: self.height,
         })?;
+        empty_frame(&mut self.slots, top, size);
         self.base = top;
         self.size = size;
         self.height = self.saved.len();
         Ok(())
     }
 
-    /// A last call: the current frame has `size` slots. Those that it had before stay, up to the lesser size. Where
+    /// A last call: the current frame is given back, and one of `size` slots, all empty, is the current one. Where
     /// memory is refused, nothing changes.
-    pub fn resize(&mut self, size: usize) -> Result<(), NoMemory>
-        ensures ok { OnOk result (Resizes self.old self.new size) }
+    pub fn renew(&mut self, size: usize) -> Result<(), NoMemory>
+        ensures ok { OnOk result (Renews self.old self.new size) }
         ensures err { OnErr result (self.new ≡ self.old) }
     {
         self.settle();
         make_room(&mut self.slots, self.base, size)?;
+        empty_frame(&mut self.slots, self.base, size);
         self.size = size;
         Ok(())
     }
