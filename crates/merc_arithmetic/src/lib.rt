@@ -1,0 +1,74 @@
+//! What arithmetic gives, and which comparisons hold.
+#![tactic(auto)]
+
+ghost use Rattle.std.specs.Prelude.{◌≡◌, ◌-ℤ◌, ◌*ℤ◌};
+ghost use Rattle.std.specs.Int.{w64, IsNonZero};
+ghost use Rattle.merc_meaning.specs.Arithmetic.{arithmetic, comparison, wrapped, is_rounded_up, rounded_down};
+ghost use Rattle.merc_arithmetic.specs.Results.{result_of};
+
+use merc_goal_tree::{Comparison, Operation};
+
+/// The result of an operation on two integers, wrapped round at 64 bits, or `None` where the divisor is 0.
+/// `Quotient` truncates, and `Rem` is what it leaves; `Div` rounds down, and `Mod` is what it leaves.
+#[tactic(auto, using(crate::proofs::Wrapping::multiply_is))]
+pub fn compute(operation: Operation, left: i64, right: i64) -> Option<i64>
+    ensures { arithmetic operation left right ≡ result_of result }
+{
+    match operation {
+        Operation::Add => Some(left.wrapping_add(right)),
+        Operation::Subtract => Some(left.wrapping_sub(right)),
+        Operation::Multiply => Some(left.wrapping_mul(right)),
+        _ if right == 0 => None,
+        Operation::Quotient => Some(left.wrapping_div(right)),
+        Operation::Rem => Some(left.wrapping_rem(right)),
+        Operation::Div => Some(div(left, right)),
+        Operation::Mod => Some(modulo(left, right)),
+    }
+}
+
+/// Whether a comparison of two integers holds.
+pub fn holds(test: Comparison, left: i64, right: i64) -> bool
+    ensures { result ≡ comparison test left right }
+{
+    match test {
+        Comparison::Less => left < right,
+        Comparison::Greater => left > right,
+        Comparison::AtMost => left <= right,
+        Comparison::AtLeast => left >= right,
+    }
+}
+
+// The quotient, rounded down.
+fn div(left: i64, right: i64) -> i64
+    requires { IsNonZero w64 right }
+    ensures { result ≡ wrapped (rounded_down left right) }
+{
+    let quotient = left.wrapping_div(right);
+    if is_rounded_up(left, right) {
+        quotient.wrapping_sub(1)
+    } else {
+        quotient
+    }
+}
+
+// What the quotient leaves that is rounded down.
+fn modulo(left: i64, right: i64) -> i64
+    requires { IsNonZero w64 right }
+    ensures { result ≡ wrapped (left -ℤ (rounded_down left right *ℤ right)) }
+{
+    let remainder = left.wrapping_rem(right);
+    if is_rounded_up(left, right) {
+        remainder.wrapping_add(right)
+    } else {
+        remainder
+    }
+}
+
+// Whether truncation rounds the quotient up.
+fn is_rounded_up(left: i64, right: i64) -> bool
+    requires { IsNonZero w64 right }
+    ensures { result ≡ is_rounded_up left right }
+{
+    let remainder = left.wrapping_rem(right);
+    remainder != 0 && (remainder < 0) != (right < 0)
+}
