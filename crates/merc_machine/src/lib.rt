@@ -1,8 +1,8 @@
 //! The machine that runs compiled code.
 #![tactic(auto)]
 
-mod calling;
-mod controlling;
 pub mod machine;
+pub mod running;
 
 pub use machine::Machine;
+pub use running::{Stop, Ticks};
