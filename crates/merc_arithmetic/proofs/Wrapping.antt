@@ -1,11 +1,11 @@
 -- What `wrapping_` methods give, in the words of the definitions.
-use Rattle.std.proofs.Common.{◌≡◌, ℕ, ℤ, pos, negsuc, neg_ℤ, ◌+ℤ◌, ◌-ℤ◌, ◌*ℤ◌, ◌<◌, ◌≤◌, ◌^◌, ◌/◌, ◌%◌, suc, zero, FitsSigned, Bool, true, false, if◌then◌else◌, refl, sym, ap, ◌∙◌, arith, to_z-of_z, int_div, int_rem, unsigned_abs}
+use Rattle.std.proofs.Common.{◌≡◌, ℕ, ℤ, pos, negsuc, neg_ℤ, ◌+ℤ◌, ◌-ℤ◌, ◌*ℤ◌, ◌≤◌, ◌^◌, ◌/◌, suc, zero, FitsSigned, Bool, true, false, if◌then◌else◌, refl, sym, ap, ◌∙◌, arith, to_z-of_z, int_div, int_rem, unsigned_abs}
 use Rattle.std.specs.Int.{w64, int_wrap, int_wrapping_add, int_wrapping_sub, int_wrapping_mul, int_wrapping_div, cast_signed, cast_unsigned}
 use Rattle.std.proofs.lemmas.Int.{ints, int_wrap_fits, int_wrap-add_left, wrapping_add_is, wrapping_sub_is, wrapping_mul_is, quot-rem, SFits-int_wrap}
 use Rattle.merc_meaning.specs.Arithmetic.{wrapped, is_rounded_up, rounded_down}
-use borrow.Author.Differences.{up, down, same_in, same_out, sum_is_lem, neg_is}
+use borrow.Author.Differences.{same_in, same_out, sum_is_lem, neg_is}
 use lib.IntN.{pred_ℤ, pred_ℤ-*ℤ}
-use lib.Signed.{mag, mag_rem}
+use lib.Signed.{mag_rem}
 use native.Mathlib.Nat.{div-le_self, lt_of_le_of_lt}
 
 wrapped-is : (number : ℤ) → int_wrap w64 number ≡ wrapped number

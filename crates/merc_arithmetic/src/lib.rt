@@ -51,7 +51,7 @@ fn div(left: i64, right: i64) -> i64
     }
 }
 
-// What the quotient leaves that is rounded down.
+// What the quotient, rounded down, leaves.
 fn modulo(left: i64, right: i64) -> i64
     requires { IsNonZero w64 right }
     ensures { result ≡ wrapped (left -ℤ (rounded_down left right *ℤ right)) }

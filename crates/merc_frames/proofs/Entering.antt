@@ -3,7 +3,7 @@ use Rattle.std.proofs.Common.{◌≡◌, inl, inr, ℕ, suc, ◌+◌, ◌<◌, �
 use Rattle.merc_frames.specs.declared.slot.Slot.{Slot}
 use Rattle.merc_frames.specs.declared.slot.Slot.TheVariants.{Empty}
 use Rattle.merc_frames.specs.Stacks.{Stacks}
-use Rattle.merc_frames.specs.View.{frame_of, linked, chain, callers_of, seen, view_of, Fine, FineChoice, Grows}
+use Rattle.merc_frames.specs.View.{frame_of, linked, chain, callers_of, seen, view_of, Fine, FineChoice}
 use Rattle.merc_frames.specs.declared.kept.Saved.{Saved}
 use Rattle.merc_frames.specs.declared.kept.Kept.{Kept}
 use Rattle.merc_frames.proofs.Lists.{get_left, get_seam, get_more, get_within}

@@ -1,7 +1,7 @@
 -- What the definitions of slots say.
 use Rattle.std.proofs.Common.{◌≡◌, Some, None, refl}
 use Rattle.merc_value.specs.declared.word.Word.TheVariants.{Text as TextWord, Atom as AtomWord, Cell as CellWord}
-use Rattle.merc_frames.specs.declared.slot.Slot.TheVariants.{Empty, Text, Atom, Cell, Mark}
+use Rattle.merc_frames.specs.declared.slot.Slot.TheVariants.{Empty, Atom, Cell, Mark}
 use Rattle.merc_frames.specs.Slots.{holding, word_in, mark_in}
 
 pub holding-example : holding (CellWord 3) ≡ Cell 3

@@ -3,3 +3,4 @@ pub mod HeapLaws
 pub mod EqualityLemmas
 pub mod MetLemmas
 mod HeapExamples
+mod EqualityExamples

@@ -210,7 +210,7 @@ all_same cells met covered (suc place) k one other found below =
     covered k one other (found_within met k (one, other) found) found
     (λ k' one' other' found' below'. all_same cells met covered place k' one' other' found' (omega (arith, below, below')))
 
-arguments_lower : (cells : List CellData) → AreLower cells → (place : ℕ) → place < length cells → All (IsBelow place) (arguments_at cells place)
+pub arguments_lower : (cells : List CellData) → AreLower cells → (place : ℕ) → place < length cells → All (IsBelow place) (arguments_at cells place)
 arguments_lower cells lower place below k d within = by (found_below cells place below) k d within
   where
     by : (at : CellData) × (slice_get cells place ≡ Some at) → All (IsBelow place) (arguments_at cells place)

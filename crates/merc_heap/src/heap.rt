@@ -111,8 +111,8 @@ impl Heap {
         self.alloc
     }
 
-    // The argument of this number of a word's value, from 0.
-    pub(crate) fn argument(&self, word: Word, index: usize) -> Option<Word>
+    /// The word of a field, from 0, whose number is an index; `None` exactly where there is no such field.
+    pub fn argument(&self, word: Word, index: usize) -> Option<Word>
         requires { IsBelow (length self.now) word }
         ensures { result ≡ slice_get (arguments_in self.now word) index }
     {

@@ -1,4 +1,4 @@
--- Values that go from a block onto a heap.
+-- Values that go from a block onto a heap, and from a heap into a block.
 use Rattle.std.specs.Prelude.{◌≡◌, List, length, map}
 use Rattle.std.specs.List.{All}
 use Rattle.merc_value.specs.Value.{Value}
