@@ -1,5 +1,4 @@
 use Rattle.std.proofs.Common.{◌≡◌, drop}
-use Rattle.merc_frames.specs.Stacks.{Stacks}
 use Rattle.merc_store.specs.Carrying.{slots_of}
 use Rattle.merc_store.specs.Moves.{passed}
 use Rattle.merc_store.proofs.CarryingLaws.{with_slots}
