@@ -1,6 +1,8 @@
 //! The memory of a run: a heap, and frames whose slots stand for values over it.
 #![tactic(auto)]
 
+mod carrying;
+pub mod moving;
 pub mod store;
 
 pub use store::{Backed, Done, Store};

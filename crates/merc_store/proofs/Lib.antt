@@ -1,0 +1,3 @@
+pub mod CarryingLaws
+pub mod SoundLaws
+pub mod StepLaws
