@@ -1,6 +1,7 @@
 //! The machine that runs compiled code.
 #![tactic(auto)]
 
+mod answering;
 pub mod machine;
 pub mod running;
 
