@@ -1,7 +1,10 @@
 //! The memory of a run: a heap, and frames whose slots stand for values over it.
 #![tactic(auto)]
 
+mod building;
 pub mod performing;
+mod splitting;
 pub mod store;
+mod testing;
 
 pub use store::{Backed, Done, Store};
