@@ -1,8 +1,8 @@
 -- What the functions do that an instruction is made of.
-use Rattle.std.proofs.Common.{◌≡◌, List, [], ◌∷◌, pos, Some, None, true, false, refl}
+use Rattle.std.proofs.Common.{◌≡◌, [], ◌∷◌, pos, Some, None, true, false, refl}
 use Rattle.merc_value.specs.declared.word.Word.TheVariants.{Int as IntWord, Text as TextWord, Cell as CellWord}
 use Rattle.merc_frames.specs.declared.slot.Slot.TheVariants.{Empty, Int as IntSlot, Text as TextSlot, Cell as CellSlot, Mark}
-use Rattle.merc_store.specs.Performing.{word_at, words_at, integer_in, integer_at, text_in, integer_is, text_is, stored}
+use Rattle.merc_store.specs.Performing.{word_at, words_at, integer_at, text_in, integer_is, text_is, stored}
 
 word_at-example : word_at (Empty ∷ CellSlot 3 ∷ []) 1 ≡ Some (CellWord 3)
 word_at-example = refl

@@ -1,7 +1,7 @@
 use Rattle.std.proofs.Common.{rules, FitsSigned, sym, ◌∙◌}
 use Rattle.std.specs.Int.{w64}
 use Rattle.merc_meaning.specs.Arithmetic.{comparison}
-use Rattle.merc_store.proofs.KindLemmas.{compare_lacks, compare_wants, compare_does, compare_fails}
+use Rattle.merc_store.proofs.KindLemmas.{compare_lacks, compare_wants, compare_does}
 use Rattle.merc_store.proofs.ReadingLemmas.{none_of, read_both}
 use Rattle.merc_store.proofs.store.Store.compare.Goals as goal
 

@@ -1,4 +1,4 @@
-use Rattle.std.proofs.Common.{◌≡◌, ◌+◌, Some, None, refl, sym, ap, ◌∙◌, slice_get, arith}
+use Rattle.std.proofs.Common.{◌≡◌, ◌+◌, Some, None, refl, ap, slice_get, arith}
 use Rattle.std.proofs.lemmas.Option.{slice_get_read}
 use Rattle.merc_heap.specs.Heap.{arguments_in}
 use Rattle.merc_store.proofs.FillLemmas.{fill_step, fill_short, argument_found}

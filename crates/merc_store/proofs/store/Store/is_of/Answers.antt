@@ -1,7 +1,7 @@
 use Rattle.std.proofs.Common.{rules, FitsSigned, ◌≡◌, ◌==◌, ◌&&◌, sym, ap, subst, ◌∙◌, length}
 use Rattle.std.specs.Int.{w64}
 use Rattle.std.specs.Option.{is_some}
-use Rattle.merc_value.specs.Block.{AreLower, IsBelow, value_of}
+use Rattle.merc_value.specs.Block.{IsBelow, value_of}
 use Rattle.merc_meaning.specs.Values.{fields}
 use Rattle.merc_store.specs.Performing.{integer_is, text_is}
 use Rattle.merc_store.proofs.EffectLemmas.{is_constructor, is_integer, is_text}
