@@ -3,6 +3,10 @@
 
 mod carrying;
 pub mod moving;
+mod building;
+pub mod performing;
+mod splitting;
 pub mod store;
+mod testing;
 
 pub use store::{Backed, Done, Store};

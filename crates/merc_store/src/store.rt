@@ -4,6 +4,7 @@ ghost use Rattle.std.specs.Prelude.{◌≡◌, []};
 use merc_base::Name;
 use merc_frames::{Frames, Slot};
 use merc_heap::Heap;
+use merc_value::Word;
 use std::alloc::Global;
 use std::marker::Model;
 
@@ -35,6 +36,8 @@ pub struct Store {
     pub(crate) frames: Frames,
     // what is carried from one frame to another
     pub(crate) carried: Vec<Slot>,
+    // the words of the arguments of what is built
+    pub(crate) words: Vec<Word>,
 }
 
 impl Model for Store {
@@ -56,6 +59,7 @@ impl Store {
             heap: Heap::new(alloc),
             frames: Frames::new(alloc),
             carried: Vec::new(alloc),
+            words: Vec::new(alloc),
         }
     }
 }
