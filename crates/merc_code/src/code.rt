@@ -47,6 +47,14 @@ impl Code {
         self.procedures.as_slice()
     }
 
+    /// The procedures of each predicate in each of its modes, both by number, and the goal's code. It takes no memory.
+    pub fn into_parts(self) -> (Sequence<Sequence<CompiledProcedure>>, Sequence<Instruction>)
+        ensures procedures { result.0 ≡ self.procedures }
+        ensures query { result.1 ≡ self.query }
+    {
+        (self.procedures, self.query)
+    }
+
     /// The goal's code.
     pub fn query(&self) -> &[Instruction]
         ensures { result.now ≡ self.now.query }

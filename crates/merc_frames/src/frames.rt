@@ -1,6 +1,6 @@
 //! Frames of slots in one list, with who called and the choice points.
 ghost use Rattle.std.specs.Prelude.{◌≡◌, ◌+◌, ◌-◌, ◌≤◌, ℕ, [], ◌∷◌, length, nat_lt, Some, slice_get, slice_set, IfOk, OnOk, OnErr};
-ghost use Rattle.merc_frames.specs.Stacks.{Stacks, GoesOn, caller_slot, oldest, softened, Opens, Enters, Renews, GivesBack, GoesBack};
+ghost use Rattle.merc_frames.specs.Stacks.{Stacks, GoesOn, caller_place, caller_slot, oldest, softened, Opens, Enters, Renews, GivesBack, GoesBack};
 ghost use Rattle.merc_frames.specs.View.{larger, counted, lowered, caller_top, newest};
 ghost use Rattle.merc_frames.specs.declared.kept.Kept.{Kept};
 ghost use Rattle.merc_frames.specs.declared.kept.Saved.{Saved};
@@ -113,6 +113,17 @@ impl Frames {
             Some(self.slots[caller.base + number])
         } else {
             None
+        }
+    }
+
+    /// The place where the newest caller goes on; `None` without a caller.
+    pub fn caller_place(&self) -> Option<usize>
+        ensures { result ≡ caller_place self.now.callers }
+    {
+        if self.height == 0 {
+            None
+        } else {
+            Some(self.saved[self.height - 1].place)
         }
     }
 

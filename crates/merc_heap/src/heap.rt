@@ -26,6 +26,22 @@ impl Model for Mark {
     ghost inverse = { λ n. record { 0 = n } };
 }
 
+impl Mark {
+    /// The mark at this number of places.
+    pub fn new(number: usize) -> Mark
+        ensures { result ≡ number }
+    {
+        Mark(number)
+    }
+
+    /// The number of places.
+    pub fn number(self) -> usize
+        ensures { result ≡ self }
+    {
+        self.0
+    }
+}
+
 /// Cells on one flat list: the fields of each, and then its header, which names the constructor and counts the fields.
 /// It is seen as the list of what ends at each place.
 #[derive(Drop)]

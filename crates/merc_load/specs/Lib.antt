@@ -1,0 +1,6 @@
+pub mod Entries
+pub mod Frames
+pub mod Linking
+pub mod Loaded
+pub mod LoadedExamples
+pub mod Sizes

@@ -1,0 +1,4 @@
+pub mod Advancing
+pub mod Shown
+pub mod Runs
+pub mod Starting

@@ -1,0 +1,11 @@
+pub mod CarryingLaws
+pub mod SoundLaws
+pub mod StepLaws
+pub mod FrameLemmas
+pub mod SoundLemmas
+pub mod DoingLemmas
+pub mod EffectLemmas
+pub mod KindLemmas
+pub mod ReadingLemmas
+pub mod FillLemmas
+pub mod PerformLemmas

@@ -1,0 +1,11 @@
+pub mod Data
+pub mod Effects
+pub mod EffectsExamples
+pub mod Fitting
+pub mod FittingExamples
+pub mod Moves
+pub mod Carrying
+pub mod MovesExamples
+pub mod DataExamples
+pub mod Performing
+pub mod PerformingExamples

@@ -1,0 +1,12 @@
+//! The memory of a run: a heap, and frames whose slots stand for values over it.
+#![tactic(auto)]
+
+mod carrying;
+pub mod moving;
+mod building;
+pub mod performing;
+mod splitting;
+pub mod store;
+mod testing;
+
+pub use store::{Backed, Done, Store};

@@ -1,0 +1,111 @@
+//! Calls, returns and choice points.
+ghost use Rattle.std.specs.Prelude.{◌≡◌, [], ◌∷◌, List, length, slice_get, slice_set, OnOk};
+ghost use Rattle.merc_frames.specs.Stacks.{Caller, GoesOn, oldest, softened};
+ghost use Rattle.merc_frames.specs.declared.slot.Slot.{Slot};
+ghost use Rattle.merc_store.specs.Data.{place_of, with_choices, with_current};
+ghost use Rattle.merc_store.specs.Fitting.{slot_mark};
+ghost use Rattle.merc_store.specs.Moves.{Calls, CallsLast, GoesBack, Returns, empty_frame};
+
+use crate::carrying::{deliver, deliver_inputs, gather, gather_inputs, pass_inputs, slot_at};
+use crate::store::{Backed, Store};
+use merc_base::NoMemory;
+use merc_frames::Slot;
+use merc_goal_tree::Var;
+use merc_heap::Mark;
+use merc_load::Pass;
+
+impl Store {
+    /// Begins anew: no cells, a current frame of so many empty slots, no callers and no choice points.
+    pub fn open(&mut self, size: usize) -> Result<(), NoMemory>
+        ensures { OnOk result (self.new ≡ record { cells = []; stacks = record { current = empty_frame size; callers = []; choices = [] } }) }
+    {
+        self.frames.open(size)?;
+        self.heap.cut_to(Mark::new(0));
+        Ok(())
+    }
+
+    /// A call: the current frame is the newest caller's, which goes on at `place`. The new one has `size` slots, with what
+    /// is passed and nothing else.
+    pub fn call(&mut self, place: usize, size: usize, inputs: &[Pass]) -> Result<(), NoMemory>
+        ensures { OnOk result (Calls self.old self.new place size inputs.now) }
+    {
+        self.frames.enter(place, size)?;
+        pass_inputs(&mut self.frames, inputs);
+        Ok(())
+    }
+
+    /// A call that takes the place of the current frame.
+    pub fn call_last(&mut self, size: usize, inputs: &[Pass]) -> Result<(), NoMemory>
+        ensures { OnOk result (CallsLast self.old self.new size inputs.now) }
+    {
+        gather_inputs(&self.frames, inputs, &mut self.carried)?;
+        self.frames.renew(size)?;
+        deliver_inputs(&mut self.frames, inputs, &self.carried);
+        Ok(())
+    }
+
+    /// Where the newest caller goes on; `None` without one.
+    pub fn caller_place(&self) -> Option<usize>
+        ensures { result ≡ place_of self.now.stacks.callers }
+    {
+        self.frames.caller_place()
+    }
+
+    /// Goes back to the newest caller. What these own slots hold is put into its slots, one for one. Without a caller
+    /// nothing changes.
+    pub fn give_back(&mut self, own: &[Var], outs: &[Var]) -> Result<(), NoMemory>
+        ensures { OnOk result ((newest : Caller) (callers : List Caller) → self.old.stacks.callers ≡ newest ∷ callers → Returns self.old self.new own.now outs.now) }
+    {
+        gather(&self.frames, own, &mut self.carried)?;
+        if self.frames.give_back()?.is_some() {
+            deliver(&mut self.frames, outs, &self.carried);
+        }
+        Ok(())
+    }
+
+    /// The slot becomes a mark of the number of choice points. Nothing changes where there is no such slot.
+    pub fn set_mark(&mut self, slot: usize)
+        ensures { self.new ≡ with_current self.old (slice_set self.old.stacks.current slot (Slot.Mark (length self.old.stacks.choices))) }
+    {
+        let count = self.frames.count();
+        self.frames.set(slot, Slot::Mark(count));
+    }
+
+    /// Drops the choice points that were made since the slot's mark was set.
+    pub fn commit(&mut self, slot: usize)
+        ensures { self.new ≡ with_choices self.old (oldest (slot_mark (slice_get self.old.stacks.current slot)) self.old.stacks.choices) }
+    {
+        let mark = slot_at(&self.frames, slot).mark();
+        self.frames.commit(mark);
+    }
+
+    /// The choice point that was made next after the slot's mark was set only fails from now on.
+    pub fn soften(&mut self, slot: usize)
+        ensures { self.new ≡ with_choices self.old (softened (slot_mark (slice_get self.old.stacks.current slot)) self.old.stacks.choices) }
+    {
+        let mark = slot_at(&self.frames, slot).mark();
+        self.frames.soften(mark);
+    }
+
+    /// Makes a choice point of the frame and its callers, which goes on at `place` over the cells that there are.
+    pub fn attempt(&mut self, place: usize) -> Result<(), NoMemory>
+        ensures { OnOk result (self.new ≡ with_choices self.old (GoesOn place (length self.old.cells) self.old.stacks.current self.old.stacks.callers ∷ self.old.stacks.choices)) }
+    {
+        self.frames.attempt(place, self.heap.mark().number())?;
+        Ok(())
+    }
+
+    /// Goes back to the newest choice point, which is taken away; the cells that were built since are given back.
+    pub fn back(&mut self) -> Backed
+        ensures { GoesBack self.old self.new result }
+    {
+        match self.frames.back() {
+            merc_frames::Backed::End => Backed::End,
+            merc_frames::Backed::Dead => Backed::Dead,
+            merc_frames::Backed::On(place, heap) => {
+                self.heap.cut_to(Mark::new(heap));
+                Backed::On(place)
+            }
+        }
+    }
+}

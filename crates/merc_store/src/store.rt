@@ -1,0 +1,65 @@
+//! The store of a run: its heap and its frames.
+ghost use Rattle.std.specs.Prelude.{◌≡◌, []};
+
+use merc_base::Name;
+use merc_frames::{Frames, Slot};
+use merc_heap::Heap;
+use merc_value::Word;
+use std::alloc::Global;
+use std::marker::Model;
+
+/// How an instruction ended.
+#[derive(Clone, Copy, Debug, PartialEq, Eq)]
+pub enum Done {
+    /// It has given its variables their values.
+    Bound,
+    Failed,
+    /// With an exception of this text.
+    Raised(Name),
+}
+
+/// What going back finds.
+#[derive(Clone, Copy, Debug, PartialEq, Eq)]
+pub enum Backed {
+    /// No choice point.
+    End,
+    /// One that only fails.
+    Dead,
+    /// One that goes on at this place.
+    On(usize),
+}
+
+/// The heap and the frames of a run. Contracts see the heap's cells and the frames.
+#[derive(Drop)]
+pub struct Store {
+    pub(crate) heap: Heap,
+    pub(crate) frames: Frames,
+    // what is carried from one frame to another
+    pub(crate) carried: Vec<Slot>,
+    // the words of the arguments of what is built
+    pub(crate) words: Vec<Word>,
+}
+
+impl Model for Store {
+    ghost use Rattle.merc_store.specs.Data.{StoreData, IsSound};
+
+    ghost Value = { StoreData };
+
+    ghost view = { λ s. record { cells = s.heap; stacks = s.frames } };
+
+    ghost invariant = { λ s. IsSound s.heap s.frames };
+}
+
+impl Store {
+    /// A store without cells, with an empty frame. It takes no memory yet.
+    pub fn new(alloc: Global) -> Store
+        ensures { result ≡ record { cells = []; stacks = record { current = []; callers = []; choices = [] } } }
+    {
+        Store {
+            heap: Heap::new(alloc),
+            frames: Frames::new(alloc),
+            carried: Vec::new(alloc),
+            words: Vec::new(alloc),
+        }
+    }
+}

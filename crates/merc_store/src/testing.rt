@@ -1,0 +1,59 @@
+//! Tests of values, and arithmetic.
+ghost use Rattle.std.specs.Prelude.{IfOk};
+ghost use Rattle.merc_store.specs.Performing.{Does};
+
+use crate::{Done, Store};
+use merc_arithmetic::{compute, holds};
+use merc_base::{Name, NoMemory};
+use merc_code::Instruction;
+use merc_goal_tree::{Comparison, Operation, Var};
+use merc_value::Word;
+
+impl Store {
+    pub(crate) fn test(&self, one: Var, other: Var) -> Result<Done, NoMemory>
+        ensures { IfOk result (Does self.now self.now (Instruction.Test one other)) }
+    {
+        let Some(first) = self.word(one) else {
+            return Ok(Done::Failed);
+        };
+        let Some(second) = self.word(other) else {
+            return Ok(Done::Failed);
+        };
+        if self.heap.equal(first, second)? {
+            Ok(Done::Bound)
+        } else {
+            Ok(Done::Failed)
+        }
+    }
+
+    pub(crate) fn operate(&mut self, operation: Operation, to: Var, one: Var, other: Var) -> Done
+        ensures { Does self.old self.new (Instruction.Arithmetic operation to one other) result }
+    {
+        let Some(left) = self.integer(one) else {
+            return Done::Failed;
+        };
+        let Some(right) = self.integer(other) else {
+            return Done::Failed;
+        };
+        match compute(operation, left, right) {
+            Some(number) => self.give(to, Word::Int(number)),
+            None => Done::Raised(Name::DIVISION_BY_ZERO),
+        }
+    }
+
+    pub(crate) fn compare(&self, comparison: Comparison, one: Var, other: Var) -> Done
+        ensures { Does self.now self.now (Instruction.Compare comparison one other) result }
+    {
+        let Some(left) = self.integer(one) else {
+            return Done::Failed;
+        };
+        let Some(right) = self.integer(other) else {
+            return Done::Failed;
+        };
+        if holds(comparison, left, right) {
+            Done::Bound
+        } else {
+            Done::Failed
+        }
+    }
+}
