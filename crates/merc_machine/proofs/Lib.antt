@@ -1,4 +1,0 @@
-pub mod Advancing
-pub mod Shown
-pub mod Runs
-pub mod Starting
