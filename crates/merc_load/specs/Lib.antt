@@ -1,4 +1,5 @@
 pub mod Entries
+pub mod EntriesExamples
 pub mod Frames
 pub mod Linking
 pub mod Loaded

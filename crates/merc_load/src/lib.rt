@@ -1,12 +1,12 @@
 //! Code as the machine runs it.
 #![tactic(auto)]
 
-pub mod entries;
-pub mod linking;
+mod entries;
+mod linking;
 pub mod loaded;
-pub mod loading;
+mod loading;
 pub mod passing;
-pub mod sizes;
+mod sizes;
 
 pub use loaded::{Entry, Loaded, Op};
 pub use loading::load;
