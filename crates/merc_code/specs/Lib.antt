@@ -1,5 +1,6 @@
 pub mod Steps
 pub mod StepsExamples
+pub mod ProgramCode
 pub mod Meaning
 pub mod MeaningExamples
 pub mod Weight
