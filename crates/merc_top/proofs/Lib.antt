@@ -2,9 +2,6 @@ pub mod LoadingLemmas
 pub mod WritingLemmas
 pub mod LineLemmas
 pub mod CheckingLemmas
-pub mod Environments
-pub mod Resuming
-pub mod Outcomes
 pub mod Dues
 pub mod Requests
 pub mod OutputLaws
