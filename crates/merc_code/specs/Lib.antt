@@ -1,6 +1,5 @@
 pub mod Steps
 pub mod StepsExamples
-pub mod ProgramCode
 pub mod Meaning
 pub mod MeaningExamples
 pub mod Weight

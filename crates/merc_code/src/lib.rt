@@ -1,9 +1,7 @@
 //! Compiled code, and what it does.
 #![tactic(auto)]
 
-pub mod code;
 pub mod instruction;
 pub mod laws;
 
-pub use code::Code;
 pub use instruction::{Instruction, Mark, Target};
