@@ -7,12 +7,12 @@ use Rattle.merc_value.specs.Value.{Con}
 use Rattle.merc_value.specs.Block.{CellData, AreLower, IsBelow, word_values, cell_values, value_of, no_value}
 use Rattle.merc_value.specs.Sharing.{IsWordFor}
 use Rattle.merc_value.specs.declared.word.Word.{Word}
-use Rattle.merc_value.specs.declared.word.Word.TheVariants.{Atom as AtomWord, Cell as CellWord}
+use Rattle.merc_value.specs.declared.word.Word.TheVariants.{Int as IntWord, Text as TextWord, Atom as AtomWord, Cell as CellWord}
 use Rattle.merc_value.proofs.Values.{All-first, All-rest, cell_value_at}
 use Rattle.merc_value.proofs.BlockLaws.{raised, all_raised, value_of-with_cell, value_of-new_cell}
-use Rattle.merc_heap.specs.Heap.{word_of, cell_behind, cells_behind, cells_of, cell_ending, IsFlat, Keeps}
+use Rattle.merc_heap.specs.Heap.{field_of, word_of, no_cell, cell_behind, cells_behind, cells_of, cell_ending, IsFlat, Keeps}
 use Rattle.merc_heap.specs.declared.slot.Slot.{Slot}
-use Rattle.merc_heap.specs.declared.slot.Slot.TheVariants.{Field, Header}
+use Rattle.merc_heap.specs.declared.slot.Slot.TheVariants.{Atom as AtomSlot, Header}
 
 length-behind : (before slots : List Slot) → length (cells_behind before slots) ≡ length slots
 length-behind before [] = refl
@@ -57,7 +57,7 @@ found_behind before (slot ∷ slots) (suc place) d within =
 -- what is seen at a place is the cell that ends there
 pub found_ending : (slots : List Slot) (place : ℕ) → place < length slots → slice_get (cells_of slots) place ≡ Some (cell_ending slots place)
 unfolding cells_of
-found_ending slots place within = found_behind [] slots place (Field (AtomWord nil_name)) within
+found_ending slots place within = found_behind [] slots place (AtomSlot nil_name) within
 
 -- Words keep their values where cells are put behind the others ..
 keeps_one : (cells : List CellData) (at : CellData) → Keeps (length cells) cells (cells ++ at ∷ [])
@@ -114,31 +114,56 @@ lower_last cells last lower below place at found =
     ]
 
 -- The heap is flat where a slot is put behind it whose fields are there and lead to what is there.
-flat_last : (slots : List Slot) (slot : Slot) → IsFlat slots → ((symbol arity : ℕ) → slot ≡ Header symbol arity → arity ≤ length slots)
+flat_last : (slots : List Slot) (slot : Slot) → IsFlat slots → ((arity symbol : ℕ) → slot ≡ Header arity symbol → arity ≤ length slots)
     → All (IsBelow (length slots)) (cell_behind slots slot).arguments → IsFlat (slots ++ slot ∷ [])
 flat_last slots slot flat few below = record {
-  room = λ place symbol arity found. elim (last_found slots slot (Header symbol arity) place found) [
-    | inl old ↦ flat.room place symbol arity old
-    | inr new ↦ subst (λ (n : ℕ). arity ≤ n) (sym new.0) (few symbol arity new.1)
+  room = λ place arity symbol found. elim (last_found slots slot (Header arity symbol) place found) [
+    | inl old ↦ flat.room place arity symbol old
+    | inr new ↦ subst (λ (n : ℕ). arity ≤ n) (sym new.0) (few arity symbol new.1)
   ];
   lower = subst AreLower (sym (cells_of-last slots slot))
       (lower_last (cells_of slots) (cell_behind slots slot) flat.lower
       (subst (λ (n : ℕ). All (IsBelow n) (cell_behind slots slot).arguments) (sym (length-cells_of slots)) below));
 }
 
-flat_fields : (slots : List Slot) (words : List Word) → IsFlat slots → IsFlat (slots ++ map Field words)
+field_no_header : (word : Word) (arity symbol : ℕ) → field_of word ≡ Header arity symbol → ⊥
+field_no_header (IntWord number) arity symbol same = cc
+field_no_header (TextWord name) arity symbol same = cc
+field_no_header (AtomWord name) arity symbol same = cc
+field_no_header (CellWord place) arity symbol same = cc
+
+field_no_cell : (before : List Slot) (word : Word) → cell_behind before (field_of word) ≡ no_cell
+field_no_cell before (IntWord number) = refl
+field_no_cell before (TextWord name) = refl
+field_no_cell before (AtomWord name) = refl
+field_no_cell before (CellWord place) = refl
+
+word_of_field : (word : Word) → word_of (field_of word) ≡ word
+word_of_field (IntWord number) = refl
+word_of_field (TextWord name) = refl
+word_of_field (AtomWord name) = refl
+word_of_field (CellWord place) = refl
+
+flat_fields : (slots : List Slot) (words : List Word) → IsFlat slots → IsFlat (slots ++ map field_of words)
 flat_fields slots [] flat = subst IsFlat (sym (append-nil slots)) flat
 flat_fields slots (word ∷ words) flat =
-    subst IsFlat (append_assoc slots (Field word ∷ []) (map Field words))
-    (flat_fields (slots ++ Field word ∷ []) words (flat_last slots (Field word) flat (λ symbol arity same. absurd (cc)) (λ k d within. absurd (omega (arith, within)))))
+    subst IsFlat (append_assoc slots (field_of word ∷ []) (map field_of words))
+    (flat_fields (slots ++ field_of word ∷ []) words
+    (flat_last slots (field_of word) flat (λ arity symbol same. absurd (field_no_header word arity symbol same))
+    (subst (λ (at : CellData). All (IsBelow (length slots)) at.arguments) (sym (field_no_cell slots word)) (λ k d within. absurd (omega (arith, within))))))
 
-words_of_fields : (words : List Word) → map word_of (map Field words) ≡ words
+words_of_fields : (words : List Word) → map word_of (map field_of words) ≡ words
 words_of_fields [] = refl
-words_of_fields (word ∷ words) = ap (λ (ws : List Word). word ∷ ws) (words_of_fields words)
+words_of_fields (word ∷ words) = let first = word_of_field word in let rest = words_of_fields words in cc (first, rest)
 
 drop_front : {A : Type 0} (xs ys : List A) → drop (length xs) (xs ++ ys) ≡ ys
 drop_front [] ys = refl
 drop_front (x ∷ xs) ys = drop_front xs ys
+
+take_front : {A : Type 0} (xs ys : List A) → take (length xs) (xs ++ ys) ≡ xs
+take_front [] [] = refl
+take_front [] (y ∷ ys) = refl
+take_front (x ∷ xs) ys = ap (λ zs. x ∷ zs) (take_front xs ys)
 
 -- A cell that is put behind the others: its fields, and then its header.
 module _ (slots : List Slot) (symbol : ℕ) (words : List Word) where
@@ -146,37 +171,42 @@ module _ (slots : List Slot) (symbol : ℕ) (words : List Word) where
   cell_with arguments = record { symbol = symbol; arguments = arguments }
 
   abbrev fields : List Slot
-  fields = slots ++ map Field words
+  fields = slots ++ map field_of words
 
   abbrev pub built : List Slot
-  built = fields ++ Header symbol (length words) ∷ []
+  built = fields ++ Header (length words) symbol ∷ []
 
-  fields_behind : cell_behind fields (Header symbol (length words)) ≡ record { symbol = symbol; arguments = words }
+  fields_behind : cell_behind fields (Header (length words) symbol) ≡ record { symbol = symbol; arguments = words }
   fields_behind =
-      let count : length fields - length words ≡ length slots = omega (arith, length-append slots (map Field words), length-map words Field) in
+      let count : length fields - length words ≡ length slots = omega (arith, length-append slots (map field_of words), length-map words field_of) in
       ap (λ (n : ℕ). cell_with (map word_of (drop n fields))) count
-      ∙ ap (λ (ss : List Slot). cell_with (map word_of ss)) (drop_front slots (map Field words))
+      ∙ ap (λ (ss : List Slot). cell_with (map word_of ss)) (drop_front slots (map field_of words))
       ∙ ap cell_with (words_of_fields words)
 
   cells_built : cells_of built ≡ cells_of fields ++ record { symbol = symbol; arguments = words } ∷ []
-  cells_built = cells_of-last fields (Header symbol (length words)) ∙ ap (λ (at : CellData). cells_of fields ++ at ∷ []) fields_behind
+  cells_built = cells_of-last fields (Header (length words) symbol) ∙ ap (λ (at : CellData). cells_of fields ++ at ∷ []) fields_behind
 
   length_fields : length fields ≡ length slots + length words
-  length_fields = omega (arith, length-append slots (map Field words), length-map words Field)
+  length_fields = omega (arith, length-append slots (map field_of words), length-map words field_of)
 
   pub flat_built : IsFlat slots → All (IsBelow (length (cells_of slots))) words → IsFlat built
   flat_built flat below =
-      flat_last fields (Header symbol (length words)) (flat_fields slots words flat)
-      (λ symbol' arity same. let arity_is : length words ≡ arity = cc in omega (arith, arity_is, length_fields))
+      flat_last fields (Header (length words) symbol) (flat_fields slots words flat)
+      (λ arity symbol' same. let arity_is : length words ≡ arity = cc in omega (arith, arity_is, length_fields))
       (subst (λ (at : CellData). All (IsBelow (length fields)) at.arguments) (sym fields_behind)
       (all_raised (length (cells_of slots)) (length fields) (omega (arith, length_fields, length-cells_of slots)) words below))
 
   pub keeps_built : Keeps (length (cells_of slots)) (cells_of slots) (cells_of built)
-  keeps_built = subst (Keeps (length (cells_of slots)) (cells_of slots)) (sym (ap cells_of (append_assoc slots (map Field words) (Header symbol (length words) ∷ [])) ∙ cells_of-append slots (map Field words ++ Header symbol (length words) ∷ [])))
-      (keeps_front (cells_of slots) (cells_behind slots (map Field words ++ Header symbol (length words) ∷ [])))
+  keeps_built = subst (Keeps (length (cells_of slots)) (cells_of slots)) (sym (ap cells_of (append_assoc slots (map field_of words) (Header (length words) symbol ∷ [])) ∙ cells_of-append slots (map field_of words ++ Header (length words) symbol ∷ [])))
+      (keeps_front (cells_of slots) (cells_behind slots (map field_of words ++ Header (length words) symbol ∷ [])))
+
+  pub front_built : take (length (cells_of slots)) (cells_of built) ≡ cells_of slots
+  front_built =
+      ap (take (length (cells_of slots))) (ap cells_of (append_assoc slots (map field_of words) (Header (length words) symbol ∷ [])) ∙ cells_of-append slots (map field_of words ++ Header (length words) symbol ∷ []))
+      ∙ take_front (cells_of slots) _
 
   keeps_fields : Keeps (length (cells_of slots)) (cells_of slots) (cells_of fields)
-  keeps_fields = subst (Keeps (length (cells_of slots)) (cells_of slots)) (sym (cells_of-append slots (map Field words))) (keeps_front (cells_of slots) (cells_behind slots (map Field words)))
+  keeps_fields = subst (Keeps (length (cells_of slots)) (cells_of slots)) (sym (cells_of-append slots (map field_of words))) (keeps_front (cells_of slots) (cells_behind slots (map field_of words)))
 
   pub word_built : All (IsBelow (length (cells_of slots))) words → (place : ℕ) → place ≡ length slots + length words
       → IsWordFor (cells_of built) (Con symbol (word_values (cell_values (cells_of slots)) words)) (CellWord place)
@@ -201,7 +231,7 @@ taken_found (suc n) (first ∷ xs) (suc place) x found = taken_found n xs place 
 
 pub flat_taken : (n : ℕ) (slots : List Slot) → IsFlat slots → IsFlat (take n slots)
 flat_taken n slots flat = record {
-  room = λ place symbol arity found. flat.room place symbol arity (taken_found n slots place (Header symbol arity) found);
+  room = λ place arity symbol found. flat.room place arity symbol (taken_found n slots place (Header arity symbol) found);
   lower = subst AreLower (sym (cells_of-take n slots)) (λ place at found. flat.lower place at (taken_found n (cells_of slots) place at found));
 }
 

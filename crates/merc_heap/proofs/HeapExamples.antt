@@ -3,13 +3,13 @@ use Rattle.std.proofs.Common.{◌≡◌, pos, List, [], ◌∷◌, refl, arith}
 use Rattle.merc_base.specs.Names.{cons_name, nil_name}
 use Rattle.merc_value.specs.Value.{Value, Int, Text, Con, none, more}
 use Rattle.merc_value.specs.Block.{cell_values, value_of}
-use Rattle.merc_value.specs.declared.word.Word.TheVariants.{Int as IntWord, Text as TextWord, Cell as CellWord}
+use Rattle.merc_value.specs.declared.word.Word.TheVariants.{Int as IntWord, Cell as CellWord}
 use Rattle.merc_heap.specs.Heap.{cells_of, IsFlat, arguments_in}
 use Rattle.merc_heap.specs.declared.slot.Slot.{Slot}
-use Rattle.merc_heap.specs.declared.slot.Slot.TheVariants.{Field, Header}
+use Rattle.merc_heap.specs.declared.slot.Slot.TheVariants.{Integer, Text as TextSlot, Cell as CellSlot, Header}
 
 abbrev small : List Slot
-small = Field (TextWord nil_name) ∷ Field (TextWord nil_name) ∷ Header cons_name 2 ∷ Field (CellWord 2) ∷ Field (IntWord (pos 7)) ∷ Header cons_name 2 ∷ []
+small = TextSlot nil_name ∷ TextSlot nil_name ∷ Header 2 cons_name ∷ CellSlot 2 ∷ Integer (pos 7) ∷ Header 2 cons_name ∷ []
 
 abbrev pair : Value
 pair = Con cons_name (more (Text nil_name) (more (Text nil_name) none))
@@ -28,5 +28,5 @@ unfolding cells_of cell_values
 value_of-counterexample same = cc
 
 -- a header that counts more fields than there are places before it
-pub IsFlat-counterexample : IsFlat (Header cons_name 1 ∷ []) → ⊥
-IsFlat-counterexample flat = omega (arith, flat.room 0 cons_name 1 refl)
+pub IsFlat-counterexample : IsFlat (Header 1 cons_name ∷ []) → ⊥
+IsFlat-counterexample flat = omega (arith, flat.room 0 1 cons_name refl)

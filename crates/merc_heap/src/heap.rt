@@ -4,7 +4,7 @@ ghost use Rattle.std.specs.List.{All};
 ghost use Rattle.merc_value.specs.Value.{Con};
 ghost use Rattle.merc_value.specs.Block.{AreLower, IsBelow, word_values, cell_values, value_of};
 ghost use Rattle.merc_value.specs.Sharing.{IsWordFor};
-ghost use Rattle.merc_heap.specs.Heap.{Keeps, IsFlat, cell_ending, arguments_in, symbol_of};
+ghost use Rattle.merc_heap.specs.Heap.{Keeps, IsFlat, cell_ending, field_of, arguments_in, symbol_of};
 
 use crate::slot::Slot;
 use merc_base::{Name, NoMemory};
@@ -58,11 +58,12 @@ impl Heap {
     }
 
     /// Puts a constructor with these arguments behind the other cells, and gives the word for it. Where memory is
-    /// refused the heap is unchanged.
+    /// refused the heap is unchanged, and so where there are 2^32 arguments or more, which no header counts.
     pub fn build(&mut self, symbol: Name, arguments: &[Word]) -> Result<Word, NoMemory>
         requires { All (IsBelow (length self.old)) arguments.now }
         ensures word { IfOk result (IsWordFor self.new (Con symbol (word_values (cell_values self.old) arguments.now))) }
         ensures kept { OnOk result (Keeps (length self.old) self.old self.new) }
+        ensures front { OnOk result (take (length self.old) self.new ≡ self.old) }
         ensures err { OnErr result (self.new ≡ self.old) }
     {
         if arguments.is_empty() {
@@ -105,8 +106,8 @@ impl Heap {
         self.argument(word, index as usize)
     }
 
-    // Where the heap takes its memory from.
-    pub(crate) fn alloc(&self) -> Global {
+    /// Where the heap takes its memory from.
+    pub fn alloc(&self) -> Global {
         self.alloc
     }
 
@@ -144,8 +145,8 @@ fn symbol_at(slots: &[Slot], place: usize) -> Name
     ensures { result ≡ (cell_ending slots.now place).symbol }
 {
     match slots[place] {
-        Slot::Field(_) => Name::NIL,
-        Slot::Header(symbol, _) => symbol,
+        Slot::Header(_, symbol) => symbol,
+        _ => Name::NIL,
     }
 }
 
@@ -156,8 +157,8 @@ fn arity_at(slots: &[Slot], place: usize) -> usize
     ensures { result ≡ length (cell_ending slots.now place).arguments }
 {
     match slots[place] {
-        Slot::Header(_, arity) => arity,
-        Slot::Field(_) => 0,
+        Slot::Header(arity, _) => arity as usize,
+        _ => 0,
     }
 }
 
@@ -168,7 +169,9 @@ fn field_at(slots: &[Slot], place: usize, index: usize) -> Option<Word>
     ensures { result ≡ slice_get (cell_ending slots.now place).arguments index }
 {
     match slots[place] {
-        Slot::Header(_, arity) if index < arity => Some(slots[place - arity + index].word()),
+        Slot::Header(arity, _) if index < arity as usize => {
+            Some(slots[place - arity as usize + index].word())
+        }
         _ => None,
     }
 }
@@ -176,7 +179,7 @@ fn field_at(slots: &[Slot], place: usize, index: usize) -> Option<Word>
 // Puts a cell behind the others, and gives the place of its header. Where memory is refused nothing is put there.
 fn push_cell(slots: &mut Vec<Slot>, symbol: Name, arguments: &[Word]) -> Result<usize, NoMemory>
     ensures place { IfOk result (λ place. place ≡ length slots.old.items + length arguments.now) }
-    ensures ok { OnOk result (slots.new.items ≡ (slots.old.items ++ map Slot.Field arguments.now) ++ Slot.Header symbol (length arguments.now) ∷ []) }
+    ensures ok { OnOk result (slots.new.items ≡ (slots.old.items ++ map field_of arguments.now) ++ Slot.Header (length arguments.now) symbol ∷ []) }
     ensures err { OnErr result (slots.new.items ≡ slots.old.items) }
 {
     let start = slots.len();
@@ -191,12 +194,15 @@ fn push_cell(slots: &mut Vec<Slot>, symbol: Name, arguments: &[Word]) -> Result<
 
 // Puts fields and their header behind the others. Where memory is refused, some of them stand there.
 fn push_slots(slots: &mut Vec<Slot>, symbol: Name, arguments: &[Word]) -> Result<(), NoMemory>
-    ensures ok { OnOk result (slots.new.items ≡ (slots.old.items ++ map Slot.Field arguments.now) ++ Slot.Header symbol (length arguments.now) ∷ []) }
+    ensures ok { OnOk result (slots.new.items ≡ (slots.old.items ++ map field_of arguments.now) ++ Slot.Header (length arguments.now) symbol ∷ []) }
     ensures err { OnErr result (take (length slots.old.items) slots.new.items ≡ slots.old.items) }
 {
+    let Ok(arity) = u32::try_from(arguments.len()) else {
+        return Err(NoMemory);
+    };
     for argument in arguments {
-        slots.push(Slot::Field(*argument))?;
+        slots.push(Slot::field(*argument))?;
     }
-    slots.push(Slot::Header(symbol, arguments.len()))?;
+    slots.push(Slot::Header(arity, symbol))?;
     Ok(())
 }

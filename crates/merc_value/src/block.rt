@@ -8,11 +8,13 @@ use merc_base::{Name, NoMemory};
 use std::alloc::Global;
 use std::marker::Model;
 
-// A constructor with a word for each argument.
+/// A constructor with a word for each argument.
 #[derive(Drop)]
-pub(crate) struct Cell {
-    pub(crate) symbol: Name,
-    pub(crate) arguments: Vec<Word>,
+pub struct Cell {
+    /// The constructor.
+    pub symbol: Name,
+    /// The words of the arguments, each of which leads to lower cells alone.
+    pub arguments: Vec<Word>,
 }
 
 impl Model for Cell {
@@ -91,11 +93,18 @@ impl Block {
         self.alloc
     }
 
-    // The cells, by place.
-    pub(crate) fn cells(&self) -> &[Cell]
+    /// The cells, by place.
+    pub fn cells(&self) -> &[Cell]
         ensures value { result.now ≡ self.now.cells }
         ensures whole { IsWhole self.now }
     {
         &self.cells
+    }
+
+    /// The roots, by number.
+    pub fn roots(&self) -> &[Word]
+        ensures { result.now ≡ self.now.roots }
+    {
+        &self.roots
     }
 }

@@ -110,7 +110,8 @@ fn moved(words: &[Word], word: &Word) -> Word
     }
 }
 
-fn moved_all(alloc: Global, words: &[Word], arguments: &[Word]) -> Result<Vec<Word>, NoMemory>
+/// Words, each with the word at a cell's place in place of the cell. The words must lead to places that have one.
+pub fn moved_all(alloc: Global, words: &[Word], arguments: &[Word]) -> Result<Vec<Word>, NoMemory>
     requires { All (IsBelow (length words.now)) arguments.now }
     ensures { IfOk result (λ all. all.items ≡ map (moved words.now) arguments.now) }
 {

@@ -1,5 +1,5 @@
 -- The new cell goes behind the others.
-use Rattle.std.proofs.Common.{List, length, sym, subst}
+use Rattle.std.proofs.Common.{◌≡◌, List, length, take, sym, subst}
 use Rattle.std.specs.List.{All}
 use Rattle.merc_value.specs.Value.{Con}
 use Rattle.merc_value.specs.Block.{CellData, IsBelow, word_values, cell_values}
@@ -7,7 +7,7 @@ use Rattle.merc_value.specs.Sharing.{IsWordFor}
 use Rattle.merc_value.specs.declared.word.Word.TheVariants.{Cell}
 use Rattle.merc_heap.specs.Heap.{cells_of, IsFlat, Keeps}
 use Rattle.merc_heap.specs.declared.slot.Slot.{Slot}
-use Rattle.merc_heap.proofs.CellsLemmas.{flat_built, keeps_built, word_built}
+use Rattle.merc_heap.proofs.CellsLemmas.{flat_built, keeps_built, front_built, word_built}
 use Rattle.merc_heap.proofs.heap.Heap.build.Goals as goal
 
 pub invariant_of-self-2 : goal.invariant_of-self-2
@@ -29,3 +29,9 @@ returns-clause-kept c =
     subst (λ (cs : List CellData). Keeps (length cs) cs (cells_of c.push_cell.new.slots.items)) c.self.view_is
     (subst (λ (ss : List Slot). Keeps (length (cells_of c.self.inside.slots.items)) (cells_of c.self.inside.slots.items) (cells_of ss)) (sym c.in_ok-place.ensures.ok)
     (keeps_built c.self.inside.slots.items c.args.symbol c.args.arguments.now))
+
+pub returns-clause-front : goal.returns-clause-front
+returns-clause-front c =
+    subst (λ (cs : List CellData). take (length cs) (cells_of c.push_cell.new.slots.items) ≡ cs) c.self.view_is
+    (subst (λ (ss : List Slot). take (length (cells_of c.self.inside.slots.items)) (cells_of ss) ≡ cells_of c.self.inside.slots.items) (sym c.in_ok-place.ensures.ok)
+    (front_built c.self.inside.slots.items c.args.symbol c.args.arguments.now))

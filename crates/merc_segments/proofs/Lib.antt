@@ -1,0 +1,2 @@
+mod SegmentsExamples
+pub mod ThawLemmas
