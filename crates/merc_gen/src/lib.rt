@@ -9,8 +9,6 @@ mod quiet;
 mod singles;
 mod suffix;
 mod tasks;
-mod whole;
 
 pub use generating::generate_goal;
 pub use singles::Singles;
-pub use whole::generate;
