@@ -3,8 +3,8 @@
 
 pub mod loaded;
 pub mod machine;
-pub mod ticks;
+pub mod running;
 
 pub use loaded::{Loaded, load};
-pub use machine::{Machine, Stop};
-pub use ticks::Ticks;
+pub use machine::Machine;
+pub use running::{Stop, Ticks};
