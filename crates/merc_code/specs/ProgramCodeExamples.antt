@@ -1,5 +1,5 @@
 -- Worked examples of the code of procedures. The first predicate has two modes, the second has none.
-use Rattle.std.specs.Prelude.{◌≡◌, ℕ, List, [], ◌∷◌, Option, Some, None, refl}
+use Rattle.std.specs.Prelude.{◌≡◌, ℕ, [], ◌∷◌, Option, Some, None, refl}
 use Rattle.merc_tree.specs.declared.declarations.Arg.TheVariants.{Input, Output}
 use Rattle.merc_code.specs.declared.instruction.Instruction.TheVariants.{Fail, Return, Answer}
 use Rattle.merc_code.specs.Steps.{ProcedureCode}

@@ -9,6 +9,7 @@ pub mod Depths
 pub mod Theorem
 pub mod OneRun
 pub mod Lists
+pub mod Procedures
 pub mod Quieting
 pub mod Performing
 pub mod Parting

@@ -1,6 +1,6 @@
--- Goals that are taken from the last to the first.
-use Rattle.std.specs.Prelude.{◌≡◌, ◌≤◌, ◌<◌, ℕ, suc, List, [], ◌∷◌, ◌++◌, length, reverse, refl, Option, Some, None, MatchOption}
-use Rattle.std.proofs.Common.{◌∙◌, ap, sym, arith}
+-- Goals that are taken from the last to the first, and from the first to the last.
+use Rattle.std.specs.Prelude.{◌≡◌, ◌≤◌, ◌<◌, ◌+◌, ℕ, zero, suc, List, [], ◌∷◌, ◌++◌, length, drop, reverse, slice_get, refl, Option, Some, None, MatchOption}
+use Rattle.std.proofs.Common.{◌∙◌, ap, sym, subst, add-one, arith}
 use Rattle.std.proofs.lemmas.List.{append_assoc, reverse-append}
 use Rattle.merc_goal_tree.specs.declared.goal.Symbol.{Symbol}
 use Rattle.merc_graded_tree.specs.Nodes.{Node, no_arms, more_arms}
@@ -48,3 +48,16 @@ arms_cut symbols goals left (Some last) length_is count whole l h n e same = arm
 pub arms_none : (symbols : List Symbol) → arms_of symbols [] ≡ no_arms
 arms_none [] = refl
 arms_none (first ∷ rest) = refl
+
+taken_at : {X : Type 0} (xs : List X) (n : ℕ) → n < length xs → MatchOption (slice_get xs n) ((drop n xs ≡ []) × (drop (suc n) xs ≡ [])) (λ first. drop n xs ≡ first ∷ drop (suc n) xs)
+taken_at [] n h = absurd (omega (arith, h))
+taken_at (x ∷ xs) zero h = refl
+taken_at (x ∷ xs) (suc n) h = taken_at xs n (omega (arith, h))
+
+-- the first of those that are left
+pub first_taken : {X : Type 0} (xs : List X) (n : ℕ) (found : Option X) (left : List X) → drop n xs ≡ left → n < length xs → found ≡ slice_get xs n
+    → MatchOption found ((left ≡ []) × (drop (n + 1) xs ≡ [])) (λ first. left ≡ first ∷ drop (n + 1) xs)
+first_taken {X} xs n found left view h e =
+    subst (λ (m : ℕ). MatchOption found ((left ≡ []) × (drop m xs ≡ [])) (λ first. left ≡ first ∷ drop m xs)) (sym (add-one n))
+    (subst (λ (l : List X). MatchOption found ((l ≡ []) × (drop (suc n) xs ≡ [])) (λ first. l ≡ first ∷ drop (suc n) xs)) view
+    (subst (λ (o : Option X). MatchOption o ((drop n xs ≡ []) × (drop (suc n) xs ≡ [])) (λ first. drop n xs ≡ first ∷ drop (suc n) xs)) (sym e) (taken_at xs n h)))

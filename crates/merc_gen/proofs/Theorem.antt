@@ -1,5 +1,6 @@
 -- The code of a goal yields the goal's run.
-use Rattle.std.proofs.Common.{ℕ, zero, suc, List, [], ◌∷◌, ◌++◌, map, refl}
+use Rattle.std.proofs.Common.{◌≡◌, ℕ, zero, suc, List, [], ◌∷◌, ◌++◌, map, refl, sym, subst}
+use Rattle.merc_graded_tree.specs.declared.basic.Procedure.{Procedure}
 use Rattle.merc_graded_tree.specs.Nodes.{Node}
 use Rattle.merc_meaning.specs.Trace.{Trace, Ends, Tick, Answer, Done, Raised, TooDeep, RunDone, cut}
 use Rattle.merc_meaning.specs.Steps.{value_at}
@@ -13,6 +14,7 @@ use Rattle.merc_gen.proofs.Runs.{bulk, behind, Runs, Keeps, LeavesNone}
 use Rattle.merc_gen.proofs.GoalRuns.{node-runs}
 use Rattle.merc_gen.proofs.CallRuns.{call-runs}
 use Rattle.merc_gen.proofs.Depths.{Reaches, node-reaches, call-reaches}
+use mathlib.Core.Path.{fun_ext}
 
 -- A goal over no choice points, with its answers shown behind it: its whole run.
 finish : (codes : Codes) (variables : List ℕ) (Ok : List ℕ → Type 0) (L : List ChoicePoint → Type 0) (t : Trace) (l j : ℕ) (st : List ChoicePoint → State)
@@ -34,3 +36,9 @@ code-follows program goal variables = record {
       (node-reaches program (suc limit) (call_trace program (suc limit)) (λ p env. call-reaches program (suc limit) p env) goal [])
       (node-runs (codes_of program) (λ p. is_single (program p)) program (call_trace program (suc limit)) (call-runs program (suc limit)) goal 0 (AnswerInstruction variables ∷ []) [] [] [] limit 0);
 }
+
+-- code by which each procedure is the same
+pub same-code-follows : (program : Program) (goal : Node) (variables : List ℕ) (codes : Codes) → ((procedure : Procedure) → codes procedure ≡ codes_of program procedure)
+    → Follows program goal variables codes (query_code program goal variables)
+same-code-follows program goal variables codes same =
+    subst (λ (other : Codes). Follows program goal variables other (query_code program goal variables)) (sym (fun_ext same)) (code-follows program goal variables)

@@ -2,8 +2,10 @@ pub mod Generated
 pub mod GeneratedExamples
 pub mod Following
 pub mod Singles
+pub mod Procedures
 pub mod Turns
 pub mod Waiting
 pub mod Tasks
 pub mod SinglesExamples
+pub mod ProceduresExamples
 pub mod TasksExamples

@@ -5,10 +5,13 @@ mod arms;
 mod basics;
 mod generating;
 pub mod laws;
+mod program;
 mod quiet;
 mod singles;
 mod suffix;
 mod tasks;
+mod trees;
 
 pub use generating::generate_goal;
+pub use program::generate;
 pub use singles::Singles;

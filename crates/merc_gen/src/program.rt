@@ -1,0 +1,130 @@
+//! The code of whole programs.
+ghost use Rattle.std.specs.Prelude.{◌≡◌, length, drop, map, IfOk};
+ghost use Rattle.merc_graded_tree.specs.declared.basic.Procedure.{Procedure};
+ghost use Rattle.merc_meaning.specs.Programs.{program_with};
+ghost use Rattle.merc_code.specs.ProgramCode.{codes_in};
+ghost use Rattle.merc_gen.specs.Generated.{codes_of, procedure_code, query_code};
+ghost use Rattle.merc_gen.specs.Procedures.{mode_bodies, program_bodies, answer_once};
+ghost use Rattle.merc_gen.specs.Singles.{contained};
+
+use crate::Singles;
+use crate::generating::generate_goal;
+use crate::quiet::is_once;
+use crate::trees::TreesLeft;
+use merc_base::{NoMemory, Sequence};
+use merc_code::{Code, CompiledProcedure, Instruction};
+use merc_goal_tree::Vars;
+use merc_graded_tree::{NodeRef, Nodes};
+use merc_tree::{Args, ModeDecl, PredDecl};
+use std::alloc::Global;
+
+/// The code of all procedures of a module, and of a goal that answers with the values of these variables. The trees are
+/// those of each predicate in each of its modes, both in order; a mode past the last tree has no code. It takes time and
+/// memory of the order of the trees and the goal.
+///
+/// # Errors
+///
+/// `NoMemory` where memory was refused.
+pub fn generate(
+    alloc: Global,
+    predicates: &[PredDecl],
+    trees: &Nodes,
+    goal: &NodeRef<'_>,
+    answers: Vars,
+) -> Result<Code, NoMemory>
+    ensures procedures { IfOk result (λ code. (procedure : Procedure) → codes_in code procedure ≡ codes_of (program_with predicates.now trees.now) procedure) }
+    ensures query { IfOk result (λ code. code.query ≡ query_code (program_with predicates.now trees.now) goal.now answers) }
+{
+    let singles = find_singles(alloc, predicates, trees)?;
+    let procedures = generate_procedures(alloc, &singles, predicates, trees)?;
+    let query = generate_goal(alloc, &singles, goal, Instruction::Answer(answers))?;
+    Ok(Code::new(procedures, Sequence::from_vec(query)))
+}
+
+// The procedures whose trees answer once.
+fn find_singles(alloc: Global, predicates: &[PredDecl], trees: &Nodes) -> Result<Singles, NoMemory>
+    ensures { IfOk result (λ singles. singles ≡ map answer_once (program_bodies predicates.now trees.now)) }
+{
+    let mut singles = Singles::new(alloc);
+    let mut left = TreesLeft::new(trees);
+    for declared in predicates {
+        let modes = single_modes(alloc, declared.modes.as_slice(), &mut left)?;
+        singles.push(modes)?;
+    }
+    Ok(singles)
+}
+
+// The same of one predicate: whether each mode's tree answers once. Its trees are taken.
+fn single_modes(
+    alloc: Global,
+    modes: &[ModeDecl],
+    left: &mut TreesLeft<'_>,
+) -> Result<Sequence<bool>, NoMemory>
+    ensures flags { IfOk result (λ flags. flags ≡ answer_once (mode_bodies modes.now left.old)) }
+    ensures left { IfOk result (λ flags. left.new ≡ drop (length modes.now) left.old) }
+{
+    let mut flags = Sequence::new(alloc);
+    for _mode in modes {
+        match left.take_first() {
+            Some(tree) => flags.push(is_once(&tree))?,
+            None => return Ok(flags),
+        }
+    }
+    Ok(flags)
+}
+
+// The code of all procedures.
+fn generate_procedures(
+    alloc: Global,
+    singles: &Singles,
+    predicates: &[PredDecl],
+    trees: &Nodes,
+) -> Result<Sequence<Sequence<CompiledProcedure>>, NoMemory>
+    ensures { IfOk result (λ procedures. procedures ≡ map (map (procedure_code (contained singles.now))) (program_bodies predicates.now trees.now)) }
+{
+    let mut procedures = Sequence::new(alloc);
+    let mut left = TreesLeft::new(trees);
+    for declared in predicates {
+        let modes = generate_modes(alloc, singles, declared.modes.as_slice(), &mut left)?;
+        procedures.push(modes)?;
+    }
+    Ok(procedures)
+}
+
+// The code of a predicate in each of its modes. Its trees are taken.
+fn generate_modes(
+    alloc: Global,
+    singles: &Singles,
+    modes: &[ModeDecl],
+    left: &mut TreesLeft<'_>,
+) -> Result<Sequence<CompiledProcedure>, NoMemory>
+    ensures procedures { IfOk result (λ procedures. procedures ≡ map (procedure_code (contained singles.now)) (mode_bodies modes.now left.old)) }
+    ensures left { IfOk result (λ procedures. left.new ≡ drop (length modes.now) left.old) }
+{
+    let mut procedures = Sequence::new(alloc);
+    for mode in modes {
+        match left.take_first() {
+            Some(tree) => {
+                procedures.push(generate_procedure(alloc, singles, &mode.args, &tree)?)?
+            }
+            None => return Ok(procedures),
+        }
+    }
+    Ok(procedures)
+}
+
+// The code of one procedure.
+fn generate_procedure(
+    alloc: Global,
+    singles: &Singles,
+    places: &Args,
+    tree: &NodeRef<'_>,
+) -> Result<CompiledProcedure, NoMemory>
+    ensures { IfOk result (λ procedure. procedure ≡ procedure_code (contained singles.now) (record { places = places.now; body = tree.now })) }
+{
+    let code = generate_goal(alloc, singles, tree, Instruction::Return)?;
+    Ok(CompiledProcedure {
+        places: Sequence::from_vec(Vec::from_slice(alloc, places.as_slice())?),
+        code: Sequence::from_vec(code),
+    })
+}
