@@ -161,4 +161,4 @@ returns-clause-answers c =
     (λ (numbers : List ℕ) (goal : Node). c.in_ok-ordered.ordered.answers ≡ numbers) c.in_ok-ordered.ensures.answers
 
 pub returns-clause-names : goal.returns-clause-names
-returns-clause-names c = c.in_ok-names_of.ensures ∙ ap (λ (found : List Occurrence). map (λ (variable : Occurrence). variable.name) found) (c.as_slice-names.ensures ∙ c.in_ok-query.ensures.answers)
+returns-clause-names c = c.in_ok-names_of.ensures ∙ ap (λ (found : List Occurrence). map (λ (variable : Occurrence). variable.name) found) (c.as_slice-2.ensures ∙ c.in_ok-query.ensures.answers)
