@@ -9,4 +9,5 @@ pub mod Output
 pub mod Answer
 pub mod Counting
 pub mod Ready
+pub mod Solving
 pub mod Due
