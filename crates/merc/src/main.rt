@@ -3,6 +3,7 @@
 
 use merc_base::{NoMemory, Tap, Text};
 use merc_io::{FileShelf, OpenGate, OutSink};
+use merc_machine::Ticks;
 use merc_top::answer;
 use merc_top::statuses::NO_MEMORY;
 use std::env::FillError;
@@ -17,8 +18,9 @@ fn main(rt: HostRuntime) -> ExitCode {
     let mut shelf = FileShelf::new(&rt);
     let mut sink = OutSink::new(&rt);
     let mut taps: Vec<Box<dyn Tap>> = Vec::new(alloc);
+    let mut ticks = Ticks::new();
     let status = answer(
-        &rt, alloc, &words, &mut shelf, &mut sink, &mut taps, &OpenGate,
+        &rt, alloc, &words, &mut shelf, &mut sink, &mut taps, &OpenGate, &mut ticks,
     );
     ExitCode::from(status)
 }

@@ -6,6 +6,7 @@ use crate::fault::TableFault;
 use crate::settings::Settings;
 use merc_base::{Tap, Text};
 use merc_io::{FailingShelf, FailingSink, OpenGate};
+use merc_machine::Ticks;
 use merc_top::answer;
 use std::alloc::Global;
 use std::sync::Wait;
@@ -22,6 +23,7 @@ pub(crate) fn difference<R: Threads + Wait + AllocGlobal>(
     let mut shelf = FailingShelf::new(case.files, settings.failing_reads.clone()?, piece);
     let mut sink = sink_of(alloc, settings)?;
     let mut taps: Vec<Box<dyn Tap>> = Vec::new(alloc);
+    let mut ticks = Ticks::new();
     let status = answer(
         rt,
         alloc,
@@ -30,6 +32,7 @@ pub(crate) fn difference<R: Threads + Wait + AllocGlobal>(
         &mut sink,
         &mut taps,
         &OpenGate,
+        &mut ticks,
     );
     if status == case.status && sink.bytes() == case.text.bytes() {
         return Ok(None);

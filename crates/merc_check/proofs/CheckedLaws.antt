@@ -16,12 +16,13 @@ use Rattle.merc_graded_tree.specs.Nodes.{Node}
 use Rattle.merc_flat.specs.Flat.{clause_node, query_node}
 use Rattle.merc_order.specs.Ordered.{Ordered, Outcome, Ready, Stuck}
 use Rattle.merc_modes.specs.Told.{fault_in}
-use Rattle.merc_grading.specs.Faults.{Body, Procedure, all_finished, procedures_of}
+use Rattle.merc_order.specs.Bound.{nothing}
+use Rattle.merc_grading.specs.Faults.{Body, Procedure, all_finished, finished, procedures_of}
 use Rattle.merc_fit_laws.specs.ProcedureBodies.{AreBodiesOf}
 use Rattle.merc_fit_laws.proofs.AskedBodies.{asked_body_is_there}
 use Rattle.merc_fit_laws.proofs.ModesFitting.{module_modes_fit}
 use Rattle.merc_fit_laws.proofs.ProcedureHeads.{bodies_are_there}
-use Rattle.merc_check.specs.Accepted.{AreGraded, HaveBodies, RefusesClauses, RefusesGoal, query_answers, query_order}
+use Rattle.merc_check.specs.Accepted.{AreGraded, HasBody, HaveBodies, IsGradedGoal, RefusesClauses, RefusesGoal, query_answers, query_order}
 use Rattle.merc_check.specs.Checked.{IsAccepted, IsGoal, Refuses, RefusesQuery}
 use Rattle.merc_check.specs.Checked.Refuses.{no_module, clauses as clauses_refused}
 use Rattle.merc_check.specs.Checked.RefusesQuery.{no_term, goal as goal_refused}
@@ -127,3 +128,14 @@ module _ (before : List (List ℕ)) (text : List ℕ) (distinct : IsDistinct byt
       RefusesQuery-excludes after _ term (no_term refusal refuses) is = RefusesGoalText-excludes before text distinct refusal after term refuses is.reads
       RefusesQuery-excludes after _ term (goal_refused after' term' refusal reads refuses) is =
           RefusesGoal-excludes after found term (has_body after term) refusal (same_goal after after' term term' refusal is.reads reads refuses) is.accepted
+
+      -- An accepted goal has one body, and so one tree with switches and categories, which is the only one.
+      module _ (after : List (List ℕ)) (term : Term) (is : IsGoal before after found text term) where
+        IsGoal-body : (body : Body) × HasBody after found term body
+        IsGoal-body = has_body after term is.accepted.typed is.accepted.ordered
+
+        pub IsGradedGoal-one : (trees : List Node) → IsGradedGoal after found term trees → (tree : Node) × (trees ≡ tree ∷ [])
+        IsGradedGoal-one trees graded = let body = IsGoal-body in (finished found.types found.preds nothing body.0, graded body.0 body.1)
+
+        pub IsGradedGoal-unique : (one other : List Node) → IsGradedGoal after found term one → IsGradedGoal after found term other → one ≡ other
+        IsGradedGoal-unique one other graded graded' = let body = IsGoal-body in graded body.0 body.1 ∙ sym (graded' body.0 body.1)

@@ -27,6 +27,10 @@ use Rattle.merc_fit_laws.specs.ProcedureBodies.{AreBodiesOf, IsAskedBody}
 abbrev pub type_mismatch : Span → Refusal
 type_mismatch span = record { rule = TypeMismatch; place = place_of span; detail = Plain }
 
+-- the names of the answer variables of a goal that is asked
+abbrev pub query_names : List (List ℕ) → Term → List ℕ
+query_names names goal = map (λ variable. variable.name) (answer_variables names (written 0 goal))
+
 -- Given are the texts of names and a module.
 module _ (names : List (List ℕ)) (known : Module) where
   abbrev pub IsTypedClause : Clause → Type 0

@@ -14,10 +14,10 @@ ghost use Rattle.merc_grading.specs.Faults.{Body, all_finished, category_fault, 
 ghost use Rattle.merc_grading.specs.Fitting.{AreToldApart};
 ghost use Rattle.merc_fit_laws.specs.HeadTypes.{declared_arguments};
 ghost use Rattle.merc_fit_laws.specs.ProcedureBodies.{AreBodiesOf, IsAskedBody};
-ghost use Rattle.merc_check.specs.Accepted.{AcceptsClauses, AcceptsGoal, AreGraded, IsGradedGoal, RefusesClauses, RefusesGoal, query_answers, type_mismatch};
+ghost use Rattle.merc_check.specs.Accepted.{AcceptsClauses, AcceptsGoal, AreGraded, IsGradedGoal, RefusesClauses, RefusesGoal, query_answers, query_names, type_mismatch};
 ghost use Rattle.merc_check.specs.Untyped.{FindsUntyped};
 
-use merc_base::{Detail, Fault, Names, NoMemory, Refusal, Rule, Span};
+use merc_base::{Detail, Fault, Name, Names, NoMemory, Refusal, Rule, Sequence, Span};
 use merc_bodies::{Asked, asked_body, bodies};
 use merc_categories::{check_categories, check_query_categories};
 use merc_flat::{flatten, flatten_query};
@@ -92,6 +92,16 @@ pub(crate) struct AskedGoal {
     pub(crate) trees: OrderedNodes,
     /// Its answer variables, by their numbers in the tree.
     pub(crate) answers: Vars,
+    /// Their names.
+    pub(crate) names: Sequence<Name>,
+}
+
+// The tree of a goal that is asked, alone in its list, in an order but without switches and categories; and its answer
+// variables, by their numbers in the tree.
+#[derive(Drop)]
+struct OrderedGoal {
+    trees: OrderedNodes,
+    answers: Vars,
 }
 
 /// The tree of a goal that is asked over a module.
@@ -109,6 +119,7 @@ pub(crate) fn check_goal(
     ensures accepted { IfOk result (λ asked. AcceptsGoal names.now known.now goal.now) }
     ensures graded { IfOk result (λ asked. IsGradedGoal names.now known.now goal.now asked.trees) }
     ensures answers { IfOk result (λ asked. asked.answers ≡ query_answers names.now known.now goal.now) }
+    ensures names { IfOk result (λ asked. asked.names ≡ query_names names.now goal.now) }
     ensures refused { IfErr result (λ fault. IsRefusal (RefusesGoal names.now known.now goal.now) fault) }
 {
     let query = flatten_query(alloc, known, goal, names)?;
@@ -125,6 +136,7 @@ pub(crate) fn check_goal(
     Ok(AskedGoal {
         trees,
         answers: ordered.answers,
+        names: names_of(alloc, query.answers.as_slice())?,
     })
 }
 
@@ -134,7 +146,7 @@ fn check_query_order(
     known: &Known<'_>,
     form: &NodeRef<'_>,
     answers: &[Occurrence],
-) -> Result<AskedGoal, Fault>
+) -> Result<OrderedGoal, Fault>
     ensures told { IsTold (fault_in (query_from (modes_of known.now.preds) (map (numbered 0 0 (own_variables 0 form.now)) (map (λ variable. variable.at) answers.now)) (asked_body form.now))) result }
     ensures tree { IfOk result (λ asked. (tree : OrderedNode) × (asked.trees ≡ tree ∷ []) × IsQuery (modes_of known.now.preds) (map (numbered 0 0 (own_variables 0 form.now)) (map (λ variable. variable.at) answers.now)) (asked_body form.now) tree) }
     ensures answers { IfOk result (λ asked. asked.answers ≡ map (numbered 0 0 (own_variables 0 form.now)) (map (λ variable. variable.at) answers.now)) }
@@ -142,7 +154,7 @@ fn check_query_order(
     let asked = body_with_answers(alloc, form, answers)?;
     let preds = known.module().preds.as_slice();
     let trees = order_query(alloc, preds, asked.answers.as_slice(), &asked.goal.as_ref())?;
-    Ok(AskedGoal {
+    Ok(OrderedGoal {
         trees,
         answers: asked.answers,
     })
@@ -177,6 +189,17 @@ fn body_with_answers(
 {
     let variables = numbers_of(alloc, answers)?;
     asked_body(alloc, form, &variables)
+}
+
+// The names of variables.
+fn names_of(alloc: Global, variables: &[Occurrence]) -> Result<Sequence<Name>, NoMemory>
+    ensures { IfOk result (λ names. names ≡ map (λ variable. variable.name) variables.now) }
+{
+    let names = variables
+        .iter()
+        .map(|variable| variable.name)
+        .collect(alloc)?;
+    Ok(Sequence::from_vec(names))
 }
 
 // The numbers of variables.

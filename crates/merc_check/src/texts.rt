@@ -4,11 +4,11 @@ ghost use Rattle.std.specs.List.{IsDistinct};
 ghost use Rattle.std.specs.Str.{bytes_eq};
 ghost use Rattle.merc_base.specs.Names.{HoldsFixed};
 ghost use Rattle.merc_terms.specs.Items.{IsRefusal};
-ghost use Rattle.merc_check.specs.Accepted.{AreGraded, IsGradedGoal, query_answers};
+ghost use Rattle.merc_check.specs.Accepted.{AreGraded, IsGradedGoal, query_answers, query_names};
 ghost use Rattle.merc_check.specs.Checked.{IsAccepted, IsGoal, Refuses, RefusesQuery};
 
 use crate::checking::{check_clauses, check_goal};
-use merc_base::{Fault, Names, Text};
+use merc_base::{Fault, Name, Names, Sequence, Text};
 use merc_goal_tree::Vars;
 use merc_graded_tree::Nodes;
 use merc_items::module_of_items;
@@ -109,6 +109,8 @@ pub struct Query {
     pub trees: Nodes,
     /// Its answer variables in order, by their numbers in the tree.
     pub answers: Vars,
+    /// Their names, in the same order.
+    pub names: Sequence<Name>,
 }
 
 /// Checks a goal that is asked over a module, whose names are in the table. Names that the goal spells are added behind
@@ -127,6 +129,7 @@ pub fn check_query(
     ensures accepted { IfOk result (λ query. IsGoal names.old names.new checked.now.module text.now query.goal) }
     ensures graded { IfOk result (λ query. IsGradedGoal names.new checked.now.module query.goal query.trees) }
     ensures answers { IfOk result (λ query. query.answers ≡ query_answers names.new checked.now.module query.goal) }
+    ensures names { IfOk result (λ query. query.names ≡ query_names names.new query.goal) }
     ensures refused { IfErr result (λ fault. IsRefusal (RefusesQuery names.old checked.now.module text.now) fault) }
     ensures grows { (more : List (List ℕ)) × (names.new ≡ names.old ++ more) }
 {
@@ -137,5 +140,6 @@ pub fn check_query(
         goal,
         trees: asked.trees,
         answers: asked.answers,
+        names: asked.names,
     })
 }

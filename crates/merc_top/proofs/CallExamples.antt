@@ -13,27 +13,27 @@ use Rattle.merc_tree.specs.declared.declarations.TypeDef.{TypeDef}
 use Rattle.merc_graded_tree.specs.Nodes.{Node}
 use Rattle.merc_check.specs.Accepted.{AreGraded}
 use Rattle.merc_check.specs.Checked.{IsAccepted}
-use Rattle.merc_tree.specs.Meaning.{run}
-use Rattle.merc_tree.specs.Trace.{RunDone, answers_of, end_of}
-use Rattle.merc_first_form.specs.Reading.{source_of, goal_of}
+use Rattle.merc_meaning.specs.Trace.{Run, Ends, RunDone}
+use Rattle.merc_machine.specs.Running.{counted}
 use Rattle.merc_top.specs.declared.words.Request.{Request}
 use Rattle.merc_top.specs.declared.words.Request.TheVariants.{Solve, Check}
 use Rattle.merc_top.specs.Words.{IsPlainWord, IsSolve, IsCheck, IsRequest, IsNoRequest, file_of, usage_line}
 use Rattle.merc_top.specs.Loading.{file_limit}
 use Rattle.merc_top.specs.Writing.{PutsFront}
-use Rattle.merc_top.specs.Output.{AreRead, IsOutput, run_of, step_limit, text_of}
+use Rattle.merc_top.specs.Output.{IsAskedRun, IsOutput, text_of}
 use Rattle.merc_top.specs.Statuses.{accepted_status, solved_status, module_status, goal_status, usage_status, unread_status, unwritten_status, no_memory_status, too_long_status}
 use Rattle.merc_top.specs.Answer.{AreFiles, NamesAbsent, IsStatusDue, WroteFront, Answers}
+use Rattle.merc_top.specs.Counting.{AsksRun, Counts}
+use Rattle.merc_top.specs.Runs.{steps_of}
 use Rattle.merc_top.proofs.Causes.{NamesTooLong, Names, NamesChecked, BreaksModule, BreaksGoal, IsCheckedModule, RunsTo, IsSolved, Succeeds}
 use Rattle.merc_top.proofs.Causes.BreaksModule.{module_rule, checked_rule}
-use Rattle.merc_top.proofs.Causes.BreaksGoal.{goal_outside}
 use Rattle.merc_top.proofs.AnswerLaws.{Answers-front, Answers-checked, Answers-goal_refused}
-use Rattle.merc_top.proofs.CallEnds.{answers-done}
+use Rattle.merc_top.proofs.CallEnds.{answers-done, asked-unique}
 use Rattle.merc_top.proofs.OutputLaws.{IsOutput-unique}
 use Rattle.merc_top.proofs.Causes.{solved-exactly, module_refused-exactly, goal_refused-exactly, absent-exactly, status-exactly}
-use Rattle.merc_top.proofs.OutputExamples.{one, goal}
+use Rattle.merc_top.proofs.OutputExamples.{one_answer}
 use Rattle.merc_top.proofs.CheckingExamples.{tree}
-use Rattle.merc_top.proofs.DueExamples.{bad_token, lone_byte-refused, one_text, one_names, one_module, one_lines, first_output, IsDue-module_refused, IsDue-runs, IsCheckDue-refused, IsCheckDue-accepted}
+use Rattle.merc_top.proofs.DueExamples.{bad_token, lone_byte-refused, one_text, one_names, one_module, one_lines, run_names, first_output, IsDue-module_refused, IsDue-runs, IsCheckDue-refused, IsCheckDue-accepted}
 use Rattle.merc_top.proofs.Requests.{shown}
 use Rattle.merc_top.proofs.WordsExamples.{differ, IsPlainWord-example, check_words, IsSolve-example, IsCheck-example}
 
@@ -174,9 +174,6 @@ NamesTooLong-counterexample names =
 pub Names-example : Names first_words files one_text (codes "add(2, 3, X)")
 Names-example = record { file = codes "one.m"; request = IsSolve-example; content = refl; within = one_within }
 
-Names-closed : Names closed_words files one_text (codes "add(2, 3, 5)")
-Names-closed = record { file = codes "one.m"; request = closed_request; content = refl; within = one_within }
-
 pub NamesChecked-example : NamesChecked check_words files one_text
 NamesChecked-example = record { file = codes "one.m"; request = IsCheck-example; content = refl; within = one_within }
 
@@ -218,44 +215,41 @@ Succeeds-counterexample succeeds = differ solved_status module_status (omega ari
 pub RunsTo-counterexample : RunsTo bad_words files IsSolved → ⊥
 RunsTo-counterexample solves = Succeeds-counterexample (inl solves)
 
-first_answers : 0 < length (answers_of (run_of one goal))
-unfolding run_of run step_limit
-first_answers = omega arith
+-- Where the goal asks for the run that has one step and one answer,
+module _ (asked : IsAskedRun one_text (codes "add(2, 3, X)") run_names (0 ∷ []) one_answer) where
+  pub AsksRun-example : AsksRun first_words files run_names (0 ∷ []) one_answer
+  AsksRun-example = record { file = codes "one.m"; goal = codes "add(2, 3, X)"; text = one_text; request = IsSolve-example; content = refl; within = one_within; run_is = asked }
 
-first_end : end_of (run_of one goal) ≡ RunDone
-unfolding run_of run step_limit
-first_end = refl
+  -- it asks for no other;
+  pub AsksRun-counterexample : AsksRun first_words files run_names (0 ∷ []) (Ends RunDone) → ⊥
+  AsksRun-counterexample other = let same : one_answer ≡ Ends RunDone = asked-unique first_words files run_names run_names (0 ∷ []) (0 ∷ []) one_answer (Ends RunDone) AsksRun-example other in cc
 
--- where file and goal are read, and the file is the module that runs
-module _ (names : List (List ℕ)) (items : List Term) (term : Term) (source : source_of names items ≡ Some one) where
-  pub RunsTo-example : AreRead one_text (codes "add(2, 3, X)") names items term → goal_of names one term ≡ Some goal → RunsTo first_words files IsSolved
-  RunsTo-example read is = record {
-    text = one_text;
-    goal = codes "add(2, 3, X)";
-    request = Names-example;
-    names = names;
-    items = items;
-    term = term;
-    read = read;
-    source = one;
-    source_is = source;
-    conjuncts = goal;
-    goal_is = is;
-    fits = (first_answers, first_end);
-  }
+  pub RunsTo-example : RunsTo first_words files IsSolved
+  RunsTo-example = record { names = run_names; variables = 0 ∷ []; asked = one_answer; asks = AsksRun-example; fits = (omega arith, refl) }
 
-  pub Succeeds-example : AreRead one_text (codes "add(2, 3, X)") names items term → goal_of names one term ≡ Some goal → Succeeds first_words files
-  Succeeds-example read is = inl (RunsTo-example read is)
+  pub Succeeds-example : Succeeds first_words files
+  Succeeds-example = inl RunsTo-example
 
-  pub IsOutput-runs : AreRead one_text (codes "add(2, 3, X)") names items term → goal_of names one term ≡ Some goal → IsOutput first_words files first_output solved_status
-  IsOutput-runs read is = inr (Solve (shown (codes "one.m")) (shown (codes "add(2, 3, X)")), IsSolve-example, inr (one_within, IsDue-runs (codes "add(2, 3, X)") names items term read source is))
+  pub IsOutput-runs : IsOutput first_words files first_output solved_status
+  IsOutput-runs = inr (Solve (shown (codes "one.m")) (shown (codes "add(2, 3, X)")), IsSolve-example, inr (one_within, IsDue-runs (codes "add(2, 3, X)") asked))
 
-  pub BreaksModule-counterexample : AreRead one_text (codes "add(2, 3, X)") names items term → goal_of names one term ≡ Some goal → BreaksModule first_words files → ⊥
-  BreaksModule-counterexample read is breaks =
-      differ solved_status module_status (omega arith) ((module_refused-exactly first_words files first_output solved_status (IsOutput-runs read is)).1 breaks)
+  pub BreaksModule-counterexample : BreaksModule first_words files → ⊥
+  BreaksModule-counterexample breaks =
+      differ solved_status module_status (omega arith) ((module_refused-exactly first_words files first_output solved_status IsOutput-runs).1 breaks)
 
-  pub BreaksGoal-example : AreRead one_text (codes "add(2, 3, 5)") names items term → goal_of names one term ≡ None → BreaksGoal closed_words files
-  BreaksGoal-example read outside = goal_outside one_text (codes "add(2, 3, 5)") names items term one Names-closed read source outside
+  -- and one step is counted.
+  pub Counts-example : Counts first_words (Some files) 3 3 2 2 solved_status 1
+  Counts-example = λ _ _ _. (
+    files,
+    refl,
+    λ names variables other asks. ap (λ (run : Run). counted 0 (steps_of run)) (asked-unique first_words files run_names names (0 ∷ []) variables one_answer other AsksRun-example asks),
+  )
+
+  pub Counts-counterexample : Counts first_words (Some files) 3 3 2 2 solved_status 2 → ⊥
+  Counts-counterexample counts =
+      let found = counts refl refl (omega arith) in
+      let same : 2 ≡ 1 = found.2 run_names (0 ∷ []) one_answer (subst (λ some. AsksRun first_words some run_names (0 ∷ []) one_answer) (sym found.1) AsksRun-example) in
+      omega (arith, same)
 
 -- ---- what one call has done
 

@@ -9,21 +9,19 @@ use Rattle.merc_tree.specs.declared.declarations.Module.{Module}
 use Rattle.merc_graded_tree.specs.Nodes.{Node}
 use Rattle.merc_check.specs.Accepted.{AreGraded}
 use Rattle.merc_check.specs.Checked.{IsAccepted, Refuses, RefusesQuery}
-use Rattle.merc_tree.specs.Trace.{Run, RunEnd, RunDone, RunRaised, LimitPassed, answers_of, end_of}
-use Rattle.merc_first_form.specs.declared.syntax.Conjunct.{Conjunct}
-use Rattle.merc_first_form.specs.declared.syntax.Source.{Source}
-use Rattle.merc_first_form.specs.FlatForm.{variables_of}
-use Rattle.merc_first_form.specs.Reading.{source_of, goal_of}
+use Rattle.merc_meaning.specs.Trace.{Run, RunEnd, RunDone, RunRaised, LimitPassed}
 use Rattle.merc_top.specs.Loading.{file_limit}
 use Rattle.merc_top.specs.Statuses.{accepted_status, solved_status, unsolved_status, raised_status, limit_status, module_status, goal_status, usage_status, unread_status, too_long_status}
 use Rattle.merc_top.specs.declared.words.Request.{Request}
 use Rattle.merc_top.specs.declared.words.Request.TheVariants.{Solve, Check}
 use Rattle.merc_top.specs.Words.{IsRequest, IsSolve, IsCheck, IsNoRequest, file_of, usage_line}
 use Rattle.merc_top.specs.Checking.{check_lines}
-use Rattle.merc_top.specs.Output.{AreRead, IsDue, IsCheckDue, IsRequestDue, IsOutput, FileOutput, run_of, run_lines, run_status, refusal_line, stage_refusal, too_long_line}
-use Rattle.merc_top.specs.Output.IsDue.{module_refused as due_module_refused, goal_refused as due_goal_refused, module_outside as due_module_outside, goal_outside as due_goal_outside, runs as due_runs}
+use Rattle.merc_top.specs.Runs.{answers_of, end_of}
+use Rattle.merc_top.specs.Output.{IsAskedRun, IsDue, IsCheckDue, IsRequestDue, IsOutput, FileOutput, end_status, run_lines, run_status, refusal_line, too_long_line}
+use Rattle.merc_top.specs.Output.IsDue.{module_refused as due_module_refused, goal_refused as due_goal_refused, runs as due_runs}
 use Rattle.merc_top.specs.Output.IsCheckDue.{check_refused as due_check_refused, check_accepted as due_check_accepted}
 use Rattle.merc_top.specs.Answer.{IsStatusDue, NamesAbsent}
+use Rattle.merc_top.specs.Counting.{AsksRun}
 use Rattle.merc_top.proofs.Requests.{shown, solve-no_check}
 use Rattle.merc_top.proofs.OutputLaws.{IsOutput-unique}
 
@@ -49,11 +47,10 @@ pub record NamesChecked (words : List (List ℕ)) (files : Files) (text : List �
   pub content : file_named file files ≡ Some text
   pub within : length text ≤ file_limit
 
--- the named file breaks a rule, where a goal is asked or it is checked; or neither it nor the goal does, and it is not of the form that runs
+-- the named file breaks a rule, where a goal is asked or it is checked
 pub data BreaksModule (words : List (List ℕ)) (files : Files) : Type 0 where
   module_rule : (text goal : List ℕ) (refusal : Refusal) → Names words files text goal → Refuses fixed_names text refusal → BreaksModule words files
   checked_rule : (text : List ℕ) (refusal : Refusal) → NamesChecked words files text → Refuses fixed_names text refusal → BreaksModule words files
-  module_outside : (text goal : List ℕ) (names : List (List ℕ)) (items : List Term) (term : Term) → Names words files text goal → AreRead text goal names items term → source_of names items ≡ None → BreaksModule words files
 
 -- the named file is checked, and is an accepted module with these trees
 pub record IsCheckedModule (words : List (List ℕ)) (files : Files) : Type 0 where
@@ -66,29 +63,29 @@ pub record IsCheckedModule (words : List (List ℕ)) (files : Files) : Type 0 wh
   pub accepted : IsAccepted fixed_names names text items found
   pub graded : AreGraded names found trees
 
--- the named file is an accepted module and the goal breaks a rule; or it does not, the module is of the form that runs, and the goal is not
-pub data BreaksGoal (words : List (List ℕ)) (files : Files) : Type 0 where
-  goal_rule : (text goal : List ℕ) (names : List (List ℕ)) (items : List Term) (found : Module) (refusal : Refusal) → Names words files text goal → IsAccepted fixed_names names text items found → RefusesQuery names found goal refusal → BreaksGoal words files
-  goal_outside : (text goal : List ℕ) (names : List (List ℕ)) (items : List Term) (term : Term) (source : Source) → Names words files text goal → AreRead text goal names items term → source_of names items ≡ Some source → goal_of names source term ≡ None → BreaksGoal words files
-
--- module and goal are accepted, and the goal's run is such
-pub record RunsTo (words : List (List ℕ)) (files : Files) (Fits : Run → Type 0) : Type 0 where
+-- the named file is an accepted module, and the goal breaks a rule
+pub record BreaksGoal (words : List (List ℕ)) (files : Files) : Type 0 where
   pub text : List ℕ
   pub goal : List ℕ
   pub request : Names words files text goal
   pub names : List (List ℕ)
   pub items : List Term
-  pub term : Term
-  pub read : AreRead text goal names items term
-  pub source : Source
-  pub source_is : source_of names items ≡ Some source
-  pub conjuncts : List Conjunct
-  pub goal_is : goal_of names source term ≡ Some conjuncts
-  pub fits : Fits (run_of source conjuncts)
+  pub found : Module
+  pub refusal : Refusal
+  pub accepted : IsAccepted fixed_names names text items found
+  pub refuses : RefusesQuery names found goal refusal
+
+-- module and goal are accepted, and the goal's run is such
+pub record RunsTo (words : List (List ℕ)) (files : Files) (Fits : Run → Type 0) : Type 0 where
+  pub names : List (List ℕ)
+  pub variables : List ℕ
+  pub asked : Run
+  pub asks : AsksRun words files names variables asked
+  pub fits : Fits asked
 
 -- this is the status of the run
 abbrev pub HasStatus : ℕ → Run → Type 0
-HasStatus status run = status ≡ run_status (length (answers_of run)) (end_of run)
+HasStatus status run = status ≡ run_status run
 
 -- the run has answers and ends with no further one
 abbrev pub IsSolved : Run → Type 0
@@ -100,7 +97,7 @@ IsUnsolved run = (length (answers_of run) ≡ 0) × (end_of run ≡ RunDone)
 
 -- the run ends with an exception
 abbrev pub IsRaised : Run → Type 0
-IsRaised run = (text : List ℕ) × (end_of run ≡ RunRaised text)
+IsRaised run = (text : ℕ) × (end_of run ≡ RunRaised text)
 
 -- the run passes its step limit
 abbrev pub IsCutAtLimit : Run → Type 0
@@ -124,13 +121,15 @@ due-cause : (words : List (List ℕ)) (files : Files) (name text goal : List ℕ
 due-cause words files name text goal _ _ request (due_module_refused refusal refuses) =
     module_cause (module_rule text goal refusal request refuses) refl
 due-cause words files name text goal _ _ request (due_goal_refused names items found refusal is refuses) =
-    goal_cause (goal_rule text goal names items found refusal request is refuses) refl
-due-cause words files name text goal _ _ request (due_module_outside names items term read outside) =
-    module_cause (module_outside text goal names items term request read outside) refl
-due-cause words files name text goal _ _ request (due_goal_outside names items term source read within outside) =
-    goal_cause (goal_outside text goal names items term source request read within outside) refl
-due-cause words files name text goal _ _ request (due_runs names items term source conjuncts lines status read within is due) =
-    run_cause (record { text = text; goal = goal; request = request; names = names; items = items; term = term; read = read; source = source; source_is = within; conjuncts = conjuncts; goal_is = is; fits = due.1 })
+    goal_cause (record { text = text; goal = goal; request = request; names = names; items = items; found = found; refusal = refusal; accepted = is; refuses = refuses }) refl
+due-cause words files name text goal _ _ request (due_runs names variables asked is) =
+    run_cause (record {
+      names = names;
+      variables = variables;
+      asked = asked;
+      asks = record { file = request.file; goal = goal; text = text; request = request.request; content = request.content; within = request.within; run_is = is };
+      fits = refl;
+    })
 
 check_due-cause : (words : List (List ℕ)) (files : Files) (name text : List ℕ) (lines : List (List ℕ)) (status : ℕ)
     → NamesChecked words files text → IsCheckDue name text lines status → Cause words files status
@@ -159,76 +158,63 @@ cause_of words files lines status (inl usage) = usage_cause usage.0 usage.2
 cause_of words files lines status (inr request) =
     file_output-cause words files request.0 (file_named (file_of request.0) files) lines status request.1 refl request.2
 
-run_status-zero : (count : ℕ) (end : RunEnd) → solved_status ≡ run_status count end → (0 < count) × (end ≡ RunDone)
-run_status-zero zero RunDone is = absurd (omega (arith, is))
-run_status-zero (suc count) RunDone is = (omega arith, refl)
-run_status-zero zero (RunRaised text) is = absurd (omega (arith, is))
-run_status-zero (suc count) (RunRaised text) is = absurd (omega (arith, is))
-run_status-zero zero LimitPassed is = absurd (omega (arith, is))
-run_status-zero (suc count) LimitPassed is = absurd (omega (arith, is))
+end_status-zero : (count : ℕ) (end : RunEnd) → solved_status ≡ end_status count end → (0 < count) × (end ≡ RunDone)
+end_status-zero zero RunDone is = absurd (omega (arith, is))
+end_status-zero (suc count) RunDone is = (omega arith, refl)
+end_status-zero zero (RunRaised text) is = absurd (omega (arith, is))
+end_status-zero (suc count) (RunRaised text) is = absurd (omega (arith, is))
+end_status-zero zero LimitPassed is = absurd (omega (arith, is))
+end_status-zero (suc count) LimitPassed is = absurd (omega (arith, is))
 
-run_status-solved : (count : ℕ) (end : RunEnd) → 0 < count → end ≡ RunDone → run_status count end ≡ solved_status
-run_status-solved zero end some done = absurd (omega arith)
-run_status-solved (suc count) end some done = ap (λ e. run_status (suc count) e) done
+end_status-solved : (count : ℕ) (end : RunEnd) → 0 < count → end ≡ RunDone → end_status count end ≡ solved_status
+end_status-solved zero end some done = absurd (omega arith)
+end_status-solved (suc count) end some done = ap (λ e. end_status (suc count) e) done
 
-run_status-one : (count : ℕ) (end : RunEnd) → unsolved_status ≡ run_status count end → (count ≡ 0) × (end ≡ RunDone)
-run_status-one zero RunDone is = (refl, refl)
-run_status-one (suc count) RunDone is = absurd (omega (arith, is))
-run_status-one zero (RunRaised text) is = absurd (omega (arith, is))
-run_status-one (suc count) (RunRaised text) is = absurd (omega (arith, is))
-run_status-one zero LimitPassed is = absurd (omega (arith, is))
-run_status-one (suc count) LimitPassed is = absurd (omega (arith, is))
+end_status-one : (count : ℕ) (end : RunEnd) → unsolved_status ≡ end_status count end → (count ≡ 0) × (end ≡ RunDone)
+end_status-one zero RunDone is = (refl, refl)
+end_status-one (suc count) RunDone is = absurd (omega (arith, is))
+end_status-one zero (RunRaised text) is = absurd (omega (arith, is))
+end_status-one (suc count) (RunRaised text) is = absurd (omega (arith, is))
+end_status-one zero LimitPassed is = absurd (omega (arith, is))
+end_status-one (suc count) LimitPassed is = absurd (omega (arith, is))
 
-run_status-two : (count : ℕ) (end : RunEnd) → raised_status ≡ run_status count end → (text : List ℕ) × (end ≡ RunRaised text)
-run_status-two zero RunDone is = absurd (omega (arith, is))
-run_status-two (suc count) RunDone is = absurd (omega (arith, is))
-run_status-two zero (RunRaised text) is = (text, refl)
-run_status-two (suc count) (RunRaised text) is = (text, refl)
-run_status-two zero LimitPassed is = absurd (omega (arith, is))
-run_status-two (suc count) LimitPassed is = absurd (omega (arith, is))
+end_status-two : (count : ℕ) (end : RunEnd) → raised_status ≡ end_status count end → (text : ℕ) × (end ≡ RunRaised text)
+end_status-two zero RunDone is = absurd (omega (arith, is))
+end_status-two (suc count) RunDone is = absurd (omega (arith, is))
+end_status-two zero (RunRaised text) is = (text, refl)
+end_status-two (suc count) (RunRaised text) is = (text, refl)
+end_status-two zero LimitPassed is = absurd (omega (arith, is))
+end_status-two (suc count) LimitPassed is = absurd (omega (arith, is))
 
-run_status-three : (count : ℕ) (end : RunEnd) → limit_status ≡ run_status count end → end ≡ LimitPassed
-run_status-three zero RunDone is = absurd (omega (arith, is))
-run_status-three (suc count) RunDone is = absurd (omega (arith, is))
-run_status-three zero (RunRaised text) is = absurd (omega (arith, is))
-run_status-three (suc count) (RunRaised text) is = absurd (omega (arith, is))
-run_status-three zero LimitPassed is = refl
-run_status-three (suc count) LimitPassed is = refl
+end_status-three : (count : ℕ) (end : RunEnd) → limit_status ≡ end_status count end → end ≡ LimitPassed
+end_status-three zero RunDone is = absurd (omega (arith, is))
+end_status-three (suc count) RunDone is = absurd (omega (arith, is))
+end_status-three zero (RunRaised text) is = absurd (omega (arith, is))
+end_status-three (suc count) (RunRaised text) is = absurd (omega (arith, is))
+end_status-three zero LimitPassed is = refl
+end_status-three (suc count) LimitPassed is = refl
 
-run_status-raised : (count : ℕ) (text : List ℕ) → run_status count (RunRaised text) ≡ raised_status
-run_status-raised zero text = refl
-run_status-raised (suc count) text = refl
+pub end_status-raised : (count text : ℕ) → end_status count (RunRaised text) ≡ raised_status
+end_status-raised zero text = refl
+end_status-raised (suc count) text = refl
 
-run_status-limit : (count : ℕ) → run_status count LimitPassed ≡ limit_status
-run_status-limit zero = refl
-run_status-limit (suc count) = refl
+pub end_status-limit : (count : ℕ) → end_status count LimitPassed ≡ limit_status
+end_status-limit zero = refl
+end_status-limit (suc count) = refl
 
-run_status-low : (count : ℕ) (end : RunEnd) → run_status count end < module_status
-run_status-low zero RunDone = lit< tt
-run_status-low (suc count) RunDone = lit< tt
-run_status-low zero (RunRaised text) = lit< tt
-run_status-low (suc count) (RunRaised text) = lit< tt
-run_status-low zero LimitPassed = lit< tt
-run_status-low (suc count) LimitPassed = lit< tt
+end_status-low : (count : ℕ) (end : RunEnd) → end_status count end < module_status
+end_status-low zero RunDone = lit< tt
+end_status-low (suc count) RunDone = lit< tt
+end_status-low zero (RunRaised text) = lit< tt
+end_status-low (suc count) (RunRaised text) = lit< tt
+end_status-low zero LimitPassed = lit< tt
+end_status-low (suc count) LimitPassed = lit< tt
 
 runs_low : (words : List (List ℕ)) (files : Files) (status : ℕ) → RunsTo words files (HasStatus status) → status < module_status
-runs_low words files status runs = subst (λ n. n < module_status) (sym runs.fits) (run_status-low _ _)
+runs_low words files status runs = subst (λ n. n < module_status) (sym runs.fits) (end_status-low _ _)
 
 refit : (words : List (List ℕ)) (files : Files) (P Q : Run → Type 0) → ((run : Run) → P run → Q run) → RunsTo words files P → RunsTo words files Q
-refit words files P Q turns runs = record {
-  text = runs.text;
-  goal = runs.goal;
-  request = runs.request;
-  names = runs.names;
-  items = runs.items;
-  term = runs.term;
-  read = runs.read;
-  source = runs.source;
-  source_is = runs.source_is;
-  conjuncts = runs.conjuncts;
-  goal_is = runs.goal_is;
-  fits = turns (run_of runs.source runs.conjuncts) runs.fits;
-}
+refit words files P Q turns runs = record { names = runs.names; variables = runs.variables; asked = runs.asked; asks = runs.asks; fits = turns runs.asked runs.fits }
 
 run_by : (words : List (List ℕ)) (files : Files) (status : ℕ) → Cause words files status → status < module_status → RunsTo words files (HasStatus status) ⊎ (IsCheckedModule words files × (status ≡ accepted_status))
 run_by words files status (usage_cause why is) low = absurd (omega (arith, is, low))
@@ -299,12 +285,14 @@ checked_output words files text lines status request due =
       subst (λ content. FileOutput (Check (shown request.file)) content lines status) (sym request.content) (inr (request.within, due)),
     )
 
-runs_output : (words : List (List ℕ)) (files : Files) (status : ℕ) → RunsTo words files (HasStatus status) → (lines : List (List ℕ)) × IsOutput words files lines status
+pub runs_output : (words : List (List ℕ)) (files : Files) (status : ℕ) → RunsTo words files (HasStatus status) → (lines : List (List ℕ)) × IsOutput words files lines status
 runs_output words files status runs =
-    let lines = run_lines (variables_of [] runs.conjuncts) (run_of runs.source runs.conjuncts) in (
+    let asks = runs.asks in
+    let lines = run_lines runs.names runs.variables runs.asked in (
       lines,
-      named_output words files runs.text runs.goal lines status runs.request
-          (due_runs runs.names runs.items runs.term runs.source runs.conjuncts lines status runs.read runs.source_is runs.goal_is (refl, runs.fits)),
+      named_output words files asks.text asks.goal lines status
+          (record { file = asks.file; request = asks.request; content = asks.content; within = asks.within })
+          (subst (λ (n : ℕ). IsDue asks.file asks.text asks.goal lines n) (sym runs.fits) (due_runs runs.names runs.variables runs.asked asks.run_is)),
     )
 
 breaks_module_output : (words : List (List ℕ)) (files : Files) → BreaksModule words files → (lines : List (List ℕ)) × IsOutput words files lines module_status
@@ -312,14 +300,12 @@ breaks_module_output words files (module_rule text goal refusal request refuses)
     (refusal_line request.file refusal ∷ [], named_output words files text goal _ module_status request (due_module_refused refusal refuses))
 breaks_module_output words files (checked_rule text refusal request refuses) =
     (refusal_line request.file refusal ∷ [], checked_output words files text _ module_status request (due_check_refused refusal refuses))
-breaks_module_output words files (module_outside text goal names items term request read outside) =
-    (refusal_line request.file stage_refusal ∷ [], named_output words files text goal _ module_status request (due_module_outside names items term read outside))
 
 breaks_goal_output : (words : List (List ℕ)) (files : Files) → BreaksGoal words files → (lines : List (List ℕ)) × IsOutput words files lines goal_status
-breaks_goal_output words files (goal_rule text goal names items found refusal request is refuses) =
-    (refusal_line (codes "goal") refusal ∷ [], named_output words files text goal _ goal_status request (due_goal_refused names items found refusal is refuses))
-breaks_goal_output words files (goal_outside text goal names items term source request read within outside) =
-    (refusal_line (codes "goal") stage_refusal ∷ [], named_output words files text goal _ goal_status request (due_goal_outside names items term source read within outside))
+breaks_goal_output words files breaks =
+    let lines = refusal_line (codes "goal") breaks.refusal ∷ [] in
+    (lines,
+    named_output words files breaks.text breaks.goal lines goal_status breaks.request (due_goal_refused breaks.names breaks.items breaks.found breaks.refusal breaks.accepted breaks.refuses))
 
 checked_module_output : (words : List (List ℕ)) (files : Files) → IsCheckedModule words files → (lines : List (List ℕ)) × IsOutput words files lines accepted_status
 checked_module_output words files checked =
@@ -364,12 +350,12 @@ runs-exactly words files lines status due Fits output high low to from = (
 succeeds_by : (words : List (List ℕ)) (files : Files) (status : ℕ) → status ≡ solved_status
     → RunsTo words files (HasStatus status) ⊎ (IsCheckedModule words files × (status ≡ accepted_status)) → Succeeds words files
 succeeds_by words files status is (inl why) =
-    inl (refit words files (HasStatus solved_status) IsSolved (λ run has. run_status-zero _ _ has) (subst (λ n. RunsTo words files (HasStatus n)) is why))
+    inl (refit words files (HasStatus solved_status) IsSolved (λ run has. end_status-zero _ _ has) (subst (λ n. RunsTo words files (HasStatus n)) is why))
 succeeds_by words files status is (inr checked) = inr checked.0
 
 succeeds_output : (words : List (List ℕ)) (files : Files) → Succeeds words files → (lines : List (List ℕ)) × IsOutput words files lines solved_status
 succeeds_output words files (inl why) =
-    runs_output words files solved_status (refit words files IsSolved (HasStatus solved_status) (λ run fits. sym (run_status-solved _ _ fits.0 fits.1)) why)
+    runs_output words files solved_status (refit words files IsSolved (HasStatus solved_status) (λ run fits. sym (end_status-solved _ _ fits.0 fits.1)) why)
 succeeds_output words files (inr checked) = checked_module_output words files checked
 
 -- Status by status, where it is due and so comes without a fault: the run of a goal has solutions, or a module that is checked is accepted;
@@ -383,7 +369,7 @@ solved-exactly words files lines status output = (
 
 -- where words ask for a check, that alone;
 checked_alone : (words : List (List ℕ)) (files : Files) (text : List ℕ) → NamesChecked words files text → Succeeds words files → IsCheckedModule words files
-checked_alone words files text names (inl runs) = absurd (solve-no_check words runs.request.file runs.goal names.file runs.request.request names.request)
+checked_alone words files text names (inl runs) = absurd (solve-no_check words runs.asks.file runs.asks.goal names.file runs.asks.request names.request)
 checked_alone words files text names (inr checked) = checked
 
 pub checked-exactly : (words : List (List ℕ)) (files : Files) (lines : List (List ℕ)) (status : ℕ) → IsOutput words files lines status
@@ -396,20 +382,20 @@ checked-exactly words files lines status output text names = (
 -- or the run has none,
 pub unsolved-exactly : (words : List (List ℕ)) (files : Files) (lines : List (List ℕ)) (status : ℕ) → IsOutput words files lines status → (status ≡ unsolved_status) ↔ RunsTo words files IsUnsolved
 unsolved-exactly words files lines status output =
-    runs-exactly words files lines status unsolved_status IsUnsolved output (lit< tt) (lit< tt) (λ run is. run_status-one _ _ is)
+    runs-exactly words files lines status unsolved_status IsUnsolved output (lit< tt) (lit< tt) (λ run is. end_status-one _ _ is)
     (λ run fits. rw (fits.0, fits.1) refl)
 
 -- or ends with an exception,
 pub raised-exactly : (words : List (List ℕ)) (files : Files) (lines : List (List ℕ)) (status : ℕ) → IsOutput words files lines status → (status ≡ raised_status) ↔ RunsTo words files IsRaised
 raised-exactly words files lines status output =
-    runs-exactly words files lines status raised_status IsRaised output (lit< tt) (lit< tt) (λ run is. run_status-two _ _ is)
-    (λ run fits. rw fits.1 (sym (run_status-raised (length (answers_of run)) fits.0)))
+    runs-exactly words files lines status raised_status IsRaised output (lit< tt) (lit< tt) (λ run is. end_status-two _ _ is)
+    (λ run fits. rw fits.1 (sym (end_status-raised (length (answers_of run)) fits.0)))
 
 -- or passes the step limit;
 pub limit-exactly : (words : List (List ℕ)) (files : Files) (lines : List (List ℕ)) (status : ℕ) → IsOutput words files lines status → (status ≡ limit_status) ↔ RunsTo words files IsCutAtLimit
 limit-exactly words files lines status output =
-    runs-exactly words files lines status limit_status IsCutAtLimit output (lit< tt) (lit< tt) (λ run is. run_status-three _ _ is)
-    (λ run fits. rw fits (sym (run_status-limit (length (answers_of run)))))
+    runs-exactly words files lines status limit_status IsCutAtLimit output (lit< tt) (lit< tt) (λ run is. end_status-three _ _ is)
+    (λ run fits. rw fits (sym (end_status-limit (length (answers_of run)))))
 
 -- or the module breaks a rule, or the goal, or the words ask for nothing, or the file is too long.
 pub module_refused-exactly : (words : List (List ℕ)) (files : Files) (lines : List (List ℕ)) (status : ℕ) → IsOutput words files lines status → (status ≡ module_status) ↔ BreaksModule words files

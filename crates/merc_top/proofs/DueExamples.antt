@@ -5,10 +5,9 @@ use Rattle.std.specs.Fmt.{digits}
 use Rattle.std.specs.Str.{IsUtf8, is_utf8, chars}
 use Rattle.std.proofs.lemmas.Bool.{false≢true}
 use Rattle.std.proofs.lemmas.Str.{is_utf8-from_IsUtf8}
-use Rattle.merc_base.specs.Names.{fixed_names, colon_minus_name, module_name, import_module_name, comma_name, int_name, list_name, require_name}
+use Rattle.merc_base.specs.Names.{fixed_names, int_name}
 use Rattle.merc_base.specs.Refusal.{rule_number}
 use Rattle.merc_base.specs.declared.category.Category.TheVariants.{Det}
-use Rattle.merc_base.specs.declared.place.Span.{Span}
 use Rattle.merc_base.specs.declared.refusal.Refusal.{Refusal}
 use Rattle.merc_base.specs.declared.refusal.Fault.TheVariants.{Refused}
 use Rattle.merc_base.specs.declared.refusal.Rule.{Rule}
@@ -18,7 +17,7 @@ use Rattle.merc_base.proofs.NameLaws.{fixed_names-distinct}
 use Rattle.merc_tokens.specs.Faults.{ComesFirst, RefusesRightly}
 use Rattle.merc_tokens.specs.Faults.HasFaultFrom.{here}
 use Rattle.merc_tokens.specs.Faults.IsFaulty.{no_token}
-use Rattle.merc_tree.specs.Term.{Term, Application, none, more}
+use Rattle.merc_tree.specs.Term.{Term}
 use Rattle.merc_tree.specs.declared.declarations.Arg.TheVariants.{Input, Output}
 use Rattle.merc_tree.specs.declared.declarations.Clause.{Clause}
 use Rattle.merc_tree.specs.declared.declarations.Module.{Module}
@@ -37,16 +36,16 @@ use Rattle.merc_check.specs.Checked.Refuses.{no_module}
 use Rattle.merc_check.specs.Checked.RefusesQuery.{no_term}
 use Rattle.merc_base.proofs.NameExamples.{HoldsFixed-fixed}
 use Rattle.merc_check.proofs.CheckedLaws.{Refuses-excludes}
-use Rattle.merc_first_form.specs.Reading.{source_of, goal_of}
+use Rattle.merc_meaning.specs.Trace.{Run}
 use Rattle.merc_top.specs.declared.words.Request.TheVariants.{Solve, Check}
 use Rattle.merc_top.specs.Statuses.{accepted_status, solved_status, module_status, goal_status}
 use Rattle.merc_top.specs.Checking.{check_lines}
-use Rattle.merc_top.specs.Output.{AreRead, IsDue, IsCheckDue, IsRequestDue, text_of, refusal_line}
-use Rattle.merc_top.specs.Output.IsDue.{module_refused, goal_refused, module_outside, goal_outside, runs}
+use Rattle.merc_top.specs.Output.{IsAskedRun, IsDue, IsCheckDue, IsRequestDue, text_of, refusal_line, run_lines}
+use Rattle.merc_top.specs.Output.IsDue.{module_refused, goal_refused, runs}
 use Rattle.merc_top.specs.Output.IsCheckDue.{check_refused, check_accepted}
 use Rattle.merc_top.proofs.OutputLaws.{IsDue-unique, IsCheckDue-unique}
 use Rattle.merc_top.proofs.CheckingExamples.{mode, predicate, tree}
-use Rattle.merc_top.proofs.OutputExamples.{one, goal, IsRunDue-example}
+use Rattle.merc_top.proofs.OutputExamples.{one_answer}
 use Rattle.merc_top.proofs.Requests.{shown}
 use Rattle.merc_top.proofs.WordsExamples.{differ}
 
@@ -91,10 +90,10 @@ lone_byte = (
 pub lone_byte-refused : Refuses fixed_names (255 ∷ []) bad_token
 lone_byte-refused = no_module bad_token (no_items bad_token (bad_tokens bad_token lone_byte))
 
--- so no module
-pub AreRead-counterexample : (goal : List ℕ) (names : List (List ℕ)) (items : List Term) (term : Term) → AreRead (255 ∷ []) goal names items term → ⊥
-AreRead-counterexample _ names items term read =
-    Refuses-excludes fixed_names (255 ∷ []) fixed_names-distinct HoldsFixed-fixed read.file_names bad_token items read.found lone_byte-refused read.module_is
+-- so no run is asked over it
+pub IsAskedRun-counterexample : (goal : List ℕ) (names : List (List ℕ)) (variables : List ℕ) (asked : Run) → IsAskedRun (255 ∷ []) goal names variables asked → ⊥
+IsAskedRun-counterexample goal names variables asked is =
+    Refuses-excludes fixed_names (255 ∷ []) fixed_names-distinct HoldsFixed-fixed is.file_names bad_token is.items is.found lone_byte-refused is.module_is
 
 lone_byte-refused_goal : (names : List (List ℕ)) → RefusesGoalText names (255 ∷ []) bad_token
 unfolding goal_limit
@@ -153,27 +152,29 @@ one_text =
 abbrev pub first_output : List (List ℕ)
 first_output = codes "X = 5\n" ∷ codes "solutions 1\n" ∷ []
 
--- What follows is said of a file that is this module and of a goal that is read behind it.
-module _ (text : List ℕ) (names : List (List ℕ)) (items : List Term) (term : Term) (read : AreRead one_text text names items term) (source : source_of names items ≡ Some one) where
-  -- `add(2, 3, X)`
-  pub IsDue-runs : goal_of names one term ≡ Some goal → IsDue (codes "one.m") one_text text first_output solved_status
-  IsDue-runs is = runs names items term one goal first_output solved_status read source is IsRunDue-example
+-- a table of names in which the goal's variable has number 0; only the lines of the run look at it
+abbrev pub run_names : List (List ℕ)
+run_names = codes "X" ∷ []
 
-  pub IsDue-other_answer : goal_of names one term ≡ Some goal → (status : ℕ) → IsDue (codes "one.m") one_text text (codes "X = 6\n" ∷ codes "solutions 1\n" ∷ []) status → ⊥
-  IsDue-other_answer is status due =
-      let same = IsDue-unique _ _ _ _ _ _ _ due (IsDue-runs is) in
+first_lines : run_lines run_names (0 ∷ []) one_answer ≡ first_output
+unfolding digits
+first_lines = refl
+
+-- What follows is said where a goal asks for the run that has one step and one answer over that text.
+module _ (goal : List ℕ) (asked : IsAskedRun one_text goal run_names (0 ∷ []) one_answer) where
+  pub IsDue-runs : IsDue (codes "one.m") one_text goal first_output solved_status
+  IsDue-runs = subst (λ (lines : List (List ℕ)). IsDue (codes "one.m") one_text goal lines solved_status) first_lines (runs run_names (0 ∷ []) one_answer asked)
+
+  pub IsDue-other_answer : (status : ℕ) → IsDue (codes "one.m") one_text goal (codes "X = 6\n" ∷ codes "solutions 1\n" ∷ []) status → ⊥
+  IsDue-other_answer status due =
+      let same = IsDue-unique _ _ _ _ _ _ _ due IsDue-runs in
       differ 53 54 (omega arith) (sym (ap (λ (texts : List (List ℕ)). slice_index (text_of texts) 4) same.0))
 
-  -- a goal that is not of the first form
-  pub IsDue-goal_outside : goal_of names one term ≡ None → IsDue (codes "one.m") one_text text (codes "goal:1: rule 15: outside the profile: stage\n" ∷ []) goal_status
-  unfolding digits
-  IsDue-goal_outside outside = goal_outside names items term one read source outside
-
-  -- is not the file's fault
-  pub IsDue-goal_outside_alone : goal_of names one term ≡ None → (lines : List (List ℕ)) → IsDue (codes "one.m") one_text text lines module_status → ⊥
-  IsDue-goal_outside_alone outside lines due =
-      let same = IsDue-unique _ _ _ _ _ _ _ due (IsDue-goal_outside outside) in
-      differ module_status goal_status (omega arith) same.1
+  -- nor is the goal refused
+  pub IsDue-not_refused : (lines : List (List ℕ)) → IsDue (codes "one.m") one_text goal lines goal_status → ⊥
+  IsDue-not_refused lines due =
+      let same = IsDue-unique _ _ _ _ _ _ _ due IsDue-runs in
+      differ solved_status goal_status (omega arith) (sym same.1)
 
 -- its name and its predicate's behind the constants, and others behind those
 abbrev pub one_names : List (List ℕ) → List (List ℕ)
@@ -218,47 +219,3 @@ module _ (others : List (List ℕ)) (items : List Term) (library : List PredDecl
   IsCheckDue-not_refused lines due =
       let same = IsCheckDue-unique _ _ _ _ _ _ due IsCheckDue-accepted in
       differ accepted_status module_status (omega arith) (sym same.1)
-
--- ---- a module that does not run
-
-abbrev pub rows_text : List ℕ
-rows_text = text_of (codes ":- module rows.\n" ∷ codes ":- import_module int, list, require.\n" ∷ [])
-
-abbrev word : Span → ℕ → Term
-word span name = Application name None none span
-
-abbrev before : Span → ℕ → Term → Term
-before span name argument = Application name None (more argument none) span
-
-abbrev between : Span → ℕ → Term → Term → Term
-between span name left right = Application name None (more left (more right none)) span
-
--- its name behind the constants, and others behind that
-abbrev rows_names : List (List ℕ) → List (List ℕ)
-rows_names others = fixed_names ++ codes "rows" ∷ others
-
--- its items, wherever each term stands
-abbrev rows_items : (ℕ → Span) → List Term
-rows_items span =
-    before (span 0) colon_minus_name (before (span 1) module_name (word (span 2) (length fixed_names)))
-    ∷ before (span 3) colon_minus_name (before (span 4) import_module_name
-    (between (span 5) comma_name (word (span 6) int_name) (between (span 7) comma_name (word (span 8) list_name) (word (span 9) require_name))))
-    ∷ []
-
-rows_source : (others : List (List ℕ)) (span : ℕ → Span) → source_of (rows_names others) (rows_items span) ≡ None
-unfolding fixed_names
-rows_source others span = refl
-
-pub IsDue-module_outside : (others : List (List ℕ)) (span : ℕ → Span) (text : List ℕ) (term : Term)
-    → AreRead rows_text text (rows_names others) (rows_items span) term
-    → IsDue (codes "rows.m") rows_text text (codes "rows.m:1: rule 15: outside the profile: stage\n" ∷ []) module_status
-unfolding digits
-IsDue-module_outside others span text term read = module_outside _ _ _ read (rows_source others span)
-
--- it has no run either, whatever the goal is
-pub IsDue-module_outside_no_run : (others : List (List ℕ)) (span : ℕ → Span) (text : List ℕ) (term : Term)
-    → AreRead rows_text text (rows_names others) (rows_items span) term
-    → (lines : List (List ℕ)) → IsDue (codes "rows.m") rows_text text lines solved_status → ⊥
-IsDue-module_outside_no_run others span text term read lines due =
-    let same = IsDue-unique _ _ _ _ _ _ _ due (IsDue-module_outside others span text term read) in
-    differ solved_status module_status (omega arith) same.1

@@ -1,20 +1,39 @@
 -- What is due, over the files that a shelf tells, or over files that fit what was read.
 use Rattle.std.proofs.Common.{◌≡◌, ◌<◌, ◌≤◌, ◌⊎◌, ℕ, suc, zero, List, [], ◌∷◌, ap, sym, refl, subst, inl, inr, length, arith, lit<}
 use Rattle.std.proofs.lemmas.List.{length-replicate}
-use Rattle.std.specs.Prelude.{Option, Some, None, IfSome, replicate, if◌then◌else◌}
+use Rattle.std.specs.Prelude.{Option, Some, None, Ok, IfSome, replicate, if◌then◌else◌}
 use Rattle.std.proofs.lemmas.Slice.Eq.{bytes_eq-Decides}
 use Rattle.merc_base.specs.Outside.{Files, file_named}
+use Rattle.merc_base.specs.Names.{fixed_names}
 use Rattle.merc_base.specs.declared.refusal.Refusal.{Refusal}
-use Rattle.merc_tree.specs.Trace.{RunEnd, RunDone, RunRaised, LimitPassed}
+use Rattle.merc_tree.specs.Term.{Term}
+use Rattle.merc_tree.specs.declared.declarations.Module.{Module}
+use Rattle.merc_graded_tree.specs.Nodes.{Node}
+use Rattle.merc_meaning.specs.Programs.{program_with}
+use Rattle.merc_meaning.specs.Runs.{run}
+use Rattle.merc_code.specs.Meaning.{shown}
+use Rattle.merc_check.specs.Accepted.{AreGraded, IsGradedGoal, query_answers, query_names}
+use Rattle.merc_check.specs.Checked.{IsAccepted, IsGoal}
+use Rattle.merc_check.proofs.CheckedLaws.{IsGradedGoal-one}
+use Rattle.merc_meaning.specs.Trace.{Run, RunEnd, RunDone, RunRaised, LimitPassed}
 use Rattle.merc_top.specs.declared.words.Request.{Request}
 use Rattle.merc_top.specs.declared.words.Request.TheVariants.{Solve, Check}
-use Rattle.merc_top.specs.Words.{IsRequest, IsNoRequest, file_of, usage_line}
-use Rattle.merc_top.specs.Statuses.{usage_status, unread_status, too_long_status}
+use Rattle.merc_top.specs.Words.{IsRequest, IsSolve, IsCheck, IsNoRequest, file_of, usage_line}
+use Rattle.merc_top.specs.Statuses.{limit_status, usage_status, unread_status, too_long_status}
 use Rattle.merc_top.specs.Loading.{file_limit, IsTooLong}
-use Rattle.merc_top.specs.Output.{IsOutput, IsDue, IsCheckDue, IsRequestDue, FileOutput, run_status, refusal_line, too_long_line}
-use Rattle.merc_top.specs.Output.IsDue.{module_refused, goal_refused, module_outside, goal_outside, runs}
+use Rattle.merc_top.specs.Output.{IsAskedRun, IsOutput, IsDue, IsCheckDue, IsRequestDue, FileOutput, end_status, refusal_line, step_limit, too_long_line}
+use Rattle.merc_top.specs.Output.IsDue.{module_refused, goal_refused, runs}
 use Rattle.merc_top.specs.Output.IsCheckDue.{check_refused, check_accepted}
 use Rattle.merc_top.specs.Answer.{AreFiles}
+use Rattle.merc_top.specs.Counting.{AsksRun}
+use Rattle.merc_top.specs.declared.answering.Due.{Due}
+use Rattle.merc_top.specs.declared.answering.Found.{Found}
+use Rattle.merc_top.specs.declared.answering.Found.TheVariants.{Lines, Run as Runs}
+use Rattle.merc_top.specs.declared.solving.Ready.{Ready}
+use Rattle.merc_top.specs.Ready.{IsReady}
+use Rattle.merc_top.specs.Due.{Finds, IsCheckFound, IsRequestFound, IsSolveFound}
+use Rattle.merc_top.proofs.Requests.{solve-no_check}
+use Rattle.merc_top.proofs.OutputLaws.{module-distinct}
 
 -- the status of a text that is due
 abbrev pub IsDueStatus : ℕ → Type 0
@@ -24,35 +43,29 @@ IsDueStatus status = (status < unread_status) ⊎ (status ≡ too_long_status)
 abbrev pub IsDueOver : List (List ℕ) → Option Files → List (List ℕ) → ℕ → Type 0
 IsDueOver words told lines status = (files : Files) × AreFiles told files × IsOutput words files lines status
 
-run_status-small : (count : ℕ) (end : RunEnd) → run_status count end < unread_status
-run_status-small zero RunDone = lit< tt
-run_status-small (suc count) RunDone = lit< tt
-run_status-small zero (RunRaised text) = lit< tt
-run_status-small (suc count) (RunRaised text) = lit< tt
-run_status-small zero LimitPassed = lit< tt
-run_status-small (suc count) LimitPassed = lit< tt
+pub end_status-small : (count : ℕ) (end : RunEnd) → end_status count end < unread_status
+end_status-small zero RunDone = lit< tt
+end_status-small (suc count) RunDone = lit< tt
+end_status-small zero (RunRaised text) = lit< tt
+end_status-small (suc count) (RunRaised text) = lit< tt
+end_status-small zero LimitPassed = lit< tt
+end_status-small (suc count) LimitPassed = lit< tt
 
 due_status-small : (name file goal : List ℕ) (lines : List (List ℕ)) (status : ℕ) → IsDue name file goal lines status → status < unread_status
 due_status-small name file goal _ _ (module_refused _ _) = lit< tt
 due_status-small name file goal _ _ (goal_refused _ _ _ _ _ _) = lit< tt
-due_status-small name file goal _ _ (module_outside _ _ _ _ _) = lit< tt
-due_status-small name file goal _ _ (goal_outside _ _ _ _ _ _ _) = lit< tt
-due_status-small name file goal _ _ (runs _ _ _ _ _ lines status _ _ _ due) = subst (λ n. n < unread_status) (sym due.1) (run_status-small _ _)
+due_status-small name file goal _ _ (runs _ _ _ _) = end_status-small _ _
 
 check_status-small : (name file : List ℕ) (lines : List (List ℕ)) (status : ℕ) → IsCheckDue name file lines status → status < unread_status
 check_status-small name file _ _ (check_refused _ _) = lit< tt
 check_status-small name file _ _ (check_accepted _ _ _ _ _ _) = lit< tt
-
-request_status-small : (request : Request) (text : List ℕ) (lines : List (List ℕ)) (status : ℕ) → IsRequestDue request text lines status → status < unread_status
-request_status-small (Solve file goal) text lines status due = due_status-small file.now text goal.now lines status due
-request_status-small (Check file) text lines status due = check_status-small file.now text lines status due
 
 -- the one line of a refusal, by its parts
 pub line_by : (name name' : List ℕ) (refusal refusal' : Refusal) (line : List ℕ) → line ≡ refusal_line name refusal → name ≡ name' → refusal ≡ refusal' → line ∷ [] ≡ refusal_line name' refusal' ∷ []
 line_by name name' refusal refusal' line is same same' = rw (is, same, same') refl
 
 -- what is due, by its lines and its status
-pub due_by : (name file goal : List ℕ) (lines lines' : List (List ℕ)) (status status' : ℕ) → lines ≡ lines' → status ≡ status' → IsDue name file goal lines' status' → IsDue name file goal lines status
+due_by : (name file goal : List ℕ) (lines lines' : List (List ℕ)) (status status' : ℕ) → lines ≡ lines' → status ≡ status' → IsDue name file goal lines' status' → IsDue name file goal lines status
 due_by name file goal lines lines' status status' same same' due =
     subst (λ (ls : List (List ℕ)). IsDue name file goal ls status) (sym same) (subst (λ (n : ℕ). IsDue name file goal lines' n) (sym same') due)
 
@@ -76,43 +89,109 @@ some_files : (told : Option Files) → (files : Files) × AreFiles told files
 some_files None = ([], tt)
 some_files (Some files) = (files, refl)
 
-pub usage-due : (words : List (List ℕ)) (told : Option Files) (lines : List (List ℕ)) (status : ℕ) → IsNoRequest words
-    → lines ≡ usage_line ∷ [] → status ≡ usage_status → IsDueStatus status × IsDueOver words told lines status
-usage-due words told lines status none same is =
-    let files = some_files told in
-    (inl (omega (arith, is)), (files.0, files.1, inl (none, same, is)))
+-- the files that are told, or some, where a file has this text
+files_with : (told : Option Files) (name text : List ℕ) → IfSome told (λ files. file_named name files ≡ Some text) → (files : Files) × AreFiles told files × (file_named name files ≡ Some text)
+files_with None name text content = ((name, text) ∷ [], tt, named_alone name text)
+files_with (Some files) name text content = (files, refl, content)
 
-pub file-due : (words : List (List ℕ)) (told : Option Files) (request : Request) (text : List ℕ) (lines : List (List ℕ)) (status : ℕ)
-    → IsRequest words request → length text ≤ file_limit → IfSome told (λ files. file_named (file_of request) files ≡ Some text)
-    → IsRequestDue request text lines status → IsDueStatus status × IsDueOver words told lines status
-file-due words None request text lines status asked within content due = (
-  inl (request_status-small request text lines status due),
-  (
-    (file_of request, text) ∷ [],
-    tt,
-    inr (request, asked, subst (λ (some : Option (List ℕ)). FileOutput request some lines status) (sym (named_alone (file_of request) text)) (inr (within, due))),
-  ),
-)
-file-due words (Some files) request text lines status asked within content due = (
-  inl (request_status-small request text lines status due),
-  (files, refl, inr (request, asked, subst (λ (some : Option (List ℕ)). FileOutput request some lines status) (sym content) (inr (within, due)))),
-)
+-- Words that ask for nothing.
+pub usage-found : (words : List (List ℕ)) (told : Option Files) (before : ℕ) (due : Due) → IsNoRequest words → due.lines ≡ usage_line ∷ [] → due.status ≡ usage_status
+    → Finds words told before before (Ok (Lines due))
+usage-found words told before due none same is =
+    let files = some_files told in
+    (refl, inl (omega (arith, is)), (files.0, files.1, inl (none, same, is), λ _ _ _ _. omega (arith, is)))
+
+-- A file that was read.
+module _ (words : List (List ℕ)) (told : Option Files) (before now : ℕ) (text : List ℕ) (same : now ≡ before) (within : length text ≤ file_limit) where
+  output : (request : Request) (files : Files) (lines : List (List ℕ)) (status : ℕ) → IsRequest words request → file_named (file_of request) files ≡ Some text
+      → IsRequestDue request text lines status → IsOutput words files lines status
+  output request files lines status asked content due =
+      inr (request, asked, subst (λ (some : Option (List ℕ)). FileOutput request some lines status) (sym content) (inr (within, due)))
+
+  pub file-found : (request : Request) (found : Found) → IsRequest words request → IfSome told (λ files. file_named (file_of request) files ≡ Some text)
+      → IsRequestFound request text found → Finds words told before now (Ok found)
+  file-found (Solve file goal) (Lines due) asked content found =
+      let files = files_with told file.now text content in
+      (same, inl (due_status-small file.now text goal.now due.lines due.status found.1),
+      (files.0, files.1, output (Solve file goal) files.0 due.lines due.status asked files.2 found.1, λ _ _ _ _. found.0))
+  file-found (Solve file goal) (Runs ready) asked content (names, variables, run, run_is, is_ready) =
+      let files = files_with told file.now text content in
+      (same, (files.0, files.1, names, variables, run,
+      record { file = file.now; goal = goal.now; text = text; request = asked; content = files.2; within = within; run_is = run_is }, is_ready))
+  file-found (Check file) (Lines due) asked content found =
+      let files = files_with told file.now text content in
+      (same, inl (check_status-small file.now text due.lines due.status found),
+      (files.0, files.1, output (Check file) files.0 due.lines due.status asked files.2 found,
+      λ _ _ _ other. absurd (solve-no_check words other.file other.goal file.now other.request asked)))
+  file-found (Check file) (Runs ready) asked content found = absurd found
 
 too_long_content : (content : Option (List ℕ)) → IsTooLong content → (text : List ℕ) × (content ≡ Some text) × (file_limit < length text)
 too_long_content None long = absurd long
 too_long_content (Some text) long = (text, refl, long)
 
-pub too_long-due : (words : List (List ℕ)) (told : Option Files) (request : Request) (lines : List (List ℕ)) (status : ℕ)
+files_too_long : (told : Option Files) (name : List ℕ) → IfSome told (λ files. IsTooLong (file_named name files))
+    → (files : Files) × AreFiles told files × ((text : List ℕ) × (file_named name files ≡ Some text) × (file_limit < length text))
+files_too_long None name long = ((name, longer) ∷ [], tt, (longer, named_alone name longer, longer-past))
+files_too_long (Some files) name long = (files, refl, too_long_content (file_named name files) long)
+
+-- A file that is too long.
+pub too_long-found : (words : List (List ℕ)) (told : Option Files) (before now : ℕ) (request : Request) (due : Due) → now ≡ before
     → IsRequest words request → IfSome told (λ files. IsTooLong (file_named (file_of request) files))
-    → lines ≡ too_long_line (file_of request) ∷ [] → status ≡ too_long_status → IsDueStatus status × IsDueOver words told lines status
-too_long-due words None request lines status asked long same is = (
-  inr is,
-  (
-    (file_of request, longer) ∷ [],
-    tt,
-    inr (request, asked, subst (λ (some : Option (List ℕ)). FileOutput request some lines status) (sym (named_alone (file_of request) longer)) (inl (longer-past, same, is))),
-  ),
-)
-too_long-due words (Some files) request lines status asked long same is =
-    let content = too_long_content (file_named (file_of request) files) long in
-    (inr is, (files, refl, inr (request, asked, subst (λ (some : Option (List ℕ)). FileOutput request some lines status) (sym content.1) (inl (content.2, same, is)))))
+    → due.lines ≡ too_long_line (file_of request) ∷ [] → due.status ≡ too_long_status → Finds words told before now (Ok (Lines due))
+too_long-found words told before now request due same asked long lines is =
+    let files = files_too_long told (file_of request) long in (
+      same,
+      inr is,
+      (
+        files.0,
+        files.1,
+        inr (
+          request,
+          asked,
+          subst (λ (some : Option (List ℕ)). FileOutput request some due.lines due.status) (sym files.2.1) (inl (files.2.2, lines, is)),
+        ),
+        λ _ _ _ _. omega (arith, is),
+      ),
+    )
+
+-- ---- the run that is asked
+
+-- Given are an accepted file and an accepted goal over it, with their trees.
+module _ (text goal : List ℕ) (file_names names : List (List ℕ)) (items : List Term) (found : Module) (trees : List Node) (term : Term) (goals : List Node)
+    (module_is : IsAccepted fixed_names file_names text items found) (goal_is : IsGoal file_names names found goal term) (goal_trees : IsGradedGoal names found term goals) where
+  one_tree : (tree : Node) × (goals ≡ tree ∷ [])
+  one_tree =
+      IsGradedGoal-one file_names goal (module-distinct file_names text items found module_is) found fixed_names file_names text items module_is names term goal_is goals goal_trees
+
+  pub one-goal : length goals ≡ 1
+  one-goal = ap (λ (some : List Node). length some) one_tree.1
+
+  pub run-found : (name : List ℕ) (variables answers : List ℕ) (ready : Ready) → AreGraded file_names found trees → variables ≡ query_names names term → answers ≡ query_answers names found term
+      → ((tree : Node) → goals ≡ tree ∷ [] → IsReady names variables (shown answers (run (program_with found.preds trees) tree step_limit)) ready)
+      → IsSolveFound name text goal (Runs ready)
+  run-found name variables answers ready graded variables_are answers_are is_ready = (
+    names,
+    variables,
+    shown answers (run (program_with found.preds trees) one_tree.0 step_limit),
+    record {
+      file_names = file_names;
+      items = items;
+      found = found;
+      trees = trees;
+      term = term;
+      tree = one_tree.0;
+      module_is = module_is;
+      module_trees = graded;
+      goal_is = goal_is;
+      goal_tree = subst (λ (some : List Node). IsGradedGoal names found term some) one_tree.1 goal_trees;
+      variables_are = variables_are;
+      run_is = ap (λ (some : List ℕ). shown some (run (program_with found.preds trees) one_tree.0 step_limit)) answers_are;
+    },
+    is_ready one_tree.0 one_tree.1,
+  )
+
+-- What is wrong with the file, or with the goal, is said by a status that no run has.
+pub refused-found : (name text goal : List ℕ) (due : Due) (lines : List (List ℕ)) (status : ℕ) → due.lines ≡ lines → due.status ≡ status → limit_status < status → IsDue name text goal lines status
+    → IsSolveFound name text goal (Lines due)
+refused-found name text goal due lines status same same' above is =
+    (subst (λ (n : ℕ). limit_status < n) (sym same') above, due_by name text goal due.lines lines due.status status same same' is)

@@ -2,9 +2,8 @@ pub mod LoadingLemmas
 pub mod WritingLemmas
 pub mod LineLemmas
 pub mod CheckingLemmas
-pub mod Environments
-pub mod Resuming
-pub mod Outcomes
+pub mod RunLemmas
+pub mod ReadyLemmas
 pub mod Dues
 pub mod Requests
 pub mod OutputLaws

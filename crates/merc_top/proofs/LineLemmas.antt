@@ -1,19 +1,12 @@
 -- Bindings put behind each other.
-use Rattle.std.proofs.Common.{◌≡◌, ◌+◌, ◌<◌, ◌≤◌, ◌∙◌, ap, sym, refl, List, [], ◌∷◌, ◌++◌, ℕ, suc, zero, length, take, get_or, append_assoc, codes, arith, length-take, add-zero, Bor, take_all}
-use Rattle.std.specs.Prelude.{Option, Some, None, slice_get, unwrap_or, option_copied}
-use Rattle.std.specs.Option.{option_flatten, option_map}
+use Rattle.std.proofs.Common.{◌≡◌, ◌+◌, ◌<◌, ◌≤◌, ◌∙◌, ap, sym, refl, List, [], ◌∷◌, ◌++◌, ℕ, suc, zero, length, take, get_or, append_assoc, codes, arith, length-take, length-append, take_all}
+use Rattle.std.specs.Prelude.{◌==◌, true, false, Option, Some, None, slice_get, IfSome}
 use Rattle.std.proofs.lemmas.List.{take_more, append-nil}
-use Rattle.std.proofs.lemmas.Option.{unwrap_or-slice_get}
-use Rattle.merc_tree.specs.Value.{Value}
-use Rattle.merc_tree.specs.Trace.{Env}
-use Rattle.merc_tree.specs.Meaning.{value_at}
-use Rattle.merc_top.specs.Lines.{behind_commas, comma_list}
+use Rattle.std.proofs.lemmas.Option.{same_Some, slice_get_within}
+use Rattle.merc_value.specs.Value.{Value}
+use Rattle.merc_value.specs.Text.{text_at, value_text}
+use Rattle.merc_top.specs.Lines.{behind_commas, comma_list, joined}
 use Rattle.merc_top.specs.Output.{binding, bindings}
-
--- these texts with a comma and a blank between each two
-abbrev pub joined : List (List ℕ) → List ℕ
-joined [] = []
-joined (text ∷ texts) = text ++ behind_commas texts
 
 -- what stands before the text at this place
 abbrev pub separator_at : ℕ → List ℕ
@@ -41,59 +34,96 @@ joined-more texts k text below same =
     ∙ ap (λ t. joined (take k texts ++ t ∷ [])) same
     ∙ ap joined (sym (take_more texts k [] below))
 
-pub length-bindings : (number : ℕ) (names : List (List ℕ)) (env : Env) → length (bindings number names env) ≡ length names
-length-bindings number [] env = refl
-length-bindings number (name ∷ names) env = ap suc (length-bindings (number + 1) names env)
+-- as many bindings as variables and as values
+pub bindings-within : (names : List (List ℕ)) (variables : List ℕ) (values : List Value) (k : ℕ) → k < length variables → k < length values → k < length (bindings names variables values)
+bindings-within names [] values k below within = absurd (omega (arith, below))
+bindings-within names (variable ∷ variables) [] k below within = absurd (omega (arith, within))
+bindings-within names (variable ∷ variables) (value ∷ values) zero below within = omega arith
+bindings-within names (variable ∷ variables) (value ∷ values) (suc k) below within =
+    let more = bindings-within names variables values k (omega (arith, below)) (omega (arith, within)) in
+    omega (arith, more)
+
+pub bindings-no_more : (names : List (List ℕ)) (variables : List ℕ) (values : List Value) → length (bindings names variables values) ≤ length variables
+bindings-no_more names [] values = omega arith
+bindings-no_more names (variable ∷ variables) [] = omega arith
+bindings-no_more names (variable ∷ variables) (value ∷ values) = let rest = bindings-no_more names variables values in omega (arith, rest)
+
+pub bindings-no_others : (names : List (List ℕ)) (variables : List ℕ) (values : List Value) → length (bindings names variables values) ≤ length values
+bindings-no_others names [] values = omega arith
+bindings-no_others names (variable ∷ variables) [] = omega arith
+bindings-no_others names (variable ∷ variables) (value ∷ values) = let rest = bindings-no_others names variables values in omega (arith, rest)
 
 -- the binding at a place
-pub get_or-bindings : (number : ℕ) (names : List (List ℕ)) (env : Env) (k : ℕ) → k < length names
-    → get_or (bindings number names env) k [] ≡ binding (get_or names k []) (value_at env (number + k))
-get_or-bindings number [] env k below = absurd (omega arith)
-get_or-bindings number (name ∷ names) env zero below = ap (λ n. binding name (value_at env n)) (sym (add-zero number))
-get_or-bindings number (name ∷ names) env (suc k) below =
-    let same : (number + 1) + k ≡ number + suc k = omega arith in
-    get_or-bindings (number + 1) names env k (omega arith) ∙ ap (λ n. binding (get_or names k []) (value_at env n)) same
+pub binding-at : (names : List (List ℕ)) (variables : List ℕ) (values : List Value) (k variable : ℕ) (value : Value) → slice_get variables k ≡ Some variable → slice_get values k ≡ Some value
+    → binding names variable value ≡ get_or (bindings names variables values) k []
+binding-at names [] values k variable value is at = cc
+binding-at names (first ∷ variables) [] k variable value is at = cc
+binding-at names (first ∷ variables) (known ∷ values) zero variable value is at =
+    ap (λ (some : ℕ). binding names some value) (sym (same_Some first variable is)) ∙ ap (λ (some : Value). binding names first some) (sym (same_Some known value at))
+binding-at names (first ∷ variables) (known ∷ values) (suc k) variable value is at = binding-at names variables values k variable value is at
 
--- what a look-up by place says of a name
-pub name_at : (names : List (List ℕ)) (k : ℕ) (found : Option (Bor (List ℕ))) (other : Bor (List ℕ))
-    → option_copied found ≡ slice_get names k → other.now ≡ [] → (unwrap_or found other).now ≡ get_or names k []
-name_at names k None other copied empty = empty ∙ ap (λ o. unwrap_or o []) copied ∙ unwrap_or-slice_get names k []
-name_at names k (Some name) other copied empty = ap (λ o. unwrap_or o []) copied ∙ unwrap_or-slice_get names k []
+-- a binding has a text
+binding-some : (names : List (List ℕ)) (variable : ℕ) (value : Value) → 0 < length (binding names variable value)
+binding-some names variable value =
+    omega (arith, length-append (text_at names variable) (codes " = " ++ value_text names value), length-append (codes " = ") (value_text names value))
 
--- the line of no names, or of some
-pub comma_list-joined : (texts : List (List ℕ)) → 0 < length texts → comma_list texts ≡ joined texts
-comma_list-joined [] some = absurd (omega arith)
-comma_list-joined (text ∷ texts) some = refl
+-- The line of no bindings is empty, and no other is.
+pub line-of_none : (names : List (List ℕ)) (variables : List ℕ) (values : List Value) (text : List ℕ) → text ≡ joined (bindings names variables values) → length text ≡ 0
+    → text ++ codes "true" ≡ comma_list (bindings names variables values)
+line-of_none names [] values text is empty = ap (λ (l : List ℕ). l ++ codes "true") is
+line-of_none names (variable ∷ variables) [] text is empty = ap (λ (l : List ℕ). l ++ codes "true") is
+line-of_none names (variable ∷ variables) (value ∷ values) text is empty =
+    let rest = behind_commas (bindings names variables values) in
+    absurd (omega (arith, empty, ap (λ (l : List ℕ). length l) is, length-append (binding names variable value) rest, binding-some names variable value))
 
-value_at-get_or : (env : Env) (number : ℕ) → value_at env number ≡ get_or env number None
-value_at-get_or [] number = refl
-value_at-get_or (entry ∷ env) zero = refl
-value_at-get_or (entry ∷ env) (suc number) = value_at-get_or env number
+pub line-of_some : (names : List (List ℕ)) (variables : List ℕ) (values : List Value) (text : List ℕ) → text ≡ joined (bindings names variables values) → 0 < length text
+    → text ≡ comma_list (bindings names variables values)
+line-of_some names [] values text is some = absurd (omega (arith, some, ap (λ (l : List ℕ). length l) is))
+line-of_some names (variable ∷ variables) [] text is some = absurd (omega (arith, some, ap (λ (l : List ℕ). length l) is))
+line-of_some names (variable ∷ variables) (value ∷ values) text is some = is
 
-flattened : (found : Option (Bor (Option Value))) → option_flatten (option_copied found) ≡ unwrap_or (option_map (λ entry. entry.now) found) None
-flattened None = refl
-flattened (Some entry) = refl
+pub item_there : {A : Type 0} (items : List A) (k : ℕ) (item : A) → k < length items → item ≡ get_or items k item → slice_get items k ≡ Some item
+item_there [] k item below is = absurd (omega (arith, below))
+item_there (first ∷ items) zero item below is = ap (λ some. Some some) (sym is)
+item_there (first ∷ items) (suc k) item below is = item_there items k item (omega (arith, below)) is
 
--- what a look-up by place says of a value
-pub value_found : (env : Env) (number : ℕ) (found : Option (Bor (Option Value)))
-    → unwrap_or (option_map (λ entry. entry.now) found) None ≡ get_or env number None
-    → option_flatten (option_copied found) ≡ value_at env number
-value_found env number found read = flattened found ∙ read ∙ sym (value_at-get_or env number)
+pub value_there : {A : Type 0} (items : List A) (k : ℕ) → k < length items → (item : A) × (slice_get items k ≡ Some item)
+value_there [] k below = absurd (omega (arith, below))
+value_there (item ∷ items) zero below = (item, refl)
+value_there (item ∷ items) (suc k) below = value_there items k (omega (arith, below))
 
-take_nothing : (k : ℕ) → take {A = List ℕ} k [] ≡ []
-take_nothing zero = refl
-take_nothing (suc k) = refl
+pub some_holds : {A : Type 0} (found : Option A) (P : A → Type 0) (item : A) → found ≡ Some item → IfSome found P → P item
+some_holds None P item is holds = cc
+some_holds (Some other) P item is holds = subst P (same_Some other item is) holds
 
--- the whole line, where there is no name
-pub line_without : (names : List (List ℕ)) (env : Env) (number : ℕ) (line : List ℕ) → length names ≡ 0
-    → line ≡ joined (take number (bindings 0 names env)) → line ++ codes "true" ≡ comma_list (bindings 0 names env)
-line_without [] env number line none same = ap (λ l. l ++ codes "true") (same ∙ ap joined (take_nothing number))
-line_without (name ∷ names) env number line none same = absurd (omega arith)
+pub empty_text : (text : List ℕ) → (length text == 0) ≡ true → length text ≡ 0
+empty_text [] is = refl
+empty_text (byte ∷ text) is = cc
 
--- the whole line, where there are names
-pub line_with : (names : List (List ℕ)) (env : Env) (number : ℕ) (line : List ℕ) → 0 < length names → length names ≤ number
-    → line ≡ joined (take number (bindings 0 names env)) → line ≡ comma_list (bindings 0 names env)
-line_with names env number line some past same =
-    let count = length-bindings 0 names env in
-    let all : take number (bindings 0 names env) ≡ bindings 0 names env = take_all number (bindings 0 names env) (omega (arith, count)) in
-    same ∙ ap joined all ∙ sym (comma_list-joined (bindings 0 names env) (omega (arith, count)))
+pub some_text : (text : List ℕ) → (length text == 0) ≡ false → 0 < length text
+some_text [] is = cc
+some_text (byte ∷ text) is = omega arith
+
+-- Given is a line that goes on with the bindings before one.
+module _ (names : List (List ℕ)) (variables : List ℕ) (values : List Value) (old line : List ℕ) (k : ℕ) (so_far : line ≡ old ++ joined (take k (bindings names variables values))) where
+  -- with that one it goes on with one more,
+  pub bindings-step : (variable : ℕ) (value : Value) (separator separated bound : List ℕ) → slice_get variables k ≡ Some variable → slice_get values k ≡ Some value → separator ≡ separator_at k
+      → separated ≡ line ++ separator → bound ≡ separated ++ binding names variable value → bound ≡ old ++ joined (take (k + 1) (bindings names variables values))
+  bindings-step variable value separator separated bound is at separates separated_is bound_is =
+      let all = bindings names variables values in
+      let text = binding names variable value in
+      bound_is ∙ ap (λ (l : List ℕ). l ++ text) (separated_is ∙ ap (λ (l : List ℕ). l ++ separator) so_far ∙ ap (λ (s : List ℕ). (old ++ joined (take k all)) ++ s) separates)
+      ∙ ap (λ (l : List ℕ). l ++ text) (append_assoc old (joined (take k all)) (separator_at k))
+      ∙ append_assoc old (joined (take k all) ++ separator_at k) text
+      ∙ ap (λ (l : List ℕ). old ++ l)
+      (joined-more all k text (bindings-within names variables values k (slice_get_within variables k variable is) (slice_get_within values k value at)) (binding-at names variables values k variable value is at))
+
+  -- and behind the last it goes on with all.
+  all_taken : length (bindings names variables values) ≤ k → line ≡ old ++ joined (bindings names variables values)
+  all_taken past = so_far ∙ ap (λ (texts : List (List ℕ)). old ++ joined texts) (take_all k (bindings names variables values) past)
+
+  pub bindings-variables_end : length variables ≤ k → line ≡ old ++ joined (bindings names variables values)
+  bindings-variables_end past = all_taken (omega (arith, past, bindings-no_more names variables values))
+
+  pub bindings-values_end : length values ≤ k → line ≡ old ++ joined (bindings names variables values)
+  bindings-values_end past = all_taken (omega (arith, past, bindings-no_others names variables values))

@@ -2,23 +2,32 @@
 use Rattle.std.specs.Prelude.{◌≡◌, ◌*◌, ℕ, pos, negsuc, List, [], ◌∷◌, length, Some, None, codes, refl}
 use Rattle.std.proofs.Common.{arith, slice_index, ap, sym}
 use Rattle.std.specs.Fmt.{decimal, digits}
+use Rattle.merc_base.specs.Names.{division_by_zero_name, fixed_names, nil_name}
+use Rattle.merc_base.specs.declared.category.Category.TheVariants.{Det}
+use Rattle.merc_base.specs.declared.place.Span.{Span}
+use Rattle.merc_base.specs.declared.refusal.Refusal.{Refusal}
 use Rattle.merc_base.specs.declared.refusal.Rule.TheVariants.{BadToken}
 use Rattle.merc_base.specs.declared.refusal.Detail.TheVariants.{Plain}
-use Rattle.merc_tree.specs.Value.{Int}
-use Rattle.merc_tree.specs.Trace.{Env, Run, Ends, Tick, Answer, RunDone, RunRaised, LimitPassed}
-use Rattle.merc_tree.specs.Meaning.{run}
-use Rattle.merc_first_form.specs.declared.syntax.Operand.TheVariants.{Variable, Number}
-use Rattle.merc_first_form.specs.declared.syntax.Expression.TheVariants.{Sum}
-use Rattle.merc_first_form.specs.declared.syntax.Conjunct.{Conjunct}
-use Rattle.merc_first_form.specs.declared.syntax.Conjunct.TheVariants.{Equation, Call}
-use Rattle.merc_first_form.specs.declared.syntax.Mode.TheVariants.{Input, Output}
-use Rattle.merc_first_form.specs.declared.syntax.Predicate.{Predicate}
-use Rattle.merc_first_form.specs.declared.syntax.Source.{Source}
-use Rattle.merc_first_form.specs.FlatForm.{procedures_of, query_of}
+use Rattle.merc_tree.specs.declared.declarations.Arg.TheVariants.{Input, Output}
+use Rattle.merc_tree.specs.declared.declarations.PredDecl.{PredDecl}
+use Rattle.merc_value.specs.Value.{Value, Int, Con, none}
+use Rattle.merc_value.specs.Text.{word_operators}
+use Rattle.merc_goal_tree.specs.declared.goal.Operation.TheVariants.{Add}
+use Rattle.merc_goal_tree.specs.declared.goal.Symbol.TheVariants.{Integer}
+use Rattle.merc_graded_tree.specs.declared.basic.BasicGoal.{BasicGoal}
+use Rattle.merc_graded_tree.specs.declared.basic.BasicGoal.TheVariants.{Arithmetic, Build, Call}
+use Rattle.merc_graded_tree.specs.declared.entries.Running.TheVariants.{Sequential}
+use Rattle.merc_graded_tree.specs.Nodes.{Node, node, Basic, Conjunction, nodes_of}
+use Rattle.merc_meaning.specs.Trace.{Env, Run, Ends, Tick, Answer, RunDone, RunRaised, LimitPassed}
+use Rattle.merc_meaning.specs.Programs.{program_with}
+use Rattle.merc_meaning.specs.Runs.{run}
+use Rattle.merc_code.specs.Meaning.{shown}
 use Rattle.merc_top.specs.Loading.{file_limit}
+use Rattle.merc_top.specs.Runs.{answers_of, end_of, steps_of}
 use Rattle.merc_top.specs.Statuses.{solved_status, unsolved_status, raised_status, limit_status}
-use Rattle.merc_top.specs.Lines.{line, behind_commas, comma_list}
-use Rattle.merc_top.specs.Output.{value_text, binding, bindings, solution_line, end_line, run_status, run_lines, text_of, refusal_line, stage_refusal, too_long_line, step_limit, run_of, IsRunDue}
+use Rattle.merc_top.specs.Lines.{line, behind_commas, comma_list, joined}
+use Rattle.merc_top.specs.Output.{binding, bindings, solution_line, end_line, end_status, run_status, run_lines, text_of, refusal_line, too_long_line, step_limit}
+use Rattle.merc_top.proofs.CheckingExamples.{mode, predicate}
 use Rattle.merc_top.proofs.WordsExamples.{differ}
 
 -- ---- lines
@@ -29,38 +38,40 @@ line-example = refl
 pub line-counterexample : line (codes "true") ≡ codes "true" → ⊥
 line-counterexample same = cc
 
-pub value_text-example : value_text (Some (Int (pos 5))) ≡ codes "5"
-unfolding digits
-value_text-example = refl
+-- texts of names
+abbrev names : List (List ℕ)
+names = codes "X" ∷ codes "Y" ∷ codes "no row" ∷ []
 
-pub value_text-negative : value_text (Some (Int (negsuc 11))) ≡ codes "-12"
-unfolding digits
-value_text-negative = refl
+abbrev x : ℕ
+x = 0
 
-pub value_text-none : value_text None ≡ []
-value_text-none = refl
+abbrev y : ℕ
+y = 1
 
-pub value_text-counterexample : value_text (Some (Int (pos 5))) ≡ codes "05" → ⊥
-unfolding digits
-value_text-counterexample same = cc
+abbrev no_row : ℕ
+no_row = 2
 
-pub binding-example : binding (codes "X") (Some (Int (pos 5))) ≡ codes "X = 5"
+abbrev int : ℕ → Value
+int number = Int (pos number)
+
+pub binding-example : binding names x (int 5) ≡ codes "X = 5"
 unfolding digits
 binding-example = refl
 
-pub binding-counterexample : binding (codes "X") (Some (Int (pos 5))) ≡ codes "X=5" → ⊥
+pub binding-negative : binding names y (Int (negsuc 11)) ≡ codes "Y = -12"
+unfolding digits
+binding-negative = refl
+
+pub binding-counterexample : binding names x (int 5) ≡ codes "X=5" → ⊥
 unfolding digits
 binding-counterexample same = cc
 
--- the names stand for the first variables, whatever the others are
-abbrev env : Env
-env = Some (Int (pos 4)) ∷ Some (Int (pos 8)) ∷ Some (Int (pos 3)) ∷ []
-
-pub bindings-example : bindings 0 (codes "Y" ∷ codes "X" ∷ []) env ≡ codes "Y = 4" ∷ codes "X = 8" ∷ []
+pub bindings-example : bindings names (y ∷ x ∷ []) (int 4 ∷ int 8 ∷ []) ≡ codes "Y = 4" ∷ codes "X = 8" ∷ []
 unfolding digits
 bindings-example = refl
 
-pub bindings-counterexample : bindings 0 (codes "Y" ∷ codes "X" ∷ []) env ≡ codes "Y = 4" ∷ codes "X = 4" ∷ [] → ⊥
+-- each variable has its own value
+pub bindings-counterexample : bindings names (y ∷ x ∷ []) (int 4 ∷ int 8 ∷ []) ≡ codes "Y = 4" ∷ codes "X = 4" ∷ [] → ⊥
 unfolding digits
 bindings-counterexample same = differ 52 56 (omega arith) (sym (ap (λ (texts : List (List ℕ)). slice_index (text_of texts) 9) same))
 
@@ -76,69 +87,123 @@ comma_list-example = refl
 pub comma_list-counterexample : comma_list (codes "a" ∷ codes "b" ∷ []) ≡ codes "a, b, " → ⊥
 comma_list-counterexample same = cc
 
-pub solution_line-example : solution_line (codes "X" ∷ []) (Some (Int (pos 5)) ∷ []) ≡ codes "X = 5\n"
+pub joined-example : joined (codes "a" ∷ codes "b" ∷ []) ≡ codes "a, b"
+joined-example = refl
+
+pub joined-counterexample : joined [] ≡ codes "true" → ⊥
+joined-counterexample same = cc
+
+pub solution_line-example : solution_line names (x ∷ []) (Some (int 5) ∷ []) ≡ codes "X = 5\n"
 unfolding digits
 solution_line-example = refl
 
-pub solution_line-two : solution_line (codes "Y" ∷ codes "X" ∷ []) env ≡ codes "Y = 4, X = 8\n"
+pub solution_line-two : solution_line names (y ∷ x ∷ []) (Some (int 4) ∷ Some (int 8) ∷ []) ≡ codes "Y = 4, X = 8\n"
 unfolding digits
 solution_line-two = refl
 
-pub solution_line-negative : solution_line (codes "X" ∷ []) (Some (Int (negsuc 4)) ∷ []) ≡ codes "X = -5\n"
-unfolding digits
-solution_line-negative = refl
+-- a goal without answer variables
+pub solution_line-no_variables : solution_line names [] [] ≡ codes "true\n"
+solution_line-no_variables = refl
 
--- a goal without variables
-pub solution_line-no_names : solution_line [] env ≡ codes "true\n"
-solution_line-no_names = refl
+-- a variable without a value
+pub solution_line-no_value : solution_line names (x ∷ []) (None ∷ []) ≡ codes "X = []\n"
+unfolding nil_name
+solution_line-no_value = refl
 
-pub solution_line-no_line_end : solution_line (codes "X" ∷ []) (Some (Int (pos 5)) ∷ []) ≡ codes "X = 5" → ⊥
+pub solution_line-no_line_end : solution_line names (x ∷ []) (Some (int 5) ∷ []) ≡ codes "X = 5" → ⊥
 unfolding digits
 solution_line-no_line_end same = cc
 
-pub end_line-example : end_line 12 RunDone ≡ codes "solutions 12\n"
+pub end_line-example : end_line names 12 RunDone ≡ codes "solutions 12\n"
 unfolding digits
 end_line-example = refl
 
-pub end_line-raised : end_line 2 (RunRaised (codes "no row")) ≡ codes "uncaught exception: no row\n"
+pub end_line-raised : end_line names 2 (RunRaised no_row) ≡ codes "uncaught exception: no row\n"
 end_line-raised = refl
 
-pub end_line-limit : end_line 2 LimitPassed ≡ codes "step limit passed\n"
+pub end_line-limit : end_line names 2 LimitPassed ≡ codes "step limit passed\n"
 end_line-limit = refl
 
-pub end_line-no_line_end : end_line 1 RunDone ≡ codes "solutions 1" → ⊥
+pub end_line-no_line_end : end_line names 1 RunDone ≡ codes "solutions 1" → ⊥
 unfolding digits
 end_line-no_line_end same = differ 11 12 (omega arith) (sym (ap (λ (text : List ℕ). length text) same))
 
-pub run_status-example : run_status 2 RunDone ≡ solved_status
-run_status-example = refl
+-- the exception's text is no value in quotes
+pub end_line-no_quotes : end_line names 1 (RunRaised no_row) ≡ codes "uncaught exception: \"no row\"\n" → ⊥
+end_line-no_quotes same = differ 27 29 (omega arith) (ap (λ (text : List ℕ). length text) same)
 
-pub run_status-no_solution : run_status 0 RunDone ≡ unsolved_status
-run_status-no_solution = refl
+pub end_status-example : end_status 2 RunDone ≡ solved_status
+end_status-example = refl
 
-pub run_status-raised : run_status 2 (RunRaised (codes "no row")) ≡ raised_status
-run_status-raised = refl
+pub end_status-no_solution : end_status 0 RunDone ≡ unsolved_status
+end_status-no_solution = refl
 
-pub run_status-limit : run_status 2 LimitPassed ≡ limit_status
-run_status-limit = refl
+pub end_status-raised : end_status 2 (RunRaised no_row) ≡ raised_status
+end_status-raised = refl
 
-pub run_status-counterexample : run_status 0 RunDone ≡ solved_status → ⊥
-run_status-counterexample same = cc
+pub end_status-limit : end_status 2 LimitPassed ≡ limit_status
+end_status-limit = refl
 
--- a step, and one answer
-abbrev one_answer : Run
-one_answer = Tick (Answer env (Ends RunDone))
+pub end_status-counterexample : end_status 0 RunDone ≡ solved_status → ⊥
+end_status-counterexample same = cc
 
-pub run_lines-example : run_lines (codes "Y" ∷ []) one_answer ≡ codes "Y = 4\n" ∷ codes "solutions 1\n" ∷ []
+-- ---- runs
+
+-- two steps and two answers
+abbrev two_answers : Run
+two_answers = Tick (Answer (Some (int 4) ∷ []) (Tick (Answer (Some (int 8) ∷ []) (Ends RunDone))))
+
+pub answers_of-example : answers_of two_answers ≡ (Some (int 4) ∷ []) ∷ (Some (int 8) ∷ []) ∷ []
+answers_of-example = refl
+
+pub answers_of-counterexample : answers_of two_answers ≡ (Some (int 8) ∷ []) ∷ (Some (int 4) ∷ []) ∷ [] → ⊥
+answers_of-counterexample same = cc
+
+pub end_of-example : end_of two_answers ≡ RunDone
+end_of-example = refl
+
+pub end_of-counterexample : end_of two_answers ≡ LimitPassed → ⊥
+end_of-counterexample same = cc
+
+pub steps_of-example : steps_of two_answers ≡ 2
+steps_of-example = refl
+
+-- an answer is no step
+pub steps_of-counterexample : steps_of (Answer [] (Ends RunDone)) ≡ 1 → ⊥
+steps_of-counterexample same = cc
+
+pub run_lines-example : run_lines names (y ∷ []) two_answers ≡ codes "Y = 4\n" ∷ codes "Y = 8\n" ∷ codes "solutions 2\n" ∷ []
 unfolding digits
 run_lines-example = refl
 
-pub run_lines-none : run_lines (codes "Y" ∷ []) (Tick (Ends RunDone)) ≡ codes "solutions 0\n" ∷ []
+pub run_status-example : run_status two_answers ≡ solved_status
+run_status-example = refl
+
+pub run_lines-none : run_lines names (y ∷ []) (Tick (Ends RunDone)) ≡ codes "solutions 0\n" ∷ []
 unfolding digits
 run_lines-none = refl
 
--- a solution without the line that ends the run
-pub run_lines-counterexample : run_lines (codes "Y" ∷ []) one_answer ≡ codes "Y = 4\n" ∷ [] → ⊥
+pub run_status-none : run_status (Tick (Ends RunDone)) ≡ unsolved_status
+run_status-none = refl
+
+-- an exception behind an answer
+pub run_lines-raised : run_lines names (y ∷ []) (Answer (Some (int 4) ∷ []) (Ends (RunRaised no_row))) ≡ codes "Y = 4\n" ∷ codes "uncaught exception: no row\n" ∷ []
+unfolding digits
+run_lines-raised = refl
+
+pub run_status-raised : run_status (Answer (Some (int 4) ∷ []) (Ends (RunRaised no_row))) ≡ raised_status
+run_status-raised = refl
+
+-- the step limit behind an answer
+pub run_lines-limit : run_lines names (y ∷ []) (Answer (Some (int 4) ∷ []) (Ends LimitPassed)) ≡ codes "Y = 4\n" ∷ codes "step limit passed\n" ∷ []
+unfolding digits
+run_lines-limit = refl
+
+pub run_status-counterexample : run_status (Answer (Some (int 4) ∷ []) (Ends LimitPassed)) ≡ solved_status → ⊥
+run_status-counterexample same = cc
+
+-- the line that ends the run is missing
+pub run_lines-counterexample : run_lines names (y ∷ []) (Answer (Some (int 4) ∷ []) (Ends LimitPassed)) ≡ codes "Y = 4\n" ∷ [] → ⊥
 unfolding digits
 run_lines-counterexample same = cc
 
@@ -148,22 +213,21 @@ text_of-example = refl
 pub text_of-counterexample : text_of (codes "X = 5" ∷ codes "true" ∷ []) ≡ codes "X = 5\ntrue" → ⊥
 text_of-counterexample same = cc
 
-pub refusal_line-example : refusal_line (codes "rows.m") stage_refusal ≡ codes "rows.m:1: rule 15: outside the profile: stage\n"
+abbrev bad_token : Refusal
+bad_token = record { rule = BadToken; place = record { byte = 7; line = 2 }; detail = Plain }
+
+pub refusal_line-example : refusal_line (codes "bad.m") bad_token ≡ codes "bad.m:2: rule 1: bad token\n"
 unfolding digits
 refusal_line-example = refl
 
-pub refusal_line-goal : refusal_line (codes "goal") stage_refusal ≡ codes "goal:1: rule 15: outside the profile: stage\n"
+pub refusal_line-goal : refusal_line (codes "goal") bad_token ≡ codes "goal:2: rule 1: bad token\n"
 unfolding digits
 refusal_line-goal = refl
 
-pub refusal_line-rule : refusal_line (codes "bad.m") (record { rule = BadToken; place = record { byte = 7; line = 2 }; detail = Plain }) ≡ codes "bad.m:2: rule 1: bad token\n"
-unfolding digits
-refusal_line-rule = refl
-
 -- the line's number is missing
-pub refusal_line-counterexample : refusal_line (codes "goal") stage_refusal ≡ codes "goal: rule 15: outside the profile: stage\n" → ⊥
+pub refusal_line-counterexample : refusal_line (codes "goal") bad_token ≡ codes "goal: rule 1: bad token\n" → ⊥
 unfolding digits
-refusal_line-counterexample same = differ 32 49 (omega arith) (sym (ap (λ (text : List ℕ). slice_index text 5) same))
+refusal_line-counterexample same = differ 32 50 (omega arith) (sym (ap (λ (text : List ℕ). slice_index text 5) same))
 
 pub too_long_line-example : too_long_line (codes "rows.m") ≡ codes "rows.m: longer than 1048576 bytes\n"
 too_long_line-example = refl
@@ -176,59 +240,42 @@ pub too_long_line-limit : decimal file_limit ≡ codes "1048576"
 unfolding digits file_limit
 too_long_line-limit = refl
 
--- ---- runs
-
-abbrev add : Predicate
-add = record {
-  name = codes "add";
-  modes = Input ∷ Input ∷ Output ∷ [];
-  head = codes "X" ∷ codes "Y" ∷ codes "Z" ∷ [];
-  body = Equation (codes "Z") (Sum (Variable (codes "X")) (Variable (codes "Y"))) ∷ [];
-}
-
-abbrev pub one : Source
-one = record { name = codes "one"; predicates = add ∷ [] }
-
-abbrev pub goal : List Conjunct
-goal = Call (codes "add") (Number (pos 2) ∷ Number (pos 3) ∷ Variable (codes "X") ∷ []) ∷ []
+-- ---- the run that is asked
 
 pub step_limit-example : step_limit ≡ 1000 * 1000
 unfolding step_limit
 step_limit-example = refl
 
-pub run_of-example : run_of one goal ≡ Tick (Answer (Some (Int (pos 5)) ∷ Some (Int (pos 2)) ∷ Some (Int (pos 3)) ∷ []) (Ends RunDone))
-unfolding run_of run step_limit
-run_of-example = refl
+abbrev nowhere : Span
+nowhere = record { first = 0; past = 0; line = 1 }
 
-pub IsRunDue-example : IsRunDue (codes "X" ∷ []) (run_of one goal) (codes "X = 5\n" ∷ codes "solutions 1\n" ∷ []) solved_status
-unfolding run_of run step_limit digits
-IsRunDue-example = (refl, refl)
+abbrev basic : BasicGoal → List ℕ → Node
+basic goal outputs = node (Basic goal) outputs (Some Det) nowhere
 
--- a run that brought a solution
-pub IsRunDue-counterexample : IsRunDue (codes "X" ∷ []) (run_of one goal) (codes "X = 5\n" ∷ codes "solutions 1\n" ∷ []) unsolved_status → ⊥
-unfolding run_of run step_limit
-IsRunDue-counterexample due = let status : ◌≡◌ {A = ℕ} 1 0 = due.1 in cc
+-- `add(X, Y, Z) :- Z = X + Y.`
+abbrev pub adding : List PredDecl
+adding = predicate 0 (mode (Input ∷ Input ∷ Output ∷ []) Det ∷ []) ∷ []
 
--- a run that is cut at the step limit behind a solution
-pub IsRunDue-limit : IsRunDue (codes "Y" ∷ []) (Tick (Answer env (Ends LimitPassed))) (codes "Y = 4\n" ∷ codes "step limit passed\n" ∷ []) limit_status
-unfolding digits
-IsRunDue-limit = (refl, refl)
+abbrev pub adding_trees : List Node
+adding_trees = basic (Arithmetic Add 2 0 1) (2 ∷ []) ∷ []
 
--- one that ends with an exception behind a solution
-pub IsRunDue-raised : IsRunDue (codes "Y" ∷ []) (Tick (Answer env (Ends (RunRaised (codes "no row"))))) (codes "Y = 4\n" ∷ codes "uncaught exception: no row\n" ∷ []) raised_status
-unfolding digits
-IsRunDue-raised = (refl, refl)
+-- `add(2, 3, X)`, where the first variable is `X`
+abbrev pub asking : Node
+asking =
+    node (Conjunction Sequential (nodes_of (basic (Build 1 (Integer (pos 2)) []) (1 ∷ []) ∷ basic (Build 2 (Integer (pos 3)) []) (2 ∷ [])
+    ∷ basic (Call (record { predicate = 0; mode = 0 }) (1 ∷ 2 ∷ 0 ∷ [])) (0 ∷ []) ∷ []))) (0 ∷ []) (Some Det) nowhere
 
--- one without a solution
-pub IsRunDue-unsolved : IsRunDue (codes "Y" ∷ []) (Tick (Ends RunDone)) (codes "solutions 0\n" ∷ []) unsolved_status
-unfolding digits
-IsRunDue-unsolved = (refl, refl)
+-- a step, and one answer
+abbrev pub one_answer : Run
+one_answer = Tick (Answer (Some (Int (pos 5)) ∷ []) (Ends RunDone))
 
--- with no step allowed the first call passes the limit, with one it does not
-pub run-at_limit : run (procedures_of one) (query_of one goal) 0 ≡ Ends LimitPassed
-unfolding run
-run-at_limit = refl
+pub asked-example : shown (0 ∷ []) (run (program_with adding adding_trees) asking step_limit) ≡ one_answer
+unfolding step_limit
+asked-example = refl
 
-pub run-within_limit : run (procedures_of one) (query_of one goal) 1 ≡ run_of one goal
-unfolding run_of run step_limit
-run-within_limit = refl
+-- no step is allowed
+pub asked-no_step : shown (0 ∷ []) (run (program_with adding adding_trees) asking 0) ≡ Ends LimitPassed
+asked-no_step = refl
+
+pub asked-counterexample : shown (0 ∷ []) (run (program_with adding adding_trees) asking 0) ≡ one_answer → ⊥
+asked-counterexample same = cc

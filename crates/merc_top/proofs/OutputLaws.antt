@@ -10,21 +10,21 @@ use Rattle.merc_base.proofs.NameLaws.{fixed_names-distinct}
 use Rattle.merc_tree.specs.Term.{Term}
 use Rattle.merc_tree.specs.declared.declarations.Module.{Module}
 use Rattle.merc_graded_tree.specs.Nodes.{Node}
-use Rattle.merc_check.specs.Accepted.{AreGraded}
+use Rattle.merc_check.specs.Accepted.{AreGraded, IsGradedGoal, query_answers, query_names}
 use Rattle.merc_check.specs.Checked.{IsAccepted, IsGoal, Refuses, RefusesQuery}
 use Rattle.merc_base.proofs.NameExamples.{HoldsFixed-fixed}
-use Rattle.merc_check.proofs.CheckedLaws.{AreGraded-unique, IsAccepted-unique, IsGoal-unique, IsModule-distinct, Refuses-excludes, Refuses-unique, RefusesQuery-excludes, RefusesQuery-unique}
-use Rattle.merc_first_form.specs.declared.syntax.Conjunct.{Conjunct}
-use Rattle.merc_first_form.specs.declared.syntax.Source.{Source}
-use Rattle.merc_first_form.specs.Reading.{source_of, goal_of}
-use Rattle.merc_first_form.specs.FlatForm.{variables_of}
+use Rattle.merc_check.proofs.CheckedLaws.{AreGraded-unique, IsAccepted-unique, IsGoal-unique, IsGradedGoal-unique, IsModule-distinct, Refuses-excludes, Refuses-unique, RefusesQuery-excludes, RefusesQuery-unique}
+use Rattle.merc_meaning.specs.Trace.{Run}
+use Rattle.merc_meaning.specs.Programs.{program_with}
+use Rattle.merc_meaning.specs.Runs.{run}
+use Rattle.merc_code.specs.Meaning.{shown}
 use Rattle.merc_top.specs.Statuses.{module_status, goal_status}
 use Rattle.merc_top.specs.declared.words.Request.{Request}
 use Rattle.merc_top.specs.declared.words.Request.TheVariants.{Solve, Check}
 use Rattle.merc_top.specs.Words.{IsRequest, file_of}
 use Rattle.merc_top.specs.Checking.{check_lines}
-use Rattle.merc_top.specs.Output.{AreRead, IsDue, IsCheckDue, IsRequestDue, IsOutput, FileOutput, IsRunDue, run_of, refusal_line, stage_refusal, too_long_line}
-use Rattle.merc_top.specs.Output.IsDue.{module_refused, goal_refused, module_outside, goal_outside, runs}
+use Rattle.merc_top.specs.Output.{IsAskedRun, IsDue, IsCheckDue, IsRequestDue, IsOutput, FileOutput, refusal_line, run_lines, run_status, step_limit, too_long_line}
+use Rattle.merc_top.specs.Output.IsDue.{module_refused, goal_refused, runs}
 use Rattle.merc_top.specs.Output.IsCheckDue.{check_refused, check_accepted}
 use Rattle.merc_top.proofs.Requests.{solve-unique, check-unique, solve-no_check, request_file-unique}
 
@@ -35,53 +35,19 @@ Agree lines status lines' status' = (lines ≡ lines') × (status ≡ status')
 both : {A : Type 0} {x y z : A} → x ≡ z → y ≡ z → x ≡ y
 both p q = p ∙ sym q
 
--- what is due for a module of the first form, and what the goal is in that form
-abbrev GoalDue : Source → Option (List Conjunct) → List (List ℕ) → ℕ → Type 0
-GoalDue source None lines status = (lines ≡ refusal_line (codes "goal") stage_refusal ∷ []) × (status ≡ goal_status)
-GoalDue source (Some conjuncts) lines status = IsRunDue (variables_of [] conjuncts) (run_of source conjuncts) lines status
-
--- what is due for what the module is in the first form, and the goal over it
-abbrev SourceDue : List ℕ → Option Source → (Source → Option (List Conjunct)) → List (List ℕ) → ℕ → Type 0
-SourceDue name None goal lines status = (lines ≡ refusal_line name stage_refusal ∷ []) × (status ≡ module_status)
-SourceDue name (Some source) goal lines status = GoalDue source (goal source) lines status
-
--- what is due once file and goal are read
-abbrev ReadDue : List ℕ → List (List ℕ) → List Term → Term → List (List ℕ) → ℕ → Type 0
-ReadDue name names items term lines status = SourceDue name (source_of names items) (λ source. goal_of names source term) lines status
-
-goal_due-unique : (source : Source) (found : Option (List Conjunct)) (lines lines' : List (List ℕ)) (status status' : ℕ)
-    → GoalDue source found lines status → GoalDue source found lines' status' → Agree lines status lines' status'
-goal_due-unique source None lines lines' status status' due also = (both due.0 also.0, both due.1 also.1)
-goal_due-unique source (Some conjuncts) lines lines' status status' due also = (both due.0 also.0, both due.1 also.1)
-
-source_due-unique : (name : List ℕ) (found : Option Source) (goal : Source → Option (List Conjunct)) (lines lines' : List (List ℕ)) (status status' : ℕ)
-    → SourceDue name found goal lines status → SourceDue name found goal lines' status' → Agree lines status lines' status'
-source_due-unique name None goal lines lines' status status' due also = (both due.0 also.0, both due.1 also.1)
-source_due-unique name (Some source) goal lines lines' status status' due also = goal_due-unique source (goal source) lines lines' status status' due also
-
--- a text is due because the file breaks a rule, or the goal does, or both are read
+-- a text is due because the file breaks a rule, or the goal does, or it is the run's
 data Cases (name file goal : List ℕ) (lines : List (List ℕ)) (status : ℕ) : Type 0 where
   broken_module : (refusal : Refusal) → Refuses fixed_names file refusal → lines ≡ refusal_line name refusal ∷ [] → status ≡ module_status → Cases name file goal lines status
   broken_goal : (names : List (List ℕ)) (items : List Term) (found : Module) (refusal : Refusal) → IsAccepted fixed_names names file items found → RefusesQuery names found goal refusal → lines ≡ refusal_line (codes "goal") refusal ∷ [] → status ≡ goal_status → Cases name file goal lines status
-  both_read : (names : List (List ℕ)) (items : List Term) (term : Term) → AreRead file goal names items term → ReadDue name names items term lines status → Cases name file goal lines status
+  both_run : (names : List (List ℕ)) (variables : List ℕ) (asked : Run) → IsAskedRun file goal names variables asked → lines ≡ run_lines names variables asked → status ≡ run_status asked → Cases name file goal lines status
 
 cases_of : (name file goal : List ℕ) (lines : List (List ℕ)) (status : ℕ) → IsDue name file goal lines status → Cases name file goal lines status
 cases_of name file goal _ _ (module_refused refusal refuses) = broken_module refusal refuses refl refl
 cases_of name file goal _ _ (goal_refused names items found refusal is refuses) = broken_goal names items found refusal is refuses refl refl
-cases_of name file goal lines status (module_outside names items term read outside) =
-    both_read names items term read
-    (subst (λ (found : Option Source). SourceDue name found (λ source. goal_of names source term) lines status) (sym outside) (refl, refl))
-cases_of name file goal lines status (goal_outside names items term source read within outside) =
-    both_read names items term read
-    (subst (λ (found : Option Source). SourceDue name found (λ source. goal_of names source term) lines status) (sym within)
-    (subst (λ (found : Option (List Conjunct)). GoalDue source found lines status) (sym outside) (refl, refl)))
-cases_of name file goal _ _ (runs names items term source conjuncts lines status read within is due) =
-    both_read names items term read
-    (subst (λ (found : Option Source). SourceDue name found (λ source. goal_of names source term) lines status) (sym within)
-    (subst (λ (found : Option (List Conjunct)). GoalDue source found lines status) (sym is) due))
+cases_of name file goal _ _ (runs names variables asked is) = both_run names variables asked is refl refl
 
 -- behind an accepted module no two names are one
-module-distinct : (names : List (List ℕ)) (file : List ℕ) (items : List Term) (found : Module) → IsAccepted fixed_names names file items found → IsDistinct bytes_eq names
+pub module-distinct : (names : List (List ℕ)) (file : List ℕ) (items : List Term) (found : Module) → IsAccepted fixed_names names file items found → IsDistinct bytes_eq names
 module-distinct names file items found is = IsModule-distinct fixed_names file fixed_names-distinct names items found is.module_is
 
 -- a goal over a module is one over the same module with the same names
@@ -89,28 +55,67 @@ goal_moved : {A : Type 0} (P : List (List ℕ) → Module → A → Type 0) (nam
 goal_moved P names names' found found' what same_names same_found holds =
     subst (λ (some : List (List ℕ)). P some found what) (sym same_names) (subst (λ (some : Module). P names' some what) (sym same_found) holds)
 
--- file and goal are read in one way
-AreRead-unique : (file goal : List ℕ) (names names' : List (List ℕ)) (items items' : List Term) (term term' : Term)
-    → AreRead file goal names items term → AreRead file goal names' items' term' → (names ≡ names') × (items ≡ items') × (term ≡ term')
-AreRead-unique file goal names names' items items' term term' read also =
-    let modules = IsAccepted-unique fixed_names file fixed_names-distinct read.file_names also.file_names items items' read.found also.found read.module_is also.module_is in
-    let distinct = module-distinct read.file_names file items read.found read.module_is in
-    let also_is = goal_moved (λ some found what. IsGoal some names' found goal what) read.file_names also.file_names read.found also.found term' modules.0 modules.2 also.goal_is in
-    let goals = IsGoal-unique read.file_names goal distinct read.found names names' term term' read.goal_is also_is in
-    (goals.0, modules.1, goals.1)
+-- the first of a list of one
+head_is : (one other : Node) → one ∷ [] ≡ other ∷ [] → one ≡ other
+head_is one other same = cc
+
+-- A file and a goal ask for one run.
+module _ (file goal : List ℕ) (names names' : List (List ℕ)) (variables variables' : List ℕ) (asked asked' : Run)
+    (one : IsAskedRun file goal names variables asked) (other : IsAskedRun file goal names' variables' asked') where
+  modules : (one.file_names ≡ other.file_names) × (one.items ≡ other.items) × (one.found ≡ other.found)
+  modules = IsAccepted-unique fixed_names file fixed_names-distinct one.file_names other.file_names one.items other.items one.found other.found one.module_is other.module_is
+
+  distinct : IsDistinct bytes_eq one.file_names
+  distinct = module-distinct one.file_names file one.items one.found one.module_is
+
+  goals : (names ≡ names') × (one.term ≡ other.term)
+  goals =
+      IsGoal-unique one.file_names goal distinct one.found names names' one.term other.term one.goal_is
+      (goal_moved (λ some found term. IsGoal some names' found goal term) one.file_names other.file_names one.found other.found other.term modules.0 modules.2 other.goal_is)
+
+  trees : one.trees ≡ other.trees
+  trees =
+      AreGraded-unique fixed_names file fixed_names-distinct HoldsFixed-fixed one.file_names one.items one.found one.module_is one.trees other.trees one.module_trees
+      (goal_moved AreGraded one.file_names other.file_names one.found other.found other.trees modules.0 modules.2 other.module_trees)
+
+  tree : one.tree ≡ other.tree
+  tree =
+      head_is one.tree other.tree
+      (IsGradedGoal-unique one.file_names goal distinct one.found fixed_names one.file_names file one.items one.module_is names one.term one.goal_is (one.tree ∷ []) (other.tree ∷ []) one.goal_tree
+      (goal_moved (λ some found trees. IsGradedGoal some found one.term trees) names names' one.found other.found (other.tree ∷ []) goals.0 modules.2
+      (subst (λ (term : Term). IsGradedGoal names' other.found term (other.tree ∷ [])) (sym goals.1) other.goal_tree)))
+
+  variables_same : variables ≡ variables'
+  variables_same =
+      one.variables_are ∙ ap (λ (some : List (List ℕ)). query_names some one.term) goals.0 ∙ ap (λ (term : Term). query_names names' term) goals.1 ∙ sym other.variables_are
+
+  asked_same : asked ≡ asked'
+  asked_same =
+      one.run_is
+      ∙ ap (λ (answers : List ℕ). shown answers (run (program_with one.found.preds one.trees) one.tree step_limit))
+      (ap (λ (some : List (List ℕ)). query_answers some one.found one.term) goals.0
+      ∙ ap (λ (found : Module). query_answers names' found one.term) modules.2
+      ∙ ap (λ (term : Term). query_answers names' other.found term) goals.1)
+      ∙ ap (λ (found : Module). shown (query_answers names' other.found other.term) (run (program_with found.preds one.trees) one.tree step_limit)) modules.2
+      ∙ ap (λ (some : List Node). shown (query_answers names' other.found other.term) (run (program_with other.found.preds some) one.tree step_limit)) trees
+      ∙ ap (λ (some : Node). shown (query_answers names' other.found other.term) (run (program_with other.found.preds other.trees) some step_limit)) tree
+      ∙ sym other.run_is
+
+  pub IsAskedRun-unique : (names ≡ names') × (variables ≡ variables') × (asked ≡ asked')
+  IsAskedRun-unique = (goals.0, variables_same, asked_same)
 
 -- a file that is accepted breaks no rule
 module_not_broken : (file : List ℕ) (refusal : Refusal) (names : List (List ℕ)) (items : List Term) (found : Module) → Refuses fixed_names file refusal → IsAccepted fixed_names names file items found → ⊥
 module_not_broken file refusal names items found refuses is = Refuses-excludes fixed_names file fixed_names-distinct HoldsFixed-fixed names refusal items found refuses is
 
 -- nor does a goal that is accepted behind it
-goal_not_broken : (file goal : List ℕ) (names names' : List (List ℕ)) (items items' : List Term) (found : Module) (refusal : Refusal) (term : Term)
-    → IsAccepted fixed_names names file items found → RefusesQuery names found goal refusal → AreRead file goal names' items' term → ⊥
-goal_not_broken file goal names names' items items' found refusal term is refuses read =
-    let same = IsAccepted-unique fixed_names file fixed_names-distinct names read.file_names items items' found read.found is read.module_is in
+goal_not_broken : (file goal : List ℕ) (names names' : List (List ℕ)) (items : List Term) (found : Module) (refusal : Refusal) (variables : List ℕ) (asked : Run)
+    → IsAccepted fixed_names names file items found → RefusesQuery names found goal refusal → IsAskedRun file goal names' variables asked → ⊥
+goal_not_broken file goal names names' items found refusal variables asked is refuses both =
+    let same = IsAccepted-unique fixed_names file fixed_names-distinct names both.file_names items both.items found both.found is both.module_is in
     let distinct = module-distinct names file items found is in
-    let reads = goal_moved (λ some over what. IsGoal some names' over goal what) names read.file_names found read.found term same.0 same.2 read.goal_is in
-    RefusesQuery-excludes names goal distinct found fixed_names names file items is names' refusal term refuses reads
+    let reads = goal_moved (λ some over what. IsGoal some names' over goal what) names both.file_names found both.found both.term same.0 same.2 both.goal_is in
+    RefusesQuery-excludes names goal distinct found fixed_names names file items is names' refusal both.term refuses reads
 
 one_goal_refusal : (file goal : List ℕ) (names names' : List (List ℕ)) (items items' : List Term) (found found' : Module) (one other : Refusal)
     → IsAccepted fixed_names names file items found → IsAccepted fixed_names names' file items' found' → RefusesQuery names found goal one → RefusesQuery names' found' goal other → one ≡ other
@@ -128,25 +133,24 @@ cases-unique name file goal lines lines' status status' (broken_module one refus
     (same_line name one other lines lines' (Refuses-unique fixed_names file fixed_names-distinct HoldsFixed-fixed one other refuses refuses') is is', both four four')
 cases-unique name file goal lines lines' status status' (broken_module one refuses is four) (broken_goal names items found other module_is refuses' is' five) =
     absurd (module_not_broken file one names items found refuses module_is)
-cases-unique name file goal lines lines' status status' (broken_module one refuses is four) (both_read names items term read due) =
-    absurd (module_not_broken file one read.file_names items read.found refuses read.module_is)
+cases-unique name file goal lines lines' status status' (broken_module one refuses is four) (both_run names variables asked both_are is' status_is) =
+    absurd (module_not_broken file one both_are.file_names both_are.items both_are.found refuses both_are.module_is)
 cases-unique name file goal lines lines' status status' (broken_goal names items found one module_is refuses is five) (broken_module other refuses' is' four) =
     absurd (module_not_broken file other names items found refuses' module_is)
 cases-unique name file goal lines lines' status status' (broken_goal names items found one module_is refuses is five) (broken_goal names' items' found' other module_is' refuses' is' five') =
     (same_line (codes "goal") one other lines lines' (one_goal_refusal file goal names names' items items' found found' one other module_is module_is' refuses refuses') is is', both five five')
-cases-unique name file goal lines lines' status status' (broken_goal names items found one module_is refuses is five) (both_read names' items' term read due) =
-    absurd (goal_not_broken file goal names names' items items' found one term module_is refuses read)
-cases-unique name file goal lines lines' status status' (both_read names items term read due) (broken_module other refuses is four) =
-    absurd (module_not_broken file other read.file_names items read.found refuses read.module_is)
-cases-unique name file goal lines lines' status status' (both_read names items term read due) (broken_goal names' items' found other module_is refuses is five) =
-    absurd (goal_not_broken file goal names' names items' items found other term module_is refuses read)
-cases-unique name file goal lines lines' status status' (both_read names items term read due) (both_read names' items' term' read' due') =
-    let same = AreRead-unique file goal names names' items items' term term' read read' in
-    let also : ReadDue name names items term lines' status' =
-    subst (λ (ns : List (List ℕ)). ReadDue name ns items term lines' status') (sym same.0)
-    (subst (λ (ts : List Term). ReadDue name names' ts term lines' status') (sym same.1)
-    (subst (λ (t : Term). ReadDue name names' items' t lines' status') (sym same.2) due')) in
-    source_due-unique name (source_of names items) (λ source. goal_of names source term) lines lines' status status' due also
+cases-unique name file goal lines lines' status status' (broken_goal names items found one module_is refuses is five) (both_run names' variables asked both_are is' status_is) =
+    absurd (goal_not_broken file goal names names' items found one variables asked module_is refuses both_are)
+cases-unique name file goal lines lines' status status' (both_run names variables asked both_are is status_is) (broken_module other refuses is' four) =
+    absurd (module_not_broken file other both_are.file_names both_are.items both_are.found refuses both_are.module_is)
+cases-unique name file goal lines lines' status status' (both_run names variables asked both_are is status_is) (broken_goal names' items' found other module_is refuses is' five) =
+    absurd (goal_not_broken file goal names' names items' found other variables asked module_is refuses both_are)
+cases-unique name file goal lines lines' status status' (both_run names variables asked one is status_is) (both_run names' variables' asked' other is' status_is') =
+    let same = IsAskedRun-unique file goal names names' variables variables' asked asked' one other in (
+      is ∙ ap (λ (some : List (List ℕ)). run_lines some variables asked) same.0 ∙ ap (λ (some : List ℕ). run_lines names' some asked) same.1
+          ∙ ap (λ (some : Run). run_lines names' variables' some) same.2 ∙ sym is',
+      status_is ∙ ap (λ (some : Run). run_status some) same.2 ∙ sym status_is',
+    )
 
 pub IsDue-unique : (name file goal : List ℕ) (lines lines' : List (List ℕ)) (status status' : ℕ)
     → IsDue name file goal lines status → IsDue name file goal lines' status' → Agree lines status lines' status'

@@ -13,7 +13,12 @@ abbrev pub behind_commas : List (List ℕ) → List ℕ
 behind_commas [] = []
 behind_commas (text ∷ texts) = codes ", " ++ text ++ behind_commas texts
 
--- these texts with a comma and a blank between each two; `true` where there is none
+-- these texts with a comma and a blank between each two
+abbrev pub joined : List (List ℕ) → List ℕ
+joined [] = []
+joined (text ∷ texts) = text ++ behind_commas texts
+
+-- the same; `true` where there is none
 abbrev pub comma_list : List (List ℕ) → List ℕ
 comma_list [] = codes "true"
-comma_list (text ∷ texts) = text ++ behind_commas texts
+comma_list (text ∷ texts) = joined (text ∷ texts)

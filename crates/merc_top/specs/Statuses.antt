@@ -1,5 +1,7 @@
 -- The statuses that the program ends with.
-use Rattle.std.specs.Prelude.{ℕ}
+use Rattle.std.specs.Prelude.{ℕ, Result, Ok, Err}
+use Rattle.merc_top.specs.declared.writing.Cut.{Cut}
+use Rattle.merc_top.specs.declared.writing.Cut.TheVariants.{Unwritten, NoMemory}
 
 -- the run has solutions, and no further one
 abbrev pub solved_status : ℕ
@@ -48,3 +50,9 @@ no_memory_status = 9
 -- the file is longer than the limit
 abbrev pub too_long_status : ℕ
 too_long_status = 10
+
+-- the status to end with, where the text that is due with some status was written to its end or was not
+abbrev pub status_told : Result ℕ Cut → ℕ
+status_told (Ok status) = status
+status_told (Err Unwritten) = unwritten_status
+status_told (Err NoMemory) = no_memory_status

@@ -1,7 +1,9 @@
 -- What writing a whole text to a sink answers.
-use Rattle.std.specs.Prelude.{◌≡◌, ℕ, ◌<◌, List, ◌++◌, length, Option, Result, OnOk, OnErr}
+use Rattle.std.specs.Prelude.{◌≡◌, ℕ, ◌<◌, List, ◌++◌, length, Option, Result, Ok, Err, OnOk, OnErr}
 use Rattle.merc_base.specs.Outside.{appended}
 use Rattle.merc_top.specs.declared.writing.WriteFault.{WriteFault}
+use Rattle.merc_top.specs.declared.writing.Cut.{Cut}
+use Rattle.merc_top.specs.declared.writing.Cut.TheVariants.{Unwritten, NoMemory}
 
 -- a front of this text was appended, and nothing else
 pub record PutsFront (text : List ℕ) (old new : Option (List ℕ)) : Type 0 where
@@ -16,3 +18,13 @@ pub record Puts (text : List ℕ) (old new : Option (List ℕ)) (before now : �
   pub ok : OnOk result ((new ≡ appended old text) × (now ≡ before))
   pub err : OnErr result (PutsFront text old new × (before < now))
   pub some : OnErr result (0 < length text)
+
+-- A front of this text was written, and then a write failed, or memory was refused.
+abbrev pub Cuts : List ℕ → Option (List ℕ) → Option (List ℕ) → ℕ → ℕ → Cut → Type 0
+Cuts text old new before now Unwritten = PutsFront text old new × (before < now)
+Cuts text old new before now NoMemory = PutsFront text old new × (now ≡ before)
+
+-- the whole text was written without a fault, or a front of it
+abbrev pub Writes : {T : Type 0} → List ℕ → Option (List ℕ) → Option (List ℕ) → ℕ → ℕ → Result T Cut → Type 0
+Writes text old new before now (Ok result) = (new ≡ appended old text) × (now ≡ before)
+Writes text old new before now (Err cut) = Cuts text old new before now cut

@@ -3,9 +3,9 @@
 
 mod answering;
 mod checking;
-mod evaluating;
 mod lines;
 mod loading;
+mod solving;
 pub mod statuses;
 mod words;
 mod writing;

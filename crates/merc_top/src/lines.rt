@@ -1,63 +1,79 @@
 //! The lines that are printed, each with its line end.
-ghost use Rattle.std.specs.Prelude.{◌≡◌, ◌++◌, IfOk, OnOk};
-ghost use Rattle.merc_tree.specs.Trace.{LimitPassed, RunDone};
-ghost use Rattle.merc_tree.specs.Meaning.{value_at};
-ghost use Rattle.merc_top.specs.Output.{binding, value_text, solution_line, end_line, refusal_line, too_long_line};
+ghost use Rattle.std.specs.Prelude.{◌≡◌, ◌++◌, ◌<◌, ℕ, suc, List, length, slice_get, IfOk, IfSome, OnOk};
+ghost use Rattle.merc_meaning.specs.Trace.{LimitPassed, RunDone, RunRaised};
+ghost use Rattle.merc_value.specs.Block.{root_values};
+ghost use Rattle.merc_top.specs.Lines.{comma_list, joined, line};
+ghost use Rattle.merc_top.specs.Output.{binding, bindings, end_line, refusal_line, too_long_line};
 
-use crate::evaluating::Environment;
-use merc_base::{NoMemory, Refusal, Text, TextTable};
-use merc_tree::Word;
+use merc_base::{Name, Names, NoMemory, Refusal, Text};
+use merc_value::{Block, text_of, write_text};
 use std::alloc::Global;
 
-// Puts a value behind a text; a variable without a value, which no answer variable is, prints as nothing.
-fn push_value(alloc: Global, value: Option<Word>, line: &mut Text) -> Result<(), NoMemory>
-    ensures { OnOk result (line.new ≡ line.old ++ value_text value) }
-{
-    match value {
-        Some(word) => line.push(word.number().to_string(alloc)?.as_bytes()),
-        None => Ok(()),
-    }
-}
-
-// Puts `V = value` behind a text.
+// Puts `V = value` behind a text, for the name of a variable and the root of this number.
 fn push_binding(
     alloc: Global,
-    name: &[u8],
-    value: Option<Word>,
+    names: &Names,
+    variable: Name,
+    values: &Block,
+    root: u32,
     line: &mut Text,
 ) -> Result<(), NoMemory>
-    ensures { OnOk result (line.new ≡ line.old ++ binding name.now value) }
+    requires { root < length values.now.roots }
+    ensures { IfSome (slice_get (root_values values.now) root) (λ value. OnOk result (line.new ≡ line.old ++ binding names.now variable value)) }
 {
-    line.push(name)?;
+    line.push(text_of(names, variable))?;
     line.push(b" = ")?;
-    push_value(alloc, value, line)
+    write_text(alloc, values, root, names, line)
 }
 
-// The value of the variable of this number, where it has one.
-fn value_at(environment: &Environment, number: usize) -> Option<Word>
-    ensures { result ≡ value_at environment.now number }
+// Puts the bindings of these variables behind a text, with a comma and a blank between each two.
+fn push_bindings(
+    alloc: Global,
+    names: &Names,
+    variables: &[Name],
+    values: &Block,
+    line: &mut Text,
+) -> Result<(), NoMemory>
+    ensures { OnOk result (line.new ≡ line.old ++ joined (bindings names.now variables.now (root_values values.now))) }
 {
-    environment.as_slice().get(number).copied().flatten()
+    let mut separator: &[u8] = b"";
+    let mut root = 0;
+    for variable in variables {
+        if values.root(root).is_none() {
+            return Ok(());
+        }
+        line.push(separator)?;
+        push_binding(alloc, names, *variable, values, root, line)?;
+        separator = b", ";
+        root = next_root(root)?;
+    }
+    Ok(())
 }
 
-/// The line of a solution: `V = value` for each name, the name's place being its variable's number, joined by a
-/// comma and a blank; `true` where there is no name.
+// The number of the next root.
+fn next_root(root: u32) -> Result<u32, NoMemory>
+    ensures { IfOk result (λ next. next ≡ suc root) }
+{
+    match root.checked_add(1) {
+        Some(next) => Ok(next),
+        // so many values need more memory than there is
+        None => Err(NoMemory),
+    }
+}
+
+/// The line of an answer: `V = value` for each of these variables, by their names, with the roots of the block as their
+/// values in order, joined by a comma and a blank; `true` where there is none.
 pub fn solution_line(
     alloc: Global,
-    names: &TextTable,
-    environment: &Environment,
+    names: &Names,
+    variables: &[Name],
+    values: &Block,
 ) -> Result<Text, NoMemory>
-    ensures { IfOk result (λ line. line ≡ solution_line names.now environment.now) }
+    ensures { IfOk result (λ text. text ≡ line (comma_list (bindings names.now variables.now (root_values values.now)))) }
 {
     let mut line = Text::new(alloc);
-    let mut separator: &[u8] = b"";
-    for number in 0..names.len() {
-        line.push(separator)?;
-        let name = names.text(number).unwrap_or(b"");
-        push_binding(alloc, name, value_at(environment, number), &mut line)?;
-        separator = b", ";
-    }
-    if names.len() == 0 {
+    push_bindings(alloc, names, variables, values, &mut line)?;
+    if line.bytes().is_empty() {
         line.push(b"true")?;
     }
     line.push(b"\n")?;
@@ -66,7 +82,7 @@ pub fn solution_line(
 
 /// The end line of a run that has so many solutions and no further one.
 pub fn solutions_line(alloc: Global, count: u64) -> Result<Text, NoMemory>
-    ensures { IfOk result (λ line. line ≡ end_line count RunDone) }
+    ensures { IfOk result (λ line. (names : List (List ℕ)) → line ≡ end_line names count RunDone) }
 {
     let mut line = Text::of(alloc, b"solutions ")?;
     line.push(count.to_string(alloc)?.as_bytes())?;
@@ -74,9 +90,19 @@ pub fn solutions_line(alloc: Global, count: u64) -> Result<Text, NoMemory>
     Ok(line)
 }
 
+/// The end line of a run with an exception of this text.
+pub fn exception_line(alloc: Global, names: &Names, text: Name) -> Result<Text, NoMemory>
+    ensures { IfOk result (λ line. (count : ℕ) → line ≡ end_line names.now count (RunRaised text)) }
+{
+    let mut line = Text::of(alloc, b"uncaught exception: ")?;
+    line.push(text_of(names, text))?;
+    line.push(b"\n")?;
+    Ok(line)
+}
+
 /// The end line of a run that passed its step limit.
 pub fn step_limit_line(alloc: Global) -> Result<Text, NoMemory>
-    ensures { IfOk result (λ line. line ≡ end_line 0 LimitPassed) }
+    ensures { IfOk result (λ line. (names : List (List ℕ)) (count : ℕ) → line ≡ end_line names count LimitPassed) }
 {
     Text::of(alloc, b"step limit passed\n")
 }

@@ -6,6 +6,8 @@ pub const SOLVED: u8 = 0;
 pub const ACCEPTED: u8 = 0;
 /// The run has no solution.
 pub const UNSOLVED: u8 = 1;
+/// The run ended with an exception.
+pub const RAISED: u8 = 2;
 /// The run passed its step limit.
 pub const LIMIT_PASSED: u8 = 3;
 /// The module breaks a rule.

@@ -1,13 +1,33 @@
 //! Writes whole texts to a sink that may take less than it is given.
 ghost use Rattle.std.specs.Prelude.{◌<◌, List, ℕ};
 ghost use Rattle.std.specs.List.{flat_map};
-ghost use Rattle.merc_top.specs.Writing.{Puts};
+ghost use Rattle.merc_top.specs.Writing.{Puts, Writes};
 
-use merc_base::{Sink, Text, Wrote};
+use merc_base::{NoMemory, Sink, Text, Wrote};
 
 /// A write failed. What was written before it stays.
 #[derive(Clone, Copy, Debug, PartialEq, Eq)]
 pub struct WriteFault;
+
+/// Why a text was not written to its end. A front of it was.
+#[derive(Clone, Copy, Debug, PartialEq, Eq)]
+pub enum Cut {
+    /// A write failed.
+    Unwritten,
+    /// Memory was refused.
+    NoMemory,
+}
+
+impl From<NoMemory> for Cut {
+    ghost use Rattle.std.specs.Prelude.{◌≡◌};
+    ghost use Rattle.merc_top.specs.declared.writing.Cut.TheVariants.{NoMemory};
+
+    ghost from_gives = { λ _ e. e ≡ NoMemory };
+
+    fn from(_: NoMemory) -> Self {
+        Cut::NoMemory
+    }
+}
 
 /// Writes a text, and the rest of it again where less was taken. No write follows one that failed.
 pub fn put<K: Sink>(sink: &mut K, bytes: &[u8]) -> Result<(), WriteFault>
@@ -35,4 +55,15 @@ pub fn put_lines<K: Sink>(sink: &mut K, lines: &[Text]) -> Result<(), WriteFault
         }
     }
     Ok(())
+}
+
+/// Writes a line.
+pub fn put_line<K: Sink>(sink: &mut K, line: &Text) -> Result<(), Cut>
+    requires { K.write_faults sink.old < 18446744073709551615 }
+    ensures { Writes line.now (K.written sink.old) (K.written sink.new) (K.write_faults sink.old) (K.write_faults sink.new) result }
+{
+    match put(sink, line.bytes()) {
+        Ok(()) => Ok(()),
+        Err(WriteFault) => Err(Cut::Unwritten),
+    }
 }

@@ -159,3 +159,6 @@ returns-clause-answers c =
     of_goal c.args.names.now c.args.known.now c.args.goal.now c.in_ok-query.query.form c.in-Some.form c.in_ok-is_typed.field-0 c.as_slice.result.now
     c.in_ok-query.ensures.faultless c.in_ok-query.ensures.form c.in-Some.ensures c.in_ok-is_typed.ensures c.if-not-branch.false (c.as_slice.ensures ∙ c.in_ok-query.ensures.answers)
     (λ (numbers : List ℕ) (goal : Node). c.in_ok-ordered.ordered.answers ≡ numbers) c.in_ok-ordered.ensures.answers
+
+pub returns-clause-names : goal.returns-clause-names
+returns-clause-names c = c.in_ok-names_of.ensures ∙ ap (λ (found : List Occurrence). map (λ (variable : Occurrence). variable.name) found) (c.as_slice-2.ensures ∙ c.in_ok-query.ensures.answers)

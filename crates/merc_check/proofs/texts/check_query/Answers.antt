@@ -1,6 +1,8 @@
 -- A goal is refused where its text is no term, or the term is refused over the module.
 use Rattle.std.proofs.Common.{ap, ◌∙◌}
 use Rattle.std.proofs.lemmas.Result.{err_from_is_err_and}
+use Rattle.merc_tree.specs.Term.{Term}
+use Rattle.merc_check.specs.Accepted.{query_names}
 use Rattle.merc_check.specs.Checked.{CheckedModule}
 use Rattle.merc_check.proofs.TextLaws.{no_term-refused, goal-refused, goal-accepted, goal-graded, goal-answers}
 use Rattle.merc_check.proofs.texts.check_query.Goals as goal
@@ -31,3 +33,6 @@ pub returns-clause-answers : goal.returns-clause-answers
 returns-clause-answers c =
     goal-answers c.args.names.now c.args.text.now c.bytes.result.now c.bytes.ensures c.args.checked.now.module c.in_ok-known.known (c.in_ok-known.ensures ∙ ap (λ (whole : CheckedModule). whole.module) c.checked.view_is)
     c.read_goal_text.new.names c.in_ok-goal.goal c.as_ref.result c.in_ok-goal.ensures.found c.as_ref.ensures c.in_ok-asked.asked.answers c.in_ok-asked.ensures.answers
+
+pub returns-clause-names : goal.returns-clause-names
+returns-clause-names c = c.in_ok-asked.ensures.names ∙ ap (λ (term : Term). query_names c.read_goal_text.new.names term) c.as_ref.ensures

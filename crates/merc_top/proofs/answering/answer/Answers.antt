@@ -1,25 +1,46 @@
-use Rattle.std.proofs.Common.{refl, ap, subst, ◌∙◌}
-use Rattle.std.specs.Prelude.{Err}
-use Rattle.merc_base.specs.Outside.{appended}
-use Rattle.merc_top.specs.Output.{text_of}
-use Rattle.merc_top.specs.Writing.{PutsFront}
+use Rattle.std.proofs.Common.{ℕ, List, refl, subst}
+use Rattle.std.specs.Prelude.{Ok, Err}
 use Rattle.merc_top.specs.Due.{Finds}
-use Rattle.merc_top.proofs.CallEnds.{answers-done, answers-cut_short, answers-unread}
+use Rattle.merc_top.specs.Solving.{Solves}
+use Rattle.merc_top.proofs.CallEnds.{answers-run, answers-told, answers-unread, counts-lines, counts-run}
 use Rattle.merc_top.proofs.answering.answer.Goals as goal
 
-pub returns-in-Ok-put_lines-clause-answers : goal.returns-in-Ok-put_lines-clause-answers
-returns-in-Ok-put_lines-clause-answers g c =
-    let found = c.in-Ok.ensures.finds in
-    let put = c.in-Ok-put_lines.ensures.ok in
-    answers-done _ _ _ _ _ _ _ _ c.in-Ok.due.lines c.in-Ok.due.status found.0 found.1 found.2
-    (put.0 ∙ ap (λ lines. appended (g.K.Sink.written c.args.sink.now) (text_of lines)) c.as_slice.ensures) put.1
+pub returns-in-Ok-Lines-clause-answers : goal.returns-in-Ok-Lines-clause-answers
+returns-in-Ok-Lines-clause-answers g c =
+    let found =
+    subst (λ found. Finds c.args.words.now (g.S.Shelf.files c.args.shelf.now) (g.S.Shelf.read_faults c.args.shelf.now) (g.S.Shelf.read_faults c.find_due.new.shelf) (Ok found))
+    c.in-Ok-Lines.field-0-is c.in-Ok-Lines.ensures.finds in
+    rw c.status_told.ensures
+    (answers-told _ _ _ _ _ _ _ _ c.in-Ok-Lines.due.lines c.in-Ok-Lines.due.status c.put_due.result found.0 found.1 (found.2, found.3, found.4) c.put_due.ensures.writes c.put_due.ensures.status)
 
-pub returns-in-Ok-clause-answers : goal.returns-in-Ok-clause-answers
-returns-in-Ok-clause-answers g c =
-    let found = c.in-Ok.ensures.finds in
-    let put = c.in-Err.ensures.err in
-    answers-cut_short _ _ _ _ _ _ _ _ c.in-Ok.due.lines c.in-Ok.due.status found.0 found.1 found.2
-    (subst (λ lines. PutsFront (text_of lines) (g.K.Sink.written c.args.sink.now) (g.K.Sink.written c.put_lines.new.sink)) c.as_slice.ensures put.0) put.1
+pub returns-in-Ok-Lines-clause-counts : goal.returns-in-Ok-Lines-clause-counts
+returns-in-Ok-Lines-clause-counts g c =
+    let found =
+    subst (λ found. Finds c.args.words.now (g.S.Shelf.files c.args.shelf.now) (g.S.Shelf.read_faults c.args.shelf.now) (g.S.Shelf.read_faults c.find_due.new.shelf) (Ok found))
+    c.in-Ok-Lines.field-0-is c.in-Ok-Lines.ensures.finds in
+    rw c.status_told.ensures (counts-lines _ _ _ _ _ _ c.in-Ok-Lines.due.status _ c.put_due.result found.2 found.3 found.5 c.put_due.ensures.status)
+
+pub returns-in-Ok-Run-clause-answers : goal.returns-in-Ok-Run-clause-answers
+returns-in-Ok-Run-clause-answers g c =
+    let found =
+    subst (λ found. Finds c.args.words.now (g.S.Shelf.files c.args.shelf.now) (g.S.Shelf.read_faults c.args.shelf.now) (g.S.Shelf.read_faults c.find_due.new.shelf) (Ok found))
+    c.in-Ok-Run.field-0-is c.in-Ok-Run.ensures.finds in
+    let solves = subst (λ (ticks : ℕ). Solves found.3 found.4 found.5 (g.K.Sink.written c.args.sink.now) (g.K.Sink.written c.run.new.sink) (g.K.Sink.write_faults c.args.sink.now) (g.K.Sink.write_faults c.run.new.sink) ticks c.run.new.ticks c.run.result) c.requires.ticks
+    (subst (λ (names : List (List ℕ)). Solves names found.4 found.5 (g.K.Sink.written c.args.sink.now) (g.K.Sink.written c.run.new.sink) (g.K.Sink.write_faults c.args.sink.now) (g.K.Sink.write_faults c.run.new.sink) c.args.ticks.now c.run.new.ticks c.run.result) found.7.names_are
+    (subst (λ (variables : List ℕ). Solves c.in-Ok-Run.ready.names variables found.5 (g.K.Sink.written c.args.sink.now) (g.K.Sink.written c.run.new.sink) (g.K.Sink.write_faults c.args.sink.now) (g.K.Sink.write_faults c.run.new.sink) c.args.ticks.now c.run.new.ticks c.run.result) found.7.variables_are
+    (c.run.ensures found.5 found.7.makes))) in
+    rw c.status_told-in-Ok-Run.ensures (answers-run _ _ _ _ _ _ _ _ found.3 found.4 found.5 0 c.run.new.ticks c.run.result found.1 found.0 found.2 found.6 solves)
+
+pub returns-in-Ok-Run-clause-counts : goal.returns-in-Ok-Run-clause-counts
+returns-in-Ok-Run-clause-counts g c =
+    let found =
+    subst (λ found. Finds c.args.words.now (g.S.Shelf.files c.args.shelf.now) (g.S.Shelf.read_faults c.args.shelf.now) (g.S.Shelf.read_faults c.find_due.new.shelf) (Ok found))
+    c.in-Ok-Run.field-0-is c.in-Ok-Run.ensures.finds in
+    let solves = subst (λ (ticks : ℕ). Solves found.3 found.4 found.5 (g.K.Sink.written c.args.sink.now) (g.K.Sink.written c.run.new.sink) (g.K.Sink.write_faults c.args.sink.now) (g.K.Sink.write_faults c.run.new.sink) ticks c.run.new.ticks c.run.result) c.requires.ticks
+    (subst (λ (names : List (List ℕ)). Solves names found.4 found.5 (g.K.Sink.written c.args.sink.now) (g.K.Sink.written c.run.new.sink) (g.K.Sink.write_faults c.args.sink.now) (g.K.Sink.write_faults c.run.new.sink) c.args.ticks.now c.run.new.ticks c.run.result) found.7.names_are
+    (subst (λ (variables : List ℕ). Solves c.in-Ok-Run.ready.names variables found.5 (g.K.Sink.written c.args.sink.now) (g.K.Sink.written c.run.new.sink) (g.K.Sink.write_faults c.args.sink.now) (g.K.Sink.write_faults c.run.new.sink) c.args.ticks.now c.run.new.ticks c.run.result) found.7.variables_are
+    (c.run.ensures found.5 found.7.makes))) in
+    rw c.status_told-in-Ok-Run.ensures (counts-run _ _ _ _ _ _ _ _ found.3 found.4 found.5 c.run.new.ticks c.run.result found.1 found.2 found.6 solves)
 
 pub returns-in-Err-Unread-clause-answers : goal.returns-in-Err-Unread-clause-answers
 returns-in-Err-Unread-clause-answers g c =

@@ -2,25 +2,22 @@ use Rattle.std.proofs.Common.{◌∙◌, ap, refl, subst, ℕ, List, [], ◌∷�
 use Rattle.std.specs.Prelude.{Ok, Err}
 use Rattle.merc_top.specs.declared.loading.LoadFault.TheVariants.{TooLong}
 use Rattle.merc_top.specs.Loading.{Loads}
-use Rattle.merc_top.proofs.Dues.{usage-due, file-due, too_long-due}
 use Rattle.merc_top.specs.Output.{too_long_line}
+use Rattle.merc_top.proofs.Dues.{usage-found, file-found, too_long-found}
 use Rattle.merc_top.proofs.answering.find_due.Goals as goal
 
 pub returns-in-None-clause-finds : goal.returns-in-None-clause-finds
 returns-in-None-clause-finds g c =
     let line = c.in_ok-usage_due-in-None.ensures in
-    let due = usage-due c.args.words.now (g.S.Shelf.files c.args.shelf.now) c.in_ok-usage_due-in-None.field-0.lines c.in_ok-usage_due-in-None.field-0.status
-    c.in-None.ensures line.0 line.1 in
-    (refl, due.0, due.1)
+    usage-found c.args.words.now (g.S.Shelf.files c.args.shelf.now) (g.S.Shelf.read_faults c.args.shelf.now) c.in_ok-usage_due-in-None.field-0 c.in-None.ensures line.0 line.1
 
-pub returns-in_ok-request_due-in-Ok-clause-finds : goal.returns-in_ok-request_due-in-Ok-clause-finds
-returns-in_ok-request_due-in-Ok-clause-finds g c =
+pub returns-in_ok-find_requested-in-Ok-clause-finds : goal.returns-in_ok-find_requested-in-Ok-clause-finds
+returns-in_ok-find_requested-in-Ok-clause-finds g c =
     let loaded =
     subst (λ (name : List ℕ). Loads (g.S.Shelf.files c.args.shelf.now) name (g.S.Shelf.read_faults c.args.shelf.now) (g.S.Shelf.read_faults c.load.new.shelf) (Ok c.in-Ok.text))
     c.file-file.ensures c.in-Ok.ensures.loads in
-    let due = file-due c.args.words.now (g.S.Shelf.files c.args.shelf.now) c.in-Some.request c.in-Ok.text c.in_ok-request_due-in-Ok.field-0.lines c.in_ok-request_due-in-Ok.field-0.status
-    c.in-Some.ensures loaded.1 loaded.2 c.in_ok-request_due-in-Ok.ensures in
-    (loaded.0, due.0, due.1)
+    file-found c.args.words.now (g.S.Shelf.files c.args.shelf.now) (g.S.Shelf.read_faults c.args.shelf.now) (g.S.Shelf.read_faults c.load.new.shelf) c.in-Ok.text loaded.0 loaded.1
+    c.in-Some.request c.in_ok-find_requested-in-Ok.field-0 c.in-Some.ensures loaded.2 c.in_ok-find_requested-in-Ok.ensures
 
 pub returns-in_ok-too_long_due-in-Err-TooLong-clause-finds : goal.returns-in_ok-too_long_due-in-Err-TooLong-clause-finds
 returns-in_ok-too_long_due-in-Err-TooLong-clause-finds g c =
@@ -30,7 +27,6 @@ returns-in_ok-too_long_due-in-Err-TooLong-clause-finds g c =
     (subst (λ fault. Loads (g.S.Shelf.files c.args.shelf.now) c.file-file.result.now (g.S.Shelf.read_faults c.args.shelf.now) (g.S.Shelf.read_faults c.load.new.shelf) (Err fault))
     c.in-Err-TooLong.field-0-is c.in-Err-TooLong.ensures.loads) in
     let line = c.in_ok-too_long_due-in-Err-TooLong.ensures in
-    let due = too_long-due c.args.words.now (g.S.Shelf.files c.args.shelf.now) c.in-Some.request c.in_ok-too_long_due-in-Err-TooLong.field-0.lines c.in_ok-too_long_due-in-Err-TooLong.field-0.status
-    c.in-Some.ensures loaded.1
-    (line.0 ∙ ap (λ (name : List ℕ). too_long_line name ∷ []) (c.bytes.ensures ∙ c.file-file.ensures)) line.1 in
-    (loaded.0, due.0, due.1)
+    too_long-found c.args.words.now (g.S.Shelf.files c.args.shelf.now) (g.S.Shelf.read_faults c.args.shelf.now) (g.S.Shelf.read_faults c.load.new.shelf) c.in-Some.request
+    c.in_ok-too_long_due-in-Err-TooLong.field-0 loaded.0 c.in-Some.ensures loaded.1
+    (line.0 ∙ ap (λ (name : List ℕ). too_long_line name ∷ []) (c.bytes.ensures ∙ c.file-file.ensures)) line.1

@@ -1,45 +1,27 @@
-use Rattle.std.proofs.Common.{◌≡◌, ◌∙◌, ◌<◌, ◌++◌, ap, sym, arith, length, zero-add, add-one, get_or, [], take, rules}
-use Rattle.merc_tree.specs.Meaning.{value_at}
+use Rattle.std.proofs.Common.{◌≡◌, ◌∙◌, ◌++◌, ap, sym, subst, length}
+use Rattle.std.specs.Prelude.{◌==◌, true, false, ℕ, List}
+use Rattle.merc_value.specs.Block.{root_values}
 use Rattle.merc_top.specs.Lines.{line_end, comma_list}
-use Rattle.merc_top.specs.Output.{binding, bindings}
-use Rattle.merc_top.proofs.LineLemmas.{joined-more, joined, length-bindings, get_or-bindings, name_at, line_without, line_with}
+use Rattle.merc_top.specs.Output.{bindings}
+use Rattle.merc_top.proofs.LineLemmas.{empty_text, line-of_none, line-of_some, some_text}
 use Rattle.merc_top.proofs.lines.solution_line.Goals as goal
-use Rattle.merc_top.proofs.lines.solution_line.Goals.{then-len-eq0+in_ok-push-2, else-len-eq0}
-
-pub loop-number-preserved : goal.loop-number-preserved
-loop-number-preserved c =
-    let k = c.loop-number.number in
-    let names = c.args.names.now in
-    let env = c.args.environment.now in
-    let kept = c.loop-number.invariant in
-    let below : k < length names = omega (arith, c.len-number-end.ensures.count) in
-    let name : c.unwrap_or-name.result.now ≡ get_or names k [] =
-    ap (λ n. n.now) c.unwrap_or-name.ensures ∙ name_at names k c.text.result _ c.text.ensures (search rules) in
-    let next : binding c.unwrap_or-name.result.now c.value_at.result ≡ get_or (bindings 0 names env) k [] =
-    ap (λ n. binding n c.value_at.result) name ∙ ap (λ v. binding (get_or names k []) v) c.value_at.ensures
-    ∙ ap (λ n. binding (get_or names k []) (value_at env n)) (sym (zero-add k)) ∙ sym (get_or-bindings 0 names env k below) in
-    record {
-      line =
-          c.in_ok-push_binding.ensures
-          ∙ ap (λ front. front ++ binding c.unwrap_or-name.result.now c.value_at.result)
-          (c.in_ok-push.ensures.ok ∙ ap (λ front. front ++ c.loop-number.separator.now) kept.line
-          ∙ ap (λ s. joined (take k (bindings 0 names env)) ++ s) kept.separator)
-          ∙ joined-more (bindings 0 names env) k _ (omega (arith, length-bindings 0 names env)) next;
-      separator = rw add-one;
-    }
+use Rattle.merc_top.proofs.lines.solution_line.Goals.{then-is_empty+in_ok-push, else-is_empty}
 
 pub returns : goal.returns
 returns c =
     let names = c.args.names.now in
-    let env = c.args.environment.now in
-    let kept = c.loop-number.invariant in
-    let whole : c.if-len-eq0.line ≡ comma_list (bindings 0 names env) =
-    elim c.if-len-eq0.branch [
-      | then-len-eq0+in_ok-push-2 w ↦
-          w.line-is ∙ w.in_ok-push-2.ensures.ok
-          ∙ line_without names env c.loop-number.number c.loop-number.line (omega (arith, c.len.ensures.count, w.if-len-eq0.true)) kept.line
-      | else-len-eq0 w ↦
-          w.line-is ∙ line_with names env c.loop-number.number c.loop-number.line
-          (omega (arith, c.len.ensures.count, w.if-len-eq0.false)) (omega (arith, c.len-number-end.ensures.count)) kept.line
+    let variables = c.args.variables.now in
+    let values = root_values c.args.values.now in
+    let text = c.push_bindings.new.line in
+    let whole : c.if-is_empty.line ≡ comma_list (bindings names variables values) =
+    elim c.if-is_empty.branch [
+      | then-is_empty+in_ok-push w ↦
+          w.line-is ∙ w.in_ok-push.ensures.ok
+          ∙ line-of_none names variables values text (c.in_ok-push_bindings.ensures ∙ ap (λ (before : List ℕ). before ++ _) c.new.ensures)
+          (empty_text text (subst (λ (l : List ℕ). (length l == 0) ≡ true) c.bytes.ensures (sym w.if-is_empty.ensures)))
+      | else-is_empty w ↦
+          w.line-is
+          ∙ line-of_some names variables values text (c.in_ok-push_bindings.ensures ∙ ap (λ (before : List ℕ). before ++ _) c.new.ensures)
+          (some_text text (subst (λ (l : List ℕ). (length l == 0) ≡ false) c.bytes.ensures (sym w.if-is_empty.ensures)))
     ] in
-    c.in_ok-push-3.ensures.ok ∙ ap (λ text. text ++ line_end) whole
+    c.in_ok-push-2.ensures.ok ∙ ap (λ (front : List ℕ). front ++ line_end) whole
