@@ -305,9 +305,10 @@ breaks_module_output words files (checked_rule text refusal request refuses) =
 
 breaks_goal_output : (words : List (List ℕ)) (files : Files) → BreaksGoal words files → (lines : List (List ℕ)) × IsOutput words files lines goal_status
 breaks_goal_output words files breaks =
-    let lines = refusal_line (codes "goal") breaks.refusal ∷ [] in
-    (lines,
-    named_output words files breaks.text breaks.goal lines goal_status breaks.request (due_goal_refused breaks.names breaks.items breaks.found breaks.refusal breaks.accepted breaks.refuses))
+    let lines = refusal_line (codes "goal") breaks.refusal ∷ [] in (
+      lines,
+      named_output words files breaks.text breaks.goal lines goal_status breaks.request (due_goal_refused breaks.names breaks.items breaks.found breaks.refusal breaks.accepted breaks.refuses),
+    )
 
 checked_module_output : (words : List (List ℕ)) (files : Files) → IsCheckedModule words files → (lines : List (List ℕ)) × IsOutput words files lines accepted_status
 checked_module_output words files checked =
