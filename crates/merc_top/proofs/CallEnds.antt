@@ -18,7 +18,7 @@ use Rattle.merc_top.specs.Solving.{Solves}
 use Rattle.merc_top.proofs.Requests.{solve-unique}
 use Rattle.merc_top.proofs.OutputLaws.{IsAskedRun-unique}
 use Rattle.merc_top.proofs.Dues.{IsDueStatus, IsDueOver, end_status-small}
-use Rattle.merc_top.proofs.Causes.{absent-exactly, runs_output, status-exactly}
+use Rattle.merc_top.proofs.Causes.{absent-exactly, asked_output, status-exactly}
 use Rattle.merc_top.proofs.WritingLemmas.{appended-empty}
 
 all_put : (text : List ℕ) (old new : Option (List ℕ)) → new ≡ appended old text → PutsFront text old new
@@ -162,18 +162,12 @@ solves_writes : (names : List (List ℕ)) (variables : List ℕ) (asked : Run) (
 solves_writes names variables asked old new writes writes' ticks ticks' (Ok status) solves = ((solves.1, solves.2), solves.0)
 solves_writes names variables asked old new writes writes' ticks ticks' (Err cut) solves = (solves, tt)
 
--- what is due for the run that words ask for
-asked_due : (words : List (List ℕ)) (files : Files) (names : List (List ℕ)) (variables : List ℕ) (asked : Run) → AsksRun words files names variables asked
-    → IsOutput words files (run_lines names variables asked) (run_status asked)
-asked_due words files names variables asked asks =
-    (runs_output words files (run_status asked) (record { names = names; variables = variables; asked = asked; asks = asks; fits = refl })).1
-
 pub answers-run : (words : List (List ℕ)) (told : Option Files) (reads reads' : ℕ) (old new : Option (List ℕ)) (writes writes' : ℕ) (names : List (List ℕ)) (variables : List ℕ) (asked : Run)
     (ticks ticks' : ℕ) (written : Result ℕ Cut) (files : Files) → reads' ≡ reads → AreFiles told files → AsksRun words files names variables asked
     → Solves names variables asked old new writes writes' ticks ticks' written → Answers words told reads reads' old new writes writes' (status_told written)
 answers-run words told reads reads' old new writes writes' names variables asked ticks ticks' written files read fit asks solves =
     answers-told words told reads reads' old new writes writes' (run_lines names variables asked) (run_status asked) written read
-    (inl (end_status-small (length (answers_of asked)) (end_of asked))) (files, fit, asked_due words files names variables asked asks)
+    (inl (end_status-small (length (answers_of asked)) (end_of asked))) (files, fit, asked_output words files names variables asked asks)
     (solves_writes names variables asked old new writes writes' ticks ticks' written solves).0
     (solves_writes names variables asked old new writes writes' ticks ticks' written solves).1
 

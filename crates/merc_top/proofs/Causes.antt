@@ -285,15 +285,17 @@ checked_output words files text lines status request due =
       subst (λ content. FileOutput (Check (shown request.file)) content lines status) (sym request.content) (inr (request.within, due)),
     )
 
-pub runs_output : (words : List (List ℕ)) (files : Files) (status : ℕ) → RunsTo words files (HasStatus status) → (lines : List (List ℕ)) × IsOutput words files lines status
+-- what is due for the run that words ask for
+pub asked_output : (words : List (List ℕ)) (files : Files) (names : List (List ℕ)) (variables : List ℕ) (asked : Run) → AsksRun words files names variables asked
+    → IsOutput words files (run_lines names variables asked) (run_status asked)
+asked_output words files names variables asked asks =
+    named_output words files asks.text asks.goal (run_lines names variables asked) (run_status asked)
+    (record { file = asks.file; request = asks.request; content = asks.content; within = asks.within }) (due_runs names variables asked asks.run_is)
+
+runs_output : (words : List (List ℕ)) (files : Files) (status : ℕ) → RunsTo words files (HasStatus status) → (lines : List (List ℕ)) × IsOutput words files lines status
 runs_output words files status runs =
-    let asks = runs.asks in
-    let lines = run_lines runs.names runs.variables runs.asked in (
-      lines,
-      named_output words files asks.text asks.goal lines status
-          (record { file = asks.file; request = asks.request; content = asks.content; within = asks.within })
-          (subst (λ (n : ℕ). IsDue asks.file asks.text asks.goal lines n) (sym runs.fits) (due_runs runs.names runs.variables runs.asked asks.run_is)),
-    )
+    let lines = run_lines runs.names runs.variables runs.asked in
+    (lines, subst (λ (n : ℕ). IsOutput words files lines n) (sym runs.fits) (asked_output words files runs.names runs.variables runs.asked runs.asks))
 
 breaks_module_output : (words : List (List ℕ)) (files : Files) → BreaksModule words files → (lines : List (List ℕ)) × IsOutput words files lines module_status
 breaks_module_output words files (module_rule text goal refusal request refuses) =
@@ -303,9 +305,10 @@ breaks_module_output words files (checked_rule text refusal request refuses) =
 
 breaks_goal_output : (words : List (List ℕ)) (files : Files) → BreaksGoal words files → (lines : List (List ℕ)) × IsOutput words files lines goal_status
 breaks_goal_output words files breaks =
-    let lines = refusal_line (codes "goal") breaks.refusal ∷ [] in
-    (lines,
-    named_output words files breaks.text breaks.goal lines goal_status breaks.request (due_goal_refused breaks.names breaks.items breaks.found breaks.refusal breaks.accepted breaks.refuses))
+    let lines = refusal_line (codes "goal") breaks.refusal ∷ [] in (
+      lines,
+      named_output words files breaks.text breaks.goal lines goal_status breaks.request (due_goal_refused breaks.names breaks.items breaks.found breaks.refusal breaks.accepted breaks.refuses),
+    )
 
 checked_module_output : (words : List (List ℕ)) (files : Files) → IsCheckedModule words files → (lines : List (List ℕ)) × IsOutput words files lines accepted_status
 checked_module_output words files checked =

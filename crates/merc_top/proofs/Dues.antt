@@ -111,18 +111,35 @@ module _ (words : List (List ℕ)) (told : Option Files) (before now : ℕ) (tex
   pub file-found : (request : Request) (found : Found) → IsRequest words request → IfSome told (λ files. file_named (file_of request) files ≡ Some text)
       → IsRequestFound request text found → Finds words told before now (Ok found)
   file-found (Solve file goal) (Lines due) asked content found =
-      let files = files_with told file.now text content in
-      (same, inl (due_status-small file.now text goal.now due.lines due.status found.1),
-      (files.0, files.1, output (Solve file goal) files.0 due.lines due.status asked files.2 found.1, λ _ _ _ _. found.0))
+      let files = files_with told file.now text content in (
+        same,
+        inl (due_status-small file.now text goal.now due.lines due.status found.1),
+        (files.0, files.1, output (Solve file goal) files.0 due.lines due.status asked files.2 found.1, λ _ _ _ _. found.0),
+      )
   file-found (Solve file goal) (Runs ready) asked content (names, variables, run, run_is, is_ready) =
-      let files = files_with told file.now text content in
-      (same, (files.0, files.1, names, variables, run,
-      record { file = file.now; goal = goal.now; text = text; request = asked; content = files.2; within = within; run_is = run_is }, is_ready))
+      let files = files_with told file.now text content in (
+        same,
+        (
+          files.0,
+          files.1,
+          names,
+          variables,
+          run,
+          record { file = file.now; goal = goal.now; text = text; request = asked; content = files.2; within = within; run_is = run_is },
+          is_ready,
+        ),
+      )
   file-found (Check file) (Lines due) asked content found =
-      let files = files_with told file.now text content in
-      (same, inl (check_status-small file.now text due.lines due.status found),
-      (files.0, files.1, output (Check file) files.0 due.lines due.status asked files.2 found,
-      λ _ _ _ other. absurd (solve-no_check words other.file other.goal file.now other.request asked)))
+      let files = files_with told file.now text content in (
+        same,
+        inl (check_status-small file.now text due.lines due.status found),
+        (
+          files.0,
+          files.1,
+          output (Check file) files.0 due.lines due.status asked files.2 found,
+          λ _ _ _ other. absurd (solve-no_check words other.file other.goal file.now other.request asked),
+        ),
+      )
   file-found (Check file) (Runs ready) asked content found = absurd found
 
 too_long_content : (content : Option (List ℕ)) → IsTooLong content → (text : List ℕ) × (content ≡ Some text) × (file_limit < length text)

@@ -1,7 +1,8 @@
 -- Bindings put behind each other.
-use Rattle.std.proofs.Common.{◌≡◌, ◌+◌, ◌<◌, ◌≤◌, ◌∙◌, ap, sym, refl, List, [], ◌∷◌, ◌++◌, ℕ, suc, zero, length, take, get_or, append_assoc, codes, arith, length-take, length-append, take_all}
+use Rattle.std.proofs.Common.{◌≡◌, ◌+◌, ◌<◌, ◌≤◌, ◌∙◌, ap, sym, refl, List, [], ◌∷◌, ◌++◌, ℕ, suc, zero, length, take, get_or, append_assoc, codes, subst, arith, length-take, length-append, take_all}
 use Rattle.std.specs.Prelude.{◌==◌, true, false, Option, Some, None, slice_get, IfSome}
 use Rattle.std.proofs.lemmas.List.{take_more, append-nil}
+use Rattle.std.proofs.lemmas.Bool.Decides.{nat_tests}
 use Rattle.std.proofs.lemmas.Option.{same_Some, slice_get_within}
 use Rattle.merc_value.specs.Value.{Value}
 use Rattle.merc_value.specs.Text.{text_at, value_text}
@@ -62,10 +63,13 @@ binding-at names (first ∷ variables) (known ∷ values) zero variable value is
     ap (λ (some : ℕ). binding names some value) (sym (same_Some first variable is)) ∙ ap (λ (some : Value). binding names first some) (sym (same_Some known value at))
 binding-at names (first ∷ variables) (known ∷ values) (suc k) variable value is at = binding-at names variables values k variable value is at
 
+some_bytes : (name value : List ℕ) → 0 < length (name ++ codes " = " ++ value)
+some_bytes [] value = omega arith
+some_bytes (byte ∷ name) value = omega arith
+
 -- a binding has a text
 binding-some : (names : List (List ℕ)) (variable : ℕ) (value : Value) → 0 < length (binding names variable value)
-binding-some names variable value =
-    omega (arith, length-append (text_at names variable) (codes " = " ++ value_text names value), length-append (codes " = ") (value_text names value))
+binding-some names variable value = some_bytes (text_at names variable) (value_text names value)
 
 -- The line of no bindings is empty, and no other is.
 pub line-of_none : (names : List (List ℕ)) (variables : List ℕ) (values : List Value) (text : List ℕ) → text ≡ joined (bindings names variables values) → length text ≡ 0
@@ -97,12 +101,16 @@ some_holds None P item is holds = cc
 some_holds (Some other) P item is holds = subst P (same_Some other item is) holds
 
 pub empty_text : (text : List ℕ) → (length text == 0) ≡ true → length text ≡ 0
-empty_text [] is = refl
-empty_text (byte ∷ text) is = cc
+empty_text text is = none (length text) is
+  where
+    none : (n : ℕ) → (n == 0) ≡ true → n ≡ 0
+    none n test = grind (arith, nat_tests)
 
 pub some_text : (text : List ℕ) → (length text == 0) ≡ false → 0 < length text
-some_text [] is = cc
-some_text (byte ∷ text) is = omega arith
+some_text text is = positive (length text) is
+  where
+    positive : (n : ℕ) → (n == 0) ≡ false → 0 < n
+    positive n test = grind (arith, nat_tests)
 
 -- Given is a line that goes on with the bindings before one.
 module _ (names : List (List ℕ)) (variables : List ℕ) (values : List Value) (old line : List ℕ) (k : ℕ) (so_far : line ≡ old ++ joined (take k (bindings names variables values))) where

@@ -2,7 +2,6 @@
 use Rattle.std.specs.Prelude.{◌≡◌, ◌*◌, ℕ, pos, negsuc, List, [], ◌∷◌, length, Some, None, codes, refl}
 use Rattle.std.proofs.Common.{arith, slice_index, ap, sym}
 use Rattle.std.specs.Fmt.{decimal, digits}
-use Rattle.merc_base.specs.Names.{division_by_zero_name, fixed_names, nil_name}
 use Rattle.merc_base.specs.declared.category.Category.TheVariants.{Det}
 use Rattle.merc_base.specs.declared.place.Span.{Span}
 use Rattle.merc_base.specs.declared.refusal.Refusal.{Refusal}
@@ -10,8 +9,8 @@ use Rattle.merc_base.specs.declared.refusal.Rule.TheVariants.{BadToken}
 use Rattle.merc_base.specs.declared.refusal.Detail.TheVariants.{Plain}
 use Rattle.merc_tree.specs.declared.declarations.Arg.TheVariants.{Input, Output}
 use Rattle.merc_tree.specs.declared.declarations.PredDecl.{PredDecl}
-use Rattle.merc_value.specs.Value.{Value, Int, Con, none}
-use Rattle.merc_value.specs.Text.{word_operators}
+use Rattle.merc_value.specs.Value.{Value, Int}
+use Rattle.merc_value.specs.Block.{no_value}
 use Rattle.merc_goal_tree.specs.declared.goal.Operation.TheVariants.{Add}
 use Rattle.merc_goal_tree.specs.declared.goal.Symbol.TheVariants.{Integer}
 use Rattle.merc_graded_tree.specs.declared.basic.BasicGoal.{BasicGoal}
@@ -106,8 +105,7 @@ pub solution_line-no_variables : solution_line names [] [] ≡ codes "true\n"
 solution_line-no_variables = refl
 
 -- a variable without a value
-pub solution_line-no_value : solution_line names (x ∷ []) (None ∷ []) ≡ codes "X = []\n"
-unfolding nil_name
+pub solution_line-no_value : solution_line names (x ∷ []) (None ∷ []) ≡ solution_line names (x ∷ []) (Some no_value ∷ [])
 solution_line-no_value = refl
 
 pub solution_line-no_line_end : solution_line names (x ∷ []) (Some (int 5) ∷ []) ≡ codes "X = 5" → ⊥

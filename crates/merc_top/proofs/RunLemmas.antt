@@ -26,12 +26,19 @@ end-behind zero run = refl
 end-behind (suc made) run = end-behind made run
 
 steps-behind : (made : ℕ) (run : Run) → steps_of (behind_steps made run) ≡ made + steps_of run
-steps-behind zero run = refl
-steps-behind (suc made) run = ap suc (steps-behind made run)
+steps-behind zero run = omega arith
+steps-behind (suc made) run = let more = steps-behind made run in omega (arith, more)
+
+none-more : (more : ℕ) → more ≡ 0 + more
+none-more more = omega arith
+
+suc-within : (made more : ℕ) → suc (made + more) ≡ suc made + more
+suc-within made more = omega arith
 
 counted-more : (number made more : ℕ) → counted (counted number made) more ≡ counted number (made + more)
-counted-more number zero more = refl
-counted-more number (suc made) more = counted-more (if number == 18446744073709551615 then number else suc number) made more
+counted-more number zero more = ap (λ (n : ℕ). counted number n) (none-more more)
+counted-more number (suc made) more =
+    counted-more (if number == 18446744073709551615 then number else suc number) made more ∙ ap (λ (n : ℕ). counted number n) (suc-within made more)
 
 -- steps that are counted already, and those that are left behind them
 counted-behind : (number number' made : ℕ) (before rest : Run) → before ≡ behind_steps made rest → number' ≡ counted number made

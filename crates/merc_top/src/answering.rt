@@ -85,14 +85,15 @@ fn find_run(alloc: Global, name: &Text, text: &Text, goal: &Text) -> Result<Foun
         }
         Err(Fault::NoMemory) => return Err(NoMemory),
     };
-    match check_query(alloc, &checked, goal, &mut names) {
-        Ok(query) => Ok(Found::Run(prepare(alloc, names, &checked, query)?)),
+    let query = match check_query(alloc, &checked, goal, &mut names) {
+        Ok(query) => query,
         Err(Fault::Refused(refusal)) => {
             let due = refused(alloc, statuses::GOAL_REFUSED, b"goal", &refusal)?;
-            Ok(Found::Lines(due))
+            return Ok(Found::Lines(due));
         }
-        Err(Fault::NoMemory) => Err(NoMemory),
-    }
+        Err(Fault::NoMemory) => return Err(NoMemory),
+    };
+    Ok(Found::Run(prepare(alloc, names, &checked, query)?))
 }
 
 // Why nothing can be said of what is due.

@@ -83,14 +83,16 @@ pub fn run<K: Sink>(
             }
             Stop::SliceOver => continue,
             Stop::Ended => {
-                return put_end(sink, ended_status(count), &solutions_line(alloc, count)?);
+                let line = solutions_line(alloc, count)?;
+                return put_end(sink, ended_status(count), &line);
             }
             Stop::Raised(text) => {
                 let line = exception_line(alloc, &ready.names, text)?;
                 return put_end(sink, statuses::RAISED, &line);
             }
             Stop::LimitPassed => {
-                return put_end(sink, statuses::LIMIT_PASSED, &step_limit_line(alloc)?);
+                let line = step_limit_line(alloc)?;
+                return put_end(sink, statuses::LIMIT_PASSED, &line);
             }
             Stop::NoMemory => break,
         }

@@ -34,15 +34,15 @@ prepare-requires c =
     one-goal c.args.text.now c.args.goal.now c.check.new.names c.check_query.new.names checked.items checked.module checked.trees query.goal query.trees is_module
     c.in-Ok-check_query.ensures.accepted c.in-Ok-check_query.ensures.graded
 
-pub returns-in-Ok-check_query : goal.returns-in-Ok-check_query
-returns-in-Ok-check_query c =
+pub returns : goal.returns
+returns c =
     let checked = c.in-Ok.checked in
     let query = c.in-Ok-check_query.query in
     let is_module =
     subst (λ (names : List (List ℕ)). IsAccepted names c.check.new.names c.args.text.now checked.items checked.module) c.new-names.ensures c.in-Ok.ensures.accepted in
     run-found c.args.text.now c.args.goal.now c.check.new.names c.check_query.new.names checked.items checked.module checked.trees query.goal query.trees is_module
-    c.in-Ok-check_query.ensures.accepted c.in-Ok-check_query.ensures.graded c.args.name.now query.names query.answers c.in_ok-prepare-in-Ok-check_query.field-0
-    c.in-Ok.ensures.graded c.in-Ok-check_query.ensures.names c.in-Ok-check_query.ensures.answers c.in_ok-prepare-in-Ok-check_query.ensures
+    c.in-Ok-check_query.ensures.accepted c.in-Ok-check_query.ensures.graded c.args.name.now query.names query.answers c.in_ok-prepare.field-0
+    c.in-Ok.ensures.graded c.in-Ok-check_query.ensures.names c.in-Ok-check_query.ensures.answers c.in_ok-prepare.ensures
 
 pub returns-in-Err-Refused-check_query : goal.returns-in-Err-Refused-check_query
 returns-in-Err-Refused-check_query c =
@@ -52,6 +52,7 @@ returns-in-Err-Refused-check_query c =
     subst (λ (names : List (List ℕ)). IsAccepted names c.check.new.names c.args.text.now c.in-Ok.checked.items found) c.new-names.ensures c.in-Ok.ensures.accepted in
     let refuses =
     subst (λ (fault : Fault). IsRefusal (RefusesQuery c.check.new.names found c.args.goal.now) fault) c.in-Err-Refused-check_query.field-0-is c.in-Err-Refused-check_query.ensures.refused in
+    let line = line_by (codes "goal") (codes "goal") refusal refusal _ refl refl refl in
     let is = c.in_ok-due-in-Err-Refused-check_query.ensures in
-    refused-found c.args.name.now c.args.text.now c.args.goal.now c.in_ok-due-in-Err-Refused-check_query.due (refusal_line (codes "goal") refusal ∷ []) goal_status is.0 is.1 (lit< tt)
+    refused-found c.args.name.now c.args.text.now c.args.goal.now c.in_ok-due-in-Err-Refused-check_query.due (refusal_line (codes "goal") refusal ∷ []) goal_status (is.0 ∙ line) is.1 (lit< tt)
     (goal_refused c.check.new.names c.in-Ok.checked.items found refusal is_module refuses)

@@ -1,5 +1,6 @@
 -- A binding more, or no further one.
-use Rattle.std.proofs.Common.{◌≡◌, ◌∙◌, ◌<◌, ℕ, suc, ap, sym, refl, subst, arith, length, rules, add-one, append-nil, length-map}
+use Rattle.std.proofs.Common.{◌≡◌, ◌∙◌, ◌<◌, ℕ, suc, ap, sym, refl, subst, arith, length, rules, add-one}
+use Rattle.std.proofs.lemmas.List.{append-nil, length-map}
 use Rattle.std.specs.Prelude.{Some, slice_get}
 use Rattle.merc_value.specs.Block.{root_values, value_of}
 use Rattle.merc_top.proofs.LineLemmas.{bindings-step, bindings-variables_end, bindings-values_end, item_there, some_holds, value_there}

@@ -1,7 +1,7 @@
 use Rattle.std.proofs.Common.{◌≡◌, ◌∙◌, ◌++◌, ap, sym, subst, length}
 use Rattle.std.specs.Prelude.{◌==◌, true, false, ℕ, List}
 use Rattle.merc_value.specs.Block.{root_values}
-use Rattle.merc_top.specs.Lines.{line_end, comma_list}
+use Rattle.merc_top.specs.Lines.{line_end, comma_list, joined}
 use Rattle.merc_top.specs.Output.{bindings}
 use Rattle.merc_top.proofs.LineLemmas.{empty_text, line-of_none, line-of_some, some_text}
 use Rattle.merc_top.proofs.lines.solution_line.Goals as goal
@@ -17,11 +17,11 @@ returns c =
     elim c.if-is_empty.branch [
       | then-is_empty+in_ok-push w ↦
           w.line-is ∙ w.in_ok-push.ensures.ok
-          ∙ line-of_none names variables values text (c.in_ok-push_bindings.ensures ∙ ap (λ (before : List ℕ). before ++ _) c.new.ensures)
+          ∙ line-of_none names variables values text (c.in_ok-push_bindings.ensures ∙ ap (λ (before : List ℕ). before ++ joined (bindings names variables values)) c.new-line.ensures)
           (empty_text text (subst (λ (l : List ℕ). (length l == 0) ≡ true) c.bytes.ensures (sym w.if-is_empty.ensures)))
       | else-is_empty w ↦
           w.line-is
-          ∙ line-of_some names variables values text (c.in_ok-push_bindings.ensures ∙ ap (λ (before : List ℕ). before ++ _) c.new.ensures)
+          ∙ line-of_some names variables values text (c.in_ok-push_bindings.ensures ∙ ap (λ (before : List ℕ). before ++ joined (bindings names variables values)) c.new-line.ensures)
           (some_text text (subst (λ (l : List ℕ). (length l == 0) ≡ false) c.bytes.ensures (sym w.if-is_empty.ensures)))
     ] in
     c.in_ok-push-2.ensures.ok ∙ ap (λ (front : List ℕ). front ++ line_end) whole

@@ -44,9 +44,9 @@ returns-in_err-count-in-Answer g c =
     (g.K.Sink.write_faults c.args.sink.now) (g.K.Sink.write_faults c.loop.sink) c.args.ticks.now c.loop.ticks c.loop.count
     kept c.run.new.self ran.1 ran.2 ran.0 c.run.new.ticks ran.4.whole ran.5 ran.4.counts _ _ wrote.0 wrote.1))
 
-pub returns-in_err-solutions_line-in-Ended : goal.returns-in_err-solutions_line-in-Ended
-returns-in_err-solutions_line-in-Ended g c =
-    let cut = err_from_is_err_and c.from_residual-in_err-solutions_line-in-Ended.result c.from_residual-in_err-solutions_line-in-Ended.ensures.1 in
+pub returns-in_err-line-in-Ended : goal.returns-in_err-line-in-Ended
+returns-in_err-line-in-Ended g c =
+    let cut = err_from_is_err_and c.from_residual-in_err-line-in-Ended.result c.from_residual-in_err-line-in-Ended.ensures.1 in
     rw (cut.1, cut.2) (λ asked makes. progress-cut c.args.ready.now.names c.args.ready.now.variables asked c.loop.machine (g.K.Sink.written c.args.sink.now) (g.K.Sink.written c.loop.sink)
     (g.K.Sink.write_faults c.args.sink.now) (g.K.Sink.write_faults c.loop.sink) c.args.ticks.now c.loop.ticks c.loop.count (c.loop.invariant asked makes))
 
@@ -60,7 +60,7 @@ returns-in-Ended g c = λ asked makes.
     solves-end c.args.ready.now.names c.args.ready.now.variables asked c.loop.machine (g.K.Sink.written c.args.sink.now) (g.K.Sink.written c.loop.sink)
     (g.K.Sink.write_faults c.args.sink.now) (g.K.Sink.write_faults c.loop.sink) c.args.ticks.now c.loop.ticks c.loop.count
     kept RunDone ran.0 c.run.new.ticks ran.2.whole ran.2.counts _ _ _ _ c.put_end.result
-    (c.in_ok-solutions_line-in-Ended.ensures c.args.ready.now.names) c.ended_status.ensures c.put_end.ensures.writes c.put_end.ensures.status
+    (c.in_ok-line-in-Ended.ensures c.args.ready.now.names) c.ended_status.ensures c.put_end.ensures.writes c.put_end.ensures.status
 
 pub returns-in_err-line-in-Raised : goal.returns-in_err-line-in-Raised
 returns-in_err-line-in-Raised g c =
@@ -80,9 +80,9 @@ returns-in-Raised g c = λ asked makes.
     kept (RunRaised c.in-Raised.text) ran.0 c.run.new.ticks ran.2.whole ran.2.counts _ _ _ _ c.put_end-in-Raised.result
     (c.in_ok-line-in-Raised.ensures c.loop.count) (sym (end_status-raised c.loop.count c.in-Raised.text)) c.put_end-in-Raised.ensures.writes c.put_end-in-Raised.ensures.status
 
-pub returns-in_err-step_limit_line-in-LimitPassed : goal.returns-in_err-step_limit_line-in-LimitPassed
-returns-in_err-step_limit_line-in-LimitPassed g c =
-    let cut = err_from_is_err_and c.from_residual-in_err-step_limit_line-in-LimitPassed.result c.from_residual-in_err-step_limit_line-in-LimitPassed.ensures.1 in
+pub returns-in_err-line-in-LimitPassed : goal.returns-in_err-line-in-LimitPassed
+returns-in_err-line-in-LimitPassed g c =
+    let cut = err_from_is_err_and c.from_residual-in_err-line-in-LimitPassed.result c.from_residual-in_err-line-in-LimitPassed.ensures.1 in
     rw (cut.1, cut.2) (λ asked makes. progress-cut c.args.ready.now.names c.args.ready.now.variables asked c.loop.machine (g.K.Sink.written c.args.sink.now) (g.K.Sink.written c.loop.sink)
     (g.K.Sink.write_faults c.args.sink.now) (g.K.Sink.write_faults c.loop.sink) c.args.ticks.now c.loop.ticks c.loop.count (c.loop.invariant asked makes))
 
@@ -96,7 +96,7 @@ returns-in-LimitPassed g c = λ asked makes.
     solves-end c.args.ready.now.names c.args.ready.now.variables asked c.loop.machine (g.K.Sink.written c.args.sink.now) (g.K.Sink.written c.loop.sink)
     (g.K.Sink.write_faults c.args.sink.now) (g.K.Sink.write_faults c.loop.sink) c.args.ticks.now c.loop.ticks c.loop.count
     kept LimitPassed ran.0 c.run.new.ticks ran.2.whole ran.2.counts _ _ _ _ c.put_end-in-LimitPassed.result
-    (c.in_ok-step_limit_line-in-LimitPassed.ensures c.args.ready.now.names c.loop.count) (sym (end_status-limit c.loop.count)) c.put_end-in-LimitPassed.ensures.writes c.put_end-in-LimitPassed.ensures.status
+    (c.in_ok-line-in-LimitPassed.ensures c.args.ready.now.names c.loop.count) (sym (end_status-limit c.loop.count)) c.put_end-in-LimitPassed.ensures.writes c.put_end-in-LimitPassed.ensures.status
 
 pub loop-preserved : goal.loop-preserved
 loop-preserved g c = λ asked makes.
