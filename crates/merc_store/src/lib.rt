@@ -1,9 +1,9 @@
 //! The memory of a run: a heap, and frames whose slots stand for values over it.
 #![tactic(auto)]
 
+mod building;
 mod carrying;
 pub mod moving;
-mod building;
 pub mod performing;
 mod splitting;
 pub mod store;

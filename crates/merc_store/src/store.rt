@@ -1,5 +1,6 @@
 //! The store of a run: its heap and its frames.
 ghost use Rattle.std.specs.Prelude.{◌≡◌, []};
+ghost use Rattle.merc_store.specs.Data.{IsSound};
 
 use merc_base::Name;
 use merc_frames::{Frames, Slot};
@@ -61,5 +62,13 @@ impl Store {
             carried: Vec::new(alloc),
             words: Vec::new(alloc),
         }
+    }
+
+    /// Each word of the frames leads to a cell that is there. It does nothing, and tells this to the proofs of those that
+    /// see a store's value alone.
+    pub fn sound(&self)
+        ensures { IsSound self.now.cells self.now.stacks }
+    {
+        let _ = &self.heap;
     }
 }
