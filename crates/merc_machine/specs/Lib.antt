@@ -1,1 +1,8 @@
+pub mod Backward
+pub mod Coming
 pub mod Running
+pub mod RunningExamples
+pub mod Standing
+pub mod StandingExamples
+pub mod Weight
+pub mod WeightExamples

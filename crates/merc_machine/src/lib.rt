@@ -1,10 +1,13 @@
 //! The machine that runs compiled code.
 #![tactic(auto)]
 
-pub mod loaded;
+mod answering;
+mod branching;
+mod calling;
+mod controlling;
 pub mod machine;
 pub mod running;
+mod stepping;
 
-pub use loaded::{Loaded, load};
 pub use machine::Machine;
 pub use running::{Stop, Ticks};

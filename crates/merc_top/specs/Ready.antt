@@ -4,7 +4,7 @@ use Rattle.merc_meaning.specs.Trace.{Run}
 use Rattle.merc_code.specs.Steps.{Code, Codes}
 use Rattle.merc_code.specs.Meaning.{start}
 use Rattle.merc_last_calls.specs.LeanMeaning.{YieldsLean}
-use Rattle.merc_machine.specs.Running.{IsProgram}
+use Rattle.merc_load.specs.Loaded.{IsProgram}
 use Rattle.merc_top.specs.Output.{step_limit}
 use Rattle.merc_top.specs.declared.solving.Ready.{Ready}
 

@@ -17,7 +17,8 @@ use crate::writing::{Cut, put_line};
 use merc_base::{Name, Names, NoMemory, Sequence, Sink, Text};
 use merc_check::{Checked, Query};
 use merc_gen::generate;
-use merc_machine::{Loaded, Machine, Stop, Ticks, load};
+use merc_load::{Loaded, load};
+use merc_machine::{Machine, Stop, Ticks};
 use std::alloc::Global;
 
 /// The steps that a run may take.
@@ -58,7 +59,7 @@ pub fn prepare(
     Ok(Ready {
         names,
         variables,
-        program: load(alloc, &code)?,
+        program: load(alloc, code)?,
     })
 }
 
