@@ -95,7 +95,7 @@ pub fn run<K: Sink>(
                 let line = step_limit_line(alloc)?;
                 return put_end(sink, statuses::LIMIT_PASSED, &line);
             }
-            Stop::NoMemory => break,
+            Stop::NoMemory => return Err(Cut::NoMemory),
         }
     }
     Err(Cut::NoMemory)

@@ -116,8 +116,8 @@ loop-preserved-in-SliceOver g c = λ asked makes.
     (g.K.Sink.write_faults c.args.sink.now) (g.K.Sink.write_faults c.loop.sink) c.args.ticks.now c.loop.ticks c.loop.count
     kept c.run.new.self ran.0 4294967295 c.run.new.ticks ran.1.whole ran.2 ran.1.counts
 
-pub returns-after-loop : goal.returns-after-loop
-returns-after-loop g c = λ asked makes. progress-cut c.args.ready.now.names c.args.ready.now.variables asked c.loop.machine (g.K.Sink.written c.args.sink.now) (g.K.Sink.written c.loop.sink)
+pub returns : goal.returns
+returns g c = λ asked makes. progress-cut c.args.ready.now.names c.args.ready.now.variables asked c.loop.machine (g.K.Sink.written c.args.sink.now) (g.K.Sink.written c.loop.sink)
     (g.K.Sink.write_faults c.args.sink.now) (g.K.Sink.write_faults c.loop.sink) c.args.ticks.now c.loop.ticks c.loop.count (c.loop.invariant asked makes)
 
 pub returns-in-NoMemory : goal.returns-in-NoMemory
