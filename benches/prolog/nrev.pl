@@ -20,6 +20,6 @@ numbers(Low, High, Xs) :-
     (   Low > High ->
         Xs = []
     ;   Next is Low + 1,
-        numbers(Next, High, Others),
-        Xs = [Low | Others]
+        Xs = [Low | Others],
+        numbers(Next, High, Others)
     ).
