@@ -3,7 +3,7 @@ use Rattle.std.proofs.Common.{◌≡◌, codes, refl}
 use Rattle.std.specs.Fmt.{digits}
 use Rattle.merc_base.specs.Refusal.{refusal_text, construct_word, limit_word}
 use Rattle.merc_base.specs.declared.category.Category.TheVariants.{Det, Semidet, Multi, Nondet, Erroneous, Failure}
-use Rattle.merc_base.specs.declared.refusal.Construct.TheVariants.{Character, Float, IntegerSuffix, Declaration, Import, ModeName, Category, «Type» as TypeWord, Function, GrammarRule, Goal, Stage}
+use Rattle.merc_base.specs.declared.refusal.Construct.TheVariants.{Character, Float, IntegerSuffix, Declaration, Import, ModeName, Category, «Type» as TypeWord, Function, GrammarRule, Goal}
 use Rattle.merc_base.specs.declared.refusal.Detail.{Detail}
 use Rattle.merc_base.specs.declared.refusal.Detail.TheVariants.{Plain, Word, Limit, Pair, Categories, Conjunct}
 use Rattle.merc_base.specs.declared.refusal.LimitName.TheVariants.{GoalText, Name, Integer, Nesting, Arity, Variables, Conjuncts, Modes}
@@ -83,7 +83,7 @@ pub text-parallel : refusal_text (refused ParallelCategory (Conjunct 3 Nondet)) 
 unfolding digits
 text-parallel = refl
 
-pub text-outside : refusal_text (refused OutsideProfile (Word Stage)) ≡ codes "rule 15: outside the profile: stage"
+pub text-outside : refusal_text (refused OutsideProfile (Word Float)) ≡ codes "rule 15: outside the profile: float"
 unfolding digits
 text-outside = refl
 
@@ -123,9 +123,6 @@ word-grammar_rule = refl
 
 pub word-goal : construct_word Goal ≡ codes "goal"
 word-goal = refl
-
-pub word-stage : construct_word Stage ≡ codes "stage"
-word-stage = refl
 
 pub limit-goal_text : limit_word GoalText ≡ codes "goal text"
 limit-goal_text = refl

@@ -5,7 +5,7 @@ use Rattle.merc_base.specs.Category.{category_name}
 use Rattle.merc_base.specs.declared.refusal.Rule.{Rule}
 use Rattle.merc_base.specs.declared.refusal.Rule.TheVariants.{BadToken, NoTerm, WrongForm, UnknownType, DeclaredTwice, Undeclared, UnknownName, TypeMismatch, MissingMode, NeverReady, BindsOuter, UnboundOutput, WrongCategory, ParallelCategory, OutsideProfile, LimitPassed}
 use Rattle.merc_base.specs.declared.refusal.Construct.{Construct}
-use Rattle.merc_base.specs.declared.refusal.Construct.TheVariants.{Character, Float, IntegerSuffix, Declaration, Import, ModeName, Category, «Type» as TypeWord, Function, GrammarRule, Goal, Stage}
+use Rattle.merc_base.specs.declared.refusal.Construct.TheVariants.{Character, Float, IntegerSuffix, Declaration, Import, ModeName, Category, «Type» as TypeWord, Function, GrammarRule, Goal}
 use Rattle.merc_base.specs.declared.refusal.LimitName.{LimitName}
 use Rattle.merc_base.specs.declared.refusal.LimitName.TheVariants.{GoalText, Name, Integer, Nesting, Arity, Variables, Conjuncts, Modes}
 use Rattle.merc_base.specs.declared.refusal.Detail.{Detail}
@@ -63,7 +63,6 @@ construct_word TypeWord = codes "type"
 construct_word Function = codes "function"
 construct_word GrammarRule = codes "grammar rule"
 construct_word Goal = codes "goal"
-construct_word Stage = codes "stage"
 
 -- the words for what the compiler limits
 abbrev pub limit_word : LimitName → List ℕ

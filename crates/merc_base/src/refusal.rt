@@ -93,7 +93,6 @@ pub enum Construct {
     Function,
     GrammarRule,
     Goal,
-    Stage,
 }
 
 impl Construct {
@@ -113,7 +112,6 @@ impl Construct {
             Construct::Function => "function",
             Construct::GrammarRule => "grammar rule",
             Construct::Goal => "goal",
-            Construct::Stage => "stage",
         }
     }
 }

@@ -1,6 +1,3 @@
-pub mod Value
-pub mod Trace
-pub mod Meaning
 pub mod Term
 pub mod Types
 pub mod Nesting
@@ -13,7 +10,6 @@ pub mod Postfix
 pub mod PlacedParts
 pub mod PlacedPartsExamples
 pub mod Parts
-pub mod Examples
 pub mod TermExamples
 pub mod TypeExamples
 pub mod NodesExamples
