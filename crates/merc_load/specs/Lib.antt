@@ -5,3 +5,4 @@ pub mod Linking
 pub mod Loaded
 pub mod LoadedExamples
 pub mod Sizes
+pub mod Superinstructions
