@@ -1,16 +1,18 @@
 -- The cells of a heap, where it grows at its end and where it is cut.
-use Rattle.std.proofs.Common.{◌≡◌, ℕ, zero, suc, ◌+◌, ◌-◌, ◌<◌, ◌≤◌, ◌⊎◌, inl, inr, List, [], ◌∷◌, ◌++◌, length, map, take, drop, Some, refl, sym, ap, subst, ◌∙◌, arith, slice_get, get_or, length-append, append_assoc, append-nil}
-use Rattle.std.specs.List.{All}
-use Rattle.std.proofs.lemmas.List.{length-map}
+use Rattle.std.proofs.Common.{◌≡◌, ℕ, zero, suc, ◌+◌, ◌-◌, ◌<◌, ◌≤◌, ◌⊎◌, inl, inr, List, [], ◌∷◌, ◌++◌, length, map, take, drop, Option, Some, None, refl, sym, ap, subst, ◌∙◌, arith, slice_get, get_or, length-append, append_assoc, append-nil}
+use Rattle.std.specs.List.{All, slice_range}
+use Rattle.std.specs.Option.{IfNone}
+use Rattle.std.proofs.lemmas.List.{length-map, length-take-le, drop-take}
 use Rattle.merc_base.specs.Names.{nil_name}
 use Rattle.merc_value.specs.Value.{Con}
 use Rattle.merc_value.specs.Block.{CellData, AreLower, IsBelow, word_values, cell_values, value_of, no_value}
 use Rattle.merc_value.specs.Sharing.{IsWordFor}
+use Rattle.merc_value.specs.Writing.{arguments_of}
 use Rattle.merc_value.specs.declared.word.Word.{Word}
 use Rattle.merc_value.specs.declared.word.Word.TheVariants.{Int as IntWord, Text as TextWord, Atom as AtomWord, Cell as CellWord}
 use Rattle.merc_value.proofs.Values.{All-first, All-rest, cell_value_at}
 use Rattle.merc_value.proofs.BlockLaws.{raised, all_raised, value_of-with_cell, value_of-new_cell}
-use Rattle.merc_heap.specs.Heap.{field_of, word_of, no_cell, cell_behind, cells_behind, cells_of, cell_ending, IsFlat, Keeps}
+use Rattle.merc_heap.specs.Heap.{field_of, word_of, no_cell, cell_behind, cells_behind, cells_of, cell_ending, IsFlat, Keeps, symbol_of, arguments_in}
 use Rattle.merc_heap.specs.declared.slot.Slot.{Slot}
 use Rattle.merc_heap.specs.declared.slot.Slot.TheVariants.{Atom as AtomSlot, Header}
 
@@ -248,3 +250,49 @@ pub value_ending : (slots : List Slot) (place : ℕ) → IsFlat slots → place 
 value_ending slots place flat within =
     let found = found_ending slots place within in
     cell_value_at (cells_of slots) place (cell_ending slots place) no_value found (flat.lower place (cell_ending slots place) found)
+
+range_is : {A : Type 0} (xs : List A) (from to : ℕ) → from ≤ to → drop from (take to xs) ≡ slice_range xs from to
+range_is xs from to under =
+    let whole : to ≡ from + (to - from) = omega (arith, under) in
+    ap (λ n. drop from (take n xs)) whole ∙ drop-take from (to - from) xs
+
+read_found : {A : Type 0} (xs : List A) (i : ℕ) (x d : A) → slice_get xs i ≡ Some x → get_or xs i d ≡ x
+read_found [] i x d found = absurd (cc)
+read_found (y ∷ xs) zero x d found = cc
+read_found (y ∷ xs) (suc i) x d found = read_found xs i x d found
+
+-- the fields of a cell lie right before its header
+pub fields_before : (slots : List Slot) (place arity symbol : ℕ) → IsFlat slots → place < length slots → slice_get slots place ≡ Some (Header arity symbol)
+    → (cell_ending slots place).arguments ≡ map word_of (slice_range slots (place - arity) place)
+fields_before slots place arity symbol flat within found =
+    let room = flat.room place arity symbol found in
+    ap (λ (slot : Slot). (cell_behind (take place slots) slot).arguments) (read_found slots place (Header arity symbol) (AtomSlot nil_name) found)
+    ∙ ap (λ n. map word_of (drop (n - arity) (take place slots))) (length-take-le place slots (omega (arith, within)))
+    ∙ ap (map word_of) (range_is slots (place - arity) place (omega (arith)))
+
+-- the cell that ends at a place, as it is seen from outside
+module _ (slots read : List Slot) (cells : List CellData) (place : ℕ) (flat : IsFlat slots) (seen : cells_of slots ≡ cells) (is : read ≡ slots) (within : place < length cells) where
+  inside : place < length slots
+  inside = omega (arith, within, length-cells_of slots, ap length seen)
+
+  pub read_within : place < length read
+  read_within = omega (arith, inside, ap length is)
+
+  pub symbol_read : symbol_of (value_of cells (CellWord place)) ≡ Some (cell_ending read place).symbol
+  symbol_read =
+      sym (ap (λ (cs : List CellData). symbol_of (value_of cs (CellWord place))) seen)
+      ∙ ap symbol_of (value_ending slots place flat inside)
+      ∙ ap (λ (ss : List Slot). Some (cell_ending ss place).symbol) (sym is)
+
+  pub arguments_read : arguments_in cells (CellWord place) ≡ (cell_ending read place).arguments
+  arguments_read =
+      sym (ap (λ (cs : List CellData). arguments_in cs (CellWord place)) seen)
+      ∙ ap arguments_of (found_ending slots place inside)
+      ∙ ap (λ (ss : List Slot). (cell_ending ss place).arguments) (sym is)
+
+pub none_then : {A : Type 0} (found : Option A) {P Q : Type 0} → IfNone found P → (P → Q) → IfNone found Q
+none_then None held then = then held
+none_then (Some x) held then = tt
+
+pub some_is : {A : Type 0} (x y : A) → Some x ≡ Some y → x ≡ y
+some_is x y same = cc

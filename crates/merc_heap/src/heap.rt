@@ -1,10 +1,11 @@
 //! The heap: one flat list of cells.
-ghost use Rattle.std.specs.Prelude.{◌≡◌, ◌+◌, ◌++◌, ◌∷◌, ◌<◌, ◌≤◌, [], length, map, take, slice_get, IfOk, OnOk, OnErr};
-ghost use Rattle.std.specs.List.{All};
+ghost use Rattle.std.specs.Prelude.{◌≡◌, ◌+◌, ◌-◌, ◌++◌, ◌∷◌, ◌<◌, ◌≤◌, [], Some, length, map, take, slice_get, IfOk, OnOk, OnErr};
+ghost use Rattle.std.specs.Option.{IfSome, IfNone};
+ghost use Rattle.std.specs.List.{All, slice_range};
 ghost use Rattle.merc_value.specs.Value.{Con};
 ghost use Rattle.merc_value.specs.Block.{AreLower, IsBelow, word_values, cell_values, value_of};
 ghost use Rattle.merc_value.specs.Sharing.{IsWordFor};
-ghost use Rattle.merc_heap.specs.Heap.{Keeps, IsFlat, cell_ending, field_of, arguments_in, symbol_of};
+ghost use Rattle.merc_heap.specs.Heap.{Keeps, IsFlat, cell_ending, field_of, word_of, arguments_in, symbol_of};
 
 use crate::slot::Slot;
 use merc_base::{Name, NoMemory};
@@ -102,6 +103,37 @@ impl Heap {
         }
     }
 
+    /// The constructor of the cell at a place, with the number of its fields.
+    pub fn header(&self, place: usize) -> (Name, usize)
+        requires { place < length self.now }
+        ensures symbol { symbol_of (value_of self.now (Word.Cell place)) ≡ Some result.0 }
+        ensures count { length (arguments_in self.now (Word.Cell place)) ≡ result.1 }
+        ensures lower { AreLower self.now }
+    {
+        header_at(&self.slots, place)
+    }
+
+    /// The fields of a word whose value is of this constructor with so many arguments, in order; `None` exactly for
+    /// other words.
+    pub fn fields_of(&self, word: Word, symbol: Name, arity: usize) -> Option<&[Slot]>
+        requires { IsBelow (length self.now) word }
+        ensures fields { IfSome result (λ fields. (symbol_of (value_of self.now word) ≡ Some symbol) × (length (arguments_in self.now word) ≡ arity) × (map word_of fields.now ≡ arguments_in self.now word)) }
+        ensures none { IfNone result (symbol_of (value_of self.now word) ≡ Some symbol → length (arguments_in self.now word) ≡ arity → ⊥) }
+        ensures lower { AreLower self.now }
+    {
+        match word {
+            Word::Cell(place) => fields_at(&self.slots, place, symbol, arity),
+            Word::Atom(found) => {
+                if found == symbol && arity == 0 {
+                    Some(&self.slots[0..0])
+                } else {
+                    None
+                }
+            }
+            _ => None,
+        }
+    }
+
     /// The number of the fields of a word, 0 for all but a cell.
     pub fn arity(&self, word: Word) -> usize
         requires { IsBelow (length self.now) word }
@@ -178,6 +210,36 @@ fn arity_at(slots: &[Slot], place: usize) -> usize
     }
 }
 
+// The constructor of the cell that ends at a place, and the number of its fields, which lie right before it.
+fn header_at(slots: &[Slot], place: usize) -> (Name, usize)
+    requires within { place < length slots.now }
+    requires flat { IsFlat slots.now }
+    ensures symbol { result.0 ≡ (cell_ending slots.now place).symbol }
+    ensures count { result.1 ≡ length (cell_ending slots.now place).arguments }
+    ensures room { result.1 ≤ place }
+    ensures fields { (cell_ending slots.now place).arguments ≡ map word_of (slice_range slots.now (place - result.1) place) }
+{
+    match slots[place] {
+        Slot::Header(arity, symbol) => (symbol, arity as usize),
+        _ => (Name::NIL, 0),
+    }
+}
+
+// The fields of the cell that ends at a place, where it is of this constructor with so many fields.
+fn fields_at(slots: &[Slot], place: usize, symbol: Name, arity: usize) -> Option<&[Slot]>
+    requires within { place < length slots.now }
+    requires flat { IsFlat slots.now }
+    ensures fields { IfSome result (λ fields. ((cell_ending slots.now place).symbol ≡ symbol) × (length (cell_ending slots.now place).arguments ≡ arity) × (map word_of fields.now ≡ (cell_ending slots.now place).arguments)) }
+    ensures none { IfNone result ((cell_ending slots.now place).symbol ≡ symbol → length (cell_ending slots.now place).arguments ≡ arity → ⊥) }
+{
+    let (found, count) = header_at(slots, place);
+    if found == symbol && count == arity {
+        Some(&slots[place - arity..place])
+    } else {
+        None
+    }
+}
+
 // The field of this number of the cell that ends at a place, from 0.
 fn field_at(slots: &[Slot], place: usize, index: usize) -> Option<Word>
     requires within { place < length slots.now }
@@ -198,27 +260,14 @@ fn push_cell(slots: &mut Vec<Slot>, symbol: Name, arguments: &[Word]) -> Result<
     ensures ok { OnOk result (slots.new.items ≡ (slots.old.items ++ map field_of arguments.now) ++ Slot.Header (length arguments.now) symbol ∷ []) }
     ensures err { OnErr result (slots.new.items ≡ slots.old.items) }
 {
-    let start = slots.len();
-    match push_slots(slots, symbol, arguments) {
-        Ok(()) => Ok(start + arguments.len()),
-        Err(refused) => {
-            slots.truncate(start);
-            Err(refused)
-        }
-    }
-}
-
-// Puts fields and their header behind the others. Where memory is refused, some of them stand there.
-fn push_slots(slots: &mut Vec<Slot>, symbol: Name, arguments: &[Word]) -> Result<(), NoMemory>
-    ensures ok { OnOk result (slots.new.items ≡ (slots.old.items ++ map field_of arguments.now) ++ Slot.Header (length arguments.now) symbol ∷ []) }
-    ensures err { OnErr result (take (length slots.old.items) slots.new.items ≡ slots.old.items) }
-{
     let Ok(arity) = u32::try_from(arguments.len()) else {
         return Err(NoMemory);
     };
+    let place = slots.len() + arguments.len();
+    slots.reserve(arguments.len() + 1)?;
     for argument in arguments {
-        slots.push(Slot::field(*argument))?;
+        slots.push_reserved(Slot::field(*argument));
     }
-    slots.push(Slot::Header(arity, symbol))?;
-    Ok(())
+    slots.push_reserved(Slot::Header(arity, symbol));
+    Ok(place)
 }

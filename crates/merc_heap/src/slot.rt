@@ -5,15 +5,15 @@ ghost use Rattle.merc_heap.specs.Heap.{field_of, word_of};
 use merc_base::Name;
 use merc_value::Word;
 
-// What lies at a place: the word of a field, or the header of the cell whose fields lie at the places before. A word
-// within would have a tag of its own, which makes a slot half as large again.
+/// What lies at a place: the word of a field, or the header of the cell whose fields lie at the places before. A word
+/// within would have a tag of its own, which makes a slot half as large again.
 #[derive(Clone, Copy)]
-pub(crate) enum Slot {
+pub enum Slot {
     Integer(i64),
     Text(Name),
     Atom(Name),
     Cell(usize),
-    // The number of the fields, and the constructor. The shorter one goes first, since fields are laid out in order.
+    /// The number of the fields, and the constructor. The shorter one goes first, since fields are laid out in order.
     Header(u32, Name),
 }
 
@@ -30,8 +30,8 @@ impl Slot {
         }
     }
 
-    // The word of a field.
-    pub(crate) fn word(&self) -> Word
+    /// The word of a field.
+    pub fn word(&self) -> Word
         ensures { result ≡ word_of self.now }
     {
         match *self {

@@ -9,3 +9,4 @@ pub mod KindLemmas
 pub mod ReadingLemmas
 pub mod FillLemmas
 pub mod PerformLemmas
+pub mod ConstantLemmas

@@ -1,8 +1,23 @@
 -- What the functions do that an instruction is made of.
-use Rattle.std.proofs.Common.{◌≡◌, [], ◌∷◌, pos, Some, None, true, false, refl}
+use Rattle.std.proofs.Common.{◌≡◌, ℕ, ◌<◌, ◌+◌, List, [], ◌∷◌, length, pos, Some, None, true, false, slice_get, refl, sym, ap, subst, ◌∙◌, arith}
+use Rattle.std.specs.List.{All}
+use Rattle.std.proofs.lemmas.List.Elements.{All-nil, All-cons}
+use Rattle.merc_base.specs.Names.{division_by_zero_name}
+use Rattle.merc_value.specs.Value.{Int}
 use Rattle.merc_value.specs.declared.word.Word.TheVariants.{Int as IntWord, Text as TextWord, Cell as CellWord}
+use Rattle.merc_goal_tree.specs.declared.goal.Operation.TheVariants.{Div}
+use Rattle.merc_goal_tree.specs.declared.goal.Comparison.TheVariants.{Less}
+use Rattle.merc_meaning.specs.Trace.{Env}
+use Rattle.merc_meaning.specs.Steps.{value_at}
+use Rattle.merc_code.specs.declared.instruction.Instruction.TheVariants.{Integer, Arithmetic, Compare}
+use Rattle.merc_code.specs.Steps.{Effect, Raises, operates}
+use Rattle.merc_load.specs.Frames.{FitsInstruction}
 use Rattle.merc_frames.specs.declared.slot.Slot.TheVariants.{Empty, Int as IntSlot, Text as TextSlot, Cell as CellSlot, Mark}
-use Rattle.merc_store.specs.Performing.{word_at, words_at, integer_at, text_in, integer_is, text_is, stored}
+use Rattle.merc_store.specs.Data.{StoreData}
+use Rattle.merc_store.specs.FittingExamples.{frame, frame-example}
+use Rattle.merc_store.specs.Effects.{effect_of_both, Performs}
+use Rattle.merc_store.specs.Performing.{word_at, words_at, integer_at, text_in, integer_is, text_is, stored, DoesBoth}
+use Rattle.merc_store.specs.declared.store.Done.TheVariants.{Bound, Raised}
 
 word_at-example : word_at (Empty ∷ CellSlot 3 ∷ []) 1 ≡ Some (CellWord 3)
 word_at-example = refl
@@ -41,3 +56,40 @@ stored-example = refl
 
 stored-not : stored (1 ∷ []) (IntWord (pos 7) ∷ []) (Empty ∷ Empty ∷ []) ≡ IntSlot (pos 7) ∷ Empty ∷ [] → ⊥
 stored-not same = absurd (cc)
+
+-- the first variable has the value 7
+abbrev store : StoreData
+store = record { cells = []; stacks = record { current = frame; callers = []; choices = [] } }
+
+raised_effect : (effect : Effect) → Some (Raises division_by_zero_name) ≡ Some effect → Raises division_by_zero_name ≡ effect
+raised_effect effect is = cc
+
+raised_over : (variables : ℕ) (env : Env) (marks : List ℕ) (effect : Effect) → value_at env 0 ≡ Some (Int (pos 7))
+    → effect_of_both (Integer 1 (pos 0)) (Arithmetic Div 1 0 1) env ≡ Some effect → Performs store store variables marks effect (Raised division_by_zero_name)
+raised_over variables [] marks effect is found = absurd (cc)
+raised_over variables (first ∷ []) marks effect is found =
+    subst (λ e. Performs store store variables marks e (Raised division_by_zero_name))
+    (raised_effect effect (sym (ap (λ v. Some (operates (v ∷ Some (Int (pos 0)) ∷ []) Div 1 v (Some (Int (pos 0))))) is) ∙ found)) (refl, refl)
+raised_over variables (first ∷ second ∷ env) marks effect is found =
+    subst (λ e. Performs store store variables marks e (Raised division_by_zero_name))
+    (raised_effect effect (sym (ap (λ v. Some (operates (v ∷ Some (Int (pos 0)) ∷ env) Div 1 v (Some (Int (pos 0))))) is) ∙ found)) (refl, refl)
+
+-- 7 div 0 raises an exception, and the constant is given no value
+does_both-example : DoesBoth store store (Integer 1 (pos 0)) (Arithmetic Div 1 0 1) (Raised division_by_zero_name)
+does_both-example = record { performs = λ variables env marks effect fits within within' found. raised_over variables env marks effect (fits.values 0) found }
+
+integer_fits : FitsInstruction 2 3 (Integer 1 (pos 9))
+integer_fits = record {
+  variables_are_there = All-cons (λ (variable : ℕ). variable < 2) 1 [] (omega arith) (All-nil (λ (variable : ℕ). variable < 2));
+  marks_are_there = All-nil (λ (mark : ℕ). 2 + mark < 3);
+}
+
+compare_fits : FitsInstruction 2 3 (Compare Less 0 1)
+compare_fits = record { variables_are_there = All-nil (λ (variable : ℕ). variable < 2); marks_are_there = All-nil (λ (mark : ℕ). 2 + mark < 3) }
+
+-- 7 < 9 holds, and then the constant does not stay without a value
+does_both-not : DoesBoth store store (Integer 1 (pos 9)) (Compare Less 0 1) Bound → ⊥
+does_both-not does =
+    let done = does.performs 2 (Some (Int (pos 7)) ∷ []) (3 ∷ []) _ frame-example integer_fits compare_fits refl in
+    let same : Some (Int (pos 9)) ≡ None = done.1.values 1 in
+    absurd (cc)

@@ -3,6 +3,7 @@
 
 mod building;
 mod carrying;
+pub mod constants;
 pub mod moving;
 pub mod performing;
 mod splitting;
