@@ -1,13 +1,12 @@
 -- Going back to a caller.
-use Rattle.std.proofs.Common.{◌≡◌, ℕ, suc, ◌+◌, ◌-◌, ◌<◌, ◌≤◌, List, ◌∷◌, length, take, drop, Some, None, slice_get, slice_index_or, refl, sym, ap, ◌∙◌, subst, arith}
+use Rattle.std.proofs.Common.{◌≡◌, ℕ, suc, ◌+◌, ◌-◌, ◌<◌, ◌≤◌, List, ◌∷◌, length, take, Some, slice_get, slice_index_or, refl, sym, ap, ◌∙◌, subst, arith}
 use Rattle.merc_frames.specs.declared.slot.Slot.{Slot}
-use Rattle.merc_frames.specs.Stacks.{Caller, Stacks, caller_slot}
+use Rattle.merc_frames.specs.Stacks.{Caller, Stacks}
 use Rattle.merc_frames.specs.View.{frame_of, linked, chain, callers_of, view_of, Fine, Grows, newest, counted, lowered, caller_top}
 use Rattle.merc_frames.specs.declared.kept.Saved.{Saved}
 use Rattle.merc_frames.specs.declared.kept.Kept.{Kept}
 use Rattle.merc_frames.proofs.Stays.{chain_fuel}
-use Rattle.std.proofs.lemmas.List.{length-drop, length-take-le, get_or-take, get_or-drop}
-use Rattle.std.proofs.lemmas.Option.{slice_get_read, slice_get_past}
+use Rattle.std.proofs.lemmas.Option.{slice_get_read}
 use Rattle.merc_frames.specs.Stacks.{GivesBack}
 use Rattle.merc_frames.proofs.Moving.{moved_fine, moved_view, grown_length, grown_fine, grown_view}
 use Rattle.merc_frames.proofs.Newest.{bounded, counted_newest, settled_fine, settled_view}
@@ -32,22 +31,6 @@ given_back before after place slots callers p q =
 module _ (w : List Slot) (saved : List Saved) (cs : List Kept) (base size h : ℕ) (s : Saved) (f : Fine w saved cs base size h) (l : 0 < h) (e : slice_get saved (h - 1) ≡ Some s) where
   pub return_callers : callers_of w saved h ≡ record { place = s.place; slots = frame_of w s.base s.size } ∷ callers_of w saved s.parent
   return_callers = let n : h ≡ suc (h - 1) = omega (arith, l) in ap (λ x. callers_of w saved x) n ∙ callers_are w saved cs base size h (h - 1) s f e
-
-  return_slot : (number : ℕ) → caller_slot (callers_of w saved h) number ≡ slice_get (frame_of w s.base s.size) number
-  return_slot number = ap (λ x. caller_slot x number) return_callers
-
-  return_length : length (frame_of w s.base s.size) ≡ s.size
-  return_length = let a = f.within in let b = f.tops (h - 1) s e in length-take-le s.size (drop s.base w) (omega (arith, a, b, length-drop s.base w))
-
-  -- a slot of the newest caller's frame, as the code reads it
-  pub slot_inside : (number : ℕ) (x : Slot) → number < s.size → x ≡ slice_index_or w (s.base + number) x → caller_slot (callers_of w saved h) number ≡ Some x
-  slot_inside number x within read =
-      return_slot number
-      ∙ slice_get_read (frame_of w s.base s.size) s.size number x (sym return_length) within
-      (read ∙ sym (get_or-take s.size (drop s.base w) number x within ∙ get_or-drop s.base w number x))
-
-  pub slot_past : (number : ℕ) → s.size ≤ number → caller_slot (callers_of w saved h) number ≡ None
-  slot_past number past = return_slot number ∙ slice_get_past (frame_of w s.base s.size) number (omega (arith, return_length, past))
 
   pub parent_inside : s.parent ≤ length saved
   parent_inside = let a = f.stack in let b = f.parents (h - 1) s e in omega (arith, a, b, l)

@@ -3,7 +3,7 @@ use Rattle.std.proofs.Common.{◌≡◌, ℕ, List, [], ◌∷◌, Some, None, r
 use Rattle.merc_frames.specs.declared.slot.Slot.{Slot}
 use Rattle.merc_frames.specs.declared.slot.Slot.TheVariants.{Empty, Cell}
 use Rattle.merc_frames.specs.declared.frames.Backed.TheVariants.{End as BackedEnd, Dead as BackedDead, On as BackedOn}
-use Rattle.merc_frames.specs.Stacks.{Caller, Dead, GoesOn, Stacks, caller_place, caller_slot, oldest, softened, Opens, Enters, Renews, GivesBack, GoesBack}
+use Rattle.merc_frames.specs.Stacks.{Caller, Dead, GoesOn, Stacks, caller_place, oldest, softened, Opens, Enters, Renews, GivesBack, GoesBack}
 
 abbrev one : List Slot
 one = Cell 1 ∷ []
@@ -29,15 +29,6 @@ newest_place (caller ∷ others) = caller.place
 abbrev newest_slots : List Caller → List Slot
 newest_slots [] = []
 newest_slots (caller ∷ others) = caller.slots
-
-pub caller_slot-example : caller_slot callers 1 ≡ Some (Cell 2)
-caller_slot-example = refl
-
-pub caller_slot-past : (caller_slot callers 2 ≡ None) × (caller_slot [] 0 ≡ None)
-caller_slot-past = (refl, refl)
-
-pub caller_slot-counterexample : caller_slot callers 0 ≡ Some (Cell 2) → ⊥
-caller_slot-counterexample = λ same. absurd cc
 
 pub caller_place-example : (caller_place callers ≡ Some 9) × (caller_place [] ≡ None)
 caller_place-example = (refl, refl)

@@ -12,13 +12,27 @@ pub(crate) fn make_room(slots: &mut Vec<Slot>, base: usize, size: usize) -> Resu
 {
     match base.checked_add(size) {
         Some(end) => {
-            while slots.len() < end {
-                slots.push(Slot::Empty)?;
+            if slots.len() < end {
+                grow(slots, end)
+            } else {
+                Ok(())
             }
-            Ok(())
         }
         None => Err(NoMemory),
     }
+}
+
+// Makes the list as long as this. It is seldom too short, and what seldom runs is kept out of the callers' code.
+#[cold]
+#[inline(never)]
+fn grow(slots: &mut Vec<Slot>, end: usize) -> Result<(), NoMemory>
+    ensures ok { OnOk result (end ≤ length slots.new.items) }
+    ensures grows { Grows slots.old.items slots.new.items }
+{
+    while slots.len() < end {
+        slots.push(Slot::Empty)?;
+    }
+    Ok(())
 }
 
 /// Empties each slot of a frame. What lies below the frame stays.

@@ -1,6 +1,6 @@
 //! Frames of slots in one list, with who called and the choice points.
 ghost use Rattle.std.specs.Prelude.{◌≡◌, ◌+◌, ◌-◌, ◌≤◌, ℕ, [], ◌∷◌, length, nat_lt, Some, slice_get, slice_set, IfOk, OnOk, OnErr};
-ghost use Rattle.merc_frames.specs.Stacks.{Stacks, GoesOn, caller_place, caller_slot, oldest, softened, Opens, Enters, Renews, GivesBack, GoesBack};
+ghost use Rattle.merc_frames.specs.Stacks.{Stacks, GoesOn, caller_place, oldest, softened, Opens, Enters, Renews, GivesBack, GoesBack};
 ghost use Rattle.merc_frames.specs.View.{larger, counted, lowered, caller_top, newest};
 ghost use Rattle.merc_frames.specs.declared.kept.Kept.{Kept};
 ghost use Rattle.merc_frames.specs.declared.kept.Saved.{Saved};
@@ -98,21 +98,6 @@ impl Frames {
             true
         } else {
             false
-        }
-    }
-
-    /// The slot of this number of the newest caller's frame, from 0; `None` past its last, and where there is no caller.
-    pub fn caller_slot(&self, number: usize) -> Option<Slot>
-        ensures { result ≡ caller_slot self.now.callers number }
-    {
-        if self.height == 0 {
-            return None;
-        }
-        let caller = self.saved[self.height - 1];
-        if number < caller.size {
-            Some(self.slots[caller.base + number])
-        } else {
-            None
         }
     }
 

@@ -5,6 +5,7 @@ pub mod Fitting
 pub mod FittingExamples
 pub mod Moves
 pub mod Carrying
+pub mod CarryingExamples
 pub mod MovesExamples
 pub mod DataExamples
 pub mod Performing

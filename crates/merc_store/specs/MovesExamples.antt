@@ -6,7 +6,6 @@ use Rattle.merc_frames.specs.Stacks.{Dead, GoesOn}
 use Rattle.merc_load.specs.declared.passing.Pass.{Pass}
 use Rattle.merc_value.specs.Block.{CellData}
 use Rattle.merc_store.specs.declared.store.Backed.TheVariants.{End as BackedEnd, Dead as BackedDead, On as BackedOn}
-use Rattle.merc_store.specs.Carrying.{slots_of}
 use Rattle.merc_store.specs.Data.{StoreData}
 use Rattle.merc_store.specs.Moves.{carried, delivered, empty_frame, passed, GoesBack}
 
@@ -43,12 +42,6 @@ delivered-short = refl
 -- one slot further
 pub delivered-counterexample : delivered (0 ∷ []) (Cell 7 ∷ []) frame ≡ Cell 1 ∷ Cell 7 ∷ Mark 3 ∷ [] → ⊥
 delivered-counterexample = λ same. absurd cc
-
-pub slots_of-example : (slots_of (record { place = 4; slots = frame } ∷ []) ≡ frame) × (slots_of [] ≡ [])
-slots_of-example = (refl, refl)
-
-pub slots_of-counterexample : slots_of (record { place = 4; slots = frame } ∷ []) ≡ [] → ⊥
-slots_of-counterexample = λ same. absurd cc
 
 abbrev cell : CellData
 cell = record { symbol = 5; arguments = [] }

@@ -1,12 +1,12 @@
 //! Calls, returns and choice points.
 ghost use Rattle.std.specs.Prelude.{◌≡◌, [], ◌∷◌, List, length, slice_get, slice_set, OnOk};
-ghost use Rattle.merc_frames.specs.Stacks.{Caller, GoesOn, oldest, softened};
+ghost use Rattle.merc_frames.specs.Stacks.{Caller, GoesOn, caller_place, oldest, softened};
 ghost use Rattle.merc_frames.specs.declared.slot.Slot.{Slot};
-ghost use Rattle.merc_store.specs.Data.{place_of, with_choices, with_current};
+ghost use Rattle.merc_store.specs.Data.{with_choices, with_current};
 ghost use Rattle.merc_store.specs.Fitting.{slot_mark};
 ghost use Rattle.merc_store.specs.Moves.{Calls, CallsLast, GoesBack, Returns, empty_frame};
 
-use crate::carrying::{deliver, deliver_inputs, gather, gather_inputs, pass_inputs, slot_at};
+use crate::carrying::{deliver_inputs, deliver_outputs, gather_inputs, gather_outputs, slot_at};
 use crate::store::{Backed, Store};
 use merc_base::NoMemory;
 use merc_frames::Slot;
@@ -29,8 +29,9 @@ impl Store {
     pub fn call(&mut self, place: usize, size: usize, inputs: &[Pass]) -> Result<(), NoMemory>
         ensures { OnOk result (Calls self.old self.new place size inputs.now) }
     {
+        let first = gather_inputs(&self.frames, inputs, &mut self.carried)?;
         self.frames.enter(place, size)?;
-        pass_inputs(&mut self.frames, inputs);
+        deliver_inputs(&mut self.frames, inputs, first, &self.carried);
         Ok(())
     }
 
@@ -38,15 +39,15 @@ impl Store {
     pub fn call_last(&mut self, size: usize, inputs: &[Pass]) -> Result<(), NoMemory>
         ensures { OnOk result (CallsLast self.old self.new size inputs.now) }
     {
-        gather_inputs(&self.frames, inputs, &mut self.carried)?;
+        let first = gather_inputs(&self.frames, inputs, &mut self.carried)?;
         self.frames.renew(size)?;
-        deliver_inputs(&mut self.frames, inputs, &self.carried);
+        deliver_inputs(&mut self.frames, inputs, first, &self.carried);
         Ok(())
     }
 
     /// Where the newest caller goes on; `None` without one.
     pub fn caller_place(&self) -> Option<usize>
-        ensures { result ≡ place_of self.now.stacks.callers }
+        ensures { result ≡ caller_place self.now.stacks.callers }
     {
         self.frames.caller_place()
     }
@@ -56,9 +57,9 @@ impl Store {
     pub fn give_back(&mut self, own: &[Var], outs: &[Var]) -> Result<(), NoMemory>
         ensures { OnOk result ((newest : Caller) (callers : List Caller) → self.old.stacks.callers ≡ newest ∷ callers → Returns self.old self.new own.now outs.now) }
     {
-        gather(&self.frames, own, &mut self.carried)?;
+        let first = gather_outputs(&self.frames, own, &mut self.carried)?;
         if self.frames.give_back()?.is_some() {
-            deliver(&mut self.frames, outs, &self.carried);
+            deliver_outputs(&mut self.frames, outs, first, &self.carried);
         }
         Ok(())
     }

@@ -2,7 +2,7 @@
 use Rattle.std.proofs.Common.{◌∙◌, sym, ap}
 use Rattle.std.proofs.lemmas.Slice.Zip.{either_empty_from_Zip}
 use Rattle.merc_store.proofs.CarryingLaws.{with_slots, delivered_inputs_end}
-use Rattle.merc_store.proofs.carrying.deliver_inputs.Goals as goal
+use Rattle.merc_store.proofs.carrying.deliver_passed.Goals as goal
 
 pub returns : goal.returns
 returns c =

@@ -4,7 +4,7 @@ use Rattle.std.specs.Slice.Iter.{iter_rest}
 use Rattle.merc_load.specs.declared.passing.Pass.{Pass}
 use Rattle.merc_store.specs.Moves.{delivered}
 use Rattle.merc_store.proofs.CarryingLaws.{with_slots}
-use Rattle.merc_store.proofs.carrying.deliver_inputs.Given as goal
+use Rattle.merc_store.proofs.carrying.deliver_passed.Given as goal
 
 abbrev pub invariant-loop-pass : goal.invariant-loop-pass
 invariant-loop-pass l =
