@@ -7,7 +7,7 @@ use Rattle.merc_graded_tree.specs.declared.basic.BasicGoal.TheVariants.{True, Fa
 use Rattle.merc_graded_tree.specs.declared.entries.Running.TheVariants.{Sequential, Parallel}
 use Rattle.merc_graded_tree.specs.Nodes.{Node, node, Goal, Basic, Conjunction, Disjunction, Switch, Conditional, Negation, Quantified, Nodes, no_nodes, more_nodes}
 use Rattle.merc_grading.specs.Switches.{basic_beginning, beginning, goal_beginning, all_beginning, symbol_in, symbol_at}
-use Rattle.merc_switch.proofs.FoundVariables.{followed_either}
+use Rattle.merc_switch_choice.proofs.SplitVariables.{followed_either}
 use Rattle.merc_category_laws.specs.Guarding.{GuardsBasic, Guards, GuardsGoal, OneGuards}
 
 no_symbol : {A : Type 0} {s : Symbol} → ◌≡◌ {A = Option Symbol} None (Some s) → A

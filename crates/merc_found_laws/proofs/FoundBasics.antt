@@ -9,7 +9,7 @@ use Rattle.merc_graded_tree.specs.declared.basic.BasicGoal.{BasicGoal}
 use Rattle.merc_graded_tree.specs.Nodes.{Node, node, Goal, Basic, Conjunction, Disjunction, Switch, Conditional, Negation, Quantified, Nodes, no_nodes, more_nodes, nodes_of, list_of}
 use Rattle.merc_order.specs.Bound.{Bound}
 use Rattle.merc_grading.specs.Switches.{Group, split_variables, choice, grouped, switched, arms_of_groups, arm_body, regrouped, bound_behind, find, find_goal, find_all, find_each}
-use Rattle.merc_switch.proofs.GroupLaws.{AllIn, grouped_all}
+use Rattle.merc_switch_choice.proofs.GroupLaws.{AllIn, grouped_all}
 use Rattle.merc_type_check.specs.Typing.{IsTypedGoal}
 use Rattle.merc_order_laws.specs.WrittenGoals.{basic_goals, basic_goals_in, all_basic_goals, arm_basic_goals, written_goal}
 use Rattle.merc_order_laws.specs.TypedTree.{IsTypedTree}

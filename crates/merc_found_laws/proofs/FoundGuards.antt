@@ -8,7 +8,7 @@ use Rattle.merc_goal_tree.specs.declared.goal.Symbol.{Symbol}
 use Rattle.merc_graded_tree.specs.Nodes.{Node, node, Goal, Basic, Conjunction, Disjunction, Switch, Conditional, Negation, Quantified, Nodes, no_nodes, more_nodes, nodes_of, list_of}
 use Rattle.merc_order.specs.Bound.{Bound}
 use Rattle.merc_grading.specs.Switches.{Group, split_variables, choice, grouped, switched, arms_of_groups, arm_body, regrouped, bound_behind, find, find_goal, find_all, find_each}
-use Rattle.merc_switch.proofs.GroupLaws.{AllIn, grouped_all, AreApart, grouped_apart}
+use Rattle.merc_switch_choice.proofs.GroupLaws.{AllIn, grouped_all, AreApart, grouped_apart}
 use Rattle.merc_category_laws.specs.Guarding.{Guards, GuardsGoal, EachGuards, EachArmGuards, HasGuards, GoalHasGuards, AllHaveGuards, ArmsHaveGuards}
 use Rattle.merc_found_laws.proofs.Groups.{Begin, GroupsBegin, grouped_begin, symbols_apart}
 use Rattle.merc_found_laws.proofs.BeginningGuards.{beginning_guards}

@@ -12,7 +12,7 @@ use Rattle.merc_graded_tree.specs.Variables.{in_node, in_nodes}
 use Rattle.merc_order.specs.Bound.{Bound, Holds, with, among}
 use Rattle.merc_grading.specs.Switches.{Group, choice, grouped, switched, arms_of_groups, arm_body, regrouped}
 use Rattle.merc_grading.proofs.Choosing.{chosen}
-use Rattle.merc_switch.proofs.GroupLaws.{AllIn, grouped_all}
+use Rattle.merc_switch_choice.proofs.GroupLaws.{AllIn, grouped_all}
 use Rattle.merc_order_laws.specs.Bindings.{Variables, AreFree, ArmBinds}
 use Rattle.merc_order_laws.specs.GoodTree.{node_ends, some_node_ends, GoodNode, GoodGoal, GoodDisjuncts, GoodArms, DisjunctsBind, ArmsBind}
 use Rattle.merc_order_laws.proofs.Facts.{clash, or_left, or_right, or_cases, and_right, same_bool, among_filter, free_filter}

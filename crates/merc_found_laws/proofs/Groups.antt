@@ -9,8 +9,8 @@ use Rattle.merc_graded_tree.specs.Nodes.{Node, nodes_of}
 use Rattle.merc_graded_tree.specs.Roots.{symbols_of}
 use Rattle.merc_grading.specs.Known.{same_symbol, has_symbol}
 use Rattle.merc_grading.specs.Switches.{Group, symbol_at, of_symbol, without_symbol, with_disjunct, grouped, arms_of_groups}
-use Rattle.merc_switch.proofs.GroupLaws.{AreApart, grouped_apart}
-use Rattle.merc_switch.proofs.SameSymbols.{symbols_equal}
+use Rattle.merc_switch_choice.proofs.GroupLaws.{AreApart, grouped_apart}
+use Rattle.merc_switch_choice.proofs.SameSymbols.{symbols_equal}
 use Rattle.merc_order_laws.specs.GoodTree.{node_ends, some_node_ends}
 use Rattle.merc_order_laws.proofs.Facts.{or_assoc}
 

@@ -11,8 +11,8 @@ use Rattle.merc_graded_tree.specs.Variables.{in_goal, in_node, in_nodes, in_arms
 use Rattle.merc_order.specs.Bound.{Bound}
 use Rattle.merc_grading.specs.Switches.{Group, split_variables, choice, grouped, switched, arms_of_groups, arm_body, regrouped, bound_behind, find, find_goal, find_all, find_each}
 use Rattle.merc_grading.proofs.Choosing.{chosen}
-use Rattle.merc_switch.proofs.FoundVariables.{split_occurs}
-use Rattle.merc_switch.proofs.GroupLaws.{in_groups, in_grouped}
+use Rattle.merc_switch_choice.proofs.SplitVariables.{split_occurs}
+use Rattle.merc_switch_choice.proofs.GroupLaws.{in_groups, in_grouped}
 use Rattle.merc_order_laws.specs.GoodTree.{node_ends, goal_ends, all_nodes_end, some_node_ends, some_arm_ends}
 use Rattle.merc_order_laws.proofs.Facts.{or_left, or_same, and_same}
 use Rattle.merc_found_laws.proofs.Groups.{groups_end, ends_grouped}

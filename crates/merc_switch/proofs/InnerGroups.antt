@@ -15,15 +15,15 @@ use Rattle.merc_grading.specs.Switches.{Group as Arm, symbol_at, with_disjunct, 
 use Rattle.merc_switch.specs.declared.tasks.Group.{Group}
 use Rattle.merc_switch.specs.declared.tasks.Task.{Task}
 use Rattle.merc_switch.specs.declared.tasks.Task.TheVariants.{Judge, Close}
-use Rattle.merc_switch.specs.declared.choosing.Candidates.{Candidates}
-use Rattle.merc_switch.specs.Variables.{behind, all_behind}
-use Rattle.merc_switch.specs.Choosing.{chosen, AreLeft, Takes}
+use Rattle.merc_switch_choice.specs.declared.choosing.Candidates.{Candidates}
+use Rattle.merc_switch_choice.specs.Variables.{behind, all_behind}
+use Rattle.merc_switch_choice.specs.Choosing.{chosen, AreLeft, Takes}
 use Rattle.merc_switch.specs.Tasks.{HaveEnough, total, found_in, done, FitsTask, Performs}
 use Rattle.merc_switch.specs.Plans.{disjunction_plan, arm_plan, switch_plan, group_plan, choice_left, inner_group, outer_label, AreNarrowed, HaveSymbol}
-use Rattle.merc_switch.proofs.Steps.{among-behind, among-all_behind}
-use Rattle.merc_switch.proofs.SameSymbols.{symbol_self}
+use Rattle.merc_switch_choice.proofs.Members.{among-behind, among-all_behind}
+use Rattle.merc_switch_choice.proofs.SameSymbols.{symbol_self}
 use Rattle.merc_switch.proofs.JudgedGroups.{judges, regrouped_used, several_arm, or_turned}
-use Rattle.merc_switch.proofs.LeftLaws.{left_same}
+use Rattle.merc_switch_choice.proofs.LeftLaws.{left_same}
 
 -- tasks that lead to the same, of which no more is left to do
 pub record Reaches (declared : List TypeDef) (tasks tasks' : List Task) (goals : List Node) (bound : List ℕ) : Type 0 where

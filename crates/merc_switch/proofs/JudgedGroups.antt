@@ -19,18 +19,18 @@ use Rattle.merc_grading.specs.Switches.{Group as Arm, symbol_at, is_there, split
 use Rattle.merc_switch.specs.declared.tasks.Group.{Group}
 use Rattle.merc_switch.specs.declared.tasks.Task.{Task}
 use Rattle.merc_switch.specs.declared.tasks.Task.TheVariants.{Judge, Close}
-use Rattle.merc_switch.specs.Variables.{behind, all_behind}
-use Rattle.merc_switch.specs.Arms.{AreArms}
-use Rattle.merc_switch.specs.Choosing.{chosen}
+use Rattle.merc_switch_choice.specs.Variables.{behind, all_behind}
+use Rattle.merc_switch_choice.specs.Arms.{AreArms}
+use Rattle.merc_switch_choice.specs.Choosing.{chosen}
 use Rattle.merc_switch.specs.Tasks.{HaveEnough, effort, load, task_effort, total, found_in, judged, done, FitsTask, Performs}
 use Rattle.merc_switch.specs.Plans.{finds, disjunction_plan, arm_plan, arm_plans, switch_plan, group_plan, choice_left}
 use Rattle.merc_switch.proofs.FoundBeginnings.{found_beginning}
 use Rattle.merc_switch.proofs.FoundGroups.{choice_kept, changed, grouped_kept}
 use Rattle.merc_switch.proofs.FoundVariables.{in_found}
-use Rattle.merc_switch.proofs.GroupLaws.{grouped_filled, grouped_all, weigh, weigh_groups, weigh_grouped}
-use Rattle.merc_switch.proofs.ChoiceLaws.{choice_is}
-use Rattle.merc_switch.proofs.Occurrences.{or_false, or_true}
-use Rattle.merc_switch.proofs.Steps.{among-behind, among-all_behind, total-append, done_closed}
+use Rattle.merc_switch_choice.proofs.GroupLaws.{grouped_filled, grouped_all, weigh, weigh_groups, weigh_grouped}
+use Rattle.merc_switch_choice.proofs.ChoiceLaws.{choice_is}
+use Rattle.merc_switch_choice.proofs.Members.{or_false, or_true, among-behind, among-all_behind}
+use Rattle.merc_switch.proofs.Steps.{total-append, done_closed}
 
 -- only which variables are used counts, in any order
 

@@ -9,30 +9,12 @@ use Rattle.merc_graded_tree.specs.Roots.{label_of, root_of}
 use Rattle.merc_graded_tree.specs.Labels.{labels_of, inner_labels, joined_labels, arm_labels}
 use Rattle.merc_graded_tree.specs.Variables.{in_node, in_goal, in_nodes, in_arms}
 use Rattle.merc_order.specs.Bound.{among}
+use Rattle.merc_switch_choice.proofs.Members.{or_assoc, or_false, or_true}
 use Rattle.merc_switch.specs.Occurring.{variables_at}
-
-pub or_assoc : (a b c : Bool) → ((a || b) || c) ≡ (a || (b || c))
-or_assoc true b c = refl
-or_assoc false b c = refl
-
-pub or_false : (a : Bool) → (a || false) ≡ a
-or_false true = refl
-or_false false = refl
-
-pub or_true : (a : Bool) → (a || true) ≡ true
-or_true true = refl
-or_true false = refl
 
 or_turned : (a b : Bool) → (a || b) ≡ (b || a)
 or_turned true b = sym (or_true b)
 or_turned false b = sym (or_false b)
-
--- variables that are put behind others
-
-pub among-append : (front back : List ℕ) (variable : ℕ) → among (front ++ back) variable ≡ (among front variable || among back variable)
-among-append [] back variable = refl
-among-append (first ∷ rest) back variable =
-    ap (λ b. (variable == first) || b) (among-append rest back variable) ∙ sym (or_assoc (variable == first) (among rest variable) (among back variable))
 
 -- whether a variable is that of one of these labels
 abbrev pub in_labels : List Label → ℕ → Bool

@@ -1,9 +1,8 @@
 -- A goal taken apart into tasks becomes what it has to.
-use Rattle.std.specs.Prelude.{◌≡◌, ◌≤◌, ◌<◌, ℕ, zero, suc, ◌+◌, ◌-◌, Bool, ◌||◌, ◌==◌, List, [], ◌∷◌, ◌++◌, length, take, drop, if◌then◌else◌, true, false, refl}
+use Rattle.std.specs.Prelude.{◌≡◌, ◌≤◌, ◌<◌, ℕ, zero, suc, ◌+◌, ◌-◌, Bool, List, [], ◌∷◌, ◌++◌, length, take, drop, if◌then◌else◌, true, false, refl}
 use Rattle.std.specs.List.{AllByRecursion}
 use Rattle.std.proofs.Common.{◌∙◌, ap, sym, subst, arith}
 use Rattle.std.proofs.lemmas.List.{length-append, append_assoc, append-nil}
-use Rattle.std.proofs.lemmas.Bool.Decides.{Decides-eqb}
 use mathlib.Core.Path.{fun_ext}
 use Rattle.merc_tree.specs.Types.{TypeExpr}
 use Rattle.merc_tree.specs.declared.declarations.TypeDef.{TypeDef}
@@ -16,30 +15,14 @@ use Rattle.merc_grading.specs.Fitting.{Fits, FitsAll}
 use Rattle.merc_grading.specs.Switches.{split_variables, regrouped, bound_behind, find, find_all, find_each}
 use Rattle.merc_switch.specs.declared.tasks.Task.{Task}
 use Rattle.merc_switch.specs.declared.tasks.Task.TheVariants.{Find, Keep, Bind, Unbind, Close}
-use Rattle.merc_switch.specs.Variables.{behind, all_behind}
+use Rattle.merc_switch_choice.specs.Variables.{behind, all_behind}
 use Rattle.merc_switch.specs.Tasks.{HaveEnough, effort, all_effort, load, total, found_in, done, FitsTask, Performs}
 use Rattle.merc_switch.specs.Plans.{in_turn, plan}
-use Rattle.merc_switch.proofs.Occurrences.{among-append, or_false, or_true, or_assoc}
+use Rattle.merc_switch_choice.proofs.Members.{among-all_behind}
 use Rattle.merc_switch.proofs.FoundBeginnings.{found_beginning}
 use Rattle.merc_switch.proofs.FoundGroups.{split_variables_kept}
 
 -- what is bound once outputs are
-
-member_if : (b : Bool) (bound : List ℕ) (v w : ℕ) → among bound v ≡ b → among (if b then bound else bound ++ v ∷ []) w ≡ (among bound w || (w == v))
-member_if true bound v w h = already (w == v) refl
-  where
-    already : (c : Bool) → (w == v) ≡ c → among bound w ≡ (among bound w || c)
-    already true same = ap (among bound) ((Decides-eqb w v).0 same) ∙ h ∙ sym (or_true (among bound w))
-    already false same = sym (or_false (among bound w))
-member_if false bound v w h = among-append bound (v ∷ []) w ∙ ap (λ c. among bound w || c) (or_false (w == v))
-
-pub among-behind : (bound : List ℕ) (v w : ℕ) → among (behind bound v) w ≡ (among bound w || (w == v))
-among-behind bound v w = member_if (among bound v) bound v w refl
-
-pub among-all_behind : (bound more : List ℕ) (w : ℕ) → among (all_behind bound more) w ≡ (among bound w || among more w)
-among-all_behind bound [] w = sym (or_false (among bound w))
-among-all_behind bound (first ∷ rest) w =
-    among-all_behind (behind bound first) rest w ∙ ap (λ b. b || among rest w) (among-behind bound first w) ∙ or_assoc (among bound w) (w == first) (among rest w)
 
 more_bound : (bound more : List ℕ) → among (all_behind bound more) ≡ with (among bound) (among more)
 more_bound bound more = fun_ext (λ w. among-all_behind bound more w)

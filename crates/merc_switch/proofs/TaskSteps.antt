@@ -8,7 +8,7 @@ use Rattle.merc_graded_tree.specs.Roots.{arity_of, last_joined}
 use Rattle.merc_switch.specs.declared.tasks.Group.{Group}
 use Rattle.merc_switch.specs.declared.tasks.Task.{Task}
 use Rattle.merc_switch.specs.declared.tasks.Task.TheVariants.{Find, Keep, Bind, Unbind, Judge, Close}
-use Rattle.merc_switch.specs.Variables.{all_behind}
+use Rattle.merc_switch_choice.specs.Variables.{all_behind}
 use Rattle.merc_switch.specs.Tasks.{HaveEnough, Performs}
 use Rattle.merc_switch.specs.Plans.{plan}
 use Rattle.merc_switch.proofs.Steps.{finds_goal, keeps_goal, binds_goal, unbinds, closes}

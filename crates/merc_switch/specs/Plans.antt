@@ -11,7 +11,7 @@ use Rattle.merc_grading.specs.Switches.{Group as Arm, symbol_at, grouped, split_
 use Rattle.merc_switch.specs.declared.tasks.Group.{Group}
 use Rattle.merc_switch.specs.declared.tasks.Task.{Task}
 use Rattle.merc_switch.specs.declared.tasks.Task.TheVariants.{Find, Keep, Bind, Unbind, Judge, Close}
-use Rattle.merc_switch.specs.Variables.{behind, all_behind}
+use Rattle.merc_switch_choice.specs.Variables.{behind, all_behind}
 
 -- goals one after the other, behind which no more is bound than before them
 abbrev pub in_turn : ℕ → List Node → List Task

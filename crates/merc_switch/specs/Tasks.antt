@@ -11,7 +11,7 @@ use Rattle.merc_grading.specs.Fitting.{Fits}
 use Rattle.merc_switch.specs.declared.tasks.Group.{Group}
 use Rattle.merc_switch.specs.declared.tasks.Task.{Task}
 use Rattle.merc_switch.specs.declared.tasks.Task.TheVariants.{Find, Keep, Bind, Unbind, Judge, Close}
-use Rattle.merc_switch.specs.Variables.{all_behind}
+use Rattle.merc_switch_choice.specs.Variables.{all_behind}
 
 -- The tasks have enough goals, where there are so many before: what is closed joins no more than there are.
 abbrev pub HaveEnough : ℕ → List Task → Type 0

@@ -16,7 +16,7 @@ use Rattle.merc_switch.specs.declared.tasks.Group.{Group}
 use Rattle.merc_switch.specs.declared.tasks.Task.TheVariants.{Find, Judge, Close}
 use Rattle.merc_switch.specs.Tasks.{HaveEnough, done}
 use Rattle.merc_switch.specs.Plans.{plan, switch_plan, group_plan, choice_left, inner_group, outer_label, AreNarrowed, HaveSymbol}
-use Rattle.merc_switch.specs.Choosing.{chosen}
+use Rattle.merc_switch_choice.specs.Choosing.{chosen}
 
 -- `not C = red`
 abbrev not_red : Node

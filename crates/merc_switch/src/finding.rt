@@ -10,10 +10,10 @@ use crate::copying::put_copy;
 use crate::judging::judge;
 use crate::planning::plan_goal;
 use crate::tasks::{Task, Tasks};
-use crate::variables::{VarSet, bound_inputs};
 use merc_base::NoMemory;
 use merc_graded_tree::{NodeRef, Nodes};
 use merc_known::Known;
+use merc_switch_choice::{VarSet, bound_inputs};
 use merc_tree::Arg;
 use std::alloc::Global;
 

@@ -7,18 +7,14 @@ ghost use Rattle.merc_switch.specs.declared.tasks.Task.TheVariants.{Judge, Close
 ghost use Rattle.merc_switch.specs.Tasks.{Performs};
 ghost use Rattle.merc_switch.specs.Plans.{disjunction_plan, switch_plan, finds, arm_plan, inner_group, outer_label, AreNarrowed, HaveSymbol};
 
-use crate::arms::arms_of;
-use crate::choosing::Candidates;
 use crate::copying::copy_variables;
-use crate::counted::Disjuncts;
-use crate::disjuncts::Disjunct;
 use crate::occurring::outputs_in;
 use crate::tasks::{Group, Task, Tasks};
-use crate::variables::VarSet;
 use merc_base::{NoMemory, Sequence};
 use merc_goal_tree::{Symbol, Var};
 use merc_graded_tree::{Label, NodeRef, Root};
 use merc_known::Known;
+use merc_switch_choice::{Candidates, Disjunct, Disjuncts, VarSet, arms_of};
 use std::alloc::Global;
 
 /// Plans what disjuncts become: a switch, or else a disjunction. Where all of them go to one arm of the switch they are

@@ -4,14 +4,13 @@ ghost use Rattle.std.specs.List.{list_all};
 ghost use Rattle.merc_graded_tree.specs.Nodes.{nodes_of};
 ghost use Rattle.merc_graded_tree.specs.Variables.{in_node, in_nodes, variables_of};
 ghost use Rattle.merc_order.specs.Bound.{among};
-ghost use Rattle.merc_switch.specs.Variables.{all_behind};
+ghost use Rattle.merc_switch_choice.specs.Variables.{all_behind};
 ghost use Rattle.merc_switch.specs.Occurring.{variables_at};
 
-use crate::disjuncts::Disjunct;
-use crate::variables::VarSet;
 use merc_base::NoMemory;
 use merc_goal_tree::{Var, Vars};
 use merc_graded_tree::{BasicGoal, NodeRef, Root};
+use merc_switch_choice::{Disjunct, VarSet};
 use std::alloc::Global;
 
 /// Those of the outputs that occur in the disjuncts. No more disjuncts are gone through than it takes to find them all, and

@@ -6,12 +6,10 @@ ghost use Rattle.merc_grading.specs.Switches.{split_variables};
 ghost use Rattle.merc_switch.specs.Plans.{plan, in_turn, disjoined, decided};
 
 use crate::copying::{copy_variables, label_with};
-use crate::counted::Disjuncts;
-use crate::disjuncts::Disjunct;
 use crate::tasks::{Group, Task, Tasks};
-use crate::variables::VarSet;
 use merc_base::NoMemory;
 use merc_graded_tree::{Label, NodeRef, NodeView, Parts, Root};
+use merc_switch_choice::{Disjunct, Disjuncts, VarSet};
 use std::alloc::Global;
 
 /// Plans the search in a goal, where so many variables are bound.

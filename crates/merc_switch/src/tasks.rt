@@ -1,11 +1,10 @@
 //! What is to be done to find the switches of a goal.
 ghost use Rattle.std.specs.Prelude.{◌≡◌, [], ◌∷◌, MatchOption, OnOk};
 
-use crate::counted::Disjuncts;
-use crate::variables::VarSet;
 use merc_base::{Category, NoMemory};
 use merc_goal_tree::Vars;
 use merc_graded_tree::{Label, NodeRef};
+use merc_switch_choice::{Disjuncts, VarSet};
 use std::alloc::Global;
 use std::marker::Model;
 

@@ -5,8 +5,8 @@ use Rattle.merc_goal_tree.specs.declared.goal.Symbol.{Symbol}
 use Rattle.merc_graded_tree.specs.Nodes.{Node}
 use Rattle.merc_grading.specs.Known.{same_symbol}
 use Rattle.merc_grading.specs.Switches.{Group, symbol_at, of_symbol, without_symbol, with_disjunct, grouped}
-use Rattle.merc_switch.proofs.GroupLaws.{AreApart, grouped_apart, AllIn}
-use Rattle.merc_switch.proofs.SameSymbols.{symbols_equal}
+use Rattle.merc_switch_choice.proofs.GroupLaws.{AreApart, grouped_apart, AllIn}
+use Rattle.merc_switch_choice.proofs.SameSymbols.{symbols_equal}
 use Rattle.merc_truth_laws.proofs.Basics.{either}
 
 -- each disjunct begins with a symbol of the variable

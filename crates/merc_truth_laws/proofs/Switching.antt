@@ -12,8 +12,8 @@ use Rattle.merc_graded_tree.specs.Variables.{among, in_goal, in_node, in_nodes, 
 use Rattle.merc_graded_tree.specs.Nodes.{Arms}
 use Rattle.merc_grading.specs.Switches.{Group, grouped, arm_body, arms_of_groups, switched, regrouped, choice}
 use Rattle.merc_grading.proofs.Choosing.{chosen}
-use Rattle.merc_switch.proofs.FoundVariables.{split_occurs}
-use Rattle.merc_switch.proofs.GroupLaws.{AllIn, grouped_all, in_groups, in_grouped}
+use Rattle.merc_switch_choice.proofs.SplitVariables.{split_occurs}
+use Rattle.merc_switch_choice.proofs.GroupLaws.{AllIn, grouped_all, in_groups, in_grouped}
 use Rattle.merc_meaning.specs.Truth.{Assignment, IsAssignment, Outside, with, AgreeOn, Somewhere, Everywhere, Judgement, Yes, No, NoGoal, YesAny, NoAll, YesArm, NoArms}
 use Rattle.merc_order_laws.proofs.Facts.{clash, or_left, or_right, or_cases, or_same, same_bool}
 use Rattle.merc_truth_laws.proofs.Basics.{either}

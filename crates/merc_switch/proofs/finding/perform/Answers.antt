@@ -1,4 +1,4 @@
-use Rattle.merc_switch.proofs.BeginningLaws.{OnOk-weaker}
+use Rattle.merc_switch_choice.proofs.BeginningLaws.{OnOk-weaker}
 use Rattle.merc_switch.proofs.TaskSteps.{performs_find, performs_keep, performs_bind, performs_unbind, performs_judge, performs_close, close_enough}
 use Rattle.merc_switch.proofs.finding.perform.Goals as goal
 

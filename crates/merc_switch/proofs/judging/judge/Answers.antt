@@ -4,9 +4,9 @@ use Rattle.std.proofs.lemmas.Result.{on_ok_weaker}
 use Rattle.merc_order.specs.Bound.{among}
 use Rattle.merc_grading.specs.Switches.{symbol_at, is_there}
 use Rattle.merc_switch.specs.declared.tasks.Task.TheVariants.{Judge}
-use Rattle.merc_switch.specs.Choosing.{chosen}
+use Rattle.merc_switch_choice.specs.Choosing.{chosen}
 use Rattle.merc_switch.specs.Plans.{HaveSymbol, AreNarrowed, disjunction_plan, switch_plan, inner_group}
-use Rattle.merc_switch.proofs.ChoiceLaws.{chosen_split}
+use Rattle.merc_switch_choice.proofs.ChoiceLaws.{chosen_split}
 use Rattle.merc_switch.proofs.InnerGroups.{with_disjuncts, reaches_end, reaches_inner, choice_told, inner_left, inner_narrowed, ends_open, ends_parted, ends_used_up}
 use Rattle.merc_switch.proofs.judging.judge.Goals as goal
 

@@ -2,7 +2,7 @@ use Rattle.std.proofs.Common.{◌≡◌, ◌∷◌, List, true}
 use Rattle.merc_graded_tree.specs.Nodes.{Node}
 use Rattle.merc_order.specs.Bound.{among}
 use Rattle.merc_switch.specs.declared.tasks.Task.TheVariants.{Judge}
-use Rattle.merc_switch.specs.Choosing.{AreLeft}
+use Rattle.merc_switch_choice.specs.Choosing.{AreLeft}
 use Rattle.merc_switch.specs.Plans.{AreNarrowed}
 use Rattle.merc_switch.proofs.InnerGroups.{Reaches}
 use Rattle.merc_switch.proofs.judging.judge.Given as goal

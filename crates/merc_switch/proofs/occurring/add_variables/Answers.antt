@@ -4,7 +4,7 @@ use Rattle.merc_order.specs.Bound.{among}
 use Rattle.merc_switch.specs.Occurring.{variables_at}
 use Rattle.merc_switch.proofs.Copies.{first_left, is_there}
 use Rattle.merc_switch.proofs.Occurrences.{in_labels_of, labels_more}
-use Rattle.merc_switch.proofs.Steps.{among-all_behind}
+use Rattle.merc_switch_choice.proofs.Members.{among-all_behind}
 use Rattle.merc_switch.proofs.occurring.add_variables.Goals as goal
 
 pub loop-index-init : goal.loop-index-init

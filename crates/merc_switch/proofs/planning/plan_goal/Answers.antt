@@ -1,6 +1,6 @@
 use Rattle.std.proofs.Common.{◌∙◌, ap}
 use Rattle.merc_graded_tree.specs.declared.entries.Root.TheVariants.{Conjunction as ConjunctionRoot}
-use Rattle.merc_switch.proofs.BeginningLaws.{OnOk-weaker}
+use Rattle.merc_switch_choice.proofs.BeginningLaws.{OnOk-weaker}
 use Rattle.merc_switch.proofs.PlanLaws.{with_root, plans_conjunction, plans_disjunction}
 use Rattle.merc_switch.proofs.planning.plan_goal.Goals as goal
 

@@ -1,5 +1,5 @@
 use Rattle.std.proofs.Common.{arith}
-use Rattle.merc_switch.proofs.SplitCounts.{counted}
+use Rattle.merc_switch_choice.proofs.SplitCounts.{counted}
 use Rattle.merc_switch.proofs.planning.split_count.Goals as goal
 
 pub returns : goal.returns

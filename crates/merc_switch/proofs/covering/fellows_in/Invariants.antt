@@ -1,6 +1,0 @@
-use Rattle.std.proofs.Common.{◌≡◌, drop}
-use Rattle.merc_switch.specs.Choosing.{symbols_in}
-use Rattle.merc_switch.proofs.covering.fellows_in.Given as goal
-
-abbrev pub invariant-loop-disjunct : goal.invariant-loop-disjunct
-invariant-loop-disjunct l = symbols_in (drop l.disjunct-index l.disjuncts) l.variable ≡ symbols_in l.disjuncts l.variable

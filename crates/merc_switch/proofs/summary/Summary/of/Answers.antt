@@ -1,5 +1,0 @@
-use Rattle.merc_switch.proofs.GapLaws.{no_gaps}
-use Rattle.merc_switch.proofs.summary.Summary.of.Goals as goal
-
-pub returns : goal.returns
-returns c = record { counts_are = c.in_ok-counts_of.ensures; gaps_are = no_gaps c.new.result c.args.disjuncts.now c.new.ensures }

@@ -1,0 +1,15 @@
+pub mod Members
+pub mod SplitVariables
+pub mod SameSymbols
+pub mod GroupLaws
+pub mod ChoiceLaws
+pub mod Inputs
+pub mod BeginningLaws
+pub mod KeyLaws
+pub mod CoverLaws
+pub mod ArmLaws
+pub mod GapLaws
+pub mod CountLaws
+pub mod SplitCounts
+pub mod OrderLaws
+pub mod LeftLaws

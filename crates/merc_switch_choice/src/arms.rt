@@ -1,0 +1,105 @@
+//! Disjuncts by the symbols of a variable.
+ghost use Rattle.std.specs.Prelude.{◌≡◌, ◌<◌, ◌==◌, ◌++◌, ◌∷◌, [], true, length, if◌then◌else◌, IfOk, OnOk};
+ghost use Rattle.std.specs.List.{list_all, slice_index_or, slice_set, position_or_len};
+ghost use Rattle.merc_grading.specs.Known.{same_symbol};
+ghost use Rattle.merc_grading.specs.Switches.{symbol_at, is_there, grouped};
+ghost use Rattle.merc_switch_choice.specs.Arms.{AreArms};
+ghost use Rattle.merc_switch_choice.specs.Symbols.{with_symbol};
+
+use crate::counted::{Disjuncts, counted_each};
+use crate::disjuncts::Disjunct;
+use crate::symbols::SymbolSet;
+use merc_base::{NoMemory, Sequence};
+use merc_goal_tree::{Symbol, Var};
+use std::alloc::Global;
+
+/// The arms of a switch: the symbols, and the disjuncts of each.
+#[derive(Drop)]
+pub struct Arms<'a> {
+    pub symbols: Vec<Symbol>,
+    pub groups: Vec<Disjuncts<'a>>,
+}
+
+// The same before the disjuncts of each are counted.
+#[derive(Drop)]
+struct Parts<'a> {
+    symbols: Vec<Symbol>,
+    groups: Vec<Sequence<Disjunct<'a>>>,
+}
+
+/// Disjuncts by the symbols by which they all split a variable at their beginnings. The symbols stand in the order in
+/// which they come first.
+///
+/// # Errors
+///
+/// `NoMemory` where memory was refused, here and in the calls below.
+pub fn arms_of<'a>(
+    alloc: Global,
+    variable: Var,
+    disjuncts: Disjuncts<'a>,
+) -> Result<Arms<'a>, NoMemory>
+    requires { list_all (λ disjunct. is_there (symbol_at variable disjunct)) disjuncts ≡ true }
+    ensures { IfOk result (λ arms. AreArms arms.symbols.items arms.groups.items (grouped variable disjuncts.entry)) }
+{
+    let (items, summary) = disjuncts.into_parts();
+    let parts = parts_of(alloc, variable, items)?;
+    Ok(Arms {
+        symbols: parts.symbols,
+        groups: counted_each(alloc, parts.groups, summary)?,
+    })
+}
+
+// Disjuncts by their symbols.
+fn parts_of<'a>(
+    alloc: Global,
+    variable: Var,
+    disjuncts: Vec<Disjunct<'a>>,
+) -> Result<Parts<'a>, NoMemory>
+    ensures { IfOk result (λ parts. AreArms parts.symbols.items parts.groups.items (grouped variable disjuncts.entry.items)) }
+{
+    let mut places = SymbolSet::new(alloc);
+    let mut symbols = Vec::new(alloc);
+    let mut groups = Vec::new(alloc);
+    for disjunct in disjuncts {
+        if let Some(symbol) = disjunct.symbol(variable) {
+            let place = open_arm(alloc, &symbol, &mut places, &mut symbols, &mut groups)?;
+            push_at(&mut groups, place, disjunct)?;
+        }
+    }
+    Ok(Parts { symbols, groups })
+}
+
+// The place of a symbol's arm. A new symbol has an arm without disjuncts behind the others.
+fn open_arm<'a>(
+    alloc: Global,
+    symbol: &Symbol,
+    places: &mut SymbolSet,
+    symbols: &mut Vec<Symbol>,
+    groups: &mut Vec<Sequence<Disjunct<'a>>>,
+) -> Result<usize, NoMemory>
+    ensures place { IfOk result (λ place. place ≡ position_or_len (same_symbol symbol.now) places.old) }
+    ensures places { OnOk result (places.new ≡ with_symbol places.old symbol.now) }
+    ensures symbols { IfOk result (λ place. symbols.new.items ≡ (if place == length groups.old.items then symbols.old.items ++ symbol.now ∷ [] else symbols.old.items)) }
+    ensures groups { IfOk result (λ place. groups.new.items ≡ (if place == length groups.old.items then groups.old.items ++ [] ∷ [] else groups.old.items)) }
+{
+    let place = places.add(*symbol)?;
+    if place == groups.len() {
+        symbols.push(*symbol)?;
+        groups.push(Sequence::new(alloc))?;
+    }
+    Ok(place)
+}
+
+// Puts a disjunct behind those of the group at an index.
+fn push_at<'a>(
+    groups: &mut [Sequence<Disjunct<'a>>],
+    index: usize,
+    disjunct: Disjunct<'a>,
+) -> Result<(), NoMemory>
+    requires { index < length groups.old }
+    ensures { OnOk result (groups.new ≡ slice_set groups.old index (slice_index_or groups.old index [] ++ disjunct.entry ∷ [])) }
+{
+    let group = &mut groups[index];
+    group.push(disjunct)?;
+    Ok(())
+}

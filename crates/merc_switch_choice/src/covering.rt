@@ -1,0 +1,121 @@
+//! Whether the symbols of disjuncts are all of a type.
+ghost use Rattle.std.specs.Prelude.{◌≡◌, [], true, false, map, IfOk, OnOk, MatchOption};
+ghost use Rattle.std.specs.List.{list_all};
+ghost use Rattle.std.specs.Option.{option_map};
+ghost use Rattle.merc_grading.specs.Known.{has_symbol, symbol_of};
+ghost use Rattle.merc_grading.specs.Fitting.{fellows};
+ghost use Rattle.merc_switch_choice.specs.Choosing.{symbols_in, fellows_of, is_covered};
+ghost use Rattle.merc_switch_choice.specs.Symbols.{all_symbols};
+ghost use Rattle.merc_switch_choice.specs.Gaps.{symbol_of_gap, IsMissing};
+
+use crate::counted::Disjuncts;
+use crate::disjuncts::Disjunct;
+use crate::gaps::Gap;
+use crate::symbols::SymbolSet;
+use merc_base::NoMemory;
+use merc_goal_tree::{Symbol, Var};
+use merc_known::Known;
+use merc_tree::Constructor;
+use std::alloc::Global;
+
+/// Whether the symbols by which disjuncts split a variable are all of the type to which the first of them belongs. Where
+/// those of the type have no end no more symbols are looked at, and neither where one that is missing is known already. One
+/// that is found missing is kept with the disjuncts.
+///
+/// # Errors
+///
+/// `NoMemory` where memory was refused, here and in the calls below.
+pub(crate) fn is_covered(
+    alloc: Global,
+    known: &Known<'_>,
+    disjuncts: &mut Disjuncts<'_>,
+    variable: Var,
+) -> Result<bool, NoMemory>
+    ensures covered { IfOk result (λ covered. covered ≡ is_covered known.now.types disjuncts.old variable) }
+    ensures disjuncts { OnOk result (disjuncts.new ≡ disjuncts.old) }
+{
+    let Some(constructors) = fellows_in(known, disjuncts.as_slice(), variable) else {
+        return Ok(false);
+    };
+    if has_gap(disjuncts, variable, constructors) {
+        return Ok(false);
+    }
+    let symbols = symbols_in(alloc, disjuncts.as_slice(), variable)?;
+    match first_missing(&symbols, constructors) {
+        Some(gap) => {
+            disjuncts.keep_gap(variable, gap)?;
+            Ok(false)
+        }
+        None => Ok(true),
+    }
+}
+
+// Whether it is known of one of the constructors that no disjunct splits the variable by it.
+fn has_gap(disjuncts: &Disjuncts<'_>, variable: Var, constructors: &[Constructor]) -> bool
+    ensures { result ≡ true → list_all (λ symbol. has_symbol (symbols_in disjuncts.now variable) symbol) (map symbol_of constructors.now) ≡ false }
+{
+    match disjuncts.gap(variable) {
+        Some(gap) => gap.is_in(constructors),
+        None => false,
+    }
+}
+
+// The symbols by which disjuncts split a variable.
+fn symbols_in(
+    alloc: Global,
+    disjuncts: &[Disjunct<'_>],
+    variable: Var,
+) -> Result<SymbolSet, NoMemory>
+    ensures { IfOk result (λ symbols. symbols ≡ all_symbols [] (symbols_in disjuncts.now variable)) }
+{
+    let mut symbols = SymbolSet::new(alloc);
+    for disjunct in disjuncts {
+        if let Some(symbol) = disjunct.symbol(variable) {
+            symbols.add(symbol)?;
+        }
+    }
+    Ok(symbols)
+}
+
+// The constructors of the type to which the first symbol belongs by which disjuncts split a variable, None where its
+// symbols have no end.
+fn fellows_in<'a>(
+    known: &Known<'a>,
+    disjuncts: &[Disjunct<'_>],
+    variable: Var,
+) -> Option<&'a [Constructor]>
+    ensures { option_map (λ all. map symbol_of all.now) result ≡ fellows_of known.now.types (symbols_in disjuncts.now variable) }
+{
+    for disjunct in disjuncts {
+        if let Some(symbol) = disjunct.symbol(variable) {
+            return fellows(known, symbol);
+        }
+    }
+    None
+}
+
+// The constructors of the type to which a symbol belongs, None where its symbols have no end.
+fn fellows<'a>(known: &Known<'a>, symbol: Symbol) -> Option<&'a [Constructor]>
+    ensures { option_map (λ all. map symbol_of all.now) result ≡ fellows known.now.types symbol }
+{
+    match symbol {
+        Symbol::Constructor(name, arity) => match known.constructor(name, arity) {
+            Some((declared, _)) => Some(declared.constructors.as_slice()),
+            None => None,
+        },
+        _ => None,
+    }
+}
+
+// The first of the constructors that is none of the symbols.
+fn first_missing(symbols: &SymbolSet, constructors: &[Constructor]) -> Option<Gap>
+    ensures { MatchOption result (list_all (λ symbol. has_symbol symbols.now symbol) (map symbol_of constructors.now) ≡ true) (λ gap. IsMissing symbols.now (map symbol_of constructors.now) (symbol_of_gap gap)) }
+{
+    for (place, constructor) in constructors.iter().enumerate() {
+        let gap = Gap::of(constructor, place);
+        if !symbols.contains(gap.symbol()) {
+            return Some(gap);
+        }
+    }
+    None
+}

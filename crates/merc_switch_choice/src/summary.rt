@@ -1,0 +1,45 @@
+//! What is known of several disjuncts together.
+ghost use Rattle.std.specs.Prelude.{IfOk};
+ghost use Rattle.merc_switch_choice.specs.Counting.{Counts};
+ghost use Rattle.merc_switch_choice.specs.Summaries.{Describes};
+
+use crate::counts::SplitCounts;
+use crate::disjuncts::Disjunct;
+use crate::gaps::Gaps;
+use merc_base::NoMemory;
+use std::alloc::Global;
+
+/// What is known of several disjuncts together.
+#[derive(Drop)]
+pub(crate) struct Summary {
+    /// How many of them split each variable.
+    pub(crate) counts: SplitCounts,
+    /// Constructors by which none of them splits a variable.
+    pub(crate) gaps: Gaps,
+}
+
+impl Summary {
+    /// That of these disjuncts, of which no gaps are known.
+    ///
+    /// # Errors
+    ///
+    /// `NoMemory` where memory was refused.
+    pub(crate) fn of(alloc: Global, disjuncts: &[Disjunct<'_>]) -> Result<Summary, NoMemory>
+        ensures { IfOk result (λ summary. Describes summary disjuncts.now) }
+    {
+        Ok(Summary {
+            counts: counts_of(alloc, disjuncts)?,
+            gaps: Gaps::new(alloc),
+        })
+    }
+}
+
+fn counts_of(alloc: Global, disjuncts: &[Disjunct<'_>]) -> Result<SplitCounts, NoMemory>
+    ensures { IfOk result (λ counts. Counts counts disjuncts.now) }
+{
+    let mut counts = SplitCounts::new(alloc);
+    for disjunct in disjuncts {
+        counts.add(disjunct)?;
+    }
+    Ok(counts)
+}
