@@ -60,7 +60,7 @@ lay([item(Inner, Style, Document) | Items], Width, Column, Indent, Texts, Lines)
         lay(All, Width, Column, Indent, Texts, Lines)
     ).
 
-% What comes up to the end of the line has room. A comma behind a group stands on the line of its end, so it counts too.
+% Whether what comes up to the end of the line has room. A comma behind a group stands on the line of its end, so it counts too.
 :- pred fits(list(item)::in, int::in) is semidet.
 fits(Items, Room) :-
     Room >= 0,
