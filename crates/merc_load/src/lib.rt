@@ -9,6 +9,6 @@ mod loading;
 pub mod passing;
 mod sizes;
 
-pub use loaded::{Entry, Loaded, Op};
+pub use loaded::{Arm, Entry, Loaded, Op};
 pub use loading::load;
 pub use passing::Pass;
