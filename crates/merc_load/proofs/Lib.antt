@@ -1,3 +1,4 @@
+pub mod Combined
 pub mod Lists
 pub mod Numbers
 pub mod Ops

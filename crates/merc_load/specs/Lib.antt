@@ -6,3 +6,4 @@ pub mod Loaded
 pub mod LoadedExamples
 pub mod Sizes
 pub mod Superinstructions
+pub mod SuperinstructionsExamples

@@ -1,6 +1,7 @@
 //! Code as the machine runs it.
 #![tactic(auto)]
 
+mod combining;
 mod entries;
 mod linking;
 pub mod loaded;
