@@ -3,14 +3,15 @@ use Rattle.std.proofs.Common.{◌≡◌, inl, inr, ℕ, suc, ◌+◌, ◌<◌, �
 use Rattle.merc_frames.specs.declared.slot.Slot.{Slot}
 use Rattle.merc_frames.specs.declared.slot.Slot.TheVariants.{Empty}
 use Rattle.merc_frames.specs.Stacks.{Stacks}
-use Rattle.merc_frames.specs.View.{frame_of, linked, chain, callers_of, seen, view_of, Fine, FineChoice}
+use Rattle.merc_frames.specs.View.{frame_of, linked, chain, callers_of, seen, view_of, Fine, FineChoice, Grows, newest, counted, lowered, caller_top}
 use Rattle.merc_frames.specs.declared.kept.Saved.{Saved}
 use Rattle.merc_frames.specs.declared.kept.Kept.{Kept}
 use Rattle.merc_frames.proofs.Lists.{get_left, get_seam, get_more, get_within}
 use Rattle.merc_frames.proofs.Stays.{Stays, chain_fuel, callers_same, all_seen}
 use Rattle.merc_frames.specs.Stacks.{Enters, Renews}
 use Rattle.merc_frames.proofs.Lists.{take_set}
-use Rattle.merc_frames.proofs.Moving.{below_base, slots_view}
+use Rattle.merc_frames.proofs.Moving.{below_base, slots_view, grown_fine, grown_view}
+use Rattle.merc_frames.proofs.Newest.{settled_fine, settled_view}
 use Rattle.std.proofs.lemmas.List.{length-append, take-set-le, drop-set-add}
 
 -- a call: the current frame is saved, and another begins at its end
@@ -89,12 +90,17 @@ pub set_view : (w : List Slot) (saved : List Saved) (cs : List Kept) (base size 
 set_view w saved cs base size h number v f = slots_view w (slice_set w (base + number) v) saved cs base size h f (sym (take-set-le base w (base + number) v (omega arith))) size _
     (ap (λ x. take size x) (drop-set-add base w number v) ∙ take_set size number (drop base w) v)
 
--- a last call: the current frame and what lies above it are other slots, all empty
-pub renewed : (w w' : List Slot) (saved : List Saved) (cs : List Kept) (base size h size' : ℕ) → Fine w saved cs base size h → take base w ≡ take base w' → frame_of w' base size' ≡ replicate size' Empty
-    → Renews (view_of w saved cs base size h) (view_of w' saved cs base size' h) size'
-renewed w w' saved cs base size h size' f same emptied =
-    let v = slots_view w w' saved cs base size h f same size' (frame_of w' base size') refl in
-    record { current = emptied; callers = ap (λ (x : Stacks). x.callers) v; choices = ap (λ (x : Stacks). x.choices) v }
+-- a last call: a frame of empty slots begins where all ends that the newest choice point and the callers need
+module _ (w w' w'' : List Slot) (saved saved' : List Saved) (cs : List Kept) (base size h : ℕ) (f : Fine w saved cs base size h) (g : Grows w w') (low size' count : ℕ)
+    (ec : count ≡ counted (newest cs) h) (el : low ≡ lowered (newest cs) (caller_top saved h)) (es : saved' ≡ take count saved) (same : take low w' ≡ take low w'') where
+  pub renewed_fine : low + size' ≤ length w'' → Fine w'' saved' cs low size' h
+  renewed_fine room = settled_fine w' w'' saved saved' cs base size h (grown_fine w w' saved cs base size h f g) low size' h count f.stack ec el es same room
+
+  pub renewed : frame_of w'' low size' ≡ replicate size' Empty → Renews (view_of w saved cs base size h) (view_of w'' saved' cs low size' h) size'
+  renewed emptied =
+      let v = settled_view w' w'' saved saved' cs base size h (grown_fine w w' saved cs base size h f g) low size' h count f.stack ec el es same (frame_of w'' low size') refl in
+      let u = grown_view w w' saved cs base size h f g in
+      record { current = emptied; callers = ap (λ (x : Stacks). x.callers) v ∙ ap (λ (x : Stacks). x.callers) u; choices = ap (λ (x : Stacks). x.choices) v ∙ ap (λ (x : Stacks). x.choices) u }
 
 -- what a call is seen to have done
 pub enter_enters : (w : List Slot) (saved : List Saved) (cs : List Kept) (base size h : ℕ) (s : Saved) → Fine w saved cs base size h → s.base ≡ base → s.size ≡ size → s.parent ≡ h

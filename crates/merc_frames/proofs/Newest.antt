@@ -63,10 +63,6 @@ lowered_left (Some k) n = larger_left n (k.base + k.size)
 lowered_newest : (o : Option Kept) (n : ℕ) (k : Kept) → o ≡ Some k → k.base + k.size ≤ lowered o n
 lowered_newest o n k e = subst (λ x. k.base + k.size ≤ lowered x n) (sym e) (larger_right n (k.base + k.size))
 
-lowered_under : (o : Option Kept) (n b : ℕ) → n ≤ b → ((k : Kept) → o ≡ Some k → k.base + k.size ≤ b) → lowered o n ≤ b
-lowered_under None n b l g = l
-lowered_under (Some k) n b l g = larger_under n (k.base + k.size) b l (g k refl)
-
 module _ (w : List Slot) (saved : List Saved) (cs : List Kept) (base size height : ℕ) (f : Fine w saved cs base size height) (h : ℕ) (hs : h ≤ length saved) where
   -- what holds of the newest one bounds the others
   pub bounded : (i : ℕ) (k : Kept) → slice_get cs i ≡ Some k → (m : Kept) × (newest cs ≡ Some m) × (k.base + k.size ≤ m.base + m.size) × (k.saved ≤ m.saved)
@@ -99,19 +95,12 @@ module _ (w : List Slot) (saved : List Saved) (cs : List Kept) (base size height
         | inr a ↦ (let same_place : i ≡ n = omega (arith, a, l) in subst (λ x. s.base + s.size ≤ x.base + x.size) (same_one (slice_get saved n) s t (subst (λ x. slice_get saved x ≡ Some s) same_place e) q) (omega arith))
       ])
 
-  caller_under : (n : ℕ) → n ≤ length saved → caller_top saved n ≤ base
-  caller_under zero c = omega arith
-  caller_under (suc n) c = let r = get_is saved n (omega (arith, c)) in subst (λ o. top_of o ≤ base) (sym r.1) (f.tops n r.0 r.1)
-
   pub tops_settle : (i : ℕ) (s : Saved) → i < counted (newest cs) h → slice_get saved i ≡ Some s → s.base + s.size ≤ lowered (newest cs) (caller_top saved h)
   tops_settle i s l e =
       elim (counted_below (newest cs) h i l) as (λ _. s.base + s.size ≤ lowered (newest cs) (caller_top saved h)) [
         | inl a ↦ (let b = caller_above h hs i s a e in let d = lowered_left (newest cs) (caller_top saved h) in omega (arith, b, d))
         | inr r ↦ (let g = f.kept (length cs - 1) r.0 r.1 in let b = g.below i s r.2 e in let d = lowered_newest (newest cs) (caller_top saved h) r.0 r.1 in omega (arith, b, d))
       ]
-
-  pub low_settle : lowered (newest cs) (caller_top saved h) ≤ base
-  low_settle = lowered_under _ _ _ (caller_under h hs) (λ k e. (f.kept (length cs - 1) k e).top)
 
   pub count_settle : counted (newest cs) h ≤ length saved
   count_settle = counted_under _ _ _ hs (λ k e. (f.kept (length cs - 1) k e).count)

@@ -133,15 +133,18 @@ impl Frames {
         Ok(())
     }
 
-    /// A last call: the current frame is given back, and one of `size` slots, all empty, is the current one. Where
-    /// memory is refused, nothing changes.
+    /// A last call: the current frame is given back, and one of `size` slots, all empty, is the current one. It begins
+    /// where all ends that callers and choice points need. Where memory is refused, nothing changes.
     pub fn renew(&mut self, size: usize) -> Result<(), NoMemory>
         ensures ok { OnOk result (Renews self.old self.new size) }
         ensures err { OnErr result (self.new ≡ self.old) }
     {
-        self.settle();
-        make_room(&mut self.slots, self.base, size)?;
-        empty_frame(&mut self.slots, self.base, size);
+        let count = count_of(&self.choices, self.height);
+        let low = low_of(&self.saved, &self.choices, self.height, self.base);
+        make_room(&mut self.slots, low, size)?;
+        empty_frame(&mut self.slots, low, size);
+        self.saved.truncate(count);
+        self.base = low;
         self.size = size;
         Ok(())
     }
@@ -243,17 +246,6 @@ impl Frames {
                 ..kept
             };
         }
-    }
-
-    // Moves the current frame down over what nobody needs any more.
-    fn settle(&mut self)
-        ensures { self.new ≡ self.old }
-    {
-        let count = count_of(&self.choices, self.height);
-        let low = low_of(&self.saved, &self.choices, self.height, self.base);
-        copy_frame(&mut self.slots, self.base, self.size, low);
-        self.saved.truncate(count);
-        self.base = low;
     }
 }
 
