@@ -2,6 +2,8 @@ pub mod Advancing
 pub mod CallSteps
 pub mod ChoicePoints
 pub mod Choosing
+pub mod Combining
+pub mod Deciding
 pub mod Delivering
 pub mod Entering
 pub mod Going
@@ -20,8 +22,10 @@ pub mod Reading
 pub mod Returning
 pub mod Runs
 pub mod Shown
+pub mod Silent
 pub mod Slots
 pub mod Standings
 pub mod Starting
+pub mod Superinstructions
 pub mod Switching
 pub mod Weighing

@@ -1,5 +1,6 @@
 pub mod Backward
 pub mod Coming
+pub mod ComingExamples
 pub mod Running
 pub mod RunningExamples
 pub mod Standing

@@ -4,6 +4,7 @@
 mod answering;
 mod branching;
 mod calling;
+mod combined;
 mod controlling;
 pub mod machine;
 pub mod running;
