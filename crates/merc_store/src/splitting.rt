@@ -75,7 +75,7 @@ impl Store {
     }
 
     // Whether a word's value is of a symbol.
-    fn is_of(&self, word: &Word, symbol: Symbol) -> bool
+    pub(crate) fn is_of(&self, word: &Word, symbol: Symbol) -> bool
         requires { IsBelow (length self.now.cells) word.now }
         ensures is { result ≡ is_some (fields symbol (value_of self.now.cells word.now)) }
         ensures lower { AreLower self.now.cells }
@@ -92,7 +92,7 @@ impl Store {
     }
 
     // Gives variables the values of a word's arguments, one for one.
-    fn fill(&mut self, variables: &[Var], word: &Word) -> Result<(), NoMemory>
+    pub(crate) fn fill(&mut self, variables: &[Var], word: &Word) -> Result<(), NoMemory>
         requires word { IsBelow (length self.old.cells) word.now }
         requires lower { AreLower self.old.cells }
         ensures { OnOk result (self.new ≡ with_current self.old (stored variables.now (arguments_in self.old.cells word.now) self.old.stacks.current)) }
