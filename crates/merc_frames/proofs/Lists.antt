@@ -1,5 +1,5 @@
 -- Facts on lists.
-use Rattle.std.proofs.Common.{◌≡◌, ◌⊎◌, inl, inr, ℕ, zero, suc, ◌+◌, ◌<◌, ◌≤◌, List, [], ◌∷◌, ◌++◌, length, take, drop, map, Some, None, slice_get, slice_set, refl, sym, ap, ◌∙◌, arith}
+use Rattle.std.proofs.Common.{◌≡◌, ◌⊎◌, inl, inr, ℕ, zero, suc, ◌+◌, ◌<◌, ◌≤◌, List, [], ◌∷◌, ◌++◌, length, take, drop, replicate, map, Some, None, slice_get, slice_set, refl, sym, ap, ◌∙◌, arith}
 
 module _ {A : Type 0} where
   none_some : (x : A) (P : Type 0) → None ≡ Some x → P
@@ -72,3 +72,12 @@ module _ {A : Type 0} where
   take_set (suc n) (suc i) [] y = refl
   take_set (suc n) zero (x ∷ xs) y = refl
   take_set (suc n) (suc i) (x ∷ xs) y = ap (λ v. x ∷ v) (take_set n i xs y)
+
+  pub take_replicate : (n z : ℕ) (x : A) → z ≤ n → take z (replicate n x) ≡ replicate z x
+  take_replicate n zero x h = refl
+  take_replicate zero (suc z) x h = absurd (omega (arith, h))
+  take_replicate (suc n) (suc z) x h = ap (λ v. x ∷ v) (take_replicate n z x (omega (arith, h)))
+
+  -- where a part is the same throughout, so is each shorter one
+  pub part_replicate : (b n z : ℕ) (w : List A) (x : A) → z ≤ n → take n (drop b w) ≡ replicate n x → take z (drop b w) ≡ replicate z x
+  part_replicate b n z w x h e = sym (take_less n z (drop b w) h) ∙ ap (take z) e ∙ take_replicate n z x h

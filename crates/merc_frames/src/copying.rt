@@ -35,14 +35,44 @@ fn grow(slots: &mut Vec<Slot>, end: usize) -> Result<(), NoMemory>
     Ok(())
 }
 
-/// Empties each slot of a frame. What lies below the frame stays.
+/// Empties each slot of a frame. What lies below the frame stays; what lies above it nobody has.
 pub(crate) fn empty_frame(slots: &mut Vec<Slot>, base: usize, size: usize)
     requires { base + size ≤ length slots.old.items }
     ensures long { length slots.new.items ≡ length slots.old.items }
     ensures below { take base slots.old.items ≡ take base slots.new.items }
     ensures emptied { frame_of slots.new.items base size ≡ replicate size Slot.Empty }
 {
-    slots[base..base + size].fill(Slot::Empty);
+    let room = slots.len() - base;
+    if size <= 8 && 8 <= room {
+        empty_slots(slots, base, size, 8);
+    } else if size <= 16 && 16 <= room {
+        empty_slots(slots, base, size, 16);
+    } else {
+        empty_slots(slots, base, size, size);
+    }
+}
+
+// Empties so many slots, those of a frame among them. A number that the compiler knows takes no loop.
+#[inline(always)]
+fn empty_slots(slots: &mut Vec<Slot>, base: usize, size: usize, count: usize)
+    requires frame { size ≤ count }
+    requires room { base + count ≤ length slots.old.items }
+    ensures long { length slots.new.items ≡ length slots.old.items }
+    ensures below { take base slots.old.items ≡ take base slots.new.items }
+    ensures emptied { frame_of slots.new.items base size ≡ replicate size Slot.Empty }
+{
+    fill_slots(slots, base, count);
+}
+
+// Empties just these slots.
+#[inline(always)]
+fn fill_slots(slots: &mut Vec<Slot>, base: usize, count: usize)
+    requires { base + count ≤ length slots.old.items }
+    ensures long { length slots.new.items ≡ length slots.old.items }
+    ensures below { take base slots.old.items ≡ take base slots.new.items }
+    ensures emptied { frame_of slots.new.items base count ≡ replicate count Slot.Empty }
+{
+    slots[base..base + count].fill(Slot::Empty);
 }
 
 /// Copies a frame to where another base is. What lies below that stays.

@@ -8,7 +8,8 @@ use merc_value::Word;
 /// What a slot of a frame holds.
 #[derive(Clone, Copy, Debug, PartialEq, Eq, Drop)]
 pub enum Slot {
-    // The words come first, in the order of `Word`, so that a slot that holds a word has the word's bytes.
+    /// Nothing.
+    Empty,
     /// The word of an integer.
     Int(i64),
     /// The word of a text, which this name has.
@@ -17,8 +18,6 @@ pub enum Slot {
     Atom(Name),
     /// The word of the cell at this place, from 0.
     Cell(usize),
-    /// Nothing.
-    Empty,
     /// A mark: a number of choice points.
     Mark(usize),
 }

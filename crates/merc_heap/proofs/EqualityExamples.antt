@@ -1,10 +1,9 @@
 -- What the definitions of Equality say of four cells of one constructor: two with 7, one with 8, and one with 7 twice.
-use Rattle.std.proofs.Common.{◌≡◌, ℕ, pos, List, [], ◌∷◌, inl, inr, refl, arith}
+use Rattle.std.proofs.Common.{◌≡◌, pos, List, [], ◌∷◌, inl, inr, refl, arith}
 use Rattle.merc_base.specs.Names.{cons_name}
-use Rattle.merc_value.specs.Value.{Value, Int, Con, none, more}
 use Rattle.merc_value.specs.Block.{CellData, cell_values, value_of}
 use Rattle.merc_value.specs.declared.word.Word.TheVariants.{Int as IntWord, Cell as CellWord}
-use Rattle.merc_heap.specs.Equality.{size, AreSame, IsSplit, IsMet, SameBelow, Meets, Notes}
+use Rattle.merc_heap.specs.Equality.{size, AreSame, IsSplit, IsMet, Meets, Notes}
 
 abbrev cells : List CellData
 cells =

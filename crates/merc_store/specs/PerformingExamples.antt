@@ -1,10 +1,10 @@
 -- What the functions do that an instruction is made of.
-use Rattle.std.proofs.Common.{◌≡◌, ℕ, ◌<◌, ◌+◌, List, [], ◌∷◌, length, pos, Some, None, true, false, slice_get, refl, sym, ap, subst, ◌∙◌, arith}
-use Rattle.std.specs.List.{All}
+use Rattle.std.proofs.Common.{◌≡◌, ℕ, ◌<◌, ◌+◌, List, [], ◌∷◌, pos, Some, None, refl, sym, ap, subst, ◌∙◌, arith}
 use Rattle.std.proofs.lemmas.List.Elements.{All-nil, All-cons}
 use Rattle.merc_base.specs.Names.{division_by_zero_name}
-use Rattle.merc_value.specs.Value.{Int}
+use Rattle.merc_value.specs.Value.{Int, Con, none, more}
 use Rattle.merc_value.specs.declared.word.Word.TheVariants.{Int as IntWord, Text as TextWord, Cell as CellWord}
+use Rattle.merc_goal_tree.specs.declared.goal.Symbol.TheVariants.{Constructor, Integer as IntegerSymbol}
 use Rattle.merc_goal_tree.specs.declared.goal.Operation.TheVariants.{Div}
 use Rattle.merc_goal_tree.specs.declared.goal.Comparison.TheVariants.{Less}
 use Rattle.merc_meaning.specs.Trace.{Env}
@@ -16,7 +16,7 @@ use Rattle.merc_frames.specs.declared.slot.Slot.TheVariants.{Empty, Int as IntSl
 use Rattle.merc_store.specs.Data.{StoreData}
 use Rattle.merc_store.specs.FittingExamples.{frame, frame-example}
 use Rattle.merc_store.specs.Effects.{effect_of_both, Performs}
-use Rattle.merc_store.specs.Performing.{word_at, words_at, integer_at, text_in, integer_is, text_is, stored, DoesBoth}
+use Rattle.merc_store.specs.Performing.{word_at, words_at, integer_at, text_in, head_of, stored, DoesBoth}
 use Rattle.merc_store.specs.declared.store.Done.TheVariants.{Bound, Raised}
 
 word_at-example : word_at (Empty ∷ CellSlot 3 ∷ []) 1 ≡ Some (CellWord 3)
@@ -44,11 +44,12 @@ text_in-example = refl
 text_in-none : text_in (IntWord (pos 7)) ≡ None
 text_in-none = refl
 
-literal-example : (integer_is (pos 7) (Some (pos 7)) ≡ true) × (integer_is (pos 7) None ≡ false)
-literal-example = (refl, refl)
+head_of-example : (head_of (Con 4 (more (Int (pos 7)) none)) ≡ Constructor 4 1) × (head_of (Int (pos 7)) ≡ IntegerSymbol (pos 7))
+head_of-example = (refl, refl)
 
-text-example : (text_is 7 (Some 7) ≡ true) × (text_is 7 (Some 8) ≡ false)
-text-example = (refl, refl)
+-- another number of arguments
+head_of-not : head_of (Con 4 none) ≡ Constructor 4 1 → ⊥
+head_of-not same = absurd (cc)
 
 -- the last word for a variable that stands twice; what has no word keeps what it held
 stored-example : stored (1 ∷ 1 ∷ 0 ∷ []) (IntWord (pos 7) ∷ CellWord 3 ∷ []) (Empty ∷ Empty ∷ []) ≡ Empty ∷ CellSlot 3 ∷ []

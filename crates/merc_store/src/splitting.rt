@@ -1,21 +1,21 @@
 //! Values split into their arguments.
-ghost use Rattle.std.specs.Prelude.{◌≡◌, ◌==◌, ◌&&◌, ℕ, List, length, slice_get, IfOk, OnOk};
+ghost use Rattle.std.specs.Prelude.{◌≡◌, ℕ, List, length, map};
 ghost use Rattle.std.specs.Option.{is_some};
-ghost use Rattle.merc_value.specs.Block.{AreLower, IsBelow, value_of};
+ghost use Rattle.merc_value.specs.Value.{Value};
+ghost use Rattle.merc_value.specs.Block.{IsBelow, value_of};
 ghost use Rattle.merc_meaning.specs.Values.{fields};
 ghost use Rattle.merc_meaning.specs.Trace.{Env};
 ghost use Rattle.merc_meaning.specs.Steps.{value_at};
 ghost use Rattle.merc_code.specs.Steps.{target_of, target_at};
-ghost use Rattle.merc_heap.specs.Heap.{arguments_in};
-ghost use Rattle.merc_store.specs.Data.{IsBelowIf, with_current};
+ghost use Rattle.merc_heap.specs.Heap.{word_of};
 ghost use Rattle.merc_store.specs.Fitting.{FitsFrame};
-ghost use Rattle.merc_store.specs.Performing.{Does, integer_is, text_is, stored};
+ghost use Rattle.merc_store.specs.Performing.{Does, head_of, stored};
 
-use crate::performing::{integer_in, text_in};
 use crate::{Done, Store};
-use merc_base::{Name, NoMemory};
 use merc_code::{Instruction, Target};
+use merc_frames::{Frames, Slot};
 use merc_goal_tree::{Symbol, Var};
+use merc_heap::slot;
 use merc_value::Word;
 
 impl Store {
@@ -26,27 +26,28 @@ impl Store {
             → result ≡ target_at (value_at env whole) targets.now }
     {
         match self.word(whole) {
-            Some(word) => self.first_target(&word, targets),
+            Some(word) => first_target(&self.head(&word), targets),
             None => None,
         }
     }
 
-    pub(crate) fn split(
-        &mut self,
-        whole: Var,
-        symbol: Symbol,
-        variables: &[Var],
-    ) -> Result<Done, NoMemory>
-        ensures { IfOk result (Does self.old self.new (Instruction.Split whole symbol variables.now)) }
+    pub(crate) fn split(&mut self, whole: Var, symbol: Symbol, variables: &[Var]) -> Done
+        ensures { Does self.old self.new (Instruction.Split whole symbol variables.now) result }
     {
-        let Some(word) = self.word(whole) else {
-            return Ok(Done::Failed);
+        // A literal has no arguments.
+        let Symbol::Constructor(name, arity) = symbol else {
+            return self.literal(whole, symbol);
         };
-        if !self.is_of(&word, symbol) {
-            return Ok(Done::Failed);
+        let Some(word) = self.word(whole) else {
+            return Done::Failed;
+        };
+        match self.heap.fields_of(word, name, arity) {
+            Some(fields) => {
+                fill(&mut self.frames, variables, fields);
+                Done::Bound
+            }
+            None => Done::Failed,
         }
-        self.fill(variables, &word)?;
-        Ok(Done::Bound)
     }
 
     pub(crate) fn literal(&self, whole: Var, symbol: Symbol) -> Done
@@ -55,95 +56,54 @@ impl Store {
         let Some(word) = self.word(whole) else {
             return Done::Failed;
         };
-        if self.is_of(&word, symbol) {
+        if is_head(symbol, &self.head(&word)) {
             Done::Bound
         } else {
             Done::Failed
         }
     }
 
-    fn first_target(&self, word: &Word, targets: &[Target]) -> Option<usize>
+    // The symbol that a word's value is of.
+    pub(crate) fn head(&self, word: &Word) -> Symbol
         requires { IsBelow (length self.now.cells) word.now }
-        ensures { result ≡ target_of (value_of self.now.cells word.now) targets.now }
+        ensures { result ≡ head_of (value_of self.now.cells word.now) }
     {
-        for target in targets {
-            if self.is_of(word, target.symbol) {
-                return Some(target.skipped);
+        match *word {
+            Word::Int(number) => Symbol::Integer(number),
+            Word::Text(text) => Symbol::Text(text),
+            Word::Atom(name) => Symbol::Constructor(name, 0),
+            Word::Cell(place) => {
+                let (name, arity) = self.heap.header(place);
+                Symbol::Constructor(name, arity)
             }
         }
-        None
     }
+}
 
-    // Whether a word's value is of a symbol.
-    pub(crate) fn is_of(&self, word: &Word, symbol: Symbol) -> bool
-        requires { IsBelow (length self.now.cells) word.now }
-        ensures is { result ≡ is_some (fields symbol (value_of self.now.cells word.now)) }
-        ensures lower { AreLower self.now.cells }
-    {
-        let count = self.heap.arity(*word);
-        match symbol {
-            Symbol::Constructor(name, arity) => match self.heap.symbol(*word) {
-                Some(found) => is_header(name, arity, found, count),
-                None => false,
-            },
-            Symbol::Integer(literal) => is_integer(literal, integer_in(word)),
-            Symbol::Text(literal) => is_text(literal, text_in(word)),
+// Behind how many instructions a switch over the values of this symbol goes on.
+fn first_target(head: &Symbol, targets: &[Target]) -> Option<usize>
+    ensures { (value : Value) → head.now ≡ head_of value → result ≡ target_of value targets.now }
+{
+    for target in targets {
+        if is_head(target.symbol, head) {
+            return Some(target.skipped);
         }
     }
-
-    // Gives variables the values of a word's arguments, one for one.
-    pub(crate) fn fill(&mut self, variables: &[Var], word: &Word) -> Result<(), NoMemory>
-        requires word { IsBelow (length self.old.cells) word.now }
-        requires lower { AreLower self.old.cells }
-        ensures { OnOk result (self.new ≡ with_current self.old (stored variables.now (arguments_in self.old.cells word.now) self.old.stacks.current)) }
-    {
-        for (index, variable) in variables.iter().enumerate() {
-            // No value has 2^32 arguments.
-            let Ok(number) = u32::try_from(index) else {
-                return Err(NoMemory);
-            };
-            match self.argument(word, number) {
-                Some(argument) => self.give(*variable, argument),
-                None => return Ok(()),
-            };
-        }
-        Ok(())
-    }
-
-    // The word of an argument of a word's value, from 0.
-    fn argument(&self, word: &Word, number: u32) -> Option<Word>
-        requires word { IsBelow (length self.now.cells) word.now }
-        requires lower { AreLower self.now.cells }
-        ensures word { result ≡ slice_get (arguments_in self.now.cells word.now) number }
-        ensures below { IsBelowIf (length self.now.cells) result }
-    {
-        self.heap.field(*word, number)
-    }
+    None
 }
 
-// Whether a constructor and its number of arguments are these.
-fn is_header(name: Name, arity: usize, found: Name, count: usize) -> bool
-    ensures { result ≡ ((name == found) && (arity == count)) }
+// Whether the values of which this is the symbol are of that one.
+pub(crate) fn is_head(symbol: Symbol, head: &Symbol) -> bool
+    ensures { (value : Value) → head.now ≡ head_of value → result ≡ is_some (fields symbol value) }
 {
-    name == found && arity == count
+    symbol == *head
 }
 
-// Whether an integer is a literal.
-fn is_integer(literal: i64, number: Option<i64>) -> bool
-    ensures { result ≡ integer_is literal number }
+// Gives variables the values of fields, one for one.
+fn fill(frames: &mut Frames, variables: &[Var], fields: &[slot::Slot])
+    ensures { frames.new ≡ record frames.old { current = stored variables.now (map word_of fields.now) frames.old.current } }
 {
-    match number {
-        Some(number) => literal == number,
-        None => false,
-    }
-}
-
-// Whether a text is a literal.
-fn is_text(literal: Name, text: Option<Name>) -> bool
-    ensures { result ≡ text_is literal text }
-{
-    match text {
-        Some(text) => literal == text,
-        None => false,
+    for (variable, field) in variables.iter().zip(fields) {
+        frames.set(variable.number(), Slot::holding(field.word()));
     }
 }

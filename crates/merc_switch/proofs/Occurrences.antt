@@ -1,8 +1,7 @@
 -- The variables of a goal are those of its parts.
-use Rattle.std.specs.Prelude.{◌≡◌, ◌≤◌, ◌<◌, ◌||◌, ◌&&◌, ◌==◌, ℕ, zero, suc, Bool, true, false, List, [], ◌∷◌, ◌++◌, length, drop, if◌then◌else◌, refl}
+use Rattle.std.specs.Prelude.{◌≡◌, ◌<◌, ◌||◌, ◌&&◌, ◌==◌, ℕ, zero, suc, Bool, true, false, List, [], ◌∷◌, ◌++◌, length, if◌then◌else◌, refl}
 use Rattle.std.specs.List.{filter, list_all, slice_index_or}
 use Rattle.std.proofs.Common.{◌∙◌, ap, sym, arith}
-use Rattle.std.proofs.lemmas.List.{drop_all}
 use Rattle.merc_graded_tree.specs.declared.entries.Label.{Label}
 use Rattle.merc_graded_tree.specs.Nodes.{Node, node, Goal, Basic, Conjunction, Disjunction, Switch, Conditional, Negation, Quantified, Nodes, no_nodes, more_nodes, Arms, no_arms, more_arms, nodes_of}
 use Rattle.merc_graded_tree.specs.Roots.{label_of, root_of}
@@ -75,12 +74,6 @@ labels_more before now left label rest variable whole put is same =
     ∙ ap (λ l. among before variable || in_labels l variable) (sym is)
     ∙ same
 
--- once all goals are gone through
-pub all_known : (known : List ℕ) (goals : List Node) (index : ℕ) (variable : ℕ) → length goals ≤ index → (among known variable || in_nodes (nodes_of (drop index goals)) variable) ≡ in_nodes (nodes_of goals) variable
-    → among known variable ≡ in_nodes (nodes_of goals) variable
-all_known known goals index variable past same =
-    sym (or_false (among known variable)) ∙ ap (λ l. among known variable || in_nodes (nodes_of l) variable) (sym (drop_all index goals past)) ∙ same
-
 -- the variables of one of the goals are among those of all
 
 occurs_in_one : (goals : List Node) (index : ℕ) (one : Node) (variable : ℕ) → index < length goals → one ≡ slice_index_or goals index one → in_node one variable ≡ true
@@ -102,16 +95,16 @@ one_more_goal goals index one before after variable within is put =
     ∙ absorbed (among before variable) (in_node one variable) (in_nodes (nodes_of goals) variable) (occurs_in_one goals index one variable within is)
 
 -- Where all of some outputs are known, no more have to be looked for.
-pub outputs_known : (known : List ℕ) (goals : List Node) (index : ℕ) (outputs : List ℕ) → list_all (λ output. among known output) outputs ≡ true
-    → ((variable : ℕ) → (among known variable || in_nodes (nodes_of (drop index goals)) variable) ≡ in_nodes (nodes_of goals) variable)
+pub outputs_known : (known : List ℕ) (goals : List Node) (outputs : List ℕ) → list_all (λ output. among known output) outputs ≡ true
+    → ((variable : ℕ) → (among known variable || in_nodes (nodes_of goals) variable) ≡ in_nodes (nodes_of goals) variable)
     → filter (λ output. among known output) outputs ≡ filter (λ output. in_nodes (nodes_of goals) output) outputs
-outputs_known known goals index [] all same = refl
-outputs_known known goals index (first ∷ rest) all same =
+outputs_known known goals [] all same = refl
+outputs_known known goals (first ∷ rest) all same =
     let parts = both (among known first) (list_all (λ output. among known output) rest) all in
-    let there : in_nodes (nodes_of goals) first ≡ true = sym (same first) ∙ ap (λ b. b || in_nodes (nodes_of (drop index goals)) first) parts.0 in
+    let there : in_nodes (nodes_of goals) first ≡ true = sym (same first) ∙ ap (λ b. b || in_nodes (nodes_of goals) first) parts.0 in
     let kept = filter (λ output. among known output) rest in
     ap (λ b. if b then first ∷ kept else kept) (parts.0 ∙ sym there)
-    ∙ ap (λ l. if in_nodes (nodes_of goals) first then first ∷ l else l) (outputs_known known goals index rest parts.1 same)
+    ∙ ap (λ l. if in_nodes (nodes_of goals) first then first ∷ l else l) (outputs_known known goals rest parts.1 same)
   where
     both : (a b : Bool) → (a && b) ≡ true → (a ≡ true) × (b ≡ true)
     both true b h = (refl, h)

@@ -10,9 +10,10 @@ ghost use Rattle.merc_switch.specs.Plans.{disjunction_plan, switch_plan, finds, 
 use crate::copying::copy_variables;
 use crate::occurring::outputs_in;
 use crate::tasks::{Group, Task, Tasks};
+use crate::whole::Whole;
 use merc_base::{NoMemory, Sequence};
 use merc_goal_tree::{Symbol, Var};
-use merc_graded_tree::{Label, NodeRef, Root};
+use merc_graded_tree::{Label, Root};
 use merc_known::Known;
 use merc_switch_choice::{Candidates, Disjunct, Disjuncts, VarSet, arms_of};
 use std::alloc::Global;
@@ -93,8 +94,7 @@ fn step_in<'a>(
     let outputs = if narrowed {
         copy_variables(alloc, &group.outputs)?
     } else {
-        let outputs = group.whole.outputs();
-        outputs_in(alloc, outputs.as_slice(), group.disjuncts.as_slice())?
+        outputs_in(alloc, &group.whole, group.disjuncts.as_slice())?
     };
     let mut symbols = Vec::new(alloc);
     symbols.push(symbol)?;
@@ -143,7 +143,7 @@ fn push_finds<'a>(disjuncts: Vec<Disjunct<'a>>, tasks: &mut Tasks<'a>) -> Result
 // What the arms of a switch on a variable have from the disjunction.
 #[derive(Drop)]
 struct Outer<'a> {
-    whole: NodeRef<'a>,
+    whole: Whole<'a>,
     used: VarSet,
     left: usize,
     variable: Var,
@@ -202,10 +202,9 @@ fn arm_task<'a>(
     if let [only] = disjuncts.as_slice() {
         return Ok(Task::Find(only.goal()));
     }
-    let outputs = outer.whole.outputs();
-    let outputs = outputs_in(alloc, outputs.as_slice(), disjuncts.as_slice())?;
+    let outputs = outputs_in(alloc, &outer.whole, disjuncts.as_slice())?;
     Ok(Task::Judge(Group {
-        whole: outer.whole.copy(),
+        whole: outer.whole.copy()?,
         disjuncts,
         used: outer.used.with(alloc, outer.variable)?,
         left: outer.left.saturating_sub(1),

@@ -5,7 +5,9 @@ mod copying;
 mod finding;
 mod judging;
 mod occurring;
+mod ordering;
 mod planning;
 mod tasks;
+mod whole;
 
 pub use finding::find_switches;

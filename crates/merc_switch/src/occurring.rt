@@ -1,40 +1,39 @@
 //! The variables that occur in goals.
 ghost use Rattle.std.specs.Prelude.{◌≡◌, ℕ, ◌||◌, filter, IfOk, OnOk};
 ghost use Rattle.std.specs.List.{list_all};
-ghost use Rattle.merc_graded_tree.specs.Nodes.{nodes_of};
+ghost use Rattle.merc_graded_tree.specs.Nodes.{nodes_of, outputs_of};
 ghost use Rattle.merc_graded_tree.specs.Variables.{in_node, in_nodes, variables_of};
 ghost use Rattle.merc_order.specs.Bound.{among};
 ghost use Rattle.merc_switch_choice.specs.Variables.{all_behind};
 ghost use Rattle.merc_switch.specs.Occurring.{variables_at};
 
+use crate::whole::Whole;
 use merc_base::NoMemory;
 use merc_goal_tree::{Var, Vars};
 use merc_graded_tree::{BasicGoal, NodeRef, Root};
 use merc_switch_choice::{Disjunct, VarSet};
 use std::alloc::Global;
 
-/// Those of the outputs that occur in the disjuncts. No more disjuncts are gone through than it takes to find them all, and
-/// the smallest comes first: where each has all outputs no larger one is gone through.
+/// Those of the outputs of the whole that occur in the disjuncts. The smallest disjunct comes first: where it has all outputs
+/// no other is gone through.
 ///
 /// # Errors
 ///
 /// `NoMemory` where memory was refused, here and in the calls below.
 pub(crate) fn outputs_in(
     alloc: Global,
-    outputs: &[Var],
+    whole: &Whole<'_>,
     disjuncts: &[Disjunct<'_>],
 ) -> Result<Vars, NoMemory>
-    ensures { IfOk result (λ kept. kept ≡ filter (λ output. in_nodes (nodes_of disjuncts.now) output) outputs.now) }
+    ensures { IfOk result (λ kept. kept ≡ filter (λ output. in_nodes (nodes_of disjuncts.now) output) (outputs_of whole.now)) }
 {
     let mut variables = VarSet::new(alloc);
     add_smallest(disjuncts, &mut variables)?;
-    for disjunct in disjuncts {
-        if has_all(&variables, outputs) {
-            return those_among(alloc, outputs, &variables);
-        }
-        add_variables(&disjunct.goal(), &mut variables)?;
+    if has_all(&variables, whole.outputs()) {
+        return whole.outputs_among(alloc, &variables);
     }
-    those_among(alloc, outputs, &variables)
+    add_each(disjuncts, &mut variables)?;
+    whole.outputs_among(alloc, &variables)
 }
 
 // Adds the variables that occur in the disjunct of the fewest parts.
@@ -58,6 +57,16 @@ fn smallest_of(disjuncts: &[Disjunct<'_>]) -> usize {
     smallest
 }
 
+// Adds the variables that occur in the disjuncts.
+fn add_each(disjuncts: &[Disjunct<'_>], variables: &mut VarSet) -> Result<(), NoMemory>
+    ensures { OnOk result ((variable : ℕ) → among variables.new variable ≡ (among variables.old variable || in_nodes (nodes_of disjuncts.now) variable)) }
+{
+    for disjunct in disjuncts {
+        add_variables(&disjunct.goal(), variables)?;
+    }
+    Ok(())
+}
+
 // Whether all of the outputs are among the variables.
 fn has_all(variables: &VarSet, outputs: &[Var]) -> bool
     ensures { result ≡ list_all (λ output. among variables.now output) outputs.now }
@@ -68,19 +77,6 @@ fn has_all(variables: &VarSet, outputs: &[Var]) -> bool
         }
     }
     true
-}
-
-// Those of the outputs that are among the variables.
-fn those_among(alloc: Global, outputs: &[Var], variables: &VarSet) -> Result<Vars, NoMemory>
-    ensures { IfOk result (λ kept. kept ≡ filter (λ output. among variables.now output) outputs.now) }
-{
-    let mut kept = Vars::new(alloc);
-    for output in outputs {
-        if variables.contains(*output) {
-            kept.push(*output)?;
-        }
-    }
-    Ok(kept)
 }
 
 // Adds the variables that occur in a goal.

@@ -7,6 +7,7 @@ ghost use Rattle.merc_switch.specs.Plans.{plan, in_turn, disjoined, decided};
 
 use crate::copying::{copy_variables, label_with};
 use crate::tasks::{Group, Task, Tasks};
+use crate::whole::Whole;
 use merc_base::NoMemory;
 use merc_graded_tree::{Label, NodeRef, NodeView, Parts, Root};
 use merc_switch_choice::{Disjunct, Disjuncts, VarSet};
@@ -103,7 +104,7 @@ fn plan_disjunction<'a>(
     let disjuncts = disjuncts_of(alloc, goals)?;
     let left = split_count(&disjuncts)?;
     tasks.push(Task::Judge(Group {
-        whole: whole.copy(),
+        whole: Whole::of(alloc, whole.copy())?,
         disjuncts: Disjuncts::of(alloc, disjuncts)?,
         used: VarSet::new(alloc),
         left,

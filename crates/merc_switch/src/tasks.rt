@@ -1,6 +1,7 @@
 //! What is to be done to find the switches of a goal.
 ghost use Rattle.std.specs.Prelude.{◌≡◌, [], ◌∷◌, MatchOption, OnOk};
 
+use crate::whole::Whole;
 use merc_base::{Category, NoMemory};
 use merc_goal_tree::Vars;
 use merc_graded_tree::{Label, NodeRef};
@@ -29,7 +30,7 @@ pub(crate) enum Task<'a> {
 #[derive(Drop)]
 pub(crate) struct Group<'a> {
     /// The disjunction whose disjuncts they are.
-    pub(crate) whole: NodeRef<'a>,
+    pub(crate) whole: Whole<'a>,
     pub(crate) disjuncts: Disjuncts<'a>,
     /// The variables by whose symbols they came together.
     pub(crate) used: VarSet,

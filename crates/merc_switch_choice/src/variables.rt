@@ -1,5 +1,6 @@
 //! Sets of variables.
-ghost use Rattle.std.specs.Prelude.{◌≡◌, ℕ, [], length, take, IfOk, OnOk};
+ghost use Rattle.std.specs.Prelude.{◌≡◌, ℕ, [], nat_eq, length, take, position, IfOk, OnOk};
+ghost use Rattle.std.specs.List.{IsDistinct};
 ghost use Rattle.merc_order.specs.Bound.{among};
 ghost use Rattle.merc_order.specs.Procedures.{bound_at};
 ghost use Rattle.merc_switch_choice.specs.Variables.{behind, all_behind};
@@ -50,6 +51,22 @@ impl VarSet {
         self.numbers.contains(&number)
     }
 
+    /// Their numbers.
+    pub fn numbers(&self) -> &[usize]
+        ensures numbers { result.now ≡ self.now }
+        ensures distinct { IsDistinct nat_eq self.now }
+    {
+        self.numbers.as_slice()
+    }
+
+    /// How many stand before the variable, none where it is none of them.
+    pub fn place(&self, variable: Var) -> Option<usize>
+        ensures { result ≡ position (nat_eq variable) self.now }
+    {
+        let number = variable.number();
+        self.numbers.get_index_of(&number)
+    }
+
     /// Puts the variable behind the others, unless it is one of them.
     ///
     /// # Errors
@@ -84,7 +101,7 @@ impl VarSet {
         ensures { IfOk result (λ more. more ≡ behind (all_behind [] self.now) variable) }
     {
         let mut more = VarSet::new(alloc);
-        for number in self.numbers.as_slice() {
+        for number in self.numbers() {
             more.add(Var::new(*number))?;
         }
         more.add(variable)?;

@@ -10,13 +10,11 @@ pub returns : goal.returns
 returns c =
     let several : (length c.args.disjuncts == 1) ≡ false = elim c.if-as_slice-lt1.branch [ then-as_slice-lt1 w ↦ search rules | else-as_slice-lt1+else-this-lt2 w ↦ search rules ] in
     let outer = c.args.outer.now in
-    let outputs_same : c.as_slice-2.result.now ≡ outputs_of outer.whole = c.as_slice-2.ensures ∙ c.outputs-outputs.ensures in
-    let parts : AreParts outer.whole outer.used outer.left outer.variable c.args.disjuncts c.copy.result c.disjuncts.inside.items.items c.in_ok-with.field-0 c.saturating_sub.result c.in_ok-outputs.outputs = record {
-      whole_is = c.copy.ensures;
+    let parts : AreParts outer.whole outer.used outer.left outer.variable c.args.disjuncts c.in_ok-copy.field-0 c.disjuncts.inside.items.items c.in_ok-with.field-0 c.saturating_sub.result c.in_ok-outputs.outputs = record {
+      whole_is = c.in_ok-copy.ensures;
       disjuncts_are = c.disjuncts.view_is;
       used_are = c.in_ok-with.ensures;
       left_is = c.saturating_sub.ensures;
-      outputs_are = c.in_ok-outputs.ensures ∙ ap (λ o. filter (λ output. in_nodes (nodes_of c.as_slice-3.result.now) output) o) outputs_same
-          ∙ ap (λ d. filter (λ output. in_nodes (nodes_of d) output) (outputs_of outer.whole)) c.as_slice-3.ensures;
+      outputs_are = c.in_ok-outputs.ensures ∙ ap (λ d. filter (λ output. in_nodes (nodes_of d) output) (outputs_of outer.whole)) c.as_slice-2.ensures;
     } in
-    judged_arm outer.whole outer.used outer.left outer.variable c.args.disjuncts c.copy.result c.disjuncts.inside.items.items c.in_ok-with.field-0 c.saturating_sub.result c.in_ok-outputs.outputs several parts
+    judged_arm outer.whole outer.used outer.left outer.variable c.args.disjuncts c.in_ok-copy.field-0 c.disjuncts.inside.items.items c.in_ok-with.field-0 c.saturating_sub.result c.in_ok-outputs.outputs several parts

@@ -13,8 +13,6 @@ returns-clause-group c =
     elim c.if-narrowed.branch [
       | then-narrowed+in_ok-outputs w ↦ search rules
       | else-narrowed+in_ok-outputs-2 w ↦
-          w.outputs-is ∙ w.in_ok-outputs-2.ensures
-          ∙ ap (λ l. filter (λ output. in_nodes (nodes_of w.as_slice-else-narrowed.result.now) output) l) (w.as_slice.ensures ∙ w.outputs-outputs.ensures)
-          ∙ ap (λ l. filter (λ output. in_nodes (nodes_of l) output) (outputs_of group.whole)) w.as_slice-else-narrowed.ensures
+          w.outputs-is ∙ w.in_ok-outputs-2.ensures ∙ ap (λ l. filter (λ output. in_nodes (nodes_of l) output) (outputs_of group.whole)) w.as_slice.ensures
     ] in
     inner_is c.args.variable group c.add.new.self c.saturating_sub.result c.if-narrowed.outputs c.in_ok-add.ensures c.saturating_sub.ensures narrowed

@@ -1,17 +1,27 @@
-use Rattle.std.proofs.Common.{◌∙◌, ℕ, Bool, filter, ap, sym, arith}
+use Rattle.std.proofs.Common.{◌≡◌, ◌||◌, ◌∙◌, ℕ, Bool, true, filter, ap, sym}
+use Rattle.std.specs.List.{list_all}
 use Rattle.std.proofs.lemmas.Result.{IfOk-weaker}
 use mathlib.Core.Path.{fun_ext}
-use Rattle.merc_switch.proofs.Occurrences.{all_known, outputs_known}
+use Rattle.merc_graded_tree.specs.Nodes.{nodes_of, outputs_of}
+use Rattle.merc_graded_tree.specs.Variables.{in_nodes}
+use Rattle.merc_order.specs.Bound.{among}
+use Rattle.merc_switch.proofs.Occurrences.{outputs_known}
 use Rattle.merc_switch.proofs.occurring.outputs_in.Goals as goal
-
-pub returns : goal.returns
-returns c =
-    IfOk-weaker c.those_among-2.result _ _ (λ kept same. same ∙ ap (λ (p : ℕ → Bool). filter p c.args.outputs.now)
-    (fun_ext (λ variable. all_known c.loop-disjunct.variables c.args.disjuncts.now c.loop-disjunct.disjunct-index variable (omega (arith, c.loop-disjunct-test.false)) (c.loop-disjunct.invariant variable))))
-    c.those_among-2.ensures
 
 pub returns-then-has_all : goal.returns-then-has_all
 returns-then-has_all c =
-    IfOk-weaker c.those_among.result _ _
-    (λ kept same. same ∙ outputs_known c.loop-disjunct.variables c.args.disjuncts.now c.loop-disjunct.disjunct-index c.args.outputs.now (sym c.has_all.ensures ∙ c.if-has_all.true) c.loop-disjunct.invariant)
-    c.those_among.ensures
+    let goals = c.args.disjuncts.now in
+    let outputs = outputs_of c.args.whole.now in
+    let known = c.add_smallest.new.variables in
+    let all : list_all (λ output. among known output) outputs ≡ true = ap (λ l. list_all (λ output. among known output) l) (sym c.outputs.ensures) ∙ sym c.has_all.ensures ∙ c.if-has_all.true in
+    let same : (variable : ℕ) → (among known variable || in_nodes (nodes_of goals) variable) ≡ in_nodes (nodes_of goals) variable =
+    λ variable. c.in_ok-add_smallest.ensures variable ∙ ap (λ l. among l variable || in_nodes (nodes_of goals) variable) c.new-variables.ensures in
+    IfOk-weaker c.outputs_among.result _ _ (λ kept is. is ∙ outputs_known known goals outputs all same) c.outputs_among.ensures
+
+pub returns : goal.returns
+returns c =
+    let goals = c.args.disjuncts.now in
+    IfOk-weaker c.outputs_among-2.result _ _
+    (λ kept same. same ∙ ap (λ (p : ℕ → Bool). filter p (outputs_of c.args.whole.now)) (fun_ext (λ variable.
+    c.in_ok-add_each.ensures variable ∙ c.in_ok-add_smallest.ensures variable ∙ ap (λ l. among l variable || in_nodes (nodes_of goals) variable) c.new-variables.ensures)))
+    c.outputs_among-2.ensures

@@ -2,8 +2,7 @@
 use Rattle.std.proofs.Common.{◌∙◌, ◌<◌, ◌≡◌, Some, sym, subst, ap, length, map}
 use Rattle.std.specs.Option.{IfSome, IfNone}
 use Rattle.std.proofs.lemmas.Option.{IfSome_then}
-use Rattle.merc_value.specs.Block.{AreLower, IsBelow, value_of}
-use Rattle.merc_value.specs.declared.word.Word.TheVariants.{Cell}
+use Rattle.merc_value.specs.Block.{IsBelow, value_of}
 use Rattle.merc_heap.specs.Heap.{symbol_of, arguments_in, word_of}
 use Rattle.merc_heap.proofs.CellsLemmas.{read_within, symbol_read, arguments_read, none_then, some_is}
 use Rattle.merc_heap.proofs.heap.Heap.fields_of.Goals as goal

@@ -1,6 +1,5 @@
 -- The constructor and the number of the fields stand in the header.
-use Rattle.std.proofs.Common.{◌∙◌, Some, sym, subst, ap, length}
-use Rattle.merc_value.specs.Block.{AreLower}
+use Rattle.std.proofs.Common.{◌∙◌, Some, sym, ap, length}
 use Rattle.merc_heap.proofs.CellsLemmas.{read_within, symbol_read, arguments_read}
 use Rattle.merc_heap.proofs.heap.Heap.header.Goals as goal
 
