@@ -28,4 +28,6 @@ pub mod Standings
 pub mod Starting
 pub mod Superinstructions
 pub mod Switching
+pub mod SwitchingFields
+pub mod TakingApart
 pub mod Weighing

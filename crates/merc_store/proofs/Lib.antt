@@ -6,6 +6,7 @@ pub mod SoundLemmas
 pub mod DoingLemmas
 pub mod EffectLemmas
 pub mod KindLemmas
+pub mod ArmLemmas
 pub mod ReadingLemmas
 pub mod FillLemmas
 pub mod PerformLemmas

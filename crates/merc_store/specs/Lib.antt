@@ -1,3 +1,5 @@
+pub mod Arms
+pub mod ArmsExamples
 pub mod Data
 pub mod Effects
 pub mod EffectsExamples

@@ -64,7 +64,7 @@ impl Store {
     }
 
     // The symbol that a word's value is of.
-    fn head(&self, word: &Word) -> Symbol
+    pub(crate) fn head(&self, word: &Word) -> Symbol
         requires { IsBelow (length self.now.cells) word.now }
         ensures { result ≡ head_of (value_of self.now.cells word.now) }
     {
@@ -93,7 +93,7 @@ fn first_target(head: &Symbol, targets: &[Target]) -> Option<usize>
 }
 
 // Whether the values of which this is the symbol are of that one.
-fn is_head(symbol: Symbol, head: &Symbol) -> bool
+pub(crate) fn is_head(symbol: Symbol, head: &Symbol) -> bool
     ensures { (value : Value) → head.now ≡ head_of value → result ≡ is_some (fields symbol value) }
 {
     symbol == *head
