@@ -1,10 +1,11 @@
 -- Several instructions, one behind the other, of which one fails.
-use Rattle.std.proofs.Common.{◌≡◌, ℕ, zero, suc, List, [], ◌∷◌, pos, Some, None, refl, arith}
+use Rattle.std.proofs.Common.{◌≡◌, ℕ, zero, suc, [], ◌∷◌, pos, Some, refl, subst, arith}
+use Rattle.std.proofs.lemmas.List.Elements.{All-nil}
 use Rattle.merc_value.specs.Value.{Int}
 use Rattle.merc_meaning.specs.Trace.{Env}
-use Rattle.merc_meaning.specs.Steps.{value_at}
-use Rattle.merc_code.specs.Steps.{Binds, Fails, Raises}
-use Rattle.merc_store.specs.Several.{IsOther, KeepsOthers, PerformsEach}
+use Rattle.merc_code.specs.Steps.{Effect, Binds, Fails, Raises}
+use Rattle.merc_load.specs.Frames.{FitsInstruction}
+use Rattle.merc_store.specs.Several.{IsOther, KeepsOthers, PerformsEach, DoesEach}
 use Rattle.merc_store.specs.PerformingExamples.{store, store-grows, store-fits}
 use Rattle.merc_store.specs.declared.store.Done.TheVariants.{Bound, Failed, Raised}
 
@@ -29,3 +30,15 @@ each-example = (Some (Int (pos 7)) ∷ [], store-grows, store-fits, λ variable 
 
 each-not : PerformsEach store store 2 (Some (Int (pos 7)) ∷ []) (3 ∷ []) (1 ∷ []) (Raises 4) (Raised 5) → ⊥
 each-not same = absurd (omega (arith, same))
+
+none_effect : (env : Env) (effect : Effect) → Some (Binds env) ≡ Some effect → Binds env ≡ effect
+none_effect env effect is = cc
+
+-- without instructions nothing fails
+does_each-example : DoesEach store store [] Bound
+does_each-example = record {
+  performs = λ variables env marks effect fits within found. subst (λ e. PerformsEach store store variables env marks [] e Bound) (none_effect env effect found) (store-grows, fits);
+}
+
+does_each-not : DoesEach store store [] Failed → ⊥
+does_each-not does = does.performs 2 (Some (Int (pos 7)) ∷ []) (3 ∷ []) (Binds (Some (Int (pos 7)) ∷ [])) store-fits (All-nil (FitsInstruction 2 3)) refl
