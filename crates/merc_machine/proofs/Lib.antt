@@ -12,6 +12,7 @@ pub mod Growing
 pub mod Handed
 pub mod Handing
 pub mod Inverses
+pub mod JumpingBack
 pub mod LastCalling
 pub mod Linking
 pub mod Marking

@@ -11,3 +11,5 @@ pub mod ReadingLemmas
 pub mod FillLemmas
 pub mod PerformLemmas
 pub mod ConstantLemmas
+pub mod SeveralLemmas
+pub mod RestoringLemmas

@@ -12,3 +12,5 @@ pub mod MovesExamples
 pub mod DataExamples
 pub mod Performing
 pub mod PerformingExamples
+pub mod Several
+pub mod SeveralExamples

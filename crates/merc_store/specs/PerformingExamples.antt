@@ -9,15 +9,18 @@ use Rattle.merc_goal_tree.specs.declared.goal.Operation.TheVariants.{Div}
 use Rattle.merc_goal_tree.specs.declared.goal.Comparison.TheVariants.{Less}
 use Rattle.merc_meaning.specs.Trace.{Env}
 use Rattle.merc_meaning.specs.Steps.{value_at}
+use Rattle.merc_meaning.specs.Arithmetic.{comparison_of}
+use Rattle.merc_code.specs.declared.instruction.Instruction.{Instruction}
 use Rattle.merc_code.specs.declared.instruction.Instruction.TheVariants.{Integer, Arithmetic, Compare}
-use Rattle.merc_code.specs.Steps.{Effect, Raises, operates}
+use Rattle.merc_code.specs.Steps.{Effect, Binds, Fails, Raises, compares, operates}
 use Rattle.merc_load.specs.Frames.{FitsInstruction}
 use Rattle.merc_frames.specs.declared.slot.Slot.TheVariants.{Empty, Int as IntSlot, Text as TextSlot, Cell as CellSlot, Mark}
-use Rattle.merc_store.specs.Data.{StoreData}
+use Rattle.merc_store.specs.Data.{StoreData, with_current}
+use Rattle.merc_store.specs.Fitting.{FitsFrame}
 use Rattle.merc_store.specs.FittingExamples.{frame, frame-example}
-use Rattle.merc_store.specs.Effects.{effect_of_both, Performs}
-use Rattle.merc_store.specs.Performing.{word_at, words_at, integer_at, text_in, head_of, stored, DoesBoth}
-use Rattle.merc_store.specs.declared.store.Done.TheVariants.{Bound, Raised}
+use Rattle.merc_store.specs.Effects.{effect_of_both, Performs, effect_of_all, Grows, PerformsAll}
+use Rattle.merc_store.specs.Performing.{word_at, words_at, integer_at, text_in, head_of, stored, DoesBoth, DoesAll}
+use Rattle.merc_store.specs.declared.store.Done.TheVariants.{Bound, Raised, Failed}
 
 word_at-example : word_at (Empty ∷ CellSlot 3 ∷ []) 1 ≡ Some (CellWord 3)
 word_at-example = refl
@@ -59,7 +62,7 @@ stored-not : stored (1 ∷ []) (IntWord (pos 7) ∷ []) (Empty ∷ Empty ∷ [])
 stored-not same = absurd (cc)
 
 -- the first variable has the value 7
-abbrev store : StoreData
+abbrev pub store : StoreData
 store = record { cells = []; stacks = record { current = frame; callers = []; choices = [] } }
 
 raised_effect : (effect : Effect) → Some (Raises division_by_zero_name) ≡ Some effect → Raises division_by_zero_name ≡ effect
@@ -93,4 +96,44 @@ does_both-not : DoesBoth store store (Integer 1 (pos 9)) (Compare Less 0 1) Boun
 does_both-not does =
     let done = does.performs 2 (Some (Int (pos 7)) ∷ []) (3 ∷ []) _ frame-example integer_fits compare_fits refl in
     let same : Some (Int (pos 9)) ≡ None = done.1.values 1 in
+    absurd (cc)
+
+pub store-grows : Grows store store
+store-grows = record { room = refl; callers = refl; choices = refl; cells = ([], refl) }
+
+pub store-fits : FitsFrame store.cells 2 store.stacks.current (Some (Int (pos 7)) ∷ []) (3 ∷ [])
+store-fits = frame-example
+
+-- 9 < 7 does not hold
+abbrev tests : List Instruction
+tests = Integer 1 (pos 9) ∷ Compare Less 1 0 ∷ []
+
+failed_effect : (effect : Effect) → Some Fails ≡ Some effect → Fails ≡ effect
+failed_effect effect is = cc
+
+failed_over : (variables : ℕ) (env : Env) (marks : List ℕ) (effect : Effect) → FitsFrame store.cells variables store.stacks.current env marks → value_at env 0 ≡ Some (Int (pos 7))
+    → effect_of_all tests env ≡ Some effect → PerformsAll store store variables env marks effect Failed
+failed_over variables [] marks effect fits is found = absurd (cc)
+failed_over variables (first ∷ []) marks effect fits is found =
+    let e : Some Fails ≡ effect_of_all tests (first ∷ []) = ap (λ v. effect_of_all tests (v ∷ [])) (sym is) in
+    subst (λ e. PerformsAll store store variables (first ∷ []) marks e Failed) (failed_effect effect (e ∙ found)) (store-grows, fits)
+failed_over variables (first ∷ second ∷ env) marks effect fits is found =
+    let e : Some Fails ≡ effect_of_all tests (first ∷ second ∷ env) = ap (λ v. effect_of_all tests (v ∷ second ∷ env)) (sym is) in
+    subst (λ e. PerformsAll store store variables (first ∷ second ∷ env) marks e Failed) (failed_effect effect (e ∙ found)) (store-grows, fits)
+
+-- The variable that the first instruction gives a value has none again.
+does_all-example : DoesAll store store tests (1 ∷ []) Failed
+does_all-example = record { performs = λ variables env marks effect fits within are found. failed_over variables env marks effect fits (fits.values 0) found }
+
+compare_back_fits : FitsInstruction 2 3 (Compare Less 1 0)
+compare_back_fits = record { variables_are_there = All-nil (λ (variable : ℕ). variable < 2); marks_are_there = All-nil (λ (mark : ℕ). 2 + mark < 3) }
+
+tests_fit : All (FitsInstruction 2 3) tests
+tests_fit = All-cons (FitsInstruction 2 3) (Integer 1 (pos 9)) (Compare Less 1 0 ∷ []) integer_fits (All-cons (FitsInstruction 2 3) (Compare Less 1 0) [] compare_back_fits (All-nil (FitsInstruction 2 3)))
+
+-- where it keeps the value, they do not do what the instructions do
+does_all-not : DoesAll store (with_current store (IntSlot (pos 7) ∷ IntSlot (pos 9) ∷ Mark 3 ∷ [])) tests (1 ∷ []) Failed → ⊥
+does_all-not does =
+    let done = does.performs 2 (Some (Int (pos 7)) ∷ []) (3 ∷ []) Fails frame-example tests_fit refl refl in
+    let same : None ≡ Some (Int (pos 9)) = done.1.values 1 in
     absurd (cc)

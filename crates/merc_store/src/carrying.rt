@@ -125,7 +125,7 @@ fn put(frames: &mut Frames, pass: Option<&Pass>, slot: Slot)
 }
 
 // Puts what these slots of the current frame hold on a list, in order.
-fn gather(frames: &Frames, own: &[Var], into: &mut Vec<Slot>) -> Result<(), NoMemory>
+pub(crate) fn gather(frames: &Frames, own: &[Var], into: &mut Vec<Slot>) -> Result<(), NoMemory>
     ensures { OnOk result (into.new.items ≡ carried own.now frames.now.current) }
 {
     into.clear();
@@ -136,7 +136,7 @@ fn gather(frames: &Frames, own: &[Var], into: &mut Vec<Slot>) -> Result<(), NoMe
 }
 
 // Writes slots into these variables of the current frame, one for one.
-fn deliver(frames: &mut Frames, outs: &[Var], slots: &[Slot])
+pub(crate) fn deliver(frames: &mut Frames, outs: &[Var], slots: &[Slot])
     ensures { frames.new ≡ record frames.old { current = delivered outs.now slots.now frames.old.current } }
 {
     for (variable, slot) in outs.iter().zip(slots) {

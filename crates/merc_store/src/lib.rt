@@ -7,6 +7,7 @@ mod carrying;
 pub mod constants;
 pub mod moving;
 pub mod performing;
+pub mod several;
 mod splitting;
 pub mod store;
 mod testing;
