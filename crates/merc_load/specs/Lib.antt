@@ -5,4 +5,3 @@ pub mod Linking
 pub mod Loaded
 pub mod LoadedExamples
 pub mod Sizes
-pub mod Superinstructions
