@@ -1,6 +1,5 @@
 -- What the words of a command ask for.
-use Rattle.std.specs.Prelude.{◌≡◌, ℕ, ◌≤◌, Bool, false, ◌==◌, ◌++◌, List, [], ◌∷◌, length, Option, Some, None, unwrap_or, codes, IsUtf8}
-use Rattle.std.specs.List.{All}
+use Rattle.std.specs.Prelude.{◌≡◌, ℕ, ◌≤◌, Bool, true, false, All, ◌==◌, ◌++◌, List, [], ◌∷◌, length, Option, Some, None, unwrap_or, codes, IsUtf8}
 use Rattle.merc_tokens.specs.Bytes.{is_digit_of}
 use Rattle.merc_tokens.specs.Integers.{digits_value}
 use Rattle.merc_top.specs.declared.words.Request.{Request}
@@ -8,6 +7,10 @@ use Rattle.merc_top.specs.declared.words.Request.TheVariants.{Solve, Check}
 use Rattle.merc_top.specs.declared.words.Setting.{Setting}
 use Rattle.merc_top.specs.declared.words.Setting.TheVariants.{Steps, Max}
 use Rattle.merc_top.specs.declared.words.Settings.{Settings}
+use Rattle.merc_top.specs.declared.words.WordKind.{WordKind}
+use Rattle.merc_top.specs.declared.words.WordKind.TheVariants.{Plain, End, Name, Assigned, Unknown}
+use Rattle.merc_top.specs.declared.words.Plains.{Plains}
+use Rattle.merc_top.specs.declared.words.Plains.TheVariants.{Nothing, One, Two}
 
 -- the character `-`
 abbrev pub hyphen : ℕ
@@ -42,7 +45,7 @@ digit_limit = 10
 
 -- a number that an option can be set to, in decimal
 pub record IsNumberOf (setting : Setting) (text : List ℕ) (number : ℕ) : Type 0 where
-  pub digits : All (λ (byte : ℕ). is_digit_of 10 byte ≡ Bool.true) text
+  pub digits : All (λ (byte : ℕ). is_digit_of 10 byte ≡ true) text
   pub some : 1 ≤ length text
   pub few : length text ≤ digit_limit
   pub value : number ≡ digits_value 10 0 text
@@ -71,6 +74,28 @@ pub data Sets : Settings → List (List ℕ) → List (List ℕ) → Settings �
   in_one_word : (before after : Settings) (setting : Setting) (text : List ℕ) (number : ℕ) (words plains : List (List ℕ)) → setting_in setting before ≡ None → IsNumberOf setting text number
       → Sets (with_setting setting number before) words plains after → Sets before ((setting_word setting ++ codes "=" ++ text) ∷ words) plains after
 
+-- the text spells a number that this can be set to, and these are the settings behind it
+abbrev pub SetsTo : Setting → List ℕ → Settings → Settings → Type 0
+SetsTo setting text before after = (number : ℕ) × (setting_in setting before ≡ None) × IsNumberOf setting text number × (after ≡ with_setting setting number before)
+
+-- a word that does not name this option, by itself or with a text behind `=`
+abbrev pub NamesNot : Setting → List ℕ → Type 0
+NamesNot setting word = (word ≡ setting_word setting → ⊥) × ((text : List ℕ) → word ≡ setting_word setting ++ codes "=" ++ text → ⊥)
+
+-- what a word is where no `--` stands before it
+abbrev pub IsKind : List ℕ → WordKind → Type 0
+IsKind word Plain = is_option word ≡ false
+IsKind word End = word ≡ options_end
+IsKind word (Name setting) = word ≡ setting_word setting
+IsKind word (Assigned setting text) = word ≡ setting_word setting ++ codes "=" ++ text.now
+IsKind word Unknown = (is_option word ≡ true) × (word ≡ options_end → ⊥) × ((setting : Setting) → NamesNot setting word)
+
+-- the words that are no options, in order
+abbrev pub plains_of : Plains → List (List ℕ)
+plains_of Nothing = []
+plains_of (One first) = first.now ∷ []
+plains_of (Two first second) = first.now ∷ second.now ∷ []
+
 -- the steps that a run may take where none are set
 unfoldable pub default_steps : ℕ
 default_steps = 1000000
@@ -84,6 +109,16 @@ pub record IsSolve (words : List (List ℕ)) (file goal : List ℕ) (steps : ℕ
   pub sets : Sets no_settings behind (file ∷ goal ∷ []) settings
   pub steps_are : steps ≡ unwrap_or settings.steps default_steps
   pub most_is : most ≡ settings.most
+
+-- the goal that is asked by these words that are no options, with these settings
+abbrev pub IsSolveOf : List (List ℕ) → Settings → Request → Type 0
+IsSolveOf plains settings (Solve file goal steps most) = (plains ≡ file.now ∷ goal.now ∷ []) × (steps ≡ unwrap_or settings.steps default_steps) × (most ≡ settings.most)
+IsSolveOf plains settings (Check file) = ⊥
+
+-- the same of a check
+abbrev pub IsCheckOf : List (List ℕ) → Settings → Request → Type 0
+IsCheckOf plains settings (Solve file goal steps most) = ⊥
+IsCheckOf plains settings (Check file) = (plains ≡ file.now ∷ []) × (settings ≡ no_settings)
 
 -- the words are `check FILE`
 pub record IsCheck (words : List (List ℕ)) (file : List ℕ) : Type 0 where

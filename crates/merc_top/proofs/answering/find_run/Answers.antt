@@ -22,7 +22,7 @@ returns-in-Err-Refused c =
     subst (λ (fault : Fault). IsRefusal (Refuses c.new-names.result c.args.text.now) fault) c.in-Err-Refused.field-0-is c.in-Err-Refused.ensures.refused in
     let line = line_by c.bytes.result.now c.args.name.now refusal refusal _ refl c.bytes.ensures refl in
     let is = c.in_ok-due-in-Err-Refused.ensures in
-    refused-found c.args.name.now c.args.text.now c.args.goal.now c.in_ok-due-in-Err-Refused.due (refusal_line c.args.name.now refusal ∷ []) module_status (is.0 ∙ line) is.1 (lit< tt)
+    refused-found c.args.name.now c.args.text.now c.args.goal.now c.args.steps c.args.most c.in_ok-due-in-Err-Refused.due (refusal_line c.args.name.now refusal ∷ []) module_status (is.0 ∙ line) is.1 (lit< tt)
     (module_refused refusal (subst (λ (names : List (List ℕ)). Refuses names c.args.text.now refusal) c.new-names.ensures refuses))
 
 pub prepare-requires : goal.prepare-requires
@@ -41,7 +41,7 @@ returns c =
     let is_module =
     subst (λ (names : List (List ℕ)). IsAccepted names c.check.new.names c.args.text.now checked.items checked.module) c.new-names.ensures c.in-Ok.ensures.accepted in
     run-found c.args.text.now c.args.goal.now c.check.new.names c.check_query.new.names checked.items checked.module checked.trees query.goal query.trees is_module
-    c.in-Ok-check_query.ensures.accepted c.in-Ok-check_query.ensures.graded c.args.name.now query.names query.answers c.in_ok-prepare.field-0
+    c.in-Ok-check_query.ensures.accepted c.in-Ok-check_query.ensures.graded c.args.name.now c.args.steps c.args.most query.names query.answers c.in_ok-prepare.field-0
     c.in-Ok.ensures.graded c.in-Ok-check_query.ensures.names c.in-Ok-check_query.ensures.answers c.in_ok-prepare.ensures
 
 pub returns-in-Err-Refused-check_query : goal.returns-in-Err-Refused-check_query
@@ -54,5 +54,5 @@ returns-in-Err-Refused-check_query c =
     subst (λ (fault : Fault). IsRefusal (RefusesQuery c.check.new.names found c.args.goal.now) fault) c.in-Err-Refused-check_query.field-0-is c.in-Err-Refused-check_query.ensures.refused in
     let line = line_by (codes "goal") (codes "goal") refusal refusal _ refl refl refl in
     let is = c.in_ok-due-in-Err-Refused-check_query.ensures in
-    refused-found c.args.name.now c.args.text.now c.args.goal.now c.in_ok-due-in-Err-Refused-check_query.due (refusal_line (codes "goal") refusal ∷ []) goal_status (is.0 ∙ line) is.1 (lit< tt)
+    refused-found c.args.name.now c.args.text.now c.args.goal.now c.args.steps c.args.most c.in_ok-due-in-Err-Refused-check_query.due (refusal_line (codes "goal") refusal ∷ []) goal_status (is.0 ∙ line) is.1 (lit< tt)
     (goal_refused c.check.new.names c.in-Ok.checked.items found refusal is_module refuses)
