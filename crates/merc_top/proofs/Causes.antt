@@ -222,11 +222,11 @@ stopped-low false count end = end_status-low count end
 stopped-zero : (stopped : Bool) (count : ℕ) (end : RunEnd) → solved_status ≡ (if stopped then solved_status else end_status count end)
     → (stopped ≡ true) ⊎ ((stopped ≡ false) × (0 < count) × (end ≡ RunDone))
 stopped-zero true count end is = inl refl
-stopped-zero false count end is = inr (refl, end_status-zero count end is)
+stopped-zero false count end is = let found = end_status-zero count end is in inr (refl, found.0, found.1)
 
 stopped-one : (stopped : Bool) (count : ℕ) (end : RunEnd) → unsolved_status ≡ (if stopped then solved_status else end_status count end) → (stopped ≡ false) × (count ≡ 0) × (end ≡ RunDone)
 stopped-one true count end is = absurd (omega (arith, is))
-stopped-one false count end is = (refl, end_status-one count end is)
+stopped-one false count end is = let found = end_status-one count end is in (refl, found.0, found.1)
 
 stopped-two : (stopped : Bool) (count : ℕ) (end : RunEnd) → raised_status ≡ (if stopped then solved_status else end_status count end) → (stopped ≡ false) × ((text : ℕ) × (end ≡ RunRaised text))
 stopped-two true count end is = absurd (omega (arith, is))
@@ -433,7 +433,7 @@ unsolved-exactly words files lines status output =
 pub raised-exactly : (words : List (List ℕ)) (files : Files) (lines : List (List ℕ)) (status : ℕ) → IsOutput words files lines status → (status ≡ raised_status) ↔ RunsTo words files IsRaised
 raised-exactly words files lines status output =
     runs-exactly words files lines status raised_status IsRaised output (lit< tt) (lit< tt) (λ most run is. stopped-two (is_stopped most run) (length (answers_of run)) (end_of run) is)
-    (λ most run fits. unstopped (is_stopped most run) (length (answers_of run)) (end_of run) raised_status fits.0 (rw fits.2 (end_status-raised (length (answers_of run)) fits.1)))
+    (λ most run fits. unstopped (is_stopped most run) (length (answers_of run)) (end_of run) raised_status fits.0 (rw fits.1.1 (end_status-raised (length (answers_of run)) fits.1.0)))
 
 -- or passes the step limit;
 pub limit-exactly : (words : List (List ℕ)) (files : Files) (lines : List (List ℕ)) (status : ℕ) → IsOutput words files lines status → (status ≡ limit_status) ↔ RunsTo words files IsCutAtLimit

@@ -71,11 +71,11 @@ left-begins None = tt
 left-begins (Some most) = omega arith
 
 left-answered : (most bound : Option ℕ) (count : ℕ) → IsLeft most count bound → IsOpen bound → IsLeft most (suc count) (one_less bound)
-left-answered None None count left open = tt
-left-answered None (Some more) count left open = absurd left
-left-answered (Some most) None count left open = absurd left
-left-answered (Some most) (Some zero) count left open = absurd open
-left-answered (Some most) (Some (suc more)) count left open = omega (arith, left)
+left-answered None None count left wanted = tt
+left-answered None (Some more) count left wanted = absurd left
+left-answered (Some most) None count left wanted = absurd left
+left-answered (Some most) (Some zero) count left wanted = absurd wanted
+left-answered (Some most) (Some (suc more)) count left wanted = omega (arith, left)
 
 pub left-open : (most bound : Option ℕ) (count : ℕ) → IsLeft most count bound → (most ≡ Some count → ⊥) → IsOpen bound
 left-open None None count left more = tt
@@ -111,9 +111,9 @@ told-behind None made run = answers-behind made run
 told-behind (Some more) made run = ap (λ (all : List Env). take more all) (answers-behind made run)
 
 told-answered : (bound : Option ℕ) (values : Env) (rest : Run) → IsOpen bound → answers_told bound (Answer values rest) ≡ values ∷ answers_told (one_less bound) rest
-told-answered None values rest open = refl
-told-answered (Some zero) values rest open = absurd open
-told-answered (Some (suc more)) values rest open = refl
+told-answered None values rest wanted = refl
+told-answered (Some zero) values rest wanted = absurd wanted
+told-answered (Some (suc more)) values rest wanted = refl
 
 told-ended : (bound : Option ℕ) (end : RunEnd) → answers_told bound (Ends end) ≡ []
 told-ended None end = refl
@@ -128,14 +128,14 @@ stopped-behind None made run = refl
 stopped-behind (Some more) made run = ap (λ (all : List Env). nat_le more (length all)) (answers-behind made run)
 
 stopped-answered : (bound : Option ℕ) (values : Env) (rest : Run) → IsOpen bound → is_stopped bound (Answer values rest) ≡ is_stopped (one_less bound) rest
-stopped-answered None values rest open = refl
-stopped-answered (Some zero) values rest open = absurd open
-stopped-answered (Some (suc more)) values rest open = refl
+stopped-answered None values rest wanted = refl
+stopped-answered (Some zero) values rest wanted = absurd wanted
+stopped-answered (Some (suc more)) values rest wanted = refl
 
 stopped-ended : (bound : Option ℕ) (end : RunEnd) → IsOpen bound → is_stopped bound (Ends end) ≡ false
-stopped-ended None end open = refl
-stopped-ended (Some zero) end open = absurd open
-stopped-ended (Some (suc more)) end open = refl
+stopped-ended None end wanted = refl
+stopped-ended (Some zero) end wanted = absurd wanted
+stopped-ended (Some (suc more)) end wanted = refl
 
 none-stopped : (run : Run) → is_stopped (Some 0) run ≡ true
 none-stopped run = refl
@@ -145,9 +145,9 @@ before-behind more zero run = omega arith
 before-behind more (suc made) run = let rest = before-behind more made run in omega (arith, rest)
 
 made-behind : (bound : Option ℕ) (made : ℕ) (run : Run) → IsOpen bound → steps_made bound (behind_steps made run) ≡ made + steps_made bound run
-made-behind None made run open = steps-behind made run
-made-behind (Some zero) made run open = absurd open
-made-behind (Some (suc more)) made run open = before-behind more made run
+made-behind None made run wanted = steps-behind made run
+made-behind (Some zero) made run wanted = absurd wanted
+made-behind (Some (suc more)) made run wanted = before-behind more made run
 
 ended-made : (bound : Option ℕ) (end : RunEnd) → steps_made bound (Ends end) ≡ 0
 ended-made None end = refl
@@ -158,16 +158,16 @@ none-made : (run : Run) → steps_made (Some 0) run ≡ 0
 none-made run = refl
 
 made-answered : (bound : Option ℕ) (values : Env) (rest : Run) → IsOpen bound → steps_made bound (Answer values rest) ≡ steps_made (one_less bound) rest
-made-answered None values rest open = refl
-made-answered (Some zero) values rest open = absurd open
-made-answered (Some (suc more)) values rest open = refl
+made-answered None values rest wanted = refl
+made-answered (Some zero) values rest wanted = absurd wanted
+made-answered (Some (suc more)) values rest wanted = refl
 
 -- steps that are counted already, and those that are left behind them
 counted-behind : (bound : Option ℕ) (number number' made : ℕ) (before rest : Run) → IsOpen bound → before ≡ behind_steps made rest → number' ≡ counted number made
     → counted number' (steps_made bound rest) ≡ counted number (steps_made bound before)
-counted-behind bound number number' made before rest open is counts =
+counted-behind bound number number' made before rest wanted is counts =
     ap (λ (n : ℕ). counted n (steps_made bound rest)) counts ∙ counted-more number made (steps_made bound rest)
-    ∙ ap (λ (n : ℕ). counted number n) (sym (made-behind bound made rest open)) ∙ ap (λ (run : Run). counted number (steps_made bound run)) (sym is)
+    ∙ ap (λ (n : ℕ). counted number n) (sym (made-behind bound made rest wanted)) ∙ ap (λ (run : Run). counted number (steps_made bound run)) (sym is)
 
 -- ---- lines
 
@@ -329,8 +329,8 @@ module _ (names : List (List ℕ)) (variables : List ℕ) (most : Option ℕ) (a
 
   -- The bound leaves an answer to be told, or there is none.
   module _ (more : most ≡ Some count → ⊥) where
-    open : IsOpen so_far.bound
-    open = left-open most so_far.bound count so_far.left more
+    wanted : IsOpen so_far.bound
+    wanted = left-open most so_far.bound count so_far.left more
 
     -- Steps were made, and no answer came.
     pub progress-moved : (machine' : Machine) (rest : Run) (made ticks' : ℕ) → so_far.rest ≡ behind_steps made rest → Means machine' rest → ticks' ≡ counted ticks made
@@ -346,7 +346,7 @@ module _ (names : List (List ℕ)) (variables : List ℕ) (most : Option ℕ) (a
       told = ap (λ (all : List Env). so_far.done ++ all) (sym (told-behind so_far.bound made rest) ∙ ap (λ (run : Run). answers_told so_far.bound run) (sym is)) ∙ so_far.told;
       stops = sym (stopped-behind so_far.bound made rest) ∙ ap (λ (run : Run). is_stopped so_far.bound run) (sym is) ∙ so_far.stops;
       end = sym (end-behind made rest) ∙ ap (λ (run : Run). end_of run) (sym is) ∙ so_far.end;
-      steps = counted-behind so_far.bound ticks ticks' made so_far.rest rest open is counts ∙ so_far.steps;
+      steps = counted-behind so_far.bound ticks ticks' made so_far.rest rest wanted is counts ∙ so_far.steps;
       written = so_far.written;
       faults = so_far.faults;
     }
@@ -363,7 +363,7 @@ module _ (names : List (List ℕ)) (variables : List ℕ) (most : Option ℕ) (a
       told_are : answers_told so_far.bound so_far.rest ≡ values ∷ answers_told (one_less so_far.bound) rest
       told_are =
           ap (λ (run : Run). answers_told so_far.bound run) is ∙ told-behind so_far.bound made (Answer values rest)
-          ∙ told-answered so_far.bound values rest open
+          ∙ told-answered so_far.bound values rest wanted
 
       answer_parts : done_text ++ (line ++ text_of (map (solution_line names variables) (answers_told (one_less so_far.bound) rest) ++ last ∷ [])) ≡ whole
       answer_parts =
@@ -383,7 +383,7 @@ module _ (names : List (List ℕ)) (variables : List ℕ) (most : Option ℕ) (a
         bound = one_less so_far.bound;
         means = means;
         count_is = omega (arith, so_far.count_is, length-append so_far.done (values ∷ []));
-        left = left-answered most so_far.bound count so_far.left open;
+        left = left-answered most so_far.bound count so_far.left wanted;
         answers =
             append_assoc so_far.done (values ∷ []) (answers_of rest)
             ∙ ap (λ (all : List Env). so_far.done ++ all) (sym answers_are) ∙ so_far.answers;
@@ -391,12 +391,12 @@ module _ (names : List (List ℕ)) (variables : List ℕ) (most : Option ℕ) (a
             append_assoc so_far.done (values ∷ []) (answers_told (one_less so_far.bound) rest)
             ∙ ap (λ (all : List Env). so_far.done ++ all) (sym told_are) ∙ so_far.told;
         stops =
-            sym (stopped-answered so_far.bound values rest open) ∙ sym (stopped-behind so_far.bound made (Answer values rest))
+            sym (stopped-answered so_far.bound values rest wanted) ∙ sym (stopped-behind so_far.bound made (Answer values rest))
             ∙ ap (λ (run : Run). is_stopped so_far.bound run) (sym is) ∙ so_far.stops;
         end = sym (end-behind made (Answer values rest)) ∙ ap (λ (run : Run). end_of run) (sym is) ∙ so_far.end;
         steps =
-            ap (λ (n : ℕ). counted ticks' n) (sym (made-answered so_far.bound values rest open))
-            ∙ counted-behind so_far.bound ticks ticks' made so_far.rest (Answer values rest) open is counts ∙ so_far.steps;
+            ap (λ (n : ℕ). counted ticks' n) (sym (made-answered so_far.bound values rest wanted))
+            ∙ counted-behind so_far.bound ticks ticks' made so_far.rest (Answer values rest) wanted is counts ∙ so_far.steps;
         written =
             written ∙ ap (λ (held : Option (List ℕ)). appended held line) so_far.written ∙ appended-append old done_text line
             ∙ ap (λ (text : List ℕ). appended old text) (sym (lines-more (solution_line names variables) so_far.done values));
@@ -416,7 +416,7 @@ module _ (names : List (List ℕ)) (variables : List ℕ) (most : Option ℕ) (a
 
       not_stopped : is_stopped most asked ≡ false
       not_stopped =
-          sym so_far.stops ∙ ap (λ (run : Run). is_stopped so_far.bound run) is ∙ stopped-behind so_far.bound made (Ends end) ∙ stopped-ended so_far.bound end open
+          sym so_far.stops ∙ ap (λ (run : Run). is_stopped so_far.bound run) is ∙ stopped-behind so_far.bound made (Ends end) ∙ stopped-ended so_far.bound end wanted
 
       all_done : so_far.done ≡ answers_of asked
       all_done = sym (append-nil so_far.done) ∙ ap (λ (all : List Env). so_far.done ++ all) (sym none_left) ∙ so_far.answers
@@ -437,7 +437,7 @@ module _ (names : List (List ℕ)) (variables : List ℕ) (most : Option ℕ) (a
       end_steps : ticks' ≡ counted begun (steps_made most asked)
       end_steps =
           ap (λ (n : ℕ). counted ticks' n) (sym (ended-made so_far.bound end))
-          ∙ counted-behind so_far.bound ticks ticks' made so_far.rest (Ends end) open is counts ∙ so_far.steps
+          ∙ counted-behind so_far.bound ticks ticks' made so_far.rest (Ends end) wanted is counts ∙ so_far.steps
 
       pub solves-end : (line : List ℕ) (status : ℕ) (new : Option (List ℕ)) (after' : ℕ) (result : Result ℕ Cut) → line ≡ end_line names count end → status ≡ end_status count end
           → Writes line now new after after' result → IfOk result (λ told. told ≡ status) → Solves names variables most asked old new before after' begun ticks' result
