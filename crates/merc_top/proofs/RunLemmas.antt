@@ -1,10 +1,10 @@
 -- Runs behind steps, and the lines of a run written one by one.
-use Rattle.std.proofs.Common.{◌≡◌, ◌+◌, ◌<◌, ◌∙◌, ℕ, zero, suc, List, [], ◌∷◌, ◌++◌, ap, sym, refl, subst, length, map, append_assoc, arith}
+use Rattle.std.proofs.Common.{◌≡◌, ◌+◌, ◌<◌, ◌≤◌, ◌⊎◌, ◌∙◌, ℕ, zero, suc, List, [], ◌∷◌, ◌++◌, ap, sym, refl, subst, length, map, append_assoc, arith, inl, inr}
 use Rattle.std.specs.Prelude.{◌==◌, Bool, true, false, nat_eq, nat_le, take, Option, Some, None, Result, Ok, Err, IfOk, if◌then◌else◌}
 use Rattle.std.proofs.lemmas.Grind.{flat_map-append}
 use Rattle.std.specs.Option.{option_eq}
-use Rattle.std.proofs.lemmas.Bool.{false≢true}
-use Rattle.std.proofs.lemmas.Bool.Decides.{nat_tests}
+use Rattle.std.proofs.lemmas.Bool.{false≢true, le-leb, lt-leb}
+use Rattle.std.proofs.lemmas.Bool.Decides.{leb_tells, nat_tests}
 use Rattle.std.proofs.lemmas.Option.{same_Some}
 use Rattle.std.proofs.lemmas.List.{append-nil, length-append, map-append}
 use Rattle.merc_base.specs.Outside.{appended}
@@ -127,18 +127,31 @@ stopped-behind : (bound : Option ℕ) (made : ℕ) (run : Run) → is_stopped bo
 stopped-behind None made run = refl
 stopped-behind (Some more) made run = ap (λ (all : List Env). nat_le more (length all)) (answers-behind made run)
 
+within-by : (most count : ℕ) → ((nat_le most count ≡ true) × (most ≤ count)) ⊎ ((nat_le most count ≡ false) × (count < most)) → nat_le (suc most) (suc count) ≡ nat_le most count
+within-by most count (inl told) = le-leb (suc most) (suc count) (omega (arith, told.1)) ∙ sym told.0
+within-by most count (inr told) = lt-leb (suc most) (suc count) (omega (arith, told.1)) ∙ sym told.0
+
+within-suc : (most count : ℕ) → nat_le (suc most) (suc count) ≡ nat_le most count
+within-suc most count = within-by most count (leb_tells most count)
+
+none-within : (most : ℕ) → nat_le (suc most) 0 ≡ false
+none-within most = lt-leb (suc most) 0 (omega arith)
+
+nought-within : (count : ℕ) → nat_le 0 count ≡ true
+nought-within count = le-leb 0 count (omega arith)
+
 stopped-answered : (bound : Option ℕ) (values : Env) (rest : Run) → IsOpen bound → is_stopped bound (Answer values rest) ≡ is_stopped (one_less bound) rest
 stopped-answered None values rest wanted = refl
 stopped-answered (Some zero) values rest wanted = absurd wanted
-stopped-answered (Some (suc more)) values rest wanted = refl
+stopped-answered (Some (suc more)) values rest wanted = within-suc more (length (answers_of rest))
 
 stopped-ended : (bound : Option ℕ) (end : RunEnd) → IsOpen bound → is_stopped bound (Ends end) ≡ false
 stopped-ended None end wanted = refl
 stopped-ended (Some zero) end wanted = absurd wanted
-stopped-ended (Some (suc more)) end wanted = refl
+stopped-ended (Some (suc more)) end wanted = none-within more
 
 none-stopped : (run : Run) → is_stopped (Some 0) run ≡ true
-none-stopped run = refl
+none-stopped run = nought-within (length (answers_of run))
 
 before-behind : (more made : ℕ) (run : Run) → steps_before (suc more) (behind_steps made run) ≡ made + steps_before (suc more) run
 before-behind more zero run = omega arith
