@@ -1,5 +1,5 @@
 -- What is due, over the files that a shelf tells, or over files that fit what was read.
-use Rattle.std.proofs.Common.{◌≡◌, ◌<◌, ◌≤◌, ◌⊎◌, ℕ, suc, zero, List, [], ◌∷◌, ap, sym, refl, subst, inl, inr, length, arith, lit<}
+use Rattle.std.proofs.Common.{◌≡◌, ◌<◌, ◌≤◌, ◌⊎◌, ◌∙◌, ℕ, suc, zero, List, [], ◌∷◌, ap, sym, refl, subst, inl, inr, length, arith, lit<}
 use Rattle.std.proofs.lemmas.List.{length-replicate}
 use Rattle.std.specs.Prelude.{Bool, true, false, Option, Some, None, Ok, IfSome, replicate, if◌then◌else◌}
 use Rattle.std.proofs.lemmas.Slice.Eq.{bytes_eq-Decides}
@@ -32,7 +32,7 @@ use Rattle.merc_top.specs.declared.answering.Found.{Found}
 use Rattle.merc_top.specs.declared.answering.Found.TheVariants.{Lines, Run as Runs}
 use Rattle.merc_top.specs.declared.solving.Ready.{Ready}
 use Rattle.merc_top.specs.Ready.{IsReady}
-use Rattle.merc_top.specs.Due.{Finds, IsCheckFound, IsRequestFound, IsSolveFound}
+use Rattle.merc_top.specs.Due.{Finds, IsCheckFound, IsRefused, IsRequestFound, IsSolveFound}
 use Rattle.merc_top.proofs.Requests.{solve-no_check}
 use Rattle.merc_top.proofs.OutputLaws.{module-distinct}
 
@@ -218,7 +218,13 @@ module _ (text goal : List ℕ) (file_names names : List (List ℕ)) (items : Li
   )
 
 -- What is wrong with the file, or with the goal, is said by a status that no run has.
-pub refused-found : (name text goal : List ℕ) (steps : ℕ) (most : Option ℕ) (due : Due) (lines : List (List ℕ)) (status : ℕ) → due.lines ≡ lines → due.status ≡ status → limit_status < status → IsDue name text goal steps most lines status
+refused-found : (name text goal : List ℕ) (steps : ℕ) (most : Option ℕ) (due : Due) (lines : List (List ℕ)) (status : ℕ) → due.lines ≡ lines → due.status ≡ status → limit_status < status → IsDue name text goal steps most lines status
     → IsSolveFound name text goal steps most (Lines due)
 refused-found name text goal steps most due lines status same same' above is =
     (subst (λ (n : ℕ). limit_status < n) (sym same') above, due_by name text goal steps most due.lines lines due.status status same same' is)
+
+pub refused-goal : (name text goal said line : List ℕ) (steps : ℕ) (most : Option ℕ) (refusal : Refusal) (status : ℕ) (found : Found) → said ≡ line → limit_status < status
+    → IsDue name text goal steps most (refusal_line line refusal ∷ []) status → IsRefused status said refusal found → IsSolveFound name text goal steps most found
+refused-goal name text goal said line steps most refusal status (Lines due) same above is (lines, told) =
+    refused-found name text goal steps most due (refusal_line line refusal ∷ []) status (lines ∙ ap (λ (some : List ℕ). refusal_line some refusal ∷ []) same) told above is
+refused-goal name text goal said line steps most refusal status (Runs ready) same above is other = absurd other

@@ -1,6 +1,7 @@
 -- What is found to be due before anything is written.
-use Rattle.std.specs.Prelude.{◌≡◌, ◌<◌, ◌⊎◌, ℕ, List, Option, Result, Ok, Err}
+use Rattle.std.specs.Prelude.{◌≡◌, ◌<◌, ◌⊎◌, ℕ, List, [], ◌∷◌, Option, Result, Ok, Err}
 use Rattle.merc_base.specs.Outside.{Files}
+use Rattle.merc_base.specs.declared.refusal.Refusal.{Refusal}
 use Rattle.merc_meaning.specs.Trace.{Run}
 use Rattle.merc_top.specs.declared.words.Request.{Request}
 use Rattle.merc_top.specs.declared.words.Request.TheVariants.{Solve, Check}
@@ -9,10 +10,15 @@ use Rattle.merc_top.specs.declared.answering.Found.TheVariants.{Lines, Run as Ru
 use Rattle.merc_top.specs.declared.answering.Trouble.{Trouble}
 use Rattle.merc_top.specs.declared.answering.Trouble.TheVariants.{Unread, NoMemory}
 use Rattle.merc_top.specs.Statuses.{limit_status, unread_status, too_long_status}
-use Rattle.merc_top.specs.Output.{IsAskedRun, IsCheckDue, IsDue, IsOutput}
+use Rattle.merc_top.specs.Output.{IsAskedRun, IsCheckDue, IsDue, IsOutput, refusal_line}
 use Rattle.merc_top.specs.Answer.{AreFiles, NamesAbsent}
 use Rattle.merc_top.specs.Counting.{AsksRun}
 use Rattle.merc_top.specs.Ready.{IsReady}
+
+-- the one line of a refusal, and this status
+abbrev pub IsRefused : ℕ → List ℕ → Refusal → Found → Type 0
+IsRefused status name refusal (Lines due) = (due.lines ≡ refusal_line name refusal ∷ []) × (due.status ≡ status)
+IsRefused status name refusal (Runs ready) = ⊥
 
 -- the lines and the status that are due for a file of this name and text, and a goal, which say that one of both is refused; or what makes the run that is due
 abbrev pub IsSolveFound : List ℕ → List ℕ → List ℕ → ℕ → Option ℕ → Found → Type 0

@@ -6,7 +6,7 @@ ghost use Rattle.merc_top.specs.Output.{IsCheckDue, refusal_line, text_of, too_l
 ghost use Rattle.merc_top.specs.Statuses.{status_told, too_long_status, usage_status};
 ghost use Rattle.merc_top.specs.Words.{usage_line};
 ghost use Rattle.merc_top.specs.Counting.{Counts};
-ghost use Rattle.merc_top.specs.Due.{Finds, IsRequestFound, IsSolveFound};
+ghost use Rattle.merc_top.specs.Due.{Finds, IsRefused, IsRequestFound, IsSolveFound};
 ghost use Rattle.merc_top.specs.Answer.{Answers};
 ghost use Rattle.merc_top.specs.Writing.{Writes};
 
@@ -56,6 +56,18 @@ fn refused(alloc: Global, status: u8, name: &[u8], refusal: &Refusal) -> Result<
     one_line(alloc, status, refusal_line(alloc, name, refusal)?)
 }
 
+// The same, as what is due for a goal.
+fn refused_goal(
+    alloc: Global,
+    status: u8,
+    name: &[u8],
+    refusal: &Refusal,
+) -> Result<Found, NoMemory>
+    ensures { IfOk result (IsRefused status name.now refusal.now) }
+{
+    Ok(Found::Lines(refused(alloc, status, name, refusal)?))
+}
+
 // What is due for words that ask for nothing that there is.
 #[tactic(auto, unfolding(crate::specs::Words::usage_line))]
 fn usage_due(alloc: Global) -> Result<Due, NoMemory>
@@ -87,16 +99,14 @@ fn find_run(
     let checked = match check(alloc, text, &mut names) {
         Ok(checked) => checked,
         Err(Fault::Refused(refusal)) => {
-            let due = refused(alloc, statuses::MODULE_REFUSED, name.bytes(), &refusal)?;
-            return Ok(Found::Lines(due));
+            return refused_goal(alloc, statuses::MODULE_REFUSED, name.bytes(), &refusal);
         }
         Err(Fault::NoMemory) => return Err(NoMemory),
     };
     let query = match check_query(alloc, &checked, goal, &mut names) {
         Ok(query) => query,
         Err(Fault::Refused(refusal)) => {
-            let due = refused(alloc, statuses::GOAL_REFUSED, b"goal", &refusal)?;
-            return Ok(Found::Lines(due));
+            return refused_goal(alloc, statuses::GOAL_REFUSED, b"goal", &refusal);
         }
         Err(Fault::NoMemory) => return Err(NoMemory),
     };
