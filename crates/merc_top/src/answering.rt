@@ -90,10 +90,10 @@ fn find_run(
     text: &Text,
     goal: &Text,
     steps: u64,
-    most: Option<u64>,
+    most: &Option<u64>,
 ) -> Result<Found, NoMemory>
     requires { length text.now ≤ file_limit }
-    ensures { IfOk result (λ found. IsSolveFound name.now text.now goal.now steps most found) }
+    ensures { IfOk result (λ found. IsSolveFound name.now text.now goal.now steps most.now found) }
 {
     let mut names = Names::new(alloc);
     let checked = match check(alloc, text, &mut names) {
@@ -110,9 +110,7 @@ fn find_run(
         }
         Err(Fault::NoMemory) => return Err(NoMemory),
     };
-    Ok(Found::Run(prepare(
-        alloc, names, &checked, query, steps, most,
-    )?))
+    Ok(Found::Run(prepare(alloc, names, &checked, query, steps, *most)?))
 }
 
 // Why nothing can be said of what is due.
@@ -164,7 +162,7 @@ fn find_requested(alloc: Global, request: &Request<'_>, text: &Text) -> Result<F
             goal,
             steps,
             most,
-        } => find_run(alloc, file, text, goal, *steps, *most),
+        } => find_run(alloc, file, text, goal, *steps, most),
         Request::Check { file } => Ok(Found::Lines(check_due(alloc, file, text)?)),
     }
 }

@@ -11,9 +11,7 @@ ghost use Rattle.merc_top.specs.Ready.{IsReady, Makes};
 ghost use Rattle.merc_top.specs.Solving.{Solves};
 ghost use Rattle.merc_top.specs.Writing.{Writes};
 
-use crate::lines::{
-    exception_line, solution_line, solutions_line, step_limit_line, stopped_line,
-};
+use crate::lines::{exception_line, solution_line, solutions_line, step_limit_line, stopped_line};
 use crate::statuses;
 use crate::writing::{Cut, put_line};
 use merc_base::{Name, Names, NoMemory, Sequence, Sink, Text};

@@ -42,7 +42,9 @@ pub enum Request<'a> {
         most: Option<u64>,
     },
     /// To check the module of a file of this name.
-    Check { file: &'a Text },
+    Check {
+        file: &'a Text,
+    },
 }
 
 /// What a word behind the command is, where no `--` stands before it.

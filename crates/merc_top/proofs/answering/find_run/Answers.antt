@@ -23,7 +23,7 @@ returns-in-Err-Refused c =
     let due = module_refused refusal (subst (λ (names : List (List ℕ)). Refuses names c.args.text.now refusal) c.new-names.ensures refuses) in
     IfOk-weaker c.refused_goal.result _ _
     (λ found is.
-    refused-goal c.args.name.now c.args.text.now c.args.goal.now c.bytes.result.now c.args.name.now c.args.steps c.args.most refusal module_status found c.bytes.ensures (lit< tt) due is)
+    refused-goal c.args.name.now c.args.text.now c.args.goal.now c.bytes.result.now c.args.name.now c.args.steps c.args.most.now refusal module_status found c.bytes.ensures (lit< tt) due is)
     c.refused_goal.ensures
 
 pub prepare-requires : goal.prepare-requires
@@ -42,7 +42,7 @@ returns c =
     let is_module =
     subst (λ (names : List (List ℕ)). IsAccepted names c.check.new.names c.args.text.now checked.items checked.module) c.new-names.ensures c.in-Ok.ensures.accepted in
     run-found c.args.text.now c.args.goal.now c.check.new.names c.check_query.new.names checked.items checked.module checked.trees query.goal query.trees is_module
-    c.in-Ok-check_query.ensures.accepted c.in-Ok-check_query.ensures.graded c.args.name.now c.args.steps c.args.most query.names query.answers c.in_ok-prepare.field-0
+    c.in-Ok-check_query.ensures.accepted c.in-Ok-check_query.ensures.graded c.args.name.now c.args.steps c.args.most.now query.names query.answers c.in_ok-prepare.field-0
     c.in-Ok.ensures.graded c.in-Ok-check_query.ensures.names c.in-Ok-check_query.ensures.answers c.in_ok-prepare.ensures
 
 pub returns-in-Err-Refused-check_query : goal.returns-in-Err-Refused-check_query
@@ -55,6 +55,6 @@ returns-in-Err-Refused-check_query c =
     subst (λ (fault : Fault). IsRefusal (RefusesQuery c.check.new.names found c.args.goal.now) fault) c.in-Err-Refused-check_query.field-0-is c.in-Err-Refused-check_query.ensures.refused in
     IfOk-weaker c.refused_goal-in-Err-Refused-check_query.result _ _
     (λ answer is.
-    refused-goal c.args.name.now c.args.text.now c.args.goal.now (codes "goal") (codes "goal") c.args.steps c.args.most refusal goal_status answer refl (lit< tt)
+    refused-goal c.args.name.now c.args.text.now c.args.goal.now (codes "goal") (codes "goal") c.args.steps c.args.most.now refusal goal_status answer refl (lit< tt)
     (goal_refused c.check.new.names c.in-Ok.checked.items found refusal is_module refuses) is)
     c.refused_goal-in-Err-Refused-check_query.ensures
