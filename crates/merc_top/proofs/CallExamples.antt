@@ -17,7 +17,7 @@ use Rattle.merc_meaning.specs.Trace.{Run, Ends, RunDone}
 use Rattle.merc_machine.specs.Running.{counted}
 use Rattle.merc_top.specs.declared.words.Request.{Request}
 use Rattle.merc_top.specs.declared.words.Request.TheVariants.{Solve, Check}
-use Rattle.merc_top.specs.Words.{IsSolve, IsCheck, IsRequest, IsNoRequest, default_steps, file_of, usage_line}
+use Rattle.merc_top.specs.Words.{IsSolve, IsCheck, IsRequest, default_steps, file_of, usage_line}
 use Rattle.merc_top.specs.Loading.{file_limit}
 use Rattle.merc_top.specs.Writing.{PutsFront}
 use Rattle.merc_top.specs.Output.{IsAskedRun, IsOutput, text_of}
@@ -34,7 +34,7 @@ use Rattle.merc_top.proofs.Causes.{solved-exactly, module_refused-exactly, goal_
 use Rattle.merc_top.proofs.OutputExamples.{one_answer}
 use Rattle.merc_top.proofs.CheckingExamples.{tree}
 use Rattle.merc_top.proofs.DueExamples.{bad_token, lone_byte-refused, one_text, one_names, one_module, one_lines, run_names, first_output, IsDue-module_refused, IsDue-runs, IsCheckDue-refused, IsCheckDue-accepted}
-use Rattle.merc_top.proofs.Requests.{check-unique, commands-differ, shown, solve-no_check, solve-unique}
+use Rattle.merc_top.proofs.Requests.{shown, solve-no_check, solve-unique}
 use Rattle.merc_top.proofs.Options.{differ}
 use Rattle.merc_top.proofs.WordsExamples.{IsNoRequest-nothing, check_words, check-plain, solve-plain, utf8-goal, utf8-one, IsSolve-example, IsCheck-example}
 

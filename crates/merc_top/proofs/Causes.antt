@@ -17,7 +17,7 @@ use Rattle.merc_top.specs.declared.words.Request.TheVariants.{Solve, Check}
 use Rattle.merc_top.specs.Words.{IsRequest, IsSolve, IsCheck, IsNoRequest, file_of, usage_line}
 use Rattle.merc_top.specs.Checking.{check_lines}
 use Rattle.merc_top.specs.Runs.{answers_of, end_of, is_stopped}
-use Rattle.merc_top.specs.Output.{IsAskedRun, IsDue, IsCheckDue, IsRequestDue, IsOutput, FileOutput, end_status, run_lines, run_status, refusal_line, too_long_line}
+use Rattle.merc_top.specs.Output.{IsDue, IsCheckDue, IsRequestDue, IsOutput, FileOutput, end_status, run_lines, run_status, refusal_line, too_long_line}
 use Rattle.merc_top.specs.Output.IsDue.{module_refused as due_module_refused, goal_refused as due_goal_refused, runs as due_runs}
 use Rattle.merc_top.specs.Output.IsCheckDue.{check_refused as due_check_refused, check_accepted as due_check_accepted}
 use Rattle.merc_top.specs.Answer.{IsStatusDue, NamesAbsent}

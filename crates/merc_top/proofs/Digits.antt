@@ -1,10 +1,10 @@
 -- Numbers in decimal.
-use Rattle.std.proofs.Common.{◌≡◌, ◌≢◌, ◌∙◌, ◌<◌, ◌≤◌, ◌+◌, ◌-◌, ◌*◌, ℕ, zero, suc, List, [], ◌∷◌, All, ap, sym, refl, subst, length, take, drop, take_all, drop-cons, get_or, arith, true, false, ◌==◌}
+use Rattle.std.proofs.Common.{◌≡◌, ◌≢◌, ◌∙◌, ◌<◌, ◌≤◌, ◌+◌, ◌-◌, ◌*◌, ℕ, zero, suc, List, [], ◌∷◌, All, ap, sym, refl, length, take, drop, take_all, drop-cons, get_or, arith, true}
 use Rattle.std.proofs.lemmas.Bool.{ne_eqb}
 use Rattle.std.proofs.lemmas.Bool.Decides.{nat_tests}
 use Rattle.std.proofs.lemmas.List.Elements.{All-more, All-same}
 use Rattle.merc_base.specs.Characters.{underscore_code}
-use Rattle.merc_tokens.specs.Bytes.{digit_of, is_digit_of, is_digit}
+use Rattle.merc_tokens.specs.Bytes.{digit_of, is_digit_of}
 use Rattle.merc_tokens.specs.Integers.{digits_value}
 use Rattle.merc_tokens.proofs.Digits.{digits_value-le}
 

@@ -18,21 +18,20 @@ use Rattle.merc_check.proofs.CheckedLaws.{IsGradedGoal-one}
 use Rattle.merc_meaning.specs.Trace.{Run, RunEnd, RunDone, RunRaised, LimitPassed}
 use Rattle.merc_top.specs.declared.words.Request.{Request}
 use Rattle.merc_top.specs.declared.words.Request.TheVariants.{Solve, Check}
-use Rattle.merc_top.specs.Words.{IsRequest, IsSolve, IsCheck, IsNoRequest, file_of, usage_line}
+use Rattle.merc_top.specs.Words.{IsRequest, IsNoRequest, file_of, usage_line}
 use Rattle.merc_top.specs.Statuses.{limit_status, solved_status, usage_status, unread_status, too_long_status}
 use Rattle.merc_top.specs.Loading.{file_limit, IsTooLong}
-use Rattle.merc_top.specs.Output.{IsAskedRun, IsOutput, IsDue, IsCheckDue, IsRequestDue, FileOutput, end_status, refusal_line, run_status, too_long_line}
+use Rattle.merc_top.specs.Output.{IsOutput, IsDue, IsCheckDue, IsRequestDue, FileOutput, end_status, refusal_line, run_status, too_long_line}
 use Rattle.merc_top.specs.Output.IsDue.{module_refused, goal_refused, runs}
 use Rattle.merc_top.specs.Output.IsCheckDue.{check_refused, check_accepted}
 use Rattle.merc_top.specs.Runs.{answers_of, end_of, is_stopped}
 use Rattle.merc_top.specs.Answer.{AreFiles}
-use Rattle.merc_top.specs.Counting.{AsksRun}
 use Rattle.merc_top.specs.declared.answering.Due.{Due}
 use Rattle.merc_top.specs.declared.answering.Found.{Found}
 use Rattle.merc_top.specs.declared.answering.Found.TheVariants.{Lines, Run as Runs}
 use Rattle.merc_top.specs.declared.solving.Ready.{Ready}
 use Rattle.merc_top.specs.Ready.{IsReady}
-use Rattle.merc_top.specs.Due.{Finds, IsCheckFound, IsRefused, IsRequestFound, IsSolveFound}
+use Rattle.merc_top.specs.Due.{Finds, IsRefused, IsRequestFound, IsSolveFound}
 use Rattle.merc_top.proofs.Requests.{solve-no_check}
 use Rattle.merc_top.proofs.OutputLaws.{module-distinct}
 

@@ -1,6 +1,6 @@
 -- What the options set, read word by word.
-use Rattle.std.proofs.Common.{◌≡◌, ◌∙◌, ◌<◌, ◌≤◌, ◌+◌, ◌-◌, ℕ, zero, suc, List, [], ◌∷◌, ◌++◌, ap, sym, refl, subst, length, take, drop, take_all, get_or, arith, codes, slice_index, append_assoc, Bor}
-use Rattle.std.specs.Prelude.{true, false, Option, Some, None}
+use Rattle.std.proofs.Common.{◌≡◌, ◌∙◌, ◌<◌, ◌≤◌, ◌+◌, ◌-◌, ℕ, List, [], ◌∷◌, ◌++◌, ap, sym, refl, subst, length, take, drop, take_all, get_or, arith, codes, slice_index, append_assoc, Bor}
+use Rattle.std.specs.Prelude.{true, false, None}
 use Rattle.std.proofs.lemmas.Bool.{false≢true}
 use Rattle.std.proofs.lemmas.List.{append-nil, length-append}
 use Rattle.merc_top.specs.declared.words.Setting.{Setting}

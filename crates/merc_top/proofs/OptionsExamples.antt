@@ -1,6 +1,6 @@
 -- Worked examples of options: what holds, and what does not.
-use Rattle.std.specs.Prelude.{◌≡◌, ◌≤◌, ◌++◌, ◌*◌, ℕ, true, false, All, List, [], ◌∷◌, length, Option, Some, None, codes, refl}
-use Rattle.std.proofs.Common.{◌∙◌, arith, lit<, lit≤, ap, sym, subst, slice_index}
+use Rattle.std.specs.Prelude.{◌≡◌, ◌≤◌, ◌*◌, ℕ, true, List, [], ◌∷◌, length, Option, Some, None, codes, refl}
+use Rattle.std.proofs.Common.{◌∙◌, arith, lit<, lit≤, ap, sym, slice_index}
 use Rattle.std.proofs.lemmas.Bool.{false≢true}
 use Rattle.std.proofs.lemmas.List.Elements.{All-cons, All-nil}
 use Rattle.merc_tokens.specs.Bytes.{is_digit_of}
@@ -12,7 +12,7 @@ use Rattle.merc_top.specs.declared.words.Request.TheVariants.{Solve, Check}
 use Rattle.merc_top.specs.declared.words.WordKind.TheVariants.{Plain, End, Name, Assigned, Unknown}
 use Rattle.merc_top.specs.Words.{IsCheckOf, IsKind, IsNumberOf, IsSolveOf, NamesNot, Sets, SetsTo, default_steps, digit_limit, greatest, is_option, least, no_settings, options_end, plains_of, setting_in, setting_word, with_setting}
 use Rattle.merc_top.specs.Words.Sets.{no_word, plain_word, ends_options, in_two_words, in_one_word}
-use Rattle.merc_top.proofs.Options.{differ, emptied, opened, opened-assigned, opened-name, sets-unique, shown}
+use Rattle.merc_top.proofs.Options.{differ, opened, opened-assigned, opened-name, sets-unique, shown}
 
 -- ---- numbers
 

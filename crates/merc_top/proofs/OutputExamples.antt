@@ -1,5 +1,5 @@
 -- Worked examples of the lines that are due and of a run's: what holds, and what does not.
-use Rattle.std.specs.Prelude.{◌≡◌, ◌*◌, ℕ, pos, negsuc, true, false, List, [], ◌∷◌, length, Some, None, codes, refl}
+use Rattle.std.specs.Prelude.{◌≡◌, ℕ, pos, negsuc, true, false, List, [], ◌∷◌, length, Some, None, codes, refl}
 use Rattle.std.proofs.Common.{arith, slice_index, ap, sym}
 use Rattle.std.specs.Fmt.{decimal, digits}
 use Rattle.merc_base.specs.declared.category.Category.TheVariants.{Det}
@@ -17,7 +17,7 @@ use Rattle.merc_graded_tree.specs.declared.basic.BasicGoal.{BasicGoal}
 use Rattle.merc_graded_tree.specs.declared.basic.BasicGoal.TheVariants.{Arithmetic, Build, Call}
 use Rattle.merc_graded_tree.specs.declared.entries.Running.TheVariants.{Sequential}
 use Rattle.merc_graded_tree.specs.Nodes.{Node, node, Basic, Conjunction, nodes_of}
-use Rattle.merc_meaning.specs.Trace.{Env, Run, Ends, Tick, Answer, RunDone, RunRaised, LimitPassed}
+use Rattle.merc_meaning.specs.Trace.{Run, Ends, Tick, Answer, RunDone, RunRaised, LimitPassed}
 use Rattle.merc_meaning.specs.Programs.{program_with}
 use Rattle.merc_meaning.specs.Runs.{run}
 use Rattle.merc_code.specs.Meaning.{shown}

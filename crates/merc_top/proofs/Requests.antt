@@ -1,5 +1,5 @@
 -- What words ask for, and requests of given texts.
-use Rattle.std.proofs.Common.{◌≡◌, ◌∙◌, ◌<◌, ℕ, List, [], ◌∷◌, ap, sym, subst, length, arith, codes, slice_index}
+use Rattle.std.proofs.Common.{◌≡◌, ◌∙◌, ℕ, List, [], ◌∷◌, ap, sym, subst, length, arith, codes, slice_index}
 use Rattle.std.specs.Prelude.{All, IsUtf8, Option, Some, None, MatchOption, unwrap_or}
 use Rattle.merc_top.specs.declared.words.Request.{Request}
 use Rattle.merc_top.specs.declared.words.Request.TheVariants.{Solve, Check}

@@ -8,7 +8,7 @@ use Rattle.std.proofs.lemmas.Bool.Decides.{leb_tells, nat_tests}
 use Rattle.std.proofs.lemmas.Option.{same_Some}
 use Rattle.std.proofs.lemmas.List.{append-nil, length-append, map-append}
 use Rattle.merc_base.specs.Outside.{appended}
-use Rattle.merc_meaning.specs.Trace.{Env, Run, RunEnd, Ends, Tick, Answer}
+use Rattle.merc_meaning.specs.Trace.{Env, Run, RunEnd, Ends, Answer}
 use Rattle.merc_machine.specs.declared.machine.Machine.{Machine}
 use Rattle.merc_machine.specs.Running.{Means, behind_steps, counted}
 use Rattle.merc_top.specs.declared.writing.Cut.{Cut}

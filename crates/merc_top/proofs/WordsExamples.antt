@@ -1,6 +1,6 @@
 -- Worked examples of the words of a command: what holds, and what does not.
-use Rattle.std.specs.Prelude.{◌≡◌, ◌<◌, ◌++◌, ℕ, true, false, All, IsUtf8, List, [], ◌∷◌, length, Some, None, codes, refl, take}
-use Rattle.std.proofs.Common.{◌∙◌, arith, lit<, ap, sym, subst, slice_index, Bor}
+use Rattle.std.specs.Prelude.{◌≡◌, ◌++◌, ℕ, true, false, All, IsUtf8, List, [], ◌∷◌, Some, None, codes, refl, take}
+use Rattle.std.proofs.Common.{arith, lit<, ap, sym, subst, slice_index, Bor}
 use Rattle.std.proofs.Math.Utf8.{encode}
 use Rattle.std.specs.Str.{is_utf8, chars}
 use Rattle.std.proofs.lemmas.Bool.{false≢true}
@@ -12,7 +12,7 @@ use Rattle.merc_top.specs.declared.words.Settings.{Settings}
 use Rattle.merc_top.specs.Words.{hyphen, is_option, IsSolve, IsCheck, IsRequest, IsNoRequest, Sets, default_steps, file_of, no_settings, usage_line, with_setting}
 use Rattle.merc_top.specs.Words.Sets.{no_word, plain_word, in_two_words}
 use Rattle.merc_top.proofs.Options.{differ, shown}
-use Rattle.merc_top.proofs.OptionsExamples.{IsNumberOf-example, IsNumberOf-one, Sets-between, Sets-empty, Sets-end, Sets-no_answer, Sets-twice, Sets-two_words, Sets-unknown, set_unset}
+use Rattle.merc_top.proofs.OptionsExamples.{IsNumberOf-one, Sets-between, Sets-empty, Sets-end, Sets-no_answer, Sets-twice, Sets-two_words, Sets-unknown, set_unset}
 use Rattle.merc_top.proofs.Requests.{check-unique, commands-differ, no_request, solve-unique}
 
 pub is_option-example : is_option (codes "-x") ≡ true

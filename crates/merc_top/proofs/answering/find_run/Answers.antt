@@ -1,7 +1,6 @@
 -- A file or a goal that breaks a rule is refused by that rule; else the run is made ready.
-use Rattle.std.proofs.Common.{◌≤◌, ◌∙◌, arith, lit<, subst, sym, codes, [], ◌∷◌, refl, List, ℕ, length}
+use Rattle.std.proofs.Common.{◌≤◌, arith, lit<, subst, codes, refl, List, ℕ, length}
 use Rattle.std.proofs.lemmas.Result.{IfOk-weaker}
-use Rattle.merc_base.specs.Names.{fixed_names}
 use Rattle.merc_base.specs.declared.refusal.Fault.{Fault}
 use Rattle.merc_terms.specs.Items.{IsRefusal}
 use Rattle.merc_check.specs.Checked.{IsAccepted, Refuses, RefusesQuery}

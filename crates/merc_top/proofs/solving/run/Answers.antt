@@ -1,8 +1,7 @@
 -- The machine makes the rest of the run, and each line is written as it comes.
-use Rattle.std.proofs.Common.{◌≡◌, ◌∙◌, ℕ, ap, sym, refl, subst, arith}
+use Rattle.std.proofs.Common.{sym, refl, arith}
 use Rattle.std.proofs.lemmas.Result.{err_from_is_err_and}
 use Rattle.merc_meaning.specs.Trace.{RunDone, RunRaised, LimitPassed}
-use Rattle.merc_top.specs.declared.writing.Cut.TheVariants.{NoMemory}
 use Rattle.merc_top.proofs.Causes.{end_status-limit, end_status-raised}
 use Rattle.merc_top.proofs.RunLemmas.{answer-cut, enough, not_enough, progress-answered, progress-begins, progress-cut, progress-moved, solves-end, solves-stopped}
 use Rattle.merc_top.proofs.solving.run.Goals as goal

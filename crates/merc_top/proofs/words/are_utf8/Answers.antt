@@ -1,4 +1,4 @@
-use Rattle.std.proofs.Common.{◌≡◌, All, IsTrue, IsUtf8, List, ℕ, arith, get_or, rules, sym, subst, take_all}
+use Rattle.std.proofs.Common.{IsUtf8, arith, rules, sym, subst, take_all}
 use Rattle.std.proofs.lemmas.List.Elements.{All-more, All-same}
 use Rattle.merc_top.proofs.words.are_utf8.Goals as goal
 
