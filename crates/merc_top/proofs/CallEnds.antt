@@ -1,5 +1,5 @@
 -- What a call has done, in each of its ends.
-use Rattle.std.proofs.Common.{◌≡◌, ◌<◌, ◌⊎◌, ◌∙◌, ◌↔◌, ℕ, List, [], ap, sym, refl, subst, inl, inr, arith, length}
+use Rattle.std.proofs.Common.{◌≡◌, ◌<◌, ◌⊎◌, ◌∙◌, ◌↔◌, ℕ, List, [], ap, sym, refl, subst, inl, inr, arith}
 use Rattle.std.specs.Prelude.{Option, Some, None, Result, Ok, Err, IfOk}
 use Rattle.std.proofs.lemmas.List.{append-nil}
 use Rattle.std.proofs.lemmas.Option.{same_Some}
@@ -9,7 +9,7 @@ use Rattle.merc_machine.specs.Running.{counted}
 use Rattle.merc_top.specs.declared.writing.Cut.{Cut}
 use Rattle.merc_top.specs.declared.writing.Cut.TheVariants.{Unwritten, NoMemory}
 use Rattle.merc_top.specs.Writing.{PutsFront, Writes}
-use Rattle.merc_top.specs.Runs.{answers_of, end_of, steps_of}
+use Rattle.merc_top.specs.Runs.{steps_made}
 use Rattle.merc_top.specs.Output.{IsAskedRun, IsOutput, FileOutput, run_lines, run_status, text_of}
 use Rattle.merc_top.specs.Statuses.{limit_status, unread_status, unwritten_status, no_memory_status, status_told}
 use Rattle.merc_top.specs.Answer.{Answers, AreFiles, IsStatusDue, NamesAbsent}
@@ -17,7 +17,7 @@ use Rattle.merc_top.specs.Counting.{AsksRun, Counts}
 use Rattle.merc_top.specs.Solving.{Solves}
 use Rattle.merc_top.proofs.Requests.{solve-unique}
 use Rattle.merc_top.proofs.OutputLaws.{IsAskedRun-unique}
-use Rattle.merc_top.proofs.Dues.{IsDueStatus, IsDueOver, end_status-small}
+use Rattle.merc_top.proofs.Dues.{IsDueStatus, IsDueOver, run_status-small}
 use Rattle.merc_top.proofs.Causes.{absent-exactly, asked_output, status-exactly}
 use Rattle.merc_top.proofs.WritingLemmas.{appended-empty}
 
@@ -156,49 +156,51 @@ answers-told words told reads reads' old new writes writes' lines due_status (Er
 -- ---- runs
 
 -- what is written of a run is written of its lines
-solves_writes : (names : List (List ℕ)) (variables : List ℕ) (asked : Run) (old new : Option (List ℕ)) (writes writes' ticks ticks' : ℕ) (written : Result ℕ Cut)
-    → Solves names variables asked old new writes writes' ticks ticks' written
-    → Writes (text_of (run_lines names variables asked)) old new writes writes' written × IfOk written (λ status. status ≡ run_status asked)
-solves_writes names variables asked old new writes writes' ticks ticks' (Ok status) solves = ((solves.1, solves.2), solves.0)
-solves_writes names variables asked old new writes writes' ticks ticks' (Err cut) solves = (solves, tt)
+solves_writes : (names : List (List ℕ)) (variables : List ℕ) (most : Option ℕ) (asked : Run) (old new : Option (List ℕ)) (writes writes' ticks ticks' : ℕ) (written : Result ℕ Cut)
+    → Solves names variables most asked old new writes writes' ticks ticks' written
+    → Writes (text_of (run_lines names variables most asked)) old new writes writes' written × IfOk written (λ status. status ≡ run_status most asked)
+solves_writes names variables most asked old new writes writes' ticks ticks' (Ok status) solves = ((solves.1, solves.2), solves.0)
+solves_writes names variables most asked old new writes writes' ticks ticks' (Err cut) solves = (solves, tt)
 
-pub answers-run : (words : List (List ℕ)) (told : Option Files) (reads reads' : ℕ) (old new : Option (List ℕ)) (writes writes' : ℕ) (names : List (List ℕ)) (variables : List ℕ) (asked : Run)
-    (ticks ticks' : ℕ) (written : Result ℕ Cut) (files : Files) → reads' ≡ reads → AreFiles told files → AsksRun words files names variables asked
-    → Solves names variables asked old new writes writes' ticks ticks' written → Answers words told reads reads' old new writes writes' (status_told written)
-answers-run words told reads reads' old new writes writes' names variables asked ticks ticks' written files read fit asks solves =
-    answers-told words told reads reads' old new writes writes' (run_lines names variables asked) (run_status asked) written read
-    (inl (end_status-small (length (answers_of asked)) (end_of asked))) (files, fit, asked_output words files names variables asked asks)
-    (solves_writes names variables asked old new writes writes' ticks ticks' written solves).0
-    (solves_writes names variables asked old new writes writes' ticks ticks' written solves).1
+pub answers-run : (words : List (List ℕ)) (told : Option Files) (reads reads' : ℕ) (old new : Option (List ℕ)) (writes writes' : ℕ) (names : List (List ℕ)) (variables : List ℕ) (most : Option ℕ) (asked : Run)
+    (ticks ticks' : ℕ) (written : Result ℕ Cut) (files : Files) → reads' ≡ reads → AreFiles told files → AsksRun words files names variables most asked
+    → Solves names variables most asked old new writes writes' ticks ticks' written → Answers words told reads reads' old new writes writes' (status_told written)
+answers-run words told reads reads' old new writes writes' names variables most asked ticks ticks' written files read fit asks solves =
+    answers-told words told reads reads' old new writes writes' (run_lines names variables most asked) (run_status most asked) written read
+    (inl (run_status-small most asked)) (files, fit, asked_output words files names variables most asked asks)
+    (solves_writes names variables most asked old new writes writes' ticks ticks' written solves).0
+    (solves_writes names variables most asked old new writes writes' ticks ticks' written solves).1
 
--- the words ask for one run
-pub asked-unique : (words : List (List ℕ)) (files : Files) (names names' : List (List ℕ)) (variables variables' : List ℕ) (asked asked' : Run)
-    → AsksRun words files names variables asked → AsksRun words files names' variables' asked' → asked ≡ asked'
-asked-unique words files names names' variables variables' asked asked' one other =
-    let same = solve-unique words one.file one.goal other.file other.goal one.request other.request in
+-- the words ask for one run, and for so many of its answers
+pub asked-unique : (words : List (List ℕ)) (files : Files) (names names' : List (List ℕ)) (variables variables' : List ℕ) (most most' : Option ℕ) (asked asked' : Run)
+    → AsksRun words files names variables most asked → AsksRun words files names' variables' most' asked' → (most ≡ most') × (asked ≡ asked')
+asked-unique words files names names' variables variables' most most' asked asked' one other =
+    let same = solve-unique words one.file one.goal other.file other.goal one.steps other.steps most most' one.request other.request in
     let text : one.text ≡ other.text = same_Some _ _ (sym one.content ∙ ap (λ (file : List ℕ). file_named file files) same.0 ∙ other.content) in
     let other_run =
-    subst (λ (some : List ℕ). IsAskedRun some one.goal names' variables' asked') (sym text)
-    (subst (λ (some : List ℕ). IsAskedRun other.text some names' variables' asked') (sym same.1) other.run_is) in
-    (IsAskedRun-unique one.text one.goal names names' variables variables' asked asked' one.run_is other_run).2
+    subst (λ (some : List ℕ). IsAskedRun some one.goal one.steps names' variables' asked') (sym text)
+    (subst (λ (some : List ℕ). IsAskedRun other.text some one.steps names' variables' asked') (sym same.1)
+    (subst (λ (some : ℕ). IsAskedRun other.text other.goal some names' variables' asked') (sym same.2) other.run_is)) in
+    (same.3, (IsAskedRun-unique one.text one.goal one.steps names names' variables variables' asked asked' one.run_is other_run).2)
 
-pub counts-run : (words : List (List ℕ)) (told : Option Files) (reads reads' : ℕ) (old new : Option (List ℕ)) (writes writes' : ℕ) (names : List (List ℕ)) (variables : List ℕ) (asked : Run)
-    (ticks' : ℕ) (written : Result ℕ Cut) (files : Files) → AreFiles told files → AsksRun words files names variables asked
-    → Solves names variables asked old new writes writes' 0 ticks' written → Counts words told reads reads' writes writes' (status_told written) ticks'
-counts-run words told reads reads' old new writes writes' names variables asked ticks' (Ok status) files fit asks solves = λ _ _ _. (
+pub counts-run : (words : List (List ℕ)) (told : Option Files) (reads reads' : ℕ) (old new : Option (List ℕ)) (writes writes' : ℕ) (names : List (List ℕ)) (variables : List ℕ) (most : Option ℕ) (asked : Run)
+    (ticks' : ℕ) (written : Result ℕ Cut) (files : Files) → AreFiles told files → AsksRun words files names variables most asked
+    → Solves names variables most asked old new writes writes' 0 ticks' written → Counts words told reads reads' writes writes' (status_told written) ticks'
+counts-run words told reads reads' old new writes writes' names variables most asked ticks' (Ok status) files fit asks solves = λ _ _ _. (
   files,
   fit,
-  λ names' variables' other asks_other.
-      solves.3 ∙ ap (λ (run : Run). counted 0 (steps_of run)) (asked-unique words files names names' variables variables' asked other asks asks_other),
+  λ names' variables' most' other asks_other.
+      let same = asked-unique words files names names' variables variables' most most' asked other asks asks_other in
+      solves.3 ∙ ap (λ (some : Option ℕ). counted 0 (steps_made some asked)) same.0 ∙ ap (λ (run : Run). counted 0 (steps_made most' run)) same.1,
 )
-counts-run words told reads reads' old new writes writes' names variables asked ticks' (Err Unwritten) files fit asks solves = λ _ _ low. absurd (omega (arith, low))
-counts-run words told reads reads' old new writes writes' names variables asked ticks' (Err NoMemory) files fit asks solves = λ _ _ low. absurd (omega (arith, low))
+counts-run words told reads reads' old new writes writes' names variables most asked ticks' (Err Unwritten) files fit asks solves = λ _ _ low. absurd (omega (arith, low))
+counts-run words told reads reads' old new writes writes' names variables most asked ticks' (Err NoMemory) files fit asks solves = λ _ _ low. absurd (omega (arith, low))
 
 -- Where no run is asked nothing is said.
 pub counts-lines : (words : List (List ℕ)) (told : Option Files) (reads reads' writes writes' : ℕ) (due_status ticks' : ℕ) (written : Result ℕ Cut) (files : Files) → AreFiles told files
-    → ((names : List (List ℕ)) (variables : List ℕ) (asked : Run) → AsksRun words files names variables asked → limit_status < due_status) → IfOk written (λ status. status ≡ due_status)
+    → ((names : List (List ℕ)) (variables : List ℕ) (most : Option ℕ) (asked : Run) → AsksRun words files names variables most asked → limit_status < due_status) → IfOk written (λ status. status ≡ due_status)
     → Counts words told reads reads' writes writes' (status_told written) ticks'
 counts-lines words told reads reads' writes writes' due_status ticks' (Ok status) files fit none same = λ _ _ low.
-    (files, fit, λ names variables asked asks. absurd (omega (arith, low, same, none names variables asked asks)))
+    (files, fit, λ names variables most asked asks. absurd (omega (arith, low, same, none names variables most asked asks)))
 counts-lines words told reads reads' writes writes' due_status ticks' (Err Unwritten) files fit none same = λ _ _ low. absurd (omega (arith, low))
 counts-lines words told reads reads' writes writes' due_status ticks' (Err NoMemory) files fit none same = λ _ _ low. absurd (omega (arith, low))

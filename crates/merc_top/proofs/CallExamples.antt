@@ -1,5 +1,5 @@
 -- Worked examples of whole calls: what holds of them, and what does not.
-use Rattle.std.specs.Prelude.{◌≡◌, ◌≢◌, ◌<◌, ◌≤◌, ◌++◌, ℕ, replicate, List, [], ◌∷◌, length, Option, Some, None, codes, refl}
+use Rattle.std.specs.Prelude.{◌≡◌, ◌≢◌, ◌<◌, ◌≤◌, ◌++◌, ℕ, IsUtf8, replicate, List, [], ◌∷◌, length, Option, Some, None, codes, refl}
 use Rattle.std.proofs.Common.{◌∙◌, arith, slice_index, ap, sym, subst, inl, inr}
 use Rattle.std.proofs.Math.Utf8.{encode}
 use Rattle.std.proofs.lemmas.List.{length-replicate, append-nil}
@@ -17,14 +17,14 @@ use Rattle.merc_meaning.specs.Trace.{Run, Ends, RunDone}
 use Rattle.merc_machine.specs.Running.{counted}
 use Rattle.merc_top.specs.declared.words.Request.{Request}
 use Rattle.merc_top.specs.declared.words.Request.TheVariants.{Solve, Check}
-use Rattle.merc_top.specs.Words.{IsPlainWord, IsSolve, IsCheck, IsRequest, IsNoRequest, file_of, usage_line}
+use Rattle.merc_top.specs.Words.{IsSolve, IsCheck, IsRequest, default_steps, file_of, usage_line}
 use Rattle.merc_top.specs.Loading.{file_limit}
 use Rattle.merc_top.specs.Writing.{PutsFront}
 use Rattle.merc_top.specs.Output.{IsAskedRun, IsOutput, text_of}
 use Rattle.merc_top.specs.Statuses.{accepted_status, solved_status, module_status, goal_status, usage_status, unread_status, unwritten_status, no_memory_status, too_long_status}
 use Rattle.merc_top.specs.Answer.{AreFiles, NamesAbsent, IsStatusDue, WroteFront, Answers}
 use Rattle.merc_top.specs.Counting.{AsksRun, Counts}
-use Rattle.merc_top.specs.Runs.{steps_of}
+use Rattle.merc_top.specs.Runs.{steps_made}
 use Rattle.merc_top.proofs.Causes.{NamesTooLong, Names, NamesChecked, BreaksModule, BreaksGoal, IsCheckedModule, RunsTo, IsSolved, Succeeds}
 use Rattle.merc_top.proofs.Causes.BreaksModule.{module_rule, checked_rule}
 use Rattle.merc_top.proofs.AnswerLaws.{Answers-front, Answers-checked, Answers-goal_refused}
@@ -34,8 +34,9 @@ use Rattle.merc_top.proofs.Causes.{solved-exactly, module_refused-exactly, goal_
 use Rattle.merc_top.proofs.OutputExamples.{one_answer}
 use Rattle.merc_top.proofs.CheckingExamples.{tree}
 use Rattle.merc_top.proofs.DueExamples.{bad_token, lone_byte-refused, one_text, one_names, one_module, one_lines, run_names, first_output, IsDue-module_refused, IsDue-runs, IsCheckDue-refused, IsCheckDue-accepted}
-use Rattle.merc_top.proofs.Requests.{shown}
-use Rattle.merc_top.proofs.WordsExamples.{differ, IsPlainWord-example, check_words, IsSolve-example, IsCheck-example}
+use Rattle.merc_top.proofs.Requests.{shown, solve-no_check, solve-unique}
+use Rattle.merc_top.proofs.Options.{differ}
+use Rattle.merc_top.proofs.WordsExamples.{IsNoRequest-nothing, check_words, check-plain, solve-plain, utf8-goal, utf8-one, IsSolve-example, IsCheck-example}
 
 abbrev words_for : List ℕ → List ℕ → List (List ℕ)
 words_for file goal = codes "solve" ∷ file ∷ goal ∷ []
@@ -53,23 +54,26 @@ closed_words = words_for (codes "one.m") (codes "add(2, 3, 5)")
 abbrev bad_words : List (List ℕ)
 bad_words = words_for (codes "bad.m") (codes "add(2, 3, X)")
 
-other_words : IsPlainWord (codes "bad.m") × IsPlainWord (codes "two.m") × IsPlainWord (codes "add(2, 3, 5)") × IsPlainWord (codes "add(2, 3, X)")
+utf8-bad : IsUtf8 (codes "bad.m")
 unfolding encode
-other_words = (
-  record { utf8 = (codes "bad.m", (refl, refl)); plain = refl },
-  record { utf8 = (codes "two.m", (refl, refl)); plain = refl },
-  record { utf8 = (codes "add(2, 3, 5)", (refl, refl)); plain = refl },
-  record { utf8 = (codes "add(2, 3, X)", (refl, refl)); plain = refl },
-)
+utf8-bad = (codes "bad.m", (refl, refl))
 
-bad_request : IsSolve bad_words (codes "bad.m") (codes "add(2, 3, X)")
-bad_request = record { spelled = refl; file_word = other_words.0; goal_word = other_words.3 }
+utf8-two : IsUtf8 (codes "two.m")
+unfolding encode
+utf8-two = (codes "two.m", (refl, refl))
 
-two_request : IsSolve (words_for (codes "two.m") (codes "add(2, 3, X)")) (codes "two.m") (codes "add(2, 3, X)")
-two_request = record { spelled = refl; file_word = other_words.1; goal_word = other_words.3 }
+utf8-closed : IsUtf8 (codes "add(2, 3, 5)")
+unfolding encode
+utf8-closed = (codes "add(2, 3, 5)", (refl, refl))
 
-closed_request : IsSolve closed_words (codes "one.m") (codes "add(2, 3, 5)")
-closed_request = record { spelled = refl; file_word = IsPlainWord-example; goal_word = other_words.2 }
+bad_request : IsSolve bad_words (codes "bad.m") (codes "add(2, 3, X)") default_steps None
+bad_request = solve-plain (codes "bad.m") (codes "add(2, 3, X)") refl refl utf8-bad utf8-goal
+
+two_request : IsSolve (words_for (codes "two.m") (codes "add(2, 3, X)")) (codes "two.m") (codes "add(2, 3, X)") default_steps None
+two_request = solve-plain (codes "two.m") (codes "add(2, 3, X)") refl refl utf8-two utf8-goal
+
+closed_request : IsSolve closed_words (codes "one.m") (codes "add(2, 3, 5)") default_steps None
+closed_request = solve-plain (codes "one.m") (codes "add(2, 3, 5)") refl refl utf8-one utf8-closed
 
 one_within : length one_text ≤ file_limit
 unfolding file_limit
@@ -85,7 +89,7 @@ abbrev bad_output : List (List ℕ)
 bad_output = codes "bad.m:1: rule 1: bad token\n" ∷ []
 
 pub IsOutput-refused : IsOutput bad_words files bad_output module_status
-IsOutput-refused = inr (Solve (shown (codes "bad.m")) (shown (codes "add(2, 3, X)")), bad_request, inr (bad_within, IsDue-module_refused (codes "add(2, 3, X)")))
+IsOutput-refused = inr (Solve (shown (codes "bad.m")) (shown (codes "add(2, 3, X)")) default_steps None, bad_request, inr (bad_within, IsDue-module_refused (codes "add(2, 3, X)") default_steps None))
 
 pub IsOutput-refused_no_run : (lines : List (List ℕ)) → IsOutput bad_words files lines solved_status → ⊥
 IsOutput-refused_no_run lines due = differ solved_status module_status (omega arith) (IsOutput-unique bad_words files lines bad_output solved_status module_status due IsOutput-refused).1
@@ -95,7 +99,7 @@ abbrev checked_bad_words : List (List ℕ)
 checked_bad_words = codes "check" ∷ codes "bad.m" ∷ []
 
 checked_bad : IsCheck checked_bad_words (codes "bad.m")
-checked_bad = record { spelled = refl; file_word = other_words.0 }
+checked_bad = check-plain (codes "bad.m") refl utf8-bad
 
 pub IsOutput-check_refused : IsOutput checked_bad_words files bad_output module_status
 IsOutput-check_refused = inr (Check (shown (codes "bad.m")), checked_bad, inr (bad_within, IsCheckDue-refused))
@@ -105,18 +109,14 @@ IsOutput-check_refused_alone lines due =
     differ accepted_status module_status (omega arith) (IsOutput-unique checked_bad_words files lines bad_output accepted_status module_status due IsOutput-check_refused).1
 
 pub IsOutput-absent : IsOutput (words_for (codes "two.m") (codes "add(2, 3, X)")) files [] unread_status
-IsOutput-absent = inr (Solve (shown (codes "two.m")) (shown (codes "add(2, 3, X)")), two_request, (refl, refl))
+IsOutput-absent = inr (Solve (shown (codes "two.m")) (shown (codes "add(2, 3, X)")) default_steps None, two_request, (refl, refl))
 
 pub IsOutput-too_long : (n : ℕ) → file_limit < n → IsOutput first_words ((codes "one.m", replicate n 10) ∷ []) (codes "one.m: longer than 1048576 bytes\n" ∷ []) too_long_status
 IsOutput-too_long n long =
-    inr (Solve (shown (codes "one.m")) (shown (codes "add(2, 3, X)")), IsSolve-example, inl (subst (λ m. file_limit < m) (sym (length-replicate n 10)) long, refl, refl))
-
-no_words : IsNoRequest []
-no_words (Solve file goal) request = let spelled : ◌≡◌ {A = List (List ℕ)} [] (codes "solve" ∷ file.now ∷ goal.now ∷ []) = request.spelled in cc
-no_words (Check file) request = let spelled : ◌≡◌ {A = List (List ℕ)} [] (codes "check" ∷ file.now ∷ []) = request.spelled in cc
+    inr (Solve (shown (codes "one.m")) (shown (codes "add(2, 3, X)")) default_steps None, IsSolve-example, inl (subst (λ m. file_limit < m) (sym (length-replicate n 10)) long, refl, refl))
 
 pub IsOutput-usage : IsOutput [] files (usage_line ∷ []) usage_status
-IsOutput-usage = inl (no_words, refl, refl)
+IsOutput-usage = inl (IsNoRequest-nothing, refl, refl)
 
 pub IsStatusDue-example : IsStatusDue bad_words files module_status
 IsStatusDue-example = (bad_output, IsOutput-refused)
@@ -137,8 +137,8 @@ AreFiles-counterexample same = cc
 
 -- a file that these words name is the one named here
 first_file : (request : Request) → IsRequest first_words request → file_of request ≡ codes "one.m"
-first_file (Solve file goal) request = let spelled : first_words ≡ codes "solve" ∷ file.now ∷ goal.now ∷ [] = request.spelled in cc
-first_file (Check file) request = let spelled : first_words ≡ codes "check" ∷ file.now ∷ [] = request.spelled in cc
+first_file (Solve file goal steps most) request = (solve-unique first_words file.now goal.now (codes "one.m") (codes "add(2, 3, X)") steps default_steps most None request IsSolve-example).0
+first_file (Check file) request = absurd (solve-no_check first_words (codes "one.m") (codes "add(2, 3, X)") file.now default_steps None IsSolve-example request)
 
 some_injective : (text other : List ℕ) → Some text ≡ Some other → text ≡ other
 some_injective text other same = cc
@@ -150,7 +150,7 @@ first_content request text asked content =
     sym (some_injective one_text text found)
 
 pub NamesAbsent-example : NamesAbsent (words_for (codes "two.m") (codes "add(2, 3, X)")) (Some files)
-NamesAbsent-example = (Solve (shown (codes "two.m")) (shown (codes "add(2, 3, X)")), two_request, refl)
+NamesAbsent-example = (Solve (shown (codes "two.m")) (shown (codes "add(2, 3, X)")) default_steps None, two_request, refl)
 
 pub NamesAbsent-counterexample : NamesAbsent first_words (Some files) → ⊥
 NamesAbsent-counterexample (request, asked, absent) =
@@ -158,7 +158,7 @@ NamesAbsent-counterexample (request, asked, absent) =
 
 pub NamesTooLong-example : (n : ℕ) → file_limit < n → NamesTooLong first_words ((codes "one.m", replicate n 10) ∷ [])
 NamesTooLong-example n long = record {
-  request = Solve (shown (codes "one.m")) (shown (codes "add(2, 3, X)"));
+  request = Solve (shown (codes "one.m")) (shown (codes "add(2, 3, X)")) default_steps None;
   text = replicate n 10;
   asked = IsSolve-example;
   content = refl;
@@ -172,25 +172,25 @@ NamesTooLong-counterexample names =
     omega (arith, one_within)
 
 pub Names-example : Names first_words files one_text (codes "add(2, 3, X)")
-Names-example = record { file = codes "one.m"; request = IsSolve-example; content = refl; within = one_within }
+Names-example = record { file = codes "one.m"; steps = default_steps; most = None; request = IsSolve-example; content = refl; within = one_within }
 
 pub NamesChecked-example : NamesChecked check_words files one_text
 NamesChecked-example = record { file = codes "one.m"; request = IsCheck-example; content = refl; within = one_within }
 
 -- who asks for a goal asks for no check
 pub NamesChecked-counterexample : (text : List ℕ) → NamesChecked first_words files text → ⊥
-NamesChecked-counterexample text names = let spelled : first_words ≡ codes "check" ∷ names.file ∷ [] = names.request.spelled in cc
+NamesChecked-counterexample text names = solve-no_check first_words (codes "one.m") (codes "add(2, 3, X)") names.file default_steps None IsSolve-example names.request
 
 NamesChecked-bad : NamesChecked checked_bad_words files (255 ∷ [])
 NamesChecked-bad = record { file = codes "bad.m"; request = checked_bad; content = refl; within = bad_within }
 
 Names-bad : Names bad_words files (255 ∷ []) (codes "add(2, 3, X)")
-Names-bad = record { file = codes "bad.m"; request = bad_request; content = refl; within = bad_within }
+Names-bad = record { file = codes "bad.m"; steps = default_steps; most = None; request = bad_request; content = refl; within = bad_within }
 
 -- the other file's text
 pub Names-counterexample : Names first_words files (255 ∷ []) (codes "add(2, 3, X)") → ⊥
 Names-counterexample names =
-    let same : 255 ∷ [] ≡ one_text = first_content (Solve (shown names.file) (shown (codes "add(2, 3, X)"))) (255 ∷ []) names.request names.content in
+    let same : 255 ∷ [] ≡ one_text = first_content (Solve (shown names.file) (shown (codes "add(2, 3, X)")) names.steps names.most) (255 ∷ []) names.request names.content in
     differ 58 255 (omega arith) (sym (ap (λ (text : List ℕ). slice_index text 0) same))
 
 -- ---- why a status is due
@@ -216,22 +216,23 @@ pub RunsTo-counterexample : RunsTo bad_words files IsSolved → ⊥
 RunsTo-counterexample solves = Succeeds-counterexample (inl solves)
 
 -- Where the goal asks for the run that has one step and one answer,
-module _ (asked : IsAskedRun one_text (codes "add(2, 3, X)") run_names (0 ∷ []) one_answer) where
-  pub AsksRun-example : AsksRun first_words files run_names (0 ∷ []) one_answer
-  AsksRun-example = record { file = codes "one.m"; goal = codes "add(2, 3, X)"; text = one_text; request = IsSolve-example; content = refl; within = one_within; run_is = asked }
+module _ (asked : IsAskedRun one_text (codes "add(2, 3, X)") default_steps run_names (0 ∷ []) one_answer) where
+  pub AsksRun-example : AsksRun first_words files run_names (0 ∷ []) None one_answer
+  AsksRun-example = record { file = codes "one.m"; goal = codes "add(2, 3, X)"; text = one_text; steps = default_steps; request = IsSolve-example; content = refl; within = one_within; run_is = asked }
 
   -- it asks for no other;
-  pub AsksRun-counterexample : AsksRun first_words files run_names (0 ∷ []) (Ends RunDone) → ⊥
-  AsksRun-counterexample other = let same : one_answer ≡ Ends RunDone = asked-unique first_words files run_names run_names (0 ∷ []) (0 ∷ []) one_answer (Ends RunDone) AsksRun-example other in cc
+  pub AsksRun-counterexample : AsksRun first_words files run_names (0 ∷ []) None (Ends RunDone) → ⊥
+  AsksRun-counterexample other =
+      let same : one_answer ≡ Ends RunDone = (asked-unique first_words files run_names run_names (0 ∷ []) (0 ∷ []) None None one_answer (Ends RunDone) AsksRun-example other).1 in cc
 
   pub RunsTo-example : RunsTo first_words files IsSolved
-  RunsTo-example = record { names = run_names; variables = 0 ∷ []; asked = one_answer; asks = AsksRun-example; fits = (omega arith, refl) }
+  RunsTo-example = record { names = run_names; variables = 0 ∷ []; most = None; asked = one_answer; asks = AsksRun-example; fits = inr (refl, omega arith, refl) }
 
   pub Succeeds-example : Succeeds first_words files
   Succeeds-example = inl RunsTo-example
 
   pub IsOutput-runs : IsOutput first_words files first_output solved_status
-  IsOutput-runs = inr (Solve (shown (codes "one.m")) (shown (codes "add(2, 3, X)")), IsSolve-example, inr (one_within, IsDue-runs (codes "add(2, 3, X)") asked))
+  IsOutput-runs = inr (Solve (shown (codes "one.m")) (shown (codes "add(2, 3, X)")) default_steps None, IsSolve-example, inr (one_within, IsDue-runs (codes "add(2, 3, X)") default_steps asked))
 
   pub BreaksModule-counterexample : BreaksModule first_words files → ⊥
   BreaksModule-counterexample breaks =
@@ -242,13 +243,15 @@ module _ (asked : IsAskedRun one_text (codes "add(2, 3, X)") run_names (0 ∷ []
   Counts-example = λ _ _ _. (
     files,
     refl,
-    λ names variables other asks. ap (λ (run : Run). counted 0 (steps_of run)) (asked-unique first_words files run_names names (0 ∷ []) variables one_answer other AsksRun-example asks),
+    λ names variables most other asks.
+        let same = asked-unique first_words files run_names names (0 ∷ []) variables None most one_answer other AsksRun-example asks in
+        ap (λ (some : Option ℕ). counted 0 (steps_made some one_answer)) same.0 ∙ ap (λ (run : Run). counted 0 (steps_made most run)) same.1,
   )
 
   pub Counts-counterexample : Counts first_words (Some files) 3 3 2 2 solved_status 2 → ⊥
   Counts-counterexample counts =
       let found = counts refl refl (omega arith) in
-      let same : 2 ≡ 1 = found.2 run_names (0 ∷ []) one_answer (subst (λ some. AsksRun first_words some run_names (0 ∷ []) one_answer) (sym found.1) AsksRun-example) in
+      let same : 2 ≡ 1 = found.2 run_names (0 ∷ []) None one_answer (subst (λ some. AsksRun first_words some run_names (0 ∷ []) None one_answer) (sym found.1) AsksRun-example) in
       omega (arith, same)
 
 -- ---- what one call has done

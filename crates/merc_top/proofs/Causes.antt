@@ -1,6 +1,6 @@
 -- Each status that is due has its cause, and each cause its status.
-use Rattle.std.proofs.Common.{◌≡◌, ◌<◌, ◌≤◌, ◌⊎◌, ◌↔◌, ℕ, zero, suc, List, [], ◌∷◌, ap, sym, refl, subst, inl, inr, length, arith, lit<, codes}
-use Rattle.std.specs.Prelude.{Option, Some, None}
+use Rattle.std.proofs.Common.{◌≡◌, ◌<◌, ◌≤◌, ◌⊎◌, ◌↔◌, ℕ, zero, suc, List, [], ◌∷◌, ◌∙◌, ap, sym, refl, subst, inl, inr, length, arith, lit<, codes}
+use Rattle.std.specs.Prelude.{Bool, true, false, Option, Some, None, if◌then◌else◌}
 use Rattle.merc_base.specs.Outside.{Files, file_named}
 use Rattle.merc_tree.specs.Term.{Term}
 use Rattle.merc_base.specs.Names.{fixed_names}
@@ -16,8 +16,8 @@ use Rattle.merc_top.specs.declared.words.Request.{Request}
 use Rattle.merc_top.specs.declared.words.Request.TheVariants.{Solve, Check}
 use Rattle.merc_top.specs.Words.{IsRequest, IsSolve, IsCheck, IsNoRequest, file_of, usage_line}
 use Rattle.merc_top.specs.Checking.{check_lines}
-use Rattle.merc_top.specs.Runs.{answers_of, end_of}
-use Rattle.merc_top.specs.Output.{IsAskedRun, IsDue, IsCheckDue, IsRequestDue, IsOutput, FileOutput, end_status, run_lines, run_status, refusal_line, too_long_line}
+use Rattle.merc_top.specs.Runs.{answers_of, end_of, is_stopped}
+use Rattle.merc_top.specs.Output.{IsDue, IsCheckDue, IsRequestDue, IsOutput, FileOutput, end_status, run_lines, run_status, refusal_line, too_long_line}
 use Rattle.merc_top.specs.Output.IsDue.{module_refused as due_module_refused, goal_refused as due_goal_refused, runs as due_runs}
 use Rattle.merc_top.specs.Output.IsCheckDue.{check_refused as due_check_refused, check_accepted as due_check_accepted}
 use Rattle.merc_top.specs.Answer.{IsStatusDue, NamesAbsent}
@@ -36,7 +36,9 @@ pub record NamesTooLong (words : List (List ℕ)) (files : Files) : Type 0 where
 -- the words name a file with this text, within the limit, and a goal with that text
 pub record Names (words : List (List ℕ)) (files : Files) (text goal : List ℕ) : Type 0 where
   pub file : List ℕ
-  pub request : IsSolve words file goal
+  pub steps : ℕ
+  pub most : Option ℕ
+  pub request : IsSolve words file goal steps most
   pub content : file_named file files ≡ Some text
   pub within : length text ≤ file_limit
 
@@ -76,32 +78,33 @@ pub record BreaksGoal (words : List (List ℕ)) (files : Files) : Type 0 where
   pub refuses : RefusesQuery names found goal refusal
 
 -- module and goal are accepted, and the goal's run is such
-pub record RunsTo (words : List (List ℕ)) (files : Files) (Fits : Run → Type 0) : Type 0 where
+pub record RunsTo (words : List (List ℕ)) (files : Files) (Fits : Option ℕ → Run → Type 0) : Type 0 where
   pub names : List (List ℕ)
   pub variables : List ℕ
+  pub most : Option ℕ
   pub asked : Run
-  pub asks : AsksRun words files names variables asked
-  pub fits : Fits asked
+  pub asks : AsksRun words files names variables most asked
+  pub fits : Fits most asked
 
 -- this is the status of the run
-abbrev pub HasStatus : ℕ → Run → Type 0
-HasStatus status run = status ≡ run_status run
+abbrev pub HasStatus : ℕ → Option ℕ → Run → Type 0
+HasStatus status most run = status ≡ run_status most run
 
--- the run has answers and ends with no further one
-abbrev pub IsSolved : Run → Type 0
-IsSolved run = (0 < length (answers_of run)) × (end_of run ≡ RunDone)
+-- the run is stopped behind as many answers as are wanted, or has answers and ends with no further one
+abbrev pub IsSolved : Option ℕ → Run → Type 0
+IsSolved most run = (is_stopped most run ≡ true) ⊎ ((is_stopped most run ≡ false) × (0 < length (answers_of run)) × (end_of run ≡ RunDone))
 
 -- the run ends with no answer
-abbrev pub IsUnsolved : Run → Type 0
-IsUnsolved run = (length (answers_of run) ≡ 0) × (end_of run ≡ RunDone)
+abbrev pub IsUnsolved : Option ℕ → Run → Type 0
+IsUnsolved most run = (is_stopped most run ≡ false) × (length (answers_of run) ≡ 0) × (end_of run ≡ RunDone)
 
 -- the run ends with an exception
-abbrev pub IsRaised : Run → Type 0
-IsRaised run = (text : ℕ) × (end_of run ≡ RunRaised text)
+abbrev pub IsRaised : Option ℕ → Run → Type 0
+IsRaised most run = (is_stopped most run ≡ false) × ((text : ℕ) × (end_of run ≡ RunRaised text))
 
 -- the run passes its step limit
-abbrev pub IsCutAtLimit : Run → Type 0
-IsCutAtLimit run = end_of run ≡ LimitPassed
+abbrev pub IsCutAtLimit : Option ℕ → Run → Type 0
+IsCutAtLimit most run = (is_stopped most run ≡ false) × (end_of run ≡ LimitPassed)
 
 -- a goal is asked and its run has answers, or a module is checked and accepted
 abbrev pub Succeeds : List (List ℕ) → Files → Type 0
@@ -117,7 +120,7 @@ data Cause (words : List (List ℕ)) (files : Files) (status : ℕ) : Type 0 whe
   checked_cause : (why : IsCheckedModule words files) (is : status ≡ accepted_status) → Cause words files status
 
 due-cause : (words : List (List ℕ)) (files : Files) (name text goal : List ℕ) (lines : List (List ℕ)) (status : ℕ)
-    → Names words files text goal → IsDue name text goal lines status → Cause words files status
+    → (request : Names words files text goal) → IsDue name text goal request.steps request.most lines status → Cause words files status
 due-cause words files name text goal _ _ request (due_module_refused refusal refuses) =
     module_cause (module_rule text goal refusal request refuses) refl
 due-cause words files name text goal _ _ request (due_goal_refused names items found refusal is refuses) =
@@ -126,8 +129,9 @@ due-cause words files name text goal _ _ request (due_runs names variables asked
     run_cause (record {
       names = names;
       variables = variables;
+      most = request.most;
       asked = asked;
-      asks = record { file = request.file; goal = goal; text = text; request = request.request; content = request.content; within = request.within; run_is = is };
+      asks = record { file = request.file; goal = goal; text = text; steps = request.steps; request = request.request; content = request.content; within = request.within; run_is = is };
       fits = refl;
     })
 
@@ -140,8 +144,8 @@ check_due-cause words files name text _ _ request (due_check_accepted names item
 
 request_due-cause : (words : List (List ℕ)) (files : Files) (request : Request) (text : List ℕ) (lines : List (List ℕ)) (status : ℕ)
     → IsRequest words request → file_named (file_of request) files ≡ Some text → length text ≤ file_limit → IsRequestDue request text lines status → Cause words files status
-request_due-cause words files (Solve file goal) text lines status asked content within due =
-    due-cause words files file.now text goal.now lines status (record { file = file.now; request = asked; content = content; within = within }) due
+request_due-cause words files (Solve file goal steps most) text lines status asked content within due =
+    due-cause words files file.now text goal.now lines status (record { file = file.now; steps = steps; most = most; request = asked; content = content; within = within }) due
 request_due-cause words files (Check file) text lines status asked content within due =
     check_due-cause words files file.now text lines status (record { file = file.now; request = asked; content = content; within = within }) due
 
@@ -210,11 +214,48 @@ end_status-low (suc count) (RunRaised text) = lit< tt
 end_status-low zero LimitPassed = lit< tt
 end_status-low (suc count) LimitPassed = lit< tt
 
-runs_low : (words : List (List ℕ)) (files : Files) (status : ℕ) → RunsTo words files (HasStatus status) → status < module_status
-runs_low words files status runs = subst (λ n. n < module_status) (sym runs.fits) (end_status-low _ _)
+stopped-low : (stopped : Bool) (count : ℕ) (end : RunEnd) → (if stopped then solved_status else end_status count end) < module_status
+stopped-low true count end = lit< tt
+stopped-low false count end = end_status-low count end
 
-refit : (words : List (List ℕ)) (files : Files) (P Q : Run → Type 0) → ((run : Run) → P run → Q run) → RunsTo words files P → RunsTo words files Q
-refit words files P Q turns runs = record { names = runs.names; variables = runs.variables; asked = runs.asked; asks = runs.asks; fits = turns runs.asked runs.fits }
+-- the status of a run that may be stopped
+stopped-zero : (stopped : Bool) (count : ℕ) (end : RunEnd) → solved_status ≡ (if stopped then solved_status else end_status count end)
+    → (stopped ≡ true) ⊎ ((stopped ≡ false) × (0 < count) × (end ≡ RunDone))
+stopped-zero true count end is = inl refl
+stopped-zero false count end is = let found = end_status-zero count end is in inr (refl, found.0, found.1)
+
+stopped-one : (stopped : Bool) (count : ℕ) (end : RunEnd) → unsolved_status ≡ (if stopped then solved_status else end_status count end) → (stopped ≡ false) × (count ≡ 0) × (end ≡ RunDone)
+stopped-one true count end is = absurd (omega (arith, is))
+stopped-one false count end is = let found = end_status-one count end is in (refl, found.0, found.1)
+
+stopped-two : (stopped : Bool) (count : ℕ) (end : RunEnd) → raised_status ≡ (if stopped then solved_status else end_status count end) → (stopped ≡ false) × ((text : ℕ) × (end ≡ RunRaised text))
+stopped-two true count end is = absurd (omega (arith, is))
+stopped-two false count end is = (refl, end_status-two count end is)
+
+stopped-three : (stopped : Bool) (count : ℕ) (end : RunEnd) → limit_status ≡ (if stopped then solved_status else end_status count end) → (stopped ≡ false) × (end ≡ LimitPassed)
+stopped-three true count end is = absurd (omega (arith, is))
+stopped-three false count end is = (refl, end_status-three count end is)
+
+unstopped : (stopped : Bool) (count : ℕ) (end : RunEnd) (status : ℕ) → stopped ≡ false → end_status count end ≡ status → status ≡ (if stopped then solved_status else end_status count end)
+unstopped stopped count end status is same = sym (ap (λ (some : Bool). if some then solved_status else end_status count end) is ∙ same)
+
+stopped-solved : (stopped : Bool) (count : ℕ) (end : RunEnd) → (stopped ≡ true) ⊎ ((stopped ≡ false) × (0 < count) × (end ≡ RunDone)) → solved_status ≡ (if stopped then solved_status else end_status count end)
+stopped-solved stopped count end (inl is) = sym (ap (λ (some : Bool). if some then solved_status else end_status count end) is)
+stopped-solved stopped count end (inr is) = unstopped stopped count end solved_status is.0 (end_status-solved count end is.1 is.2)
+
+runs_low : (words : List (List ℕ)) (files : Files) (status : ℕ) → RunsTo words files (HasStatus status) → status < module_status
+runs_low words files status runs =
+    subst (λ n. n < module_status) (sym runs.fits) (stopped-low (is_stopped runs.most runs.asked) (length (answers_of runs.asked)) (end_of runs.asked))
+
+refit : (words : List (List ℕ)) (files : Files) (P Q : Option ℕ → Run → Type 0) → ((most : Option ℕ) (run : Run) → P most run → Q most run) → RunsTo words files P → RunsTo words files Q
+refit words files P Q turns runs = record {
+  names = runs.names;
+  variables = runs.variables;
+  most = runs.most;
+  asked = runs.asked;
+  asks = runs.asks;
+  fits = turns runs.most runs.asked runs.fits;
+}
 
 run_by : (words : List (List ℕ)) (files : Files) (status : ℕ) → Cause words files status → status < module_status → RunsTo words files (HasStatus status) ⊎ (IsCheckedModule words files × (status ≡ accepted_status))
 run_by words files status (usage_cause why is) low = absurd (omega (arith, is, low))
@@ -268,12 +309,12 @@ too_long_by words files status (checked_cause why is) ten = absurd (omega (arith
 
 -- what is due for a file that the words name, with this text
 named_output : (words : List (List ℕ)) (files : Files) (text goal : List ℕ) (lines : List (List ℕ)) (status : ℕ) (request : Names words files text goal)
-    → IsDue request.file text goal lines status → IsOutput words files lines status
+    → IsDue request.file text goal request.steps request.most lines status → IsOutput words files lines status
 named_output words files text goal lines status request due =
     inr (
-      Solve (shown request.file) (shown goal),
+      Solve (shown request.file) (shown goal) request.steps request.most,
       request.request,
-      subst (λ content. FileOutput (Solve (shown request.file) (shown goal)) content lines status) (sym request.content) (inr (request.within, due)),
+      subst (λ content. FileOutput (Solve (shown request.file) (shown goal) request.steps request.most) content lines status) (sym request.content) (inr (request.within, due)),
     )
 
 checked_output : (words : List (List ℕ)) (files : Files) (text : List ℕ) (lines : List (List ℕ)) (status : ℕ) (request : NamesChecked words files text)
@@ -286,16 +327,16 @@ checked_output words files text lines status request due =
     )
 
 -- what is due for the run that words ask for
-pub asked_output : (words : List (List ℕ)) (files : Files) (names : List (List ℕ)) (variables : List ℕ) (asked : Run) → AsksRun words files names variables asked
-    → IsOutput words files (run_lines names variables asked) (run_status asked)
-asked_output words files names variables asked asks =
-    named_output words files asks.text asks.goal (run_lines names variables asked) (run_status asked)
-    (record { file = asks.file; request = asks.request; content = asks.content; within = asks.within }) (due_runs names variables asked asks.run_is)
+pub asked_output : (words : List (List ℕ)) (files : Files) (names : List (List ℕ)) (variables : List ℕ) (most : Option ℕ) (asked : Run) → AsksRun words files names variables most asked
+    → IsOutput words files (run_lines names variables most asked) (run_status most asked)
+asked_output words files names variables most asked asks =
+    named_output words files asks.text asks.goal (run_lines names variables most asked) (run_status most asked)
+    (record { file = asks.file; steps = asks.steps; most = most; request = asks.request; content = asks.content; within = asks.within }) (due_runs names variables asked asks.run_is)
 
 runs_output : (words : List (List ℕ)) (files : Files) (status : ℕ) → RunsTo words files (HasStatus status) → (lines : List (List ℕ)) × IsOutput words files lines status
 runs_output words files status runs =
-    let lines = run_lines runs.names runs.variables runs.asked in
-    (lines, subst (λ (n : ℕ). IsOutput words files lines n) (sym runs.fits) (asked_output words files runs.names runs.variables runs.asked runs.asks))
+    let lines = run_lines runs.names runs.variables runs.most runs.asked in
+    (lines, subst (λ (n : ℕ). IsOutput words files lines n) (sym runs.fits) (asked_output words files runs.names runs.variables runs.most runs.asked runs.asks))
 
 breaks_module_output : (words : List (List ℕ)) (files : Files) → BreaksModule words files → (lines : List (List ℕ)) × IsOutput words files lines module_status
 breaks_module_output words files (module_rule text goal refusal request refuses) =
@@ -337,9 +378,9 @@ status_is : (words : List (List ℕ)) (files : Files) (lines : List (List ℕ)) 
     → IsStatusDue words files due → status ≡ due
 status_is words files lines status due output other = (IsOutput-unique words files lines other.0 status due output other.1).1
 
-runs-exactly : (words : List (List ℕ)) (files : Files) (lines : List (List ℕ)) (status due : ℕ) (Fits : Run → Type 0) → IsOutput words files lines status
+runs-exactly : (words : List (List ℕ)) (files : Files) (lines : List (List ℕ)) (status due : ℕ) (Fits : Option ℕ → Run → Type 0) → IsOutput words files lines status
     → accepted_status < due → due < module_status
-    → ((run : Run) → HasStatus due run → Fits run) → ((run : Run) → Fits run → HasStatus due run) → (status ≡ due) ↔ RunsTo words files Fits
+    → ((most : Option ℕ) (run : Run) → HasStatus due most run → Fits most run) → ((most : Option ℕ) (run : Run) → Fits most run → HasStatus due most run) → (status ≡ due) ↔ RunsTo words files Fits
 runs-exactly words files lines status due Fits output high low to from = (
   λ is.
       refit words files (HasStatus due) Fits to
@@ -353,12 +394,12 @@ runs-exactly words files lines status due Fits output high low to from = (
 succeeds_by : (words : List (List ℕ)) (files : Files) (status : ℕ) → status ≡ solved_status
     → RunsTo words files (HasStatus status) ⊎ (IsCheckedModule words files × (status ≡ accepted_status)) → Succeeds words files
 succeeds_by words files status is (inl why) =
-    inl (refit words files (HasStatus solved_status) IsSolved (λ run has. end_status-zero _ _ has) (subst (λ n. RunsTo words files (HasStatus n)) is why))
+    inl (refit words files (HasStatus solved_status) IsSolved (λ most run has. stopped-zero (is_stopped most run) (length (answers_of run)) (end_of run) has) (subst (λ n. RunsTo words files (HasStatus n)) is why))
 succeeds_by words files status is (inr checked) = inr checked.0
 
 succeeds_output : (words : List (List ℕ)) (files : Files) → Succeeds words files → (lines : List (List ℕ)) × IsOutput words files lines solved_status
 succeeds_output words files (inl why) =
-    runs_output words files solved_status (refit words files IsSolved (HasStatus solved_status) (λ run fits. sym (end_status-solved _ _ fits.0 fits.1)) why)
+    runs_output words files solved_status (refit words files IsSolved (HasStatus solved_status) (λ most run fits. stopped-solved (is_stopped most run) (length (answers_of run)) (end_of run) fits) why)
 succeeds_output words files (inr checked) = checked_module_output words files checked
 
 -- Status by status, where it is due and so comes without a fault: the run of a goal has solutions, or a module that is checked is accepted;
@@ -372,7 +413,7 @@ solved-exactly words files lines status output = (
 
 -- where words ask for a check, that alone;
 checked_alone : (words : List (List ℕ)) (files : Files) (text : List ℕ) → NamesChecked words files text → Succeeds words files → IsCheckedModule words files
-checked_alone words files text names (inl runs) = absurd (solve-no_check words runs.asks.file runs.asks.goal names.file runs.asks.request names.request)
+checked_alone words files text names (inl runs) = absurd (solve-no_check words runs.asks.file runs.asks.goal names.file runs.asks.steps runs.most runs.asks.request names.request)
 checked_alone words files text names (inr checked) = checked
 
 pub checked-exactly : (words : List (List ℕ)) (files : Files) (lines : List (List ℕ)) (status : ℕ) → IsOutput words files lines status
@@ -385,20 +426,20 @@ checked-exactly words files lines status output text names = (
 -- or the run has none,
 pub unsolved-exactly : (words : List (List ℕ)) (files : Files) (lines : List (List ℕ)) (status : ℕ) → IsOutput words files lines status → (status ≡ unsolved_status) ↔ RunsTo words files IsUnsolved
 unsolved-exactly words files lines status output =
-    runs-exactly words files lines status unsolved_status IsUnsolved output (lit< tt) (lit< tt) (λ run is. end_status-one _ _ is)
-    (λ run fits. rw (fits.0, fits.1) refl)
+    runs-exactly words files lines status unsolved_status IsUnsolved output (lit< tt) (lit< tt) (λ most run is. stopped-one (is_stopped most run) (length (answers_of run)) (end_of run) is)
+    (λ most run fits. unstopped (is_stopped most run) (length (answers_of run)) (end_of run) unsolved_status fits.0 (rw (fits.1, fits.2) refl))
 
 -- or ends with an exception,
 pub raised-exactly : (words : List (List ℕ)) (files : Files) (lines : List (List ℕ)) (status : ℕ) → IsOutput words files lines status → (status ≡ raised_status) ↔ RunsTo words files IsRaised
 raised-exactly words files lines status output =
-    runs-exactly words files lines status raised_status IsRaised output (lit< tt) (lit< tt) (λ run is. end_status-two _ _ is)
-    (λ run fits. rw fits.1 (sym (end_status-raised (length (answers_of run)) fits.0)))
+    runs-exactly words files lines status raised_status IsRaised output (lit< tt) (lit< tt) (λ most run is. stopped-two (is_stopped most run) (length (answers_of run)) (end_of run) is)
+    (λ most run fits. unstopped (is_stopped most run) (length (answers_of run)) (end_of run) raised_status fits.0 (rw fits.1.1 (end_status-raised (length (answers_of run)) fits.1.0)))
 
 -- or passes the step limit;
 pub limit-exactly : (words : List (List ℕ)) (files : Files) (lines : List (List ℕ)) (status : ℕ) → IsOutput words files lines status → (status ≡ limit_status) ↔ RunsTo words files IsCutAtLimit
 limit-exactly words files lines status output =
-    runs-exactly words files lines status limit_status IsCutAtLimit output (lit< tt) (lit< tt) (λ run is. end_status-three _ _ is)
-    (λ run fits. rw fits (sym (end_status-limit (length (answers_of run)))))
+    runs-exactly words files lines status limit_status IsCutAtLimit output (lit< tt) (lit< tt) (λ most run is. stopped-three (is_stopped most run) (length (answers_of run)) (end_of run) is)
+    (λ most run fits. unstopped (is_stopped most run) (length (answers_of run)) (end_of run) limit_status fits.0 (rw fits.1 (end_status-limit (length (answers_of run)))))
 
 -- or the module breaks a rule, or the goal, or the words ask for nothing, or the file is too long.
 pub module_refused-exactly : (words : List (List ℕ)) (files : Files) (lines : List (List ℕ)) (status : ℕ) → IsOutput words files lines status → (status ≡ module_status) ↔ BreaksModule words files

@@ -1,5 +1,5 @@
 -- Worked examples of what is due for a file and a goal: what holds, and what does not.
-use Rattle.std.specs.Prelude.{◌≡◌, ◌≤◌, ◌++◌, ℕ, suc, zero, false, List, [], ◌∷◌, length, Some, None, codes, refl}
+use Rattle.std.specs.Prelude.{◌≡◌, ◌≤◌, ◌++◌, ℕ, suc, zero, false, List, [], ◌∷◌, length, Option, Some, None, codes, refl}
 use Rattle.std.proofs.Common.{arith, lit≤, slice_index, ap, sym, subst, inl, inr}
 use Rattle.std.specs.Fmt.{digits}
 use Rattle.std.specs.Str.{IsUtf8, is_utf8, chars}
@@ -47,7 +47,7 @@ use Rattle.merc_top.proofs.OutputLaws.{IsDue-unique, IsCheckDue-unique}
 use Rattle.merc_top.proofs.CheckingExamples.{mode, predicate, tree}
 use Rattle.merc_top.proofs.OutputExamples.{one_answer}
 use Rattle.merc_top.proofs.Requests.{shown}
-use Rattle.merc_top.proofs.WordsExamples.{differ}
+use Rattle.merc_top.proofs.Options.{differ}
 
 -- ---- a text that breaks a rule
 
@@ -91,39 +91,39 @@ pub lone_byte-refused : Refuses fixed_names (255 ∷ []) bad_token
 lone_byte-refused = no_module bad_token (no_items bad_token (bad_tokens bad_token lone_byte))
 
 -- so no run is asked over it
-pub IsAskedRun-counterexample : (goal : List ℕ) (names : List (List ℕ)) (variables : List ℕ) (asked : Run) → IsAskedRun (255 ∷ []) goal names variables asked → ⊥
-IsAskedRun-counterexample goal names variables asked is =
+pub IsAskedRun-counterexample : (goal : List ℕ) (steps : ℕ) (names : List (List ℕ)) (variables : List ℕ) (asked : Run) → IsAskedRun (255 ∷ []) goal steps names variables asked → ⊥
+IsAskedRun-counterexample goal steps names variables asked is =
     Refuses-excludes fixed_names (255 ∷ []) fixed_names-distinct HoldsFixed-fixed is.file_names bad_token is.items is.found lone_byte-refused is.module_is
 
 lone_byte-refused_goal : (names : List (List ℕ)) → RefusesGoalText names (255 ∷ []) bad_token
 unfolding goal_limit
 lone_byte-refused_goal names = bad_goal_tokens bad_token (lit≤ tt) lone_byte
 
-pub IsDue-module_refused : (goal : List ℕ) → IsDue (codes "bad.m") (255 ∷ []) goal (codes "bad.m:1: rule 1: bad token\n" ∷ []) module_status
+pub IsDue-module_refused : (goal : List ℕ) (steps : ℕ) (most : Option ℕ) → IsDue (codes "bad.m") (255 ∷ []) goal steps most (codes "bad.m:1: rule 1: bad token\n" ∷ []) module_status
 unfolding digits
-IsDue-module_refused _ = module_refused bad_token lone_byte-refused
+IsDue-module_refused _ _ _ = module_refused bad_token lone_byte-refused
 
 -- behind a module that is read
 pub IsDue-goal_refused : (names : List (List ℕ)) (items : List Term) (file : List ℕ) (found : Module) → IsAccepted fixed_names names file items found
-    → IsDue (codes "one.m") file (255 ∷ []) (codes "goal:1: rule 1: bad token\n" ∷ []) goal_status
+    → (steps : ℕ) (most : Option ℕ) → IsDue (codes "one.m") file (255 ∷ []) steps most (codes "goal:1: rule 1: bad token\n" ∷ []) goal_status
 unfolding digits
-IsDue-goal_refused names items file found is = goal_refused names items found bad_token is (no_term bad_token (lone_byte-refused_goal names))
+IsDue-goal_refused names items file found is _ _ = goal_refused names items found bad_token is (no_term bad_token (lone_byte-refused_goal names))
 
 -- where both break a rule it is the file's
-pub IsDue-file_first : (lines : List (List ℕ)) → IsDue (codes "bad.m") (255 ∷ []) (255 ∷ []) lines goal_status → ⊥
-IsDue-file_first lines due =
-    let same = IsDue-unique _ _ _ _ _ _ _ due (IsDue-module_refused (255 ∷ [])) in
+pub IsDue-file_first : (lines : List (List ℕ)) (steps : ℕ) (most : Option ℕ) → IsDue (codes "bad.m") (255 ∷ []) (255 ∷ []) steps most lines goal_status → ⊥
+IsDue-file_first lines steps most due =
+    let same = IsDue-unique _ _ _ _ _ _ _ _ _ due (IsDue-module_refused (255 ∷ []) steps most) in
     differ module_status goal_status (omega arith) (sym same.1)
 
 -- a file that breaks a rule has no run
-pub IsDue-refused_no_run : (name file goal : List ℕ) (refusal : Refusal) (lines : List (List ℕ)) → Refuses fixed_names file refusal → IsDue name file goal lines solved_status → ⊥
-IsDue-refused_no_run name file goal refusal lines refuses due =
-    let same = IsDue-unique name file goal lines (refusal_line name refusal ∷ []) solved_status module_status due (module_refused refusal refuses) in
+pub IsDue-refused_no_run : (name file goal : List ℕ) (steps : ℕ) (most : Option ℕ) (refusal : Refusal) (lines : List (List ℕ)) → Refuses fixed_names file refusal → IsDue name file goal steps most lines solved_status → ⊥
+IsDue-refused_no_run name file goal steps most refusal lines refuses due =
+    let same = IsDue-unique name file goal steps most lines (refusal_line name refusal ∷ []) solved_status module_status due (module_refused refusal refuses) in
     differ solved_status module_status (omega arith) same.1
 
 -- what is due for a request is what is due for its kind
-pub IsRequestDue-solve : IsRequestDue (Solve (shown (codes "bad.m")) (shown (codes "p"))) (255 ∷ []) (codes "bad.m:1: rule 1: bad token\n" ∷ []) module_status
-IsRequestDue-solve = IsDue-module_refused (codes "p")
+pub IsRequestDue-solve : IsRequestDue (Solve (shown (codes "bad.m")) (shown (codes "p")) 7 (Some 1)) (255 ∷ []) (codes "bad.m:1: rule 1: bad token\n" ∷ []) module_status
+IsRequestDue-solve = IsDue-module_refused (codes "p") 7 (Some 1)
 
 -- a check refuses it too
 pub IsCheckDue-refused : IsCheckDue (codes "bad.m") (255 ∷ []) (codes "bad.m:1: rule 1: bad token\n" ∷ []) module_status
@@ -156,24 +156,33 @@ first_output = codes "X = 5\n" ∷ codes "solutions 1\n" ∷ []
 abbrev pub run_names : List (List ℕ)
 run_names = codes "X" ∷ []
 
-first_lines : run_lines run_names (0 ∷ []) one_answer ≡ first_output
+first_lines : run_lines run_names (0 ∷ []) None one_answer ≡ first_output
 unfolding digits
 first_lines = refl
 
--- What follows is said where a goal asks for the run that has one step and one answer over that text.
-module _ (goal : List ℕ) (asked : IsAskedRun one_text goal run_names (0 ∷ []) one_answer) where
-  pub IsDue-runs : IsDue (codes "one.m") one_text goal first_output solved_status
-  IsDue-runs = subst (λ (lines : List (List ℕ)). IsDue (codes "one.m") one_text goal lines solved_status) first_lines (runs run_names (0 ∷ []) one_answer asked)
+first_stopped : run_lines run_names (0 ∷ []) (Some 1) one_answer ≡ codes "X = 5\n" ∷ codes "stopped after 1\n" ∷ []
+unfolding digits
+first_stopped = refl
 
-  pub IsDue-other_answer : (status : ℕ) → IsDue (codes "one.m") one_text goal (codes "X = 6\n" ∷ codes "solutions 1\n" ∷ []) status → ⊥
+-- What follows is said where a goal asks for the run that has one step and one answer over that text.
+module _ (goal : List ℕ) (steps : ℕ) (asked : IsAskedRun one_text goal steps run_names (0 ∷ []) one_answer) where
+  pub IsDue-runs : IsDue (codes "one.m") one_text goal steps None first_output solved_status
+  IsDue-runs = subst (λ (lines : List (List ℕ)). IsDue (codes "one.m") one_text goal steps None lines solved_status) first_lines (runs run_names (0 ∷ []) one_answer asked)
+
+  -- stopped behind its one answer
+  pub IsDue-stopped : IsDue (codes "one.m") one_text goal steps (Some 1) (codes "X = 5\n" ∷ codes "stopped after 1\n" ∷ []) solved_status
+  IsDue-stopped =
+      subst (λ (lines : List (List ℕ)). IsDue (codes "one.m") one_text goal steps (Some 1) lines solved_status) first_stopped (runs run_names (0 ∷ []) one_answer asked)
+
+  pub IsDue-other_answer : (status : ℕ) → IsDue (codes "one.m") one_text goal steps None (codes "X = 6\n" ∷ codes "solutions 1\n" ∷ []) status → ⊥
   IsDue-other_answer status due =
-      let same = IsDue-unique _ _ _ _ _ _ _ due IsDue-runs in
+      let same = IsDue-unique _ _ _ _ _ _ _ _ _ due IsDue-runs in
       differ 53 54 (omega arith) (sym (ap (λ (texts : List (List ℕ)). slice_index (text_of texts) 4) same.0))
 
   -- nor is the goal refused
-  pub IsDue-not_refused : (lines : List (List ℕ)) → IsDue (codes "one.m") one_text goal lines goal_status → ⊥
+  pub IsDue-not_refused : (lines : List (List ℕ)) → IsDue (codes "one.m") one_text goal steps None lines goal_status → ⊥
   IsDue-not_refused lines due =
-      let same = IsDue-unique _ _ _ _ _ _ _ due IsDue-runs in
+      let same = IsDue-unique _ _ _ _ _ _ _ _ _ due IsDue-runs in
       differ solved_status goal_status (omega arith) (sym same.1)
 
 -- its name and its predicate's behind the constants, and others behind those

@@ -1,7 +1,7 @@
 -- What is due, over the files that a shelf tells, or over files that fit what was read.
-use Rattle.std.proofs.Common.{◌≡◌, ◌<◌, ◌≤◌, ◌⊎◌, ℕ, suc, zero, List, [], ◌∷◌, ap, sym, refl, subst, inl, inr, length, arith, lit<}
+use Rattle.std.proofs.Common.{◌≡◌, ◌<◌, ◌≤◌, ◌⊎◌, ◌∙◌, ℕ, suc, zero, List, [], ◌∷◌, ap, sym, refl, subst, inl, inr, length, arith, lit<}
 use Rattle.std.proofs.lemmas.List.{length-replicate}
-use Rattle.std.specs.Prelude.{Option, Some, None, Ok, IfSome, replicate, if◌then◌else◌}
+use Rattle.std.specs.Prelude.{Bool, true, false, Option, Some, None, Ok, IfSome, replicate, if◌then◌else◌}
 use Rattle.std.proofs.lemmas.Slice.Eq.{bytes_eq-Decides}
 use Rattle.merc_base.specs.Outside.{Files, file_named}
 use Rattle.merc_base.specs.Names.{fixed_names}
@@ -18,20 +18,20 @@ use Rattle.merc_check.proofs.CheckedLaws.{IsGradedGoal-one}
 use Rattle.merc_meaning.specs.Trace.{Run, RunEnd, RunDone, RunRaised, LimitPassed}
 use Rattle.merc_top.specs.declared.words.Request.{Request}
 use Rattle.merc_top.specs.declared.words.Request.TheVariants.{Solve, Check}
-use Rattle.merc_top.specs.Words.{IsRequest, IsSolve, IsCheck, IsNoRequest, file_of, usage_line}
-use Rattle.merc_top.specs.Statuses.{limit_status, usage_status, unread_status, too_long_status}
+use Rattle.merc_top.specs.Words.{IsRequest, IsNoRequest, file_of, usage_line}
+use Rattle.merc_top.specs.Statuses.{limit_status, solved_status, usage_status, unread_status, too_long_status}
 use Rattle.merc_top.specs.Loading.{file_limit, IsTooLong}
-use Rattle.merc_top.specs.Output.{IsAskedRun, IsOutput, IsDue, IsCheckDue, IsRequestDue, FileOutput, end_status, refusal_line, step_limit, too_long_line}
+use Rattle.merc_top.specs.Output.{IsOutput, IsDue, IsCheckDue, IsRequestDue, FileOutput, end_status, refusal_line, run_status, too_long_line}
 use Rattle.merc_top.specs.Output.IsDue.{module_refused, goal_refused, runs}
 use Rattle.merc_top.specs.Output.IsCheckDue.{check_refused, check_accepted}
+use Rattle.merc_top.specs.Runs.{answers_of, end_of, is_stopped}
 use Rattle.merc_top.specs.Answer.{AreFiles}
-use Rattle.merc_top.specs.Counting.{AsksRun}
 use Rattle.merc_top.specs.declared.answering.Due.{Due}
 use Rattle.merc_top.specs.declared.answering.Found.{Found}
 use Rattle.merc_top.specs.declared.answering.Found.TheVariants.{Lines, Run as Runs}
 use Rattle.merc_top.specs.declared.solving.Ready.{Ready}
 use Rattle.merc_top.specs.Ready.{IsReady}
-use Rattle.merc_top.specs.Due.{Finds, IsCheckFound, IsRequestFound, IsSolveFound}
+use Rattle.merc_top.specs.Due.{Finds, IsRefused, IsRequestFound, IsSolveFound}
 use Rattle.merc_top.proofs.Requests.{solve-no_check}
 use Rattle.merc_top.proofs.OutputLaws.{module-distinct}
 
@@ -51,10 +51,17 @@ end_status-small (suc count) (RunRaised text) = lit< tt
 end_status-small zero LimitPassed = lit< tt
 end_status-small (suc count) LimitPassed = lit< tt
 
-due_status-small : (name file goal : List ℕ) (lines : List (List ℕ)) (status : ℕ) → IsDue name file goal lines status → status < unread_status
-due_status-small name file goal _ _ (module_refused _ _) = lit< tt
-due_status-small name file goal _ _ (goal_refused _ _ _ _ _ _) = lit< tt
-due_status-small name file goal _ _ (runs _ _ _ _) = end_status-small _ _
+stopped-small : (stopped : Bool) (count : ℕ) (end : RunEnd) → (if stopped then solved_status else end_status count end) < unread_status
+stopped-small true count end = lit< tt
+stopped-small false count end = end_status-small count end
+
+pub run_status-small : (most : Option ℕ) (asked : Run) → run_status most asked < unread_status
+run_status-small most asked = stopped-small (is_stopped most asked) (length (answers_of asked)) (end_of asked)
+
+due_status-small : (name file goal : List ℕ) (steps : ℕ) (most : Option ℕ) (lines : List (List ℕ)) (status : ℕ) → IsDue name file goal steps most lines status → status < unread_status
+due_status-small name file goal steps most _ _ (module_refused _ _) = lit< tt
+due_status-small name file goal steps most _ _ (goal_refused _ _ _ _ _ _) = lit< tt
+due_status-small name file goal steps most _ _ (runs _ _ asked _) = run_status-small most asked
 
 check_status-small : (name file : List ℕ) (lines : List (List ℕ)) (status : ℕ) → IsCheckDue name file lines status → status < unread_status
 check_status-small name file _ _ (check_refused _ _) = lit< tt
@@ -65,9 +72,10 @@ pub line_by : (name name' : List ℕ) (refusal refusal' : Refusal) (line : List 
 line_by name name' refusal refusal' line is same same' = rw (is, same, same') refl
 
 -- what is due, by its lines and its status
-due_by : (name file goal : List ℕ) (lines lines' : List (List ℕ)) (status status' : ℕ) → lines ≡ lines' → status ≡ status' → IsDue name file goal lines' status' → IsDue name file goal lines status
-due_by name file goal lines lines' status status' same same' due =
-    subst (λ (ls : List (List ℕ)). IsDue name file goal ls status) (sym same) (subst (λ (n : ℕ). IsDue name file goal lines' n) (sym same') due)
+due_by : (name file goal : List ℕ) (steps : ℕ) (most : Option ℕ) (lines lines' : List (List ℕ)) (status status' : ℕ) → lines ≡ lines' → status ≡ status' → IsDue name file goal steps most lines' status'
+    → IsDue name file goal steps most lines status
+due_by name file goal steps most lines lines' status status' same same' due =
+    subst (λ (ls : List (List ℕ)). IsDue name file goal steps most ls status) (sym same) (subst (λ (n : ℕ). IsDue name file goal steps most lines' n) (sym same') due)
 
 -- the same of a check
 pub check_due_by : (name file : List ℕ) (lines lines' : List (List ℕ)) (status status' : ℕ) → lines ≡ lines' → status ≡ status' → IsCheckDue name file lines' status' → IsCheckDue name file lines status
@@ -99,7 +107,7 @@ pub usage-found : (words : List (List ℕ)) (told : Option Files) (before : ℕ)
     → Finds words told before before (Ok (Lines due))
 usage-found words told before due none same is =
     let files = some_files told in
-    (refl, inl (omega (arith, is)), (files.0, files.1, inl (none, same, is), λ _ _ _ _. omega (arith, is)))
+    (refl, inl (omega (arith, is)), (files.0, files.1, inl (none, same, is), λ _ _ _ _ _. omega (arith, is)))
 
 -- A file that was read.
 module _ (words : List (List ℕ)) (told : Option Files) (before now : ℕ) (text : List ℕ) (same : now ≡ before) (within : length text ≤ file_limit) where
@@ -110,13 +118,13 @@ module _ (words : List (List ℕ)) (told : Option Files) (before now : ℕ) (tex
 
   pub file-found : (request : Request) (found : Found) → IsRequest words request → IfSome told (λ files. file_named (file_of request) files ≡ Some text)
       → IsRequestFound request text found → Finds words told before now (Ok found)
-  file-found (Solve file goal) (Lines due) asked content found =
+  file-found (Solve file goal steps most) (Lines due) asked content found =
       let files = files_with told file.now text content in (
         same,
-        inl (due_status-small file.now text goal.now due.lines due.status found.1),
-        (files.0, files.1, output (Solve file goal) files.0 due.lines due.status asked files.2 found.1, λ _ _ _ _. found.0),
+        inl (due_status-small file.now text goal.now steps most due.lines due.status found.1),
+        (files.0, files.1, output (Solve file goal steps most) files.0 due.lines due.status asked files.2 found.1, λ _ _ _ _ _. found.0),
       )
-  file-found (Solve file goal) (Runs ready) asked content (names, variables, run, run_is, is_ready) =
+  file-found (Solve file goal steps most) (Runs ready) asked content (names, variables, run, run_is, is_ready) =
       let files = files_with told file.now text content in (
         same,
         (
@@ -124,8 +132,9 @@ module _ (words : List (List ℕ)) (told : Option Files) (before now : ℕ) (tex
           files.1,
           names,
           variables,
+          most,
           run,
-          record { file = file.now; goal = goal.now; text = text; request = asked; content = files.2; within = within; run_is = run_is },
+          record { file = file.now; goal = goal.now; text = text; steps = steps; request = asked; content = files.2; within = within; run_is = run_is },
           is_ready,
         ),
       )
@@ -137,7 +146,7 @@ module _ (words : List (List ℕ)) (told : Option Files) (before now : ℕ) (tex
           files.0,
           files.1,
           output (Check file) files.0 due.lines due.status asked files.2 found,
-          λ _ _ _ other. absurd (solve-no_check words other.file other.goal file.now other.request asked),
+          λ _ _ most _ other. absurd (solve-no_check words other.file other.goal file.now other.steps most other.request asked),
         ),
       )
   file-found (Check file) (Runs ready) asked content found = absurd found
@@ -167,7 +176,7 @@ too_long-found words told before now request due same asked long lines is =
           asked,
           subst (λ (some : Option (List ℕ)). FileOutput request some due.lines due.status) (sym files.2.1) (inl (files.2.2, lines, is)),
         ),
-        λ _ _ _ _. omega (arith, is),
+        λ _ _ _ _ _. omega (arith, is),
       ),
     )
 
@@ -183,13 +192,13 @@ module _ (text goal : List ℕ) (file_names names : List (List ℕ)) (items : Li
   pub one-goal : length goals ≡ 1
   one-goal = ap (λ (some : List Node). length some) one_tree.1
 
-  pub run-found : (name : List ℕ) (variables answers : List ℕ) (ready : Ready) → AreGraded file_names found trees → variables ≡ query_names names term → answers ≡ query_answers names found term
-      → ((tree : Node) → goals ≡ tree ∷ [] → IsReady names variables (shown answers (run (program_with found.preds trees) tree step_limit)) ready)
-      → IsSolveFound name text goal (Runs ready)
-  run-found name variables answers ready graded variables_are answers_are is_ready = (
+  pub run-found : (name : List ℕ) (steps : ℕ) (most : Option ℕ) (variables answers : List ℕ) (ready : Ready) → AreGraded file_names found trees → variables ≡ query_names names term → answers ≡ query_answers names found term
+      → ((tree : Node) → goals ≡ tree ∷ [] → IsReady names variables most (shown answers (run (program_with found.preds trees) tree steps)) ready)
+      → IsSolveFound name text goal steps most (Runs ready)
+  run-found name steps most variables answers ready graded variables_are answers_are is_ready = (
     names,
     variables,
-    shown answers (run (program_with found.preds trees) one_tree.0 step_limit),
+    shown answers (run (program_with found.preds trees) one_tree.0 steps),
     record {
       file_names = file_names;
       items = items;
@@ -202,13 +211,19 @@ module _ (text goal : List ℕ) (file_names names : List (List ℕ)) (items : Li
       goal_is = goal_is;
       goal_tree = subst (λ (some : List Node). IsGradedGoal names found term some) one_tree.1 goal_trees;
       variables_are = variables_are;
-      run_is = ap (λ (some : List ℕ). shown some (run (program_with found.preds trees) one_tree.0 step_limit)) answers_are;
+      run_is = ap (λ (some : List ℕ). shown some (run (program_with found.preds trees) one_tree.0 steps)) answers_are;
     },
     is_ready one_tree.0 one_tree.1,
   )
 
 -- What is wrong with the file, or with the goal, is said by a status that no run has.
-pub refused-found : (name text goal : List ℕ) (due : Due) (lines : List (List ℕ)) (status : ℕ) → due.lines ≡ lines → due.status ≡ status → limit_status < status → IsDue name text goal lines status
-    → IsSolveFound name text goal (Lines due)
-refused-found name text goal due lines status same same' above is =
-    (subst (λ (n : ℕ). limit_status < n) (sym same') above, due_by name text goal due.lines lines due.status status same same' is)
+refused-found : (name text goal : List ℕ) (steps : ℕ) (most : Option ℕ) (due : Due) (lines : List (List ℕ)) (status : ℕ) → due.lines ≡ lines → due.status ≡ status → limit_status < status → IsDue name text goal steps most lines status
+    → IsSolveFound name text goal steps most (Lines due)
+refused-found name text goal steps most due lines status same same' above is =
+    (subst (λ (n : ℕ). limit_status < n) (sym same') above, due_by name text goal steps most due.lines lines due.status status same same' is)
+
+pub refused-goal : (name text goal said line : List ℕ) (steps : ℕ) (most : Option ℕ) (refusal : Refusal) (status : ℕ) (found : Found) → said ≡ line → limit_status < status
+    → IsDue name text goal steps most (refusal_line line refusal ∷ []) status → IsRefused status said refusal found → IsSolveFound name text goal steps most found
+refused-goal name text goal said line steps most refusal status (Lines due) same above is (lines, told) =
+    refused-found name text goal steps most due (refusal_line line refusal ∷ []) status (lines ∙ ap (λ (some : List ℕ). refusal_line some refusal ∷ []) same) told above is
+refused-goal name text goal said line steps most refusal status (Runs ready) same above is other = absurd other

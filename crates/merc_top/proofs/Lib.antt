@@ -5,6 +5,8 @@ pub mod CheckingLemmas
 pub mod RunLemmas
 pub mod ReadyLemmas
 pub mod Dues
+pub mod Digits
+pub mod Options
 pub mod Requests
 pub mod OutputLaws
 pub mod Causes
@@ -12,6 +14,7 @@ pub mod CallEnds
 pub mod AnswerLaws
 pub mod StatusExamples
 pub mod WordsExamples
+pub mod OptionsExamples
 pub mod LoadingExamples
 pub mod WritingExamples
 pub mod CheckingExamples

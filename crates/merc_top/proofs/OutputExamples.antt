@@ -1,5 +1,5 @@
 -- Worked examples of the lines that are due and of a run's: what holds, and what does not.
-use Rattle.std.specs.Prelude.{◌≡◌, ◌*◌, ℕ, pos, negsuc, List, [], ◌∷◌, length, Some, None, codes, refl}
+use Rattle.std.specs.Prelude.{◌≡◌, ℕ, pos, negsuc, true, false, List, [], ◌∷◌, length, Some, None, codes, refl}
 use Rattle.std.proofs.Common.{arith, slice_index, ap, sym}
 use Rattle.std.specs.Fmt.{decimal, digits}
 use Rattle.merc_base.specs.declared.category.Category.TheVariants.{Det}
@@ -17,17 +17,18 @@ use Rattle.merc_graded_tree.specs.declared.basic.BasicGoal.{BasicGoal}
 use Rattle.merc_graded_tree.specs.declared.basic.BasicGoal.TheVariants.{Arithmetic, Build, Call}
 use Rattle.merc_graded_tree.specs.declared.entries.Running.TheVariants.{Sequential}
 use Rattle.merc_graded_tree.specs.Nodes.{Node, node, Basic, Conjunction, nodes_of}
-use Rattle.merc_meaning.specs.Trace.{Env, Run, Ends, Tick, Answer, RunDone, RunRaised, LimitPassed}
+use Rattle.merc_meaning.specs.Trace.{Run, Ends, Tick, Answer, RunDone, RunRaised, LimitPassed}
 use Rattle.merc_meaning.specs.Programs.{program_with}
 use Rattle.merc_meaning.specs.Runs.{run}
 use Rattle.merc_code.specs.Meaning.{shown}
 use Rattle.merc_top.specs.Loading.{file_limit}
-use Rattle.merc_top.specs.Runs.{answers_of, end_of, steps_of}
+use Rattle.merc_top.specs.Runs.{answers_of, answers_told, end_of, is_stopped, steps_before, steps_made, steps_of}
 use Rattle.merc_top.specs.Statuses.{solved_status, unsolved_status, raised_status, limit_status}
+use Rattle.merc_top.specs.Words.{default_steps}
 use Rattle.merc_top.specs.Lines.{line, behind_commas, comma_list, joined}
-use Rattle.merc_top.specs.Output.{binding, bindings, solution_line, end_line, end_status, run_status, run_lines, text_of, refusal_line, too_long_line, step_limit}
+use Rattle.merc_top.specs.Output.{binding, bindings, solution_line, end_line, end_status, run_status, run_lines, text_of, last_line, refusal_line, stopped_line, too_long_line}
 use Rattle.merc_top.proofs.CheckingExamples.{mode, predicate}
-use Rattle.merc_top.proofs.WordsExamples.{differ}
+use Rattle.merc_top.proofs.Options.{differ}
 
 -- ---- lines
 
@@ -170,38 +171,38 @@ steps_of-example = refl
 pub steps_of-counterexample : steps_of (Answer [] (Ends RunDone)) ≡ 1 → ⊥
 steps_of-counterexample same = cc
 
-pub run_lines-example : run_lines names (y ∷ []) two_answers ≡ codes "Y = 4\n" ∷ codes "Y = 8\n" ∷ codes "solutions 2\n" ∷ []
+pub run_lines-example : run_lines names (y ∷ []) None two_answers ≡ codes "Y = 4\n" ∷ codes "Y = 8\n" ∷ codes "solutions 2\n" ∷ []
 unfolding digits
 run_lines-example = refl
 
-pub run_status-example : run_status two_answers ≡ solved_status
+pub run_status-example : run_status None two_answers ≡ solved_status
 run_status-example = refl
 
-pub run_lines-none : run_lines names (y ∷ []) (Tick (Ends RunDone)) ≡ codes "solutions 0\n" ∷ []
+pub run_lines-none : run_lines names (y ∷ []) None (Tick (Ends RunDone)) ≡ codes "solutions 0\n" ∷ []
 unfolding digits
 run_lines-none = refl
 
-pub run_status-none : run_status (Tick (Ends RunDone)) ≡ unsolved_status
+pub run_status-none : run_status None (Tick (Ends RunDone)) ≡ unsolved_status
 run_status-none = refl
 
 -- an exception behind an answer
-pub run_lines-raised : run_lines names (y ∷ []) (Answer (Some (int 4) ∷ []) (Ends (RunRaised no_row))) ≡ codes "Y = 4\n" ∷ codes "uncaught exception: no row\n" ∷ []
+pub run_lines-raised : run_lines names (y ∷ []) None (Answer (Some (int 4) ∷ []) (Ends (RunRaised no_row))) ≡ codes "Y = 4\n" ∷ codes "uncaught exception: no row\n" ∷ []
 unfolding digits
 run_lines-raised = refl
 
-pub run_status-raised : run_status (Answer (Some (int 4) ∷ []) (Ends (RunRaised no_row))) ≡ raised_status
+pub run_status-raised : run_status None (Answer (Some (int 4) ∷ []) (Ends (RunRaised no_row))) ≡ raised_status
 run_status-raised = refl
 
 -- the step limit behind an answer
-pub run_lines-limit : run_lines names (y ∷ []) (Answer (Some (int 4) ∷ []) (Ends LimitPassed)) ≡ codes "Y = 4\n" ∷ codes "step limit passed\n" ∷ []
+pub run_lines-limit : run_lines names (y ∷ []) None (Answer (Some (int 4) ∷ []) (Ends LimitPassed)) ≡ codes "Y = 4\n" ∷ codes "step limit passed\n" ∷ []
 unfolding digits
 run_lines-limit = refl
 
-pub run_status-counterexample : run_status (Answer (Some (int 4) ∷ []) (Ends LimitPassed)) ≡ solved_status → ⊥
+pub run_status-counterexample : run_status None (Answer (Some (int 4) ∷ []) (Ends LimitPassed)) ≡ solved_status → ⊥
 run_status-counterexample same = cc
 
 -- the line that ends the run is missing
-pub run_lines-counterexample : run_lines names (y ∷ []) (Answer (Some (int 4) ∷ []) (Ends LimitPassed)) ≡ codes "Y = 4\n" ∷ [] → ⊥
+pub run_lines-counterexample : run_lines names (y ∷ []) None (Answer (Some (int 4) ∷ []) (Ends LimitPassed)) ≡ codes "Y = 4\n" ∷ [] → ⊥
 unfolding digits
 run_lines-counterexample same = cc
 
@@ -238,11 +239,91 @@ pub too_long_line-limit : decimal file_limit ≡ codes "1048576"
 unfolding digits file_limit
 too_long_line-limit = refl
 
--- ---- the run that is asked
+-- ---- runs that are stopped behind an answer
 
-pub step_limit-example : step_limit ≡ 1000 * 1000
-unfolding step_limit
-step_limit-example = refl
+pub answers_told-example : answers_told (Some 1) two_answers ≡ (Some (int 4) ∷ []) ∷ []
+answers_told-example = refl
+
+-- all, where there is no bound, or a greater one
+pub answers_told-all : answers_told None two_answers ≡ answers_of two_answers
+answers_told-all = refl
+
+pub answers_told-fewer : answers_told (Some 3) two_answers ≡ answers_of two_answers
+answers_told-fewer = refl
+
+pub answers_told-counterexample : answers_told (Some 1) two_answers ≡ (Some (int 8) ∷ []) ∷ [] → ⊥
+answers_told-counterexample same = cc
+
+-- a run is stopped at its last answer too
+pub is_stopped-example : is_stopped (Some 2) two_answers ≡ true
+is_stopped-example = refl
+
+pub is_stopped-fewer : is_stopped (Some 3) two_answers ≡ false
+is_stopped-fewer = refl
+
+pub is_stopped-counterexample : is_stopped None two_answers ≡ true → ⊥
+is_stopped-counterexample same = cc
+
+pub stopped_line-example : stopped_line names 12 ≡ codes "stopped after 12\n"
+unfolding digits
+stopped_line-example = refl
+
+pub last_line-example : last_line names (Some 2) two_answers ≡ codes "stopped after 2\n"
+unfolding digits
+last_line-example = refl
+
+-- the search was not completed
+pub last_line-counterexample : last_line names (Some 2) two_answers ≡ codes "solutions 2\n" → ⊥
+unfolding digits
+last_line-counterexample same = differ 12 16 (omega arith) (sym (ap (λ (text : List ℕ). length text) same))
+
+pub run_lines-stopped : run_lines names (y ∷ []) (Some 2) two_answers ≡ codes "Y = 4\n" ∷ codes "Y = 8\n" ∷ codes "stopped after 2\n" ∷ []
+unfolding digits
+run_lines-stopped = refl
+
+pub run_status-stopped : run_status (Some 2) two_answers ≡ solved_status
+run_status-stopped = refl
+
+-- a bound that is not reached
+pub run_lines-within : run_lines names (y ∷ []) (Some 3) two_answers ≡ codes "Y = 4\n" ∷ codes "Y = 8\n" ∷ codes "solutions 2\n" ∷ []
+unfolding digits
+run_lines-within = refl
+
+-- an exception behind the first answer, which nothing looks for
+abbrev raising : Run
+raising = Tick (Answer (Some (int 4) ∷ []) (Tick (Tick (Ends (RunRaised no_row)))))
+
+pub run_lines-before : run_lines names (y ∷ []) (Some 1) raising ≡ codes "Y = 4\n" ∷ codes "stopped after 1\n" ∷ []
+unfolding digits
+run_lines-before = refl
+
+pub run_status-before : run_status (Some 1) raising ≡ solved_status
+run_status-before = refl
+
+-- and which comes before a second one
+pub run_status-raised_within : run_status (Some 2) raising ≡ raised_status
+run_status-raised_within = refl
+
+pub run_status-before_raised : run_status (Some 1) raising ≡ raised_status → ⊥
+run_status-before_raised same = cc
+
+pub steps_before-example : steps_before 1 raising ≡ 1
+steps_before-example = refl
+
+-- a run with fewer answers makes all its steps
+pub steps_before-all : steps_before 2 raising ≡ steps_of raising
+steps_before-all = refl
+
+pub steps_before-counterexample : steps_before 1 raising ≡ 3 → ⊥
+steps_before-counterexample same = cc
+
+pub steps_made-example : steps_made (Some 1) raising ≡ 1
+steps_made-example = refl
+
+pub steps_made-counterexample : steps_made None raising ≡ 1 → ⊥
+steps_made-counterexample same = cc
+
+-- ---- the run that is asked
 
 abbrev nowhere : Span
 nowhere = record { first = 0; past = 0; line = 1 }
@@ -267,8 +348,8 @@ asking =
 abbrev pub one_answer : Run
 one_answer = Tick (Answer (Some (Int (pos 5)) ∷ []) (Ends RunDone))
 
-pub asked-example : shown (0 ∷ []) (run (program_with adding adding_trees) asking step_limit) ≡ one_answer
-unfolding step_limit
+pub asked-example : shown (0 ∷ []) (run (program_with adding adding_trees) asking default_steps) ≡ one_answer
+unfolding default_steps
 asked-example = refl
 
 -- no step is allowed

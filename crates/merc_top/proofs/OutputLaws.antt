@@ -23,7 +23,7 @@ use Rattle.merc_top.specs.declared.words.Request.{Request}
 use Rattle.merc_top.specs.declared.words.Request.TheVariants.{Solve, Check}
 use Rattle.merc_top.specs.Words.{IsRequest, file_of}
 use Rattle.merc_top.specs.Checking.{check_lines}
-use Rattle.merc_top.specs.Output.{IsAskedRun, IsDue, IsCheckDue, IsRequestDue, IsOutput, FileOutput, refusal_line, run_lines, run_status, step_limit, too_long_line}
+use Rattle.merc_top.specs.Output.{IsAskedRun, IsDue, IsCheckDue, IsRequestDue, IsOutput, FileOutput, refusal_line, run_lines, run_status, too_long_line}
 use Rattle.merc_top.specs.Output.IsDue.{module_refused, goal_refused, runs}
 use Rattle.merc_top.specs.Output.IsCheckDue.{check_refused, check_accepted}
 use Rattle.merc_top.proofs.Requests.{solve-unique, check-unique, solve-no_check, request_file-unique}
@@ -36,15 +36,15 @@ both : {A : Type 0} {x y z : A} → x ≡ z → y ≡ z → x ≡ y
 both p q = p ∙ sym q
 
 -- a text is due because the file breaks a rule, or the goal does, or it is the run's
-data Cases (name file goal : List ℕ) (lines : List (List ℕ)) (status : ℕ) : Type 0 where
-  broken_module : (refusal : Refusal) → Refuses fixed_names file refusal → lines ≡ refusal_line name refusal ∷ [] → status ≡ module_status → Cases name file goal lines status
-  broken_goal : (names : List (List ℕ)) (items : List Term) (found : Module) (refusal : Refusal) → IsAccepted fixed_names names file items found → RefusesQuery names found goal refusal → lines ≡ refusal_line (codes "goal") refusal ∷ [] → status ≡ goal_status → Cases name file goal lines status
-  both_run : (names : List (List ℕ)) (variables : List ℕ) (asked : Run) → IsAskedRun file goal names variables asked → lines ≡ run_lines names variables asked → status ≡ run_status asked → Cases name file goal lines status
+data Cases (name file goal : List ℕ) (steps : ℕ) (most : Option ℕ) (lines : List (List ℕ)) (status : ℕ) : Type 0 where
+  broken_module : (refusal : Refusal) → Refuses fixed_names file refusal → lines ≡ refusal_line name refusal ∷ [] → status ≡ module_status → Cases name file goal steps most lines status
+  broken_goal : (names : List (List ℕ)) (items : List Term) (found : Module) (refusal : Refusal) → IsAccepted fixed_names names file items found → RefusesQuery names found goal refusal → lines ≡ refusal_line (codes "goal") refusal ∷ [] → status ≡ goal_status → Cases name file goal steps most lines status
+  both_run : (names : List (List ℕ)) (variables : List ℕ) (asked : Run) → IsAskedRun file goal steps names variables asked → lines ≡ run_lines names variables most asked → status ≡ run_status most asked → Cases name file goal steps most lines status
 
-cases_of : (name file goal : List ℕ) (lines : List (List ℕ)) (status : ℕ) → IsDue name file goal lines status → Cases name file goal lines status
-cases_of name file goal _ _ (module_refused refusal refuses) = broken_module refusal refuses refl refl
-cases_of name file goal _ _ (goal_refused names items found refusal is refuses) = broken_goal names items found refusal is refuses refl refl
-cases_of name file goal _ _ (runs names variables asked is) = both_run names variables asked is refl refl
+cases_of : (name file goal : List ℕ) (steps : ℕ) (most : Option ℕ) (lines : List (List ℕ)) (status : ℕ) → IsDue name file goal steps most lines status → Cases name file goal steps most lines status
+cases_of name file goal steps most _ _ (module_refused refusal refuses) = broken_module refusal refuses refl refl
+cases_of name file goal steps most _ _ (goal_refused names items found refusal is refuses) = broken_goal names items found refusal is refuses refl refl
+cases_of name file goal steps most _ _ (runs names variables asked is) = both_run names variables asked is refl refl
 
 -- behind an accepted module no two names are one
 pub module-distinct : (names : List (List ℕ)) (file : List ℕ) (items : List Term) (found : Module) → IsAccepted fixed_names names file items found → IsDistinct bytes_eq names
@@ -60,8 +60,8 @@ head_is : (one other : Node) → one ∷ [] ≡ other ∷ [] → one ≡ other
 head_is one other same = cc
 
 -- A file and a goal ask for one run.
-module _ (file goal : List ℕ) (names names' : List (List ℕ)) (variables variables' : List ℕ) (asked asked' : Run)
-    (one : IsAskedRun file goal names variables asked) (other : IsAskedRun file goal names' variables' asked') where
+module _ (file goal : List ℕ) (steps : ℕ) (names names' : List (List ℕ)) (variables variables' : List ℕ) (asked asked' : Run)
+    (one : IsAskedRun file goal steps names variables asked) (other : IsAskedRun file goal steps names' variables' asked') where
   modules : (one.file_names ≡ other.file_names) × (one.items ≡ other.items) × (one.found ≡ other.found)
   modules = IsAccepted-unique fixed_names file fixed_names-distinct one.file_names other.file_names one.items other.items one.found other.found one.module_is other.module_is
 
@@ -92,13 +92,13 @@ module _ (file goal : List ℕ) (names names' : List (List ℕ)) (variables vari
   asked_same : asked ≡ asked'
   asked_same =
       one.run_is
-      ∙ ap (λ (answers : List ℕ). shown answers (run (program_with one.found.preds one.trees) one.tree step_limit))
+      ∙ ap (λ (answers : List ℕ). shown answers (run (program_with one.found.preds one.trees) one.tree steps))
       (ap (λ (some : List (List ℕ)). query_answers some one.found one.term) goals.0
       ∙ ap (λ (found : Module). query_answers names' found one.term) modules.2
       ∙ ap (λ (term : Term). query_answers names' other.found term) goals.1)
-      ∙ ap (λ (found : Module). shown (query_answers names' other.found other.term) (run (program_with found.preds one.trees) one.tree step_limit)) modules.2
-      ∙ ap (λ (some : List Node). shown (query_answers names' other.found other.term) (run (program_with other.found.preds some) one.tree step_limit)) trees
-      ∙ ap (λ (some : Node). shown (query_answers names' other.found other.term) (run (program_with other.found.preds other.trees) some step_limit)) tree
+      ∙ ap (λ (found : Module). shown (query_answers names' other.found other.term) (run (program_with found.preds one.trees) one.tree steps)) modules.2
+      ∙ ap (λ (some : List Node). shown (query_answers names' other.found other.term) (run (program_with other.found.preds some) one.tree steps)) trees
+      ∙ ap (λ (some : Node). shown (query_answers names' other.found other.term) (run (program_with other.found.preds other.trees) some steps)) tree
       ∙ sym other.run_is
 
   pub IsAskedRun-unique : (names ≡ names') × (variables ≡ variables') × (asked ≡ asked')
@@ -109,9 +109,9 @@ module_not_broken : (file : List ℕ) (refusal : Refusal) (names : List (List �
 module_not_broken file refusal names items found refuses is = Refuses-excludes fixed_names file fixed_names-distinct HoldsFixed-fixed names refusal items found refuses is
 
 -- nor does a goal that is accepted behind it
-goal_not_broken : (file goal : List ℕ) (names names' : List (List ℕ)) (items : List Term) (found : Module) (refusal : Refusal) (variables : List ℕ) (asked : Run)
-    → IsAccepted fixed_names names file items found → RefusesQuery names found goal refusal → IsAskedRun file goal names' variables asked → ⊥
-goal_not_broken file goal names names' items found refusal variables asked is refuses both =
+goal_not_broken : (file goal : List ℕ) (steps : ℕ) (names names' : List (List ℕ)) (items : List Term) (found : Module) (refusal : Refusal) (variables : List ℕ) (asked : Run)
+    → IsAccepted fixed_names names file items found → RefusesQuery names found goal refusal → IsAskedRun file goal steps names' variables asked → ⊥
+goal_not_broken file goal steps names names' items found refusal variables asked is refuses both =
     let same = IsAccepted-unique fixed_names file fixed_names-distinct names both.file_names items both.items found both.found is both.module_is in
     let distinct = module-distinct names file items found is in
     let reads = goal_moved (λ some over what. IsGoal some names' over goal what) names both.file_names found both.found both.term same.0 same.2 both.goal_is in
@@ -127,35 +127,35 @@ one_goal_refusal file goal names names' items items' found found' one other is i
 same_line : (name : List ℕ) (one other : Refusal) (lines lines' : List (List ℕ)) → one ≡ other → lines ≡ refusal_line name one ∷ [] → lines' ≡ refusal_line name other ∷ [] → lines ≡ lines'
 same_line name one other lines lines' same is is' = is ∙ subst (λ (refusal : Refusal). refusal_line name one ∷ [] ≡ refusal_line name refusal ∷ []) same refl ∙ sym is'
 
-cases-unique : (name file goal : List ℕ) (lines lines' : List (List ℕ)) (status status' : ℕ)
-    → Cases name file goal lines status → Cases name file goal lines' status' → Agree lines status lines' status'
-cases-unique name file goal lines lines' status status' (broken_module one refuses is four) (broken_module other refuses' is' four') =
+cases-unique : (name file goal : List ℕ) (steps : ℕ) (most : Option ℕ) (lines lines' : List (List ℕ)) (status status' : ℕ)
+    → Cases name file goal steps most lines status → Cases name file goal steps most lines' status' → Agree lines status lines' status'
+cases-unique name file goal steps most lines lines' status status' (broken_module one refuses is four) (broken_module other refuses' is' four') =
     (same_line name one other lines lines' (Refuses-unique fixed_names file fixed_names-distinct HoldsFixed-fixed one other refuses refuses') is is', both four four')
-cases-unique name file goal lines lines' status status' (broken_module one refuses is four) (broken_goal names items found other module_is refuses' is' five) =
+cases-unique name file goal steps most lines lines' status status' (broken_module one refuses is four) (broken_goal names items found other module_is refuses' is' five) =
     absurd (module_not_broken file one names items found refuses module_is)
-cases-unique name file goal lines lines' status status' (broken_module one refuses is four) (both_run names variables asked both_are is' status_is) =
+cases-unique name file goal steps most lines lines' status status' (broken_module one refuses is four) (both_run names variables asked both_are is' status_is) =
     absurd (module_not_broken file one both_are.file_names both_are.items both_are.found refuses both_are.module_is)
-cases-unique name file goal lines lines' status status' (broken_goal names items found one module_is refuses is five) (broken_module other refuses' is' four) =
+cases-unique name file goal steps most lines lines' status status' (broken_goal names items found one module_is refuses is five) (broken_module other refuses' is' four) =
     absurd (module_not_broken file other names items found refuses' module_is)
-cases-unique name file goal lines lines' status status' (broken_goal names items found one module_is refuses is five) (broken_goal names' items' found' other module_is' refuses' is' five') =
+cases-unique name file goal steps most lines lines' status status' (broken_goal names items found one module_is refuses is five) (broken_goal names' items' found' other module_is' refuses' is' five') =
     (same_line (codes "goal") one other lines lines' (one_goal_refusal file goal names names' items items' found found' one other module_is module_is' refuses refuses') is is', both five five')
-cases-unique name file goal lines lines' status status' (broken_goal names items found one module_is refuses is five) (both_run names' variables asked both_are is' status_is) =
-    absurd (goal_not_broken file goal names names' items found one variables asked module_is refuses both_are)
-cases-unique name file goal lines lines' status status' (both_run names variables asked both_are is status_is) (broken_module other refuses is' four) =
+cases-unique name file goal steps most lines lines' status status' (broken_goal names items found one module_is refuses is five) (both_run names' variables asked both_are is' status_is) =
+    absurd (goal_not_broken file goal steps names names' items found one variables asked module_is refuses both_are)
+cases-unique name file goal steps most lines lines' status status' (both_run names variables asked both_are is status_is) (broken_module other refuses is' four) =
     absurd (module_not_broken file other both_are.file_names both_are.items both_are.found refuses both_are.module_is)
-cases-unique name file goal lines lines' status status' (both_run names variables asked both_are is status_is) (broken_goal names' items' found other module_is refuses is' five) =
-    absurd (goal_not_broken file goal names' names items' found other variables asked module_is refuses both_are)
-cases-unique name file goal lines lines' status status' (both_run names variables asked one is status_is) (both_run names' variables' asked' other is' status_is') =
-    let same = IsAskedRun-unique file goal names names' variables variables' asked asked' one other in (
-      is ∙ ap (λ (some : List (List ℕ)). run_lines some variables asked) same.0 ∙ ap (λ (some : List ℕ). run_lines names' some asked) same.1
-          ∙ ap (λ (some : Run). run_lines names' variables' some) same.2 ∙ sym is',
-      status_is ∙ ap (λ (some : Run). run_status some) same.2 ∙ sym status_is',
+cases-unique name file goal steps most lines lines' status status' (both_run names variables asked both_are is status_is) (broken_goal names' items' found other module_is refuses is' five) =
+    absurd (goal_not_broken file goal steps names' names items' found other variables asked module_is refuses both_are)
+cases-unique name file goal steps most lines lines' status status' (both_run names variables asked one is status_is) (both_run names' variables' asked' other is' status_is') =
+    let same = IsAskedRun-unique file goal steps names names' variables variables' asked asked' one other in (
+      is ∙ ap (λ (some : List (List ℕ)). run_lines some variables most asked) same.0 ∙ ap (λ (some : List ℕ). run_lines names' some most asked) same.1
+          ∙ ap (λ (some : Run). run_lines names' variables' most some) same.2 ∙ sym is',
+      status_is ∙ ap (λ (some : Run). run_status most some) same.2 ∙ sym status_is',
     )
 
-pub IsDue-unique : (name file goal : List ℕ) (lines lines' : List (List ℕ)) (status status' : ℕ)
-    → IsDue name file goal lines status → IsDue name file goal lines' status' → Agree lines status lines' status'
-IsDue-unique name file goal lines lines' status status' due also =
-    cases-unique name file goal lines lines' status status' (cases_of name file goal lines status due) (cases_of name file goal lines' status' also)
+pub IsDue-unique : (name file goal : List ℕ) (steps : ℕ) (most : Option ℕ) (lines lines' : List (List ℕ)) (status status' : ℕ)
+    → IsDue name file goal steps most lines status → IsDue name file goal steps most lines' status' → Agree lines status lines' status'
+IsDue-unique name file goal steps most lines lines' status status' due also =
+    cases-unique name file goal steps most lines lines' status status' (cases_of name file goal steps most lines status due) (cases_of name file goal steps most lines' status' also)
 
 -- the check of a file has one result
 pub IsCheckDue-unique : (name file : List ℕ) (lines lines' : List (List ℕ)) (status status' : ℕ)
@@ -178,7 +178,7 @@ IsCheckDue-unique name file _ _ _ _ (check_accepted names items found trees is g
 
 request_due-unique : (request : Request) (text : List ℕ) (lines lines' : List (List ℕ)) (status status' : ℕ)
     → IsRequestDue request text lines status → IsRequestDue request text lines' status' → Agree lines status lines' status'
-request_due-unique (Solve file goal) text lines lines' status status' due also = IsDue-unique file.now text goal.now lines lines' status status' due also
+request_due-unique (Solve file goal steps most) text lines lines' status status' due also = IsDue-unique file.now text goal.now steps most lines lines' status status' due also
 request_due-unique (Check file) text lines lines' status status' due also = IsCheckDue-unique file.now text lines lines' status status' due also
 
 file_output-unique : (request : Request) (content : Option (List ℕ)) (lines lines' : List (List ℕ)) (status status' : ℕ)
@@ -193,12 +193,14 @@ file_output-unique request (Some text) lines lines' status status' (inr due) (in
 -- what is due for one request of some words is due for another
 request_due-moved : (words : List (List ℕ)) (one other : Request) (text : List ℕ) (lines : List (List ℕ)) (status : ℕ)
     → IsRequest words one → IsRequest words other → IsRequestDue other text lines status → IsRequestDue one text lines status
-request_due-moved words (Solve file goal) (Solve file' goal') text lines status asks also due =
-    let same = solve-unique words file.now goal.now file'.now goal'.now asks also in
-    subst (λ (some : List ℕ). IsDue some text goal.now lines status) (sym same.0)
-    (subst (λ (some : List ℕ). IsDue file'.now text some lines status) (sym same.1) due)
-request_due-moved words (Solve file goal) (Check file') text lines status asks also due = absurd (solve-no_check words file.now goal.now file'.now asks also)
-request_due-moved words (Check file) (Solve file' goal') text lines status asks also due = absurd (solve-no_check words file'.now goal'.now file.now also asks)
+request_due-moved words (Solve file goal steps most) (Solve file' goal' steps' most') text lines status asks also due =
+    let same = solve-unique words file.now goal.now file'.now goal'.now steps steps' most most' asks also in
+    subst (λ (some : List ℕ). IsDue some text goal.now steps most lines status) (sym same.0)
+    (subst (λ (some : List ℕ). IsDue file'.now text some steps most lines status) (sym same.1)
+    (subst (λ (some : ℕ). IsDue file'.now text goal'.now some most lines status) (sym same.2)
+    (subst (λ (some : Option ℕ). IsDue file'.now text goal'.now steps' some lines status) (sym same.3) due)))
+request_due-moved words (Solve file goal steps most) (Check file') text lines status asks also due = absurd (solve-no_check words file.now goal.now file'.now steps most asks also)
+request_due-moved words (Check file) (Solve file' goal' steps most) text lines status asks also due = absurd (solve-no_check words file'.now goal'.now file.now steps most also asks)
 request_due-moved words (Check file) (Check file') text lines status asks also due =
     subst (λ (some : List ℕ). IsCheckDue some text lines status) (sym (check-unique words file.now file'.now asks also)) due
 

@@ -3,7 +3,7 @@ use Rattle.std.specs.Prelude.{◌≡◌, ◌<◌, ◌++◌, ℕ, List, [], Some,
 use Rattle.std.proofs.Common.{arith, ap, slice_index}
 use Rattle.merc_top.specs.Writing.{PutsFront, Puts}
 use Rattle.merc_top.specs.declared.writing.WriteFault.{WriteFault}
-use Rattle.merc_top.proofs.WordsExamples.{differ}
+use Rattle.merc_top.proofs.Options.{differ}
 
 -- behind what the sink held before
 pub PutsFront-example : PutsFront (codes "solutions 1\n") (Some (codes "X = 5\n")) (Some (codes "X = 5\nsolu"))

@@ -1,5 +1,5 @@
 -- The text and the status that are due for given words and files.
-use Rattle.std.specs.Prelude.{◌≡◌, ℕ, suc, zero, ◌<◌, ◌≤◌, ◌⊎◌, List, [], ◌∷◌, ◌++◌, length, map, Option, Some, None, unwrap_or, codes}
+use Rattle.std.specs.Prelude.{◌≡◌, ℕ, suc, zero, ◌<◌, ◌≤◌, ◌⊎◌, List, [], ◌∷◌, ◌++◌, length, map, Option, Some, None, unwrap_or, codes, if◌then◌else◌}
 use Rattle.std.specs.List.{flat_map, zip}
 use Rattle.std.specs.Fmt.{decimal}
 use Rattle.merc_base.specs.Names.{fixed_names}
@@ -18,7 +18,7 @@ use Rattle.merc_meaning.specs.Runs.{run}
 use Rattle.merc_code.specs.Meaning.{shown}
 use Rattle.merc_check.specs.Accepted.{AreGraded, IsGradedGoal, query_answers, query_names}
 use Rattle.merc_check.specs.Checked.{IsAccepted, IsGoal, Refuses, RefusesQuery}
-use Rattle.merc_top.specs.Runs.{answers_of, end_of}
+use Rattle.merc_top.specs.Runs.{answers_of, answers_told, end_of, is_stopped}
 use Rattle.merc_top.specs.Statuses.{accepted_status, solved_status, unsolved_status, raised_status, limit_status, module_status, goal_status, usage_status, unread_status, too_long_status}
 use Rattle.merc_top.specs.Lines.{line, comma_list}
 use Rattle.merc_top.specs.declared.words.Request.{Request}
@@ -47,9 +47,16 @@ module _ (names : List (List ℕ)) where
   end_line count (RunRaised text) = line (codes "uncaught exception: " ++ text_at names text)
   end_line count LimitPassed = line (codes "step limit passed")
 
-  -- the lines of a run whose answers give these variables values: its solutions in order, then its end
-  abbrev pub run_lines : List ℕ → Run → List (List ℕ)
-  run_lines variables run = map (solution_line variables) (answers_of run) ++ end_line (length (answers_of run)) (end_of run) ∷ []
+  -- the last line of a run that is stopped behind so many solutions
+  abbrev pub stopped_line : ℕ → List ℕ
+  stopped_line count = line (codes "stopped after " ++ decimal count)
+
+  abbrev pub last_line : Option ℕ → Run → List ℕ
+  last_line most run = if is_stopped most run then stopped_line (length (answers_told most run)) else end_line (length (answers_of run)) (end_of run)
+
+  -- the lines of a run whose answers give these variables values: its solutions in order, up to a bound where one is given, then its end
+  abbrev pub run_lines : List ℕ → Option ℕ → Run → List (List ℕ)
+  run_lines variables most run = map (solution_line variables) (answers_told most run) ++ last_line most run ∷ []
 
 -- the status of a run with so many solutions
 abbrev pub end_status : ℕ → RunEnd → ℕ
@@ -58,8 +65,8 @@ end_status (suc count) RunDone = solved_status
 end_status count (RunRaised text) = raised_status
 end_status count LimitPassed = limit_status
 
-abbrev pub run_status : Run → ℕ
-run_status run = end_status (length (answers_of run)) (end_of run)
+abbrev pub run_status : Option ℕ → Run → ℕ
+run_status most run = if is_stopped most run then solved_status else end_status (length (answers_of run)) (end_of run)
 
 -- a text of several lines
 abbrev pub text_of : List (List ℕ) → List ℕ
@@ -73,13 +80,9 @@ refusal_line name refusal = line (name ++ codes ":" ++ decimal refusal.place.lin
 abbrev pub too_long_line : List ℕ → List ℕ
 too_long_line name = line (name ++ codes ": longer than 1048576 bytes")
 
--- the steps that a run may take
-unfoldable pub step_limit : ℕ
-step_limit = 1000000
-
--- The run that a goal's text asks for over a file's text, where both are accepted: the table behind both holds these texts of names, and each answer of the run
+-- The run of at most so many steps that a goal's text asks for over a file's text, where both are accepted: the table behind both holds these texts of names, and each answer of the run
 -- gives these variables values, by their names.
-pub record IsAskedRun (file goal : List ℕ) (names : List (List ℕ)) (variables : List ℕ) (asked : Run) : Type 0 where
+pub record IsAskedRun (file goal : List ℕ) (steps : ℕ) (names : List (List ℕ)) (variables : List ℕ) (asked : Run) : Type 0 where
   pub file_names : List (List ℕ)
   pub items : List Term
   pub found : Module
@@ -91,14 +94,14 @@ pub record IsAskedRun (file goal : List ℕ) (names : List (List ℕ)) (variable
   pub goal_is : IsGoal file_names names found goal term
   pub goal_tree : IsGradedGoal names found term (tree ∷ [])
   pub variables_are : variables ≡ query_names names term
-  pub run_is : asked ≡ shown (query_answers names found term) (run (program_with found.preds trees) tree step_limit)
+  pub run_is : asked ≡ shown (query_answers names found term) (run (program_with found.preds trees) tree steps)
 
 -- What is due for a file of this name and text, and a goal. What is wrong with the file comes first, then what is wrong with the goal. Where nothing is, it is
 -- the run's text.
-pub data IsDue (name file goal : List ℕ) : List (List ℕ) → ℕ → Type 0 where
-  module_refused : (refusal : Refusal) → Refuses fixed_names file refusal → IsDue name file goal (refusal_line name refusal ∷ []) module_status
-  goal_refused : (names : List (List ℕ)) (items : List Term) (found : Module) (refusal : Refusal) → IsAccepted fixed_names names file items found → RefusesQuery names found goal refusal → IsDue name file goal (refusal_line (codes "goal") refusal ∷ []) goal_status
-  runs : (names : List (List ℕ)) (variables : List ℕ) (asked : Run) → IsAskedRun file goal names variables asked → IsDue name file goal (run_lines names variables asked) (run_status asked)
+pub data IsDue (name file goal : List ℕ) (steps : ℕ) (most : Option ℕ) : List (List ℕ) → ℕ → Type 0 where
+  module_refused : (refusal : Refusal) → Refuses fixed_names file refusal → IsDue name file goal steps most (refusal_line name refusal ∷ []) module_status
+  goal_refused : (names : List (List ℕ)) (items : List Term) (found : Module) (refusal : Refusal) → IsAccepted fixed_names names file items found → RefusesQuery names found goal refusal → IsDue name file goal steps most (refusal_line (codes "goal") refusal ∷ []) goal_status
+  runs : (names : List (List ℕ)) (variables : List ℕ) (asked : Run) → IsAskedRun file goal steps names variables asked → IsDue name file goal steps most (run_lines names variables most asked) (run_status most asked)
 
 -- What is due for the check of a file of this name and text: what is wrong with it, or its procedures with their categories.
 pub data IsCheckDue (name file : List ℕ) : List (List ℕ) → ℕ → Type 0 where
@@ -108,7 +111,7 @@ pub data IsCheckDue (name file : List ℕ) : List (List ℕ) → ℕ → Type 0 
 
 -- what is due for a request whose file has this text
 abbrev pub IsRequestDue : Request → List ℕ → List (List ℕ) → ℕ → Type 0
-IsRequestDue (Solve file goal) text = IsDue file.now text goal.now
+IsRequestDue (Solve file goal steps most) text = IsDue file.now text goal.now steps most
 IsRequestDue (Check file) text = IsCheckDue file.now text
 
 -- the named file: absent, too long, or read

@@ -3,7 +3,7 @@ use Rattle.std.specs.Prelude.{ℕ, Result, Ok, Err}
 use Rattle.merc_top.specs.declared.writing.Cut.{Cut}
 use Rattle.merc_top.specs.declared.writing.Cut.TheVariants.{Unwritten, NoMemory}
 
--- the run has solutions, and no further one
+-- the run has solutions and no further one, or is stopped behind as many as are wanted
 abbrev pub solved_status : ℕ
 solved_status = 0
 

@@ -6,7 +6,7 @@ ghost use Rattle.merc_top.specs.Output.{IsCheckDue, refusal_line, text_of, too_l
 ghost use Rattle.merc_top.specs.Statuses.{status_told, too_long_status, usage_status};
 ghost use Rattle.merc_top.specs.Words.{usage_line};
 ghost use Rattle.merc_top.specs.Counting.{Counts};
-ghost use Rattle.merc_top.specs.Due.{Finds, IsRequestFound, IsSolveFound};
+ghost use Rattle.merc_top.specs.Due.{Finds, IsRefused, IsRequestFound, IsSolveFound};
 ghost use Rattle.merc_top.specs.Answer.{Answers};
 ghost use Rattle.merc_top.specs.Writing.{Writes};
 
@@ -56,6 +56,18 @@ fn refused(alloc: Global, status: u8, name: &[u8], refusal: &Refusal) -> Result<
     one_line(alloc, status, refusal_line(alloc, name, refusal)?)
 }
 
+// The same, as what is due for a goal.
+fn refused_goal(
+    alloc: Global,
+    status: u8,
+    name: &[u8],
+    refusal: &Refusal,
+) -> Result<Found, NoMemory>
+    ensures { IfOk result (IsRefused status name.now refusal.now) }
+{
+    Ok(Found::Lines(refused(alloc, status, name, refusal)?))
+}
+
 // What is due for words that ask for nothing that there is.
 #[tactic(auto, unfolding(crate::specs::Words::usage_line))]
 fn usage_due(alloc: Global) -> Result<Due, NoMemory>
@@ -71,29 +83,34 @@ fn too_long_due(alloc: Global, name: &[u8]) -> Result<Due, NoMemory>
     one_line(alloc, statuses::TOO_LONG, too_long_line(alloc, name)?)
 }
 
-// What is due for a file of this name and text, and a goal.
-fn find_run(alloc: Global, name: &Text, text: &Text, goal: &Text) -> Result<Found, NoMemory>
+// What is due for a file of this name and text, and a goal, in at most so many steps and with so many answers at most.
+fn find_run(
+    alloc: Global,
+    name: &Text,
+    text: &Text,
+    goal: &Text,
+    steps: u64,
+    most: &Option<u64>,
+) -> Result<Found, NoMemory>
     requires { length text.now ≤ file_limit }
-    ensures { IfOk result (λ found. IsSolveFound name.now text.now goal.now found) }
+    ensures { IfOk result (λ found. IsSolveFound name.now text.now goal.now steps most.now found) }
 {
     let mut names = Names::new(alloc);
     let checked = match check(alloc, text, &mut names) {
         Ok(checked) => checked,
         Err(Fault::Refused(refusal)) => {
-            let due = refused(alloc, statuses::MODULE_REFUSED, name.bytes(), &refusal)?;
-            return Ok(Found::Lines(due));
+            return refused_goal(alloc, statuses::MODULE_REFUSED, name.bytes(), &refusal);
         }
         Err(Fault::NoMemory) => return Err(NoMemory),
     };
     let query = match check_query(alloc, &checked, goal, &mut names) {
         Ok(query) => query,
         Err(Fault::Refused(refusal)) => {
-            let due = refused(alloc, statuses::GOAL_REFUSED, b"goal", &refusal)?;
-            return Ok(Found::Lines(due));
+            return refused_goal(alloc, statuses::GOAL_REFUSED, b"goal", &refusal);
         }
         Err(Fault::NoMemory) => return Err(NoMemory),
     };
-    Ok(Found::Run(prepare(alloc, names, &checked, query)?))
+    Ok(Found::Run(prepare(alloc, names, &checked, query, steps, *most)?))
 }
 
 // Why nothing can be said of what is due.
@@ -140,7 +157,12 @@ fn find_requested(alloc: Global, request: &Request<'_>, text: &Text) -> Result<F
     ensures { IfOk result (λ found. IsRequestFound request.now text.now found) }
 {
     match request {
-        Request::Solve { file, goal } => find_run(alloc, file, text, goal),
+        Request::Solve {
+            file,
+            goal,
+            steps,
+            most,
+        } => find_run(alloc, file, text, goal, *steps, most),
         Request::Check { file } => Ok(Found::Lines(check_due(alloc, file, text)?)),
     }
 }
@@ -189,14 +211,14 @@ fn status_told(written: Result<u8, Cut>) -> u8
 
 /// Does all that the program does, and answers the status that it ends with.
 ///
-/// The words, without the program's own name, are `solve FILE GOAL` or `check FILE`. The whole file is read from the shelf before
-/// anything is written. Then the lines that are due go to the sink in order, each as one piece, and the rest of it again
-/// where less was taken; after a write that failed there is no other. The line of an answer is written before the next
-/// answer is looked for, and no line is kept. The text of each line and the meaning of each status stand in
-/// docs/COMMANDS.md, and what is due in specs/Output.antt:
+/// The words, without the program's own name, are `solve FILE GOAL` with the options `--steps N` and `--max N`, or `check FILE`.
+/// The whole file is read from the shelf before anything is written. Then the lines that are due go to the sink in order, each
+/// as one piece, and the rest of it again where less was taken; after a write that failed there is no other. The line of an
+/// answer is written before the next answer is looked for, and no line is kept. The text of each line and the meaning of each
+/// status stand in docs/COMMANDS.md, and what is due in specs/Output.antt:
 ///
-/// - 0, 1, 2 and 3 are the statuses of a run: it has solutions; it has none; an exception; the step limit. 0 is that of a
-///   module that is checked and accepted as well.
+/// - 0, 1, 2 and 3 are the statuses of a run: it has solutions, or is stopped behind as many as are wanted; it has none; an
+///   exception; the step limit. 0 is that of a module that is checked and accepted as well.
 /// - 4 refuses the module and 5 the goal, and the line says why.
 /// - 6 refuses the words.
 /// - 7: a read failed or no such file is there. Nothing was written.
@@ -205,7 +227,7 @@ fn status_told(written: Result<u8, Cut>) -> u8
 /// - 10: the file has more than 1,048,576 bytes.
 ///
 /// The counter, which is at 0 before, counts the steps of the run: where no read and no write failed and the status is
-/// that of a run, all of them, which specs/Counting.antt says.
+/// that of a run, all of them up to its last answer that is told where it is stopped there, which specs/Counting.antt says.
 ///
 /// The taps get no event yet, and no conjunct enters the gate. The runtime is for the threads of later stages, under
 /// whose bounds the call need not return.

@@ -3,7 +3,7 @@ ghost use Rattle.std.specs.Prelude.{◌≡◌, ◌++◌, ◌<◌, ℕ, suc, List
 ghost use Rattle.merc_meaning.specs.Trace.{LimitPassed, RunDone, RunRaised};
 ghost use Rattle.merc_value.specs.Block.{root_values};
 ghost use Rattle.merc_top.specs.Lines.{comma_list, joined, line};
-ghost use Rattle.merc_top.specs.Output.{binding, bindings, end_line, refusal_line, too_long_line};
+ghost use Rattle.merc_top.specs.Output.{binding, bindings, end_line, refusal_line, stopped_line, too_long_line};
 
 use merc_base::{Name, Names, NoMemory, Refusal, Text};
 use merc_value::{Block, text_of, write_text};
@@ -85,6 +85,16 @@ pub fn solutions_line(alloc: Global, count: u64) -> Result<Text, NoMemory>
     ensures { IfOk result (λ line. (names : List (List ℕ)) → line ≡ end_line names count RunDone) }
 {
     let mut line = Text::of(alloc, b"solutions ")?;
+    line.push(count.to_string(alloc)?.as_bytes())?;
+    line.push(b"\n")?;
+    Ok(line)
+}
+
+/// The end line of a run that is stopped behind so many solutions.
+pub fn stopped_line(alloc: Global, count: u64) -> Result<Text, NoMemory>
+    ensures { IfOk result (λ line. (names : List (List ℕ)) → line ≡ stopped_line names count) }
+{
+    let mut line = Text::of(alloc, b"stopped after ")?;
     line.push(count.to_string(alloc)?.as_bytes())?;
     line.push(b"\n")?;
     Ok(line)

@@ -6,12 +6,12 @@ ghost use Rattle.merc_meaning.specs.Programs.{program_with};
 ghost use Rattle.merc_meaning.specs.Runs.{run as run_of};
 ghost use Rattle.merc_code.specs.Meaning.{shown};
 ghost use Rattle.merc_machine.specs.Running.{HasAnswered};
-ghost use Rattle.merc_top.specs.Output.{end_status, solution_line, step_limit};
+ghost use Rattle.merc_top.specs.Output.{end_status, solution_line};
 ghost use Rattle.merc_top.specs.Ready.{IsReady, Makes};
 ghost use Rattle.merc_top.specs.Solving.{Solves};
 ghost use Rattle.merc_top.specs.Writing.{Writes};
 
-use crate::lines::{exception_line, solution_line, solutions_line, step_limit_line};
+use crate::lines::{exception_line, solution_line, solutions_line, step_limit_line, stopped_line};
 use crate::statuses;
 use crate::writing::{Cut, put_line};
 use merc_base::{Name, Names, NoMemory, Sequence, Sink, Text};
@@ -20,9 +20,6 @@ use merc_gen::generate;
 use merc_load::{Loaded, load};
 use merc_machine::{Machine, Stop, Ticks};
 use std::alloc::Global;
-
-/// The steps that a run may take.
-pub const STEP_LIMIT: u64 = 1_000_000;
 
 // The most steps that a machine makes at once.
 const SLICE: u32 = u32::MAX;
@@ -36,17 +33,23 @@ pub struct Ready {
     pub variables: Sequence<Name>,
     /// The code of the module and of the goal.
     pub program: Loaded,
+    /// The steps that the run may take.
+    pub steps: u64,
+    /// The answers behind which the run is stopped, where a number of them is given.
+    pub most: Option<u64>,
 }
 
-/// Makes ready the run of an accepted goal over an accepted module.
+/// Makes ready the run of an accepted goal over an accepted module, in at most so many steps and with so many answers at most.
 pub fn prepare(
     alloc: Global,
     names: Names,
     checked: &Checked,
     query: Query,
+    steps: u64,
+    most: Option<u64>,
 ) -> Result<Ready, NoMemory>
     requires { length query.trees ≡ 1 }
-    ensures { IfOk result (λ ready. (tree : Node) → query.trees ≡ tree ∷ [] → IsReady names query.names (shown query.answers (run_of (program_with checked.now.module.preds checked.now.trees) tree step_limit)) ready) }
+    ensures { IfOk result (λ ready. (tree : Node) → query.trees ≡ tree ∷ [] → IsReady names query.names most (shown query.answers (run_of (program_with checked.now.module.preds checked.now.trees) tree steps)) ready) }
 {
     let answers = query.answers;
     let variables = query.names;
@@ -60,10 +63,13 @@ pub fn prepare(
         names,
         variables,
         program: load(alloc, code)?,
+        steps,
+        most,
     })
 }
 
-/// Runs a goal, and writes the line of each answer as it comes, and the end line last. Answers the status of the run.
+/// Runs a goal, and writes the line of each answer as it comes, and the end line last. Behind the last answer that is wanted
+/// nothing further is looked for. Answers the status of the run.
 pub fn run<K: Sink>(
     alloc: Global,
     ready: &Ready,
@@ -72,11 +78,15 @@ pub fn run<K: Sink>(
 ) -> Result<u8, Cut>
     requires sink { K.write_faults sink.old < 18446744073709551615 }
     requires makes { (asked : Run) × Makes ready.now asked }
-    ensures { (asked : Run) → Makes ready.now asked → Solves ready.now.names ready.now.variables asked (K.written sink.old) (K.written sink.new) (K.write_faults sink.old) (K.write_faults sink.new) ticks.old ticks.new result }
+    ensures { (asked : Run) → Makes ready.now asked → Solves ready.now.names ready.now.variables ready.now.most asked (K.written sink.old) (K.written sink.new) (K.write_faults sink.old) (K.write_faults sink.new) ticks.old ticks.new result }
 {
-    let mut machine = Machine::start(alloc, &ready.program, STEP_LIMIT)?;
+    let mut machine = Machine::start(alloc, &ready.program, ready.steps)?;
     let mut count = 0;
     for _ in 0..u64::MAX {
+        if ready.most == Some(count) {
+            let line = stopped_line(alloc, count)?;
+            return put_end(sink, statuses::SOLVED, &line);
+        }
         match machine.run(SLICE, ticks) {
             Stop::Answer => {
                 put_answer(alloc, ready, &machine, sink)?;

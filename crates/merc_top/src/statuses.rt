@@ -1,6 +1,6 @@
 //! The statuses that the program ends with.
 
-/// The run has solutions, and no further one.
+/// The run has solutions and no further one, or is stopped behind as many as are wanted.
 pub const SOLVED: u8 = 0;
 /// The module that is checked breaks no rule.
 pub const ACCEPTED: u8 = 0;

@@ -1,14 +1,13 @@
 -- A file or a goal that breaks a rule is refused by that rule; else the run is made ready.
-use Rattle.std.proofs.Common.{◌≤◌, ◌∙◌, arith, lit<, subst, sym, codes, [], ◌∷◌, refl, List, ℕ, length}
-use Rattle.merc_base.specs.Names.{fixed_names}
+use Rattle.std.proofs.Common.{◌≤◌, arith, lit<, subst, codes, refl, List, ℕ, length}
+use Rattle.std.proofs.lemmas.Result.{IfOk-weaker}
 use Rattle.merc_base.specs.declared.refusal.Fault.{Fault}
 use Rattle.merc_terms.specs.Items.{IsRefusal}
 use Rattle.merc_check.specs.Checked.{IsAccepted, Refuses, RefusesQuery}
 use Rattle.merc_top.specs.Loading.{file_limit}
 use Rattle.merc_top.specs.Statuses.{module_status, goal_status}
-use Rattle.merc_top.specs.Output.{refusal_line}
 use Rattle.merc_top.specs.Output.IsDue.{module_refused, goal_refused}
-use Rattle.merc_top.proofs.Dues.{line_by, one-goal, refused-found, run-found}
+use Rattle.merc_top.proofs.Dues.{one-goal, refused-goal, run-found}
 use Rattle.merc_top.proofs.answering.find_run.Goals as goal
 
 pub check-requires-clause-length : goal.check-requires-clause-length
@@ -20,10 +19,11 @@ returns-in-Err-Refused c =
     let refusal = c.in-Err-Refused.refusal in
     let refuses =
     subst (λ (fault : Fault). IsRefusal (Refuses c.new-names.result c.args.text.now) fault) c.in-Err-Refused.field-0-is c.in-Err-Refused.ensures.refused in
-    let line = line_by c.bytes.result.now c.args.name.now refusal refusal _ refl c.bytes.ensures refl in
-    let is = c.in_ok-due-in-Err-Refused.ensures in
-    refused-found c.args.name.now c.args.text.now c.args.goal.now c.in_ok-due-in-Err-Refused.due (refusal_line c.args.name.now refusal ∷ []) module_status (is.0 ∙ line) is.1 (lit< tt)
-    (module_refused refusal (subst (λ (names : List (List ℕ)). Refuses names c.args.text.now refusal) c.new-names.ensures refuses))
+    let due = module_refused refusal (subst (λ (names : List (List ℕ)). Refuses names c.args.text.now refusal) c.new-names.ensures refuses) in
+    IfOk-weaker c.refused_goal.result _ _
+    (λ found is.
+    refused-goal c.args.name.now c.args.text.now c.args.goal.now c.bytes.result.now c.args.name.now c.args.steps c.args.most.now refusal module_status found c.bytes.ensures (lit< tt) due is)
+    c.refused_goal.ensures
 
 pub prepare-requires : goal.prepare-requires
 prepare-requires c =
@@ -41,7 +41,7 @@ returns c =
     let is_module =
     subst (λ (names : List (List ℕ)). IsAccepted names c.check.new.names c.args.text.now checked.items checked.module) c.new-names.ensures c.in-Ok.ensures.accepted in
     run-found c.args.text.now c.args.goal.now c.check.new.names c.check_query.new.names checked.items checked.module checked.trees query.goal query.trees is_module
-    c.in-Ok-check_query.ensures.accepted c.in-Ok-check_query.ensures.graded c.args.name.now query.names query.answers c.in_ok-prepare.field-0
+    c.in-Ok-check_query.ensures.accepted c.in-Ok-check_query.ensures.graded c.args.name.now c.args.steps c.args.most.now query.names query.answers c.in_ok-prepare.field-0
     c.in-Ok.ensures.graded c.in-Ok-check_query.ensures.names c.in-Ok-check_query.ensures.answers c.in_ok-prepare.ensures
 
 pub returns-in-Err-Refused-check_query : goal.returns-in-Err-Refused-check_query
@@ -52,7 +52,8 @@ returns-in-Err-Refused-check_query c =
     subst (λ (names : List (List ℕ)). IsAccepted names c.check.new.names c.args.text.now c.in-Ok.checked.items found) c.new-names.ensures c.in-Ok.ensures.accepted in
     let refuses =
     subst (λ (fault : Fault). IsRefusal (RefusesQuery c.check.new.names found c.args.goal.now) fault) c.in-Err-Refused-check_query.field-0-is c.in-Err-Refused-check_query.ensures.refused in
-    let line = line_by (codes "goal") (codes "goal") refusal refusal _ refl refl refl in
-    let is = c.in_ok-due-in-Err-Refused-check_query.ensures in
-    refused-found c.args.name.now c.args.text.now c.args.goal.now c.in_ok-due-in-Err-Refused-check_query.due (refusal_line (codes "goal") refusal ∷ []) goal_status (is.0 ∙ line) is.1 (lit< tt)
-    (goal_refused c.check.new.names c.in-Ok.checked.items found refusal is_module refuses)
+    IfOk-weaker c.refused_goal-in-Err-Refused-check_query.result _ _
+    (λ answer is.
+    refused-goal c.args.name.now c.args.text.now c.args.goal.now (codes "goal") (codes "goal") c.args.steps c.args.most.now refusal goal_status answer refl (lit< tt)
+    (goal_refused c.check.new.names c.in-Ok.checked.items found refusal is_module refuses) is)
+    c.refused_goal-in-Err-Refused-check_query.ensures
