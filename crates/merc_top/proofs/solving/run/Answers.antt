@@ -12,7 +12,7 @@ loop-init g c = λ asked makes.
     (c.in_ok-machine.ensures makes.codes makes.query makes.program asked makes.yields)
 
 pub run-requires-clause-means : goal.run-requires-clause-means
-run-requires-clause-means g c = let kept = c.loop.invariant c.requires.makes.0 c.requires.makes.1 in (kept.rest, kept.means)
+run-requires-clause-means g c = λ open. let kept = c.loop.invariant c.requires.makes.0 c.requires.makes.1 in (kept.rest, kept.means)
 
 -- As many answers are told as are wanted.
 pub returns-in_err-line : goal.returns-in_err-line
@@ -39,7 +39,7 @@ returns-in_err-put_answer-in-Answer g c =
     let cut = err_from_is_err_and c.from_residual-in_err-put_answer-in-Answer.result c.from_residual-in_err-put_answer-in-Answer.ensures.1 in
     rw (cut.1, cut.2) (λ asked makes.
     let kept = c.loop.invariant asked makes in
-    let ran = c.in-Answer.ensures kept.rest kept.means in
+    let ran = c.in-Answer.ensures.ran kept.rest kept.means in
     answer-cut c.args.ready.now.names c.args.ready.now.variables c.args.ready.now.most asked c.loop.machine (g.K.Sink.written c.args.sink.now) (g.K.Sink.written c.loop.sink)
     (g.K.Sink.write_faults c.args.sink.now) (g.K.Sink.write_faults c.loop.sink) c.args.ticks.now c.loop.ticks c.loop.count
     kept (not_enough c.args.ready.now.most c.loop.count c.if-eq.ensures) c.run.new.self ran.1 ran.2 ran.0 c.run.new.ticks ran.4.whole ran.5 ran.4.counts _ _ c.in_err-put_answer-in-Answer.field-0.0
@@ -50,7 +50,7 @@ returns-in_err-count-in-Answer g c =
     let cut = err_from_is_err_and c.from_residual-in_err-count-in-Answer.result c.from_residual-in_err-count-in-Answer.ensures.1 in
     rw (cut.1, cut.2) (λ asked makes.
     let kept = c.loop.invariant asked makes in
-    let ran = c.in-Answer.ensures kept.rest kept.means in
+    let ran = c.in-Answer.ensures.ran kept.rest kept.means in
     let wrote = c.in_ok-put_answer-in-Answer.ensures ran.1 ran.6 in
     progress-cut c.args.ready.now.names c.args.ready.now.variables c.args.ready.now.most asked c.run.new.self (g.K.Sink.written c.args.sink.now) (g.K.Sink.written c.put_answer.new.sink)
     (g.K.Sink.write_faults c.args.sink.now) (g.K.Sink.write_faults c.put_answer.new.sink) c.args.ticks.now c.run.new.ticks _
@@ -70,7 +70,7 @@ put_end-requires-in-Ended g c = let kept = c.loop.invariant c.requires.makes.0 c
 pub returns-in-Ended : goal.returns-in-Ended
 returns-in-Ended g c = λ asked makes.
     let kept = c.loop.invariant asked makes in
-    let ran = c.in-Ended.ensures kept.rest kept.means in
+    let ran = c.in-Ended.ensures.ran kept.rest kept.means in
     solves-end c.args.ready.now.names c.args.ready.now.variables c.args.ready.now.most asked c.loop.machine (g.K.Sink.written c.args.sink.now) (g.K.Sink.written c.loop.sink)
     (g.K.Sink.write_faults c.args.sink.now) (g.K.Sink.write_faults c.loop.sink) c.args.ticks.now c.loop.ticks c.loop.count
     kept (not_enough c.args.ready.now.most c.loop.count c.if-eq.ensures) RunDone ran.0 c.run.new.ticks ran.2.whole ran.2.counts _ _ _ _ c.put_end-in-Ended.result
@@ -88,7 +88,7 @@ put_end-requires-in-Raised g c = let kept = c.loop.invariant c.requires.makes.0 
 pub returns-in-Raised : goal.returns-in-Raised
 returns-in-Raised g c = λ asked makes.
     let kept = c.loop.invariant asked makes in
-    let ran = c.in-Raised.ensures kept.rest kept.means in
+    let ran = c.in-Raised.ensures.ran kept.rest kept.means in
     solves-end c.args.ready.now.names c.args.ready.now.variables c.args.ready.now.most asked c.loop.machine (g.K.Sink.written c.args.sink.now) (g.K.Sink.written c.loop.sink)
     (g.K.Sink.write_faults c.args.sink.now) (g.K.Sink.write_faults c.loop.sink) c.args.ticks.now c.loop.ticks c.loop.count
     kept (not_enough c.args.ready.now.most c.loop.count c.if-eq.ensures) (RunRaised c.in-Raised.text) ran.0 c.run.new.ticks ran.2.whole ran.2.counts _ _ _ _ c.put_end-in-Raised.result
@@ -106,7 +106,7 @@ put_end-requires-in-LimitPassed g c = let kept = c.loop.invariant c.requires.mak
 pub returns-in-LimitPassed : goal.returns-in-LimitPassed
 returns-in-LimitPassed g c = λ asked makes.
     let kept = c.loop.invariant asked makes in
-    let ran = c.in-LimitPassed.ensures kept.rest kept.means in
+    let ran = c.in-LimitPassed.ensures.ran kept.rest kept.means in
     solves-end c.args.ready.now.names c.args.ready.now.variables c.args.ready.now.most asked c.loop.machine (g.K.Sink.written c.args.sink.now) (g.K.Sink.written c.loop.sink)
     (g.K.Sink.write_faults c.args.sink.now) (g.K.Sink.write_faults c.loop.sink) c.args.ticks.now c.loop.ticks c.loop.count
     kept (not_enough c.args.ready.now.most c.loop.count c.if-eq.ensures) LimitPassed ran.0 c.run.new.ticks ran.2.whole ran.2.counts _ _ _ _ c.put_end-in-LimitPassed.result
@@ -115,7 +115,7 @@ returns-in-LimitPassed g c = λ asked makes.
 pub loop-preserved : goal.loop-preserved
 loop-preserved g c = λ asked makes.
     let kept = c.loop.invariant asked makes in
-    let ran = c.in-Answer.ensures kept.rest kept.means in
+    let ran = c.in-Answer.ensures.ran kept.rest kept.means in
     let wrote = c.in_ok-put_answer-in-Answer.ensures ran.1 ran.6 in
     rw c.in_ok-count-in-Answer.ensures
     (progress-answered c.args.ready.now.names c.args.ready.now.variables c.args.ready.now.most asked c.loop.machine (g.K.Sink.written c.args.sink.now) (g.K.Sink.written c.loop.sink)
@@ -125,7 +125,7 @@ loop-preserved g c = λ asked makes.
 pub loop-preserved-in-SliceOver : goal.loop-preserved-in-SliceOver
 loop-preserved-in-SliceOver g c = λ asked makes.
     let kept = c.loop.invariant asked makes in
-    let ran = c.in-SliceOver.ensures kept.rest kept.means in
+    let ran = c.in-SliceOver.ensures.ran kept.rest kept.means in
     progress-moved c.args.ready.now.names c.args.ready.now.variables c.args.ready.now.most asked c.loop.machine (g.K.Sink.written c.args.sink.now) (g.K.Sink.written c.loop.sink)
     (g.K.Sink.write_faults c.args.sink.now) (g.K.Sink.write_faults c.loop.sink) c.args.ticks.now c.loop.ticks c.loop.count
     kept (not_enough c.args.ready.now.most c.loop.count c.if-eq.ensures) c.run.new.self ran.0 4294967295 c.run.new.ticks ran.1.whole ran.2 ran.1.counts
