@@ -12,7 +12,7 @@ loop-init g c = λ asked makes.
     (c.in_ok-machine.ensures makes.codes makes.query makes.program asked makes.yields)
 
 pub run-requires-clause-means : goal.run-requires-clause-means
-run-requires-clause-means g c = λ open. let kept = c.loop.invariant c.requires.makes.0 c.requires.makes.1 in (kept.rest, kept.means)
+run-requires-clause-means g c = λ running. let kept = c.loop.invariant c.requires.makes.0 c.requires.makes.1 in (kept.rest, kept.means)
 
 -- As many answers are told as are wanted.
 pub returns-in_err-line : goal.returns-in_err-line
