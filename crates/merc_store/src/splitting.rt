@@ -31,6 +31,7 @@ impl Store {
         }
     }
 
+    #[inline(always)]
     pub(crate) fn split(&mut self, whole: Var, symbol: Symbol, variables: &[Var]) -> Done
         ensures { Does self.old self.new (Instruction.Split whole symbol variables.now) result }
     {

@@ -26,6 +26,7 @@ impl Store {
         }
     }
 
+    #[inline(always)]
     pub(crate) fn operate(&mut self, operation: Operation, to: Var, one: Var, other: Var) -> Done
         ensures { Does self.old self.new (Instruction.Arithmetic operation to one other) result }
     {
