@@ -6,6 +6,7 @@ pub mod Reversed
 pub mod Entering
 pub mod Choices
 pub mod Returning
+pub mod HandingExamples
 pub mod SlotLaws
 pub mod SlotsExamples
 pub mod StacksExamples

@@ -1,3 +1,4 @@
+pub mod Handing
 pub mod Slots
 pub mod Stacks
 pub mod View

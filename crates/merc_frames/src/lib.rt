@@ -4,7 +4,9 @@
 mod copying;
 pub mod frames;
 mod kept;
+pub mod passing;
 pub mod slot;
 
 pub use frames::{Backed, Frames};
+pub use passing::Pass;
 pub use slot::Slot;

@@ -6,9 +6,8 @@ mod entries;
 mod linking;
 pub mod loaded;
 mod loading;
-pub mod passing;
+mod passing;
 mod sizes;
 
 pub use loaded::{Arm, Entry, Loaded, Op};
 pub use loading::load;
-pub use passing::Pass;

@@ -1,13 +1,13 @@
 //! What goes from one frame to another: the first slots each by itself, the others on a list.
 ghost use Rattle.std.specs.Prelude.{◌≡◌, drop, slice_get, map, IfOk, OnOk};
 ghost use Rattle.std.specs.Option.{option_copied};
-ghost use Rattle.merc_store.specs.Moves.{carried, delivered, slot_or_empty};
+ghost use Rattle.merc_frames.specs.Handing.{carried, delivered, slot_or_empty};
 ghost use Rattle.merc_store.specs.Carrying.{begun, Gathers, handed, put_at, slot_from};
 
 use merc_base::NoMemory;
 use merc_frames::{Frames, Slot};
 use merc_goal_tree::Var;
-use merc_load::Pass;
+use merc_frames::Pass;
 
 /// The slots of the first inputs that a call passes; nothing for those that there are not.
 #[derive(Clone, Copy)]

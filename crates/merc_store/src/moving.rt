@@ -4,7 +4,8 @@ ghost use Rattle.merc_frames.specs.Stacks.{Caller, GoesOn, caller_place, oldest,
 ghost use Rattle.merc_frames.specs.declared.slot.Slot.{Slot};
 ghost use Rattle.merc_store.specs.Data.{with_choices, with_current};
 ghost use Rattle.merc_store.specs.Fitting.{slot_mark};
-ghost use Rattle.merc_store.specs.Moves.{Calls, CallsLast, GoesBack, Returns, empty_frame};
+ghost use Rattle.merc_frames.specs.Handing.{empty_frame};
+ghost use Rattle.merc_store.specs.Moves.{Calls, CallsLast, GoesBack, Returns};
 
 use crate::carrying::{deliver_inputs, deliver_outputs, gather_inputs, gather_outputs, slot_at};
 use crate::store::{Backed, Store};
@@ -12,7 +13,7 @@ use merc_base::NoMemory;
 use merc_frames::Slot;
 use merc_goal_tree::Var;
 use merc_heap::Mark;
-use merc_load::Pass;
+use merc_frames::Pass;
 
 impl Store {
     /// Begins anew: no cells, a current frame of so many empty slots, no callers and no choice points.

@@ -1,7 +1,7 @@
 use Rattle.std.proofs.Common.{◌≡◌}
 use Rattle.std.specs.Iterator.Adapters.{zip_first, zip_second}
 use Rattle.std.specs.Slice.Iter.{iter_rest}
-use Rattle.merc_store.specs.Moves.{delivered}
+use Rattle.merc_frames.specs.Handing.{delivered}
 use Rattle.merc_store.proofs.CarryingLaws.{with_slots}
 use Rattle.merc_store.proofs.carrying.deliver.Given as goal
 

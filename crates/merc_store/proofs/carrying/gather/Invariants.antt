@@ -1,5 +1,5 @@
 use Rattle.std.proofs.Common.{◌≡◌, ◌++◌, drop}
-use Rattle.merc_store.specs.Moves.{carried}
+use Rattle.merc_frames.specs.Handing.{carried}
 use Rattle.merc_store.proofs.carrying.gather.Given as goal
 
 abbrev pub invariant-loop-variable : goal.invariant-loop-variable

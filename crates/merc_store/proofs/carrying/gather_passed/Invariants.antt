@@ -1,6 +1,6 @@
 use Rattle.std.proofs.Common.{◌≡◌, ◌++◌, drop, map}
-use Rattle.merc_load.specs.declared.passing.Pass.{Pass}
-use Rattle.merc_store.specs.Moves.{carried}
+use Rattle.merc_frames.specs.declared.passing.Pass.{Pass}
+use Rattle.merc_frames.specs.Handing.{carried}
 use Rattle.merc_store.proofs.carrying.gather_passed.Given as goal
 
 abbrev pub invariant-loop-pass : goal.invariant-loop-pass
