@@ -5,9 +5,8 @@ ghost use Rattle.merc_frames.specs.Handing.{carried, delivered, slot_or_empty};
 ghost use Rattle.merc_store.specs.Carrying.{begun, Gathers, handed, put_at, slot_from};
 
 use merc_base::NoMemory;
-use merc_frames::{Frames, Slot};
+use merc_frames::{Frames, Pass, Slot};
 use merc_goal_tree::Var;
-use merc_frames::Pass;
 
 /// The slots of the first inputs that a call passes; nothing for those that there are not.
 #[derive(Clone, Copy)]

@@ -10,10 +10,9 @@ ghost use Rattle.merc_store.specs.Moves.{Calls, CallsLast, GoesBack, Returns};
 use crate::carrying::{deliver_inputs, deliver_outputs, gather_inputs, gather_outputs, slot_at};
 use crate::store::{Backed, Store};
 use merc_base::NoMemory;
-use merc_frames::Slot;
+use merc_frames::{Pass, Slot};
 use merc_goal_tree::Var;
 use merc_heap::Mark;
-use merc_frames::Pass;
 
 impl Store {
     /// Begins anew: no cells, a current frame of so many empty slots, no callers and no choice points.
