@@ -14,7 +14,21 @@ impl Heap {
     ///
     /// Equal words are told at once. Else the cost is the number of arguments of the pairs of cells that are met, in
     /// which a pair counts once however often it is met: for two values without sharing, at most their size.
+    #[inline(always)]
     pub fn equal(&self, one: Word, other: Word) -> Result<bool, NoMemory>
+        requires one { IsBelow (length self.now) one }
+        requires other { IsBelow (length self.now) other }
+        ensures { IfOk result (λ same. IsTrue same ↔ (value_of self.now one ≡ value_of self.now other)) }
+    {
+        match (one, other) {
+            // the usual case, which needs no look at the cells
+            (Word::Int(number), Word::Int(other_number)) => Ok(number == other_number),
+            _ => self.equal_values(one, other),
+        }
+    }
+
+    // The same, by the cells that the words lead to.
+    fn equal_values(&self, one: Word, other: Word) -> Result<bool, NoMemory>
         requires one { IsBelow (length self.now) one }
         requires other { IsBelow (length self.now) other }
         ensures { IfOk result (λ same. IsTrue same ↔ (value_of self.now one ≡ value_of self.now other)) }

@@ -10,6 +10,7 @@ use merc_goal_tree::{Comparison, Operation, Var};
 use merc_value::Word;
 
 impl Store {
+    #[inline(always)]
     pub(crate) fn test(&self, one: Var, other: Var) -> Result<Done, NoMemory>
         ensures { IfOk result (Does self.now self.now (Instruction.Test one other)) }
     {
@@ -42,6 +43,7 @@ impl Store {
         }
     }
 
+    #[inline(always)]
     pub(crate) fn compare(&self, comparison: Comparison, one: Var, other: Var) -> Done
         ensures { Does self.now self.now (Instruction.Compare comparison one other) result }
     {
