@@ -67,7 +67,8 @@ pub fn typing<'a>(
         return Ok(None);
     }
     let mut repeats = Repeats::new(alloc);
-    for index in 0..goal.part_count() {
+    let count = goal.part_count();
+    for index in 0..count {
         match goal.part(index) {
             Some((part, _)) => {
                 if !repeats.is_repeated(goal, index, part)? {

@@ -56,8 +56,8 @@ returns-then-not-done-2-clause-none c =
 
 pub unreachable-requires : goal.unreachable-requires
 unreachable-requires c =
-    let less : c.loop-index.index < c.part_count-index-end.result = c.loop-index-test.true in
-    let same = c.part_count-index-end.ensures in
+    let less = c.loop-index-test.true in
+    let same = c.part_count-count.ensures in
     some_there (parts_of c.args.goal.now) c.loop-index.index c.in-None.ensures (omega arith)
 
 pub loop-index-preserved : goal.loop-index-preserved
@@ -87,7 +87,7 @@ loop-index-preserved c =
 pub returns-clause-some : goal.returns-clause-some
 returns-clause-some c =
     let less = c.loop-index-test.false in
-    let same = c.part_count-index-end.ensures in
+    let same = c.part_count-count.ensures in
     IfOk-weaker c.into_typing.result _ _
     (λ found yields. typing_found found c.loop-index.checker c.args.known.now (head_of c.args.known.now c.args.predicate) c.args.goal.now c.loop-index.index (omega arith)
     c.loop-index.invariant.knows yields)
