@@ -1,6 +1,7 @@
 -- What the check tells in the end.
-use Rattle.std.proofs.Common.{◌≡◌, ℕ, zero, suc, ◌+◌, ◌<◌, ◌≤◌, Bool, true, false, Some, List, [], ◌∷◌, length, take, sym, subst, add-one, arith}
-use Rattle.std.specs.Prelude.{slice_get}
+use Rattle.std.proofs.Common.{◌≡◌, ℕ, zero, suc, ◌+◌, ◌<◌, ◌≤◌, true, Option, Some, None, List, [], ◌∷◌, length, take, sym, subst, add-one, arith}
+use Rattle.std.specs.Prelude.{slice_get, is_some}
+use Rattle.std.specs.Option.{IfSome, IfNone}
 use Rattle.std.specs.List.{AllByRecursion}
 use Rattle.std.proofs.lemmas.List.{take_all}
 use Rattle.merc_base.specs.declared.place.Span.{Span}
@@ -10,10 +11,11 @@ use Rattle.merc_goal_tree.specs.declared.entries.Root.{Root}
 use Rattle.merc_goal_tree.specs.declared.entries.Root.TheVariants.{Simple, Conjunction, Parallel, Disjunction, Conditional, Negation, Quantified}
 use Rattle.merc_goal_tree.specs.Nodes.{Node}
 use Rattle.merc_goal_tree.specs.Parts.{parts_of}
-use Rattle.merc_type_graph.specs.Changes.{Decides}
 use Rattle.merc_type_check.specs.declared.checker.Checker.{Checker}
-use Rattle.merc_type_check.specs.Progress.{Types, Fits, Step, Refuses, GoalStep, GoalRefuses, Knows}
-use Rattle.merc_type_check.specs.Typing.{AreArguments, IsTypedPart, HasTyping}
+use Rattle.merc_type_check.specs.declared.typings.Typing.{Typing}
+use Rattle.merc_type_check.specs.Progress.{Types, Fits, Holds, Step, Refuses, GoalStep, GoalRefuses, Knows, Yields}
+use Rattle.merc_type_check.specs.Typing.{AreArguments, IsTyped, IsTypedPart, HasTyping}
+use Rattle.merc_type_check.specs.Typings.{IsTypingOf}
 use Rattle.merc_type_check.specs.Checked.{Tells}
 use Rattle.merc_type_check.specs.Repeats.{IsRepeated}
 use Rattle.merc_type_check.proofs.Steps.{types_read, types_read_agree, plain_goal_takes}
@@ -129,13 +131,50 @@ part_repeated checker known arguments goal k root span part_is repeated knows =
     })
 
 -- all parts
-pub told : (solvable : Bool) (checker : Checker) (known : Module) (arguments : List TypeExpr) (goal : Node) (k : ℕ) → length (parts_of goal) ≤ k
-    → Knows checker (IsTypedUpTo known arguments goal k) → Decides solvable checker.graph.entries → Tells solvable known arguments goal
-told true checker known arguments goal k all knows decides =
-    let types : Types = types_read checker.variables decides.0 in
-    let typed = knows.back decides.0 types (record { solved = decides.1; variables = types_read_agree checker.variables decides.0 }) in
-    (types, record { head = typed.head; parts = subst (AllByRecursion (IsTypedPart known types)) (take_all k (parts_of goal) all) typed.parts })
-told false checker known arguments goal k all knows decides = λ typing.
-    let types : Types = typing.0 in
-    let before = knows.forth types (record { head = typing.1.head; parts = part_front (IsTypedPart known types) k (parts_of goal) typing.1.parts }) in
-    decides before.0 before.1.solved
+whole_typed : (known : Module) (arguments : List TypeExpr) (goal : Node) (k : ℕ) (types : Types) → length (parts_of goal) ≤ k
+    → IsTypedUpTo known arguments goal k types → IsTyped known types arguments goal
+whole_typed known arguments goal k types all typed = record {
+  head = typed.head;
+  parts = subst (AllByRecursion (IsTypedPart known types)) (take_all k (parts_of goal) all) typed.parts;
+}
+
+typed_front : (known : Module) (arguments : List TypeExpr) (goal : Node) (k : ℕ) (types : Types) → IsTyped known types arguments goal
+    → IsTypedUpTo known arguments goal k types
+typed_front known arguments goal k types typed = record {
+  head = typed.head;
+  parts = part_front (IsTypedPart known types) k (parts_of goal) typed.parts;
+}
+
+-- what is known in the end goes on as a typing
+pub typing_found : (found : Option Typing) (checker : Checker) (known : Module) (arguments : List TypeExpr) (goal : Node) (k : ℕ) → length (parts_of goal) ≤ k
+    → Knows checker (IsTypedUpTo known arguments goal k) → Yields checker found → IfSome found (λ typing. IsTypingOf typing known arguments goal)
+typing_found None checker known arguments goal k all knows yields = tt
+typing_found (Some typing) checker known arguments goal k all knows yields = record {
+  there = λ number. rw (yields.2, yields.1) (knows.sound.variables number);
+  solvable = rw (yields.1) yields.0;
+  sound = λ places types solution.
+      let holds : Holds checker places types = record {
+        solved = rw (← yields.1) solution.solved;
+        variables = rw (← yields.2) solution.variables;
+      } in
+      whole_typed known arguments goal k types all (knows.back places types holds);
+  complete = λ types typed.
+      let holds = knows.forth types (typed_front known arguments goal k types typed) in
+      (holds.0, record { solved = rw (yields.1) holds.1.solved; variables = rw (yields.2) holds.1.variables });
+}
+
+pub none_found : (found : Option Typing) (checker : Checker) (known : Module) (arguments : List TypeExpr) (goal : Node) (k : ℕ)
+    → Knows checker (IsTypedUpTo known arguments goal k) → Yields checker found → IfNone found (HasTyping known arguments goal → ⊥)
+none_found (Some typing) checker known arguments goal k knows yields = tt
+none_found None checker known arguments goal k knows yields = λ typing.
+    let holds = knows.forth typing.0 (typed_front known arguments goal k typing.0 typing.1) in
+    yields holds.0 holds.1.solved
+
+-- a goal is typed where it has a typing
+pub told : (found : Option Typing) (known : Module) (arguments : List TypeExpr) (goal : Node) → IfSome found (λ typing. IsTypingOf typing known arguments goal)
+    → IfNone found (HasTyping known arguments goal → ⊥) → Tells (is_some found) known arguments goal
+told None known arguments goal some none = none
+told (Some typing) known arguments goal some none =
+    let places : Types = some.solvable.0 in
+    let types : Types = types_read typing.variables places in
+    (types, some.sound places types (record { solved = some.solvable.1; variables = types_read_agree typing.variables places }))

@@ -1,4 +1,6 @@
 pub mod Typing
+pub mod Typings
+pub mod TypingsExamples
 pub mod Checked
 pub mod TypeNumbers
 pub mod TypingExamples

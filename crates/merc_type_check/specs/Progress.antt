@@ -1,12 +1,13 @@
 -- What is known of the types of variables, and of what type variables stand for, while the parts of a goal are gone through.
-use Rattle.std.specs.Prelude.{◌≡◌, ℕ, ◌<◌, ◌≤◌, Bool, true, false, List, length, map, None}
+use Rattle.std.specs.Prelude.{◌≡◌, ℕ, ◌<◌, ◌≤◌, Bool, true, false, List, length, map, Option, Some, None}
 use Rattle.std.specs.Option.{IfSome}
 use Rattle.std.specs.Ordering.{nat_cmp}
 use Rattle.std.specs.BTreeMap.{BTreeMap, get}
 use Rattle.merc_tree.specs.Types.{TypeExpr}
 use Rattle.merc_type_graph.specs.Solutions.{Entry, Solves}
-use Rattle.merc_type_graph.specs.Changes.{AllWithin}
+use Rattle.merc_type_graph.specs.Changes.{AllWithin, Decides}
 use Rattle.merc_type_check.specs.declared.checker.Checker.{Checker}
+use Rattle.merc_type_check.specs.declared.typings.Typing.{Typing}
 
 -- types by numbers: of places, of variables, or of what type variables stand for
 abbrev pub Types : Type 0
@@ -106,3 +107,8 @@ pub record Knows (checker : Checker) (Asked : Types → Type 0) : Type 0 where
   pub sound : IsSound checker
   pub back : (places types : Types) → Holds checker places types → Asked types
   pub forth : (types : Types) → Asked types → (places : Types) × Holds checker places types
+
+-- The equations and the places of variables go on as a typing where something solves them.
+abbrev pub Yields : Checker → Option Typing → Type 0
+Yields checker None = Decides false checker.graph.entries
+Yields checker (Some typing) = Decides true checker.graph.entries × (typing.graph ≡ checker.graph) × (typing.variables ≡ checker.variables)

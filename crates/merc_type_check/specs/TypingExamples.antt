@@ -108,7 +108,7 @@ depth (TypeVariable name) = 0
 depth IntType = 0
 depth TextType = 0
 
-apart : (type : TypeExpr) → type ≡ maybe type → ⊥
+pub apart : (type : TypeExpr) → type ≡ maybe type → ⊥
 unfolding depth
 apart type same = let e : depth type ≡ suc (depth type) = ap depth same in omega arith
 

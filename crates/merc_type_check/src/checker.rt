@@ -2,9 +2,10 @@
 ghost use Rattle.std.specs.Prelude.{◌≡◌, ◌<◌, List, length, slice_get, IfOk, Some};
 ghost use Rattle.merc_tree.specs.Types.{TypeExpr, IntType, TextType, TypeApplication, types_of};
 ghost use Rattle.merc_type_table.specs.Table.{is_closed, made, type_at, IsBefore, IsComplete};
-ghost use Rattle.merc_type_graph.specs.Changes.{AllWithin, Decides};
-ghost use Rattle.merc_type_check.specs.Progress.{AllStand, Fits, IsCleared, IsSound, Places, Stands, Takes, Types};
+ghost use Rattle.merc_type_graph.specs.Changes.{AllWithin};
+ghost use Rattle.merc_type_check.specs.Progress.{AllStand, Fits, IsCleared, IsSound, Places, Stands, Takes, Types, Yields};
 
+use crate::typings::Typing;
 use merc_base::{Name, NoMemory};
 use merc_goal_tree::Var;
 use merc_type_graph::{Place, TypeGraph};
@@ -150,10 +151,17 @@ impl<'a> Checker<'a> {
         self.graph.make_whole(place, whole)
     }
 
-    /// Whether there are types that solve the equations.
-    pub(crate) fn is_solvable(&self, alloc: Global) -> Result<bool, NoMemory>
-        ensures { IfOk result (λ solvable. Decides solvable self.now.graph.entries) }
+    /// The equations with the places of variables, None where no types solve them.
+    pub(crate) fn into_typing(self, alloc: Global) -> Result<Option<Typing<'a>>, NoMemory>
+        ensures { IfOk result (λ found. Yields self.entry found) }
     {
-        self.graph.is_solvable(alloc)
+        let solvable = self.graph.is_solvable(alloc)?;
+        if !solvable {
+            return Ok(None);
+        }
+        Ok(Some(Typing {
+            graph: self.graph,
+            variables: self.variables,
+        }))
     }
 }

@@ -1,28 +1,23 @@
-//! Whether a goal is typed.
+//! Whether a goal is typed, and its typings.
 ghost use Rattle.std.specs.Prelude.{IfOk};
+ghost use Rattle.std.specs.Option.{IfSome, IfNone};
 ghost use Rattle.merc_type_check.specs.Checked.{Tells, head_of};
 ghost use Rattle.merc_type_check.specs.TypeNumbers.{AreDeclared, AreNumbers};
+ghost use Rattle.merc_type_check.specs.Typing.{HasTyping};
+ghost use Rattle.merc_type_check.specs.Typings.{IsTypingOf};
 ghost use Rattle.merc_tree.specs.declared.declarations.Module.{Module};
 
 use crate::checker::Checker;
 use crate::declared::DeclaredTypes;
 use crate::repeats::Repeats;
+use crate::typings::Typing;
 use merc_base::NoMemory;
 use merc_goal_tree::{NodeRef, Predicate};
 use merc_known::Known;
 use merc_type_table::TypeNumber;
 use std::alloc::Global;
 
-/// Whether the variables of a goal have types, such that the arguments of the predicate that it is the body of, which are
-/// its first variables, have their declared types, and each unification, call, operation and comparison has its own. The
-/// type variables of the arguments stand for themselves; those of each call and each constructor stand for types of its
-/// own.
-///
-/// Declared types of the predicate's arguments, and those without type variables, are taken as a whole, and two of them are
-/// compared by their numbers. A call or a unification with a constructor that stands in the goal before is passed over. With
-/// n parts of the goal and of the other declared types that it uses, where of each use the different parts with type
-/// variables are counted, with their arguments, this takes time of the order of n log n, however large the types are that
-/// solve it.
+/// Whether the variables of a goal have types, as `typing` gives them, in as much time.
 ///
 /// # Errors
 ///
@@ -37,26 +32,56 @@ pub fn is_typed(
     requires { AreDeclared known.now declared.now }
     ensures { IfOk result (λ typed. Tells typed known.now (head_of known.now predicate) goal.now) }
 {
+    let found = typing(alloc, known, declared, predicate, goal)?;
+    Ok(found.is_some())
+}
+
+/// The types of the variables of a goal, such that the arguments of the predicate that it is the body of, which are its
+/// first variables, have their declared types, and each unification, call, operation and comparison has its own. The
+/// type variables of the arguments stand for themselves; those of each call and each constructor stand for types of its
+/// own. None where there are no such types.
+///
+/// Declared types of the predicate's arguments, and those without type variables, are taken as a whole, and two of them are
+/// compared by their numbers. A call or a unification with a constructor that stands in the goal before is passed over. With
+/// n parts of the goal and of the other declared types that it uses, where of each use the different parts with type
+/// variables are counted, with their arguments, this takes time of the order of n log n, however large the types are that
+/// solve it.
+///
+/// # Errors
+///
+/// `NoMemory` where memory was refused.
+pub fn typing<'a>(
+    alloc: Global,
+    known: &Known<'_>,
+    declared: &'a DeclaredTypes,
+    predicate: Option<Predicate>,
+    goal: &NodeRef<'_>,
+) -> Result<Option<Typing<'a>>, NoMemory>
+    requires { AreDeclared known.now declared.now }
+    ensures some { IfOk result (λ found. IfSome found (λ typing. IsTypingOf typing known.now (head_of known.now predicate) goal.now)) }
+    ensures none { IfOk result (λ found. IfNone found (HasTyping known.now (head_of known.now predicate) goal.now → ⊥)) }
+{
     let mut checker = Checker::new(alloc, declared.table());
     let done = checker.take_head(head_numbers(declared, predicate))?;
     if !done {
-        return Ok(false);
+        return Ok(None);
     }
     let mut repeats = Repeats::new(alloc);
-    for index in 0..goal.part_count() {
+    let count = goal.part_count();
+    for index in 0..count {
         match goal.part(index) {
             Some((part, _)) => {
                 if !repeats.is_repeated(goal, index, part)? {
                     let done = checker.take_part(alloc, known, declared, part)?;
                     if !done {
-                        return Ok(false);
+                        return Ok(None);
                     }
                 }
             }
             None => unreachable!(),
         }
     }
-    checker.is_solvable(alloc)
+    checker.into_typing(alloc)
 }
 
 // The numbers of the declared types of a predicate's arguments, none where there is no predicate.

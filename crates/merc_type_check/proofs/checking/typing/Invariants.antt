@@ -2,7 +2,7 @@ use Rattle.std.proofs.Common.{◌≡◌}
 use Rattle.merc_type_check.specs.Checked.{head_of}
 use Rattle.merc_type_check.specs.Progress.{Knows}
 use Rattle.merc_type_check.proofs.Told.{IsTypedUpTo}
-use Rattle.merc_type_check.proofs.checking.is_typed.Given as goal
+use Rattle.merc_type_check.proofs.checking.typing.Given as goal
 
 abbrev pub invariant-loop-index : goal.invariant-loop-index
 invariant-loop-index l = record {
