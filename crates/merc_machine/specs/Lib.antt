@@ -1,6 +1,6 @@
-pub mod Backward
 pub mod Coming
 pub mod ComingExamples
+pub mod Event
 pub mod Running
 pub mod RunningExamples
 pub mod Standing
