@@ -63,6 +63,19 @@ lowered_left (Some k) n = larger_left n (k.base + k.size)
 lowered_newest : (o : Option Kept) (n : ℕ) (k : Kept) → o ≡ Some k → k.base + k.size ≤ lowered o n
 lowered_newest o n k e = subst (λ x. k.base + k.size ≤ lowered x n) (sym e) (larger_right n (k.base + k.size))
 
+-- where all of them end below a bound, so does what they need
+pub lowered_under : (o : Option Kept) (low base : ℕ) → low ≤ base → ((k : Kept) → o ≡ Some k → k.base + k.size ≤ base) → lowered o low ≤ base
+lowered_under None low base under each = under
+lowered_under (Some k) low base under each = larger_under low (k.base + k.size) base under (each k refl)
+
+top_under : (o : Option Saved) (base : ℕ) → ((s : Saved) → o ≡ Some s → s.base + s.size ≤ base) → top_of o ≤ base
+top_under None base each = omega arith
+top_under (Some s) base each = each s refl
+
+pub caller_under : (saved : List Saved) (h base : ℕ) → ((i : ℕ) (s : Saved) → slice_get saved i ≡ Some s → s.base + s.size ≤ base) → caller_top saved h ≤ base
+caller_under saved zero base each = omega arith
+caller_under saved (suc h) base each = top_under (slice_get saved h) base (each h)
+
 module _ (w : List Slot) (saved : List Saved) (cs : List Kept) (base size height : ℕ) (f : Fine w saved cs base size height) (h : ℕ) (hs : h ≤ length saved) where
   -- what holds of the newest one bounds the others
   pub bounded : (i : ℕ) (k : Kept) → slice_get cs i ≡ Some k → (m : Kept) × (newest cs ≡ Some m) × (k.base + k.size ≤ m.base + m.size) × (k.saved ≤ m.saved)
@@ -104,6 +117,11 @@ module _ (w : List Slot) (saved : List Saved) (cs : List Kept) (base size height
 
   pub count_settle : counted (newest cs) h ≤ length saved
   count_settle = counted_under _ _ _ hs (λ k e. (f.kept (length cs - 1) k e).count)
+
+-- it begins no higher than the frame before it
+pub low_under : (w : List Slot) (saved : List Saved) (cs : List Kept) (base size height : ℕ) → Fine w saved cs base size height → (h : ℕ) → lowered (newest cs) (caller_top saved h) ≤ base
+low_under w saved cs base size height f h =
+    lowered_under (newest cs) (caller_top saved h) base (caller_under saved h base f.tops) (λ k e. (f.kept (length cs - 1) k e).top)
 
 -- A current frame begins where all ends that the newest choice point and callers of this height need.
 module _ (w w' : List Slot) (saved saved' : List Saved) (cs : List Kept) (base size height : ℕ) (f : Fine w saved cs base size height) (low size' h count : ℕ) (hs : h ≤ length saved)
