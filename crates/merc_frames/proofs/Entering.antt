@@ -92,9 +92,9 @@ pub set_view : (w : List Slot) (saved : List Saved) (cs : List Kept) (base size 
 set_view w saved cs base size h number v f = slots_view w (slice_set w (base + number) v) saved cs base size h f (sym (take-set-le base w (base + number) v (omega arith))) size _
     (frame_set w base size number v)
 
--- a last call: the new frame begins where all ends that the newest choice point and the callers need
+-- a last call: the new frame begins at or above where all ends that the newest choice point and the callers need
 module _ (w w' : List Slot) (saved saved' : List Saved) (cs : List Kept) (base size h : ℕ) (f : Fine w saved cs base size h) (low size' count : ℕ) (slots : List Slot)
-    (b : Built w w' low size' slots) (ec : count ≡ counted (newest cs) h) (el : low ≡ lowered (newest cs) (caller_top saved h)) (es : saved' ≡ take count saved) where
+    (b : Built w w' low size' slots) (ec : count ≡ counted (newest cs) h) (el : lowered (newest cs) (caller_top saved h) ≤ low) (es : saved' ≡ take count saved) where
   pub renewed_fine : Fine w' saved' cs low size' h
   renewed_fine = settled_fine w w' saved saved' cs base size h f low size' h count f.stack ec el es b.below b.room
 

@@ -72,7 +72,7 @@ module _ (w : List Slot) (saved : List Saved) (cs : List Kept) (base size h : �
 
     -- in a copy
     module _ (w' : List Slot) (saved' : List Saved) (low count : ℕ) (b : Built w w' low s.size filled) (ec : count ≡ counted (newest cs) s.parent)
-        (el : low ≡ lowered (newest cs) (caller_top saved s.parent)) (es : saved' ≡ take count saved) where
+        (el : lowered (newest cs) (caller_top saved s.parent) ≤ low) (es : saved' ≡ take count saved) where
       pub copy_fine : Fine w' saved' cs low s.size s.parent
       copy_fine = settled_fine w w' saved saved' cs base size h f low s.size s.parent count parent_inside ec el es b.below b.room
 

@@ -1,12 +1,13 @@
 //! Frames of slots in one list, with who called and the choice points.
-ghost use Rattle.std.specs.Prelude.{◌≡◌, ◌+◌, ◌-◌, ◌≤◌, ℕ, [], ◌∷◌, length, nat_lt, Some, slice_get, slice_set, IfOk, OnOk, OnErr};
+ghost use Rattle.std.specs.Prelude.{◌≡◌, ◌⊎◌, ◌+◌, ◌-◌, ◌≤◌, ℕ, [], ◌∷◌, length, nat_lt, Some, slice_get, slice_set, IfOk, OnOk, OnErr};
 ghost use Rattle.merc_frames.specs.Stacks.{Stacks, GoesOn, caller_place, oldest, softened, Opens, Enters, Renews, GivesBack, GoesBack};
 ghost use Rattle.merc_frames.specs.View.{larger, counted, lowered, caller_top, newest};
+ghost use Rattle.merc_frames.specs.declared.copying.TheConstants.{SPARE};
 ghost use Rattle.merc_frames.specs.declared.kept.Kept.{Kept};
 ghost use Rattle.merc_frames.specs.declared.kept.Saved.{Saved};
 
-use crate::copying::{copy_frame, empty_frame, make_room};
-use crate::handing::{Frame, deliver, pass};
+use crate::copying::{copy_frame, empty_frame, fits, make_room};
+use crate::handing::{Frame, deliver, make_frame};
 use crate::kept::{Kept, Saved};
 use crate::{Pass, Slot};
 use merc_base::NoMemory;
@@ -125,44 +126,39 @@ impl Frames {
             base: self.base,
             size: self.size,
         };
-        let top = caller.base + caller.size;
-        make_room(&mut self.slots, top, size)?;
+        let base = caller.base + caller.size;
+        make_room(&mut self.slots, base, size)?;
         self.saved.push(Saved {
             base: caller.base,
             size: caller.size,
             place,
             parent: self.height,
         })?;
-        empty_frame(&mut self.slots, top, size);
-        pass(&mut self.slots, inputs, caller, Frame { base: top, size });
-        self.base = top;
+        make_frame(&mut self.slots, inputs, caller, Frame { base, size });
+        self.base = base;
         self.size = size;
         self.height = self.saved.len();
         Ok(())
     }
 
     /// A last call: the current frame is given back, and the current one is new. It has `size` slots, with what is passed
-    /// and nothing else, and begins where all ends that callers and choice points need. Where memory is refused, nothing
-    /// changes.
+    /// and nothing else. Where memory is refused, nothing changes.
     #[inline(always)]
     pub fn renew(&mut self, size: usize, inputs: &[Pass]) -> Result<(), NoMemory>
         ensures ok { OnOk result (Renews self.old self.new size inputs.now) }
         ensures err { OnErr result (self.new ≡ self.old) }
     {
-        // The new frame may begin within the old one, so that it is made behind that and moved.
+        let count = count_of(&self.choices, self.height);
+        let low = low_of(&self.saved, &self.choices, self.height, self.base);
         let old = Frame {
             base: self.base,
             size: self.size,
         };
-        let top = old.base + old.size;
-        make_room(&mut self.slots, top, size)?;
-        empty_frame(&mut self.slots, top, size);
-        pass(&mut self.slots, inputs, old, Frame { base: top, size });
-        let count = count_of(&self.choices, self.height);
-        let low = low_of(&self.saved, &self.choices, self.height, self.base);
-        copy_frame(&mut self.slots, top, size, low);
+        let base = base_of(low, old.base, old.base + old.size, size);
+        make_room(&mut self.slots, base, size)?;
+        make_frame(&mut self.slots, inputs, old, Frame { base, size });
         self.saved.truncate(count);
-        self.base = low;
+        self.base = base;
         self.size = size;
         Ok(())
     }
@@ -310,6 +306,20 @@ fn larger_of(one: usize, other: usize) -> usize
     ensures { result ≡ larger one other }
 {
     if one < other { other } else { one }
+}
+
+// Where a frame of this size begins that takes the place of the one from `base` to `end`, which it does not meet: where
+// all ends that others need, if it fits there below the old one, and else behind that. It is behind only where it is larger
+// than all that lies between, so that ever more of them take no more memory.
+#[inline(always)]
+fn base_of(low: usize, base: usize, end: usize, size: usize) -> usize
+    requires under { low ≤ base }
+    requires ordered { base ≤ end }
+    ensures low { low ≤ result }
+    ensures under { result ≤ end }
+    ensures apart { (end ≤ result) ⊎ (result + size + SPARE ≤ base) }
+{
+    if fits(size, base - low) { low } else { end }
 }
 
 // How many saved frames the newest choice point and callers at this height need.

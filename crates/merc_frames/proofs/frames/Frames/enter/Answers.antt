@@ -1,4 +1,4 @@
-use Rattle.std.proofs.Common.{◌≡◌, ◌+◌, length, refl, ap, ◌∙◌, sym, arith}
+use Rattle.std.proofs.Common.{refl, ap, ◌∙◌, arith}
 use Rattle.merc_frames.specs.View.{view_of}
 use Rattle.merc_frames.proofs.Built.{built_passed}
 use Rattle.merc_frames.proofs.Moving.{grown_view, on_err}
@@ -15,13 +15,13 @@ returns-in_err-push-clause-err c = on_err c.from_residual-in_err-push.result _
 
 abbrev pub invariant_of-self-2 : goal.invariant_of-self-2
 invariant_of-self-2 c =
-    let built = built_passed _ _ _ _ _ _ _ _ c.self.invariant c.in_ok-make_room.ensures.grows _ c.in_ok-make_room.ensures.ok c.empty_frame.ensures.long c.empty_frame.ensures.below
-    _ _ c.deref_mut.ensures.value c.pass.ensures.long c.pass.ensures.below _ c.empty_frame.new.slots.ok.0 c.args.inputs.now c.empty_frame.ensures.emptied c.pass.ensures.passed in
+    let built = built_passed _ _ _ _ _ _ _ c.self.invariant c.in_ok-make_room.ensures.grows _ c.args.size (omega arith) _ _ _ c.args.inputs.now c.deref_mut.ensures.value c.make_frame.ensures.long
+    c.make_room.new.slots.ok.0 c.in_ok-make_room.ensures.ok c.make_frame.ensures.below c.make_frame.ensures.made in
     entered_fine _ _ _ _ _ _ _ _ c.self.invariant refl refl refl _ _ _ _ built c.in_ok-push.ensures.items (c.len-self-inside.ensures ∙ c.push.new.self.ok.0)
 
 abbrev pub returns-clause-ok : goal.returns-clause-ok
 returns-clause-ok c =
-    let built = built_passed _ _ _ _ _ _ _ _ c.self.invariant c.in_ok-make_room.ensures.grows _ c.in_ok-make_room.ensures.ok c.empty_frame.ensures.long c.empty_frame.ensures.below
-    _ _ c.deref_mut.ensures.value c.pass.ensures.long c.pass.ensures.below _ c.empty_frame.new.slots.ok.0 c.args.inputs.now c.empty_frame.ensures.emptied c.pass.ensures.passed in
+    let built = built_passed _ _ _ _ _ _ _ c.self.invariant c.in_ok-make_room.ensures.grows _ c.args.size (omega arith) _ _ _ c.args.inputs.now c.deref_mut.ensures.value c.make_frame.ensures.long
+    c.make_room.new.slots.ok.0 c.in_ok-make_room.ensures.ok c.make_frame.ensures.below c.make_frame.ensures.made in
     rw (← c.self.view_is)
     (entered _ _ _ _ _ _ _ _ c.self.invariant refl refl refl _ _ _ _ built c.in_ok-push.ensures.items (c.len-self-inside.ensures ∙ c.push.new.self.ok.0) c.args.inputs.now refl)

@@ -25,9 +25,9 @@ abbrev pub copy_frame-requires-2-clause-target : goal.copy_frame-requires-2-clau
 copy_frame-requires-2-clause-target c =
     let used : 0 < c.self.inside.height = omega (arith, c.if-self-eq0.false) in
     let frame = caller_is _ _ _ _ _ _ _ c.self.invariant used c.index-caller.ensures in
-    let built = built_delivered _ _ _ _ _ _ _ _ c.self.invariant c.in_ok-make_room.ensures.grows _ c.in_ok-make_room.ensures.ok c.copy_frame.ensures.long c.copy_frame.ensures.below
-    _ _ c.deref_mut.ensures.value c.deliver.ensures.long c.deliver.ensures.below _ c.copy_frame.new.slots.ok.0 c.args.own.now c.args.outs.now _
-    (c.self.invariant.tops (c.self.inside.height - 1) _ frame) c.copy_frame.ensures.copied c.deliver.ensures.delivered in
+    let built = built_delivered _ _ _ _ _ _ _ c.self.invariant c.in_ok-make_room.ensures.grows _ _ (omega arith) _ _ _ _ c.args.own.now c.args.outs.now _ (omega arith)
+    (c.self.invariant.tops (c.self.inside.height - 1) _ frame) c.copy_frame.ensures.long c.copy_frame.ensures.below c.copy_frame.ensures.copied
+    c.deref_mut.ensures.value c.deliver.ensures.long c.copy_frame.new.slots.ok.0 c.in_ok-make_room.ensures.ok c.deliver.ensures.below c.deliver.ensures.delivered in
     let low_is = c.low_of-low.ensures ∙ ap (λ x. lowered (newest x) (caller_top c.deref-2.result.now c.index-caller.result.now.parent)) c.deref-3.ensures.value
     ∙ ap (λ x. lowered (newest c.self.inside.choices.items) (caller_top x c.index-caller.result.now.parent)) c.deref-2.ensures.value in
     let under = low_under _ _ _ _ _ _ c.self.invariant c.index-caller.result.now.parent in
@@ -38,26 +38,26 @@ abbrev pub invariant_of-self-2 : goal.invariant_of-self-2
 invariant_of-self-2 c =
     let used : 0 < c.self.inside.height = omega (arith, c.if-self-eq0.false) in
     let frame = caller_is _ _ _ _ _ _ _ c.self.invariant used c.index-caller.ensures in
-    let built = built_delivered _ _ _ _ _ _ _ _ c.self.invariant c.in_ok-make_room.ensures.grows _ c.in_ok-make_room.ensures.ok c.copy_frame.ensures.long c.copy_frame.ensures.below
-    _ _ c.deref_mut.ensures.value c.deliver.ensures.long c.deliver.ensures.below _ c.copy_frame.new.slots.ok.0 c.args.own.now c.args.outs.now _
-    (c.self.invariant.tops (c.self.inside.height - 1) _ frame) c.copy_frame.ensures.copied c.deliver.ensures.delivered in
+    let built = built_delivered _ _ _ _ _ _ _ c.self.invariant c.in_ok-make_room.ensures.grows _ _ (omega arith) _ _ _ _ c.args.own.now c.args.outs.now _ (omega arith)
+    (c.self.invariant.tops (c.self.inside.height - 1) _ frame) c.copy_frame.ensures.long c.copy_frame.ensures.below c.copy_frame.ensures.copied
+    c.deref_mut.ensures.value c.deliver.ensures.long c.copy_frame.new.slots.ok.0 c.in_ok-make_room.ensures.ok c.deliver.ensures.below c.deliver.ensures.delivered in
     let count_is = c.count_of-count.ensures ∙ ap (λ x. counted (newest x) c.index-caller.result.now.parent) c.deref.ensures.value in
     let low_is = c.low_of-low.ensures ∙ ap (λ x. lowered (newest x) (caller_top c.deref-2.result.now c.index-caller.result.now.parent)) c.deref-3.ensures.value
     ∙ ap (λ x. lowered (newest c.self.inside.choices.items) (caller_top x c.index-caller.result.now.parent)) c.deref-2.ensures.value in
     let under = low_under _ _ _ _ _ _ c.self.invariant c.index-caller.result.now.parent in
     let moved = built_moved _ _ _ _ _ _ _ built (omega (arith, low_is, under)) c.copy_frame-2.ensures.long c.copy_frame-2.ensures.below c.copy_frame-2.ensures.copied in
-    copy_fine _ _ _ _ _ _ _ c.self.invariant used frame c.args.own.now c.args.outs.now _ _ _ _ moved count_is low_is c.truncate.ensures.items
+    copy_fine _ _ _ _ _ _ _ c.self.invariant used frame c.args.own.now c.args.outs.now _ _ _ _ moved count_is (omega (arith, low_is)) c.truncate.ensures.items
 
 abbrev pub returns-clause-ok : goal.returns-clause-ok
 returns-clause-ok c =
     let used : 0 < c.self.inside.height = omega (arith, c.if-self-eq0.false) in
     let frame = caller_is _ _ _ _ _ _ _ c.self.invariant used c.index-caller.ensures in
-    let built = built_delivered _ _ _ _ _ _ _ _ c.self.invariant c.in_ok-make_room.ensures.grows _ c.in_ok-make_room.ensures.ok c.copy_frame.ensures.long c.copy_frame.ensures.below
-    _ _ c.deref_mut.ensures.value c.deliver.ensures.long c.deliver.ensures.below _ c.copy_frame.new.slots.ok.0 c.args.own.now c.args.outs.now _
-    (c.self.invariant.tops (c.self.inside.height - 1) _ frame) c.copy_frame.ensures.copied c.deliver.ensures.delivered in
+    let built = built_delivered _ _ _ _ _ _ _ c.self.invariant c.in_ok-make_room.ensures.grows _ _ (omega arith) _ _ _ _ c.args.own.now c.args.outs.now _ (omega arith)
+    (c.self.invariant.tops (c.self.inside.height - 1) _ frame) c.copy_frame.ensures.long c.copy_frame.ensures.below c.copy_frame.ensures.copied
+    c.deref_mut.ensures.value c.deliver.ensures.long c.copy_frame.new.slots.ok.0 c.in_ok-make_room.ensures.ok c.deliver.ensures.below c.deliver.ensures.delivered in
     let count_is = c.count_of-count.ensures ∙ ap (λ x. counted (newest x) c.index-caller.result.now.parent) c.deref.ensures.value in
     let low_is = c.low_of-low.ensures ∙ ap (λ x. lowered (newest x) (caller_top c.deref-2.result.now c.index-caller.result.now.parent)) c.deref-3.ensures.value
     ∙ ap (λ x. lowered (newest c.self.inside.choices.items) (caller_top x c.index-caller.result.now.parent)) c.deref-2.ensures.value in
     let under = low_under _ _ _ _ _ _ c.self.invariant c.index-caller.result.now.parent in
     let moved = built_moved _ _ _ _ _ _ _ built (omega (arith, low_is, under)) c.copy_frame-2.ensures.long c.copy_frame-2.ensures.below c.copy_frame-2.ensures.copied in
-    rw (← c.self.view_is) (copy_gives _ _ _ _ _ _ _ c.self.invariant used frame c.args.own.now c.args.outs.now _ _ _ _ moved count_is low_is c.truncate.ensures.items)
+    rw (← c.self.view_is) (copy_gives _ _ _ _ _ _ _ c.self.invariant used frame c.args.own.now c.args.outs.now _ _ _ _ moved count_is (omega (arith, low_is)) c.truncate.ensures.items)
