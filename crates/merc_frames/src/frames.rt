@@ -309,8 +309,8 @@ fn larger_of(one: usize, other: usize) -> usize
 }
 
 // Where a frame of this size begins that takes the place of the one from `base` to `end`, which it does not meet: where
-// all ends that others need, if it fits there below the old one, and else behind that. It is behind only where it is larger
-// than all that lies between, so that ever more of them take no more memory.
+// all ends that others need, if it fits there below the old one, and else behind that. Behind it is only where it is larger
+// than all that lies between, so that any number of them, one after the other, take the room of a few.
 #[inline(always)]
 fn base_of(low: usize, base: usize, end: usize, size: usize) -> usize
     requires under { low ≤ base }
