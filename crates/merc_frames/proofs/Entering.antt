@@ -1,18 +1,20 @@
 -- The calls, on plain lists.
 use Rattle.std.proofs.Common.{◌≡◌, inl, inr, ℕ, suc, ◌+◌, ◌<◌, ◌≤◌, List, [], ◌∷◌, ◌++◌, length, take, drop, replicate, map, reverse, Some, slice_get, slice_set, refl, sym, ap, ◌∙◌, subst, arith}
 use Rattle.merc_frames.specs.declared.slot.Slot.{Slot}
-use Rattle.merc_frames.specs.declared.slot.Slot.TheVariants.{Empty}
+use Rattle.merc_frames.specs.declared.passing.Pass.{Pass}
+use Rattle.merc_frames.specs.Handing.{empty_frame, passed}
 use Rattle.merc_frames.specs.Stacks.{Stacks}
-use Rattle.merc_frames.specs.View.{frame_of, linked, chain, callers_of, seen, view_of, Fine, FineChoice, Grows, newest, counted, lowered, caller_top}
+use Rattle.merc_frames.specs.View.{frame_of, linked, chain, callers_of, seen, view_of, Fine, FineChoice, newest, counted, lowered, caller_top}
 use Rattle.merc_frames.specs.declared.kept.Saved.{Saved}
 use Rattle.merc_frames.specs.declared.kept.Kept.{Kept}
 use Rattle.merc_frames.proofs.Lists.{get_left, get_seam, get_more, get_within}
 use Rattle.merc_frames.proofs.Stays.{Stays, chain_fuel, callers_same, all_seen}
 use Rattle.merc_frames.specs.Stacks.{Enters, Renews}
-use Rattle.merc_frames.proofs.Lists.{take_set}
-use Rattle.merc_frames.proofs.Moving.{below_base, slots_view, grown_fine, grown_view}
+use Rattle.merc_frames.proofs.Built.{Built}
+use Rattle.merc_frames.proofs.FrameLaws.{frame_set}
+use Rattle.merc_frames.proofs.Moving.{below_base, slots_view, above_fine, above_view}
 use Rattle.merc_frames.proofs.Newest.{settled_fine, settled_view}
-use Rattle.std.proofs.lemmas.List.{length-append, take-set-le, drop-set-add}
+use Rattle.std.proofs.lemmas.List.{length-append, take-set-le}
 
 -- a call: the current frame is saved, and another begins at its end
 module _ (w : List Slot) (saved : List Saved) (cs : List Kept) (base size h : ℕ) (s : Saved) (f : Fine w saved cs base size h) (b : s.base ≡ base) (z : s.size ≡ size) (p : s.parent ≡ h) where
@@ -88,26 +90,33 @@ module _ (w : List Slot) (saved : List Saved) (cs : List Kept) (base size h : �
 pub set_view : (w : List Slot) (saved : List Saved) (cs : List Kept) (base size h number : ℕ) (v : Slot) → Fine w saved cs base size h
     → view_of (slice_set w (base + number) v) saved cs base size h ≡ (let r : Stacks = record { current = slice_set (frame_of w base size) number v; callers = callers_of w saved h; choices = reverse (map (λ k. seen w saved k) cs) } in r)
 set_view w saved cs base size h number v f = slots_view w (slice_set w (base + number) v) saved cs base size h f (sym (take-set-le base w (base + number) v (omega arith))) size _
-    (ap (λ x. take size x) (drop-set-add base w number v) ∙ take_set size number (drop base w) v)
+    (frame_set w base size number v)
 
--- a last call: a frame of empty slots begins where all ends that the newest choice point and the callers need
-module _ (w w' w'' : List Slot) (saved saved' : List Saved) (cs : List Kept) (base size h : ℕ) (f : Fine w saved cs base size h) (g : Grows w w') (low size' count : ℕ)
-    (ec : count ≡ counted (newest cs) h) (el : low ≡ lowered (newest cs) (caller_top saved h)) (es : saved' ≡ take count saved) (same : take low w' ≡ take low w'') where
-  pub renewed_fine : low + size' ≤ length w'' → Fine w'' saved' cs low size' h
-  renewed_fine room = settled_fine w' w'' saved saved' cs base size h (grown_fine w w' saved cs base size h f g) low size' h count f.stack ec el es same room
+-- a last call: the new frame begins at or above where all ends that the newest choice point and the callers need
+module _ (w w' : List Slot) (saved saved' : List Saved) (cs : List Kept) (base size h : ℕ) (f : Fine w saved cs base size h) (low size' count : ℕ) (slots : List Slot)
+    (b : Built w w' low size' slots) (ec : count ≡ counted (newest cs) h) (el : lowered (newest cs) (caller_top saved h) ≤ low) (es : saved' ≡ take count saved) where
+  pub renewed_fine : Fine w' saved' cs low size' h
+  renewed_fine = settled_fine w w' saved saved' cs base size h f low size' h count f.stack ec el es b.below b.room
 
-  pub renewed : frame_of w'' low size' ≡ replicate size' Empty → Renews (view_of w saved cs base size h) (view_of w'' saved' cs low size' h) size'
-  renewed emptied =
-      let v = settled_view w' w'' saved saved' cs base size h (grown_fine w w' saved cs base size h f g) low size' h count f.stack ec el es same (frame_of w'' low size') refl in
-      let u = grown_view w w' saved cs base size h f g in
-      record { current = emptied; callers = ap (λ (x : Stacks). x.callers) v ∙ ap (λ (x : Stacks). x.callers) u; choices = ap (λ (x : Stacks). x.choices) v ∙ ap (λ (x : Stacks). x.choices) u }
+  pub renewed : (inputs : List Pass) → slots ≡ passed inputs (frame_of w base size) (empty_frame size') → Renews (view_of w saved cs base size h) (view_of w' saved' cs low size' h) size' inputs
+  renewed inputs are =
+      let v = settled_view w w' saved saved' cs base size h f low size' h count f.stack ec el es b.below slots b.frame in
+      record { current = b.frame ∙ are; callers = ap (λ (x : Stacks). x.callers) v; choices = ap (λ (x : Stacks). x.choices) v }
 
 -- what a call is seen to have done
-pub enter_enters : (w : List Slot) (saved : List Saved) (cs : List Kept) (base size h : ℕ) (s : Saved) → Fine w saved cs base size h → s.base ≡ base → s.size ≡ size → s.parent ≡ h
-    → (saved' : List Saved) (size' h' : ℕ) → saved' ≡ saved ++ s ∷ [] → frame_of w (base + size) size' ≡ replicate size' Empty → h' ≡ length saved'
-    → Enters (view_of w saved cs base size h) (view_of w saved' cs (base + size) size' h') s.place size'
-enter_enters w saved cs base size h s f b z p saved' size' h' es emptied eh = record {
-  current = emptied;
-  callers = enter_callers w saved cs base size h s f b z p saved' h' es eh;
-  choices = enter_choices w saved cs base size h s f b z p saved' es;
-}
+module _ (w w' : List Slot) (saved : List Saved) (cs : List Kept) (base size h : ℕ) (s : Saved) (f : Fine w saved cs base size h) (eb : s.base ≡ base) (ez : s.size ≡ size) (ep : s.parent ≡ h)
+    (saved' : List Saved) (size' h' : ℕ) (slots : List Slot) (b : Built w w' (base + size) size' slots) (es : saved' ≡ saved ++ s ∷ []) (eh : h' ≡ length saved') where
+  fine : Fine w' saved cs base size h
+  fine = let a = b.room in above_fine w w' saved cs base size h f b.below (omega (arith, a))
+
+  pub entered_fine : Fine w' saved' cs (base + size) size' h'
+  entered_fine = enter_fine w' saved cs base size h s fine eb ez ep saved' (base + size) size' h' es refl b.room eh
+
+  pub entered : (inputs : List Pass) → slots ≡ passed inputs (frame_of w base size) (empty_frame size') → Enters (view_of w saved cs base size h) (view_of w' saved' cs (base + size) size' h') s.place size' inputs
+  entered inputs are =
+      let v = above_view w w' saved cs base size h f b.below in
+      record {
+        current = b.frame ∙ are;
+        callers = enter_callers w' saved cs base size h s fine eb ez ep saved' h' es eh ∙ ap (λ (x : Stacks). record { place = s.place; slots = x.current } ∷ x.callers) v;
+        choices = enter_choices w' saved cs base size h s fine eb ez ep saved' es ∙ ap (λ (x : Stacks). x.choices) v;
+      }

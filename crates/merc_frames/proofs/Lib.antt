@@ -1,6 +1,8 @@
 pub mod Lists
 pub mod Stays
+pub mod FrameLaws
 pub mod Moving
+pub mod Built
 pub mod Newest
 pub mod Reversed
 pub mod Entering

@@ -1,5 +1,5 @@
 -- Facts on lists.
-use Rattle.std.proofs.Common.{◌≡◌, ◌⊎◌, inl, inr, ℕ, zero, suc, ◌+◌, ◌<◌, ◌≤◌, List, [], ◌∷◌, ◌++◌, length, take, drop, replicate, map, Some, None, slice_get, slice_set, refl, sym, ap, ◌∙◌, arith}
+use Rattle.std.proofs.Common.{◌≡◌, ◌⊎◌, inl, inr, ℕ, zero, suc, ◌+◌, ◌-◌, ◌<◌, ◌≤◌, List, [], ◌∷◌, ◌++◌, length, take, drop, replicate, map, Some, None, slice_get, slice_set, refl, sym, ap, ◌∙◌, arith}
 
 module _ {A : Type 0} where
   none_some : (x : A) (P : Type 0) → None ≡ Some x → P
@@ -10,6 +10,17 @@ module _ {A : Type 0} where
   get_take (suc n) i [] h = refl
   get_take (suc n) zero (x ∷ xs) h = refl
   get_take (suc n) (suc i) (x ∷ xs) h = get_take n i xs (omega (arith, h))
+
+  pub get_past : (n i : ℕ) (xs : List A) → n ≤ i → slice_get (take n xs) i ≡ None
+  get_past zero i xs h = refl
+  get_past (suc n) i [] h = refl
+  get_past (suc n) zero (x ∷ xs) h = absurd (omega (arith, h))
+  get_past (suc n) (suc i) (x ∷ xs) h = get_past n i xs (omega (arith, h))
+
+  pub get_drop : (n i : ℕ) (xs : List A) → slice_get (drop n xs) i ≡ slice_get xs (n + i)
+  get_drop zero i xs = ap (slice_get xs) (let e : i ≡ 0 + i = omega arith in e)
+  get_drop (suc n) i [] = refl
+  get_drop (suc n) i (x ∷ xs) = get_drop n i xs ∙ ap (slice_get (x ∷ xs)) (let e : suc (n + i) ≡ suc n + i = omega arith in e)
 
   pub get_take_in : (n i : ℕ) (xs : List A) (x : A) → slice_get (take n xs) i ≡ Some x → (i < n) × (slice_get xs i ≡ Some x)
   get_take_in zero i xs x e = absurd cc
@@ -81,3 +92,17 @@ module _ {A : Type 0} where
   -- where a part is the same throughout, so is each shorter one
   pub part_replicate : (b n z : ℕ) (w : List A) (x : A) → z ≤ n → take n (drop b w) ≡ replicate n x → take z (drop b w) ≡ replicate z x
   part_replicate b n z w x h e = sym (take_less n z (drop b w) h) ∙ ap (take z) e ∙ take_replicate n z x h
+
+  -- what is the same behind a place is so behind each later one
+  drop_nil : (n : ℕ) → [] ≡ drop {A = A} n []
+  drop_nil zero = refl
+  drop_nil (suc n) = refl
+
+  drop_rest : (m n : ℕ) (w : List A) → m ≤ n → drop n w ≡ drop (n - m) (drop m w)
+  drop_rest zero n w h = ap (λ x. drop x w) (let e : n ≡ n - 0 = omega arith in e)
+  drop_rest (suc m) zero w h = absurd (omega (arith, h))
+  drop_rest (suc m) (suc n) [] h = drop_nil (suc n - suc m)
+  drop_rest (suc m) (suc n) (x ∷ w) h = drop_rest m n w (omega (arith, h)) ∙ ap (λ y. drop y (drop m w)) (let e : n - m ≡ suc n - suc m = omega arith in e)
+
+  pub drop_later : (m n : ℕ) (w w' : List A) → m ≤ n → drop m w ≡ drop m w' → drop n w ≡ drop n w'
+  drop_later m n w w' h e = drop_rest m n w h ∙ ap (drop (n - m)) e ∙ sym (drop_rest m n w' h)

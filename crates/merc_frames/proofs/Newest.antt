@@ -63,6 +63,19 @@ lowered_left (Some k) n = larger_left n (k.base + k.size)
 lowered_newest : (o : Option Kept) (n : ℕ) (k : Kept) → o ≡ Some k → k.base + k.size ≤ lowered o n
 lowered_newest o n k e = subst (λ x. k.base + k.size ≤ lowered x n) (sym e) (larger_right n (k.base + k.size))
 
+-- where all of them end below a bound, so does what they need
+pub lowered_under : (o : Option Kept) (low base : ℕ) → low ≤ base → ((k : Kept) → o ≡ Some k → k.base + k.size ≤ base) → lowered o low ≤ base
+lowered_under None low base under each = under
+lowered_under (Some k) low base under each = larger_under low (k.base + k.size) base under (each k refl)
+
+top_under : (o : Option Saved) (base : ℕ) → ((s : Saved) → o ≡ Some s → s.base + s.size ≤ base) → top_of o ≤ base
+top_under None base each = omega arith
+top_under (Some s) base each = each s refl
+
+pub caller_under : (saved : List Saved) (h base : ℕ) → ((i : ℕ) (s : Saved) → slice_get saved i ≡ Some s → s.base + s.size ≤ base) → caller_top saved h ≤ base
+caller_under saved zero base each = omega arith
+caller_under saved (suc h) base each = top_under (slice_get saved h) base (each h)
+
 module _ (w : List Slot) (saved : List Saved) (cs : List Kept) (base size height : ℕ) (f : Fine w saved cs base size height) (h : ℕ) (hs : h ≤ length saved) where
   -- what holds of the newest one bounds the others
   pub bounded : (i : ℕ) (k : Kept) → slice_get cs i ≡ Some k → (m : Kept) × (newest cs ≡ Some m) × (k.base + k.size ≤ m.base + m.size) × (k.saved ≤ m.saved)
@@ -105,9 +118,14 @@ module _ (w : List Slot) (saved : List Saved) (cs : List Kept) (base size height
   pub count_settle : counted (newest cs) h ≤ length saved
   count_settle = counted_under _ _ _ hs (λ k e. (f.kept (length cs - 1) k e).count)
 
--- A current frame begins where all ends that the newest choice point and callers of this height need.
+-- it begins no higher than the frame before it
+pub low_under : (w : List Slot) (saved : List Saved) (cs : List Kept) (base size height : ℕ) → Fine w saved cs base size height → (h : ℕ) → lowered (newest cs) (caller_top saved h) ≤ base
+low_under w saved cs base size height f h =
+    lowered_under (newest cs) (caller_top saved h) base (caller_under saved h base f.tops) (λ k e. (f.kept (length cs - 1) k e).top)
+
+-- A current frame begins at or above where all ends that the newest choice point and callers of this height need.
 module _ (w w' : List Slot) (saved saved' : List Saved) (cs : List Kept) (base size height : ℕ) (f : Fine w saved cs base size height) (low size' h count : ℕ) (hs : h ≤ length saved)
-    (ec : count ≡ counted (newest cs) h) (el : low ≡ lowered (newest cs) (caller_top saved h)) (es : saved' ≡ take count saved) (same : take low w ≡ take low w') where
+    (ec : count ≡ counted (newest cs) h) (el : lowered (newest cs) (caller_top saved h) ≤ low) (es : saved' ≡ take count saved) (same : take low w ≡ take low w') where
   inside : count ≤ length saved
   inside = subst (λ x. x ≤ length saved) (sym ec) (count_settle w saved cs base size height f h hs)
 
@@ -115,12 +133,12 @@ module _ (w w' : List Slot) (saved saved' : List Saved) (cs : List Kept) (base s
   above = subst (λ x. h ≤ x) (sym ec) (counted_left (newest cs) h)
 
   tops : (i : ℕ) (s : Saved) → i < count → slice_get saved i ≡ Some s → s.base + s.size ≤ low
-  tops i s l e = subst (λ x. s.base + s.size ≤ x) (sym el) (tops_settle w saved cs base size height f h hs i s (subst (λ x. i < x) ec l) e)
+  tops i s l e = let r = tops_settle w saved cs base size height f h hs i s (subst (λ x. i < x) ec l) e in omega (arith, r, el)
 
   kept : (i : ℕ) (k : Kept) → slice_get cs i ≡ Some k → (k.base + k.size ≤ low) × (k.saved ≤ count)
   kept i k e =
       let r = kept_settle w saved cs base size height f h hs i k e in
-      (subst (λ x. k.base + k.size ≤ x) (sym el) r.0, subst (λ x. k.saved ≤ x) (sym ec) r.1)
+      (let a = r.0 in omega (arith, a, el), subst (λ x. k.saved ≤ x) (sym ec) r.1)
 
   pub settled_fine : low + size' ≤ length w' → Fine w' saved' cs low size' h
   settled_fine room = subst (λ x. Fine w' x cs low size' h) (sym es) (moved_fine w w' saved cs base size height f low size' h count inside above same tops kept room)

@@ -1,6 +1,7 @@
 -- Going back to a caller.
 use Rattle.std.proofs.Common.{◌≡◌, ℕ, suc, ◌+◌, ◌-◌, ◌<◌, ◌≤◌, List, ◌∷◌, length, take, Some, slice_get, slice_index_or, refl, sym, ap, ◌∙◌, subst, arith}
 use Rattle.merc_frames.specs.declared.slot.Slot.{Slot}
+use Rattle.merc_frames.specs.Handing.{carried, delivered}
 use Rattle.merc_frames.specs.Stacks.{Caller, Stacks}
 use Rattle.merc_frames.specs.View.{frame_of, linked, chain, callers_of, view_of, Fine, Grows, newest, counted, lowered, caller_top}
 use Rattle.merc_frames.specs.declared.kept.Saved.{Saved}
@@ -8,7 +9,8 @@ use Rattle.merc_frames.specs.declared.kept.Kept.{Kept}
 use Rattle.merc_frames.proofs.Stays.{chain_fuel}
 use Rattle.std.proofs.lemmas.Option.{slice_get_read}
 use Rattle.merc_frames.specs.Stacks.{GivesBack}
-use Rattle.merc_frames.proofs.Moving.{moved_fine, moved_view, grown_length, grown_fine, grown_view}
+use Rattle.merc_frames.proofs.Built.{Built}
+use Rattle.merc_frames.proofs.Moving.{moved_fine, moved_view, grown_length}
 use Rattle.merc_frames.proofs.Newest.{bounded, counted_newest, settled_fine, settled_view}
 
 -- the newest caller, and its own callers
@@ -23,10 +25,10 @@ pub caller_is : (w : List Slot) (saved : List Saved) (cs : List Kept) (base size
 caller_is w saved cs base size h s f l e = slice_get_read saved (length saved) (h - 1) s refl (let a = f.stack in omega (arith, a, l)) e
 
 -- where the parts of what is behind are known, a return is seen
-given_back : (before after : Stacks) (place : ℕ) (slots : List Slot) (callers : List Caller) → before.callers ≡ record { place = place; slots = slots } ∷ callers
-    → after ≡ record { current = slots; callers = callers; choices = before.choices } → GivesBack before after (Some place)
-given_back before after place slots callers p q =
-    (p ∙ ap (λ (x : Stacks). record { place = place; slots = x.current } ∷ x.callers) (sym q), ap (λ (x : Stacks). x.choices) q)
+given_back : (before after : Stacks) (own outs : List ℕ) (place : ℕ) (slots : List Slot) (callers : List Caller) → before.callers ≡ record { place = place; slots = slots } ∷ callers
+    → after ≡ record { current = delivered outs (carried own before.current) slots; callers = callers; choices = before.choices } → GivesBack before after own outs (Some place)
+given_back before after own outs place slots callers p q =
+    (slots, p ∙ ap (λ (x : Stacks). record { place = place; slots = slots } ∷ x.callers) (sym q), ap (λ (x : Stacks). x.current) q, ap (λ (x : Stacks). x.choices) q)
 
 module _ (w : List Slot) (saved : List Saved) (cs : List Kept) (base size h : ℕ) (s : Saved) (f : Fine w saved cs base size h) (l : 0 < h) (e : slice_get saved (h - 1) ≡ Some s) where
   pub return_callers : callers_of w saved h ≡ record { place = s.place; slots = frame_of w s.base s.size } ∷ callers_of w saved s.parent
@@ -38,43 +40,42 @@ module _ (w : List Slot) (saved : List Saved) (cs : List Kept) (base size h : �
   pub source_inside : (w' : List Slot) → Grows w w' → s.base + s.size ≤ length w'
   source_inside w' g = let a = f.within in let b = f.tops (h - 1) s e in omega (arith, a, b, grown_length w w' saved cs base size h f g)
 
-  -- in place: no choice point was made since the call
-  module _ (free : counted (newest cs) 0 < h) (saved' : List Saved) (es : saved' ≡ take (h - 1) saved) where
-    late : (i : ℕ) (k : Kept) → slice_get cs i ≡ Some k → k.saved ≤ h - 1
-    late i k q =
-        let r = bounded w saved cs base size h f 0 (omega arith) i k q in
-        let a = counted_newest (newest cs) 0 r.0 r.1 in let b = r.3 in omega (arith, a, b, free)
+  -- the caller's frame with the outputs
+  module _ (own outs : List ℕ) where
+    abbrev filled : List Slot
+    filled = delivered outs (carried own (frame_of w base size)) (frame_of w s.base s.size)
 
-    inside : h - 1 ≤ length saved
-    inside = let a = f.stack in omega (arith, a)
+    -- in place: no choice point was made since the call
+    module _ (w' : List Slot) (b : Built w w' s.base s.size filled) (free : counted (newest cs) 0 < h) (saved' : List Saved) (es : saved' ≡ take (h - 1) saved) where
+      late : (i : ℕ) (k : Kept) → slice_get cs i ≡ Some k → k.saved ≤ h - 1
+      late i k q =
+          let r = bounded w saved cs base size h f 0 (omega arith) i k q in
+          let a = counted_newest (newest cs) 0 r.0 r.1 in let c = r.3 in omega (arith, a, c, free)
 
-    ordered : (i : ℕ) (t : Saved) → i < h - 1 → slice_get saved i ≡ Some t → t.base + t.size ≤ s.base
-    ordered i t o q = f.ordered i (h - 1) t s o q e
+      inside : h - 1 ≤ length saved
+      inside = let a = f.stack in omega (arith, a)
 
-    kept : (i : ℕ) (k : Kept) → slice_get cs i ≡ Some k → (k.base + k.size ≤ s.base) × (k.saved ≤ h - 1)
-    kept i k q = ((f.kept i k q).above (h - 1) s (late i k q) e, late i k q)
+      ordered : (i : ℕ) (t : Saved) → i < h - 1 → slice_get saved i ≡ Some t → t.base + t.size ≤ s.base
+      ordered i t o q = f.ordered i (h - 1) t s o q e
 
-    pub place_fine : Fine w saved' cs s.base s.size s.parent
-    place_fine = subst (λ x. Fine w x cs s.base s.size s.parent) (sym es)
-        (moved_fine w w saved cs base size h f s.base s.size s.parent (h - 1) inside (f.parents (h - 1) s e) refl ordered kept
-        (let a = f.within in let b = f.tops (h - 1) s e in omega (arith, a, b)))
+      kept : (i : ℕ) (k : Kept) → slice_get cs i ≡ Some k → (k.base + k.size ≤ s.base) × (k.saved ≤ h - 1)
+      kept i k q = ((f.kept i k q).above (h - 1) s (late i k q) e, late i k q)
 
-    pub place_gives : GivesBack (view_of w saved cs base size h) (view_of w saved' cs s.base s.size s.parent) (Some s.place)
-    place_gives = given_back (view_of w saved cs base size h) (view_of w saved' cs s.base s.size s.parent) s.place (frame_of w s.base s.size) (callers_of w saved s.parent) return_callers
-        (ap (λ x. view_of w x cs s.base s.size s.parent) es
-        ∙ moved_view w w saved cs base size h f s.base s.size s.parent (h - 1) inside (f.parents (h - 1) s e) refl ordered kept (frame_of w s.base s.size) refl)
+      pub place_fine : Fine w' saved' cs s.base s.size s.parent
+      place_fine = subst (λ x. Fine w' x cs s.base s.size s.parent) (sym es)
+          (moved_fine w w' saved cs base size h f s.base s.size s.parent (h - 1) inside (f.parents (h - 1) s e) b.below ordered kept b.room)
 
-  -- in a copy
-  module _ (w' w'' : List Slot) (g : Grows w w') (saved' : List Saved) (low count : ℕ) (ec : count ≡ counted (newest cs) s.parent) (el : low ≡ lowered (newest cs) (caller_top saved s.parent))
-      (es : saved' ≡ take count saved) (same : take low w' ≡ take low w'') where
-    fine : Fine w' saved cs base size h
-    fine = grown_fine w w' saved cs base size h f g
+      pub place_gives : GivesBack (view_of w saved cs base size h) (view_of w' saved' cs s.base s.size s.parent) own outs (Some s.place)
+      place_gives = given_back (view_of w saved cs base size h) (view_of w' saved' cs s.base s.size s.parent) own outs s.place (frame_of w s.base s.size) (callers_of w saved s.parent) return_callers
+          (ap (λ x. view_of w' x cs s.base s.size s.parent) es
+          ∙ moved_view w w' saved cs base size h f s.base s.size s.parent (h - 1) inside (f.parents (h - 1) s e) b.below ordered kept filled b.frame)
 
-    pub copy_fine : low + s.size ≤ length w'' → Fine w'' saved' cs low s.size s.parent
-    copy_fine room = settled_fine w' w'' saved saved' cs base size h fine low s.size s.parent count parent_inside ec el es same room
+    -- in a copy
+    module _ (w' : List Slot) (saved' : List Saved) (low count : ℕ) (b : Built w w' low s.size filled) (ec : count ≡ counted (newest cs) s.parent)
+        (el : lowered (newest cs) (caller_top saved s.parent) ≤ low) (es : saved' ≡ take count saved) where
+      pub copy_fine : Fine w' saved' cs low s.size s.parent
+      copy_fine = settled_fine w w' saved saved' cs base size h f low s.size s.parent count parent_inside ec el es b.below b.room
 
-    pub copy_gives : frame_of w'' low s.size ≡ frame_of w' s.base s.size → GivesBack (view_of w saved cs base size h) (view_of w'' saved' cs low s.size s.parent) (Some s.place)
-    copy_gives copied = subst (λ x. GivesBack x (view_of w'' saved' cs low s.size s.parent) (Some s.place)) (grown_view w w' saved cs base size h f g)
-        (given_back (view_of w' saved cs base size h) (view_of w'' saved' cs low s.size s.parent) s.place (frame_of w' s.base s.size) (callers_of w' saved s.parent)
-        (let n : h ≡ suc (h - 1) = omega (arith, l) in ap (λ x. callers_of w' saved x) n ∙ callers_are w' saved cs base size h (h - 1) s fine e)
-        (settled_view w' w'' saved saved' cs base size h fine low s.size s.parent count parent_inside ec el es same (frame_of w' s.base s.size) copied))
+      pub copy_gives : GivesBack (view_of w saved cs base size h) (view_of w' saved' cs low s.size s.parent) own outs (Some s.place)
+      copy_gives = given_back (view_of w saved cs base size h) (view_of w' saved' cs low s.size s.parent) own outs s.place (frame_of w s.base s.size) (callers_of w saved s.parent) return_callers
+          (settled_view w w' saved saved' cs base size h f low s.size s.parent count parent_inside ec el es b.below filled b.frame)

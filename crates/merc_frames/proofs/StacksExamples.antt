@@ -1,5 +1,7 @@
 -- What the definitions of frames, callers and choice points say.
-use Rattle.std.proofs.Common.{◌≡◌, ℕ, List, [], ◌∷◌, Some, None, refl, ap, arith}
+use Rattle.std.proofs.Common.{◌≡◌, ℕ, List, [], ◌∷◌, Some, None, refl, sym, ap, ◌∙◌, arith}
+use Rattle.merc_frames.specs.Handing.{delivered}
+use Rattle.merc_frames.specs.declared.passing.Pass.{Pass}
 use Rattle.merc_frames.specs.declared.slot.Slot.{Slot}
 use Rattle.merc_frames.specs.declared.slot.Slot.TheVariants.{Empty, Cell}
 use Rattle.merc_frames.specs.declared.frames.Backed.TheVariants.{End as BackedEnd, Dead as BackedDead, On as BackedOn}
@@ -66,35 +68,51 @@ Opens-counterexample = λ opens. absurd (let none = opens.callers in cc)
 pub Opens-filled : Opens (record { current = one; callers = []; choices = [] }) 1 → ⊥
 Opens-filled = λ opens. absurd (let current = opens.current in cc)
 
-pub Enters-example : Enters outer inner 9 1
+-- what is in slot 1 goes to slot 0 of the new frame
+abbrev inputs : List Pass
+inputs = record { from = 1; to = 0 } ∷ []
+
+abbrev called : Stacks
+called = record { current = Cell 2 ∷ Empty ∷ []; callers = callers; choices = outer.choices }
+
+pub Enters-example : Enters outer called 9 2 inputs
 Enters-example = record { current = refl; callers = refl; choices = refl }
 
 -- another place
-pub Enters-counterexample : Enters outer inner 5 1 → ⊥
+pub Enters-counterexample : Enters outer called 5 2 inputs → ⊥
 Enters-counterexample = λ enters. absurd (let same : 9 ≡ 5 = ap newest_place enters.callers in omega (arith, same))
 
--- the slot is not empty
-pub Enters-filled : Enters outer (record { current = one; callers = callers; choices = outer.choices }) 9 1 → ⊥
+-- nothing is passed, and the slot is not empty
+pub Enters-filled : Enters outer called 9 2 [] → ⊥
 Enters-filled = λ enters. absurd (let current = enters.current in cc)
 
 -- the new frame is larger
-pub Renews-example : Renews outer (record { current = Empty ∷ Empty ∷ Empty ∷ []; callers = []; choices = outer.choices }) 3
+pub Renews-example : Renews outer (record { current = Cell 2 ∷ Empty ∷ Empty ∷ []; callers = []; choices = outer.choices }) 3 inputs
 Renews-example = record { current = refl; callers = refl; choices = refl }
 
 -- a slot of the old frame stays
-pub Renews-counterexample : Renews outer (record { current = one; callers = []; choices = outer.choices }) 1 → ⊥
+pub Renews-counterexample : Renews outer (record { current = Cell 2 ∷ Cell 2 ∷ []; callers = []; choices = outer.choices }) 2 inputs → ⊥
 Renews-counterexample = λ renews. absurd (let current = renews.current in cc)
 
-pub GivesBack-example : GivesBack inner outer (Some 9)
-GivesBack-example = (refl, refl)
+-- what the called frame has in slot 0 goes to slot 1 of the caller's
+pub GivesBack-example : GivesBack called (record outer { current = Cell 1 ∷ Cell 2 ∷ [] }) (0 ∷ []) (1 ∷ []) (Some 9)
+GivesBack-example = (two, refl, refl, refl)
+
+pub GivesBack-empty : GivesBack called (record outer { current = Empty ∷ Cell 2 ∷ [] }) (1 ∷ []) (0 ∷ []) (Some 9)
+GivesBack-empty = (two, refl, refl, refl)
 
 -- without a caller there is nothing to go back to
-pub GivesBack-none : GivesBack outer outer None
+pub GivesBack-none : GivesBack outer outer (0 ∷ []) (1 ∷ []) None
 GivesBack-none = (refl, refl)
 
 -- the called frame is not the caller's
-pub GivesBack-counterexample : GivesBack inner (record { current = one; callers = []; choices = outer.choices }) (Some 9) → ⊥
-GivesBack-counterexample = λ gives. absurd (let same : two ≡ one = ap newest_slots gives.0 in cc)
+pub GivesBack-counterexample : GivesBack called (record { current = one; callers = []; choices = outer.choices }) [] [] (Some 9) → ⊥
+GivesBack-counterexample = λ gives. absurd (let same : two ≡ gives.0 = ap newest_slots gives.1 in let current : one ≡ two = gives.2 ∙ sym same in cc)
+
+-- one slot further
+pub GivesBack-further : GivesBack called (record outer { current = Cell 1 ∷ Cell 2 ∷ [] }) (0 ∷ []) (0 ∷ []) (Some 9) → ⊥
+GivesBack-further = λ gives. absurd (let same : two ≡ gives.0 = ap newest_slots gives.1 in
+    let current : two ≡ Cell 2 ∷ Cell 2 ∷ [] = gives.2 ∙ ap (λ slots. delivered (0 ∷ []) (Cell 2 ∷ []) slots) (sym same) in cc)
 
 pub GoesBack-example : GoesBack inner (record { current = one; callers = []; choices = GoesOn 3 7 [] [] ∷ [] }) (BackedOn 4 8)
 GoesBack-example = refl

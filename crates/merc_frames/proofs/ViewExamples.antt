@@ -1,9 +1,9 @@
 -- What the lists of the frames stand for, at one place: a frame called another, which made a choice point and went back to its caller.
-use Rattle.std.proofs.Common.{◌≡◌, ℕ, zero, suc, ◌+◌, ◌≤◌, true, List, [], ◌∷◌, Some, None, slice_get, refl, ap, subst, arith}
+use Rattle.std.proofs.Common.{◌≡◌, ◌⊎◌, inl, inr, ℕ, zero, suc, ◌+◌, ◌≤◌, true, List, [], ◌∷◌, Some, None, slice_get, refl, ap, subst, arith}
 use Rattle.merc_frames.specs.declared.slot.Slot.{Slot}
 use Rattle.merc_frames.specs.declared.slot.Slot.TheVariants.{Cell}
 use Rattle.merc_frames.specs.Stacks.{Stacks, GoesOn}
-use Rattle.merc_frames.specs.View.{frame_of, callers_of, view_of, Fine, FineChoice, Grows, larger, newest, counted, lowered, caller_top}
+use Rattle.merc_frames.specs.View.{Apart, frame_of, callers_of, view_of, Fine, FineChoice, Grows, larger, newest, counted, lowered, caller_top}
 use Rattle.merc_frames.specs.declared.kept.Saved.{Saved}
 use Rattle.merc_frames.specs.declared.kept.Kept.{Kept}
 
@@ -22,6 +22,14 @@ frame_of-example = refl
 
 pub frame_of-counterexample : frame_of slots 1 2 ≡ Cell 1 ∷ Cell 2 ∷ [] → ⊥
 frame_of-counterexample = λ same. absurd cc
+
+pub Apart-example : Apart (record { base = 0; size = 2 }) (record { base = 2; size = 1 }) × Apart (record { base = 2; size = 1 }) (record { base = 0; size = 2 })
+Apart-example = (inl (omega arith), inr (omega arith))
+
+-- slot 1 is in both
+pub Apart-counterexample : Apart (record { base = 0; size = 2 }) (record { base = 1; size = 2 }) → ⊥
+Apart-counterexample (inl below) = absurd (omega (arith, below))
+Apart-counterexample (inr above) = absurd (omega (arith, above))
 
 -- the choice point has the caller, and the copy has none
 pub callers_of-example : (callers_of slots (caller ∷ []) 1 ≡ record { place = 10; slots = Cell 1 ∷ [] } ∷ []) × (callers_of slots (caller ∷ []) 0 ≡ [])

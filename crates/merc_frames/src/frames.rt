@@ -1,14 +1,17 @@
 //! Frames of slots in one list, with who called and the choice points.
-ghost use Rattle.std.specs.Prelude.{◌≡◌, ◌+◌, ◌-◌, ◌≤◌, ℕ, [], ◌∷◌, length, nat_lt, Some, slice_get, slice_set, IfOk, OnOk, OnErr};
+ghost use Rattle.std.specs.Prelude.{◌≡◌, ◌⊎◌, ◌+◌, ◌-◌, ◌≤◌, ℕ, [], ◌∷◌, length, nat_lt, Some, slice_get, slice_set, IfOk, OnOk, OnErr};
 ghost use Rattle.merc_frames.specs.Stacks.{Stacks, GoesOn, caller_place, oldest, softened, Opens, Enters, Renews, GivesBack, GoesBack};
 ghost use Rattle.merc_frames.specs.View.{larger, counted, lowered, caller_top, newest};
+ghost use Rattle.merc_frames.specs.declared.copying.TheConstants.{SPARE};
 ghost use Rattle.merc_frames.specs.declared.kept.Kept.{Kept};
 ghost use Rattle.merc_frames.specs.declared.kept.Saved.{Saved};
 
-use crate::Slot;
-use crate::copying::{copy_frame, empty_frame, make_room};
+use crate::copying::{copy_frame, empty_frame, fits, make_room};
+use crate::handing::{Frame, deliver, make_frame};
 use crate::kept::{Kept, Saved};
+use crate::{Pass, Slot};
 use merc_base::NoMemory;
+use merc_goal_tree::Var;
 use std::alloc::Global;
 use std::marker::Model;
 
@@ -112,65 +115,114 @@ impl Frames {
         }
     }
 
-    /// A call: the current frame is the newest caller's, which goes on at `place`, and a frame of `size` slots, all
-    /// empty, is the current one. Where memory is refused, nothing changes.
-    pub fn enter(&mut self, place: usize, size: usize) -> Result<(), NoMemory>
-        ensures ok { OnOk result (Enters self.old self.new place size) }
+    /// A call: the current frame is the newest caller's, which goes on at `place`, and the current one is new. It has `size`
+    /// slots, with what is passed and nothing else. Where memory is refused, nothing changes.
+    #[inline(always)]
+    pub fn enter(&mut self, place: usize, size: usize, inputs: &[Pass]) -> Result<(), NoMemory>
+        ensures ok { OnOk result (Enters self.old self.new place size inputs.now) }
         ensures err { OnErr result (self.new ≡ self.old) }
     {
-        let top = self.base + self.size;
-        make_room(&mut self.slots, top, size)?;
-        self.saved.push(Saved {
+        let caller = Frame {
             base: self.base,
             size: self.size,
+        };
+        let base = caller.base + caller.size;
+        make_room(&mut self.slots, base, size)?;
+        self.saved.push(Saved {
+            base: caller.base,
+            size: caller.size,
             place,
             parent: self.height,
         })?;
-        empty_frame(&mut self.slots, top, size);
-        self.base = top;
+        make_frame(&mut self.slots, inputs, caller, Frame { base, size });
+        self.base = base;
         self.size = size;
         self.height = self.saved.len();
         Ok(())
     }
 
-    /// A last call: the current frame is given back, and one of `size` slots, all empty, is the current one. It begins
-    /// where all ends that callers and choice points need. Where memory is refused, nothing changes.
-    pub fn renew(&mut self, size: usize) -> Result<(), NoMemory>
-        ensures ok { OnOk result (Renews self.old self.new size) }
+    /// A last call: the current frame is given back, and the current one is new. It has `size` slots, with what is passed
+    /// and nothing else. Where memory is refused, nothing changes.
+    #[inline(always)]
+    pub fn renew(&mut self, size: usize, inputs: &[Pass]) -> Result<(), NoMemory>
+        ensures ok { OnOk result (Renews self.old self.new size inputs.now) }
         ensures err { OnErr result (self.new ≡ self.old) }
     {
         let count = count_of(&self.choices, self.height);
         let low = low_of(&self.saved, &self.choices, self.height, self.base);
-        make_room(&mut self.slots, low, size)?;
-        empty_frame(&mut self.slots, low, size);
+        let old = Frame {
+            base: self.base,
+            size: self.size,
+        };
+        let base = base_of(low, old.base, old.base + old.size, size);
+        make_room(&mut self.slots, base, size)?;
+        make_frame(&mut self.slots, inputs, old, Frame { base, size });
         self.saved.truncate(count);
-        self.base = low;
+        self.base = base;
         self.size = size;
         Ok(())
     }
 
     /// Goes back to the newest caller, whose frame is the current one, and gives the place where it goes on; `None`
-    /// without a caller. Where memory is refused, nothing changes.
-    pub fn give_back(&mut self) -> Result<Option<usize>, NoMemory>
-        ensures ok { IfOk result (λ place. GivesBack self.old self.new place) }
+    /// without a caller. What the own slots hold is put into the caller's, one for one. Where memory is refused, nothing
+    /// changes.
+    #[inline(always)]
+    pub fn give_back(&mut self, own: &[Var], outs: &[Var]) -> Result<Option<usize>, NoMemory>
+        ensures ok { IfOk result (λ place. GivesBack self.old self.new own.now outs.now place) }
+        ensures err { OnErr result (self.new ≡ self.old) }
+    {
+        if self.height > count_of(&self.choices, 0) {
+            let caller = self.saved[self.height - 1];
+            let from = Frame {
+                base: self.base,
+                size: self.size,
+            };
+            let to = Frame {
+                base: caller.base,
+                size: caller.size,
+            };
+            deliver(&mut self.slots, own, from, outs, to);
+            self.saved.truncate(self.height - 1);
+            self.base = caller.base;
+            self.size = caller.size;
+            self.height = caller.parent;
+            Ok(Some(caller.place))
+        } else {
+            self.give_back_kept(own, outs)
+        }
+    }
+
+    // Goes back to the newest caller, if there is one: in a copy of its frame, which the newest choice point keeps.
+    #[cold]
+    #[inline(never)]
+    fn give_back_kept(&mut self, own: &[Var], outs: &[Var]) -> Result<Option<usize>, NoMemory>
+        ensures ok { IfOk result (λ place. GivesBack self.old self.new own.now outs.now place) }
         ensures err { OnErr result (self.new ≡ self.old) }
     {
         if self.height == 0 {
             return Ok(None);
         }
         let caller = self.saved[self.height - 1];
-        if self.height > count_of(&self.choices, 0) {
-            self.saved.truncate(self.height - 1);
-            self.base = caller.base;
-            self.size = caller.size;
-            self.height = caller.parent;
-            return Ok(Some(caller.place));
-        }
-        // The newest choice point keeps the caller's frame, which goes on in a copy.
+        let from = Frame {
+            base: self.base,
+            size: self.size,
+        };
+        let top = from.base + from.size;
+        make_room(&mut self.slots, top, caller.size)?;
+        copy_frame(&mut self.slots, caller.base, caller.size, top);
+        deliver(
+            &mut self.slots,
+            own,
+            from,
+            outs,
+            Frame {
+                base: top,
+                size: caller.size,
+            },
+        );
         let count = count_of(&self.choices, caller.parent);
         let low = low_of(&self.saved, &self.choices, caller.parent, self.base);
-        make_room(&mut self.slots, low, caller.size)?;
-        copy_frame(&mut self.slots, caller.base, caller.size, low);
+        copy_frame(&mut self.slots, top, caller.size, low);
         self.saved.truncate(count);
         self.base = low;
         self.size = caller.size;
@@ -254,6 +306,20 @@ fn larger_of(one: usize, other: usize) -> usize
     ensures { result ≡ larger one other }
 {
     if one < other { other } else { one }
+}
+
+// Where a frame of this size begins that takes the place of the one from `base` to `end`, which it does not meet: where
+// all ends that others need, if it fits there below the old one, and else behind that. Behind it is only where it is larger
+// than all that lies between, so that any number of them, one after the other, take the room of a few.
+#[inline(always)]
+fn base_of(low: usize, base: usize, end: usize, size: usize) -> usize
+    requires under { low ≤ base }
+    requires ordered { base ≤ end }
+    ensures low { low ≤ result }
+    ensures under { result ≤ end }
+    ensures apart { (end ≤ result) ⊎ (result + size + SPARE ≤ base) }
+{
+    if fits(size, base - low) { low } else { end }
 }
 
 // How many saved frames the newest choice point and callers at this height need.

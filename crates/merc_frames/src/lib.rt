@@ -3,6 +3,7 @@
 
 mod copying;
 pub mod frames;
+mod handing;
 mod kept;
 pub mod passing;
 pub mod slot;

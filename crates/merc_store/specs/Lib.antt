@@ -6,8 +6,6 @@ pub mod EffectsExamples
 pub mod Fitting
 pub mod FittingExamples
 pub mod Moves
-pub mod Carrying
-pub mod CarryingExamples
 pub mod MovesExamples
 pub mod DataExamples
 pub mod Performing

@@ -7,7 +7,7 @@ ghost use Rattle.merc_store.specs.Fitting.{slot_mark};
 ghost use Rattle.merc_frames.specs.Handing.{empty_frame};
 ghost use Rattle.merc_store.specs.Moves.{Calls, CallsLast, GoesBack, Returns};
 
-use crate::carrying::{deliver_inputs, deliver_outputs, gather_inputs, gather_outputs, slot_at};
+use crate::carrying::slot_at;
 use crate::store::{Backed, Store};
 use merc_base::NoMemory;
 use merc_frames::{Pass, Slot};
@@ -26,23 +26,19 @@ impl Store {
 
     /// A call: the current frame is the newest caller's, which goes on at `place`. The new one has `size` slots, with what
     /// is passed and nothing else.
+    #[inline(always)]
     pub fn call(&mut self, place: usize, size: usize, inputs: &[Pass]) -> Result<(), NoMemory>
         ensures { OnOk result (Calls self.old self.new place size inputs.now) }
     {
-        let first = gather_inputs(&self.frames, inputs, &mut self.carried)?;
-        self.frames.enter(place, size)?;
-        deliver_inputs(&mut self.frames, inputs, first, &self.carried);
-        Ok(())
+        self.frames.enter(place, size, inputs)
     }
 
     /// A call that takes the place of the current frame.
+    #[inline(always)]
     pub fn call_last(&mut self, size: usize, inputs: &[Pass]) -> Result<(), NoMemory>
         ensures { OnOk result (CallsLast self.old self.new size inputs.now) }
     {
-        let first = gather_inputs(&self.frames, inputs, &mut self.carried)?;
-        self.frames.renew(size)?;
-        deliver_inputs(&mut self.frames, inputs, first, &self.carried);
-        Ok(())
+        self.frames.renew(size, inputs)
     }
 
     /// Where the newest caller goes on; `None` without one.
@@ -54,13 +50,11 @@ impl Store {
 
     /// Goes back to the newest caller. What these own slots hold is put into its slots, one for one. Without a caller
     /// nothing changes.
+    #[inline(always)]
     pub fn give_back(&mut self, own: &[Var], outs: &[Var]) -> Result<(), NoMemory>
         ensures { OnOk result ((newest : Caller) (callers : List Caller) → self.old.stacks.callers ≡ newest ∷ callers → Returns self.old self.new own.now outs.now) }
     {
-        let first = gather_outputs(&self.frames, own, &mut self.carried)?;
-        if self.frames.give_back()?.is_some() {
-            deliver_outputs(&mut self.frames, outs, first, &self.carried);
-        }
+        self.frames.give_back(own, outs)?;
         Ok(())
     }
 

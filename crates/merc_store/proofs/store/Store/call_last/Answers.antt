@@ -1,20 +1,10 @@
 use Rattle.std.proofs.Common.{sym, subst}
-use Rattle.merc_frames.specs.Stacks.{Stacks}
-use Rattle.merc_store.specs.Carrying.{Gathers}
-use Rattle.merc_store.specs.Data.{StoreData, IsSound}
-use Rattle.merc_store.specs.Moves.{CallsLast}
-use Rattle.merc_store.proofs.StepLaws.{store_of, last_sound, last_gives}
+use Rattle.merc_store.specs.Data.{IsSound}
+use Rattle.merc_store.proofs.StepLaws.{either_way, last_sound}
 use Rattle.merc_store.proofs.store.Store.call_last.Goals as goal
 
-pub invariant_of-self-2 : goal.invariant_of-self-2
-invariant_of-self-2 c =
-    let gathers = subst (Gathers c.args.inputs.now c.self.inside.frames.current c.in_ok-first.first) (sym c.deref.ensures.value) c.in_ok-first.ensures in
-    subst (IsSound c.self.inside.heap) (sym c.deliver_inputs.ensures)
-    (last_sound c.self.inside.heap c.self.inside.frames c.self.invariant c.renew.new.self c.args.size c.args.inputs.now c.in_ok-first.first c.deref.result.now gathers c.in_ok-renew.ensures.ok)
-
-pub returns : goal.returns
-returns c =
-    let gathers = subst (Gathers c.args.inputs.now c.self.inside.frames.current c.in_ok-first.first) (sym c.deref.ensures.value) c.in_ok-first.ensures in
-    subst (λ (before : StoreData). CallsLast before (store_of c.self.inside.heap c.deliver_inputs.new.frames) c.args.size c.args.inputs.now) c.self.view_is
-    (subst (λ (after : Stacks). CallsLast (store_of c.self.inside.heap c.self.inside.frames) (store_of c.self.inside.heap after) c.args.size c.args.inputs.now) (sym c.deliver_inputs.ensures)
-    (last_gives c.self.inside.heap c.self.inside.frames c.self.invariant c.renew.new.self c.args.size c.args.inputs.now c.in_ok-first.first c.deref.result.now gathers c.in_ok-renew.ensures.ok))
+pub invariant_of-self : goal.invariant_of-self
+invariant_of-self c =
+    either_way c.renew.result _ _ _
+    (last_sound c.self.inside.heap c.self.inside.frames c.self.invariant c.renew.new.self c.args.size c.args.inputs.now)
+    (λ same. subst (IsSound c.self.inside.heap) (sym same) c.self.invariant) c.renew.ensures.ok c.renew.ensures.err
