@@ -5,11 +5,10 @@ ghost use Rattle.merc_frames.specs.Slots.{holding, word_in, mark_in};
 use merc_base::Name;
 use merc_value::Word;
 
-/// What a slot of a frame holds.
+/// What a slot of a frame holds. The words come first and in the order of `Word`, so that a slot that holds one has its
+/// tag.
 #[derive(Clone, Copy, Debug, PartialEq, Eq, Drop)]
 pub enum Slot {
-    /// Nothing.
-    Empty,
     /// The word of an integer.
     Int(i64),
     /// The word of a text, which this name has.
@@ -18,6 +17,8 @@ pub enum Slot {
     Atom(Name),
     /// The word of the cell at this place, from 0.
     Cell(usize),
+    /// Nothing.
+    Empty,
     /// A mark: a number of choice points.
     Mark(usize),
 }
@@ -54,7 +55,7 @@ impl Slot {
     {
         match self {
             Slot::Mark(count) => count,
-            Slot::Empty | Slot::Int(_) | Slot::Text(_) | Slot::Atom(_) | Slot::Cell(_) => 0,
+            Slot::Int(_) | Slot::Text(_) | Slot::Atom(_) | Slot::Cell(_) | Slot::Empty => 0,
         }
     }
 }
