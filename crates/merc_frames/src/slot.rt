@@ -45,7 +45,7 @@ impl Slot {
             Slot::Text(name) => Some(Word::Text(name)),
             Slot::Atom(name) => Some(Word::Atom(name)),
             Slot::Cell(place) => Some(Word::Cell(place)),
-            Slot::Empty | Slot::Mark(_) => None,
+            _ => None,
         }
     }
 
@@ -55,7 +55,7 @@ impl Slot {
     {
         match self {
             Slot::Mark(count) => count,
-            Slot::Int(_) | Slot::Text(_) | Slot::Atom(_) | Slot::Cell(_) | Slot::Empty => 0,
+            _ => 0,
         }
     }
 }
