@@ -1,13 +1,13 @@
 //! Values split into their arguments.
-ghost use Rattle.std.specs.Prelude.{◌≡◌, ℕ, List, length, map};
+ghost use Rattle.std.specs.Prelude.{◌≡◌, ◌<◌, ℕ, List, length, map};
 ghost use Rattle.std.specs.Option.{is_some};
 ghost use Rattle.merc_value.specs.Value.{Value};
-ghost use Rattle.merc_value.specs.Block.{IsBelow, value_of};
+ghost use Rattle.merc_value.specs.Block.{AreLower, IsBelow, value_of};
 ghost use Rattle.merc_meaning.specs.Values.{fields};
 ghost use Rattle.merc_meaning.specs.Trace.{Env};
 ghost use Rattle.merc_meaning.specs.Steps.{value_at};
 ghost use Rattle.merc_code.specs.Steps.{target_of, target_at};
-ghost use Rattle.merc_heap.specs.Heap.{word_of};
+ghost use Rattle.merc_heap.specs.Heap.{arguments_in, word_of};
 ghost use Rattle.merc_store.specs.Fitting.{FitsFrame};
 ghost use Rattle.merc_store.specs.Performing.{Does, head_of, stored};
 
@@ -15,7 +15,7 @@ use crate::{Done, Store};
 use merc_code::{Instruction, Target};
 use merc_frames::{Frames, Slot};
 use merc_goal_tree::{Symbol, Var};
-use merc_heap::slot;
+use merc_heap::{Heap, slot};
 use merc_value::Word;
 
 impl Store {
@@ -35,19 +35,19 @@ impl Store {
     pub(crate) fn split(&mut self, whole: Var, symbol: Symbol, variables: &[Var]) -> Done
         ensures { Does self.old self.new (Instruction.Split whole symbol variables.now) result }
     {
-        // A literal has no arguments.
-        let Symbol::Constructor(name, arity) = symbol else {
-            return self.literal(whole, symbol);
-        };
         let Some(word) = self.word(whole) else {
             return Done::Failed;
         };
-        match self.heap.fields_of(word, name, arity) {
-            Some(fields) => {
-                fill(&mut self.frames, variables, fields);
-                Done::Bound
-            }
-            None => Done::Failed,
+        let Word::Cell(place) = word else {
+            // Another value has no arguments.
+            return self.literal(whole, symbol);
+        };
+        let (head, fields) = cell_in(&self.heap, place);
+        if is_head(symbol, &head) {
+            fill(&mut self.frames, variables, fields);
+            Done::Bound
+        } else {
+            Done::Failed
         }
     }
 
@@ -74,11 +74,23 @@ impl Store {
             Word::Text(text) => Symbol::Text(text),
             Word::Atom(name) => Symbol::Constructor(name, 0),
             Word::Cell(place) => {
-                let (name, arity) = self.heap.header(place);
-                Symbol::Constructor(name, arity)
+                let (head, _) = cell_in(&self.heap, place);
+                head
             }
         }
     }
+}
+
+// The symbol that the value of the cell at a place is of, and the cell's fields in order.
+#[inline(always)]
+pub(crate) fn cell_in(heap: &Heap, place: usize) -> (Symbol, &[slot::Slot])
+    requires { place < length heap.now }
+    ensures symbol { result.0 ≡ head_of (value_of heap.now (Word.Cell place)) }
+    ensures fields { map word_of result.1.now ≡ arguments_in heap.now (Word.Cell place) }
+    ensures lower { AreLower heap.now }
+{
+    let (name, fields) = heap.cell(place);
+    (Symbol::Constructor(name, fields.len()), fields)
 }
 
 // Behind how many instructions a switch over the values of this symbol goes on.
@@ -101,7 +113,8 @@ pub(crate) fn is_head(symbol: Symbol, head: &Symbol) -> bool
 }
 
 // Gives variables the values of fields, one for one.
-fn fill(frames: &mut Frames, variables: &[Var], fields: &[slot::Slot])
+#[inline(always)]
+pub(crate) fn fill(frames: &mut Frames, variables: &[Var], fields: &[slot::Slot])
     ensures { frames.new ≡ record frames.old { current = stored variables.now (map word_of fields.now) frames.old.current } }
 {
     for (variable, field) in variables.iter().zip(fields) {
