@@ -1,15 +1,16 @@
 //! Values split into their arguments.
-ghost use Rattle.std.specs.Prelude.{◌≡◌, ◌<◌, ℕ, List, length, map};
-ghost use Rattle.std.specs.Option.{is_some};
+ghost use Rattle.std.specs.Prelude.{◌≡◌, ◌<◌, ℕ, List, Some, length, map, slice_set};
+ghost use Rattle.std.specs.Option.{is_some, IfSome, IfNone};
 ghost use Rattle.merc_value.specs.Value.{Value};
 ghost use Rattle.merc_value.specs.Block.{AreLower, IsBelow, value_of};
 ghost use Rattle.merc_meaning.specs.Values.{fields};
 ghost use Rattle.merc_meaning.specs.Trace.{Env};
 ghost use Rattle.merc_meaning.specs.Steps.{value_at};
 ghost use Rattle.merc_code.specs.Steps.{target_of, target_at};
+ghost use Rattle.merc_frames.specs.Slots.{holding};
 ghost use Rattle.merc_heap.specs.Heap.{arguments_in, word_of};
 ghost use Rattle.merc_store.specs.Fitting.{FitsFrame};
-ghost use Rattle.merc_store.specs.Performing.{Does, head_of, stored};
+ghost use Rattle.merc_store.specs.Performing.{Does, head_of, stored, word_at};
 
 use crate::{Done, Store};
 use merc_code::{Instruction, Target};
@@ -35,10 +36,7 @@ impl Store {
     pub(crate) fn split(&mut self, whole: Var, symbol: Symbol, variables: &[Var]) -> Done
         ensures { Does self.old self.new (Instruction.Split whole symbol variables.now) result }
     {
-        let Some(word) = self.word(whole) else {
-            return Done::Failed;
-        };
-        let Word::Cell(place) = word else {
+        let Some(place) = self.cell(whole) else {
             // Another value has no arguments.
             return self.literal(whole, symbol);
         };
@@ -61,6 +59,19 @@ impl Store {
             Done::Bound
         } else {
             Done::Failed
+        }
+    }
+
+    // The place of the cell that a variable's value is, if it is one.
+    #[inline(always)]
+    pub(crate) fn cell(&self, variable: Var) -> Option<usize>
+        ensures found { IfSome result (λ place. word_at self.now.stacks.current variable ≡ Some (Word.Cell place)) }
+        ensures below { IfSome result (λ place. place < length self.now.cells) }
+        ensures none { IfNone result ((place : ℕ) → word_at self.now.stacks.current variable ≡ Some (Word.Cell place) → ⊥) }
+    {
+        match self.word(variable)? {
+            Word::Cell(place) => Some(place),
+            _ => None,
         }
     }
 
@@ -112,12 +123,39 @@ pub(crate) fn is_head(symbol: Symbol, head: &Symbol) -> bool
     symbol == *head
 }
 
-// Gives variables the values of fields, one for one.
+// Gives variables the values of fields, one for one. Few of them are given without a loop.
 #[inline(always)]
 pub(crate) fn fill(frames: &mut Frames, variables: &[Var], fields: &[slot::Slot])
     ensures { frames.new ≡ record frames.old { current = stored variables.now (map word_of fields.now) frames.old.current } }
 {
-    for (variable, field) in variables.iter().zip(fields) {
-        frames.set(variable.number(), Slot::holding(field.word()));
+    match (variables, fields) {
+        ([one], [first]) => put(frames, *one, first),
+        ([one, two], [first, second]) => {
+            put(frames, *one, first);
+            put(frames, *two, second);
+        }
+        ([one, two, three], [first, second, third]) => {
+            put(frames, *one, first);
+            put(frames, *two, second);
+            put(frames, *three, third);
+        }
+        _ => fill_each(frames, variables, fields),
     }
+}
+
+#[inline(never)]
+fn fill_each(frames: &mut Frames, variables: &[Var], fields: &[slot::Slot])
+    ensures { frames.new ≡ record frames.old { current = stored variables.now (map word_of fields.now) frames.old.current } }
+{
+    for (variable, field) in variables.iter().zip(fields) {
+        put(frames, *variable, field);
+    }
+}
+
+// Gives a variable the value of a field.
+#[inline(always)]
+fn put(frames: &mut Frames, variable: Var, field: &slot::Slot)
+    ensures { frames.new ≡ record frames.old { current = slice_set frames.old.current variable (holding (word_of field.now)) } }
+{
+    frames.set(variable.number(), Slot::holding(field.word()));
 }

@@ -15,37 +15,31 @@ use Rattle.merc_store.proofs.ReadingLemmas.{none_of}
 use Rattle.merc_store.proofs.store.Store.split.Goals as goal
 
 pub returns-in_default : goal.returns-in_default
-returns-in_default c = split_lacks c.args.self.now c.args.whole c.args.symbol c.args.variables.now (sym c.word.ensures.word ∙ none_of c.word.result c.in_default.not-Some)
-
-pub returns-in_default-word : goal.returns-in_default-word
-returns-in_default-word c = split_plain c.args.self.now c.args.whole c.args.symbol c.args.variables.now c.in-Some.word (sym c.word.ensures.word ∙ c.in-Some.is)
-    c.in_default-word.not-Cell c.args.self.now c.literal.result c.literal.ensures
+returns-in_default c = split_plain c.args.self.now c.args.whole c.args.symbol c.args.variables.now c.in_default.ensures.none c.args.self.now c.literal.result c.literal.ensures
 
 pub invariant_of-self : goal.invariant_of-self
 invariant_of-self c =
     let seen : c.self.inside.heap ≡ c.args.self.now.cells = ap (λ s. s.cells) c.self.view_is in
-    let below : c.in-Cell.place < length c.args.self.now.cells = subst (IsBelow (length c.args.self.now.cells)) c.in-Cell.is (below_some (length c.args.self.now.cells) c.word.result c.in-Some.word c.in-Some.is c.word.ensures.below) in
-    fields_sound c.self.inside.heap c.args.variables.now (map word_of c.cell_in-head.result.1.now) c.self.inside.frames c.fill.new.frames c.self.invariant c.cell_in-head.ensures.lower c.in-Cell.place
-    (subst (λ cells. c.in-Cell.place < length cells) (sym seen) below) c.cell_in-head.ensures.fields c.fill.ensures
+    fields_sound c.self.inside.heap c.args.variables.now (map word_of c.cell_in-head.result.1.now) c.self.inside.frames c.fill.new.frames c.self.invariant c.cell_in-head.ensures.lower c.in-Some.place
+    (subst (λ cells. c.in-Some.place < length cells) (sym seen) c.in-Some.ensures.below) c.cell_in-head.ensures.fields c.fill.ensures
 
 pub returns-then-is_head : goal.returns-then-is_head
 returns-then-is_head c =
     let seen : c.self.inside.heap ≡ c.args.self.now.cells = ap (λ s. s.cells) c.self.view_is in
-    let below : c.in-Cell.place < length c.args.self.now.cells = subst (IsBelow (length c.args.self.now.cells)) c.in-Cell.is (below_some (length c.args.self.now.cells) c.word.result c.in-Some.word c.in-Some.is c.word.ensures.below) in
     let found = ap (λ (s : StoreData). s.stacks.current) c.self.view_is in
     subst (λ s. Does s (store_of c.self.inside.heap c.fill.new.frames) (Split c.args.whole c.args.symbol c.args.variables.now) Bound) c.self.view_is
     (does_same _ _ _ _ _ _
     (ap (store_of c.self.inside.heap) c.fill.ensures
     ∙ ap (λ words. with_current (store_of c.self.inside.heap c.self.inside.frames) (stored c.args.variables.now words c.self.inside.frames.current)) c.cell_in-head.ensures.fields) refl
-    (split_does (store_of c.self.inside.heap c.self.inside.frames) c.args.whole c.args.symbol c.args.variables.now (Cell c.in-Cell.place) c.cell_in-head.ensures.lower
-    (subst (λ cells. c.in-Cell.place < length cells) (sym seen) below)
-    (ap (λ slots. word_at slots c.args.whole) found ∙ sym c.word.ensures.word ∙ c.in-Some.is ∙ ap Some c.in-Cell.is)
-    (sym (c.is_head.ensures (value_of c.self.inside.heap (Cell c.in-Cell.place)) c.cell_in-head.ensures.symbol) ∙ c.if-is_head.true)))
+    (split_does (store_of c.self.inside.heap c.self.inside.frames) c.args.whole c.args.symbol c.args.variables.now (Cell c.in-Some.place) c.cell_in-head.ensures.lower
+    (subst (λ cells. c.in-Some.place < length cells) (sym seen) c.in-Some.ensures.below)
+    (ap (λ slots. word_at slots c.args.whole) found ∙ c.in-Some.ensures.found)
+    (sym (c.is_head.ensures (value_of c.self.inside.heap (Cell c.in-Some.place)) c.cell_in-head.ensures.symbol) ∙ c.if-is_head.true)))
 
 pub returns-else-is_head : goal.returns-else-is_head
 returns-else-is_head c =
     let seen : c.self.inside.heap ≡ c.args.self.now.cells = ap (λ s. s.cells) c.self.view_is in
-    split_fails c.args.self.now c.args.whole c.args.symbol c.args.variables.now (Cell c.in-Cell.place)
-    (sym c.word.ensures.word ∙ c.in-Some.is ∙ ap Some c.in-Cell.is)
-    (ap (λ cells. is_some (fields c.args.symbol (value_of cells (Cell c.in-Cell.place)))) (sym seen)
-    ∙ sym (c.is_head.ensures (value_of c.self.inside.heap (Cell c.in-Cell.place)) c.cell_in-head.ensures.symbol) ∙ c.if-is_head.false)
+    split_fails c.args.self.now c.args.whole c.args.symbol c.args.variables.now (Cell c.in-Some.place)
+    (c.in-Some.ensures.found)
+    (ap (λ cells. is_some (fields c.args.symbol (value_of cells (Cell c.in-Some.place)))) (sym seen)
+    ∙ sym (c.is_head.ensures (value_of c.self.inside.heap (Cell c.in-Some.place)) c.cell_in-head.ensures.symbol) ∙ c.if-is_head.false)
