@@ -25,6 +25,7 @@ pub enum Slot {
 
 impl Slot {
     /// A slot that holds a word.
+    #[inline(always)]
     pub fn holding(word: Word) -> Slot
         ensures { result ≡ holding word }
     {
@@ -37,6 +38,7 @@ impl Slot {
     }
 
     /// The word that it holds, if it holds one.
+    #[inline(always)]
     pub fn word(self) -> Option<Word>
         ensures { result ≡ word_in self }
     {
@@ -50,6 +52,7 @@ impl Slot {
     }
 
     /// The mark that it holds; 0 where it holds none.
+    #[inline(always)]
     pub fn mark(self) -> usize
         ensures { result ≡ mark_in self }
     {
