@@ -13,6 +13,7 @@ ghost use Rattle.merc_store.specs.Fitting.{FitsFrame};
 ghost use Rattle.merc_store.specs.Performing.{Does, head_of, stored, word_at};
 
 use crate::{Done, Store};
+use merc_base::Name;
 use merc_code::{Instruction, Target};
 use merc_frames::{Frames, Slot};
 use merc_goal_tree::{Symbol, Var};
@@ -33,15 +34,15 @@ impl Store {
     }
 
     #[inline(always)]
-    pub(crate) fn split(&mut self, whole: Var, symbol: Symbol, variables: &[Var]) -> Done
-        ensures { Does self.old self.new (Instruction.Split whole symbol variables.now) result }
+    pub(crate) fn split(&mut self, whole: Var, symbol: &Symbol, variables: &[Var]) -> Done
+        ensures { Does self.old self.new (Instruction.Split whole symbol.now variables.now) result }
     {
         let Some(place) = self.cell(whole) else {
             // Another value has no arguments.
             return self.literal(whole, symbol);
         };
         let (head, fields) = cell_in(&self.heap, place);
-        if is_head(symbol, &head) {
+        if is_head(*symbol, &head) {
             fill(&mut self.frames, variables, fields);
             Done::Bound
         } else {
@@ -49,13 +50,13 @@ impl Store {
         }
     }
 
-    pub(crate) fn literal(&self, whole: Var, symbol: Symbol) -> Done
-        ensures { Does self.now self.now (Instruction.Literal whole symbol) result }
+    pub(crate) fn literal(&self, whole: Var, symbol: &Symbol) -> Done
+        ensures { Does self.now self.now (Instruction.Literal whole symbol.now) result }
     {
         let Some(word) = self.word(whole) else {
             return Done::Failed;
         };
-        if is_head(symbol, &self.head(&word)) {
+        if is_head(*symbol, &self.head(&word)) {
             Done::Bound
         } else {
             Done::Failed
@@ -71,6 +72,17 @@ impl Store {
     {
         match self.word(variable)? {
             Word::Cell(place) => Some(place),
+            _ => None,
+        }
+    }
+
+    // The constructor without arguments that a variable's value is, if it is one.
+    #[inline(always)]
+    pub(crate) fn atom(&self, variable: Var) -> Option<Name>
+        ensures { IfSome result (λ name. word_at self.now.stacks.current variable ≡ Some (Word.Atom name)) }
+    {
+        match self.word(variable)? {
+            Word::Atom(name) => Some(name),
             _ => None,
         }
     }
@@ -129,11 +141,11 @@ pub(crate) fn fill(frames: &mut Frames, variables: &[Var], fields: &[slot::Slot]
     ensures { frames.new ≡ record frames.old { current = stored variables.now (map word_of fields.now) frames.old.current } }
 {
     match (variables, fields) {
-        ([one], [first]) => put(frames, *one, first),
         ([one, two], [first, second]) => {
             put(frames, *one, first);
             put(frames, *two, second);
         }
+        ([one], [first]) => put(frames, *one, first),
         ([one, two, three], [first, second, third]) => {
             put(frames, *one, first);
             put(frames, *two, second);
