@@ -88,6 +88,7 @@ impl Store {
     }
 
     // The symbol that a word's value is of.
+    #[inline(always)]
     pub(crate) fn head(&self, word: &Word) -> Symbol
         requires { IsBelow (length self.now.cells) word.now }
         ensures { result ≡ head_of (value_of self.now.cells word.now) }
@@ -117,6 +118,7 @@ pub(crate) fn cell_in(heap: &Heap, place: usize) -> (Symbol, &[slot::Slot])
 }
 
 // Behind how many instructions a switch over the values of this symbol goes on.
+#[inline(always)]
 fn first_target(head: &Symbol, targets: &[Target]) -> Option<usize>
     ensures { (value : Value) → head.now ≡ head_of value → result ≡ target_of value targets.now }
 {
@@ -129,6 +131,7 @@ fn first_target(head: &Symbol, targets: &[Target]) -> Option<usize>
 }
 
 // Whether the values of which this is the symbol are of that one.
+#[inline(always)]
 pub(crate) fn is_head(symbol: Symbol, head: &Symbol) -> bool
     ensures { (value : Value) → head.now ≡ head_of value → result ≡ is_some (fields symbol value) }
 {
