@@ -5,11 +5,10 @@ ghost use Rattle.merc_frames.specs.Slots.{holding, word_in, mark_in};
 use merc_base::Name;
 use merc_value::Word;
 
-/// What a slot of a frame holds.
+/// What a slot of a frame holds. The words come first and in the order of `Word`, so that a slot that holds one has its
+/// tag.
 #[derive(Clone, Copy, Debug, PartialEq, Eq, Drop)]
 pub enum Slot {
-    /// Nothing.
-    Empty,
     /// The word of an integer.
     Int(i64),
     /// The word of a text, which this name has.
@@ -18,12 +17,15 @@ pub enum Slot {
     Atom(Name),
     /// The word of the cell at this place, from 0.
     Cell(usize),
+    /// Nothing.
+    Empty,
     /// A mark: a number of choice points.
     Mark(usize),
 }
 
 impl Slot {
     /// A slot that holds a word.
+    #[inline(always)]
     pub fn holding(word: Word) -> Slot
         ensures { result ≡ holding word }
     {
@@ -36,6 +38,7 @@ impl Slot {
     }
 
     /// The word that it holds, if it holds one.
+    #[inline(always)]
     pub fn word(self) -> Option<Word>
         ensures { result ≡ word_in self }
     {
@@ -44,17 +47,18 @@ impl Slot {
             Slot::Text(name) => Some(Word::Text(name)),
             Slot::Atom(name) => Some(Word::Atom(name)),
             Slot::Cell(place) => Some(Word::Cell(place)),
-            Slot::Empty | Slot::Mark(_) => None,
+            _ => None,
         }
     }
 
     /// The mark that it holds; 0 where it holds none.
+    #[inline(always)]
     pub fn mark(self) -> usize
         ensures { result ≡ mark_in self }
     {
         match self {
             Slot::Mark(count) => count,
-            Slot::Empty | Slot::Int(_) | Slot::Text(_) | Slot::Atom(_) | Slot::Cell(_) => 0,
+            _ => 0,
         }
     }
 }

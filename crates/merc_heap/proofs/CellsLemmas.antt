@@ -1,7 +1,6 @@
 -- The cells of a heap, where it grows at its end and where it is cut.
 use Rattle.std.proofs.Common.{◌≡◌, ℕ, zero, suc, ◌+◌, ◌-◌, ◌<◌, ◌≤◌, ◌⊎◌, inl, inr, List, [], ◌∷◌, ◌++◌, length, map, take, drop, Option, Some, None, refl, sym, ap, subst, ◌∙◌, arith, slice_get, get_or, length-append, append_assoc, append-nil}
 use Rattle.std.specs.List.{All, slice_range}
-use Rattle.std.specs.Option.{IfNone}
 use Rattle.std.proofs.lemmas.List.{length-map, length-take-le, drop-take}
 use Rattle.merc_base.specs.Names.{nil_name}
 use Rattle.merc_value.specs.Value.{Con}
@@ -289,10 +288,3 @@ module _ (slots read : List Slot) (cells : List CellData) (place : ℕ) (flat : 
       sym (ap (λ (cs : List CellData). arguments_in cs (CellWord place)) seen)
       ∙ ap arguments_of (found_ending slots place inside)
       ∙ ap (λ (ss : List Slot). (cell_ending ss place).arguments) (sym is)
-
-pub none_then : {A : Type 0} (found : Option A) {P Q : Type 0} → IfNone found P → (P → Q) → IfNone found Q
-none_then None held then = then held
-none_then (Some x) held then = tt
-
-pub some_is : {A : Type 0} (x y : A) → Some x ≡ Some y → x ≡ y
-some_is x y same = cc

@@ -1,7 +1,6 @@
 //! The heap: one flat list of cells.
-ghost use Rattle.std.specs.Prelude.{◌≡◌, ◌+◌, ◌-◌, ◌++◌, ◌∷◌, ◌<◌, ◌≤◌, [], Some, length, map, take, slice_get, IfOk, OnOk, OnErr};
-ghost use Rattle.std.specs.Option.{IfSome, IfNone};
-ghost use Rattle.std.specs.List.{All, slice_range};
+ghost use Rattle.std.specs.Prelude.{◌≡◌, ◌+◌, ◌++◌, ◌∷◌, ◌<◌, ◌≤◌, [], Some, length, map, take, slice_get, IfOk, OnOk, OnErr};
+ghost use Rattle.std.specs.List.{All};
 ghost use Rattle.merc_value.specs.Value.{Con};
 ghost use Rattle.merc_value.specs.Block.{AreLower, IsBelow, word_values, cell_values, value_of};
 ghost use Rattle.merc_value.specs.Sharing.{IsWordFor};
@@ -76,6 +75,7 @@ impl Heap {
 
     /// Puts a constructor with these arguments behind the other cells, and gives the word for it. Where memory is
     /// refused the heap is unchanged, and so where there are 2^32 arguments or more, which no header counts.
+    #[inline(always)]
     pub fn build(&mut self, symbol: Name, arguments: &[Word]) -> Result<Word, NoMemory>
         requires { All (IsBelow (length self.old)) arguments.now }
         ensures word { IfOk result (IsWordFor self.new (Con symbol (word_values (cell_values self.old) arguments.now))) }
@@ -103,35 +103,15 @@ impl Heap {
         }
     }
 
-    /// The constructor of the cell at a place, with the number of its fields.
-    pub fn header(&self, place: usize) -> (Name, usize)
+    /// The constructor of the cell at a place, and its fields in order.
+    #[inline(always)]
+    pub fn cell(&self, place: usize) -> (Name, &[Slot])
         requires { place < length self.now }
         ensures symbol { symbol_of (value_of self.now (Word.Cell place)) ≡ Some result.0 }
-        ensures count { length (arguments_in self.now (Word.Cell place)) ≡ result.1 }
+        ensures fields { map word_of result.1.now ≡ arguments_in self.now (Word.Cell place) }
         ensures lower { AreLower self.now }
     {
-        header_at(&self.slots, place)
-    }
-
-    /// The fields of a word whose value is of this constructor with so many arguments, in order; `None` exactly for
-    /// other words.
-    pub fn fields_of(&self, word: Word, symbol: Name, arity: usize) -> Option<&[Slot]>
-        requires { IsBelow (length self.now) word }
-        ensures fields { IfSome result (λ fields. (symbol_of (value_of self.now word) ≡ Some symbol) × (length (arguments_in self.now word) ≡ arity) × (map word_of fields.now ≡ arguments_in self.now word)) }
-        ensures none { IfNone result (symbol_of (value_of self.now word) ≡ Some symbol → length (arguments_in self.now word) ≡ arity → ⊥) }
-        ensures lower { AreLower self.now }
-    {
-        match word {
-            Word::Cell(place) => fields_at(&self.slots, place, symbol, arity),
-            Word::Atom(found) => {
-                if found == symbol && arity == 0 {
-                    Some(&self.slots[0..0])
-                } else {
-                    None
-                }
-            }
-            _ => None,
-        }
+        cell_at(&self.slots, place)
     }
 
     /// The number of the fields of a word, 0 for all but a cell.
@@ -144,14 +124,6 @@ impl Heap {
             Word::Cell(place) => arity_at(&self.slots, place),
             _ => 0,
         }
-    }
-
-    /// The word of a field, from 0; `None` exactly where the word's value has no argument of this number.
-    pub fn field(&self, word: Word, index: u32) -> Option<Word>
-        requires { IsBelow (length self.now) word }
-        ensures { result ≡ slice_get (arguments_in self.now word) index }
-    {
-        self.argument(word, index as usize)
     }
 
     /// Where the heap takes its memory from.
@@ -210,33 +182,16 @@ fn arity_at(slots: &[Slot], place: usize) -> usize
     }
 }
 
-// The constructor of the cell that ends at a place, and the number of its fields, which lie right before it.
-fn header_at(slots: &[Slot], place: usize) -> (Name, usize)
+// The constructor of the cell that ends at a place, and its fields, which lie right before its header.
+fn cell_at(slots: &[Slot], place: usize) -> (Name, &[Slot])
     requires within { place < length slots.now }
     requires flat { IsFlat slots.now }
     ensures symbol { result.0 ≡ (cell_ending slots.now place).symbol }
-    ensures count { result.1 ≡ length (cell_ending slots.now place).arguments }
-    ensures room { result.1 ≤ place }
-    ensures fields { (cell_ending slots.now place).arguments ≡ map word_of (slice_range slots.now (place - result.1) place) }
+    ensures fields { map word_of result.1.now ≡ (cell_ending slots.now place).arguments }
 {
     match slots[place] {
-        Slot::Header(arity, symbol) => (symbol, arity as usize),
-        _ => (Name::NIL, 0),
-    }
-}
-
-// The fields of the cell that ends at a place, where it is of this constructor with so many fields.
-fn fields_at(slots: &[Slot], place: usize, symbol: Name, arity: usize) -> Option<&[Slot]>
-    requires within { place < length slots.now }
-    requires flat { IsFlat slots.now }
-    ensures fields { IfSome result (λ fields. ((cell_ending slots.now place).symbol ≡ symbol) × (length (cell_ending slots.now place).arguments ≡ arity) × (map word_of fields.now ≡ (cell_ending slots.now place).arguments)) }
-    ensures none { IfNone result ((cell_ending slots.now place).symbol ≡ symbol → length (cell_ending slots.now place).arguments ≡ arity → ⊥) }
-{
-    let (found, count) = header_at(slots, place);
-    if found == symbol && count == arity {
-        Some(&slots[place - arity..place])
-    } else {
-        None
+        Slot::Header(arity, symbol) => (symbol, &slots[place - arity as usize..place]),
+        _ => (Name::NIL, &slots[0..0]),
     }
 }
 
@@ -255,6 +210,7 @@ fn field_at(slots: &[Slot], place: usize, index: usize) -> Option<Word>
 }
 
 // Puts a cell behind the others, and gives the place of its header. Where memory is refused nothing is put there.
+#[inline(always)]
 fn push_cell(slots: &mut Vec<Slot>, symbol: Name, arguments: &[Word]) -> Result<usize, NoMemory>
     ensures place { IfOk result (λ place. place ≡ length slots.old.items + length arguments.now) }
     ensures ok { OnOk result (slots.new.items ≡ (slots.old.items ++ map field_of arguments.now) ++ Slot.Header (length arguments.now) symbol ∷ []) }

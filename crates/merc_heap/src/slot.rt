@@ -19,6 +19,7 @@ pub enum Slot {
 
 impl Slot {
     // The slot of a field with this word.
+    #[inline(always)]
     pub(crate) fn field(word: Word) -> Slot
         ensures { result ≡ field_of word }
     {
@@ -31,6 +32,7 @@ impl Slot {
     }
 
     /// The word of a field.
+    #[inline(always)]
     pub fn word(&self) -> Word
         ensures { result ≡ word_of self.now }
     {

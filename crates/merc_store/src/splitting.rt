@@ -1,21 +1,23 @@
 //! Values split into their arguments.
-ghost use Rattle.std.specs.Prelude.{◌≡◌, ℕ, List, length, map};
-ghost use Rattle.std.specs.Option.{is_some};
+ghost use Rattle.std.specs.Prelude.{◌≡◌, ◌<◌, ℕ, List, Some, length, map, slice_set};
+ghost use Rattle.std.specs.Option.{is_some, IfSome, IfNone};
 ghost use Rattle.merc_value.specs.Value.{Value};
-ghost use Rattle.merc_value.specs.Block.{IsBelow, value_of};
+ghost use Rattle.merc_value.specs.Block.{AreLower, IsBelow, value_of};
 ghost use Rattle.merc_meaning.specs.Values.{fields};
 ghost use Rattle.merc_meaning.specs.Trace.{Env};
 ghost use Rattle.merc_meaning.specs.Steps.{value_at};
 ghost use Rattle.merc_code.specs.Steps.{target_of, target_at};
-ghost use Rattle.merc_heap.specs.Heap.{word_of};
+ghost use Rattle.merc_frames.specs.Slots.{holding};
+ghost use Rattle.merc_heap.specs.Heap.{arguments_in, word_of};
 ghost use Rattle.merc_store.specs.Fitting.{FitsFrame};
-ghost use Rattle.merc_store.specs.Performing.{Does, head_of, stored};
+ghost use Rattle.merc_store.specs.Performing.{Does, head_of, stored, word_at};
 
 use crate::{Done, Store};
+use merc_base::Name;
 use merc_code::{Instruction, Target};
 use merc_frames::{Frames, Slot};
 use merc_goal_tree::{Symbol, Var};
-use merc_heap::slot;
+use merc_heap::{Heap, slot};
 use merc_value::Word;
 
 impl Store {
@@ -32,39 +34,61 @@ impl Store {
     }
 
     #[inline(always)]
-    pub(crate) fn split(&mut self, whole: Var, symbol: Symbol, variables: &[Var]) -> Done
-        ensures { Does self.old self.new (Instruction.Split whole symbol variables.now) result }
+    pub(crate) fn split(&mut self, whole: Var, symbol: &Symbol, variables: &[Var]) -> Done
+        ensures { Does self.old self.new (Instruction.Split whole symbol.now variables.now) result }
     {
-        // A literal has no arguments.
-        let Symbol::Constructor(name, arity) = symbol else {
+        let Some(place) = self.cell(whole) else {
+            // Another value has no arguments.
             return self.literal(whole, symbol);
         };
-        let Some(word) = self.word(whole) else {
-            return Done::Failed;
-        };
-        match self.heap.fields_of(word, name, arity) {
-            Some(fields) => {
-                fill(&mut self.frames, variables, fields);
-                Done::Bound
-            }
-            None => Done::Failed,
-        }
-    }
-
-    pub(crate) fn literal(&self, whole: Var, symbol: Symbol) -> Done
-        ensures { Does self.now self.now (Instruction.Literal whole symbol) result }
-    {
-        let Some(word) = self.word(whole) else {
-            return Done::Failed;
-        };
-        if is_head(symbol, &self.head(&word)) {
+        let (head, fields) = cell_in(&self.heap, place);
+        if is_head(*symbol, &head) {
+            fill(&mut self.frames, variables, fields);
             Done::Bound
         } else {
             Done::Failed
         }
     }
 
+    pub(crate) fn literal(&self, whole: Var, symbol: &Symbol) -> Done
+        ensures { Does self.now self.now (Instruction.Literal whole symbol.now) result }
+    {
+        let Some(word) = self.word(whole) else {
+            return Done::Failed;
+        };
+        if is_head(*symbol, &self.head(&word)) {
+            Done::Bound
+        } else {
+            Done::Failed
+        }
+    }
+
+    // The place of the cell that a variable's value is, if it is one.
+    #[inline(always)]
+    pub(crate) fn cell(&self, variable: Var) -> Option<usize>
+        ensures found { IfSome result (λ place. word_at self.now.stacks.current variable ≡ Some (Word.Cell place)) }
+        ensures below { IfSome result (λ place. place < length self.now.cells) }
+        ensures none { IfNone result ((place : ℕ) → word_at self.now.stacks.current variable ≡ Some (Word.Cell place) → ⊥) }
+    {
+        match self.word(variable)? {
+            Word::Cell(place) => Some(place),
+            _ => None,
+        }
+    }
+
+    // The constructor without arguments that a variable's value is, if it is one.
+    #[inline(always)]
+    pub(crate) fn atom(&self, variable: Var) -> Option<Name>
+        ensures { IfSome result (λ name. word_at self.now.stacks.current variable ≡ Some (Word.Atom name)) }
+    {
+        match self.word(variable)? {
+            Word::Atom(name) => Some(name),
+            _ => None,
+        }
+    }
+
     // The symbol that a word's value is of.
+    #[inline(always)]
     pub(crate) fn head(&self, word: &Word) -> Symbol
         requires { IsBelow (length self.now.cells) word.now }
         ensures { result ≡ head_of (value_of self.now.cells word.now) }
@@ -74,14 +98,27 @@ impl Store {
             Word::Text(text) => Symbol::Text(text),
             Word::Atom(name) => Symbol::Constructor(name, 0),
             Word::Cell(place) => {
-                let (name, arity) = self.heap.header(place);
-                Symbol::Constructor(name, arity)
+                let (head, _) = cell_in(&self.heap, place);
+                head
             }
         }
     }
 }
 
+// The symbol that the value of the cell at a place is of, and the cell's fields in order.
+#[inline(always)]
+pub(crate) fn cell_in(heap: &Heap, place: usize) -> (Symbol, &[slot::Slot])
+    requires { place < length heap.now }
+    ensures symbol { result.0 ≡ head_of (value_of heap.now (Word.Cell place)) }
+    ensures fields { map word_of result.1.now ≡ arguments_in heap.now (Word.Cell place) }
+    ensures lower { AreLower heap.now }
+{
+    let (name, fields) = heap.cell(place);
+    (Symbol::Constructor(name, fields.len()), fields)
+}
+
 // Behind how many instructions a switch over the values of this symbol goes on.
+#[inline(always)]
 fn first_target(head: &Symbol, targets: &[Target]) -> Option<usize>
     ensures { (value : Value) → head.now ≡ head_of value → result ≡ target_of value targets.now }
 {
@@ -94,17 +131,46 @@ fn first_target(head: &Symbol, targets: &[Target]) -> Option<usize>
 }
 
 // Whether the values of which this is the symbol are of that one.
+#[inline(always)]
 pub(crate) fn is_head(symbol: Symbol, head: &Symbol) -> bool
     ensures { (value : Value) → head.now ≡ head_of value → result ≡ is_some (fields symbol value) }
 {
     symbol == *head
 }
 
-// Gives variables the values of fields, one for one.
-fn fill(frames: &mut Frames, variables: &[Var], fields: &[slot::Slot])
+// Gives variables the values of fields, one for one. Few of them are given without a loop.
+#[inline(always)]
+pub(crate) fn fill(frames: &mut Frames, variables: &[Var], fields: &[slot::Slot])
+    ensures { frames.new ≡ record frames.old { current = stored variables.now (map word_of fields.now) frames.old.current } }
+{
+    match (variables, fields) {
+        ([one, two], [first, second]) => {
+            put(frames, *one, first);
+            put(frames, *two, second);
+        }
+        ([one], [first]) => put(frames, *one, first),
+        ([one, two, three], [first, second, third]) => {
+            put(frames, *one, first);
+            put(frames, *two, second);
+            put(frames, *three, third);
+        }
+        _ => fill_each(frames, variables, fields),
+    }
+}
+
+#[inline(never)]
+fn fill_each(frames: &mut Frames, variables: &[Var], fields: &[slot::Slot])
     ensures { frames.new ≡ record frames.old { current = stored variables.now (map word_of fields.now) frames.old.current } }
 {
     for (variable, field) in variables.iter().zip(fields) {
-        frames.set(variable.number(), Slot::holding(field.word()));
+        put(frames, *variable, field);
     }
+}
+
+// Gives a variable the value of a field.
+#[inline(always)]
+fn put(frames: &mut Frames, variable: Var, field: &slot::Slot)
+    ensures { frames.new ≡ record frames.old { current = slice_set frames.old.current variable (holding (word_of field.now)) } }
+{
+    frames.set(variable.number(), Slot::holding(field.word()));
 }

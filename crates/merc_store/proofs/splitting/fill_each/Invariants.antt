@@ -5,7 +5,7 @@ use Rattle.std.specs.Slice.Iter.{iter_rest}
 use Rattle.merc_heap.specs.Heap.{word_of}
 use Rattle.merc_store.specs.Performing.{stored}
 use Rattle.merc_store.proofs.CarryingLaws.{with_slots}
-use Rattle.merc_store.proofs.splitting.fill.Given as goal
+use Rattle.merc_store.proofs.splitting.fill_each.Given as goal
 
 abbrev pub invariant-loop-variable : goal.invariant-loop-variable
 invariant-loop-variable l =

@@ -3,7 +3,7 @@ use Rattle.std.proofs.Common.{◌∙◌, sym, ap}
 use Rattle.std.proofs.lemmas.Slice.Zip.{either_empty_from_Zip}
 use Rattle.merc_store.proofs.CarryingLaws.{with_slots}
 use Rattle.merc_store.proofs.FillLemmas.{filled_end}
-use Rattle.merc_store.proofs.splitting.fill.Goals as goal
+use Rattle.merc_store.proofs.splitting.fill_each.Goals as goal
 
 pub returns : goal.returns
 returns c =
