@@ -1,5 +1,5 @@
 //! Values of a heap compared.
-ghost use Rattle.std.specs.Prelude.{◌≡◌, ◌∷◌, ◌↔◌, [], length, take, IfOk, OnOk, IsTrue, IsFalse};
+ghost use Rattle.std.specs.Prelude.{◌≡◌, ℕ, ◌∷◌, ◌↔◌, [], length, take, IfOk, OnOk, IsTrue, IsFalse};
 ghost use Rattle.merc_value.specs.Block.{AreLower, IsBelow, value_of};
 ghost use Rattle.merc_heap.specs.Heap.{arguments_in};
 ghost use Rattle.merc_heap.specs.Equality.{AreSame, Meets, Notes, pairs};
@@ -14,7 +14,23 @@ impl Heap {
     ///
     /// Equal words are told at once. Else the cost is the number of arguments of the pairs of cells that are met, in
     /// which a pair counts once however often it is met: for two values without sharing, at most their size.
+    #[inline(always)]
     pub fn equal(&self, one: Word, other: Word) -> Result<bool, NoMemory>
+        requires one { IsBelow (length self.now) one }
+        requires other { IsBelow (length self.now) other }
+        ensures { IfOk result (λ same. IsTrue same ↔ (value_of self.now one ≡ value_of self.now other)) }
+    {
+        if one == other {
+            return Ok(true);
+        }
+        if is_no_cell(one) && is_no_cell(other) {
+            return Ok(false);
+        }
+        self.equal_cells(one, other)
+    }
+
+    #[inline(never)]
+    fn equal_cells(&self, one: Word, other: Word) -> Result<bool, NoMemory>
         requires one { IsBelow (length self.now) one }
         requires other { IsBelow (length self.now) other }
         ensures { IfOk result (λ same. IsTrue same ↔ (value_of self.now one ≡ value_of self.now other)) }
@@ -32,6 +48,17 @@ impl Heap {
             next += 1;
         }
         Ok(true)
+    }
+}
+
+// Whether a word leads to no cell. Two such words stand for one value only where they are one.
+#[inline(always)]
+fn is_no_cell(word: Word) -> bool
+    ensures { IsTrue result → (place : ℕ) → word ≡ Word.Cell place → ⊥ }
+{
+    match word {
+        Word::Cell(_) => false,
+        _ => true,
     }
 }
 
