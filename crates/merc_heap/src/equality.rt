@@ -1,5 +1,5 @@
 //! Values of a heap compared.
-ghost use Rattle.std.specs.Prelude.{◌≡◌, ◌∷◌, ◌↔◌, [], length, take, IfOk, OnOk, IsTrue, IsFalse};
+ghost use Rattle.std.specs.Prelude.{◌≡◌, ℕ, ◌∷◌, ◌↔◌, [], length, take, IfOk, OnOk, IsTrue, IsFalse};
 ghost use Rattle.merc_value.specs.Block.{AreLower, IsBelow, value_of};
 ghost use Rattle.merc_heap.specs.Heap.{arguments_in};
 ghost use Rattle.merc_heap.specs.Equality.{AreSame, Meets, Notes, pairs};
@@ -20,15 +20,17 @@ impl Heap {
         requires other { IsBelow (length self.now) other }
         ensures { IfOk result (λ same. IsTrue same ↔ (value_of self.now one ≡ value_of self.now other)) }
     {
-        match (one, other) {
-            // the usual case, which needs no look at the cells
-            (Word::Int(number), Word::Int(other_number)) => Ok(number == other_number),
-            _ => self.equal_values(one, other),
+        if one == other {
+            return Ok(true);
         }
+        if is_no_cell(one) && is_no_cell(other) {
+            return Ok(false);
+        }
+        self.equal_cells(one, other)
     }
 
-    // The same, by the cells that the words lead to.
-    fn equal_values(&self, one: Word, other: Word) -> Result<bool, NoMemory>
+    #[inline(never)]
+    fn equal_cells(&self, one: Word, other: Word) -> Result<bool, NoMemory>
         requires one { IsBelow (length self.now) one }
         requires other { IsBelow (length self.now) other }
         ensures { IfOk result (λ same. IsTrue same ↔ (value_of self.now one ≡ value_of self.now other)) }
@@ -46,6 +48,17 @@ impl Heap {
             next += 1;
         }
         Ok(true)
+    }
+}
+
+// Whether a word leads to no cell. Two such words stand for one value only where they are one.
+#[inline(always)]
+fn is_no_cell(word: Word) -> bool
+    ensures { IsTrue result → (place : ℕ) → word ≡ Word.Cell place → ⊥ }
+{
+    match word {
+        Word::Cell(_) => false,
+        _ => true,
     }
 }
 
