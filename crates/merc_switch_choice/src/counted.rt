@@ -104,7 +104,7 @@ impl<'a> Disjuncts<'a> {
     /// `NoMemory` where memory was refused.
     pub(crate) fn keep_gap(&mut self, variable: Var, gap: Gap) -> Result<(), NoMemory>
         requires { AllByRecursion (Avoids variable (symbol_of_gap gap)) self.old }
-        ensures { OnOk result (self.new ≡ self.old) }
+        ensures { self.new ≡ self.old }
     {
         self.summary.gaps.put(variable, gap)
     }
