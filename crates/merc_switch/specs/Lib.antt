@@ -2,6 +2,8 @@ pub mod Occurring
 pub mod OccurringExamples
 pub mod Ordering
 pub mod OrderingExamples
+pub mod Selections
+pub mod SelectionsExamples
 pub mod Tasks
 pub mod Plans
 pub mod TasksExamples

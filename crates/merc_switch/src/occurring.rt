@@ -6,16 +6,18 @@ ghost use Rattle.merc_graded_tree.specs.Variables.{in_node, in_nodes, variables_
 ghost use Rattle.merc_order.specs.Bound.{among};
 ghost use Rattle.merc_switch_choice.specs.Variables.{all_behind};
 ghost use Rattle.merc_switch.specs.Occurring.{variables_at};
+ghost use Rattle.merc_switch.specs.Selections.{MayCount};
 
+use crate::counting::{counts_of, outputs_counted};
 use crate::whole::Whole;
 use merc_base::NoMemory;
 use merc_goal_tree::{Var, Vars};
 use merc_graded_tree::{BasicGoal, NodeRef, Root};
-use merc_switch_choice::{Disjunct, VarSet};
+use merc_switch_choice::{Disjunct, VarCounts, VarSet};
 use std::alloc::Global;
 
-/// Those of the outputs of the whole that occur in the disjuncts. The smallest disjunct comes first: where it has all outputs
-/// no other is gone through.
+/// Those of the outputs of the whole that occur in the disjuncts. Where they are not counted yet the smallest disjunct is
+/// gone through first: if it has all outputs they need not be counted.
 ///
 /// # Errors
 ///
@@ -24,16 +26,24 @@ pub(crate) fn outputs_in(
     alloc: Global,
     whole: &Whole<'_>,
     disjuncts: &[Disjunct<'_>],
+    counts: &mut Option<VarCounts>,
 ) -> Result<Vars, NoMemory>
-    ensures { IfOk result (λ kept. kept ≡ filter (λ output. in_nodes (nodes_of disjuncts.now) output) (outputs_of whole.now)) }
+    requires { MayCount whole.now counts.old disjuncts.now }
+    ensures outputs { IfOk result (λ kept. kept ≡ filter (λ output. in_nodes (nodes_of disjuncts.now) output) (outputs_of whole.now)) }
+    ensures counts { MayCount whole.now counts.new disjuncts.now }
 {
+    if let Some(counts) = counts {
+        return outputs_counted(alloc, whole, counts);
+    }
     let mut variables = VarSet::new(alloc);
     add_smallest(disjuncts, &mut variables)?;
     if has_all(&variables, whole.outputs()) {
         return whole.outputs_among(alloc, &variables);
     }
-    add_each(disjuncts, &mut variables)?;
-    whole.outputs_among(alloc, &variables)
+    let made = counts_of(alloc, whole, disjuncts)?;
+    let outputs = outputs_counted(alloc, whole, &made)?;
+    *counts = Some(made);
+    Ok(outputs)
 }
 
 // Adds the variables that occur in the disjunct of the fewest parts.
@@ -57,16 +67,6 @@ fn smallest_of(disjuncts: &[Disjunct<'_>]) -> usize {
     smallest
 }
 
-// Adds the variables that occur in the disjuncts.
-fn add_each(disjuncts: &[Disjunct<'_>], variables: &mut VarSet) -> Result<(), NoMemory>
-    ensures { OnOk result ((variable : ℕ) → among variables.new variable ≡ (among variables.old variable || in_nodes (nodes_of disjuncts.now) variable)) }
-{
-    for disjunct in disjuncts {
-        add_variables(&disjunct.goal(), variables)?;
-    }
-    Ok(())
-}
-
 // Whether all of the outputs are among the variables.
 fn has_all(variables: &VarSet, outputs: &[Var]) -> bool
     ensures { result ≡ list_all (λ output. among variables.now output) outputs.now }
@@ -79,8 +79,8 @@ fn has_all(variables: &VarSet, outputs: &[Var]) -> bool
     true
 }
 
-// Adds the variables that occur in a goal.
-fn add_variables(goal: &NodeRef<'_>, variables: &mut VarSet) -> Result<(), NoMemory>
+/// Adds the variables that occur in a goal.
+pub(crate) fn add_variables(goal: &NodeRef<'_>, variables: &mut VarSet) -> Result<(), NoMemory>
     ensures { OnOk result ((variable : ℕ) → among variables.new variable ≡ (among variables.old variable || in_node goal.now variable)) }
 {
     for index in 0..goal.part_count() {
