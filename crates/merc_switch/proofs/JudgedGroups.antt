@@ -21,7 +21,8 @@ use Rattle.merc_switch.specs.declared.tasks.Task.{Task}
 use Rattle.merc_switch.specs.declared.tasks.Task.TheVariants.{Judge, Close}
 use Rattle.merc_switch_choice.specs.Variables.{behind, all_behind}
 use Rattle.merc_switch_choice.specs.Choosing.{chosen}
-use Rattle.merc_switch.specs.Selections.{Selection, selections, AreArmsOf}
+use Rattle.merc_switch_choice.specs.Arms.{AreArms}
+use Rattle.merc_switch.specs.Selections.{Selection}
 use Rattle.merc_switch.specs.Tasks.{HaveEnough, effort, load, task_effort, total, found_in, judged, done, FitsTask, Performs}
 use Rattle.merc_switch.specs.Plans.{finds, disjunction_plan, arm_plan, arm_plans, switch_plan, group_plan, choice_left}
 use Rattle.merc_switch.proofs.FoundBeginnings.{found_beginning}
@@ -329,23 +330,23 @@ judges declared group rest tasks goals bound planned =
 
 -- the plan of a switch
 
-map_seconds : (f : Node → List Node → Task) (whole : Node) (arms : List Arm) → map (λ selected. f selected.whole selected.disjuncts) (selections whole (map (λ arm. arm.1) arms)) ≡ map (λ arm. f whole arm.1) arms
-map_seconds f whole [] = refl
-map_seconds f whole (arm ∷ arms) = ap (λ l. f whole arm.1 ∷ l) (map_seconds f whole arms)
+map_seconds : (f : List Node → Task) (arms : List Arm) → map f (map (λ arm. arm.1) arms) ≡ map (λ arm. f arm.1) arms
+map_seconds f [] = refl
+map_seconds f (arm ∷ arms) = ap (λ l. f arm.1 ∷ l) (map_seconds f arms)
 
 abbrev switch_label : ℕ → Group → List Symbol → Span → Label
 switch_label variable group symbols span = record { root = SwitchRoot variable symbols; outputs = group.outputs; category = group.category; span = span }
 
-pub plans_switch : (variable : ℕ) (group : Group) (symbols symbols' : List Symbol) (arms : List Selection) (span : Span) (rest closed tasks : List Task) → AreArmsOf variable group.selected symbols arms
+pub plans_switch : (variable : ℕ) (group : Group) (symbols symbols' : List Symbol) (arms : List (List Node)) (span : Span) (rest closed tasks : List Task) → AreArms symbols arms (grouped variable group.selected.disjuncts)
     → symbols' ≡ symbols → span ≡ span_of group.selected.whole → closed ≡ Close (switch_label variable group symbols' span) ∷ rest
-    → tasks ≡ map (λ selected. arm_plan selected.whole group.used group.left variable selected.disjuncts) arms ++ closed → tasks ≡ switch_plan variable group ++ rest
+    → tasks ≡ map (λ disjuncts. arm_plan group.selected.whole group.used group.left variable disjuncts) arms ++ closed → tasks ≡ switch_plan variable group ++ rest
 plans_switch variable group symbols symbols' arms span rest closed tasks are same place first put =
     let all = grouped variable group.selected.disjuncts in
     let last : List Symbol → Span → List Task = λ l s. Close (switch_label variable group l s) ∷ rest in
-    let arm : Selection → Task = λ selected. arm_plan selected.whole group.used group.left variable selected.disjuncts in
+    let arm : List Node → Task = λ disjuncts. arm_plan group.selected.whole group.used group.left variable disjuncts in
     put ∙ ap (λ l. map arm arms ++ l) (first ∙ ap (λ l. last l span) (same ∙ are.symbols_are) ∙ ap (λ s. last (map (λ a. a.0) all) s) place)
-    ∙ ap (λ l. map arm l ++ last (map (λ a. a.0) all) (span_of group.selected.whole)) are.arms_are
-    ∙ ap (λ l. l ++ last (map (λ a. a.0) all) (span_of group.selected.whole)) (map_seconds (λ whole disjuncts. arm_plan whole group.used group.left variable disjuncts) group.selected.whole all)
+    ∙ ap (λ l. map arm l ++ last (map (λ a. a.0) all) (span_of group.selected.whole)) are.groups_are
+    ∙ ap (λ l. l ++ last (map (λ a. a.0) all) (span_of group.selected.whole)) (map_seconds arm all)
     ∙ sym (append_assoc (arm_plans variable group all) (Close (switch_label variable group (map (λ a. a.0) all) (span_of group.selected.whole)) ∷ []) rest)
 
 pub several_arm : (whole : Node) (used : List ℕ) (left variable : ℕ) (disjuncts : List Node) → (length disjuncts == 1) ≡ false

@@ -1,15 +1,19 @@
 -- In how many disjuncts outputs occur.
-use Rattle.std.specs.Prelude.{◌≡◌, ℕ, zero, suc, ◌+◌, ◌==◌, ◌&&◌, ◌||◌, Bool, true, false, nat_lt, List, [], ◌∷◌, map, insert, Option, Some, None, if◌then◌else◌, refl}
-use Rattle.std.specs.List.{filter, list_all}
-use Rattle.std.proofs.Common.{◌∙◌, ap, sym, arith}
+use Rattle.std.specs.Prelude.{◌≡◌, ◌<◌, ℕ, zero, suc, ◌+◌, ◌-◌, ◌==◌, ◌&&◌, ◌||◌, Bool, true, false, nat_lt, List, [], ◌∷◌, ◌++◌, length, map, take, drop, Option, Some, None, if◌then◌else◌, refl}
+use Rattle.std.specs.List.{filter, list_all, slice_index_or}
+use Rattle.std.proofs.Common.{◌∙◌, ap, sym, subst, arith}
 use Rattle.std.proofs.lemmas.Bool.Decides.{Decides-eqb, Decides-ltb}
+use Rattle.std.proofs.lemmas.List.{length-append, length-drop, take_all, append_assoc, map-append}
 use Rattle.merc_graded_tree.specs.Nodes.{Node, nodes_of, outputs_of}
 use Rattle.merc_graded_tree.specs.Variables.{in_node, in_nodes}
 use Rattle.merc_order.specs.Bound.{among}
 use Rattle.merc_grading.specs.Switches.{symbol_at, is_there, grouped}
 use Rattle.merc_switch_choice.specs.declared.counts.VarCounts.{VarCounts}
 use Rattle.merc_switch_choice.specs.Counting.{one_if, counting, all_counting, count_of}
-use Rattle.merc_switch.specs.Selections.{selections, has_output, CountsOutputs, MayCount, MayCountAll}
+use Rattle.merc_switch.specs.declared.handing.Handed.{Handed}
+use Rattle.merc_switch.specs.declared.tasks.Task.{Task}
+use Rattle.merc_switch.specs.Selections.{has_output, CountsOutputs, MayCount, MayCountAll}
+use Rattle.merc_switch.specs.Handing.{IsHanded}
 use Rattle.merc_switch_choice.proofs.CountLaws.{grouped_counting}
 use Rattle.merc_switch_choice.proofs.Members.{or_true}
 
@@ -59,11 +63,47 @@ counted_together whole None variable disjuncts groups all are counted = tt
 counted_together whole (Some counts) variable disjuncts groups all are counted = λ v.
     counted v ∙ sym (grouped_counting variable disjuncts (has_output (outputs_of whole) v) all) ∙ ap (λ l. all_counting (has_output (outputs_of whole) v) l) (sym are)
 
--- one of the selections is put back among the others
+-- What is left of the counts is that of one group, once those before it and behind it are taken out.
 
-pub selections_insert : (whole : Node) (groups : List (List Node)) (index : ℕ) (group : List Node)
-    → insert (selections whole groups) index (record { whole = whole; disjuncts = group }) ≡ selections whole (insert groups index group)
-selections_insert whole [] zero group = refl
-selections_insert whole [] (suc index) group = refl
-selections_insert whole (first ∷ rest) zero group = refl
-selections_insert whole (first ∷ rest) (suc index) group = ap (λ l. record { whole = whole; disjuncts = first } ∷ l) (selections_insert whole rest index group)
+all_parts : (groups : List (List Node)) (index : ℕ) (test : Node → Bool) → index < length groups
+    → all_counting test groups ≡ all_counting test (take index groups) + (counting test (slice_index_or groups index []) + all_counting test (drop (suc index) groups))
+all_parts [] index test within = absurd (omega (arith, within))
+all_parts (first ∷ rest) zero test within = omega arith
+all_parts (first ∷ rest) (suc index) test within = let h = all_parts rest index test (omega (arith, within)) in omega (arith, h)
+
+pub one_left : (groups : List (List Node)) (index : ℕ) (test : Node → Bool) (before between after : ℕ) → index < length groups → before ≡ all_counting test groups
+    → between ≡ before - all_counting test (take index groups) → after ≡ between - all_counting test (drop (index + 1) groups) → after ≡ counting test (slice_index_or groups index [])
+one_left groups index test before between after within whole first second =
+    let parts = all_parts groups index test within in
+    let next : all_counting test (drop (index + 1) groups) ≡ all_counting test (drop (suc index) groups) = (let e : index + 1 ≡ suc index = omega arith in ap (λ i. all_counting test (drop i groups)) e) in
+    omega (arith, parts, whole, first, second, next)
+
+-- all that is behind an index
+pub behind_index : (groups : List (List Node)) (index : ℕ) → take (length groups - index) (drop index groups) ≡ drop index groups
+behind_index groups index = let size = length-drop index groups in take_all (length groups - index) (drop index groups) (omega (arith, size))
+
+-- the last of the groups is taken out
+
+pub planned_on : (arm : List Node → Task) (rest before : List (List Node)) (last : List Node) (task : Task) (now tasks whole : List Task) → before ≡ rest ++ last ∷ [] → task ≡ arm last → now ≡ task ∷ tasks
+    → map arm before ++ tasks ≡ whole → map arm rest ++ now ≡ whole
+planned_on arm rest before last task now tasks whole is made put so_far =
+    ap (λ l. map arm rest ++ l) (put ∙ ap (λ t. t ∷ tasks) made) ∙ sym (append_assoc (map arm rest) (arm last ∷ []) tasks) ∙ ap (λ l. l ++ tasks) (sym (map-append arm rest (last ∷ [])))
+    ∙ ap (λ l. map arm l ++ tasks) (sym is) ∙ so_far
+
+pub at_last : (groups : List (List Node)) (last : List Node) → slice_index_or (groups ++ last ∷ []) (length groups) [] ≡ last
+at_last [] last = refl
+at_last (first ∷ rest) last = at_last rest last
+
+before_last : (groups : List (List Node)) (last : List Node) (index : ℕ) → index < length groups → slice_index_or (groups ++ last ∷ []) index [] ≡ slice_index_or groups index []
+before_last [] last index within = absurd (omega (arith, within))
+before_last (first ∷ rest) last zero within = refl
+before_last (first ∷ rest) last (suc index) within = before_last rest last index (omega (arith, within))
+
+pub one_more : (groups before : List (List Node)) (last : List Node) → before ≡ groups ++ last ∷ [] → length before ≡ suc (length groups)
+one_more groups before last is = let longer : length before ≡ length (groups ++ last ∷ []) = ap length is in omega (arith, longer, length-append groups (last ∷ []))
+
+pub handed_on : (whole : Node) (handed : Option Handed) (groups before : List (List Node)) (last : List Node) → before ≡ groups ++ last ∷ [] → IsHanded whole handed before → IsHanded whole handed groups
+handed_on whole None groups before last is handed = tt
+handed_on whole (Some kept) groups before last is handed = λ within.
+    let longer = one_more groups before last is in
+    subst (λ d. CountsOutputs (outputs_of whole) kept.counts d) (ap (λ l. slice_index_or l kept.index []) is ∙ before_last groups last kept.index within) (handed (omega (arith, within, longer)))

@@ -4,6 +4,8 @@ pub mod Ordering
 pub mod OrderingExamples
 pub mod Selections
 pub mod SelectionsExamples
+pub mod Handing
+pub mod HandingExamples
 pub mod Tasks
 pub mod Plans
 pub mod TasksExamples

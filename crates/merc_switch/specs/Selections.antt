@@ -1,12 +1,10 @@
 -- Some disjuncts of a disjunction, and in how many of them its outputs occur.
-use Rattle.std.specs.Prelude.{◌≡◌, ℕ, Bool, ◌&&◌, List, map, Option, IfSome, refl}
+use Rattle.std.specs.Prelude.{◌≡◌, ℕ, Bool, ◌&&◌, List, Option, IfSome, refl}
 use Rattle.std.specs.Coded.{Coded, code_by, coded×, coded_list}
-use Rattle.merc_goal_tree.specs.declared.goal.Symbol.{Symbol}
 use Rattle.merc_graded_tree.specs.LabelCode.{node_code}
 use Rattle.merc_graded_tree.specs.Nodes.{Node, outputs_of}
 use Rattle.merc_graded_tree.specs.Variables.{in_node}
 use Rattle.merc_order.specs.Bound.{among}
-use Rattle.merc_grading.specs.Switches.{grouped}
 use Rattle.merc_switch_choice.specs.declared.counts.VarCounts.{VarCounts}
 use Rattle.merc_switch_choice.specs.Counting.{counting, all_counting, count_of}
 
@@ -14,10 +12,6 @@ use Rattle.merc_switch_choice.specs.Counting.{counting, all_counting, count_of}
 pub record Selection : Type 0 where
   pub whole : Node
   pub disjuncts : List Node
-
--- the selections that lists of disjuncts are
-abbrev pub selections : Node → List (List Node) → List Selection
-selections whole groups = map (λ disjuncts. record { whole = whole; disjuncts = disjuncts }) groups
 
 -- a variable is one of the outputs, and occurs in a goal
 abbrev pub has_output : List ℕ → ℕ → Node → Bool
@@ -34,11 +28,6 @@ MayCount whole counts disjuncts = IfSome counts (λ counts. CountsOutputs (outpu
 -- the same of several lists of disjuncts, which have the counts together
 abbrev pub MayCountAll : Node → Option VarCounts → List (List Node) → Type 0
 MayCountAll whole counts groups = IfSome counts (λ counts. (variable : ℕ) → count_of counts variable ≡ all_counting (has_output (outputs_of whole) variable) groups)
-
--- the symbols and the selections of the arms of a switch on a variable
-pub record AreArmsOf (variable : ℕ) (selection : Selection) (symbols : List Symbol) (arms : List Selection) : Type 0 where
-  pub symbols_are : symbols ≡ map (λ arm. arm.0) (grouped variable selection.disjuncts)
-  pub arms_are : arms ≡ selections selection.whole (map (λ arm. arm.1) (grouped variable selection.disjuncts))
 
 -- a selection is stored as its parts
 abbrev pub selection_code : Coded Selection

@@ -1,15 +1,15 @@
 -- In how many of a few disjuncts an output occurs, over the goals of the examples of categories.
-use Rattle.std.specs.Prelude.{◌≡◌, ℕ, true, List, [], ◌∷◌, length, Some, None, refl}
-use Rattle.std.proofs.Common.{◌∙◌, ap, sym, arith}
+use Rattle.std.specs.Prelude.{◌≡◌, ℕ, true, List, [], ◌∷◌, Some, None, refl}
+use Rattle.std.proofs.Common.{◌∙◌, sym, arith}
 use Rattle.merc_graded_tree.specs.declared.basic.BasicGoal.TheVariants.{Test}
 use Rattle.merc_graded_tree.specs.Nodes.{Node, node, Disjunction, nodes_of, span_of}
-use Rattle.merc_grading.specs.GradingExamples.{red, green, c, d, n, m, basic, both, is_red, is_green}
+use Rattle.merc_grading.specs.GradingExamples.{c, d, n, m, basic, both, is_red, is_green}
 use Rattle.merc_switch_choice.specs.declared.counts.VarCounts.{VarCounts}
 use Rattle.merc_switch_choice.specs.Counting.{counting, count_of}
-use Rattle.merc_switch.specs.Selections.{Selection, selections, has_output, CountsOutputs, MayCount, MayCountAll, AreArmsOf}
+use Rattle.merc_switch.specs.Selections.{has_output, CountsOutputs, MayCount, MayCountAll}
 
 -- `C = red, N = M` and `C = green`
-abbrev two : List Node
+abbrev pub two : List Node
 two = both (is_red c ∷ basic (Test n m) ∷ []) ∷ is_green c ∷ []
 
 occurs : has_output (n ∷ d ∷ []) n (basic (Test n m)) ≡ true
@@ -38,7 +38,7 @@ counts_not : (counts : VarCounts) → ((variable : ℕ) → count_of counts vari
 counts_not counts none are = let wrong : ◌≡◌ {A = ℕ} 0 1 = sym (none n) ∙ are n in absurd (omega (arith, wrong))
 
 -- a disjunction of which N is the only output
-abbrev whole : Node
+abbrev pub whole : Node
 whole = node (Disjunction (nodes_of two)) (n ∷ []) None (span_of (is_green c))
 
 not_yet : MayCount whole None two
@@ -53,19 +53,3 @@ together counts none = none
 -- N occurs in one of them
 together_not : (counts : VarCounts) → ((variable : ℕ) → count_of counts variable ≡ 0) → MayCountAll whole (Some counts) ([] ∷ two ∷ []) → ⊥
 together_not counts none are = let wrong : ◌≡◌ {A = ℕ} 0 1 = sym (none n) ∙ are n in absurd (omega (arith, wrong))
-
-abbrev selection : List Node → Selection
-selection disjuncts = record { whole = whole; disjuncts = disjuncts }
-
-one_each : selections whole ((is_red c ∷ []) ∷ [] ∷ []) ≡ selection (is_red c ∷ []) ∷ selection [] ∷ []
-one_each = refl
-
-not_in_one : selections whole ([] ∷ [] ∷ []) ≡ selection [] ∷ [] → ⊥
-not_in_one wrong = let lengths : ◌≡◌ {A = ℕ} 2 1 = ap length wrong in absurd (omega (arith, lengths))
-
-arms : AreArmsOf c (selection (is_red c ∷ is_green c ∷ is_red c ∷ [])) (red ∷ green ∷ []) (selection (is_red c ∷ is_red c ∷ []) ∷ selection (is_green c ∷ []) ∷ [])
-arms = record { symbols_are = refl; arms_are = refl }
-
--- the second disjunct lacks
-arms_not : AreArmsOf c (selection (is_red c ∷ is_green c ∷ [])) (red ∷ []) (selection (is_red c ∷ []) ∷ []) → ⊥
-arms_not are = let lengths : ◌≡◌ {A = ℕ} 1 2 = ap length are.symbols_are in absurd (omega (arith, lengths))

@@ -1,47 +1,65 @@
 //! Counts are handed on to parts of the disjuncts.
-ghost use Rattle.std.specs.Prelude.{◌≡◌, ◌<◌, ◌-◌, ℕ, length, IfOk, IfSome, OnOk};
-ghost use Rattle.merc_graded_tree.specs.Nodes.{outputs_of};
+ghost use Rattle.std.specs.Prelude.{◌≡◌, ◌<◌, ◌-◌, ℕ, List, [], length, IfOk, IfSome, OnOk};
+ghost use Rattle.std.specs.List.{slice_index_or};
+ghost use Rattle.merc_graded_tree.specs.Nodes.{Node, outputs_of};
 ghost use Rattle.merc_switch_choice.specs.Counting.{count_of, all_counting};
-ghost use Rattle.merc_switch.specs.Selections.{selections, has_output, MayCountAll};
+ghost use Rattle.merc_switch.specs.Selections.{has_output, MayCount, MayCountAll};
+ghost use Rattle.merc_switch.specs.Handing.{IsHanded};
 
 use crate::counting::remove_disjuncts;
-use crate::selection::Selection;
 use crate::whole::Whole;
 use merc_base::NoMemory;
 use merc_switch_choice::{Disjuncts, VarCounts};
 use std::alloc::Global;
 
-/// Groups of disjuncts of the whole. Given are the counts of all together, if there are any: the largest group takes them
-/// over without those of the others, so that only the others are gone through.
+/// The counts of one of several groups of disjuncts.
+#[derive(Drop)]
+pub(crate) struct Handed {
+    counts: VarCounts,
+    // the index of that group
+    index: usize,
+}
+
+/// Makes the counts of all groups of the whole together, if there are any, those of the largest group. Only the others are
+/// gone through.
 ///
 /// # Errors
 ///
 /// `NoMemory` where memory was refused, here and in the calls below.
-pub(crate) fn selected_each<'a>(
+pub(crate) fn hand_on(
     alloc: Global,
-    whole: Whole<'a>,
-    groups: Vec<Disjuncts<'a>>,
+    whole: &Whole<'_>,
+    groups: &[Disjuncts<'_>],
     counts: Option<VarCounts>,
-) -> Result<Vec<Selection<'a>>, NoMemory>
-    requires { MayCountAll whole counts groups.items }
-    ensures { IfOk result (λ selected. selected.items ≡ selections whole.entry groups.entry.items) }
+) -> Result<Option<Handed>, NoMemory>
+    requires { MayCountAll whole.now counts groups.now }
+    ensures { IfOk result (λ handed. IsHanded whole.now handed groups.now) }
 {
     let Some(counts) = counts else {
-        return uncounted_each(alloc, &whole, groups);
+        return Ok(None);
     };
-    let Some(largest) = largest_of(&groups) else {
-        return uncounted_each(alloc, &whole, groups);
+    let Some(index) = largest_of(groups) else {
+        return Ok(None);
     };
-    let mut groups = groups;
     let mut counts = counts;
-    let largest_group = groups.remove(largest);
-    remove_groups(alloc, &whole, &groups, &mut counts)?;
-    let mut selected = uncounted_each(alloc, &whole, groups)?;
-    selected.insert(
-        largest,
-        Selection::with_counts(whole, largest_group, counts),
-    )?;
-    Ok(selected)
+    remove_groups(alloc, whole, &groups[..index], &mut counts)?;
+    remove_groups(alloc, whole, &groups[index + 1..], &mut counts)?;
+    Ok(Some(Handed { counts, index }))
+}
+
+/// Takes the counts if they are those of the group at an index.
+pub(crate) fn take_counts(handed: &mut Option<Handed>, index: usize) -> Option<VarCounts>
+    ensures counts { (whole : Node) (groups : List (List Node)) → IsHanded whole handed.old groups → index < length groups → MayCount whole result (slice_index_or groups index []) }
+    ensures handed { (whole : Node) (groups : List (List Node)) → IsHanded whole handed.old groups → IsHanded whole handed.new groups }
+{
+    let Some(kept) = handed.take() else {
+        return None;
+    };
+    if kept.index == index {
+        return Some(kept.counts);
+    }
+    *handed = Some(kept);
+    None
 }
 
 // The index of the group that has the most disjuncts, none where no group has several.
@@ -73,19 +91,4 @@ fn remove_groups(
         remove_disjuncts(alloc, whole, group.as_slice(), counts)?;
     }
     Ok(())
-}
-
-// Groups of disjuncts of the whole, without counts.
-fn uncounted_each<'a>(
-    alloc: Global,
-    whole: &Whole<'a>,
-    groups: Vec<Disjuncts<'a>>,
-) -> Result<Vec<Selection<'a>>, NoMemory>
-    ensures { IfOk result (λ selected. selected.items ≡ selections whole.now groups.entry.items) }
-{
-    let mut selected = Vec::new(alloc);
-    for group in groups {
-        selected.push(Selection::of(whole.copy()?, group))?;
-    }
-    Ok(selected)
 }

@@ -4,17 +4,21 @@ ghost use Rattle.std.specs.List.{list_all, AllByRecursion};
 ghost use Rattle.merc_graded_tree.specs.Nodes.{Node};
 ghost use Rattle.merc_grading.specs.Switches.{grouped, symbol_at, is_there};
 ghost use Rattle.merc_switch.specs.declared.tasks.Task.TheVariants.{Judge, Close};
+ghost use Rattle.merc_switch.specs.Handing.{IsHanded};
+ghost use Rattle.merc_switch.specs.Selections.{MayCount};
 ghost use Rattle.merc_switch.specs.Tasks.{Performs};
 ghost use Rattle.merc_switch.specs.Plans.{disjunction_plan, switch_plan, finds, arm_plan, inner_group, outer_label, AreNarrowed, HaveSymbol};
 
 use crate::copying::copy_variables;
+use crate::handing::{Handed, take_counts};
 use crate::selection::Selection;
 use crate::tasks::{Group, Task, Tasks};
+use crate::whole::Whole;
 use merc_base::{NoMemory, Sequence};
 use merc_goal_tree::{Symbol, Var};
 use merc_graded_tree::{Label, Root};
 use merc_known::Known;
-use merc_switch_choice::{Candidates, Disjunct, VarSet};
+use merc_switch_choice::{Candidates, Disjunct, Disjuncts, VarCounts, VarSet};
 use std::alloc::Global;
 
 /// Plans what disjuncts become: a switch, or else a disjunction. Where all of them go to one arm of the switch they are
@@ -144,7 +148,8 @@ fn push_finds<'a>(disjuncts: Vec<Disjunct<'a>>, tasks: &mut Tasks<'a>) -> Result
 
 // What the arms of a switch on a variable have from the disjunction.
 #[derive(Drop)]
-struct Outer {
+struct Outer<'a> {
+    whole: Whole<'a>,
     used: VarSet,
     left: usize,
     variable: Var,
@@ -161,45 +166,56 @@ fn plan_switch<'a>(
     ensures { OnOk result (tasks.new ≡ switch_plan variable group.entry ++ tasks.old) }
 {
     let span = group.selected.span();
-    let parted = group.selected.into_arms(alloc, variable)?;
+    let arms = group.selected.into_arms(alloc, variable)?;
     tasks.push(Task::Close(Label {
-        root: Root::Switch(variable, Sequence::from_vec(parted.symbols)),
+        root: Root::Switch(variable, Sequence::from_vec(arms.symbols)),
         outputs: group.outputs,
         category: group.category,
         span,
     }))?;
     let outer = Outer {
+        whole: arms.whole,
         used: group.used,
         left: group.left,
         variable,
     };
-    push_arms(alloc, &outer, parted.arms, tasks)
+    push_arms(alloc, &outer, arms.groups, arms.handed, tasks)
 }
 
-// The arms of a switch, each of which has these disjuncts.
+// The arms of a switch, each of which has these disjuncts. Given are the counts of one of them.
 fn push_arms<'a>(
     alloc: Global,
-    outer: &Outer,
-    arms: Vec<Selection<'a>>,
+    outer: &Outer<'a>,
+    arms: Vec<Disjuncts<'a>>,
+    handed: Option<Handed>,
     tasks: &mut Tasks<'a>,
 ) -> Result<(), NoMemory>
-    ensures { OnOk result (tasks.new ≡ map (λ selected. arm_plan selected.whole outer.now.used outer.now.left outer.now.variable selected.disjuncts) arms.entry.items ++ tasks.old) }
+    requires { IsHanded outer.now.whole handed arms.items }
+    ensures { OnOk result (tasks.new ≡ map (λ disjuncts. arm_plan outer.now.whole outer.now.used outer.now.left outer.now.variable disjuncts) arms.entry.items ++ tasks.old) }
 {
     let mut arms = arms;
+    let mut handed = handed;
     while let Some(last) = arms.pop() {
-        tasks.push(arm_task(alloc, outer, last)?)?;
+        let counts = take_counts(&mut handed, arms.len());
+        tasks.push(arm_task(alloc, outer, last, counts)?)?;
     }
     Ok(())
 }
 
-// The arm of these disjuncts.
-fn arm_task<'a>(alloc: Global, outer: &Outer, selected: Selection<'a>) -> Result<Task<'a>, NoMemory>
-    ensures { IfOk result (λ task. task ≡ arm_plan selected.entry.whole outer.now.used outer.now.left outer.now.variable selected.entry.disjuncts) }
+// The arm of these disjuncts, with their counts if there are any.
+fn arm_task<'a>(
+    alloc: Global,
+    outer: &Outer<'a>,
+    disjuncts: Disjuncts<'a>,
+    counts: Option<VarCounts>,
+) -> Result<Task<'a>, NoMemory>
+    requires { MayCount outer.now.whole counts disjuncts }
+    ensures { IfOk result (λ task. task ≡ arm_plan outer.now.whole outer.now.used outer.now.left outer.now.variable disjuncts.entry) }
 {
-    if let [only] = selected.disjuncts().as_slice() {
+    if let [only] = disjuncts.as_slice() {
         return Ok(Task::Find(only.goal()));
     }
-    let mut selected = selected;
+    let mut selected = Selection::of(outer.whole.copy()?, disjuncts, counts);
     let outputs = selected.outputs(alloc)?;
     Ok(Task::Judge(Group {
         selected,

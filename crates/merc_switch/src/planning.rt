@@ -108,6 +108,7 @@ fn plan_disjunction<'a>(
         selected: Selection::of(
             Whole::of(alloc, whole.copy())?,
             Disjuncts::of(alloc, disjuncts)?,
+            None,
         ),
         used: VarSet::new(alloc),
         left,

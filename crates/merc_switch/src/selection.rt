@@ -3,11 +3,13 @@ ghost use Rattle.std.specs.Prelude.{◌≡◌, true, filter, IfOk, OnOk};
 ghost use Rattle.std.specs.List.{list_all};
 ghost use Rattle.merc_graded_tree.specs.Nodes.{nodes_of, outputs_of, span_of};
 ghost use Rattle.merc_graded_tree.specs.Variables.{in_nodes};
-ghost use Rattle.merc_grading.specs.Switches.{symbol_at, is_there};
+ghost use Rattle.merc_grading.specs.Switches.{symbol_at, is_there, grouped};
+ghost use Rattle.merc_switch_choice.specs.Arms.{AreArms};
 ghost use Rattle.merc_switch_choice.specs.Choosing.{Takes};
-ghost use Rattle.merc_switch.specs.Selections.{CountsOutputs, AreArmsOf};
+ghost use Rattle.merc_switch.specs.Selections.{MayCount};
+ghost use Rattle.merc_switch.specs.Handing.{IsHanded};
 
-use crate::handing::selected_each;
+use crate::handing::{Handed, hand_on};
 use crate::occurring::outputs_in;
 use crate::whole::Whole;
 use merc_base::{NoMemory, Span};
@@ -40,36 +42,28 @@ impl<'a> Model for Selection<'a> {
 
 /// The arms of a switch: the symbols, and the disjuncts of each.
 #[derive(Drop)]
-pub(crate) struct SelectedArms<'a> {
+pub(crate) struct Arms<'a> {
+    pub(crate) whole: Whole<'a>,
     pub(crate) symbols: Vec<Symbol>,
-    pub(crate) arms: Vec<Selection<'a>>,
+    pub(crate) groups: Vec<Disjuncts<'a>>,
+    /// the counts of one of the groups
+    pub(crate) handed: Option<Handed>,
 }
 
 impl<'a> Selection<'a> {
-    /// These disjuncts of the whole.
-    pub(crate) fn of(whole: Whole<'a>, disjuncts: Disjuncts<'a>) -> Selection<'a>
-        ensures { result ≡ record { whole = whole.entry; disjuncts = disjuncts.entry } }
-    {
-        Selection {
-            whole,
-            disjuncts,
-            counts: None,
-        }
-    }
-
-    /// These disjuncts of the whole, in so many of which each of its outputs occurs.
-    pub(crate) fn with_counts(
+    /// These disjuncts of the whole, with their counts if there are any.
+    pub(crate) fn of(
         whole: Whole<'a>,
         disjuncts: Disjuncts<'a>,
-        counts: VarCounts,
+        counts: Option<VarCounts>,
     ) -> Selection<'a>
-        requires { CountsOutputs (outputs_of whole) counts disjuncts }
+        requires { MayCount whole counts disjuncts }
         ensures { result ≡ record { whole = whole.entry; disjuncts = disjuncts.entry } }
     {
         Selection {
             whole,
             disjuncts,
-            counts: Some(counts),
+            counts,
         }
     }
 
@@ -126,18 +120,20 @@ impl<'a> Selection<'a> {
 
     /// The disjuncts by the symbols by which they all split a variable at their beginnings. The symbols stand in the order
     /// in which they come first.
-    pub(crate) fn into_arms(
-        self,
-        alloc: Global,
-        variable: Var,
-    ) -> Result<SelectedArms<'a>, NoMemory>
+    pub(crate) fn into_arms(self, alloc: Global, variable: Var) -> Result<Arms<'a>, NoMemory>
         requires { list_all (λ disjunct. is_there (symbol_at variable disjunct)) self.disjuncts ≡ true }
-        ensures { IfOk result (λ parted. AreArmsOf variable self.entry parted.symbols.items parted.arms.items) }
+        ensures whole { IfOk result (λ arms. arms.whole ≡ self.entry.whole) }
+        ensures arms { IfOk result (λ arms. AreArms arms.symbols.items arms.groups.items (grouped variable self.entry.disjuncts)) }
+        ensures handed { IfOk result (λ arms. IsHanded arms.whole arms.handed arms.groups.items) }
     {
+        let counts = self.counts;
         let arms = arms_of(alloc, variable, self.disjuncts)?;
-        Ok(SelectedArms {
+        let handed = hand_on(alloc, &self.whole, &arms.groups, counts)?;
+        Ok(Arms {
+            whole: self.whole,
             symbols: arms.symbols,
-            arms: selected_each(alloc, self.whole, arms.groups, self.counts)?,
+            groups: arms.groups,
+            handed,
         })
     }
 }
