@@ -44,17 +44,21 @@ own_filter all test (first ∷ rest) within =
     ap (λ b. if (b && test first) then first ∷ others else others) there
     ∙ ap (λ l. if test first then first ∷ l else l) (own_filter all test rest (λ v h. within v (ap (λ b. (v == first) || b) h ∙ or_true (v == first))))
 
+same_filter : (one other : ℕ → Bool) (all : List ℕ) → ((v : ℕ) → one v ≡ other v) → filter one all ≡ filter other all
+same_filter one other [] same = refl
+same_filter one other (first ∷ rest) same =
+    ap (λ b. if b then first ∷ filter one rest else filter one rest) (same first) ∙ ap (λ l. if other first then first ∷ l else l) (same_filter one other rest same)
+
 -- The outputs that have a count above 0 are those that occur.
-pub kept_counted : (outputs : List ℕ) (counts : VarCounts) (goals : List Node) (variables kept : List ℕ) → ((v : ℕ) → among variables v ≡ nat_lt 0 (count_of counts v)) → CountsOutputs outputs counts goals
-    → kept ≡ filter (λ v. among variables v) outputs → kept ≡ filter (λ v. in_nodes (nodes_of goals) v) outputs
-kept_counted outputs counts goals variables kept are counted is =
-    is ∙ same_filter (λ v. among variables v) (λ v. among outputs v && in_nodes (nodes_of goals) v) outputs (λ v. are v ∙ ap (nat_lt 0) (counted v) ∙ counted_above outputs v goals)
+pub kept_counted : (outputs : List ℕ) (counts : VarCounts) (goals : List Node) (kept : List ℕ) → CountsOutputs outputs counts goals
+    → kept ≡ filter (λ v. nat_lt 0 (count_of counts v)) outputs → kept ≡ filter (λ v. in_nodes (nodes_of goals) v) outputs
+kept_counted outputs counts goals kept counted is =
+    is ∙ same_filter (λ v. nat_lt 0 (count_of counts v)) (λ v. among outputs v && in_nodes (nodes_of goals) v) outputs (λ v. ap (nat_lt 0) (counted v) ∙ counted_above outputs v goals)
     ∙ own_filter outputs (λ v. in_nodes (nodes_of goals) v) outputs (λ v h. h)
-  where
-    same_filter : (one other : ℕ → Bool) (all : List ℕ) → ((v : ℕ) → one v ≡ other v) → filter one all ≡ filter other all
-    same_filter one other [] same = refl
-    same_filter one other (first ∷ rest) same =
-        ap (λ b. if b then first ∷ filter one rest else filter one rest) (same first) ∙ ap (λ l. if other first then first ∷ l else l) (same_filter one other rest same)
+
+pub kept_among : (outputs : List ℕ) (counts : VarCounts) (variables kept : List ℕ) → ((v : ℕ) → among variables v ≡ nat_lt 0 (count_of counts v)) → kept ≡ filter (λ v. among variables v) outputs
+    → kept ≡ filter (λ v. nat_lt 0 (count_of counts v)) outputs
+kept_among outputs counts variables kept are is = is ∙ same_filter (λ v. among variables v) (λ v. nat_lt 0 (count_of counts v)) outputs are
 
 -- the arms of a switch have the counts together
 pub counted_together : (whole : Node) (counts : Option VarCounts) (variable : ℕ) (disjuncts : List Node) (groups : List (List Node)) → list_all (λ disjunct. is_there (symbol_at variable disjunct)) disjuncts ≡ true

@@ -1,12 +1,12 @@
 //! In how many disjuncts outputs occur.
-ghost use Rattle.std.specs.Prelude.{◌≡◌, ◌+◌, ◌-◌, ◌&&◌, ℕ, List, filter, IfOk, OnOk};
+ghost use Rattle.std.specs.Prelude.{◌≡◌, ◌+◌, ◌-◌, ℕ, nat_lt, List, filter, IfOk, OnOk};
 ghost use Rattle.merc_graded_tree.specs.Nodes.{Node, nodes_of, outputs_of};
 ghost use Rattle.merc_graded_tree.specs.Variables.{in_nodes};
 ghost use Rattle.merc_order.specs.Bound.{among};
 ghost use Rattle.merc_switch_choice.specs.Counting.{one_if, counting, count_of};
 ghost use Rattle.merc_switch.specs.Selections.{has_output, CountsOutputs};
 
-use crate::occurring::add_variables;
+use crate::occurring::add_outputs;
 use crate::whole::Whole;
 use merc_base::NoMemory;
 use merc_goal_tree::{Var, Vars};
@@ -47,7 +47,7 @@ pub(crate) fn remove_disjuncts(
     Ok(())
 }
 
-/// The outputs of the whole that occur in the disjuncts that were counted. Only they are gone through.
+/// The outputs of the whole that occur in the disjuncts that were counted. No more than some times as many are gone through.
 pub(crate) fn outputs_counted(
     alloc: Global,
     whole: &Whole<'_>,
@@ -55,8 +55,12 @@ pub(crate) fn outputs_counted(
 ) -> Result<Vars, NoMemory>
     ensures { IfOk result (λ kept. (disjuncts : List Node) → CountsOutputs (outputs_of whole.now) counts.now disjuncts → kept ≡ filter (λ output. in_nodes (nodes_of disjuncts) output) (outputs_of whole.now)) }
 {
-    let variables = counts.variables(alloc)?;
-    whole.outputs_among(alloc, &variables)
+    let outputs = whole.outputs();
+    if counts.len() < outputs.len() / 8 {
+        let variables = counts.variables(alloc)?;
+        return whole.outputs_among(alloc, &variables);
+    }
+    those_counted(alloc, outputs, counts)
 }
 
 // Counts the outputs that occur in a disjunct once more.
@@ -89,21 +93,20 @@ fn remove_disjunct(
 fn outputs_at(alloc: Global, whole: &Whole<'_>, disjunct: &Disjunct<'_>) -> Result<VarSet, NoMemory>
     ensures { IfOk result (λ outputs. (variable : ℕ) → among outputs variable ≡ has_output (outputs_of whole.now) variable disjunct.now) }
 {
-    let mut variables = VarSet::new(alloc);
-    add_variables(&disjunct.goal(), &mut variables)?;
-    those_of(alloc, whole, &variables)
+    let mut outputs = VarSet::new(alloc);
+    add_outputs(&disjunct.goal(), whole, &mut outputs)?;
+    Ok(outputs)
 }
 
-// Those of the variables that are outputs of the whole.
-fn those_of(alloc: Global, whole: &Whole<'_>, variables: &VarSet) -> Result<VarSet, NoMemory>
-    ensures { IfOk result (λ outputs. (variable : ℕ) → among outputs variable ≡ (among (outputs_of whole.now) variable && among variables.now variable)) }
+// Those of the outputs whose count is above 0.
+fn those_counted(alloc: Global, outputs: &[Var], counts: &VarCounts) -> Result<Vars, NoMemory>
+    ensures { IfOk result (λ kept. kept ≡ filter (λ output. nat_lt 0 (count_of counts.now output)) outputs.now) }
 {
-    let mut outputs = VarSet::new(alloc);
-    for number in variables.numbers() {
-        let variable = Var::new(*number);
-        if whole.has_output(variable) {
-            outputs.add(variable)?;
+    let mut kept = Vars::new(alloc);
+    for output in outputs {
+        if counts.of(*output) > 0 {
+            kept.push(*output)?;
         }
     }
-    Ok(outputs)
+    Ok(kept)
 }

@@ -26,8 +26,13 @@ impl VarCounts {
         }
     }
 
+    /// How many variables have a count above 0.
+    pub fn len(&self) -> usize {
+        self.by_number.len()
+    }
+
     /// The count of the variable.
-    pub(crate) fn of(&self, variable: Var) -> usize
+    pub fn of(&self, variable: Var) -> usize
         ensures { result ≡ count_of self.now variable }
     {
         let number = variable.number();

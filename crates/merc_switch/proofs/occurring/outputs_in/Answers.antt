@@ -12,10 +12,10 @@ pub returns-then-has_all-clause-outputs : goal.returns-then-has_all-clause-outpu
 returns-then-has_all-clause-outputs c =
     let goals = c.args.disjuncts.now in
     let outputs = outputs_of c.args.whole.now in
-    let known = c.add_smallest.new.variables in
+    let known = c.add_smallest.new.found in
     let all : list_all (λ output. among known output) outputs ≡ true = ap (λ l. list_all (λ output. among known output) l) (sym c.outputs.ensures) ∙ sym c.has_all.ensures ∙ c.if-has_all.true in
     let same : (variable : ℕ) → (among known variable || in_nodes (nodes_of goals) variable) ≡ in_nodes (nodes_of goals) variable =
-    λ variable. c.in_ok-add_smallest.ensures variable ∙ ap (λ l. among l variable || in_nodes (nodes_of goals) variable) c.new-variables.ensures in
+    λ variable. c.in_ok-add_smallest.ensures variable ∙ ap (λ l. among l variable || in_nodes (nodes_of goals) variable) c.new-found.ensures in
     IfOk-weaker c.outputs_among.result _ _ (λ kept is. is ∙ outputs_known known goals outputs all same) c.outputs_among.ensures
 
 pub returns-in-Some-clause-outputs : goal.returns-in-Some-clause-outputs
