@@ -18,6 +18,7 @@ use Rattle.merc_switch.specs.declared.tasks.Task.TheVariants.{Judge, Close}
 use Rattle.merc_switch_choice.specs.declared.choosing.Candidates.{Candidates}
 use Rattle.merc_switch_choice.specs.Variables.{behind, all_behind}
 use Rattle.merc_switch_choice.specs.Choosing.{chosen, AreLeft, Takes}
+use Rattle.merc_switch.specs.Selections.{Selection}
 use Rattle.merc_switch.specs.Tasks.{HaveEnough, total, found_in, done, FitsTask, Performs}
 use Rattle.merc_switch.specs.Plans.{disjunction_plan, arm_plan, switch_plan, group_plan, choice_left, inner_group, outer_label, AreNarrowed, HaveSymbol}
 use Rattle.merc_switch_choice.proofs.Members.{among-behind, among-all_behind}
@@ -76,11 +77,10 @@ still_left (suc left) variable some = refl
 -- the inner group with these variables used
 abbrev inner_with : ℕ → Group → List ℕ → Group
 inner_with variable group used = record {
-  whole = group.whole;
-  disjuncts = group.disjuncts;
+  selected = group.selected;
   used = used;
   left = group.left - 1;
-  outputs = filter (λ output. in_nodes (nodes_of group.disjuncts) output) (outputs_of group.whole);
+  outputs = filter (λ output. in_nodes (nodes_of group.selected.disjuncts) output) (outputs_of group.selected.whole);
   category = None;
 }
 
@@ -90,60 +90,61 @@ used_same used v = fun_ext (λ w. among-behind (all_behind [] used) v w ∙ ap (
 used_first : (used : List ℕ) (v : ℕ) → among (v ∷ used) ≡ among (behind used v)
 used_first used v = fun_ext (λ w. or_turned (w == v) (among used w) ∙ sym (among-behind used v w))
 
-plan_one : (variable : ℕ) (symbol : Symbol) (group : Group) (rest : List Task) → HaveSymbol variable symbol group.disjuncts
+plan_one : (variable : ℕ) (symbol : Symbol) (group : Group) (rest : List Task) → HaveSymbol variable symbol group.selected.disjuncts
     → Judge (inner_with variable group (behind (all_behind [] group.used) variable)) ∷ Close (outer_label variable symbol group) ∷ rest ≡ switch_plan variable group ++ rest
 plan_one variable symbol group rest have =
-    ap (λ t. t ∷ Close (outer_label variable symbol group) ∷ rest) (several_arm group.whole group.used group.left variable group.disjuncts (several_not_one group.disjuncts have.several))
-    ∙ sym (ap (λ (arms : List Arm). (map (λ arm. arm_plan group.whole group.used group.left variable arm.1) arms
-    ++ Close (record { root = SwitchRoot variable (map (λ arm. arm.0) arms); outputs = group.outputs; category = group.category; span = span_of group.whole }) ∷ []) ++ rest)
-    (grouped_several variable symbol group.disjuncts have))
+    ap (λ t. t ∷ Close (outer_label variable symbol group) ∷ rest) (several_arm group.selected.whole group.used group.left variable group.selected.disjuncts (several_not_one group.selected.disjuncts have.several))
+    ∙ sym (ap (λ (arms : List Arm). (map (λ arm. arm_plan group.selected.whole group.used group.left variable arm.1) arms
+    ++ Close (record { root = SwitchRoot variable (map (λ arm. arm.0) arms); outputs = group.outputs; category = group.category; span = span_of group.selected.whole }) ∷ []) ++ rest)
+    (grouped_several variable symbol group.selected.disjuncts have))
 
-pub inner_performs : (declared : List TypeDef) (variable : ℕ) (symbol : Symbol) (group : Group) (rest : List Task) (goals : List Node) (bound : List ℕ) → HaveSymbol variable symbol group.disjuncts → 0 < group.left
-    → Some variable ≡ chosen declared (among bound) group.used group.disjuncts
+pub inner_performs : (declared : List TypeDef) (variable : ℕ) (symbol : Symbol) (group : Group) (rest : List Task) (goals : List Node) (bound : List ℕ) → HaveSymbol variable symbol group.selected.disjuncts → 0 < group.left
+    → Some variable ≡ chosen declared (among bound) group.used group.selected.disjuncts
     → Performs declared (Judge group ∷ rest) goals bound (Judge (inner_group variable group) ∷ Close (outer_label variable symbol group) ∷ rest) goals bound
 inner_performs declared variable symbol group rest goals bound have some is =
     let listed = behind (all_behind [] group.used) variable in
     let closed = Close (outer_label variable symbol group) ∷ rest in
-    let planned : Judge (inner_with variable group listed) ∷ closed ≡ group_plan (choice_left group.left (chosen declared (among bound) group.used group.disjuncts)) group ++ rest =
+    let planned : Judge (inner_with variable group listed) ∷ closed ≡ group_plan (choice_left group.left (chosen declared (among bound) group.used group.selected.disjuncts)) group ++ rest =
     plan_one variable symbol group rest have ∙ ap (λ o. group_plan o group ++ rest) (sym (still_left group.left variable some) ∙ ap (choice_left group.left) is) in
     let performs = judges declared group rest (Judge (inner_with variable group listed) ∷ closed) goals bound planned in
     record {
       same = λ types fits. performs.same types fits
-          ∙ ap (λ g. done declared types closed (goals ++ node g (inner_with variable group listed).outputs None (span_of group.whole) ∷ []) bound)
-          (regrouped_used declared types (group.left - 1) (outputs_of group.whole) (span_of group.whole) (among bound) listed (behind group.used variable) (used_same group.used variable) (found_in declared types (among bound) group.disjuncts));
+          ∙ ap (λ g. done declared types closed (goals ++ node g (inner_with variable group listed).outputs None (span_of group.selected.whole) ∷ []) bound)
+          (regrouped_used declared types (group.left - 1) (outputs_of group.selected.whole) (span_of group.selected.whole) (among bound) listed (behind group.used variable) (used_same group.used variable) (found_in declared types (among bound) group.selected.disjuncts));
       fits = performs.fits;
       enough = performs.enough;
       smaller = performs.smaller;
     }
 
-pub inner_is : (variable : ℕ) (group : Group) (used : List ℕ) (left : ℕ) (outputs : List ℕ) → used ≡ behind group.used variable → left ≡ group.left - 1
-    → outputs ≡ filter (λ output. in_nodes (nodes_of group.disjuncts) output) (outputs_of group.whole)
-    → record { whole = group.whole; disjuncts = group.disjuncts; used = used; left = left; outputs = outputs; category = None } ≡ inner_group variable group
-inner_is variable group used left outputs used_is left_is outputs_are =
-    let made : List ℕ → ℕ → List ℕ → Group = λ u l o. record { whole = group.whole; disjuncts = group.disjuncts; used = u; left = l; outputs = o; category = None } in
-    ap (λ u. made u left outputs) used_is ∙ ap (λ l. made (behind group.used variable) l outputs) left_is ∙ ap (made (behind group.used variable) (group.left - 1)) outputs_are
+pub inner_is : (variable : ℕ) (group : Group) (selected : Selection) (used : List ℕ) (left : ℕ) (outputs : List ℕ) → selected ≡ group.selected → used ≡ behind group.used variable → left ≡ group.left - 1
+    → outputs ≡ filter (λ output. in_nodes (nodes_of group.selected.disjuncts) output) (outputs_of group.selected.whole)
+    → record { selected = selected; used = used; left = left; outputs = outputs; category = None } ≡ inner_group variable group
+inner_is variable group selected used left outputs selected_is used_is left_is outputs_are =
+    let made : Selection → List ℕ → ℕ → List ℕ → Group = λ s u l o. record { selected = s; used = u; left = l; outputs = o; category = None } in
+    ap (λ s. made s used left outputs) selected_is ∙ ap (λ u. made group.selected u left outputs) used_is ∙ ap (λ l. made group.selected (behind group.used variable) l outputs) left_is
+    ∙ ap (made group.selected (behind group.used variable) (group.left - 1)) outputs_are
 
-abbrev pub with_disjuncts : Group → List Node → Group
-with_disjuncts group disjuncts = record { whole = group.whole; disjuncts = disjuncts; used = group.used; left = group.left; outputs = group.outputs; category = group.category }
+abbrev pub with_selected : Group → Selection → Group
+with_selected group selected = record { selected = selected; used = group.used; left = group.left; outputs = group.outputs; category = group.category }
 
 -- what the candidates tell of a group, whose disjuncts they were given
-module _ (declared : List TypeDef) (bound : List ℕ) (group : Group) (disjuncts : List Node) (before after : Candidates) (choice : Option ℕ) (same : disjuncts ≡ group.disjuncts)
-    (takes : Takes declared disjuncts before after choice) (left : AreLeft declared (among bound) group.used group.disjuncts before.untried before.uncovered) where
-  takes_now : Takes declared group.disjuncts before after choice
+module _ (declared : List TypeDef) (bound : List ℕ) (group : Group) (disjuncts : List Node) (before after : Candidates) (choice : Option ℕ) (same : disjuncts ≡ group.selected.disjuncts)
+    (takes : Takes declared disjuncts before after choice) (left : AreLeft declared (among bound) group.used group.selected.disjuncts before.untried before.uncovered) where
+  takes_now : Takes declared group.selected.disjuncts before after choice
   takes_now = subst (λ l. Takes declared l before after choice) same takes
 
-  pub choice_told : (other : Option ℕ) → choice ≡ other → other ≡ chosen declared (among bound) group.used group.disjuncts
+  pub choice_told : (other : Option ℕ) → choice ≡ other → other ≡ chosen declared (among bound) group.used group.selected.disjuncts
   choice_told other is = sym is ∙ takes_now.choice_is (among bound) group.used left
 
-  pub inner_left : (variable : ℕ) (inner : Group) → inner ≡ inner_group variable group → choice ≡ Some variable → AreLeft declared (among bound) inner.used inner.disjuncts after.untried after.uncovered
+  pub inner_left : (variable : ℕ) (inner : Group) → inner ≡ inner_group variable group → choice ≡ Some variable → AreLeft declared (among bound) inner.used inner.selected.disjuncts after.untried after.uncovered
   inner_left variable inner made is =
-      subst (λ (g : Group). AreLeft declared (among bound) g.used g.disjuncts after.untried after.uncovered) (sym made)
-      (left_same declared (among bound) (variable ∷ group.used) (behind group.used variable) group.disjuncts after.untried after.uncovered (used_first group.used variable)
+      subst (λ (g : Group). AreLeft declared (among bound) g.used g.selected.disjuncts after.untried after.uncovered) (sym made)
+      (left_same declared (among bound) (variable ∷ group.used) (behind group.used variable) group.selected.disjuncts after.untried after.uncovered (used_first group.used variable)
       (takes_now.left_are (among bound) group.used variable left is))
 
 pub reaches_inner : (declared : List TypeDef) (start : List Task) (variable : ℕ) (symbol : Symbol) (group : Group) (rest : List Task) (inner : Group) (tasks : List Task) (goals : List Node) (bound : List ℕ)
-    → Reaches declared start (Judge group ∷ rest) goals bound → inner ≡ inner_group variable group → tasks ≡ Close (outer_label variable symbol group) ∷ rest → HaveSymbol variable symbol group.disjuncts
-    → 0 < group.left → Some variable ≡ chosen declared (among bound) group.used group.disjuncts → Reaches declared start (Judge inner ∷ tasks) goals bound
+    → Reaches declared start (Judge group ∷ rest) goals bound → inner ≡ inner_group variable group → tasks ≡ Close (outer_label variable symbol group) ∷ rest → HaveSymbol variable symbol group.selected.disjuncts
+    → 0 < group.left → Some variable ≡ chosen declared (among bound) group.used group.selected.disjuncts → Reaches declared start (Judge inner ∷ tasks) goals bound
 reaches_inner declared start variable symbol group rest inner tasks goals bound reaches made put have some is =
     subst (λ g. Reaches declared start (Judge g ∷ tasks) goals bound) (sym made)
     (subst (λ l. Reaches declared start (Judge (inner_group variable group) ∷ l) goals bound) (sym put)
@@ -162,18 +163,18 @@ used_up (suc left) choice none = absurd (omega (arith, none))
 pub ends_used_up : (declared : List TypeDef) (group : Group) (rest tasks : List Task) (goals : List Node) (bound : List ℕ) → group.left ≡ 0 → tasks ≡ disjunction_plan group ++ rest
     → Performs declared (Judge group ∷ rest) goals bound tasks goals bound
 ends_used_up declared group rest tasks goals bound none planned =
-    judges declared group rest tasks goals bound (planned ∙ ap (λ o. group_plan o group ++ rest) (sym (used_up group.left (chosen declared (among bound) group.used group.disjuncts) none)))
+    judges declared group rest tasks goals bound (planned ∙ ap (λ o. group_plan o group ++ rest) (sym (used_up group.left (chosen declared (among bound) group.used group.selected.disjuncts) none)))
 
 without_choice : (left : ℕ) → choice_left left None ≡ None
 without_choice zero = refl
 without_choice (suc left) = refl
 
-pub ends_open : (declared : List TypeDef) (group : Group) (rest tasks : List Task) (goals : List Node) (bound : List ℕ) → None ≡ chosen declared (among bound) group.used group.disjuncts
+pub ends_open : (declared : List TypeDef) (group : Group) (rest tasks : List Task) (goals : List Node) (bound : List ℕ) → None ≡ chosen declared (among bound) group.used group.selected.disjuncts
     → tasks ≡ disjunction_plan group ++ rest → Performs declared (Judge group ∷ rest) goals bound tasks goals bound
 ends_open declared group rest tasks goals bound none planned =
     judges declared group rest tasks goals bound (planned ∙ ap (λ o. group_plan o group ++ rest) (sym (without_choice group.left) ∙ ap (choice_left group.left) none))
 
 pub ends_parted : (declared : List TypeDef) (variable : ℕ) (group : Group) (rest tasks : List Task) (goals : List Node) (bound : List ℕ) → 0 < group.left
-    → Some variable ≡ chosen declared (among bound) group.used group.disjuncts → tasks ≡ switch_plan variable group ++ rest → Performs declared (Judge group ∷ rest) goals bound tasks goals bound
+    → Some variable ≡ chosen declared (among bound) group.used group.selected.disjuncts → tasks ≡ switch_plan variable group ++ rest → Performs declared (Judge group ∷ rest) goals bound tasks goals bound
 ends_parted declared variable group rest tasks goals bound some is planned =
     judges declared group rest tasks goals bound (planned ∙ ap (λ o. group_plan o group ++ rest) (sym (still_left group.left variable some) ∙ ap (choice_left group.left) is))

@@ -20,8 +20,9 @@ use Rattle.merc_switch.specs.declared.tasks.Group.{Group}
 use Rattle.merc_switch.specs.declared.tasks.Task.{Task}
 use Rattle.merc_switch.specs.declared.tasks.Task.TheVariants.{Judge, Close}
 use Rattle.merc_switch_choice.specs.Variables.{behind, all_behind}
-use Rattle.merc_switch_choice.specs.Arms.{AreArms}
 use Rattle.merc_switch_choice.specs.Choosing.{chosen}
+use Rattle.merc_switch_choice.specs.Arms.{AreArms}
+use Rattle.merc_switch.specs.Selections.{Selection}
 use Rattle.merc_switch.specs.Tasks.{HaveEnough, effort, load, task_effort, total, found_in, judged, done, FitsTask, Performs}
 use Rattle.merc_switch.specs.Plans.{finds, disjunction_plan, arm_plan, arm_plans, switch_plan, group_plan, choice_left}
 use Rattle.merc_switch.proofs.FoundBeginnings.{found_beginning}
@@ -69,8 +70,7 @@ module _ (declared : List TypeDef) (types : ℕ → TypeExpr) where
   abbrev arm_found : Bound → Node → List ℕ → ℕ → ℕ → List Node → Node
   arm_found bound whole used left variable (only ∷ []) = find declared types bound only
   arm_found bound whole used left variable disjuncts = judged declared types bound (record {
-    whole = whole;
-    disjuncts = disjuncts;
+    selected = record { whole = whole; disjuncts = disjuncts };
     used = behind (all_behind [] used) variable;
     left = left - 1;
     outputs = filter (λ output. in_nodes (nodes_of disjuncts) output) (outputs_of whole);
@@ -134,15 +134,15 @@ module _ (declared : List TypeDef) (types : ℕ → TypeExpr) where
 
   -- disjuncts that are no switch
   abbrev as_disjunction : Bound → Group → Node
-  as_disjunction bound group = node (Disjunction (nodes_of (found_in declared types bound group.disjuncts))) group.outputs group.category (span_of group.whole)
+  as_disjunction bound group = node (Disjunction (nodes_of (found_in declared types bound group.selected.disjuncts))) group.outputs group.category (span_of group.selected.whole)
 
   pub done_disjunction : (group : Group) (rest : List Task) (before : List Node) (bound : List ℕ)
       → done declared types (disjunction_plan group ++ rest) before bound ≡ done declared types rest (before ++ as_disjunction (among bound) group ∷ []) bound
   done_disjunction group rest before bound =
-      let label : Label = record { root = DisjunctionRoot (length group.disjuncts); outputs = group.outputs; category = group.category; span = span_of group.whole } in
-      ap (λ l. done declared types l before bound) (append_assoc (finds group.disjuncts) (Close label ∷ []) rest)
-      ∙ done_finds group.disjuncts (Close label ∷ rest) before bound
-      ∙ done_closed declared types label (found_in declared types (among bound) group.disjuncts) rest before bound (sym (length-map group.disjuncts (λ goal. find declared types (among bound) goal)))
+      let label : Label = record { root = DisjunctionRoot (length group.selected.disjuncts); outputs = group.outputs; category = group.category; span = span_of group.selected.whole } in
+      ap (λ l. done declared types l before bound) (append_assoc (finds group.selected.disjuncts) (Close label ∷ []) rest)
+      ∙ done_finds group.selected.disjuncts (Close label ∷ rest) before bound
+      ∙ done_closed declared types label (found_in declared types (among bound) group.selected.disjuncts) rest before bound (sym (length-map group.selected.disjuncts (λ goal. find declared types (among bound) goal)))
 
   plain_is : (left : ℕ) (outputs : List ℕ) (span : Span) (bound : Bound) (used : List ℕ) (disjuncts : List Node) → AllByRecursion (Fits declared types) disjuncts
       → choice_left left (chosen declared bound used disjuncts) ≡ None
@@ -156,8 +156,8 @@ module _ (declared : List TypeDef) (types : ℕ → TypeExpr) where
   -- disjuncts that are a switch
   abbrev as_arms : Bound → Group → ℕ → Arms
   as_arms bound group variable =
-      let arms = grouped variable group.disjuncts in
-      arms_of (map (λ arm. arm.0) arms) (map (λ arm. arm_found bound group.whole group.used group.left variable arm.1) arms)
+      let arms = grouped variable group.selected.disjuncts in
+      arms_of (map (λ arm. arm.0) arms) (map (λ arm. arm_found bound group.selected.whole group.used group.left variable arm.1) arms)
 
   no_choice : {A : Type 0} {v : ℕ} → ◌≡◌ {A = Option ℕ} None (Some v) → A
   no_choice h = absurd (cc)
@@ -177,27 +177,27 @@ module _ (declared : List TypeDef) (types : ℕ → TypeExpr) where
 
   done_switch : (group : Group) (variable : ℕ) (rest : List Task) (before : List Node) (bound : List ℕ)
       → done declared types (switch_plan variable group ++ rest) before bound
-      ≡ done declared types rest (before ++ node (Switch variable (as_arms (among bound) group variable)) group.outputs group.category (span_of group.whole) ∷ []) bound
+      ≡ done declared types rest (before ++ node (Switch variable (as_arms (among bound) group variable)) group.outputs group.category (span_of group.selected.whole) ∷ []) bound
   done_switch group variable rest before bound =
-      let arms = grouped variable group.disjuncts in
-      let label : Label = record { root = SwitchRoot variable (map (λ arm. arm.0) arms); outputs = group.outputs; category = group.category; span = span_of group.whole } in
-      let found = map (λ arm. arm_found (among bound) group.whole group.used group.left variable arm.1) arms in
+      let arms = grouped variable group.selected.disjuncts in
+      let label : Label = record { root = SwitchRoot variable (map (λ arm. arm.0) arms); outputs = group.outputs; category = group.category; span = span_of group.selected.whole } in
+      let found = map (λ arm. arm_found (among bound) group.selected.whole group.used group.left variable arm.1) arms in
       ap (λ l. done declared types l before bound) (append_assoc (arm_plans variable group arms) (Close label ∷ []) rest)
-      ∙ done_arms group.whole group.used group.left variable arms (Close label ∷ rest) before bound
+      ∙ done_arms group.selected.whole group.used group.left variable arms (Close label ∷ rest) before bound
       ∙ done_closed declared types label found rest before bound
-      (length-map arms (λ arm. arm.0) ∙ sym (length-map arms (λ arm. arm_found (among bound) group.whole group.used group.left variable arm.1)))
+      (length-map arms (λ arm. arm.0) ∙ sym (length-map arms (λ arm. arm_found (among bound) group.selected.whole group.used group.left variable arm.1)))
 
-  done_group_as : (group : Group) (choice_is : Option ℕ) (rest : List Task) (before : List Node) (bound : List ℕ) → AllByRecursion (Fits declared types) group.disjuncts
-      → choice_left group.left (chosen declared (among bound) group.used group.disjuncts) ≡ choice_is
+  done_group_as : (group : Group) (choice_is : Option ℕ) (rest : List Task) (before : List Node) (bound : List ℕ) → AllByRecursion (Fits declared types) group.selected.disjuncts
+      → choice_left group.left (chosen declared (among bound) group.used group.selected.disjuncts) ≡ choice_is
       → done declared types (group_plan choice_is group ++ rest) before bound ≡ done declared types rest (before ++ judged declared types (among bound) group ∷ []) bound
   done_group_as group None rest before bound fits none =
       done_disjunction group rest before bound
-      ∙ ap (λ g. done declared types rest (before ++ node g group.outputs group.category (span_of group.whole) ∷ []) bound)
-      (sym (plain_is group.left (outputs_of group.whole) (span_of group.whole) (among bound) group.used group.disjuncts fits none))
+      ∙ ap (λ g. done declared types rest (before ++ node g group.outputs group.category (span_of group.selected.whole) ∷ []) bound)
+      (sym (plain_is group.left (outputs_of group.selected.whole) (span_of group.selected.whole) (among bound) group.used group.selected.disjuncts fits none))
   done_group_as group (Some variable) rest before bound fits some =
       done_switch group variable rest before bound
-      ∙ ap (λ g. done declared types rest (before ++ node g group.outputs group.category (span_of group.whole) ∷ []) bound)
-      (sym (switch_is group.left group.whole (among bound) group.used group.disjuncts variable fits some))
+      ∙ ap (λ g. done declared types rest (before ++ node g group.outputs group.category (span_of group.selected.whole) ∷ []) bound)
+      (sym (switch_is group.left group.selected.whole (among bound) group.used group.selected.disjuncts variable fits some))
 
   -- symbols that fit
 
@@ -215,16 +215,16 @@ module _ (declared : List TypeDef) (types : ℕ → TypeExpr) where
   fits_arms whole used left variable [] rest fits others = others
   fits_arms whole used left variable (arm ∷ arms) rest fits others = (fits_arm whole used left variable arm.1 fits.0, fits_arms whole used left variable arms rest fits.1 others)
 
-  fits_group : (group : Group) (choice_is : Option ℕ) (rest : List Task) → AllByRecursion (Fits declared types) group.disjuncts → AllByRecursion (FitsTask declared types) rest
+  fits_group : (group : Group) (choice_is : Option ℕ) (rest : List Task) → AllByRecursion (Fits declared types) group.selected.disjuncts → AllByRecursion (FitsTask declared types) rest
       → AllByRecursion (FitsTask declared types) (group_plan choice_is group ++ rest)
   fits_group group None rest fits others =
-      let label : Label = record { root = DisjunctionRoot (length group.disjuncts); outputs = group.outputs; category = group.category; span = span_of group.whole } in
-      subst (λ l. AllByRecursion (FitsTask declared types) l) (sym (append_assoc (finds group.disjuncts) (Close label ∷ []) rest)) (fits_finds group.disjuncts (Close label ∷ rest) fits (tt, others))
+      let label : Label = record { root = DisjunctionRoot (length group.selected.disjuncts); outputs = group.outputs; category = group.category; span = span_of group.selected.whole } in
+      subst (λ l. AllByRecursion (FitsTask declared types) l) (sym (append_assoc (finds group.selected.disjuncts) (Close label ∷ []) rest)) (fits_finds group.selected.disjuncts (Close label ∷ rest) fits (tt, others))
   fits_group group (Some variable) rest fits others =
-      let arms = grouped variable group.disjuncts in
-      let label : Label = record { root = SwitchRoot variable (map (λ arm. arm.0) arms); outputs = group.outputs; category = group.category; span = span_of group.whole } in
+      let arms = grouped variable group.selected.disjuncts in
+      let label : Label = record { root = SwitchRoot variable (map (λ arm. arm.0) arms); outputs = group.outputs; category = group.category; span = span_of group.selected.whole } in
       subst (λ l. AllByRecursion (FitsTask declared types) l) (sym (append_assoc (arm_plans variable group arms) (Close label ∷ []) rest))
-      (fits_arms group.whole group.used group.left variable arms (Close label ∷ rest) (grouped_all (Fits declared types) variable group.disjuncts fits) (tt, others))
+      (fits_arms group.selected.whole group.used group.left variable arms (Close label ∷ rest) (grouped_all (Fits declared types) variable group.selected.disjuncts fits) (tt, others))
 
 -- goals that tasks need
 
@@ -250,14 +250,14 @@ enough_closed label rest count size is h = (omega arith, subst (λ n. HaveEnough
 
 enough_group : (group : Group) (choice_is : Option ℕ) (rest : List Task) (count : ℕ) → HaveEnough (suc count) rest → HaveEnough count (group_plan choice_is group ++ rest)
 enough_group group None rest count h =
-    let label : Label = record { root = DisjunctionRoot (length group.disjuncts); outputs = group.outputs; category = group.category; span = span_of group.whole } in
-    subst (λ l. HaveEnough count l) (sym (append_assoc (finds group.disjuncts) (Close label ∷ []) rest))
-    (enough_finds group.disjuncts (Close label ∷ rest) count (enough_closed label rest count (length group.disjuncts) refl h))
+    let label : Label = record { root = DisjunctionRoot (length group.selected.disjuncts); outputs = group.outputs; category = group.category; span = span_of group.selected.whole } in
+    subst (λ l. HaveEnough count l) (sym (append_assoc (finds group.selected.disjuncts) (Close label ∷ []) rest))
+    (enough_finds group.selected.disjuncts (Close label ∷ rest) count (enough_closed label rest count (length group.selected.disjuncts) refl h))
 enough_group group (Some variable) rest count h =
-    let arms = grouped variable group.disjuncts in
-    let label : Label = record { root = SwitchRoot variable (map (λ arm. arm.0) arms); outputs = group.outputs; category = group.category; span = span_of group.whole } in
+    let arms = grouped variable group.selected.disjuncts in
+    let label : Label = record { root = SwitchRoot variable (map (λ arm. arm.0) arms); outputs = group.outputs; category = group.category; span = span_of group.selected.whole } in
     subst (λ l. HaveEnough count l) (sym (append_assoc (arm_plans variable group arms) (Close label ∷ []) rest))
-    (enough_arms group.whole group.used group.left variable arms (Close label ∷ rest) count (enough_closed label rest count (length arms) (length-map arms (λ arm. arm.0)) h))
+    (enough_arms group.selected.whole group.used group.left variable arms (Close label ∷ rest) count (enough_closed label rest count (length arms) (length-map arms (λ arm. arm.0)) h))
 
 -- less is left to do
 
@@ -290,42 +290,42 @@ arms_effort whole used left variable (arm ∷ arms) filled =
     let others = arms_effort whole used left variable arms filled.1 in
     omega arith
 
-switch_effort : (group : Group) (left variable : ℕ) → group.left ≡ suc left → total (switch_plan variable group) < 2 + load (suc group.left) group.disjuncts
+switch_effort : (group : Group) (left variable : ℕ) → group.left ≡ suc left → total (switch_plan variable group) < 2 + load (suc group.left) group.selected.disjuncts
 switch_effort group left variable is =
-    let arms = grouped variable group.disjuncts in
-    let label : Label = record { root = SwitchRoot variable (map (λ arm. arm.0) arms); outputs = group.outputs; category = group.category; span = span_of group.whole } in
+    let arms = grouped variable group.selected.disjuncts in
+    let label : Label = record { root = SwitchRoot variable (map (λ arm. arm.0) arms); outputs = group.outputs; category = group.category; span = span_of group.selected.whole } in
     let one = total-append (arm_plans variable group arms) (Close label ∷ []) in
-    let two : total (arm_plans variable group arms) ≡ total (map (λ arm. arm_plan group.whole group.used (suc left) variable arm.1) arms) = ap (λ n. total (map (λ arm. arm_plan group.whole group.used n variable arm.1) arms)) is in
-    let three = arms_effort group.whole group.used left variable arms (grouped_filled variable group.disjuncts) in
-    let four = weigh_grouped (λ goal. suc (suc left) + effort goal) variable group.disjuncts in
-    let five = load_weigh (suc (suc left)) group.disjuncts in
-    let six : load (suc group.left) group.disjuncts ≡ load (suc (suc left)) group.disjuncts = ap (λ n. load (suc n) group.disjuncts) is in
+    let two : total (arm_plans variable group arms) ≡ total (map (λ arm. arm_plan group.selected.whole group.used (suc left) variable arm.1) arms) = ap (λ n. total (map (λ arm. arm_plan group.selected.whole group.used n variable arm.1) arms)) is in
+    let three = arms_effort group.selected.whole group.used left variable arms (grouped_filled variable group.selected.disjuncts) in
+    let four = weigh_grouped (λ goal. suc (suc left) + effort goal) variable group.selected.disjuncts in
+    let five = load_weigh (suc (suc left)) group.selected.disjuncts in
+    let six : load (suc group.left) group.selected.disjuncts ≡ load (suc (suc left)) group.selected.disjuncts = ap (λ n. load (suc n) group.selected.disjuncts) is in
     omega arith
 
-group_effort : (group : Group) (left : ℕ) (chosen_is : Option ℕ) → group.left ≡ left → total (group_plan (choice_left left chosen_is) group) < 2 + load (suc group.left) group.disjuncts
+group_effort : (group : Group) (left : ℕ) (chosen_is : Option ℕ) → group.left ≡ left → total (group_plan (choice_left left chosen_is) group) < 2 + load (suc group.left) group.selected.disjuncts
 group_effort group zero chosen_is is = plain_effort group
   where
-    plain_effort : (g : Group) → total (disjunction_plan g) < 2 + load (suc g.left) g.disjuncts
+    plain_effort : (g : Group) → total (disjunction_plan g) < 2 + load (suc g.left) g.selected.disjuncts
     plain_effort g =
-        let one = total-append (finds g.disjuncts) (Close (record { root = DisjunctionRoot (length g.disjuncts); outputs = g.outputs; category = g.category; span = span_of g.whole }) ∷ []) in
-        let two = total_finds (suc g.left) g.disjuncts in
+        let one = total-append (finds g.selected.disjuncts) (Close (record { root = DisjunctionRoot (length g.selected.disjuncts); outputs = g.outputs; category = g.category; span = span_of g.selected.whole }) ∷ []) in
+        let two = total_finds (suc g.left) g.selected.disjuncts in
         omega arith
 group_effort group (suc left) None is =
-    let one = total-append (finds group.disjuncts) (Close (record { root = DisjunctionRoot (length group.disjuncts); outputs = group.outputs; category = group.category; span = span_of group.whole }) ∷ []) in
-    let two = total_finds (suc group.left) group.disjuncts in
+    let one = total-append (finds group.selected.disjuncts) (Close (record { root = DisjunctionRoot (length group.selected.disjuncts); outputs = group.outputs; category = group.category; span = span_of group.selected.whole }) ∷ []) in
+    let two = total_finds (suc group.left) group.selected.disjuncts in
     omega arith
 group_effort group (suc left) (Some variable) is = switch_effort group left variable is
 
 pub judges : (declared : List TypeDef) (group : Group) (rest tasks : List Task) (goals : List Node) (bound : List ℕ)
-    → tasks ≡ group_plan (choice_left group.left (chosen declared (among bound) group.used group.disjuncts)) group ++ rest
+    → tasks ≡ group_plan (choice_left group.left (chosen declared (among bound) group.used group.selected.disjuncts)) group ++ rest
     → Performs declared (Judge group ∷ rest) goals bound tasks goals bound
 judges declared group rest tasks goals bound planned =
-    let chosen_is = choice_left group.left (chosen declared (among bound) group.used group.disjuncts) in
+    let chosen_is = choice_left group.left (chosen declared (among bound) group.used group.selected.disjuncts) in
     subst (λ l. Performs declared (Judge group ∷ rest) goals bound l goals bound) (sym planned) (record {
       same = λ types fits. sym (done_group_as declared types group chosen_is rest goals bound fits.0 refl);
       fits = λ types fits. fits_group declared types group chosen_is rest fits.0 fits.1;
       enough = λ h. enough_group group chosen_is rest (length goals) h;
-      smaller = let one = group_effort group group.left (chosen declared (among bound) group.used group.disjuncts) refl in let two = total-append (group_plan chosen_is group) rest in omega arith;
+      smaller = let one = group_effort group group.left (chosen declared (among bound) group.used group.selected.disjuncts) refl in let two = total-append (group_plan chosen_is group) rest in omega arith;
     })
 
 -- the plan of a switch
@@ -337,22 +337,21 @@ map_seconds f (arm ∷ arms) = ap (λ l. f arm.1 ∷ l) (map_seconds f arms)
 abbrev switch_label : ℕ → Group → List Symbol → Span → Label
 switch_label variable group symbols span = record { root = SwitchRoot variable symbols; outputs = group.outputs; category = group.category; span = span }
 
-pub plans_switch : (variable : ℕ) (group : Group) (symbols symbols' : List Symbol) (arms : List (List Node)) (span : Span) (rest closed tasks : List Task) → AreArms symbols arms (grouped variable group.disjuncts)
-    → symbols' ≡ symbols → span ≡ span_of group.whole → closed ≡ Close (switch_label variable group symbols' span) ∷ rest
-    → tasks ≡ map (λ disjuncts. arm_plan group.whole group.used group.left variable disjuncts) arms ++ closed → tasks ≡ switch_plan variable group ++ rest
+pub plans_switch : (variable : ℕ) (group : Group) (symbols symbols' : List Symbol) (arms : List (List Node)) (span : Span) (rest closed tasks : List Task) → AreArms symbols arms (grouped variable group.selected.disjuncts)
+    → symbols' ≡ symbols → span ≡ span_of group.selected.whole → closed ≡ Close (switch_label variable group symbols' span) ∷ rest
+    → tasks ≡ map (λ disjuncts. arm_plan group.selected.whole group.used group.left variable disjuncts) arms ++ closed → tasks ≡ switch_plan variable group ++ rest
 plans_switch variable group symbols symbols' arms span rest closed tasks are same place first put =
-    let all = grouped variable group.disjuncts in
+    let all = grouped variable group.selected.disjuncts in
     let last : List Symbol → Span → List Task = λ l s. Close (switch_label variable group l s) ∷ rest in
-    let arm : List Node → Task = λ disjuncts. arm_plan group.whole group.used group.left variable disjuncts in
+    let arm : List Node → Task = λ disjuncts. arm_plan group.selected.whole group.used group.left variable disjuncts in
     put ∙ ap (λ l. map arm arms ++ l) (first ∙ ap (λ l. last l span) (same ∙ are.symbols_are) ∙ ap (λ s. last (map (λ a. a.0) all) s) place)
-    ∙ ap (λ l. map arm l ++ last (map (λ a. a.0) all) (span_of group.whole)) are.groups_are
-    ∙ ap (λ l. l ++ last (map (λ a. a.0) all) (span_of group.whole)) (map_seconds arm all)
-    ∙ sym (append_assoc (arm_plans variable group all) (Close (switch_label variable group (map (λ a. a.0) all) (span_of group.whole)) ∷ []) rest)
+    ∙ ap (λ l. map arm l ++ last (map (λ a. a.0) all) (span_of group.selected.whole)) are.groups_are
+    ∙ ap (λ l. l ++ last (map (λ a. a.0) all) (span_of group.selected.whole)) (map_seconds arm all)
+    ∙ sym (append_assoc (arm_plans variable group all) (Close (switch_label variable group (map (λ a. a.0) all) (span_of group.selected.whole)) ∷ []) rest)
 
 pub several_arm : (whole : Node) (used : List ℕ) (left variable : ℕ) (disjuncts : List Node) → (length disjuncts == 1) ≡ false
     → Judge (record {
-      whole = whole;
-      disjuncts = disjuncts;
+      selected = record { whole = whole; disjuncts = disjuncts };
       used = behind (all_behind [] used) variable;
       left = left - 1;
       outputs = filter (λ output. in_nodes (nodes_of disjuncts) output) (outputs_of whole);
@@ -363,21 +362,19 @@ several_arm whole used left variable (only ∷ []) several = cc
 several_arm whole used left variable (first ∷ second ∷ rest) several = refl
 
 -- the parts of the group that several disjuncts become
-pub record AreParts (whole : Node) (used : List ℕ) (left variable : ℕ) (disjuncts : List Node) (whole' : Node) (disjuncts' : List Node) (used' : List ℕ) (left' : ℕ) (outputs' : List ℕ) : Type 0 where
-  pub whole_is : whole' ≡ whole
-  pub disjuncts_are : disjuncts' ≡ disjuncts
+pub record AreParts (selected : Selection) (used : List ℕ) (left variable : ℕ) (selected' : Selection) (used' : List ℕ) (left' : ℕ) (outputs' : List ℕ) : Type 0 where
+  pub selected_is : selected' ≡ selected
   pub used_are : used' ≡ behind (all_behind [] used) variable
   pub left_is : left' ≡ left - 1
-  pub outputs_are : outputs' ≡ filter (λ output. in_nodes (nodes_of disjuncts) output) (outputs_of whole)
+  pub outputs_are : outputs' ≡ filter (λ output. in_nodes (nodes_of selected.disjuncts) output) (outputs_of selected.whole)
 
-pub judged_arm : (whole : Node) (used : List ℕ) (left variable : ℕ) (disjuncts : List Node) (whole' : Node) (disjuncts' : List Node) (used' : List ℕ) (left' : ℕ) (outputs' : List ℕ)
-    → (length disjuncts == 1) ≡ false → AreParts whole used left variable disjuncts whole' disjuncts' used' left' outputs'
-    → Judge (record { whole = whole'; disjuncts = disjuncts'; used = used'; left = left'; outputs = outputs'; category = None }) ≡ arm_plan whole used left variable disjuncts
-judged_arm whole used left variable disjuncts whole' disjuncts' used' left' outputs' several parts =
-    let group : Node → List Node → List ℕ → ℕ → List ℕ → Group = λ w d u l o. record { whole = w; disjuncts = d; used = u; left = l; outputs = o; category = None } in
-    ap (λ w. Judge (group w disjuncts' used' left' outputs')) parts.whole_is
-    ∙ ap (λ d. Judge (group whole d used' left' outputs')) parts.disjuncts_are
-    ∙ ap (λ u. Judge (group whole disjuncts u left' outputs')) parts.used_are
-    ∙ ap (λ l. Judge (group whole disjuncts (behind (all_behind [] used) variable) l outputs')) parts.left_is
-    ∙ ap (λ o. Judge (group whole disjuncts (behind (all_behind [] used) variable) (left - 1) o)) parts.outputs_are
-    ∙ several_arm whole used left variable disjuncts several
+pub judged_arm : (selected : Selection) (used : List ℕ) (left variable : ℕ) (selected' : Selection) (used' : List ℕ) (left' : ℕ) (outputs' : List ℕ)
+    → (length selected.disjuncts == 1) ≡ false → AreParts selected used left variable selected' used' left' outputs'
+    → Judge (record { selected = selected'; used = used'; left = left'; outputs = outputs'; category = None }) ≡ arm_plan selected.whole used left variable selected.disjuncts
+judged_arm selected used left variable selected' used' left' outputs' several parts =
+    let group : Selection → List ℕ → ℕ → List ℕ → Group = λ s u l o. record { selected = s; used = u; left = l; outputs = o; category = None } in
+    ap (λ s. Judge (group s used' left' outputs')) parts.selected_is
+    ∙ ap (λ u. Judge (group selected u left' outputs')) parts.used_are
+    ∙ ap (λ l. Judge (group selected (behind (all_behind [] used) variable) l outputs')) parts.left_is
+    ∙ ap (λ o. Judge (group selected (behind (all_behind [] used) variable) (left - 1) o)) parts.outputs_are
+    ∙ several_arm selected.whole used left variable selected.disjuncts several

@@ -1,4 +1,5 @@
 pub mod Occurrences
+pub mod OutputCounts
 pub mod OrderedOutputs
 pub mod FoundBeginnings
 pub mod FoundGroups

@@ -2,14 +2,17 @@
 use Rattle.std.specs.Prelude.{◌≡◌, ◌<◌, ◌||◌, ◌&&◌, ◌==◌, ℕ, zero, suc, Bool, true, false, List, [], ◌∷◌, ◌++◌, length, if◌then◌else◌, refl}
 use Rattle.std.specs.List.{filter, list_all, slice_index_or}
 use Rattle.std.proofs.Common.{◌∙◌, ap, sym, arith}
+use Rattle.std.proofs.lemmas.Bool.Decides.{Decides-eqb}
 use Rattle.merc_graded_tree.specs.declared.entries.Label.{Label}
 use Rattle.merc_graded_tree.specs.Nodes.{Node, node, Goal, Basic, Conjunction, Disjunction, Switch, Conditional, Negation, Quantified, Nodes, no_nodes, more_nodes, Arms, no_arms, more_arms, nodes_of}
 use Rattle.merc_graded_tree.specs.Roots.{label_of, root_of}
 use Rattle.merc_graded_tree.specs.Labels.{labels_of, inner_labels, joined_labels, arm_labels}
 use Rattle.merc_graded_tree.specs.Variables.{in_node, in_goal, in_nodes, in_arms}
 use Rattle.merc_order.specs.Bound.{among}
-use Rattle.merc_switch_choice.proofs.Members.{or_assoc, or_false, or_true}
-use Rattle.merc_switch.specs.Occurring.{variables_at}
+use Rattle.merc_switch_choice.specs.Variables.{behind}
+use Rattle.merc_switch_choice.proofs.Members.{or_assoc, or_false, or_true, among-behind}
+use Rattle.merc_switch.specs.Occurring.{variables_at, outputs_behind}
+use Rattle.merc_switch.specs.Selections.{has_output}
 
 or_turned : (a b : Bool) → (a || b) ≡ (b || a)
 or_turned true b = sym (or_true b)
@@ -64,14 +67,48 @@ mutual
       ∙ ap (λ b. b || in_labels (arm_labels rest) variable) (in_labels_of body variable)
       ∙ ap (λ b. in_node body variable || b) (in_arm_labels rest variable)
 
--- The variables of one label more are put behind those that are known.
-pub labels_more : (before now : List ℕ) (left : List Label) (label : Label) (rest : List Label) (variable : ℕ) (whole : Bool)
-    → ((w : ℕ) → among now w ≡ (among before w || among (variables_at label.root) w)) → left ≡ label ∷ rest
-    → (among before variable || in_labels left variable) ≡ whole → (among now variable || in_labels rest variable) ≡ whole
-labels_more before now left label rest variable whole put is same =
-    ap (λ b. b || in_labels rest variable) (put variable)
-    ∙ or_assoc (among before variable) (among (variables_at label.root) variable) (in_labels rest variable)
-    ∙ ap (λ l. among before variable || in_labels l variable) (sym is)
+-- the outputs among one variable more
+
+added : (outputs found : List ℕ) (first w : ℕ) (rest : List ℕ) (b : Bool) → among outputs first ≡ b
+    → (among (if b then behind found first else found) w || (among outputs w && among rest w)) ≡ (among found w || (among outputs w && ((w == first) || among rest w)))
+added outputs found first w rest true one = ap (λ b. b || (among outputs w && among rest w)) (among-behind found first w) ∙ by_case (w == first) refl
+  where
+    by_case : (b : Bool) → (w == first) ≡ b → ((among found w || b) || (among outputs w && among rest w)) ≡ (among found w || (among outputs w && (b || among rest w)))
+    by_case true same =
+        let there : among outputs w ≡ true = ap (among outputs) ((Decides-eqb w first).0 same) ∙ one in
+        ap (λ b. b || (among outputs w && among rest w)) (or_true (among found w)) ∙ sym (ap (λ b. among found w || (b && true)) there ∙ or_true (among found w))
+    by_case false same = ap (λ b. b || (among outputs w && among rest w)) (or_false (among found w))
+added outputs found first w rest false none = by_case (w == first) refl
+  where
+    by_case : (b : Bool) → (w == first) ≡ b → (among found w || (among outputs w && among rest w)) ≡ (among found w || (among outputs w && (b || among rest w)))
+    by_case true same =
+        let not_there : among outputs w ≡ false = ap (among outputs) ((Decides-eqb w first).0 same) ∙ none in
+        ap (λ b. among found w || (b && among rest w)) not_there ∙ sym (ap (λ b. among found w || (b && true)) not_there)
+    by_case false same = refl
+
+none_more : (x o : Bool) → x ≡ (x || (o && false))
+none_more true o = refl
+none_more false true = refl
+none_more false false = refl
+
+pub among-outputs_behind : (outputs found variables : List ℕ) (w : ℕ) → among (outputs_behind outputs found variables) w ≡ (among found w || (among outputs w && among variables w))
+among-outputs_behind outputs found [] w = none_more (among found w) (among outputs w)
+among-outputs_behind outputs found (first ∷ rest) w =
+    among-outputs_behind outputs (if among outputs first then behind found first else found) rest w ∙ added outputs found first w rest (among outputs first) refl
+
+spread : (x o y z : Bool) → ((x || (o && y)) || (o && z)) ≡ (x || (o && (y || z)))
+spread true o y z = refl
+spread false true y z = refl
+spread false false y z = refl
+
+-- The outputs in one label more are put behind those that are known.
+pub labels_more : (outputs before now : List ℕ) (left : List Label) (label : Label) (rest : List Label) (variable : ℕ) (whole : Bool)
+    → ((w : ℕ) → among now w ≡ (among before w || (among outputs w && among (variables_at label.root) w))) → left ≡ label ∷ rest
+    → (among before variable || (among outputs variable && in_labels left variable)) ≡ whole → (among now variable || (among outputs variable && in_labels rest variable)) ≡ whole
+labels_more outputs before now left label rest variable whole put is same =
+    ap (λ b. b || (among outputs variable && in_labels rest variable)) (put variable)
+    ∙ spread (among before variable) (among outputs variable) (among (variables_at label.root) variable) (in_labels rest variable)
+    ∙ ap (λ l. among before variable || (among outputs variable && in_labels l variable)) (sym is)
     ∙ same
 
 -- the variables of one of the goals are among those of all
@@ -88,11 +125,16 @@ absorbed true b c h = refl
 absorbed false true c h = sym (h refl)
 absorbed false false c h = refl
 
-pub one_more_goal : (goals : List Node) (index : ℕ) (one : Node) (before after : List ℕ) (variable : ℕ) → index < length goals → one ≡ slice_index_or goals index one
-    → among after variable ≡ (among before variable || in_node one variable) → (among after variable || in_nodes (nodes_of goals) variable) ≡ (among before variable || in_nodes (nodes_of goals) variable)
-one_more_goal goals index one before after variable within is put =
+second_true : (a b : Bool) → (a && b) ≡ true → b ≡ true
+second_true true b h = h
+second_true false b h = absurd (cc)
+
+pub one_more_goal : (goals : List Node) (index : ℕ) (one : Node) (outputs before after : List ℕ) (variable : ℕ) → index < length goals → one ≡ slice_index_or goals index one
+    → among after variable ≡ (among before variable || has_output outputs variable one) → (among after variable || in_nodes (nodes_of goals) variable) ≡ (among before variable || in_nodes (nodes_of goals) variable)
+one_more_goal goals index one outputs before after variable within is put =
     ap (λ b. b || in_nodes (nodes_of goals) variable) put
-    ∙ absorbed (among before variable) (in_node one variable) (in_nodes (nodes_of goals) variable) (occurs_in_one goals index one variable within is)
+    ∙ absorbed (among before variable) (has_output outputs variable one) (in_nodes (nodes_of goals) variable)
+    (λ h. occurs_in_one goals index one variable within is (second_true (among outputs variable) (in_node one variable) h))
 
 -- Where all of some outputs are known, no more have to be looked for.
 pub outputs_known : (known : List ℕ) (goals : List Node) (outputs : List ℕ) → list_all (λ output. among known output) outputs ≡ true

@@ -2,6 +2,10 @@ pub mod Occurring
 pub mod OccurringExamples
 pub mod Ordering
 pub mod OrderingExamples
+pub mod Selections
+pub mod SelectionsExamples
+pub mod Handing
+pub mod HandingExamples
 pub mod Tasks
 pub mod Plans
 pub mod TasksExamples

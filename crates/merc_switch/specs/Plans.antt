@@ -25,7 +25,7 @@ decided mark label condition then_part else_part = Find condition ∷ Bind condi
 -- the disjuncts of a disjunction
 abbrev pub disjoined : Node → List Node → Task
 disjoined whole disjuncts =
-    Judge (record { whole = whole; disjuncts = disjuncts; used = []; left = length (split_variables disjuncts); outputs = outputs_of whole; category = category_of whole })
+    Judge (record { selected = record { whole = whole; disjuncts = disjuncts }; used = []; left = length (split_variables disjuncts); outputs = outputs_of whole; category = category_of whole })
 
 abbrev pub plan_of : ℕ → Node → Goal → List Task
 plan_of mark whole (Basic goal) = Keep whole ∷ []
@@ -46,16 +46,15 @@ finds goals = map (λ goal. Find goal) goals
 -- disjuncts as a disjunction
 abbrev pub disjunction_plan : Group → List Task
 disjunction_plan group =
-    finds group.disjuncts
-    ++ Close (record { root = DisjunctionRoot (length group.disjuncts); outputs = group.outputs; category = group.category; span = span_of group.whole }) ∷ []
+    finds group.selected.disjuncts
+    ++ Close (record { root = DisjunctionRoot (length group.selected.disjuncts); outputs = group.outputs; category = group.category; span = span_of group.selected.whole }) ∷ []
 
 -- What an arm becomes, of a switch on a variable. One disjunct is the arm itself; several have come together by one more variable, and have the outputs of
 -- the whole that occur in them.
 abbrev pub arm_plan : Node → List ℕ → ℕ → ℕ → List Node → Task
 arm_plan whole used left variable (only ∷ []) = Find only
 arm_plan whole used left variable disjuncts = Judge (record {
-  whole = whole;
-  disjuncts = disjuncts;
+  selected = record { whole = whole; disjuncts = disjuncts };
   used = behind (all_behind [] used) variable;
   left = left - 1;
   outputs = filter (λ output. in_nodes (nodes_of disjuncts) output) (outputs_of whole);
@@ -63,17 +62,17 @@ arm_plan whole used left variable disjuncts = Judge (record {
 })
 
 abbrev pub arm_plans : ℕ → Group → List Arm → List Task
-arm_plans variable group arms = map (λ arm. arm_plan group.whole group.used group.left variable arm.1) arms
+arm_plans variable group arms = map (λ arm. arm_plan group.selected.whole group.used group.left variable arm.1) arms
 
 -- disjuncts as a switch on a variable
 abbrev pub switch_plan : ℕ → Group → List Task
 switch_plan variable group =
-    arm_plans variable group (grouped variable group.disjuncts)
+    arm_plans variable group (grouped variable group.selected.disjuncts)
     ++ Close (record {
-      root = SwitchRoot variable (map (λ arm. arm.0) (grouped variable group.disjuncts));
+      root = SwitchRoot variable (map (λ arm. arm.0) (grouped variable group.selected.disjuncts));
       outputs = group.outputs;
       category = group.category;
-      span = span_of group.whole;
+      span = span_of group.selected.whole;
     }) ∷ []
 
 -- disjuncts that have this choice
@@ -89,21 +88,20 @@ choice_left (suc left) choice = choice
 -- the group of all disjuncts in one arm of a switch on a variable
 abbrev pub inner_group : ℕ → Group → Group
 inner_group variable group = record {
-  whole = group.whole;
-  disjuncts = group.disjuncts;
+  selected = group.selected;
   used = behind group.used variable;
   left = group.left - 1;
-  outputs = filter (λ output. in_nodes (nodes_of group.disjuncts) output) (outputs_of group.whole);
+  outputs = filter (λ output. in_nodes (nodes_of group.selected.disjuncts) output) (outputs_of group.selected.whole);
   category = None;
 }
 
 -- the switch of that one arm, whose goal comes before it
 abbrev pub outer_label : ℕ → Symbol → Group → Label
-outer_label variable symbol group = record { root = SwitchRoot variable (symbol ∷ []); outputs = group.outputs; category = group.category; span = span_of group.whole }
+outer_label variable symbol group = record { root = SwitchRoot variable (symbol ∷ []); outputs = group.outputs; category = group.category; span = span_of group.selected.whole }
 
 -- the outputs of a group are those of the whole that occur in its disjuncts
 abbrev pub AreNarrowed : Group → Type 0
-AreNarrowed group = group.outputs ≡ filter (λ output. in_nodes (nodes_of group.disjuncts) output) (outputs_of group.whole)
+AreNarrowed group = group.outputs ≡ filter (λ output. in_nodes (nodes_of group.selected.disjuncts) output) (outputs_of group.selected.whole)
 
 -- there are several disjuncts, and all split a variable by one symbol
 pub record HaveSymbol (variable : ℕ) (symbol : Symbol) (disjuncts : List Node) : Type 0 where

@@ -51,7 +51,7 @@ task_effort (Find goal) = effort goal
 task_effort (Keep goal) = 1
 task_effort (Bind goal) = 1
 task_effort (Unbind mark) = 1
-task_effort (Judge group) = 2 + load (suc group.left) group.disjuncts
+task_effort (Judge group) = 2 + load (suc group.left) group.selected.disjuncts
 task_effort (Close label) = 1
 
 abbrev pub total : List Task → ℕ
@@ -67,7 +67,7 @@ module _ (declared : List TypeDef) (types : ℕ → TypeExpr) where
   -- the goal that disjuncts become
   abbrev pub judged : Bound → Group → Node
   judged bound group =
-      node (regrouped declared types group.left (outputs_of group.whole) (span_of group.whole) bound group.used (found_in bound group.disjuncts)) group.outputs group.category (span_of group.whole)
+      node (regrouped declared types group.left (outputs_of group.selected.whole) (span_of group.selected.whole) bound group.used (found_in bound group.selected.disjuncts)) group.outputs group.category (span_of group.selected.whole)
 
   -- these goals once the tasks are done, where these variables are bound before
   abbrev pub done : List Task → List Node → List ℕ → List Node
@@ -85,7 +85,7 @@ module _ (declared : List TypeDef) (types : ℕ → TypeExpr) where
   FitsTask (Keep goal) = Unit {0}
   FitsTask (Bind goal) = Unit {0}
   FitsTask (Unbind mark) = Unit {0}
-  FitsTask (Judge group) = AllByRecursion (Fits declared types) group.disjuncts
+  FitsTask (Judge group) = AllByRecursion (Fits declared types) group.selected.disjuncts
   FitsTask (Close label) = Unit {0}
 
 -- A task has been done or planned: what comes out in the end is the same, and less is left to do.

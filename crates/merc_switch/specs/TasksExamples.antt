@@ -43,7 +43,7 @@ abbrev whole : Node
 whole = of (Disjunction (nodes_of colors))
 
 abbrev group : Group
-group = record { whole = whole; disjuncts = colors; used = []; left = 2; outputs = []; category = None }
+group = record { selected = record { whole = whole; disjuncts = colors }; used = []; left = 2; outputs = []; category = None }
 
 abbrev label : Root → Label
 label root = record { root = root; outputs = []; category = None; span = span_of whole }
@@ -72,7 +72,7 @@ abbrev reds : List Node
 reds = both (is_red c ∷ is_red d ∷ []) ∷ both (is_red c ∷ is_green d ∷ []) ∷ []
 
 abbrev outer : Group
-outer = record { whole = of (Disjunction (nodes_of reds)); disjuncts = reds; used = []; left = 4; outputs = []; category = None }
+outer = record { selected = record { whole = of (Disjunction (nodes_of reds)); disjuncts = reds }; used = []; left = 4; outputs = []; category = None }
 
 both_red : HaveSymbol c red reds
 both_red = record { several = omega arith; symbols_are = (refl, (refl, tt)) }
@@ -89,5 +89,5 @@ narrowed : AreNarrowed outer
 narrowed = refl
 
 -- an output that does not occur
-narrowed_not : AreNarrowed (record { whole = of (Disjunction (nodes_of colors)); disjuncts = colors; used = []; left = 2; outputs = d ∷ []; category = None }) → ⊥
+narrowed_not : AreNarrowed (record { selected = record { whole = of (Disjunction (nodes_of colors)); disjuncts = colors }; used = []; left = 2; outputs = d ∷ []; category = None }) → ⊥
 narrowed_not wrong = cc

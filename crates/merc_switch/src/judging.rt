@@ -4,18 +4,21 @@ ghost use Rattle.std.specs.List.{list_all, AllByRecursion};
 ghost use Rattle.merc_graded_tree.specs.Nodes.{Node};
 ghost use Rattle.merc_grading.specs.Switches.{grouped, symbol_at, is_there};
 ghost use Rattle.merc_switch.specs.declared.tasks.Task.TheVariants.{Judge, Close};
+ghost use Rattle.merc_switch.specs.Handing.{IsHanded};
+ghost use Rattle.merc_switch.specs.Selections.{MayCount};
 ghost use Rattle.merc_switch.specs.Tasks.{Performs};
 ghost use Rattle.merc_switch.specs.Plans.{disjunction_plan, switch_plan, finds, arm_plan, inner_group, outer_label, AreNarrowed, HaveSymbol};
 
 use crate::copying::copy_variables;
-use crate::occurring::outputs_in;
+use crate::handing::{Handed, take_counts};
+use crate::selection::Selection;
 use crate::tasks::{Group, Task, Tasks};
 use crate::whole::Whole;
 use merc_base::{NoMemory, Sequence};
 use merc_goal_tree::{Symbol, Var};
 use merc_graded_tree::{Label, Root};
 use merc_known::Known;
-use merc_switch_choice::{Candidates, Disjunct, Disjuncts, VarSet, arms_of};
+use merc_switch_choice::{Candidates, Disjunct, Disjuncts, VarCounts, VarSet};
 use std::alloc::Global;
 
 /// Plans what disjuncts become: a switch, or else a disjunction. Where all of them go to one arm of the switch they are
@@ -34,13 +37,14 @@ pub(crate) fn judge<'a>(
     ensures { OnOk result ((goals : List Node) → Performs known.now.types (Judge group.entry ∷ tasks.old) goals bound.now tasks.new goals bound.now) }
 {
     let mut group = group;
-    let mut candidates = Candidates::of(alloc, bound, &group.used, &group.disjuncts)?;
+    let mut candidates = Candidates::of(alloc, bound, &group.used, group.selected.disjuncts())?;
     let mut narrowed = false;
     while group.left > 0 {
-        let Some(variable) = candidates.next(alloc, known, &mut group.disjuncts)? else {
+        let Some(variable) = group.selected.choose(alloc, known, &mut candidates)? else {
             return plan_disjunction(group, tasks);
         };
-        let Some(symbol) = common_symbol(group.disjuncts.as_slice(), variable) else {
+        let disjuncts = group.selected.disjuncts().as_slice();
+        let Some(symbol) = common_symbol(disjuncts, variable) else {
             return plan_switch(alloc, variable, group, tasks);
         };
         group = step_in(alloc, variable, symbol, group, narrowed, tasks)?;
@@ -91,10 +95,12 @@ fn step_in<'a>(
     ensures group { IfOk result (λ inner. inner ≡ inner_group variable group.entry) }
     ensures tasks { OnOk result (tasks.new ≡ Close (outer_label variable symbol group.entry) ∷ tasks.old) }
 {
+    let mut selected = group.selected;
+    let span = selected.span();
     let outputs = if narrowed {
         copy_variables(alloc, &group.outputs)?
     } else {
-        outputs_in(alloc, &group.whole, group.disjuncts.as_slice())?
+        selected.outputs(alloc)?
     };
     let mut symbols = Vec::new(alloc);
     symbols.push(symbol)?;
@@ -102,13 +108,12 @@ fn step_in<'a>(
         root: Root::Switch(variable, Sequence::from_vec(symbols)),
         outputs: group.outputs,
         category: group.category,
-        span: group.whole.span(),
+        span,
     }))?;
     let mut used = group.used;
     used.add(variable)?;
     Ok(Group {
-        whole: group.whole,
-        disjuncts: group.disjuncts,
+        selected,
         used,
         left: group.left.saturating_sub(1),
         outputs,
@@ -120,12 +125,13 @@ fn step_in<'a>(
 fn plan_disjunction<'a>(group: Group<'a>, tasks: &mut Tasks<'a>) -> Result<(), NoMemory>
     ensures { OnOk result (tasks.new ≡ disjunction_plan group.entry ++ tasks.old) }
 {
-    let disjuncts = group.disjuncts.into_vec();
+    let span = group.selected.span();
+    let disjuncts = group.selected.into_vec();
     tasks.push(Task::Close(Label {
         root: Root::Disjunction(disjuncts.len()),
         outputs: group.outputs,
         category: group.category,
-        span: group.whole.span(),
+        span,
     }))?;
     push_finds(disjuncts, tasks)
 }
@@ -156,56 +162,63 @@ fn plan_switch<'a>(
     group: Group<'a>,
     tasks: &mut Tasks<'a>,
 ) -> Result<(), NoMemory>
-    requires { list_all (λ disjunct. is_there (symbol_at variable disjunct)) group.disjuncts ≡ true }
+    requires { list_all (λ disjunct. is_there (symbol_at variable disjunct)) group.selected.disjuncts ≡ true }
     ensures { OnOk result (tasks.new ≡ switch_plan variable group.entry ++ tasks.old) }
 {
-    let arms = arms_of(alloc, variable, group.disjuncts)?;
+    let span = group.selected.span();
+    let arms = group.selected.into_arms(alloc, variable)?;
     tasks.push(Task::Close(Label {
         root: Root::Switch(variable, Sequence::from_vec(arms.symbols)),
         outputs: group.outputs,
         category: group.category,
-        span: group.whole.span(),
+        span,
     }))?;
     let outer = Outer {
-        whole: group.whole,
+        whole: arms.whole,
         used: group.used,
         left: group.left,
         variable,
     };
-    push_arms(alloc, &outer, arms.groups, tasks)
+    push_arms(alloc, &outer, arms.groups, arms.handed, tasks)
 }
 
-// The arms of a switch, each of which has these disjuncts.
+// The arms of a switch, each of which has these disjuncts. Given are the counts of one of them.
 fn push_arms<'a>(
     alloc: Global,
     outer: &Outer<'a>,
     arms: Vec<Disjuncts<'a>>,
+    handed: Option<Handed>,
     tasks: &mut Tasks<'a>,
 ) -> Result<(), NoMemory>
+    requires { IsHanded outer.now.whole handed arms.items }
     ensures { OnOk result (tasks.new ≡ map (λ disjuncts. arm_plan outer.now.whole outer.now.used outer.now.left outer.now.variable disjuncts) arms.entry.items ++ tasks.old) }
 {
     let mut arms = arms;
+    let mut handed = handed;
     while let Some(last) = arms.pop() {
-        tasks.push(arm_task(alloc, outer, last)?)?;
+        let counts = take_counts(&mut handed, arms.len());
+        tasks.push(arm_task(alloc, outer, last, counts)?)?;
     }
     Ok(())
 }
 
-// The arm of these disjuncts.
+// The arm of these disjuncts, with their counts if there are any.
 fn arm_task<'a>(
     alloc: Global,
     outer: &Outer<'a>,
     disjuncts: Disjuncts<'a>,
+    counts: Option<VarCounts>,
 ) -> Result<Task<'a>, NoMemory>
+    requires { MayCount outer.now.whole counts disjuncts }
     ensures { IfOk result (λ task. task ≡ arm_plan outer.now.whole outer.now.used outer.now.left outer.now.variable disjuncts.entry) }
 {
     if let [only] = disjuncts.as_slice() {
         return Ok(Task::Find(only.goal()));
     }
-    let outputs = outputs_in(alloc, &outer.whole, disjuncts.as_slice())?;
+    let mut selected = Selection::of(outer.whole.copy()?, disjuncts, counts);
+    let outputs = selected.outputs(alloc)?;
     Ok(Task::Judge(Group {
-        whole: outer.whole.copy()?,
-        disjuncts,
+        selected,
         used: outer.used.with(alloc, outer.variable)?,
         left: outer.left.saturating_sub(1),
         outputs,

@@ -2,11 +2,14 @@
 #![tactic(auto)]
 
 mod copying;
+mod counting;
 mod finding;
+mod handing;
 mod judging;
 mod occurring;
 mod ordering;
 mod planning;
+mod selection;
 mod tasks;
 mod whole;
 

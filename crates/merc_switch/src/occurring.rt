@@ -1,21 +1,22 @@
-//! The variables that occur in goals.
-ghost use Rattle.std.specs.Prelude.{◌≡◌, ℕ, ◌||◌, filter, IfOk, OnOk};
+//! The outputs that occur in goals.
+ghost use Rattle.std.specs.Prelude.{◌≡◌, ℕ, ◌||◌, ◌∷◌, [], filter, IfOk, OnOk};
 ghost use Rattle.std.specs.List.{list_all};
 ghost use Rattle.merc_graded_tree.specs.Nodes.{nodes_of, outputs_of};
-ghost use Rattle.merc_graded_tree.specs.Variables.{in_node, in_nodes, variables_of};
+ghost use Rattle.merc_graded_tree.specs.Variables.{in_nodes, variables_of};
 ghost use Rattle.merc_order.specs.Bound.{among};
-ghost use Rattle.merc_switch_choice.specs.Variables.{all_behind};
-ghost use Rattle.merc_switch.specs.Occurring.{variables_at};
+ghost use Rattle.merc_switch.specs.Occurring.{variables_at, outputs_behind};
+ghost use Rattle.merc_switch.specs.Selections.{MayCount, has_output};
 
+use crate::counting::{counts_of, outputs_counted};
 use crate::whole::Whole;
 use merc_base::NoMemory;
 use merc_goal_tree::{Var, Vars};
 use merc_graded_tree::{BasicGoal, NodeRef, Root};
-use merc_switch_choice::{Disjunct, VarSet};
+use merc_switch_choice::{Disjunct, VarCounts, VarSet};
 use std::alloc::Global;
 
-/// Those of the outputs of the whole that occur in the disjuncts. The smallest disjunct comes first: where it has all outputs
-/// no other is gone through.
+/// Those of the outputs of the whole that occur in the disjuncts. Where they are not counted yet the smallest disjunct is
+/// gone through first: if it has all outputs they need not be counted.
 ///
 /// # Errors
 ///
@@ -24,24 +25,36 @@ pub(crate) fn outputs_in(
     alloc: Global,
     whole: &Whole<'_>,
     disjuncts: &[Disjunct<'_>],
+    counts: &mut Option<VarCounts>,
 ) -> Result<Vars, NoMemory>
-    ensures { IfOk result (λ kept. kept ≡ filter (λ output. in_nodes (nodes_of disjuncts.now) output) (outputs_of whole.now)) }
+    requires { MayCount whole.now counts.old disjuncts.now }
+    ensures outputs { IfOk result (λ kept. kept ≡ filter (λ output. in_nodes (nodes_of disjuncts.now) output) (outputs_of whole.now)) }
+    ensures counts { MayCount whole.now counts.new disjuncts.now }
 {
-    let mut variables = VarSet::new(alloc);
-    add_smallest(disjuncts, &mut variables)?;
-    if has_all(&variables, whole.outputs()) {
-        return whole.outputs_among(alloc, &variables);
+    if let Some(counts) = counts {
+        return outputs_counted(alloc, whole, counts);
     }
-    add_each(disjuncts, &mut variables)?;
-    whole.outputs_among(alloc, &variables)
+    let mut found = VarSet::new(alloc);
+    add_smallest(disjuncts, whole, &mut found)?;
+    if has_all(&found, whole.outputs()) {
+        return whole.outputs_among(alloc, &found);
+    }
+    let made = counts_of(alloc, whole, disjuncts)?;
+    let outputs = outputs_counted(alloc, whole, &made)?;
+    *counts = Some(made);
+    Ok(outputs)
 }
 
-// Adds the variables that occur in the disjunct of the fewest parts.
-fn add_smallest(disjuncts: &[Disjunct<'_>], variables: &mut VarSet) -> Result<(), NoMemory>
-    ensures { OnOk result ((variable : ℕ) → (among variables.new variable || in_nodes (nodes_of disjuncts.now) variable) ≡ (among variables.old variable || in_nodes (nodes_of disjuncts.now) variable)) }
+// Adds the outputs of the whole that occur in the disjunct of the fewest parts.
+fn add_smallest(
+    disjuncts: &[Disjunct<'_>],
+    whole: &Whole<'_>,
+    found: &mut VarSet,
+) -> Result<(), NoMemory>
+    ensures { OnOk result ((variable : ℕ) → (among found.new variable || in_nodes (nodes_of disjuncts.now) variable) ≡ (among found.old variable || in_nodes (nodes_of disjuncts.now) variable)) }
 {
     match disjuncts.get(smallest_of(disjuncts)) {
-        Some(smallest) => add_variables(&smallest.goal(), variables),
+        Some(smallest) => add_outputs(&smallest.goal(), whole, found),
         None => Ok(()),
     }
 }
@@ -57,16 +70,6 @@ fn smallest_of(disjuncts: &[Disjunct<'_>]) -> usize {
     smallest
 }
 
-// Adds the variables that occur in the disjuncts.
-fn add_each(disjuncts: &[Disjunct<'_>], variables: &mut VarSet) -> Result<(), NoMemory>
-    ensures { OnOk result ((variable : ℕ) → among variables.new variable ≡ (among variables.old variable || in_nodes (nodes_of disjuncts.now) variable)) }
-{
-    for disjunct in disjuncts {
-        add_variables(&disjunct.goal(), variables)?;
-    }
-    Ok(())
-}
-
 // Whether all of the outputs are among the variables.
 fn has_all(variables: &VarSet, outputs: &[Var]) -> bool
     ensures { result ≡ list_all (λ output. among variables.now output) outputs.now }
@@ -79,54 +82,78 @@ fn has_all(variables: &VarSet, outputs: &[Var]) -> bool
     true
 }
 
-// Adds the variables that occur in a goal.
-fn add_variables(goal: &NodeRef<'_>, variables: &mut VarSet) -> Result<(), NoMemory>
-    ensures { OnOk result ((variable : ℕ) → among variables.new variable ≡ (among variables.old variable || in_node goal.now variable)) }
+/// Adds the outputs of the whole that occur in a goal.
+pub(crate) fn add_outputs(
+    goal: &NodeRef<'_>,
+    whole: &Whole<'_>,
+    found: &mut VarSet,
+) -> Result<(), NoMemory>
+    ensures { OnOk result ((variable : ℕ) → among found.new variable ≡ (among found.old variable || has_output (outputs_of whole.now) variable goal.now)) }
 {
     for index in 0..goal.part_count() {
         match goal.part(index) {
-            Some(label) => add_own(&label.root, variables)?,
+            Some(label) => add_own(&label.root, whole, found)?,
             None => unreachable!(),
         }
     }
     Ok(())
 }
 
-// Adds those of a goal itself, without the goals that it joins.
-fn add_own(root: &Root, variables: &mut VarSet) -> Result<(), NoMemory>
-    ensures { OnOk result (variables.new ≡ all_behind variables.old (variables_at root.now)) }
+// Adds those in a goal itself, without the goals that it joins.
+fn add_own(root: &Root, whole: &Whole<'_>, found: &mut VarSet) -> Result<(), NoMemory>
+    ensures { OnOk result (found.new ≡ outputs_behind (outputs_of whole.now) found.old (variables_at root.now)) }
 {
     match root {
-        Root::Basic(goal) => add_basic(goal, variables),
-        Root::Switch(variable, _) => variables.add(*variable),
+        Root::Basic(goal) => add_basic(goal, whole, found),
+        Root::Switch(variable, _) => add_one(*variable, whole, found),
         _ => Ok(()),
     }
 }
 
-fn add_basic(goal: &BasicGoal, variables: &mut VarSet) -> Result<(), NoMemory>
-    ensures { OnOk result (variables.new ≡ all_behind variables.old (variables_of goal.now)) }
+fn add_basic(goal: &BasicGoal, whole: &Whole<'_>, found: &mut VarSet) -> Result<(), NoMemory>
+    ensures { OnOk result (found.new ≡ outputs_behind (outputs_of whole.now) found.old (variables_of goal.now)) }
 {
     match goal {
         BasicGoal::True | BasicGoal::Fail => Ok(()),
         BasicGoal::Assign(one, other) | BasicGoal::Test(one, other) => {
-            variables.add(*one)?;
-            variables.add(*other)
+            add_one(*one, whole, found)?;
+            add_one(*other, whole, found)
         }
         BasicGoal::Compare(_, one, other) => {
-            variables.add(*one)?;
-            variables.add(*other)
+            add_one(*one, whole, found)?;
+            add_one(*other, whole, found)
         }
-        BasicGoal::Build(whole, _, arguments) | BasicGoal::Split(whole, _, arguments) => {
-            variables.add(*whole)?;
-            variables.add_all(arguments.as_slice())
+        BasicGoal::Build(value, _, arguments) | BasicGoal::Split(value, _, arguments) => {
+            add_one(*value, whole, found)?;
+            add_each(arguments.as_slice(), whole, found)
         }
         BasicGoal::Arithmetic(_, result, left, right) => {
-            variables.add(*result)?;
-            variables.add(*left)?;
-            variables.add(*right)
+            add_one(*result, whole, found)?;
+            add_one(*left, whole, found)?;
+            add_one(*right, whole, found)
         }
-        BasicGoal::Raise(variable) => variables.add(*variable),
-        BasicGoal::Wait(variable, _) | BasicGoal::Signal(variable, _) => variables.add(*variable),
-        BasicGoal::Call(_, arguments) => variables.add_all(arguments.as_slice()),
+        BasicGoal::Raise(variable) => add_one(*variable, whole, found),
+        BasicGoal::Wait(variable, _) | BasicGoal::Signal(variable, _) => {
+            add_one(*variable, whole, found)
+        }
+        BasicGoal::Call(_, arguments) => add_each(arguments.as_slice(), whole, found),
     }
+}
+
+fn add_each(variables: &[Var], whole: &Whole<'_>, found: &mut VarSet) -> Result<(), NoMemory>
+    ensures { OnOk result (found.new ≡ outputs_behind (outputs_of whole.now) found.old variables.now) }
+{
+    for variable in variables {
+        add_one(*variable, whole, found)?;
+    }
+    Ok(())
+}
+
+fn add_one(variable: Var, whole: &Whole<'_>, found: &mut VarSet) -> Result<(), NoMemory>
+    ensures { OnOk result (found.new ≡ outputs_behind (outputs_of whole.now) found.old (variable ∷ [])) }
+{
+    if whole.has_output(variable) {
+        found.add(variable)?;
+    }
+    Ok(())
 }

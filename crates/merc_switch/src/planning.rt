@@ -6,6 +6,7 @@ ghost use Rattle.merc_grading.specs.Switches.{split_variables};
 ghost use Rattle.merc_switch.specs.Plans.{plan, in_turn, disjoined, decided};
 
 use crate::copying::{copy_variables, label_with};
+use crate::selection::Selection;
 use crate::tasks::{Group, Task, Tasks};
 use crate::whole::Whole;
 use merc_base::NoMemory;
@@ -104,8 +105,11 @@ fn plan_disjunction<'a>(
     let disjuncts = disjuncts_of(alloc, goals)?;
     let left = split_count(&disjuncts)?;
     tasks.push(Task::Judge(Group {
-        whole: Whole::of(alloc, whole.copy())?,
-        disjuncts: Disjuncts::of(alloc, disjuncts)?,
+        selected: Selection::of(
+            Whole::of(alloc, whole.copy())?,
+            Disjuncts::of(alloc, disjuncts)?,
+            None,
+        ),
         used: VarSet::new(alloc),
         left,
         outputs: copy_variables(alloc, whole.outputs())?,

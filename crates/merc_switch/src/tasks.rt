@@ -1,11 +1,11 @@
 //! What is to be done to find the switches of a goal.
 ghost use Rattle.std.specs.Prelude.{◌≡◌, [], ◌∷◌, MatchOption, OnOk};
 
-use crate::whole::Whole;
+use crate::selection::Selection;
 use merc_base::{Category, NoMemory};
 use merc_goal_tree::Vars;
 use merc_graded_tree::{Label, NodeRef};
-use merc_switch_choice::{Disjuncts, VarSet};
+use merc_switch_choice::VarSet;
 use std::alloc::Global;
 use std::marker::Model;
 
@@ -29,9 +29,8 @@ pub(crate) enum Task<'a> {
 /// Disjuncts that become one goal.
 #[derive(Drop)]
 pub(crate) struct Group<'a> {
-    /// The disjunction whose disjuncts they are.
-    pub(crate) whole: Whole<'a>,
-    pub(crate) disjuncts: Disjuncts<'a>,
+    /// The disjuncts, with the disjunction whose disjuncts they are.
+    pub(crate) selected: Selection<'a>,
     /// The variables by whose symbols they came together.
     pub(crate) used: VarSet,
     /// By how many variables they can come together still, at most.

@@ -74,6 +74,13 @@ impl<'a> Whole<'a> {
         self.goal.outputs().as_slice()
     }
 
+    /// Whether the variable is one of its outputs.
+    pub(crate) fn has_output(&self, variable: Var) -> bool
+        ensures { result ≡ among (outputs_of self.now) variable }
+    {
+        self.outputs.contains(variable)
+    }
+
     /// Its outputs that are among the variables. Where the variables are fewer it goes through them alone.
     pub(crate) fn outputs_among(&self, alloc: Global, variables: &VarSet) -> Result<Vars, NoMemory>
         ensures { IfOk result (λ kept. kept ≡ filter (λ output. among variables.now output) (outputs_of self.now)) }

@@ -1,5 +1,5 @@
--- How many disjuncts split a variable.
-use Rattle.std.specs.Prelude.{◌≡◌, ◌≤◌, ◌<◌, ℕ, zero, suc, ◌+◌, ◌-◌, Bool, true, false, ◌==◌, ◌&&◌, nat_eq, nat_lt, List, [], ◌∷◌, ◌++◌, length, map, reverse, insert, remove, Option, Some, None, if◌then◌else◌, refl}
+-- How many disjuncts have something.
+use Rattle.std.specs.Prelude.{◌≡◌, ◌≤◌, ◌<◌, ℕ, zero, suc, ◌+◌, ◌-◌, Bool, true, false, ◌==◌, ◌&&◌, ◌||◌, nat_eq, nat_lt, List, [], ◌∷◌, ◌++◌, length, map, reverse, insert, remove, Option, Some, None, if◌then◌else◌, refl}
 use Rattle.std.specs.List.{AllByRecursion, IsDistinct, list_all, slice_index_or}
 use Rattle.std.specs.Map.{lookup, keys_of}
 use Rattle.std.proofs.Common.{◌∙◌, ap, sym, subst, cond, arith}
@@ -7,10 +7,11 @@ use Rattle.std.proofs.lemmas.Bool.Decides.{Decides-eqb, Decides-ltb, nat_tests}
 use Rattle.std.proofs.lemmas.List.{append_assoc, append-nil, reverse-append}
 use Rattle.merc_goal_tree.specs.declared.goal.Symbol.{Symbol}
 use Rattle.merc_graded_tree.specs.Nodes.{Node}
+use Rattle.merc_order.specs.Bound.{among}
 use Rattle.merc_grading.specs.Known.{same_symbol}
 use Rattle.merc_grading.specs.Switches.{Group, symbol_at, is_there, grouped}
 use Rattle.merc_switch_choice.specs.Arms.{joined_in}
-use Rattle.merc_switch_choice.specs.Counting.{one_if, occurrences, splitting, all_splitting}
+use Rattle.merc_switch_choice.specs.Counting.{one_if, occurrences, counting, all_counting, number_of}
 use Rattle.merc_switch_choice.proofs.ArmLaws.{grouped_some}
 
 -- a variable that is one key stands once among the keys
@@ -31,11 +32,36 @@ key_once v (first ∷ rest) distinct =
     (λ e. let same : v ≡ first.0 = (Decides-eqb v first.0).0 e in absent v (keys_of rest) (subst (λ k. AllByRecursion (λ key. nat_eq k key ≡ false) (keys_of rest)) (sym same) distinct.0))
     (key_once v rest distinct.1)
 
--- all disjuncts split a variable where as many do as there are
+-- a variable that has a count above 0 is a key
 
-splitting_within : (disjuncts : List Node) (v : ℕ) → splitting disjuncts v ≤ length disjuncts
-splitting_within [] v = omega arith
-splitting_within (first ∷ rest) v = let h = splitting_within rest v in let one = at_most (is_there (symbol_at v first)) in omega (arith, h, one)
+counted_if : (b : Bool) (first : ℕ × ℕ) (there : Bool) (other : Option ℕ) → (there && nat_lt 0 (number_of other)) ≡ nat_lt 0 (number_of other)
+    → ((b || there) && nat_lt 0 (number_of (cond b (Some first.1) other))) ≡ nat_lt 0 (number_of (cond b (Some first.1) other))
+counted_if true first there other same = refl
+counted_if false first there other same = same
+
+pub counted_key : (v : ℕ) (entries : List (ℕ × ℕ)) → (among (keys_of entries) v && nat_lt 0 (number_of (lookup (nat_eq v) entries))) ≡ nat_lt 0 (number_of (lookup (nat_eq v) entries))
+counted_key v [] = refl
+counted_key v (first ∷ rest) = counted_if (v == first.0) first (among (keys_of rest) v) (lookup (nat_eq v) rest) (counted_key v rest)
+
+-- a variable that stands among distinct ones stands there once
+
+once_there : (b there : Bool) (others : ℕ) → (b ≡ true → others ≡ 0) → others ≡ one_if there → one_if b + others ≡ one_if (b || there)
+once_there true there others none same = let h = none refl in omega (arith, h)
+once_there false there others none same = omega (arith, same)
+
+pub once_among : (v : ℕ) (variables : List ℕ) → IsDistinct nat_eq variables → occurrences variables v ≡ one_if (among variables v)
+unfolding IsDistinct
+once_among v [] distinct = refl
+once_among v (first ∷ rest) distinct =
+    once_there (v == first) (among rest v) (occurrences rest v)
+    (λ e. let same : v ≡ first = (Decides-eqb v first).0 e in absent v rest (subst (λ k. AllByRecursion (λ key. nat_eq k key ≡ false) rest) (sym same) distinct.0))
+    (once_among v rest distinct.1)
+
+-- all disjuncts pass a test where as many do as there are
+
+counting_within : (disjuncts : List Node) (test : Node → Bool) → counting test disjuncts ≤ length disjuncts
+counting_within [] test = omega arith
+counting_within (first ∷ rest) test = let h = counting_within rest test in let one = at_most (test first) in omega (arith, h, one)
   where
     at_most : (b : Bool) → one_if b ≤ 1
     at_most true = omega arith
@@ -51,29 +77,28 @@ all_if : (b : Bool) (count size : ℕ) (all : Bool) → count ≤ size → (coun
 all_if true count size all less same = both_more count size ∙ same
 all_if false count size all less same = too_few count size less
 
-pub all_counted : (disjuncts : List Node) (v : ℕ) → (splitting disjuncts v == length disjuncts) ≡ list_all (λ disjunct. is_there (symbol_at v disjunct)) disjuncts
-all_counted [] v = refl
-all_counted (first ∷ rest) v =
-    all_if (is_there (symbol_at v first)) (splitting rest v) (length rest) (list_all (λ disjunct. is_there (symbol_at v disjunct)) rest) (splitting_within rest v) (all_counted rest v)
+pub all_counted : (disjuncts : List Node) (test : Node → Bool) → (counting test disjuncts == length disjuncts) ≡ list_all test disjuncts
+all_counted [] test = refl
+all_counted (first ∷ rest) test = all_if (test first) (counting test rest) (length rest) (list_all test rest) (counting_within rest test) (all_counted rest test)
 
 -- the groups of disjuncts that all split a variable have the counts of all together
 
 abbrev lists : List Group → List (List Node)
 lists groups = map (λ group. group.1) groups
 
-splitting_last : (disjuncts : List Node) (d : Node) (w : ℕ) → splitting (disjuncts ++ d ∷ []) w ≡ splitting disjuncts w + one_if (is_there (symbol_at w d))
-splitting_last [] d w = omega arith
-splitting_last (first ∷ rest) d w = let h = splitting_last rest d w in omega (arith, h)
+counting_last : (disjuncts : List Node) (d : Node) (test : Node → Bool) → counting test (disjuncts ++ d ∷ []) ≡ counting test disjuncts + one_if (test d)
+counting_last [] d test = omega arith
+counting_last (first ∷ rest) d test = let h = counting_last rest d test in omega (arith, h)
 
-joined_if : (b : Bool) (s : Symbol) (d : Node) (group : Group) (groups : List Group) (w : ℕ)
-    → all_splitting (lists (joined_in s d groups)) w ≡ all_splitting (lists groups) w + one_if (is_there (symbol_at w d))
-    → all_splitting (lists (if b then (group.0, group.1 ++ d ∷ []) ∷ groups else group ∷ joined_in s d groups)) w ≡ all_splitting (lists (group ∷ groups)) w + one_if (is_there (symbol_at w d))
-joined_if true s d group groups w h = let one = splitting_last group.1 d w in omega (arith, one)
-joined_if false s d group groups w h = omega (arith, h)
+joined_if : (b : Bool) (s : Symbol) (d : Node) (group : Group) (groups : List Group) (test : Node → Bool)
+    → all_counting test (lists (joined_in s d groups)) ≡ all_counting test (lists groups) + one_if (test d)
+    → all_counting test (lists (if b then (group.0, group.1 ++ d ∷ []) ∷ groups else group ∷ joined_in s d groups)) ≡ all_counting test (lists (group ∷ groups)) + one_if (test d)
+joined_if true s d group groups test h = let one = counting_last group.1 d test in omega (arith, one)
+joined_if false s d group groups test h = omega (arith, h)
 
-splitting_joined : (s : Symbol) (d : Node) (groups : List Group) (w : ℕ) → all_splitting (lists (joined_in s d groups)) w ≡ all_splitting (lists groups) w + one_if (is_there (symbol_at w d))
-splitting_joined s d [] w = omega arith
-splitting_joined s d (group ∷ groups) w = joined_if (same_symbol s group.0) s d group groups w (splitting_joined s d groups w)
+counting_joined : (s : Symbol) (d : Node) (groups : List Group) (test : Node → Bool) → all_counting test (lists (joined_in s d groups)) ≡ all_counting test (lists groups) + one_if (test d)
+counting_joined s d [] test = omega arith
+counting_joined s d (group ∷ groups) test = joined_if (same_symbol s group.0) s d group groups test (counting_joined s d groups test)
 
 symbol_is : {A : Type 0} (o : Option Symbol) → is_there o ≡ true → ((s : Symbol) → o ≡ Some s → A) → A
 symbol_is None there f = absurd (cc)
@@ -87,37 +112,37 @@ second_true : (a b : Bool) → (a && b) ≡ true → b ≡ true
 second_true true b h = h
 second_true false b h = absurd (cc)
 
-grouped_on : (v : ℕ) (done rest : List Node) (w : ℕ) → list_all (λ disjunct. is_there (symbol_at v disjunct)) rest ≡ true
-    → all_splitting (lists (grouped v (done ++ rest))) w ≡ all_splitting (lists (grouped v done)) w + splitting rest w
-grouped_on v done [] w all = let same : all_splitting (lists (grouped v (done ++ []))) w ≡ all_splitting (lists (grouped v done)) w = ap (λ l. all_splitting (lists (grouped v l)) w) (append-nil done) in omega (arith, same)
-grouped_on v done (d ∷ rest) w all =
+grouped_on : (v : ℕ) (done rest : List Node) (test : Node → Bool) → list_all (λ disjunct. is_there (symbol_at v disjunct)) rest ≡ true
+    → all_counting test (lists (grouped v (done ++ rest))) ≡ all_counting test (lists (grouped v done)) + counting test rest
+grouped_on v done [] test all = let same : all_counting test (lists (grouped v (done ++ []))) ≡ all_counting test (lists (grouped v done)) = ap (λ l. all_counting test (lists (grouped v l))) (append-nil done) in omega (arith, same)
+grouped_on v done (d ∷ rest) test all =
     symbol_is (symbol_at v d) (first_true (is_there (symbol_at v d)) (list_all (λ disjunct. is_there (symbol_at v disjunct)) rest) all) (λ s h.
-    let moved : all_splitting (lists (grouped v (done ++ d ∷ rest))) w ≡ all_splitting (lists (grouped v ((done ++ d ∷ []) ++ rest))) w = ap (λ l. all_splitting (lists (grouped v l)) w) (sym (append_assoc done (d ∷ []) rest)) in
-    let on = grouped_on v (done ++ d ∷ []) rest w (second_true (is_there (symbol_at v d)) (list_all (λ disjunct. is_there (symbol_at v disjunct)) rest) all) in
-    let more : all_splitting (lists (grouped v (done ++ d ∷ []))) w ≡ all_splitting (lists (joined_in s d (grouped v done))) w = ap (λ l. all_splitting (lists l) w) (grouped_some v done d s h) in
-    let one = splitting_joined s d (grouped v done) w in
+    let moved : all_counting test (lists (grouped v (done ++ d ∷ rest))) ≡ all_counting test (lists (grouped v ((done ++ d ∷ []) ++ rest))) = ap (λ l. all_counting test (lists (grouped v l))) (sym (append_assoc done (d ∷ []) rest)) in
+    let on = grouped_on v (done ++ d ∷ []) rest test (second_true (is_there (symbol_at v d)) (list_all (λ disjunct. is_there (symbol_at v disjunct)) rest) all) in
+    let more : all_counting test (lists (grouped v (done ++ d ∷ []))) ≡ all_counting test (lists (joined_in s d (grouped v done))) = ap (λ l. all_counting test (lists l)) (grouped_some v done d s h) in
+    let one = counting_joined s d (grouped v done) test in
     omega (arith, moved, on, more, one))
 
-pub grouped_splitting : (v : ℕ) (disjuncts : List Node) (w : ℕ) → list_all (λ disjunct. is_there (symbol_at v disjunct)) disjuncts ≡ true
-    → all_splitting (lists (grouped v disjuncts)) w ≡ splitting disjuncts w
-grouped_splitting v disjuncts w all = let on = grouped_on v [] disjuncts w all in omega (arith, on)
+pub grouped_counting : (v : ℕ) (disjuncts : List Node) (test : Node → Bool) → list_all (λ disjunct. is_there (symbol_at v disjunct)) disjuncts ≡ true
+    → all_counting test (lists (grouped v disjuncts)) ≡ counting test disjuncts
+grouped_counting v disjuncts test all = let on = grouped_on v [] disjuncts test all in omega (arith, on)
 
 -- one group and the others
 
-pub without_one : (groups : List (List Node)) (index : ℕ) (group : List Node) (w : ℕ) → index < length groups → group ≡ slice_index_or groups index group
-    → all_splitting groups w ≡ splitting group w + all_splitting (remove groups index) w
-without_one [] index group w within is = absurd (omega (arith, within))
-without_one (first ∷ rest) zero group w within is = let same : splitting group w ≡ splitting first w = ap (λ g. splitting g w) is in omega (arith, same)
-without_one (first ∷ rest) (suc index) group w within is = let h = without_one rest index group w (omega (arith, within)) is in omega (arith, h)
+pub without_one : (groups : List (List Node)) (index : ℕ) (group : List Node) (test : Node → Bool) → index < length groups → group ≡ slice_index_or groups index group
+    → all_counting test groups ≡ counting test group + all_counting test (remove groups index)
+without_one [] index group test within is = absurd (omega (arith, within))
+without_one (first ∷ rest) zero group test within is = let same : counting test group ≡ counting test first = ap (λ g. counting test g) is in omega (arith, same)
+without_one (first ∷ rest) (suc index) group test within is = let h = without_one rest index group test (omega (arith, within)) is in omega (arith, h)
 
 pub back_in : (groups : List (List Node)) (index : ℕ) (group : List Node) → index < length groups → group ≡ slice_index_or groups index group → insert (remove groups index) index group ≡ groups
 back_in [] index group within is = absurd (omega (arith, within))
 back_in (first ∷ rest) zero group within is = ap (λ g. g ∷ rest) is
 back_in (first ∷ rest) (suc index) group within is = ap (λ l. first ∷ l) (back_in rest index group (omega (arith, within)) is)
 
-pub last_out : (groups : List (List Node)) (last : List Node) (w : ℕ) → all_splitting (groups ++ last ∷ []) w ≡ all_splitting groups w + splitting last w
-last_out [] last w = omega arith
-last_out (first ∷ rest) last w = let h = last_out rest last w in omega (arith, h)
+pub last_out : (groups : List (List Node)) (last : List Node) (test : Node → Bool) → all_counting test (groups ++ last ∷ []) ≡ all_counting test groups + counting test last
+last_out [] last test = omega arith
+last_out (first ∷ rest) last test = let h = last_out rest last test in omega (arith, h)
 
 -- one of several disjuncts
 
@@ -134,11 +159,11 @@ none_of (first ∷ rest) index past within =
     absurd (cc)
 
 -- what is left of the counts once those of the other groups are taken out
-pub rest_counts : (groups others : List (List Node)) (index : ℕ) (group : List Node) (w before after : ℕ) → index < length groups → group ≡ slice_index_or groups index group
-    → others ≡ remove groups index → before ≡ all_splitting groups w → after ≡ before - all_splitting others w → after ≡ splitting group w
-rest_counts groups others index group w before after within is left whole less =
-    let one = without_one groups index group w within is in
-    let same : all_splitting others w ≡ all_splitting (remove groups index) w = ap (λ l. all_splitting l w) left in
+pub rest_counts : (groups others : List (List Node)) (index : ℕ) (group : List Node) (test : Node → Bool) (before after : ℕ) → index < length groups → group ≡ slice_index_or groups index group
+    → others ≡ remove groups index → before ≡ all_counting test groups → after ≡ before - all_counting test others → after ≡ counting test group
+rest_counts groups others index group test before after within is left whole less =
+    let one = without_one groups index group test within is in
+    let same : all_counting test others ≡ all_counting test (remove groups index) = ap (λ l. all_counting test l) left in
     omega (arith, one, same, whole, less)
 
 pub back_again : (groups others : List (List Node)) (index : ℕ) (group : List Node) → index < length groups → group ≡ slice_index_or groups index group → others ≡ remove groups index
@@ -146,11 +171,11 @@ pub back_again : (groups others : List (List Node)) (index : ℕ) (group : List 
 back_again groups others index group within is left = ap (λ l. insert l index group) left ∙ back_in groups index group within is
 
 -- the last of the groups is taken out
-pub last_taken : (groups before : List (List Node)) (last : List Node) (w count less whole : ℕ) → before ≡ groups ++ last ∷ [] → less ≡ count - splitting last w → count - all_splitting before w ≡ whole
-    → less - all_splitting groups w ≡ whole
-last_taken groups before last w count less whole is taken same =
-    let all : all_splitting before w ≡ all_splitting (groups ++ last ∷ []) w = ap (λ l. all_splitting l w) is in
-    let parts = last_out groups last w in
+pub last_taken : (groups before : List (List Node)) (last : List Node) (test : Node → Bool) (count less whole : ℕ) → before ≡ groups ++ last ∷ [] → less ≡ count - counting test last → count - all_counting test before ≡ whole
+    → less - all_counting test groups ≡ whole
+last_taken groups before last test count less whole is taken same =
+    let all : all_counting test before ≡ all_counting test (groups ++ last ∷ []) = ap (λ l. all_counting test l) is in
+    let parts = last_out groups last test in
     omega (arith, all, parts, taken, same)
 
 pub groups_taken : (counted more groups before : List (List Node)) (last made : List Node) (whole : List (List Node)) → before ≡ groups ++ last ∷ [] → made ≡ last → more ≡ counted ++ made ∷ []

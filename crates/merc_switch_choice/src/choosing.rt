@@ -1,5 +1,5 @@
 //! The variables on which disjuncts can be a switch.
-ghost use Rattle.std.specs.Prelude.{◌≡◌, ℕ, ◌&&◌, [], List, IfOk, OnOk};
+ghost use Rattle.std.specs.Prelude.{◌≡◌, ℕ, ◌&&◌, [], List, IfOk};
 ghost use Rattle.merc_tree.specs.declared.declarations.TypeDef.{TypeDef};
 ghost use Rattle.merc_order.specs.Bound.{among};
 ghost use Rattle.merc_switch_choice.specs.Choosing.{is_open, AreLeft, Takes};
@@ -56,7 +56,7 @@ impl Candidates {
         disjuncts: &mut Disjuncts<'_>,
     ) -> Result<Option<Var>, NoMemory>
         ensures choice { IfOk result (λ choice. Takes known.now.types disjuncts.old self.old self.new choice) }
-        ensures disjuncts { OnOk result (disjuncts.new ≡ disjuncts.old) }
+        ensures disjuncts { disjuncts.new ≡ disjuncts.old }
     {
         while let Some(variable) = self.untried.pop_least() {
             if is_covered(alloc, known, disjuncts, variable)? {

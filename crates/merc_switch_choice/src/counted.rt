@@ -2,11 +2,11 @@
 ghost use Rattle.std.specs.Prelude.{◌≡◌, ◌<◌, ◌-◌, ℕ, length, IfOk, IfSome, OnOk};
 ghost use Rattle.std.specs.List.{list_all, AllByRecursion};
 ghost use Rattle.merc_grading.specs.Switches.{symbol_at, is_there};
-ghost use Rattle.merc_switch_choice.specs.Counting.{count_of, all_splitting};
+ghost use Rattle.merc_switch_choice.specs.Counting.{splitting, count_of, all_splitting};
 ghost use Rattle.merc_switch_choice.specs.Gaps.{symbol_of_gap, Avoids};
 ghost use Rattle.merc_switch_choice.specs.Summaries.{Describes, DescribesAll};
 
-use crate::counts::SplitCounts;
+use crate::counts::VarCounts;
 use crate::disjuncts::Disjunct;
 use crate::gaps::Gap;
 use crate::summary::Summary;
@@ -104,7 +104,7 @@ impl<'a> Disjuncts<'a> {
     /// `NoMemory` where memory was refused.
     pub(crate) fn keep_gap(&mut self, variable: Var, gap: Gap) -> Result<(), NoMemory>
         requires { AllByRecursion (Avoids variable (symbol_of_gap gap)) self.old }
-        ensures { OnOk result (self.new ≡ self.old) }
+        ensures { self.new ≡ self.old }
     {
         self.summary.gaps.put(variable, gap)
     }
@@ -176,7 +176,7 @@ fn largest_of(groups: &[Sequence<Disjunct<'_>>]) -> usize
 fn counted_anew<'a>(
     alloc: Global,
     groups: Vec<Sequence<Disjunct<'a>>>,
-    counts: &mut SplitCounts,
+    counts: &mut VarCounts,
 ) -> Result<Vec<Disjuncts<'a>>, NoMemory>
     ensures groups { IfOk result (λ counted. counted.items ≡ groups.entry.items) }
     ensures counts { OnOk result ((variable : ℕ) → count_of counts.new variable ≡ count_of counts.old variable - all_splitting groups.entry.items variable) }
@@ -184,9 +184,19 @@ fn counted_anew<'a>(
     let mut groups = groups;
     let mut counted = Vec::new(alloc);
     while let Some(last) = groups.pop() {
-        counts.remove_all(last.as_slice())?;
+        remove_splits(last.as_slice(), counts)?;
         counted.push(Disjuncts::of(alloc, last.into_vec())?)?;
     }
     counted.reverse();
     Ok(counted)
+}
+
+// Takes the splits of disjuncts out of the counts.
+fn remove_splits(disjuncts: &[Disjunct<'_>], counts: &mut VarCounts) -> Result<(), NoMemory>
+    ensures { OnOk result ((variable : ℕ) → count_of counts.new variable ≡ count_of counts.old variable - splitting disjuncts.now variable) }
+{
+    for disjunct in disjuncts {
+        counts.remove_each(disjunct.variables())?;
+    }
+    Ok(())
 }

@@ -1,50 +1,72 @@
-//! How many of several disjuncts split each variable at their beginnings.
-ghost use Rattle.std.specs.Prelude.{◌≡◌, ◌==◌, ◌+◌, ◌-◌, ℕ, if◌then◌else◌, OnOk};
-ghost use Rattle.merc_graded_tree.specs.Nodes.{Node};
-ghost use Rattle.merc_grading.specs.Switches.{symbol_at, is_there};
-ghost use Rattle.merc_switch_choice.specs.Counting.{one_if, splitting, count_of};
+//! A count for each variable.
+ghost use Rattle.std.specs.Prelude.{◌≡◌, ◌==◌, ◌<◌, ◌+◌, ◌-◌, ℕ, nat_lt, if◌then◌else◌, IfOk, OnOk};
+ghost use Rattle.merc_order.specs.Bound.{among};
+ghost use Rattle.merc_switch_choice.specs.Counting.{occurrences, count_of};
 
-use crate::disjuncts::Disjunct;
+use crate::variables::VarSet;
 use indexmap::IndexMap;
 use merc_base::NoMemory;
 use merc_goal_tree::Var;
 use std::alloc::Global;
 
-/// A count for each variable, how many disjuncts split it.
+/// A count for each variable.
 #[derive(Drop)]
-pub(crate) struct SplitCounts {
-    // by the variable's number; a variable that is not there has the count 0
+pub struct VarCounts {
+    // By the variable's number. A variable that is not there has the count 0, and only such a one.
     by_number: IndexMap<usize, usize>,
 }
 
-impl SplitCounts {
-    /// The counts of no disjuncts. It takes no memory.
-    pub(crate) fn new(alloc: Global) -> SplitCounts
+impl VarCounts {
+    /// Each variable has the count 0. It takes no memory.
+    pub fn new(alloc: Global) -> VarCounts
         ensures { (variable : ℕ) → count_of result variable ≡ 0 }
     {
-        SplitCounts {
+        VarCounts {
             by_number: IndexMap::new(alloc),
         }
     }
 
-    /// How many split the variable.
-    pub(crate) fn of(&self, variable: Var) -> usize
+    /// How many variables have a count above 0.
+    pub fn len(&self) -> usize {
+        self.by_number.len()
+    }
+
+    /// The count of the variable.
+    pub fn of(&self, variable: Var) -> usize
         ensures { result ≡ count_of self.now variable }
     {
         let number = variable.number();
         self.by_number.get(&number).copied().unwrap_or(0)
     }
 
-    /// Counts a disjunct more.
+    /// The variables whose count is above 0.
     ///
     /// # Errors
     ///
-    /// `NoMemory` where memory was refused, or a count passes the greatest `usize`; no disjuncts that lie in memory are so
-    /// many.
-    pub(crate) fn add(&mut self, disjunct: &Disjunct<'_>) -> Result<(), NoMemory>
-        ensures { OnOk result ((variable : ℕ) → count_of self.new variable ≡ count_of self.old variable + one_if (is_there (symbol_at variable disjunct.now))) }
+    /// `NoMemory` where memory was refused.
+    pub fn variables(&self, alloc: Global) -> Result<VarSet, NoMemory>
+        ensures { IfOk result (λ variables. (variable : ℕ) → among variables variable ≡ nat_lt 0 (count_of self.now variable)) }
     {
-        for number in disjunct.variables() {
+        let mut variables = VarSet::new(alloc);
+        for number in self.by_number.keys().as_slice() {
+            let variable = Var::new(*number);
+            if self.of(variable) > 0 {
+                variables.add(variable)?;
+            }
+        }
+        Ok(variables)
+    }
+
+    /// Counts each variable of these numbers once more.
+    ///
+    /// # Errors
+    ///
+    /// `NoMemory` where memory was refused, or a count passes the greatest `usize`; no goals that lie in memory have so many
+    /// variables.
+    pub fn add_each(&mut self, numbers: &[usize]) -> Result<(), NoMemory>
+        ensures { OnOk result ((variable : ℕ) → count_of self.new variable ≡ count_of self.old variable + occurrences numbers.now variable) }
+    {
+        for number in numbers {
             let variable = Var::new(*number);
             match self.of(variable).checked_add(1) {
                 Some(more) => self.put(variable, more)?,
@@ -54,28 +76,18 @@ impl SplitCounts {
         Ok(())
     }
 
-    /// Counts a disjunct no more.
+    /// Counts each variable of these numbers once less, unless its count is 0.
     ///
     /// # Errors
     ///
     /// `NoMemory` where memory was refused.
-    pub(crate) fn remove(&mut self, disjunct: &Disjunct<'_>) -> Result<(), NoMemory>
-        ensures { OnOk result ((variable : ℕ) → count_of self.new variable ≡ count_of self.old variable - one_if (is_there (symbol_at variable disjunct.now))) }
+    pub fn remove_each(&mut self, numbers: &[usize]) -> Result<(), NoMemory>
+        ensures { OnOk result ((variable : ℕ) → count_of self.new variable ≡ count_of self.old variable - occurrences numbers.now variable) }
     {
-        for number in disjunct.variables() {
+        for number in numbers {
             let variable = Var::new(*number);
             let fewer = self.of(variable).saturating_sub(1);
             self.put(variable, fewer)?;
-        }
-        Ok(())
-    }
-
-    /// Counts these disjuncts no more.
-    pub(crate) fn remove_all(&mut self, disjuncts: &[Disjunct<'_>]) -> Result<(), NoMemory>
-        ensures { OnOk result ((variable : ℕ) → count_of self.new variable ≡ count_of self.old variable - splitting disjuncts.now variable) }
-    {
-        for disjunct in disjuncts {
-            self.remove(disjunct)?;
         }
         Ok(())
     }
@@ -84,7 +96,12 @@ impl SplitCounts {
     fn put(&mut self, variable: Var, count: usize) -> Result<(), NoMemory>
         ensures { OnOk result ((other : ℕ) → count_of self.new other ≡ (if other == variable then count else count_of self.old other)) }
     {
-        self.by_number.insert(variable.number(), count)?;
+        let number = variable.number();
+        if count == 0 {
+            self.by_number.swap_remove(&number);
+            return Ok(());
+        }
+        self.by_number.insert(number, count)?;
         Ok(())
     }
 }

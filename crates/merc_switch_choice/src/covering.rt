@@ -1,5 +1,5 @@
 //! Whether the symbols of disjuncts are all of a type.
-ghost use Rattle.std.specs.Prelude.{◌≡◌, [], true, false, map, IfOk, OnOk, MatchOption};
+ghost use Rattle.std.specs.Prelude.{◌≡◌, [], true, false, map, IfOk, MatchOption};
 ghost use Rattle.std.specs.List.{list_all};
 ghost use Rattle.std.specs.Option.{option_map};
 ghost use Rattle.merc_grading.specs.Known.{has_symbol, symbol_of};
@@ -32,7 +32,7 @@ pub(crate) fn is_covered(
     variable: Var,
 ) -> Result<bool, NoMemory>
     ensures covered { IfOk result (λ covered. covered ≡ is_covered known.now.types disjuncts.old variable) }
-    ensures disjuncts { OnOk result (disjuncts.new ≡ disjuncts.old) }
+    ensures disjuncts { disjuncts.new ≡ disjuncts.old }
 {
     let Some(constructors) = fellows_in(known, disjuncts.as_slice(), variable) else {
         return Ok(false);

@@ -17,5 +17,6 @@ mod variables;
 pub use arms::{Arms, arms_of};
 pub use choosing::Candidates;
 pub use counted::Disjuncts;
+pub use counts::VarCounts;
 pub use disjuncts::Disjunct;
 pub use variables::{VarSet, bound_inputs};

@@ -3,7 +3,7 @@ ghost use Rattle.std.specs.Prelude.{IfOk};
 ghost use Rattle.merc_switch_choice.specs.Counting.{Counts};
 ghost use Rattle.merc_switch_choice.specs.Summaries.{Describes};
 
-use crate::counts::SplitCounts;
+use crate::counts::VarCounts;
 use crate::disjuncts::Disjunct;
 use crate::gaps::Gaps;
 use merc_base::NoMemory;
@@ -13,7 +13,7 @@ use std::alloc::Global;
 #[derive(Drop)]
 pub(crate) struct Summary {
     /// How many of them split each variable.
-    pub(crate) counts: SplitCounts,
+    pub(crate) counts: VarCounts,
     /// Constructors by which none of them splits a variable.
     pub(crate) gaps: Gaps,
 }
@@ -34,12 +34,12 @@ impl Summary {
     }
 }
 
-fn counts_of(alloc: Global, disjuncts: &[Disjunct<'_>]) -> Result<SplitCounts, NoMemory>
+fn counts_of(alloc: Global, disjuncts: &[Disjunct<'_>]) -> Result<VarCounts, NoMemory>
     ensures { IfOk result (λ counts. Counts counts disjuncts.now) }
 {
-    let mut counts = SplitCounts::new(alloc);
+    let mut counts = VarCounts::new(alloc);
     for disjunct in disjuncts {
-        counts.add(disjunct)?;
+        counts.add_each(disjunct.variables())?;
     }
     Ok(counts)
 }

@@ -3,6 +3,7 @@ ghost use Rattle.std.specs.Prelude.{◌≡◌, ℕ, [], nat_eq, length, take, po
 ghost use Rattle.std.specs.List.{IsDistinct};
 ghost use Rattle.merc_order.specs.Bound.{among};
 ghost use Rattle.merc_order.specs.Procedures.{bound_at};
+ghost use Rattle.merc_switch_choice.specs.Counting.{one_if, occurrences};
 ghost use Rattle.merc_switch_choice.specs.Variables.{behind, all_behind};
 
 use indexmap::IndexSet;
@@ -55,6 +56,7 @@ impl VarSet {
     pub fn numbers(&self) -> &[usize]
         ensures numbers { result.now ≡ self.now }
         ensures distinct { IsDistinct nat_eq self.now }
+        ensures once { (variable : ℕ) → occurrences result.now variable ≡ one_if (among self.now variable) }
     {
         self.numbers.as_slice()
     }

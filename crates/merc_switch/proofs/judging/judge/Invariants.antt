@@ -10,7 +10,7 @@ use Rattle.merc_switch.proofs.judging.judge.Given as goal
 abbrev pub invariant-loop-group : goal.invariant-loop-group
 invariant-loop-group l = record {
   reaches : (goals : List Node) → Reaches l.known.types (Judge l.fn.group ∷ l.fn.tasks) (Judge l.group ∷ l.tasks) goals l.bound;
-  left : AreLeft l.known.types (among l.bound) l.group.used l.group.disjuncts l.candidates.untried l.candidates.uncovered;
+  left : AreLeft l.known.types (among l.bound) l.group.used l.group.selected.disjuncts l.candidates.untried l.candidates.uncovered;
   narrowed : l.narrowed ≡ true → AreNarrowed l.group;
 }
 

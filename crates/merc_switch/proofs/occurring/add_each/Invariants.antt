@@ -1,9 +1,7 @@
-use Rattle.std.proofs.Common.{◌≡◌, ◌||◌, ℕ, drop}
-use Rattle.merc_graded_tree.specs.Nodes.{nodes_of}
-use Rattle.merc_graded_tree.specs.Variables.{in_nodes}
-use Rattle.merc_order.specs.Bound.{among}
+use Rattle.std.proofs.Common.{◌≡◌, drop}
+use Rattle.merc_graded_tree.specs.Nodes.{outputs_of}
+use Rattle.merc_switch.specs.Occurring.{outputs_behind}
 use Rattle.merc_switch.proofs.occurring.add_each.Given as goal
 
-abbrev pub invariant-loop-disjunct : goal.invariant-loop-disjunct
-invariant-loop-disjunct l =
-    (variable : ℕ) → (among l.variables variable || in_nodes (nodes_of (drop l.disjunct-index l.disjuncts)) variable) ≡ (among l.fn.variables variable || in_nodes (nodes_of l.disjuncts) variable)
+abbrev pub invariant-loop-variable : goal.invariant-loop-variable
+invariant-loop-variable l = outputs_behind (outputs_of l.whole) l.found (drop l.variable-index l.variables) ≡ outputs_behind (outputs_of l.whole) l.fn.found l.variables

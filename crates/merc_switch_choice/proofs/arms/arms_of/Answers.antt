@@ -1,9 +1,9 @@
 use Rattle.std.proofs.Common.{◌∙◌, ap, sym, subst, map}
 use Rattle.std.specs.List.{AllByRecursion}
 use Rattle.merc_grading.specs.Switches.{grouped}
-use Rattle.merc_switch_choice.specs.Counting.{all_splitting}
+use Rattle.merc_switch_choice.specs.Counting.{splits, all_splitting}
 use Rattle.merc_switch_choice.specs.Gaps.{AreGaps}
-use Rattle.merc_switch_choice.proofs.CountLaws.{grouped_splitting}
+use Rattle.merc_switch_choice.proofs.CountLaws.{grouped_counting}
 use Rattle.merc_switch_choice.proofs.GapLaws.{group_gaps}
 use Rattle.merc_switch_choice.proofs.arms.arms_of.Goals as goal
 
@@ -13,7 +13,7 @@ counted_each-requires c =
     let gaps = c.into_parts-items.result.1.gaps in
     let disjuncts = c.args.disjuncts in
     record {
-      counts_are = λ variable. parts.summary.counts_are variable ∙ sym (grouped_splitting c.args.variable disjuncts variable c.requires)
+      counts_are = λ variable. parts.summary.counts_are variable ∙ sym (grouped_counting c.args.variable disjuncts (splits variable) c.requires)
           ∙ ap (λ l. all_splitting (map (λ group. group.1) (grouped c.args.variable l)) variable) (sym parts.items) ∙ ap (λ l. all_splitting l variable) (sym c.in_ok-parts.ensures.groups_are);
       gaps_are = subst (λ l. AllByRecursion (AreGaps gaps) l) (sym (c.in_ok-parts.ensures.groups_are ∙ ap (λ l. map (λ group. group.1) (grouped c.args.variable l)) parts.items))
           (group_gaps gaps c.args.variable disjuncts parts.summary.gaps_are);

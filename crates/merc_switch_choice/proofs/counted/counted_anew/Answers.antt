@@ -1,5 +1,5 @@
 use Rattle.std.proofs.Common.{◌≡◌, ◌-◌, ◌++◌, ◌∷◌, [], ◌∙◌, ap, rules}
-use Rattle.merc_switch_choice.specs.Counting.{count_of, splitting}
+use Rattle.merc_switch_choice.specs.Counting.{count_of, splits, splitting}
 use Rattle.merc_switch_choice.proofs.CountLaws.{last_taken, groups_taken}
 use Rattle.merc_switch_choice.proofs.counted.counted_anew.Goals as goal
 
@@ -11,6 +11,6 @@ loop-last-preserved c =
     let is : before ≡ rest ++ last ∷ [] = search rules in
     record {
       groups = groups_taken c.loop-last.counted.items c.push.new.self.items rest before last c.in_ok-of.field-0 _ is (c.in_ok-of.ensures ∙ c.into_vec.ensures) c.in_ok-push.ensures.items c.loop-last.invariant.groups;
-      counts = λ variable. last_taken rest before last variable (count_of c.loop-last.counts variable) _ _ is
-          (c.in_ok-remove_all.ensures variable ∙ ap (λ l. count_of c.loop-last.counts variable - splitting l variable) c.as_slice.ensures) (c.loop-last.invariant.counts variable);
+      counts = λ variable. last_taken rest before last (splits variable) (count_of c.loop-last.counts variable) _ _ is
+          (c.in_ok-remove_splits.ensures variable ∙ ap (λ l. count_of c.loop-last.counts variable - splitting l variable) c.as_slice.ensures) (c.loop-last.invariant.counts variable);
     }

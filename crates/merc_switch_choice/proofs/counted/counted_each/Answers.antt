@@ -1,6 +1,6 @@
 use Rattle.std.proofs.Common.{◌<◌, ◌∙◌, ap, sym, subst, length, rules}
 use Rattle.std.specs.Prelude.{insert}
-use Rattle.merc_switch_choice.specs.Counting.{count_of, splitting}
+use Rattle.merc_switch_choice.specs.Counting.{count_of, splits, splitting}
 use Rattle.merc_switch_choice.specs.Gaps.{AreGaps}
 use Rattle.merc_switch_choice.proofs.CountLaws.{rest_counts, back_again}
 use Rattle.merc_switch_choice.proofs.GapLaws.{gaps_of_one}
@@ -14,7 +14,7 @@ with_summary-requires c =
     let within : index < length groups = search rules in
     record {
       counts_are = λ variable.
-          rest_counts groups removed.new.self.items index removed.result variable (count_of c.args.summary.counts variable) (count_of c.counted_anew.new.counts variable) within removed.ensures.value removed.ensures.items
+          rest_counts groups removed.new.self.items index removed.result (splits variable) (count_of c.args.summary.counts variable) (count_of c.counted_anew.new.counts variable) within removed.ensures.value removed.ensures.items
           (c.requires.counts_are variable) (c.in_ok-counted.ensures.counts variable)
           ∙ ap (λ l. splitting l variable) (sym c.into_vec.ensures);
       gaps_are = subst (λ l. AreGaps c.args.summary.gaps l) (sym c.into_vec.ensures) (gaps_of_one c.args.summary.gaps groups index removed.result within removed.ensures.value c.requires.gaps_are);

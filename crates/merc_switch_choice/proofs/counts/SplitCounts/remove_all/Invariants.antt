@@ -1,6 +1,0 @@
-use Rattle.std.proofs.Common.{◌≡◌, ◌-◌, ℕ, drop}
-use Rattle.merc_switch_choice.specs.Counting.{count_of, splitting}
-use Rattle.merc_switch_choice.proofs.counts.SplitCounts.remove_all.Given as goal
-
-abbrev pub invariant-loop-disjunct : goal.invariant-loop-disjunct
-invariant-loop-disjunct l = (variable : ℕ) → count_of l.self variable - splitting (drop l.disjunct-index l.disjuncts) variable ≡ count_of l.fn.self variable - splitting l.disjuncts variable
