@@ -3,6 +3,7 @@ pub mod CallSteps
 pub mod ChoicePoints
 pub mod Choosing
 pub mod Combining
+pub mod Continuing
 pub mod Counting
 pub mod Deciding
 pub mod Delivering
