@@ -39,19 +39,12 @@ fn grow(slots: &mut Vec<Slot>, base: usize, size: usize) -> Result<(), NoMemory>
     ensures ok { OnOk result (base + size + SPARE ≤ length slots.new.items) }
     ensures grows { Grows slots.old.items slots.new.items }
 {
-    match base.checked_add(size) {
-        Some(end) => match end.checked_add(SPARE) {
-            Some(end) => grow_to(slots, end),
-            None => Err(NoMemory),
-        },
-        None => Err(NoMemory),
-    }
-}
-
-fn grow_to(slots: &mut Vec<Slot>, end: usize) -> Result<(), NoMemory>
-    ensures ok { OnOk result (end ≤ length slots.new.items) }
-    ensures grows { Grows slots.old.items slots.new.items }
-{
+    let Some(end) = base.checked_add(size) else {
+        return Err(NoMemory);
+    };
+    let Some(end) = end.checked_add(SPARE) else {
+        return Err(NoMemory);
+    };
     while slots.len() < end {
         slots.push(Slot::Empty)?;
     }

@@ -1,6 +1,6 @@
 use Rattle.std.specs.Prelude.{◌-◌, length}
 use Rattle.merc_frames.specs.View.{Grows}
-use Rattle.merc_frames.proofs.copying.grow_to.Given as goal
+use Rattle.merc_frames.proofs.copying.grow.Given as goal
 
 abbrev pub invariant-loop-slots : goal.invariant-loop-slots
 invariant-loop-slots l = Grows l.fn.slots.items l.slots.items
