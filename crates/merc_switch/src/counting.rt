@@ -47,7 +47,8 @@ pub(crate) fn remove_disjuncts(
     Ok(())
 }
 
-/// The outputs of the whole that occur in the disjuncts that were counted. No more than some times as many are gone through.
+/// The outputs of the whole that occur in the disjuncts that were counted. It takes time in how many they are, however many
+/// the whole has.
 pub(crate) fn outputs_counted(
     alloc: Global,
     whole: &Whole<'_>,
@@ -56,6 +57,7 @@ pub(crate) fn outputs_counted(
     ensures { IfOk result (λ kept. (disjuncts : List Node) → CountsOutputs (outputs_of whole.now) counts.now disjuncts → kept ≡ filter (λ output. in_nodes (nodes_of disjuncts) output) (outputs_of whole.now)) }
 {
     let outputs = whole.outputs();
+    // to sort a few takes longer than to look at some times as many
     if counts.len() < outputs.len() / 8 {
         let variables = counts.variables(alloc)?;
         return whole.outputs_among(alloc, &variables);
