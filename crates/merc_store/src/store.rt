@@ -35,7 +35,7 @@ pub enum Backed {
 pub struct Store {
     pub(crate) heap: Heap,
     pub(crate) frames: Frames,
-    // what is carried from one frame to another
+    // what slots held before several instructions, which have it again where one of them fails
     pub(crate) carried: Vec<Slot>,
     // the words of the arguments of what is built
     pub(crate) words: Vec<Word>,
