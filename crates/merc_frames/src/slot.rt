@@ -5,10 +5,12 @@ ghost use Rattle.merc_frames.specs.Slots.{holding, word_in, mark_in};
 use merc_base::Name;
 use merc_value::Word;
 
-/// What a slot of a frame holds. The words come first and in the order of `Word`, so that a slot that holds one has its
-/// tag.
+/// What a slot of a frame holds. Nothing comes first, so that a frame is emptied by zeros, and then the words in the order of
+/// `Word`.
 #[derive(Clone, Copy, Debug, PartialEq, Eq, Drop)]
 pub enum Slot {
+    /// Nothing.
+    Empty,
     /// The word of an integer.
     Int(i64),
     /// The word of a text, which this name has.
@@ -17,8 +19,6 @@ pub enum Slot {
     Atom(Name),
     /// The word of the cell at this place, from 0.
     Cell(usize),
-    /// Nothing.
-    Empty,
     /// A mark: a number of choice points.
     Mark(usize),
 }
