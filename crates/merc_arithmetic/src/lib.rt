@@ -10,6 +10,7 @@ use merc_goal_tree::{Comparison, Operation};
 
 /// The result of an operation on two integers, wrapped round at 64 bits, or `None` where the divisor is 0.
 /// `Quotient` truncates, and `Rem` is what it leaves; `Div` rounds down, and `Mod` is what it leaves.
+#[inline(always)]
 #[tactic(auto, using(crate::proofs::Wrapping::multiply_is))]
 pub fn compute(operation: Operation, left: i64, right: i64) -> Option<i64>
     ensures { arithmetic operation left right ≡ result_of result }
@@ -39,6 +40,7 @@ pub fn holds(test: Comparison, left: i64, right: i64) -> bool
 }
 
 // The quotient, rounded down.
+#[inline(never)]
 fn div(left: i64, right: i64) -> i64
     requires { IsNonZero w64 right }
     ensures { result ≡ wrapped (rounded_down left right) }
@@ -52,6 +54,7 @@ fn div(left: i64, right: i64) -> i64
 }
 
 // What the quotient, rounded down, leaves.
+#[inline(never)]
 fn modulo(left: i64, right: i64) -> i64
     requires { IsNonZero w64 right }
     ensures { result ≡ wrapped (left -ℤ (rounded_down left right *ℤ right)) }

@@ -1,5 +1,6 @@
 //! A count for each variable.
 ghost use Rattle.std.specs.Prelude.{◌≡◌, ◌==◌, ◌<◌, ◌+◌, ◌-◌, ℕ, nat_lt, if◌then◌else◌, IfOk, OnOk};
+ghost use Rattle.indexmap.specs.IndexMap.{index_map_len};
 ghost use Rattle.merc_order.specs.Bound.{among};
 ghost use Rattle.merc_switch_choice.specs.Counting.{occurrences, count_of};
 
@@ -27,7 +28,9 @@ impl VarCounts {
     }
 
     /// How many variables have a count above 0.
-    pub fn len(&self) -> usize {
+    pub fn len(&self) -> usize
+        ensures { result ≡ index_map_len self.now.by_number }
+    {
         self.by_number.len()
     }
 
