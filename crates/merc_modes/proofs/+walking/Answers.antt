@@ -591,8 +591,8 @@ conjuncts::walk_first_left-returns-clause-tells t c = λ total marked fits flags
 
 -- goals that hold no others
 
-pub walking::walk-returns-in-Simple-clause-orders : goal.walking::walk-returns-in-Simple-clause-orders
-walking::walk-returns-in-Simple-clause-orders t c =
+pub walking::walk_parts-returns-in-Simple-clause-orders : goal.walking::walk_parts-returns-in-Simple-clause-orders
+walking::walk_parts-returns-in-Simple-clause-orders t c =
     let same : Simple c.in-Simple.simple.now c.span-span.result ≡ c.args.goal.now = ap (λ s. Simple c.in-Simple.simple.now s) c.span-span.ensures ∙ c.in-Simple.ensures in
     subst (λ g. Orders c.args.setting.now.predicates.now g c.args.facts.now c.args.setting.now.all.now c.args.start c.args.bound.now c.args.written.now c.walk_simple.new.written c.walk_simple.result) same
     c.walk_simple.ensures.orders
