@@ -1,4 +1,5 @@
 pub mod Combined
+pub mod LeavingOut
 pub mod Lists
 pub mod Numbers
 pub mod Ops

@@ -1,6 +1,10 @@
+pub mod Combined
+pub mod CombinedExamples
 pub mod Entries
 pub mod EntriesExamples
 pub mod Frames
+pub mod LeavingOut
+pub mod LeavingOutExamples
 pub mod Linking
 pub mod Loaded
 pub mod LoadedExamples

@@ -3,6 +3,7 @@
 
 mod combining;
 mod entries;
+mod leaving;
 mod linking;
 pub mod loaded;
 mod loading;

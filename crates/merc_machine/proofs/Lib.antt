@@ -16,6 +16,7 @@ pub mod Handing
 pub mod Inverses
 pub mod JumpingBack
 pub mod LastCalling
+pub mod Leaving
 pub mod Linking
 pub mod Marking
 pub mod Passing

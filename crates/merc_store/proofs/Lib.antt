@@ -11,5 +11,6 @@ pub mod ReadingLemmas
 pub mod FillLemmas
 pub mod PerformLemmas
 pub mod ConstantLemmas
+pub mod NumberLemmas
 pub mod SeveralLemmas
 pub mod RestoringLemmas

@@ -1,6 +1,6 @@
 -- What the functions do that an instruction is made of.
 use Rattle.std.specs.List.{All}
-use Rattle.std.proofs.Common.{◌≡◌, ℕ, ◌<◌, ◌+◌, List, [], ◌∷◌, pos, Some, None, refl, sym, ap, subst, ◌∙◌, arith}
+use Rattle.std.proofs.Common.{◌≡◌, ℕ, ◌<◌, ◌+◌, List, [], ◌∷◌, pos, Some, None, true, false, refl, sym, ap, subst, ◌∙◌, arith}
 use Rattle.std.proofs.lemmas.List.Elements.{All-nil, All-cons}
 use Rattle.merc_base.specs.Names.{division_by_zero_name}
 use Rattle.merc_value.specs.Value.{Int, Con, none, more}
@@ -19,8 +19,8 @@ use Rattle.merc_frames.specs.declared.slot.Slot.TheVariants.{Empty, Int as IntSl
 use Rattle.merc_store.specs.Data.{StoreData, with_current}
 use Rattle.merc_store.specs.Fitting.{FitsFrame}
 use Rattle.merc_store.specs.FittingExamples.{frame, frame-example}
-use Rattle.merc_store.specs.Effects.{effect_of_both, Performs, effect_of_all, Grows, PerformsAll}
-use Rattle.merc_store.specs.Performing.{word_at, words_at, integer_at, text_in, head_of, stored, DoesBoth, DoesAll}
+use Rattle.merc_store.specs.Effects.{compares_number, effect_of_both, Performs, effect_of_all, Grows, PerformsAll}
+use Rattle.merc_store.specs.Performing.{word_at, words_at, integer_at, text_in, head_of, stored, tested, DoesBoth, DoesEffect, DoesAll}
 use Rattle.merc_store.specs.declared.store.Done.TheVariants.{Bound, Raised, Failed}
 
 word_at-example : word_at (Empty ∷ CellSlot 3 ∷ []) 1 ≡ Some (CellWord 3)
@@ -101,6 +101,24 @@ does_both-not does =
 
 pub store-grows : Grows store store
 store-grows = record { room = refl; callers = refl; choices = refl; cells = ([], refl) }
+
+tested-holds : tested true ≡ Bound
+tested-holds = refl
+
+tested-fails : tested false ≡ Failed
+tested-fails = refl
+
+passed_over : (variables : ℕ) (env : Env) (marks : List ℕ) → FitsFrame store.cells variables store.stacks.current env marks → Performs store store variables marks (compares_number Less 0 (pos 9) env) Bound
+passed_over variables env marks fits =
+    subst (λ v. Performs store store variables marks (compares env (comparison_of Less) v (Some (Int (pos 9)))) Bound) (sym (fits.values 0)) (store-grows, fits)
+
+-- 7 < 9 holds, and nothing is given a value
+does_effect-example : DoesEffect store store [] (compares_number Less 0 (pos 9)) Bound
+does_effect-example = record { performs = λ variables env marks fits within. passed_over variables env marks fits }
+
+-- it does not fail
+does_effect-not : DoesEffect store store [] (compares_number Less 0 (pos 9)) Failed → ⊥
+does_effect-not does = does.performs 2 (Some (Int (pos 7)) ∷ []) (3 ∷ []) frame-example (All-nil (λ (variable : ℕ). variable < 2))
 
 pub store-fits : FitsFrame store.cells 2 store.stacks.current (Some (Int (pos 7)) ∷ []) (3 ∷ [])
 store-fits = frame-example
