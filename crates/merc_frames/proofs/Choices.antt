@@ -11,7 +11,7 @@ use Rattle.merc_frames.specs.Stacks.{oldest, softened}
 use Rattle.merc_frames.proofs.Reversed.{reversed_take, softened_reverse, reversed_last}
 use Rattle.merc_frames.proofs.Lists.{get_set}
 use Rattle.merc_frames.proofs.Moving.{stacks_at, below_base, moved_fine, moved_view}
-use Rattle.std.proofs.lemmas.List.{map-set, take-map, set_past, length-map}
+use Rattle.std.proofs.lemmas.List.{map-set, take-map, set_past, length-map, take_all}
 use Rattle.std.proofs.lemmas.Option.{slice_get_read}
 
 -- a choice point keeps the current frame, which goes on in a copy at its end
@@ -95,6 +95,10 @@ pub commit_view : (w : List Slot) (saved : List Saved) (cs : List Kept) (base si
     → view_of w saved (take count cs) base size h ≡ (let r : Stacks = record { current = frame_of w base size; callers = callers_of w saved h; choices = oldest count (reverse (map (λ k. seen w saved k) cs)) } in r)
 commit_view w saved cs base size h count = stacks_at _ _ _ _ _ _ refl refl
     (ap reverse (sym (take-map (λ k. seen w saved k) count cs)) ∙ sym (reversed_take count (map (λ k. seen w saved k) cs)))
+
+pub commit_none : (w : List Slot) (saved : List Saved) (cs : List Kept) (base size h count : ℕ) → length cs ≤ count
+    → view_of w saved cs base size h ≡ (let r : Stacks = record { current = frame_of w base size; callers = callers_of w saved h; choices = oldest count (reverse (map (λ k. seen w saved k) cs)) } in r)
+commit_none w saved cs base size h count l = ap (λ x. view_of w saved x base size h) (sym (take_all count cs l)) ∙ commit_view w saved cs base size h count
 
 -- the newest choice point is taken away
 module _ (w : List Slot) (saved : List Saved) (cs front : List Kept) (base size h : ℕ) (k : Kept) (f : Fine w saved cs base size h) (ec : cs ≡ front ++ k ∷ []) where

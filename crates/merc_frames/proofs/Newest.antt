@@ -146,3 +146,14 @@ module _ (w w' : List Slot) (saved saved' : List Saved) (cs : List Kept) (base s
   pub settled_view : (current : List Slot) → frame_of w' low size' ≡ current
       → view_of w' saved' cs low size' h ≡ (let r : Stacks = record { current = current; callers = callers_of w saved h; choices = reverse (map (λ k. seen w saved k) cs) } in r)
   settled_view current e = ap (λ x. view_of w' x cs low size' h) es ∙ moved_view w w' saved cs base size height f low size' h count inside above same tops kept current e
+
+-- the same current frame, moved to where all ends that the newest choice point and the callers need
+module _ (w w' : List Slot) (saved saved' : List Saved) (cs : List Kept) (base size h : ℕ) (f : Fine w saved cs base size h) (low count : ℕ)
+    (ec : count ≡ counted (newest cs) h) (el : low ≡ lowered (newest cs) (caller_top saved h)) (es : saved' ≡ take count saved) (same : take low w ≡ take low w') where
+  pub closed_fine : length w' ≡ length w → Fine w' saved' cs low size h
+  closed_fine long =
+      let a = f.within in let b = low_under w saved cs base size h f h in
+      settled_fine w w' saved saved' cs base size h f low size h count f.stack ec (omega (arith, el)) es same (omega (arith, a, b, el, long))
+
+  pub closed_view : frame_of w' low size ≡ frame_of w base size → view_of w' saved' cs low size h ≡ view_of w saved cs base size h
+  closed_view copied = settled_view w w' saved saved' cs base size h f low size h count f.stack ec (omega (arith, el)) es same (frame_of w base size) copied

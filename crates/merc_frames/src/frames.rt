@@ -15,6 +15,10 @@ use merc_goal_tree::Var;
 use std::alloc::Global;
 use std::marker::Model;
 
+// The current frame may lie higher than it has to by so many times its size. Conditions in a loop of last calls seldom leave
+// more, and a last call gives it back.
+const GAP: usize = 4;
+
 /// What going back finds.
 #[derive(Clone, Copy, Debug, PartialEq, Eq)]
 pub enum Backed {
@@ -284,7 +288,26 @@ impl Frames {
     pub fn commit(&mut self, count: usize)
         ensures { self.new ≡ record self.old { choices = oldest count self.old.choices } }
     {
-        self.choices.truncate(count);
+        if count < self.choices.len() {
+            self.choices.truncate(count);
+            self.close_gap();
+        }
+    }
+
+    // The current frame lies behind those that choice points kept. Where these were taken away, it is moved down to where all
+    // ends that is still needed, but only over several times its size: conditions, one behind the other, take the room
+    // of a few frames, and most of them copy nothing here.
+    #[inline(never)]
+    fn close_gap(&mut self)
+        ensures { self.new ≡ self.old }
+    {
+        let end = low_of(&self.saved, &self.choices, self.height, self.base);
+        if (self.base - end) / GAP > self.size {
+            copy_frame(&mut self.slots, self.base, self.size, end);
+            let count = count_of(&self.choices, self.height);
+            self.saved.truncate(count);
+            self.base = end;
+        }
     }
 
     /// The choice point with `count` older ones only fails from now on. Nothing changes where there is none.

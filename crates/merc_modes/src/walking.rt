@@ -32,14 +32,38 @@ pub(crate) struct Setting<'a> {
 /// Writes a goal out in its order from what is bound. Its variables occur from `start` on. The marks say nothing before
 /// and after; what is bound is the same behind it.
 ///
-/// It calls itself for the goals that a goal joins. The limit of nesting bounds how deep these stand in each other, but
-/// not the else parts of an if-then-else, which are gone through by a loop.
+/// It calls itself for the goals that a goal joins. The else parts of an if-then-else are gone through by a loop.
 ///
 /// # Errors
 ///
-/// What is wrong with a goal that has no order; `NoMemory` where memory was refused.
+/// What is wrong with a goal that has no order; `NoMemory` where memory was refused, or goals stand in each other deeper
+/// than `BoundSet::enter` lets them.
 #[cycle(walking)]
 pub(crate) fn walk(
+    setting: &Setting<'_>,
+    goal: &NodeRef<'_>,
+    facts: &[Facts],
+    start: usize,
+    marks: &mut [bool],
+    bound: &mut BoundSet,
+    written: &mut Written,
+) -> Result<(), Fault>
+    requires known { length facts.now ≡ length (parts_of goal.now) }
+    requires marked { length marks.old ≡ length (parts_of goal.now) }
+    requires seen { written.old.seen ≡ [] }
+    ensures same { OnOk result (bound.new ≡ bound.old) }
+    ensures orders { Orders setting.now.predicates.now goal.now facts.now setting.now.all.now start bound.old written.old written.new result }
+    ensures adds { OnOk result (AddsOne written.old written.new) }
+{
+    bound.enter()?;
+    let walked = walk_parts(setting, goal, facts, start, marks, bound, written);
+    bound.leave();
+    walked
+}
+
+// The same, by the goals that it joins.
+#[cycle(walking)]
+fn walk_parts(
     setting: &Setting<'_>,
     goal: &NodeRef<'_>,
     facts: &[Facts],

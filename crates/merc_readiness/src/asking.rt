@@ -22,9 +22,8 @@ use std::alloc::Global;
 ///
 /// # Errors
 ///
-/// `NoMemory` where memory was refused.
-// It calls itself as deep as goals are nested, which a limit bounds. Else parts that are if-then-elses again are not nested
-// by that limit: a loop goes through these.
+/// `NoMemory` where memory was refused, or goals stand in each other deeper than `BoundSet::enter` lets them.
+// It calls itself for the goals that a goal holds. Else parts that are if-then-elses again are gone through by a loop.
 #[cycle(asking)]
 pub fn advance(
     alloc: Global,
@@ -43,7 +42,7 @@ pub fn advance(
     if marks[own] {
         return Ok(true);
     }
-    let ready = advance_parts(
+    let ready = advance_within(
         alloc,
         predicates,
         goal,
@@ -54,6 +53,28 @@ pub fn advance(
     )?;
     marks[own] = ready;
     Ok(ready)
+}
+
+// The same of a goal that is not marked itself: the pass goes into it, and leaves it.
+#[cycle(asking)]
+fn advance_within(
+    alloc: Global,
+    predicates: &[PredDecl],
+    goal: &NodeRef<'_>,
+    facts: &[Facts],
+    own: &Facts,
+    marks: &mut [bool],
+    bound: &mut BoundSet,
+) -> Result<bool, NoMemory>
+    requires known { length facts.now ≡ length (all_parts (joined_by goal.now)) }
+    requires marked { length marks.old ≡ length (all_parts (joined_by goal.now)) }
+    ensures same { OnOk result (bound.new ≡ bound.old) }
+    ensures asked { IfOk result (λ ready. AskedParts predicates.now goal.now facts.now own.now marks.old marks.new (among bound.old) ready) }
+{
+    bound.enter()?;
+    let asked = advance_parts(alloc, predicates, goal, facts, own, marks, bound);
+    bound.leave();
+    asked
 }
 
 // The same of a goal that is not marked itself, by its parts.

@@ -9,12 +9,19 @@ use merc_goal_tree::Var;
 use std::alloc::Global;
 use std::marker::Model;
 
-/// The variables that are bound, in the order in which they were bound, each once.
+/// How many goals that hold each other the passes over ordered goals may be in at once. They call themselves for each: of
+/// the 8 MiB of stack that a system gives they take some 5 then.
+const DEPTH_LIMIT: usize = 4_000;
+
+/// The variables that are bound, in the order in which they were bound, each once. It goes with a pass into the goals that
+/// a goal holds, and so it also knows in how many the pass is.
 #[derive(Drop)]
 pub struct BoundSet {
     // by the variable's number; those past its end are not bound
     table: Vec<bool>,
     trail: Vec<Var>,
+    // how many goals were entered and not left; no contract speaks of it
+    depth: usize,
 }
 
 impl Model for BoundSet {
@@ -36,7 +43,32 @@ impl BoundSet {
         BoundSet {
             table: Vec::new(alloc),
             trail: Vec::new(alloc),
+            depth: 0,
         }
+    }
+
+    /// Goes into a goal, which `leave` leaves. What is bound stays.
+    ///
+    /// # Errors
+    ///
+    /// `NoMemory` where it would be in more goals at once than the stack surely has room for. The limit of nesting bounds
+    /// how deep written goals stand in each other; but an if-then-else that is a disjunct holds all disjuncts behind it, so
+    /// that a chain of `;` in which `C -> T` comes again and again is as deep as it is long.
+    pub fn enter(&mut self) -> Result<(), NoMemory>
+        ensures { self.new ≡ self.old }
+    {
+        if self.depth >= DEPTH_LIMIT {
+            return Err(NoMemory);
+        }
+        self.depth += 1;
+        Ok(())
+    }
+
+    /// Leaves the goal that was entered last. What is bound stays.
+    pub fn leave(&mut self)
+        ensures { self.new ≡ self.old }
+    {
+        self.depth = self.depth.saturating_sub(1);
     }
 
     /// Whether the variable is bound.

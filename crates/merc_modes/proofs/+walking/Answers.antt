@@ -27,7 +27,7 @@ use Rattle.merc_modes.specs.Walks.{Walked, all_settled}
 use Rattle.merc_modes.specs.declared.written.Written.{Written}
 use Rattle.merc_readiness.proofs.Binding.{extends_same, extends_on, extends_all, next_known}
 use Rattle.merc_modes.proofs.Beside.{facts_of_first, facts_from, blank_there, beside_goes, beside_stuck, beside_err, walked_tells, never_stuck}
-use Rattle.merc_readiness.proofs.Marking.{subgoals_length, all_subgoals_length}
+use Rattle.merc_readiness.proofs.Marking.{subgoals_length, all_subgoals_length, parts_length}
 use Rattle.merc_modes.proofs.Resuming.{at_next, parts_within, known_from, stretch_from}
 use Rattle.merc_readiness.proofs.Stepping.{facts_of_next}
 use Rattle.merc_modes.proofs.Stepped.{if_stays, if_goes, first_tells, passing_on, none_told, goes_agree, place_from, placed_next, member_passes, member_marks, member_stays, member_goes, seen_same, sweep_on, sweep_back, end_told, end_ready, step_err, sweep_err, rounds_first, fewer_by, rounds_err, rounds_end}
@@ -589,10 +589,15 @@ conjuncts::walk_first_left-returns-clause-tells t c = λ total marked fits flags
     (c.loop-goal.invariant.passing total marked fits flags known stretch) in
     none_told total modes c.args.facts.now c.args.marks.now c.loop-goal.at c.args.setting.now.all.now c.loop-goal.place those (among c.args.bound.now) c.args.written.now c.loop-goal.written tt p c.loop-goal.invariant.same_written
 
+-- a goal that is entered
+
+pub walking::walk-walk_parts-walked-requires : goal.walking::walk-walk_parts-walked-requires
+walking::walk-walk_parts-walked-requires t c = let h = parts_length c.args.goal.now in (omega arith, (c.requires.known, (c.requires.marked, c.requires.seen)))
+
 -- goals that hold no others
 
-pub walking::walk-returns-in-Simple-clause-orders : goal.walking::walk-returns-in-Simple-clause-orders
-walking::walk-returns-in-Simple-clause-orders t c =
+pub walking::walk_parts-returns-in-Simple-clause-orders : goal.walking::walk_parts-returns-in-Simple-clause-orders
+walking::walk_parts-returns-in-Simple-clause-orders t c =
     let same : Simple c.in-Simple.simple.now c.span-span.result ≡ c.args.goal.now = ap (λ s. Simple c.in-Simple.simple.now s) c.span-span.ensures ∙ c.in-Simple.ensures in
     subst (λ g. Orders c.args.setting.now.predicates.now g c.args.facts.now c.args.setting.now.all.now c.args.start c.args.bound.now c.args.written.now c.walk_simple.new.written c.walk_simple.result) same
     c.walk_simple.ensures.orders

@@ -25,6 +25,9 @@ use Rattle.merc_modes.proofs.+walking.Given as goal
 abbrev pub decreases-walking::walk : goal.decreases-walking::walk
 decreases-walking::walk l = 8 * length (parts_of l.goal.now)
 
+abbrev pub decreases-walking::walk_parts : goal.decreases-walking::walk_parts
+decreases-walking::walk_parts l = 8 * length (parts_of l.goal.now) - 1
+
 abbrev pub decreases-walking::walk_negation : goal.decreases-walking::walk_negation
 decreases-walking::walk_negation l = 8 * length (parts_of l.inner.now) + 1
 
@@ -109,7 +112,7 @@ invariant-conjuncts::walk_first_left-loop-goal l = record {
 -- if-then-elses
 
 abbrev pub decreases-links::walk_chain : goal.decreases-links::walk_chain
-decreases-links::walk_chain l = 8 * length (parts_of l.goal.now) - 1
+decreases-links::walk_chain l = 8 * length (parts_of l.goal.now) - 2
 
 abbrev pub decreases-links::walk_guard : goal.decreases-links::walk_guard
 decreases-links::walk_guard l = 8 * (length (parts_of l.condition.now) + length (parts_of l.then_part.now)) + 1

@@ -1,4 +1,4 @@
-use Rattle.std.proofs.Common.{◌≡◌, ◌∙◌, ◌+◌, ◌-◌, ◌<◌, ◌++◌, [], suc, ap, sym, subst, refl, true, false, length, take, drop, slice_range, arith}
+use Rattle.std.proofs.Common.{◌≡◌, ◌∙◌, ◌+◌, ◌-◌, ◌<◌, ◌++◌, [], suc, ap, sym, subst, refl, true, false, IfOk, length, take, drop, slice_range, arith}
 use Rattle.std.proofs.lemmas.Result.{IfOk-weaker}
 use borrow.Rule.Slice.PartMut.{put_mid}
 use Rattle.merc_goal_tree.specs.Nodes.{Node, Conjunction, Parallel, nodes_of, span_of}
@@ -46,9 +46,14 @@ asking::advance-returns-clause-asked t c = λ total known m.
     let (is, marked) = c.in_ok-ready.ensures.asked total k.parts_known k.own_known (parts_marked total (modes_of c.args.predicates.now) c.args.goal.now c.args.marks.now
     (among c.args.bound.now) (c.part_count-own.result - 1) own_is c.if-marks-own.false m) in (
       is,
-      marked_again total (modes_of c.args.predicates.now) c.args.goal.now c.args.marks.now c.advance_parts.new.marks (among c.args.bound.now)
+      marked_again total (modes_of c.args.predicates.now) c.args.goal.now c.args.marks.now c.advance_within.new.marks (among c.args.bound.now)
           (c.part_count-own.result - 1) c.in_ok-ready.ready own_is m is marked,
     )
+
+pub asking::advance_within-returns-clause-asked : goal.asking::advance_within-returns-clause-asked
+asking::advance_within-returns-clause-asked t c =
+    subst (λ b. IfOk c.advance_parts-asked.result (λ ready. AskedParts c.args.predicates.now c.args.goal.now c.args.facts.now c.args.own.now c.args.marks.now c.advance_parts-asked.new.marks (among b) ready))
+    c.enter.ensures c.advance_parts-asked.ensures.asked
 
 pub asking::advance_arms-returns-then-not-are_bound-clause-asked : goal.asking::advance_arms-returns-then-not-are_bound-clause-asked
 asking::advance_arms-returns-then-not-are_bound-clause-asked t c = λ span total known own_known m.

@@ -10,43 +10,46 @@ use Rattle.merc_readiness.specs.Facts.{subgoals, all_subgoals}
 use Rattle.merc_readiness.specs.Sweeps.{Extends, AreGone, AreKnownFrom, During, DuringArms, DuringBeside}
 use Rattle.merc_readiness.proofs.+asking.Given as goal
 
--- A call's measure is six times the number of the parts that it is given, and the rank of the function.
+-- A call's measure is seven times the number of the parts that it is given, and the rank of the function.
 
 abbrev pub decreases-asking::advance : goal.decreases-asking::advance
-decreases-asking::advance l = 6 * length (parts_of l.goal.now)
+decreases-asking::advance l = 7 * length (parts_of l.goal.now)
 
 abbrev pub decreases-chains::advance_links : goal.decreases-chains::advance_links
-decreases-chains::advance_links l = 6 * length (parts_of l.goal.now) + 1
+decreases-chains::advance_links l = 7 * length (parts_of l.goal.now) + 1
 
 abbrev pub decreases-chains::advance_chain : goal.decreases-chains::advance_chain
-decreases-chains::advance_chain l = 6 * length (parts_of l.goal.now) + 2
+decreases-chains::advance_chain l = 7 * length (parts_of l.goal.now) + 2
 
 abbrev pub decreases-chains::advance_arm : goal.decreases-chains::advance_arm
-decreases-chains::advance_arm l = 6 * (length (parts_of l.link.now.condition) + length (parts_of l.link.now.then_part)) + 1
+decreases-chains::advance_arm l = 7 * (length (parts_of l.link.now.condition) + length (parts_of l.link.now.then_part)) + 1
 
 abbrev pub decreases-chains::advance_decision : goal.decreases-chains::advance_decision
-decreases-chains::advance_decision l = 6 * (length (parts_of l.link.now.condition) + length (parts_of l.link.now.then_part) + length (parts_of l.link.now.else_part)) + 4
+decreases-chains::advance_decision l = 7 * (length (parts_of l.link.now.condition) + length (parts_of l.link.now.then_part) + length (parts_of l.link.now.else_part)) + 4
 
 abbrev pub decreases-sweeping::ask_member : goal.decreases-sweeping::ask_member
-decreases-sweeping::ask_member l = 6 * length (parts_of l.goal.now) + 1
+decreases-sweeping::ask_member l = 7 * length (parts_of l.goal.now) + 1
 
 abbrev pub decreases-sweeping::sweep_once : goal.decreases-sweeping::sweep_once
-decreases-sweeping::sweep_once l = 6 * length (all_parts (nodes_of l.goals.now)) + 2
+decreases-sweeping::sweep_once l = 7 * length (all_parts (nodes_of l.goals.now)) + 2
 
 abbrev pub decreases-sweeping::sweep_all : goal.decreases-sweeping::sweep_all
-decreases-sweeping::sweep_all l = 6 * length (all_parts (nodes_of l.goals.now)) + 3
+decreases-sweeping::sweep_all l = 7 * length (all_parts (nodes_of l.goals.now)) + 3
 
 abbrev pub decreases-sweeping::advance_all : goal.decreases-sweeping::advance_all
-decreases-sweeping::advance_all l = 6 * length (all_parts (nodes_of l.goals.now)) + 4
+decreases-sweeping::advance_all l = 7 * length (all_parts (nodes_of l.goals.now)) + 4
 
 abbrev pub decreases-asking::advance_beside : goal.decreases-asking::advance_beside
-decreases-asking::advance_beside l = 6 * length (all_parts (nodes_of l.goals.now)) + 4
+decreases-asking::advance_beside l = 7 * length (all_parts (nodes_of l.goals.now)) + 4
 
 abbrev pub decreases-asking::advance_arms : goal.decreases-asking::advance_arms
-decreases-asking::advance_arms l = 6 * length (all_parts (nodes_of l.arms.now)) + 4
+decreases-asking::advance_arms l = 7 * length (all_parts (nodes_of l.arms.now)) + 4
+
+abbrev pub decreases-asking::advance_within : goal.decreases-asking::advance_within
+decreases-asking::advance_within l = 7 * length (all_parts (joined_by l.goal.now)) + 6
 
 abbrev pub decreases-asking::advance_parts : goal.decreases-asking::advance_parts
-decreases-asking::advance_parts l = 6 * length (all_parts (joined_by l.goal.now)) + 5
+decreases-asking::advance_parts l = 7 * length (all_parts (joined_by l.goal.now)) + 5
 
 abbrev pub invariant-asking::advance_arms-loop-arm : goal.invariant-asking::advance_arms-loop-arm
 invariant-asking::advance_arms-loop-arm l = record {
