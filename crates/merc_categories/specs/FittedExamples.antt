@@ -1,6 +1,5 @@
 -- Worked examples of bodies that are fitted to trees or not, over the types and variables of the examples of categories.
-use Rattle.std.specs.Prelude.{◌≡◌, List, [], ◌∷◌, Some, None, refl}
-use Rattle.merc_goal_tree.specs.declared.goal.Symbol.{Symbol}
+use Rattle.std.specs.Prelude.{◌≡◌, [], ◌∷◌, Some, None, refl}
 use Rattle.merc_grading.specs.GradingExamples.{declared, types, red, green, c, n, is_red}
 use Rattle.merc_categories.specs.Fitted.{AreFitted, typed_as}
 

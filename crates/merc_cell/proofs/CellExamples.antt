@@ -1,10 +1,8 @@
 -- What the definitions of a cell say.
-use Rattle.std.proofs.Common.{◌≡◌, ℕ, ◌+◌, true, false, List, [], inl, inr, refl, arith}
-use Rattle.merc_cell.specs.declared.glance.Slot.{Slot}
+use Rattle.std.proofs.Common.{◌≡◌, ℕ, ◌+◌, true, false, [], inr, refl, arith}
 use Rattle.merc_cell.specs.declared.glance.Slot.TheVariants.{Empty}
 use Rattle.merc_cell.specs.declared.glance.Stage.TheVariants.{Idle, Apart, Met, TookWaiter}
 use Rattle.merc_cell.specs.declared.glance.End.TheVariants.{Open, Full, Poisoned}
-use Rattle.merc_cell.specs.declared.glance.Glance.{Glance}
 use Rattle.merc_cell.specs.Cell.{number, glance, end_of, OneIsHanded, wait_bit, full_bit, poison_bit}
 
 -- the word: nobody stepped, the consumer did, it did and the cell is full or poisoned

@@ -10,7 +10,7 @@ use Rattle.merc_cell.specs.declared.glance.Stage.TheVariants.{Alone, Idle, Holdi
 use Rattle.merc_cell.specs.declared.glance.End.{End}
 use Rattle.merc_cell.specs.declared.glance.End.TheVariants.{Open, Full, Poisoned}
 use Rattle.merc_cell.specs.declared.glance.Glance.{Glance}
-use Rattle.merc_cell.specs.Cell.{has_stepped, handed, number, glance, lone, begun, Agree, idle_idle, idle_holding, holding_idle, holding_holding, apart_idle, apart_holding, idle_full, holding_full, idle_poisoned, holding_poisoned, met_full, took_waiter_full, took_both_full, met_poisoned, took_waiter_poisoned, full_met, full_took_waiter, full_took_both, poisoned_met, poisoned_took_waiter, HasWaiter, WaiterAt, HasValue, ValueAt, Two, Cases, Kept, end_of, second, own_slot, wait_bit, IsBegun, IsAt, last, Grabbed, Waited, Signalled, Spoilt, GotWaiter, GotValue, OneIsHanded}
+use Rattle.merc_cell.specs.Cell.{has_stepped, handed, number, glance, lone, begun, Agree, idle_idle, idle_holding, holding_idle, holding_holding, apart_idle, apart_holding, idle_full, holding_full, idle_poisoned, holding_poisoned, met_full, took_waiter_full, took_both_full, met_poisoned, took_waiter_poisoned, full_met, full_took_waiter, full_took_both, poisoned_met, poisoned_took_waiter, HasWaiter, WaiterAt, HasValue, ValueAt, Two, Cases, Kept, end_of, second, own_slot, wait_bit, IsBegun, IsAt, Grabbed, Waited, Signalled, Spoilt, GotWaiter, GotValue, OneIsHanded}
 
 abbrev pub is_alone : Stage → Bool
 is_alone Alone = true

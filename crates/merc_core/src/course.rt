@@ -1,7 +1,6 @@
 //! The root's items, and how far each script among them goes.
 ghost use Rattle.std.specs.Prelude.{◌≡◌, ◌+◌, ◌<◌, ℕ, length};
 ghost use Rattle.merc_script.specs.Script.{Script};
-ghost use Rattle.merc_core.specs.declared.branch.Branch.{Branch as CoreBranch};
 ghost use Rattle.merc_core.specs.Forking.{past_script};
 ghost use Rattle.merc_core.specs.Standing.{IsLeft, IsNext};
 

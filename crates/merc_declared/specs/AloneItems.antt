@@ -1,5 +1,5 @@
 -- Clauses and declarations of a file that do not go together.
-use Rattle.std.specs.Prelude.{◌≡◌, ℕ, Bool, true, false, ◌&&◌, ◌||◌, not, List}
+use Rattle.std.specs.Prelude.{◌≡◌, ℕ, Bool, false, ◌&&◌, ◌||◌, not, List}
 use Rattle.std.specs.List.{list_any}
 use Rattle.merc_base.specs.FirstPlace.{StandsAt}
 use Rattle.merc_base.specs.declared.groups.Key.{Key}

@@ -1,6 +1,6 @@
 -- The mode declarations of the file's predicates, counted by their keys.
 use Rattle.std.specs.Prelude.{◌≡◌, ◌+◌, Bool, false, not, nat_lt, ◌||◌, ◌&&◌, List, [], ◌∷◌, Option, Some, None, is_some, is_none, if◌then◌else◌}
-use Rattle.std.specs.List.{list_any, list_all, count_by}
+use Rattle.std.specs.List.{list_any, count_by}
 use Rattle.std.specs.Option.{unwrap_or}
 use Rattle.std.specs.Map.{lookup}
 use Rattle.merc_base.specs.declared.place.Place.{Place}
@@ -8,8 +8,6 @@ use Rattle.merc_base.specs.declared.refusal.Rule.TheVariants.{MissingMode, Limit
 use Rattle.merc_base.specs.declared.refusal.Detail.TheVariants.{Plain, Limit}
 use Rattle.merc_base.specs.declared.refusal.LimitName.TheVariants.{Modes}
 use Rattle.merc_base.specs.declared.refusal.Refusal.{Refusal}
-use Rattle.merc_tree.specs.Term.{Term}
-use Rattle.merc_item_forms.specs.Forms.{is_moded}
 use Rattle.merc_declared.specs.declared.mode_counts.ModeCount.{ModeCount}
 use Rattle.merc_declared.specs.declared.mode_counts.ModeCounts.{ModeCounts}
 use Rattle.merc_item_forms.specs.Items.{Item, PredicateItem}

@@ -6,7 +6,7 @@ ghost use Rattle.merc_tree.specs.Shape.{arguments_of};
 ghost use Rattle.merc_tree.specs.Postfix.{shapes_of};
 ghost use Rattle.merc_item_forms.specs.Forms.{argument_type};
 ghost use Rattle.merc_base.specs.declared.groups.Key.{Key as key_record};
-ghost use Rattle.merc_entries.specs.Entries.{Entry as entry_record, is_key, types_of};
+ghost use Rattle.merc_entries.specs.Entries.{Entry as entry_record, is_key};
 ghost use Rattle.merc_declared.specs.UnknownTypes.{HasUnknownType, has_unknown};
 ghost use Rattle.merc_entries.specs.EntryValue.{entry_value, entry_values, AreInOrder, place_at};
 ghost use Rattle.merc_item_forms.specs.ItemValue.{item_value};

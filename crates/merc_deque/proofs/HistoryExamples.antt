@@ -1,9 +1,8 @@
 -- What the definitions of a deque's history say.
 use Rattle.std.proofs.Common.{◌≡◌, ℕ, List, [], ◌∷◌, refl, arith}
 use Rattle.merc_deque.specs.declared.moves.Kind.TheVariants.{Pushed, Popped, Stole}
-use Rattle.merc_deque.specs.declared.moves.Move.{Move}
 use Rattle.merc_deque.proofs.Keeping.{lost_none}
-use Rattle.merc_deque.specs.History.{move, moves_of, Leaves, none, pushes, pops, steals, NothingIsLost}
+use Rattle.merc_deque.specs.History.{move, moves_of, Leaves, none, pushes, pops, steals}
 
 -- of three sparks the thief takes the first, and the worker the last
 pub leaves-middle : Leaves {T = ℕ} (move 0 Pushed 7 ∷ move 0 Pushed 8 ∷ move 0 Pushed 9 ∷ move 1 Stole 7 ∷ move 0 Popped 9 ∷ []) (8 ∷ [])

@@ -1,5 +1,5 @@
 //! The history of a deque, which exists in the proofs alone, and what each call tells of it.
-ghost use Rattle.std.specs.Prelude.{ℕ, List, []};
+ghost use Rattle.std.specs.Prelude.{ℕ, []};
 ghost use Rattle.merc_deque.specs.declared.moves.Kind.TheVariants.{Pushed, Popped, Stole};
 ghost use Rattle.merc_deque.specs.History.{Kept, newcomer, Told, Emptied, HeldFew};
 

@@ -1,6 +1,6 @@
 //! How a deque of sparks is made.
-ghost use Rattle.std.specs.Prelude.{◌≡◌, ◌≤◌, ℕ, Some, IfOk, length, slice_get};
-ghost use Rattle.crossbeam_deque.specs.Handles.{IsPassOf, view, worker_deque, worker_view, worker_capacity, worker_index, stealer_deque};
+ghost use Rattle.std.specs.Prelude.{◌≡◌, ◌≤◌, ℕ, IfOk, length};
+ghost use Rattle.crossbeam_deque.specs.Handles.{worker_deque, worker_view, worker_capacity, worker_index, stealer_deque};
 ghost use Rattle.merc_deque.specs.History.{newcomer, first_capacity};
 ghost use Rattle.merc_deque.specs.Passes.{AreNew};
 

@@ -1,6 +1,6 @@
 //! The two ends of a deque of sparks.
-ghost use Rattle.std.specs.Prelude.{◌≡◌, ◌+◌, ◌<◌, ◌≤◌, ◌⊎◌, [], ◌∷◌, IfSome, MatchOption, MatchResult};
-ghost use Rattle.crossbeam_deque.specs.Handles.{IsPassOf, SamePass, SameWorker, view, taken, worker_flavor, worker_view, worker_capacity, worker_index, stealer_deque, stealer_flavor};
+ghost use Rattle.std.specs.Prelude.{◌≡◌, ◌+◌, ◌<◌, ◌≤◌, ◌⊎◌, [], ◌∷◌, MatchOption, MatchResult};
+ghost use Rattle.crossbeam_deque.specs.Handles.{IsPassOf, SameWorker, worker_flavor, worker_view, worker_capacity, worker_index, stealer_deque, stealer_flavor};
 ghost use Rattle.merc_deque.specs.declared.moves.Kind.TheVariants.{Pushed, Popped};
 ghost use Rattle.merc_deque.specs.History.{Made, Emptied};
 ghost use Rattle.merc_deque.specs.Passes.{IsNew};

@@ -4,7 +4,7 @@ use Rattle.std.specs.List.{list_any}
 use Rattle.std.proofs.lemmas.List.{append_assoc, append-nil}
 use Rattle.std.proofs.lemmas.Bool.Decides.{nat_tests}
 use Rattle.merc_base.specs.Names.{error_name, bool_name, maybe_name, require_name}
-use Rattle.merc_base.specs.FirstPlace.{NeverFalls, IsLeast, earlier}
+use Rattle.merc_base.specs.FirstPlace.{NeverFalls, IsLeast}
 use Rattle.merc_base.specs.declared.place.Place.{Place}
 use Rattle.merc_base.proofs.FirstPlaceLaws.{least_along, least_earlier, never_falls_before}
 use Rattle.merc_item_forms.specs.Items.{Item}

@@ -16,8 +16,7 @@ use Rattle.merc_terms.specs.Texts.{ReadsItems, RefusesText}
 use Rattle.merc_terms.proofs.TextLaws.{ReadsItems-unique, RefusesText-excludes}
 use Rattle.merc_terms.proofs.TextsRead.{items_of_text, items_of_text-right}
 use Rattle.merc_entries.specs.LibraryItems.{bool_items, library_items, list_items, maybe_items}
-use Rattle.merc_entries.specs.Units.{items_of, AreUnits, IsUnit}
-use Rattle.merc_entries.proofs.UnitReading.{all_units}
+use Rattle.merc_entries.specs.Units.{AreUnits, IsUnit}
 
 -- The computation has items for each of these texts.
 abbrev AllRead : List (List ℕ × List ℕ) → Type 0

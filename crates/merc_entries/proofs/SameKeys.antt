@@ -1,12 +1,11 @@
 -- Keys and modes that compare as equal are the same.
-use Rattle.std.proofs.Common.{◌≡◌, ℕ, ◌==◌, ◌&&◌, Bool, true, false, List, [], ◌∷◌, ◌++◌, map, Some, ◌||◌, if◌then◌else◌, refl, ap, sym, ◌∙◌, arith, Ordering, Less, Equal, Greater}
+use Rattle.std.proofs.Common.{◌≡◌, ℕ, ◌==◌, ◌&&◌, Bool, true, false, List, [], ◌∷◌, ◌++◌, map, Some, ◌||◌, if◌then◌else◌, refl, ap, sym, ◌∙◌}
 use Rattle.std.specs.List.{list_any}
 use Rattle.std.specs.Ordering.{is_eq, nat_cmp, bool_cmp, ordering_then}
 use Rattle.std.specs.Cmp.Lexicographic.{slice_cmp}
 use Rattle.std.proofs.lemmas.List.{map-append}
 use Rattle.merc_entries.specs.declared.doubles.modes.Mode.{Mode as CodeMode}
 use Rattle.merc_entries.specs.declared.doubles.again.Declared.{Declared as CodeDeclared}
-use Rattle.merc_base.specs.declared.groups.Key.{Key}
 use Rattle.merc_entries.specs.Entries.{is_key, are_same, is_same_mode}
 use Rattle.merc_entries.specs.ModeValue.{mode_value}
 use Rattle.merc_entries.proofs.KeyLaws.{then-both, same-test}

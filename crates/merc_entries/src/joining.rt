@@ -1,7 +1,6 @@
 //! The items of a file joined with those of the units that it imports.
-ghost use Rattle.std.specs.Prelude.{◌≡◌, [], ◌∷◌, ◌++◌, map, IfOk, OnOk};
-ghost use Rattle.std.specs.Option.{option_copied, unwrap_or};
-ghost use Rattle.merc_entries.specs.Entries.{entries, entries_from, imports, names_of, unit_entries, with_units};
+ghost use Rattle.std.specs.Prelude.{◌≡◌, [], ◌∷◌, ◌++◌, IfOk, OnOk};
+ghost use Rattle.merc_entries.specs.Entries.{entries, imports, names_of, unit_entries, with_units};
 ghost use Rattle.merc_item_forms.specs.Items.{place_of, item_of};
 ghost use Rattle.merc_entries.specs.EntryValue.{entry_values};
 ghost use Rattle.merc_item_forms.specs.ItemValue.{item_value};

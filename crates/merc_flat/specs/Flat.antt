@@ -1,5 +1,5 @@
 -- The clauses of a module in flat form, and a goal that is asked over it.
-use Rattle.std.specs.Prelude.{◌≡◌, ℕ, ◌+◌, List, [], ◌∷◌, length, map, Option, Some, None}
+use Rattle.std.specs.Prelude.{◌≡◌, ℕ, ◌+◌, List, [], ◌∷◌, length, Option, Some, None}
 use Rattle.merc_base.specs.declared.refusal.Refusal.{Refusal}
 use Rattle.merc_tree.specs.Term.{Term, none, list_of}
 use Rattle.merc_tree.specs.declared.declarations.Clause.{Clause}

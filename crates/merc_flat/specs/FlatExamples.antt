@@ -2,8 +2,6 @@
 use Rattle.std.specs.Prelude.{◌≡◌, ℕ, suc, zero, [], ◌∷◌, Option, Some, None, pos, refl}
 use Rattle.std.proofs.Common.{ap}
 use Rattle.merc_base.specs.Names.{ampersand_name, comma_name, true_name}
-use Rattle.merc_base.specs.declared.place.Span.{Span}
-use Rattle.merc_base.specs.declared.refusal.Refusal.{Refusal}
 use Rattle.merc_base.specs.declared.refusal.LimitName.TheVariants.{Conjuncts}
 use Rattle.merc_tree.specs.Term.{Term, Variable, Integer, Application, none, more}
 use Rattle.merc_tree.specs.declared.declarations.Clause.{Clause}

@@ -1,20 +1,18 @@
 -- What is wrong with the goals of clauses and with a goal that is asked: their forms and their size, and then the names in them.
 use Rattle.std.specs.Prelude.{ℕ, ◌+◌, Bool, ◌==◌, ◌&&◌, ◌||◌, not, nat_le, nat_lt, is_none, List, [], ◌∷◌, ◌++◌, length, Option, Some, None, if◌then◌else◌}
-use Rattle.std.specs.Option.{option_map, option_to_list}
-use Rattle.std.specs.List.{filter, flat_map, list_any}
+use Rattle.std.specs.Option.{option_map}
+use Rattle.std.specs.List.{filter, flat_map}
 use Rattle.merc_base.specs.FirstFault.{first_of_faults}
 use Rattle.merc_base.specs.Places.{place_of}
-use Rattle.merc_base.specs.declared.place.Place.{Place}
 use Rattle.merc_base.specs.declared.place.Span.{Span}
 use Rattle.merc_base.specs.declared.refusal.Refusal.{Refusal}
 use Rattle.merc_base.specs.declared.refusal.Rule.TheVariants.{UnknownName, LimitPassed}
 use Rattle.merc_base.specs.declared.refusal.LimitName.{LimitName}
 use Rattle.merc_base.specs.declared.refusal.LimitName.TheVariants.{Variables, Conjuncts}
 use Rattle.merc_base.specs.declared.refusal.Detail.TheVariants.{Plain, Limit}
-use Rattle.merc_tree.specs.Term.{Term, Terms, Variable, Integer, Text, Application, none, more, list_of, span_of}
-use Rattle.merc_tree.specs.declared.declarations.Clause.{Clause}
+use Rattle.merc_tree.specs.Term.{Term, Terms, Application, none, more, list_of}
 use Rattle.merc_tree.specs.declared.declarations.Module.{Module}
-use Rattle.merc_goals.specs.Written.{Written, WrittenGoals, Equal, Compared, Called, Conjunction, Parallel, Disjunction, Conditional, Negated, Quantified, no_goals, more_goals, written}
+use Rattle.merc_goals.specs.Written.{Written, WrittenGoals, Equal, Compared, Called, Conjunction, Parallel, Disjunction, Conditional, Negated, Quantified, no_goals, more_goals}
 use Rattle.merc_goals.specs.Faults.{first_fault, first_span, widest_parallel}
 use Rattle.merc_goal_tree.specs.declared.entries.Root.{Root}
 use Rattle.merc_goal_tree.specs.declared.entries.Root.TheVariants.{Simple}
@@ -22,7 +20,7 @@ use Rattle.merc_goal_tree.specs.Nodes.{Node}
 use Rattle.merc_goal_tree.specs.Parts.{parts_of}
 use Rattle.merc_goal_tree.specs.Variables.{variables_of, distinct}
 use Rattle.merc_known.specs.Known.{callee_in, is_callee, is_constructor}
-use Rattle.merc_flat_form.specs.FlatForm.{argument_terms, is_negation, operation_of}
+use Rattle.merc_flat_form.specs.FlatForm.{is_negation, operation_of}
 
 -- How many variables a goal has.
 

@@ -1,7 +1,7 @@
 //! Modules and goals in flat form.
 ghost use Rattle.std.specs.Prelude.{◌≡◌, [], ◌∷◌, ◌++◌, None, Some, map, IfErr, IfOk, OnOk};
 ghost use Rattle.merc_terms.specs.Items.{IsRefusal};
-ghost use Rattle.merc_goals.specs.Written.{written, written_span};
+ghost use Rattle.merc_goals.specs.Written.{written};
 ghost use Rattle.merc_answer_variables.specs.AnswerVariables.{answer_variables};
 ghost use Rattle.merc_flat.specs.Flat.{clause_form_fault, clause_node, clauses_fault, fault_among, query_fault, query_node};
 ghost use Rattle.merc_flat.specs.ClauseFaults.{asked_fault, name_fault_of};

@@ -1,5 +1,5 @@
 -- The tasks for comparisons and calls give their goals.
-use Rattle.std.proofs.Common.{◌≡◌, ℕ, ◌+◌, Bool, List, [], ◌∷◌, ◌++◌, map, Option, Some, None, refl, ap, sym, ◌∙◌}
+use Rattle.std.proofs.Common.{◌≡◌, ℕ, ◌+◌, Bool, List, [], ◌∷◌, ◌++◌, map, Option, Some, None, refl, ap, ◌∙◌}
 use Rattle.merc_tree.specs.Term.{Term, Terms, Variable, Integer, Text, Application, none, more, list_of}
 use Rattle.merc_tree.specs.Shape.{arguments_of}
 use Rattle.merc_goals.specs.Written.{parts}
@@ -11,7 +11,7 @@ use Rattle.merc_scopes.specs.declared.occurrence.Occurrence.{Occurrence}
 use Rattle.merc_goals.specs.Numbers.{NumberedTerm}
 use Rattle.merc_flat_form.specs.declared.tasks.Task.{Task}
 use Rattle.merc_flat_form.specs.declared.tasks.Task.TheVariants.{Put}
-use Rattle.merc_flat_form.specs.FlatForm.{argument_terms, variable_at, variables_at, naming_all, call_of, called, compare, comparison_of, compared}
+use Rattle.merc_flat_form.specs.FlatForm.{argument_terms, variable_at, naming_all, call_of, called, compare, comparison_of, compared}
 use Rattle.merc_goals.specs.Numbers.{numbered_from}
 use Rattle.merc_flat_form.specs.Numbering.{numbered_arguments, sides_of}
 use Rattle.merc_flat_form.specs.Tasks.{argument_tasks, variable_for, performed, compared_plan}

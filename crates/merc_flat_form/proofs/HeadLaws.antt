@@ -1,9 +1,8 @@
 -- The variables of terms, and the arguments of heads.
-use Rattle.std.proofs.Common.{◌≡◌, ℕ, suc, ◌+◌, ◌<◌, ◌≤◌, ◌==◌, ◌||◌, Bool, true, false, if◌then◌else◌, List, [], ◌∷◌, ◌++◌, length, drop, reverse, refl, ap, sym, ◌∙◌, add-zero, zero-add, arith}
+use Rattle.std.proofs.Common.{◌≡◌, ℕ, ◌+◌, ◌<◌, ◌≤◌, ◌==◌, ◌||◌, Bool, true, false, if◌then◌else◌, List, [], ◌∷◌, ◌++◌, length, drop, reverse, refl, ap, sym, ◌∙◌, add-zero, zero-add, arith}
 use Rattle.std.proofs.lemmas.List.{append_assoc, append-nil, drop_all, reverse-append}
 use Rattle.merc_tree.specs.Term.{Term, Terms, Variable, Integer, Text, Application, none, more, list_of}
 use Rattle.merc_tree.specs.Shape.{shape_of, arguments_of}
-use Rattle.merc_tree.specs.declared.term.Shape.{Shape}
 use Rattle.merc_tree.specs.declared.term.Shape.TheVariants.{Variable as VariableShape}
 use Rattle.merc_goals.specs.Written.{parts, parts_of}
 use Rattle.merc_goal_tree.specs.declared.goal.SimpleGoal.{SimpleGoal}
@@ -12,12 +11,12 @@ use Rattle.merc_scopes.specs.declared.occurrence.Occurrence.{Occurrence}
 use Rattle.merc_scopes.specs.Scopes.{occurrences, occurrences_of}
 use Rattle.merc_goals.specs.Numbers.{NumberedTerm}
 use Rattle.merc_flat_form.specs.declared.tasks.Task.{Task}
-use Rattle.merc_flat_form.specs.declared.tasks.Task.TheVariants.{Give, Put}
-use Rattle.merc_flat_form.specs.FlatForm.{argument_terms, variable_of, head_scope, head_goal, head_goals, naming}
+use Rattle.merc_flat_form.specs.declared.tasks.Task.TheVariants.{Put}
+use Rattle.merc_flat_form.specs.FlatForm.{argument_terms, variable_of, head_scope, head_goal, head_goals}
 use Rattle.merc_goals.specs.Numbers.{numbered_from}
 use Rattle.merc_flat_form.specs.Numbering.{numbered_arguments}
 use Rattle.merc_flat_form.specs.Tasks.{performed}
-use Rattle.merc_flat_form.specs.HeadTasks.{named, head_part, head_parts, head_same, head_task, head_tasks}
+use Rattle.merc_flat_form.specs.HeadTasks.{named, head_parts, head_task, head_tasks}
 use Rattle.merc_flat_form.proofs.TaskLaws.{joined, performed-append}
 use Rattle.merc_flat_form.proofs.GoalLaws.{arguments-listed}
 

@@ -4,12 +4,10 @@ use Rattle.std.proofs.lemmas.Bool.Decides.{nat_tests}
 use Rattle.std.proofs.lemmas.List.{append_assoc, append-nil, length-append}
 use Rattle.std.specs.Option.{is_none}
 use Rattle.merc_base.specs.Names.{minus_name}
-use Rattle.merc_base.specs.declared.place.Span.{Span}
 use Rattle.merc_tree.specs.Term.{Term, Terms, Variable, Integer, Text, Application, none, more, list_of}
-use Rattle.merc_tree.specs.Shape.{shape_of, arguments_of}
 use Rattle.merc_goals.specs.Written.{parts, parts_of}
 use Rattle.merc_goal_tree.specs.declared.goal.SimpleGoal.{SimpleGoal}
-use Rattle.merc_goal_tree.specs.declared.goal.SimpleGoal.TheVariants.{Shape as ShapeGoal, Arithmetic}
+use Rattle.merc_goal_tree.specs.declared.goal.SimpleGoal.TheVariants.{Shape as ShapeGoal}
 use Rattle.merc_goal_tree.specs.declared.goal.Symbol.TheVariants.{Constructor, Integer as IntegerSymbol}
 use Rattle.merc_goal_tree.specs.declared.goal.Operation.{Operation}
 use Rattle.merc_goal_tree.specs.declared.goal.Operation.TheVariants.{Subtract}
@@ -19,8 +17,8 @@ use Rattle.merc_flat_form.specs.declared.tasks.Task.{Task}
 use Rattle.merc_flat_form.specs.declared.tasks.Task.TheVariants.{Give, Put}
 use Rattle.merc_flat_form.specs.FlatForm.{variable_at, variables_at, applied, naming, naming_all, is_negation, operation_of}
 use Rattle.merc_goals.specs.Numbers.{numbered_from}
-use Rattle.merc_flat_form.specs.Numbering.{numbered_arguments, is_negative}
-use Rattle.merc_flat_form.specs.Tasks.{argument_task, argument_tasks, arithmetic, applied_plan, negative_plan, variable_for, goals_of_task, performed, application_by, plan}
+use Rattle.merc_flat_form.specs.Numbering.{is_negative}
+use Rattle.merc_flat_form.specs.Tasks.{argument_task, argument_tasks, applied_plan, variable_for, goals_of_task, performed, application_by, plan}
 
 -- the last argument's task comes last of all, and so stands first
 pub argument_tasks-push : (front : List NumberedTerm) (last : NumberedTerm) → argument_tasks (front ++ last ∷ []) ≡ argument_task last ++ argument_tasks front

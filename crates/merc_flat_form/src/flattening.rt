@@ -1,5 +1,5 @@
 //! How goals are brought into flat form.
-ghost use Rattle.std.specs.Prelude.{◌≡◌, ◌≤◌, ◌+◌, ◌++◌, ◌∷◌, [], IfOk, OnOk};
+ghost use Rattle.std.specs.Prelude.{◌≡◌, ◌≤◌, ◌+◌, ◌++◌, ◌∷◌, [], OnOk};
 ghost use Rattle.merc_goals.specs.Entries.{entries_of};
 ghost use Rattle.merc_goals.specs.Numbers.{clause_limit};
 ghost use Rattle.merc_goals.specs.Written.{parts, written_span};

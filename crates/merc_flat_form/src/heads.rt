@@ -5,7 +5,7 @@ ghost use Rattle.merc_goals.specs.Numbers.{first_limit};
 ghost use Rattle.merc_scopes.specs.Scopes.{is_blank, occurrences};
 ghost use Rattle.merc_flat_form.specs.Levels.{scope_of};
 ghost use Rattle.merc_flat_form.specs.FlatForm.{argument_terms, head_goals, head_scope};
-ghost use Rattle.merc_flat_form.specs.HeadTasks.{head_part, head_parts, head_same, head_task, head_tasks, named};
+ghost use Rattle.merc_flat_form.specs.HeadTasks.{head_part, head_same, head_task, head_tasks, named};
 
 use crate::numbering::numbered_arguments;
 use crate::scope_stack::ScopeStack;

@@ -1,6 +1,6 @@
 //! Goals that leave no choice point behind.
 ghost use Rattle.std.specs.Prelude.{◌≡◌, ◌&&◌, ◌++◌, not, reverse, IfOk, OnOk};
-ghost use Rattle.merc_graded_tree.specs.Nodes.{nodes_of, goal_of, outputs_of, category_of};
+ghost use Rattle.merc_graded_tree.specs.Nodes.{goal_of};
 ghost use Rattle.merc_graded_tree.specs.Roots.{arms_of, bodies_of};
 ghost use Rattle.merc_graded_tree.specs.Views.{viewed};
 ghost use Rattle.merc_meaning.specs.Runs.{answers_once, is_at_most_one};

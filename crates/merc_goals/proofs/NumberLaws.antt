@@ -1,5 +1,5 @@
 -- The numbers of a term's arguments, and of the forms in its plan, keep the limit where those of the term do.
-use Rattle.std.proofs.Common.{◌≡◌, ℕ, ◌+◌, ◌≤◌, ◌==◌, ◌||◌, Bool, true, false, List, [], ◌∷◌, ◌++◌, length, map, Option, Some, None, if◌then◌else◌, refl, subst, arith}
+use Rattle.std.proofs.Common.{◌≡◌, ℕ, ◌+◌, ◌≤◌, ◌==◌, ◌||◌, Bool, true, false, List, [], ◌∷◌, ◌++◌, map, Option, Some, None, if◌then◌else◌, subst, arith}
 use Rattle.std.specs.List.{AllByRecursion}
 use Rattle.merc_base.specs.Names.{fail_name, false_name, if_name, not_name, not_provable_name, true_name, arrow_name}
 use Rattle.merc_base.specs.declared.place.Span.{Span}
@@ -10,12 +10,12 @@ use Rattle.merc_goals.specs.Written.{listed_variables}
 use Rattle.merc_goals.specs.Entries.{FormFits}
 use Rattle.merc_goals.specs.Numbers.{BothFit, Fits, NumberedTerm, left_of, right_of}
 use Rattle.merc_goals.specs.Links.{sides_of, sides, condition_sides, chain}
-use Rattle.merc_goals.specs.Plans.{plan, plain_plan, call_plan, two_plan, members_plan, chain_form, arrow_plan, if_plan, some_by, all_by}
+use Rattle.merc_goals.specs.Plans.{plan, plain_plan, call_plan, two_plan, members_plan, arrow_plan, if_plan, some_by, all_by}
 use Rattle.merc_goals.specs.Roles.{role_of}
 use Rattle.merc_goals.specs.declared.links.Both.{Both}
 use Rattle.merc_goals.specs.declared.planning.Task.{Task}
 use Rattle.merc_goals.specs.declared.planning.Task.TheVariants.{Read, Put}
-use Rattle.merc_goals.specs.declared.goal.Form.TheVariants.{Truth as TruthForm, Failure as FailureForm, Equal as EqualForm, Called as CalledForm, Negated as NegatedForm, WrongForm as NoForm, OutsideProfile as OutsideForm}
+use Rattle.merc_goals.specs.declared.goal.Form.TheVariants.{Truth as TruthForm, Failure as FailureForm, Negated as NegatedForm, WrongForm as NoForm}
 use Rattle.merc_goals.specs.declared.roles.ChainKind.{ChainKind}
 use Rattle.merc_goals.specs.declared.roles.ChainKind.TheVariants.{Conjuncts, ParallelConjuncts, Disjuncts}
 use Rattle.merc_goals.specs.declared.roles.Role.{Role}

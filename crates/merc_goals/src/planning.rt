@@ -4,7 +4,7 @@ ghost use Rattle.merc_tree.specs.Term.{span_of};
 ghost use Rattle.merc_tree.specs.Shape.{shape_of};
 ghost use Rattle.merc_goals.specs.Numbers.{Fits};
 ghost use Rattle.merc_goals.specs.Roles.{role_of};
-ghost use Rattle.merc_goals.specs.Plans.{plan, plan_by, name_plan, unapplied_plan, one_plan, two_plan, chain_form, chain_plan, alternatives_plan, else_plan, conditional_plan, some_plan, all_plan, call_plan, plain_plan};
+ghost use Rattle.merc_goals.specs.Plans.{plan, name_plan, unapplied_plan, one_plan, two_plan, chain_form, chain_plan, alternatives_plan, else_plan, conditional_plan, some_plan, all_plan, call_plan, plain_plan};
 
 use crate::goal::Form;
 use crate::links::{Both, chain, condition_sides, listed_variables, sides};

@@ -1,9 +1,9 @@
 -- Worked examples of symbols that fit their variables' types or not, over the types and variables of the examples of categories.
-use Rattle.std.specs.Prelude.{◌≡◌, true, false, List, [], ◌∷◌, ◌++◌, pos, Some, None, refl}
+use Rattle.std.specs.Prelude.{◌≡◌, true, false, [], ◌∷◌, ◌++◌, pos, Some, None, refl}
 use Rattle.merc_goal_tree.specs.declared.goal.Symbol.TheVariants.{Constructor, Integer, Text}
 use Rattle.merc_graded_tree.specs.declared.basic.BasicGoal.TheVariants.{True, Build}
 use Rattle.merc_graded_tree.specs.declared.entries.Running.TheVariants.{Sequential}
-use Rattle.merc_graded_tree.specs.Nodes.{Node, Conjunction, Conditional, Disjunction, Quantified, Switch, Negation, Basic, nodes_of, no_arms, more_arms}
+use Rattle.merc_graded_tree.specs.Nodes.{Node, Conjunction, Conditional, Disjunction, Quantified, Switch, Negation, nodes_of, no_arms, more_arms}
 use Rattle.merc_grading.specs.Fitting.{are_alike, fellows, AreToldApart, Fits}
 use Rattle.merc_grading.specs.GradingExamples.{declared, types, red, green, box, c, d, n, of, basic, is_red}
 

@@ -1,5 +1,5 @@
 //! Values of a heap compared.
-ghost use Rattle.std.specs.Prelude.{◌≡◌, ℕ, ◌∷◌, ◌↔◌, [], length, take, IfOk, OnOk, IsTrue, IsFalse};
+ghost use Rattle.std.specs.Prelude.{◌≡◌, ℕ, ◌∷◌, ◌↔◌, [], length, IfOk, OnOk, IsTrue, IsFalse};
 ghost use Rattle.merc_value.specs.Block.{AreLower, IsBelow, value_of};
 ghost use Rattle.merc_heap.specs.Heap.{arguments_in};
 ghost use Rattle.merc_heap.specs.Equality.{AreSame, Meets, Notes, pairs};

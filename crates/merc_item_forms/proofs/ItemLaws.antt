@@ -4,7 +4,7 @@ use Rattle.merc_base.specs.Names.{colon_minus_name, grammar_arrow_name, type_arr
 use Rattle.merc_tree.specs.Term.{Term, Variable, Integer, Text, Application, none, more}
 use Rattle.merc_item_forms.specs.Items.{Item, OtherType, OtherGrammar, OtherDeclaration, Formless, TypeItem, ClauseItem, item_of, declaration, nullary, unary, wider, type_item, with_category}
 use Rattle.merc_operands.specs.Members.{chain}
-use Rattle.merc_operands.specs.Operands.{plain_name, operands_of, head_and_category}
+use Rattle.merc_operands.specs.Operands.{operands_of, head_and_category}
 use Rattle.merc_operands.specs.declared.operands.Operands.{Operands}
 use Rattle.merc_operands.specs.declared.operands.Operands.TheVariants.{Zero, One, Two, Many, Qualified, NotApplied}
 

@@ -1,12 +1,11 @@
 -- The first fault of the items of a module: the first of one phase, where the phases before have none.
 use Rattle.std.proofs.Common.{ℕ, ◌<◌, List, arith}
-use Rattle.merc_base.specs.FirstFault.{AtPlaces, at, HasNone, IsFirst, AnswersFirst, IsFirstOf}
+use Rattle.merc_base.specs.FirstFault.{AtPlaces, at, HasNone, AnswersFirst, IsFirstOf}
 use Rattle.merc_base.specs.declared.place.Place.{Place}
 use Rattle.merc_base.specs.declared.refusal.Rule.{Rule}
 use Rattle.merc_base.specs.declared.refusal.Rule.TheVariants.{DeclaredTwice, UnknownType, Undeclared}
 use Rattle.merc_base.specs.declared.refusal.Detail.{Detail}
 use Rattle.merc_base.specs.declared.refusal.Detail.TheVariants.{Plain}
-use Rattle.merc_base.specs.declared.refusal.Refusal.{Refusal}
 use Rattle.merc_base.specs.declared.refusal.Fault.{Fault}
 use Rattle.merc_base.specs.declared.refusal.Fault.TheVariants.{Refused, NoMemory}
 use Rattle.merc_tree.specs.Term.{Term}

@@ -4,7 +4,6 @@ ghost use Rattle.std.specs.List.{flat_map};
 ghost use Rattle.merc_base.specs.Names.{semicolon_name};
 ghost use Rattle.merc_entries.specs.Entries.{with_units, units_of};
 ghost use Rattle.merc_entries.specs.EntryValue.{entry_values};
-ghost use Rattle.merc_item_forms.specs.ItemValue.{item_value};
 ghost use Rattle.merc_operands.specs.Members.{chain};
 ghost use Rattle.merc_item_forms.specs.Items.{TypeItem};
 ghost use Rattle.merc_items.specs.ModuleOf.{constructor_of, clauses_in, head_name, module_of, parameters, pred_decls, type_defs, type_defs_of};

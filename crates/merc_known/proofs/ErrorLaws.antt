@@ -4,7 +4,6 @@ use Rattle.std.proofs.lemmas.Bool.Decides.{nat_tests}
 use Rattle.std.specs.List.{list_any}
 use Rattle.merc_base.specs.Names.{error_name, require_name}
 use Rattle.merc_tree.specs.declared.declarations.Module.{Module}
-use Rattle.merc_known.specs.declared.callee.Callee.{Callee}
 use Rattle.merc_known.specs.declared.callee.Callee.TheVariants.{Predicate, Error}
 use Rattle.merc_known.specs.Known.{allows, callee_in, is_error}
 

@@ -1,10 +1,9 @@
 -- A module `m` that imports `list` and `require`, with a predicate p/1 of its own, predicates q/1 and p/1 of `list`, a type of its own with the
 -- constructor c/0, and a type of `list` with the constructors d/1 and c/0.
-use Rattle.std.specs.Prelude.{◌≡◌, ℕ, true, false, List, [], ◌∷◌, Option, Some, None, refl}
+use Rattle.std.specs.Prelude.{◌≡◌, ℕ, true, false, [], ◌∷◌, Option, Some, None, refl}
 use Rattle.merc_base.specs.Names.{error_name, list_name, require_name}
-use Rattle.merc_base.specs.declared.place.Span.{Span}
 use Rattle.merc_tree.specs.Term.{no_span}
-use Rattle.merc_tree.specs.Types.{IntType, TypeVariable}
+use Rattle.merc_tree.specs.Types.{IntType}
 use Rattle.merc_tree.specs.declared.declarations.Constructor.{Constructor}
 use Rattle.merc_tree.specs.declared.declarations.TypeDef.{TypeDef}
 use Rattle.merc_tree.specs.declared.declarations.PredDecl.{PredDecl}

@@ -5,7 +5,7 @@ use Rattle.std.specs.Ordering.{int_eq}
 use Rattle.std.proofs.lemmas.Int.{SFits-int_wrap}
 use Rattle.merc_goal_tree.specs.declared.goal.Operation.{Operation}
 use Rattle.merc_goal_tree.specs.declared.goal.Operation.TheVariants.{Add, Subtract, Multiply, Quotient, Div, Mod, Rem}
-use Rattle.merc_meaning.specs.Arithmetic.{Result, Gives, ZeroDivisor, wrapped, arithmetic}
+use Rattle.merc_meaning.specs.Arithmetic.{Gives, ZeroDivisor, wrapped, arithmetic}
 
 wrapped-fits : (number : ℤ) → FitsSigned w64 (wrapped number)
 unfolding int_wrap

@@ -1,13 +1,12 @@
 -- Worked examples of programs. The first predicate has two modes, the second has one. Their trees stand in this order.
 use Rattle.std.specs.Prelude.{◌≡◌, ℕ, List, [], ◌∷◌, Option, Some, None, refl}
 use Rattle.merc_base.specs.declared.category.Category.TheVariants.{Semidet}
-use Rattle.merc_base.specs.declared.place.Span.{Span}
 use Rattle.merc_tree.specs.declared.declarations.Arg.{Arg}
 use Rattle.merc_tree.specs.declared.declarations.Arg.TheVariants.{Input, Output}
 use Rattle.merc_tree.specs.declared.declarations.ModeDecl.{ModeDecl}
 use Rattle.merc_tree.specs.declared.declarations.PredDecl.{PredDecl}
 use Rattle.merc_tree.specs.Types.{IntType}
-use Rattle.merc_graded_tree.specs.declared.basic.BasicGoal.TheVariants.{True, Fail, Test}
+use Rattle.merc_graded_tree.specs.declared.basic.BasicGoal.TheVariants.{Test}
 use Rattle.merc_graded_tree.specs.Nodes.{Node}
 use Rattle.merc_meaning.specs.Programs.{body_of_mode, program_with}
 use Rattle.merc_meaning.specs.RunExamples.{basic, failure, nowhere, truth}

@@ -30,7 +30,7 @@ use Rattle.merc_readiness.specs.declared.facts.Facts.{Facts}
 use Rattle.merc_modes.specs.declared.written.Written.{Written}
 use Rattle.merc_readiness.proofs.Binding.{next_known}
 use Rattle.merc_modes.proofs.Emitted.{decision_written, none_written, written_on, written_one, one_written, all_written}
-use Rattle.merc_readiness.proofs.Marking.{known_split, known_length, known_goal, subgoals_length}
+use Rattle.merc_readiness.proofs.Marking.{known_split, known_length, subgoals_length}
 use Rattle.merc_modes.proofs.Walked.{stretch_front, stretch_back, known_next, next_stretch, place_is}
 
 -- the condition and the then part

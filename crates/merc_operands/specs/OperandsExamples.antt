@@ -1,5 +1,5 @@
 -- Worked examples of terms by their operands, which the prover computes, and false statements that it refutes.
-use Rattle.std.specs.Prelude.{◌≡◌, ℕ, List, [], ◌∷◌, Some, None, refl, pos}
+use Rattle.std.specs.Prelude.{◌≡◌, ℕ, [], ◌∷◌, Some, None, refl, pos}
 use Rattle.merc_base.specs.Names.{nil_name, semicolon_name, comma_name, is_name, equal_name, int_name, det_name, module_name, true_name, list_name}
 use Rattle.merc_tree.specs.Term.{Term, Variable, Integer, Text, Application, none, more, no_span}
 use Rattle.merc_operands.specs.Operands.{plain_name, operands_of, head_and_category}

@@ -1,17 +1,17 @@
 -- Marks of how far the parts of a goal have come stay right where more is bound, and tell whether a conjunction can be ordered.
 use Rattle.std.specs.Prelude.{◌≡◌, ℕ, Bool, true, false, List, [], ◌∷◌, length, refl}
-use Rattle.std.proofs.Common.{◌∙◌, ap, sym, subst}
+use Rattle.std.proofs.Common.{◌∙◌, sym}
 use Rattle.merc_base.specs.declared.place.Span.{Span}
 use Rattle.merc_tree.specs.declared.declarations.ModeDecl.{ModeDecl}
-use Rattle.merc_goal_tree.specs.Nodes.{Node, Nodes, Simple, Conjunction, Parallel, Disjunction, Conditional, Negation, Quantified, no_nodes, more_nodes, span_of}
+use Rattle.merc_goal_tree.specs.Nodes.{Node, Nodes, Simple, Conjunction, Parallel, Disjunction, Conditional, Negation, Quantified, no_nodes, more_nodes}
 use Rattle.merc_order.specs.Bound.{Bound, with, Holds}
 use Rattle.merc_order.specs.Moves.{Move, settled}
 use Rattle.merc_order.specs.Order.{binds, from, moves, outputs_of}
-use Rattle.merc_order.specs.Ordered.{Ordereds, put, Sequence, Outcome, Ready, is_ready, Outcomes, AllReady, OneStuck, are_ready, if_all_ready}
-use Rattle.merc_order.proofs.MoveLaws.{holds_with, IsMonotone, AreMonotone}
+use Rattle.merc_order.specs.Ordered.{put, Sequence, Ready, is_ready, Outcomes, AllReady, OneStuck, are_ready, if_all_ready}
+use Rattle.merc_order.proofs.MoveLaws.{holds_with}
 use Rattle.merc_order.specs.Marks.{Marked, no_marks, more_marks, part, unless, left, IsSound, SoundLeft, SoundEach, SoundBeside}
 use Rattle.merc_order.specs.Ways.{Went, NoneReady}
-use Rattle.merc_order.proofs.SweepLaws.{WentOn, went-more, all_went, some_left}
+use Rattle.merc_order.proofs.SweepLaws.{went-more, all_went, some_left}
 use Rattle.merc_order.proofs.FromLaws.{from-more, moves-more}
 
 module _ (total : ℕ → ℕ) (modes : ℕ → List ModeDecl) where

@@ -4,7 +4,7 @@ use Rattle.std.proofs.Common.{◌∙◌, ap, sym, subst}
 use Rattle.merc_order.specs.Bound.{Bound, with, Holds}
 use Rattle.merc_order.specs.Ways.{Removed, here, later, IsReady, CanAll, none, take}
 use Rattle.merc_order.specs.Moves.{Move, Next, fault_in, behind, if_ready_next, next, settled_next, settled}
-use Rattle.merc_order.specs.Ordered.{Ordered, Ordereds, no_goals, more_goals, Outcome, Ready, Stuck, is_ready, Outcomes, AllReady, OneStuck, are_ready, then_all}
+use Rattle.merc_order.specs.Ordered.{Ordered, Outcome, Ready, Stuck, is_ready, Outcomes, AllReady, OneStuck, are_ready, then_all}
 
 pub or_left : (a b : Bool) → a ≡ true → (a || b) ≡ true
 or_left true b h = refl

@@ -1,5 +1,5 @@
 -- The order of a conjunction as it is read: each goal is the leftmost of those left that is ready after those before it.
-use Rattle.std.specs.Prelude.{◌≡◌, ℕ, zero, suc, Bool, true, false, List, [], ◌∷◌, ◌++◌, length, Option, Some, None, refl}
+use Rattle.std.specs.Prelude.{◌≡◌, ℕ, zero, suc, true, List, [], ◌∷◌, ◌++◌, length, Option, Some, None, refl}
 use Rattle.std.proofs.Common.{◌∙◌, ap, sym, subst}
 use Rattle.merc_order.specs.Bound.{Bound, with}
 use Rattle.merc_order.specs.Moves.{Move, Next, fault_in, behind, if_ready_next, next, settled_next, settled}

@@ -2,7 +2,6 @@
 use Rattle.std.specs.Prelude.{ℕ, Bool, true, false, not, ◌&&◌, ◌||◌, nat_lt, List, [], ◌∷◌, ◌++◌, length, Option, Some, None, if◌then◌else◌}
 use Rattle.std.specs.List.{list_all, list_any, filter}
 use Rattle.merc_base.specs.declared.place.Span.{Span}
-use Rattle.merc_base.specs.declared.refusal.Refusal.{Refusal}
 use Rattle.merc_tree.specs.declared.declarations.ModeDecl.{ModeDecl}
 use Rattle.merc_goal_tree.specs.declared.goal.SimpleGoal.{SimpleGoal}
 use Rattle.merc_goal_tree.specs.declared.goal.SimpleGoal.TheVariants.{True, Fail, Same, Shape, Arithmetic, Compare, Raise, Call}
@@ -12,7 +11,7 @@ use Rattle.merc_order.specs.Bound.{Bound, with, among, are_bound, each_once}
 use Rattle.merc_order.specs.CallModes.{taken_from, can_succeed, tested, call_tested}
 use Rattle.merc_order.specs.Faults.{never_ready, binds_outer, unbound_output}
 use Rattle.merc_order.specs.Moves.{Move, settled, beside, each_from}
-use Rattle.merc_order.specs.Ordered.{Ordered, Ordereds, put, Truth, Failure, Assign, Test, Build, Split, Computed, Compared, Raised, Called, Sequence, Beside, Choice, Decision, Denial, Within, Outcome, Ready, Stuck, if_ready, if_all_ready}
+use Rattle.merc_order.specs.Ordered.{put, Truth, Failure, Assign, Test, Build, Split, Computed, Compared, Raised, Called, Sequence, Beside, Choice, Decision, Denial, Within, Outcome, Ready, Stuck, if_ready, if_all_ready}
 
 -- An arm: what it binds, and whether its end can be reached.
 pub record Arm : Type 0 where

@@ -1,12 +1,12 @@
 -- Worked examples of orders, over `f(in, out)`, `p(in)`, `append` with the modes `(in, in, out)` and `(out, out, in)`, `stop(in)`, which is erroneous, and
 -- `either(out)`, whose other mode `either(in)` is a failure. Numbers of bytes tell the goals apart.
-use Rattle.std.specs.Prelude.{◌≡◌, ℕ, ◌+◌, true, false, ◌==◌, ◌||◌, List, [], ◌∷◌, length, pos, refl, if◌then◌else◌}
+use Rattle.std.specs.Prelude.{◌≡◌, ℕ, ◌+◌, true, false, ◌==◌, ◌||◌, List, [], ◌∷◌, pos, refl, if◌then◌else◌}
 use Rattle.merc_base.specs.declared.category.Category.{Category}
 use Rattle.merc_base.specs.declared.category.Category.TheVariants.{Det, Semidet, Multi, Erroneous, Failure as FailureCategory}
 use Rattle.merc_base.specs.declared.place.Span.{Span}
 use Rattle.merc_base.specs.declared.refusal.Refusal.{Refusal}
-use Rattle.merc_base.specs.declared.refusal.Rule.TheVariants.{NeverReady, BindsOuter, UnboundOutput}
-use Rattle.merc_base.specs.declared.refusal.Detail.TheVariants.{Plain, Pair}
+use Rattle.merc_base.specs.declared.refusal.Rule.TheVariants.{NeverReady}
+use Rattle.merc_base.specs.declared.refusal.Detail.TheVariants.{Pair}
 use Rattle.merc_tree.specs.declared.declarations.Arg.{Arg}
 use Rattle.merc_tree.specs.declared.declarations.Arg.TheVariants.{Input, Output}
 use Rattle.merc_tree.specs.declared.declarations.ModeDecl.{ModeDecl}
@@ -17,9 +17,9 @@ use Rattle.merc_goal_tree.specs.declared.goal.Symbol.{Symbol}
 use Rattle.merc_goal_tree.specs.declared.goal.Symbol.TheVariants.{Constructor, Integer}
 use Rattle.merc_goal_tree.specs.Nodes.{Node, Nodes, Simple, Conjunction, Parallel, Disjunction, Conditional, Negation, Quantified, nodes_of}
 use Rattle.merc_goal_tree.specs.Variables.{variables, count}
-use Rattle.merc_order.specs.Bound.{Bound, nothing}
+use Rattle.merc_order.specs.Bound.{nothing}
 use Rattle.merc_order.specs.Faults.{never_ready, binds_outer, unbound_output}
-use Rattle.merc_order.specs.Ordered.{Ordered, Ordereds, no_goals, more_goals, put, Truth, Failure, Assign, Test, Build, Split, Computed, Compared, Raised, Called, Sequence, Beside, Choice, Decision, Denial, Within, Outcome, Ready, Stuck}
+use Rattle.merc_order.specs.Ordered.{Ordered, Ordereds, no_goals, more_goals, put, Truth, Failure, Assign, Test, Build, Split, Computed, Called, Sequence, Beside, Choice, Decision, Denial, Within, Outcome, Ready, Stuck}
 use Rattle.merc_order.specs.Order.{from, reached, binds}
 
 abbrev pub at : ℕ → Span

@@ -1,20 +1,18 @@
 -- Procedures with their order, and what is wrong with others. The goals and predicates are those of the examples of orders.
-use Rattle.std.specs.Prelude.{◌≡◌, ℕ, ◌+◌, true, false, ◌==◌, List, [], ◌∷◌, Option, Some, None, refl}
-use Rattle.merc_base.specs.declared.category.Category.TheVariants.{Det, Multi}
-use Rattle.merc_base.specs.declared.place.Span.{Span}
+use Rattle.std.specs.Prelude.{◌≡◌, ℕ, ◌+◌, true, false, ◌==◌, List, [], ◌∷◌, Some, None, refl}
+use Rattle.merc_base.specs.declared.category.Category.TheVariants.{Det}
 use Rattle.merc_tree.specs.Types.{IntType}
-use Rattle.merc_tree.specs.declared.declarations.Arg.{Arg}
 use Rattle.merc_tree.specs.declared.declarations.Arg.TheVariants.{Input, Output}
 use Rattle.merc_tree.specs.declared.declarations.ModeDecl.{ModeDecl}
 use Rattle.merc_tree.specs.declared.declarations.PredDecl.{PredDecl}
-use Rattle.merc_goal_tree.specs.declared.goal.SimpleGoal.TheVariants.{True, Fail, Same, Shape, Call}
-use Rattle.merc_goal_tree.specs.Nodes.{Node, Simple, Conjunction, nodes_of}
-use Rattle.merc_graded_tree.specs.declared.basic.BasicGoal.TheVariants.{True as TrueGoal, Assign as AssignGoal, Test as TestGoal, Build as BuildGoal, Split as SplitGoal, Call as CallGoal}
+use Rattle.merc_goal_tree.specs.declared.goal.SimpleGoal.TheVariants.{True, Fail, Same}
+use Rattle.merc_goal_tree.specs.Nodes.{Node, Simple}
+use Rattle.merc_graded_tree.specs.declared.basic.BasicGoal.TheVariants.{True as TrueGoal, Test as TestGoal, Build as BuildGoal, Split as SplitGoal, Call as CallGoal}
 use Rattle.merc_graded_tree.specs.declared.entries.Running.TheVariants.{Sequential}
-use Rattle.merc_graded_tree.specs.Nodes.{Node as OrderedNode, node, Basic, Conjunction as OrderedConjunction, nodes_of as ordered_nodes}
+use Rattle.merc_graded_tree.specs.Nodes.{node, Basic, Conjunction as OrderedConjunction, nodes_of as ordered_nodes}
 use Rattle.merc_order.specs.Faults.{never_ready, unbound_output}
 use Rattle.merc_order.specs.Ordered.{Ordered, put, Failure, Split, Called, Sequence, no_goals, more_goals, Ready, Stuck}
-use Rattle.merc_order.specs.OrderExamples.{at, mode, modes, f, p, append, x, y, z, one, pair, is_one, call, both, built}
+use Rattle.merc_order.specs.OrderExamples.{at, mode, modes, f, append, x, y, z, one, pair, is_one, call}
 use Rattle.merc_order.specs.Spelt.{spelt, twins}
 use Rattle.merc_order.specs.Procedures.{bound_at, numbers_below, procedure_from, query_from, order_fault, first_fresh, tree_of, procedure_trees, IsProcedure}
 

@@ -1,7 +1,7 @@
 //! Where the variables of a body occur.
 ghost use Rattle.std.specs.Prelude.{◌≡◌, ◌<◌, ◌≤◌, ◌+◌, ◌++◌, ◌∷◌, [], ◌||◌, ℕ, false, Some, None, length, take, drop, slice_get, IfOk, OnOk, OnErr};
 ghost use Rattle.std.specs.List.{slice_index_or};
-ghost use Rattle.merc_goal_tree.specs.Variables.{variables, variables_of};
+ghost use Rattle.merc_goal_tree.specs.Variables.{variables};
 ghost use Rattle.merc_order.specs.Bound.{among};
 ghost use Rattle.merc_order.specs.Procedures.{beyond};
 ghost use Rattle.merc_readiness.specs.Reaches.{reaching, end_of, first_since};

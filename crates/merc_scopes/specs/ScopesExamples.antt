@@ -1,10 +1,9 @@
 -- Worked examples of the variables of goals, which the prover computes, and false statements that it refutes.
-use Rattle.std.specs.Prelude.{◌≡◌, ℕ, ◌==◌, Bool, true, false, List, [], ◌∷◌, Some, None, codes, refl}
+use Rattle.std.specs.Prelude.{◌≡◌, ℕ, ◌==◌, Bool, true, false, [], ◌∷◌, Some, None, codes, refl}
 use Rattle.merc_base.specs.Names.{less_name}
 use Rattle.merc_base.specs.declared.place.Span.{Span}
 use Rattle.merc_tree.specs.Term.{Term, Variable, Application, none, more}
-use Rattle.merc_goals.specs.Written.{Written, WrittenGoals, no_goals, more_goals, Equal, Compared, Called, Conjunction, Parallel, Disjunction, Conditional, Negated, Quantified}
-use Rattle.merc_scopes.specs.declared.occurrence.Occurrence.{Occurrence}
+use Rattle.merc_goals.specs.Written.{Written, no_goals, more_goals, Equal, Compared, Called, Conjunction, Parallel, Disjunction, Conditional, Negated, Quantified}
 use Rattle.merc_scopes.specs.Scopes.{at_of, free, introduced, is_blank, occurrence, own, shared}
 
 -- The names `X`, `Y` and `Z`, `_`, and `a` have numbers behind those of the constants.

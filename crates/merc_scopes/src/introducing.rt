@@ -5,7 +5,7 @@ ghost use Rattle.merc_goals.specs.Entries.{entries_of, with_form};
 ghost use Rattle.merc_scopes.specs.declared.occurrence.Occurrence.{Occurrence as occurrence_record};
 ghost use Rattle.merc_scopes.specs.Scopes.{is_blank, own, without};
 ghost use Rattle.merc_scopes.specs.Bindings.{AreBindings};
-ghost use Rattle.merc_scopes.specs.FirstPlaces.{Holds, Lists};
+ghost use Rattle.merc_scopes.specs.FirstPlaces.{Holds};
 ghost use Rattle.merc_scopes.specs.Standing.{AllHold, Stands, IsJoined, GoesOn, needs};
 
 use crate::Occurrence;

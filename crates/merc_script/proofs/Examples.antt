@@ -1,14 +1,12 @@
 -- Outcomes that are joined, scripts as items, and places in them.
-use Rattle.std.proofs.Common.{◌≡◌, ◌≢◌, ℕ, List, [], ◌∷◌, refl, lit≤, arith}
-use Rattle.std.specs.Prelude.{Option, Some, None, pos}
+use Rattle.std.proofs.Common.{◌≡◌, ◌≢◌, ℕ, [], ◌∷◌, refl, lit≤, arith}
+use Rattle.std.specs.Prelude.{Some, None, pos}
 use Rattle.merc_value.specs.Value.{Int}
 use Rattle.merc_value.specs.declared.word.Word.TheVariants.{Int as IntWord}
 use Rattle.merc_script.specs.Cells.{value_shown}
-use Rattle.merc_script.specs.declared.outcome.Outcome.{Outcome}
 use Rattle.merc_script.specs.declared.outcome.Outcome.TheVariants.{Ok as Fine, Raise, Limit, Starved, NoMemory}
-use Rattle.merc_script.specs.declared.items.Item.{Item}
 use Rattle.merc_script.specs.declared.items.Item.TheVariants.{Tick, Wait, Signal, Fork, End}
-use Rattle.merc_script.specs.Script.{Script, Ends, TickThen, WaitThen, SignalThen, ForkThen, Children, NoChild, Child, end_of, ends, count, size}
+use Rattle.merc_script.specs.Script.{Script, Ends, TickThen, WaitThen, SignalThen, ForkThen, NoChild, Child, end_of, ends, size}
 use Rattle.merc_script.specs.Joining.{joined, later, HasFewSteps}
 use Rattle.merc_script.specs.Items.{items_of, script_of}
 use Rattle.merc_script.specs.Counting.{count_in}

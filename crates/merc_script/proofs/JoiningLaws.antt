@@ -1,9 +1,9 @@
 -- Outcomes that are joined one after the other are joined as a whole.
-use Rattle.std.proofs.Common.{◌≡◌, ℕ, ◌+◌, Bool, true, false, List, [], ◌∷◌, refl, ap, sym, ◌∙◌, arith}
+use Rattle.std.proofs.Common.{◌≡◌, ℕ, ◌+◌, Bool, true, false, List, [], ◌∷◌, refl, ◌∙◌}
 use Rattle.std.specs.Prelude.{if◌then◌else◌, nat_le}
 use Rattle.merc_script.specs.declared.outcome.Outcome.{Outcome}
 use Rattle.merc_script.specs.declared.outcome.Outcome.TheVariants.{Ok as Fine, Raise, Limit, Starved, NoMemory}
-use Rattle.merc_script.specs.Joining.{walk, lacks_memory, joined, joined_with, joined_behind}
+use Rattle.merc_script.specs.Joining.{walk, lacks_memory, joined, joined_behind}
 
 behind-lack : (limit : ℕ) (os : List Outcome) → joined_behind limit NoMemory os ≡ NoMemory
 behind-lack limit [] = refl

@@ -7,7 +7,7 @@ use Rattle.merc_script.specs.declared.items.Item.{Item}
 use Rattle.merc_script.specs.declared.items.Fork.{Fork as ForkData}
 use Rattle.merc_script.specs.declared.items.Item.TheVariants.{Tick, Wait, Signal, Fork, End}
 use Rattle.merc_script.specs.Script.{Script, Ends, TickThen, WaitThen, SignalThen, ForkThen, Children, NoChild, Child, count}
-use Rattle.merc_script.specs.Items.{items_of, items_in, children_of, first_of, opened, scripts_in, script_of, IsScript}
+use Rattle.merc_script.specs.Items.{items_of, items_in, children_of, first_of, opened, scripts_in, IsScript}
 use Rattle.merc_script.specs.Counting.{unless_none, opened_count, count_opened, count_in}
 
 abbrev pub all_items : List Script → List Item

@@ -1,7 +1,7 @@
 -- How a script lies in a list of items: each Fork before its children, the children one after the other, each up to its
 -- end, and then what follows the Fork. So the place of an item says how many items and ends come before it where the
 -- children of each Fork run before what follows.
-use Rattle.std.specs.Prelude.{◌≡◌, ℕ, suc, List, [], ◌∷◌, ◌++◌, take, drop}
+use Rattle.std.specs.Prelude.{◌≡◌, ℕ, List, [], ◌∷◌, ◌++◌, take, drop}
 use Rattle.merc_script.specs.declared.outcome.Outcome.TheVariants.{Starved}
 use Rattle.merc_script.specs.declared.items.Fork.{Fork}
 use Rattle.merc_script.specs.declared.items.Item.{Item}

@@ -1,7 +1,7 @@
 -- What the definitions of calls and returns say.
 use Rattle.std.proofs.Common.{◌≡◌, List, [], ◌∷◌, refl}
 use Rattle.merc_frames.specs.declared.slot.Slot.{Slot}
-use Rattle.merc_frames.specs.declared.slot.Slot.TheVariants.{Empty, Cell, Mark}
+use Rattle.merc_frames.specs.declared.slot.Slot.TheVariants.{Cell, Mark}
 use Rattle.merc_frames.specs.Stacks.{Dead, GoesOn}
 use Rattle.merc_value.specs.Block.{CellData}
 use Rattle.merc_store.specs.declared.store.Backed.TheVariants.{End as BackedEnd, Dead as BackedDead, On as BackedOn}

@@ -13,7 +13,7 @@ use Rattle.merc_meaning.specs.Steps.{value_at}
 use Rattle.merc_meaning.specs.Arithmetic.{comparison_of}
 use Rattle.merc_code.specs.declared.instruction.Instruction.{Instruction}
 use Rattle.merc_code.specs.declared.instruction.Instruction.TheVariants.{Integer, Arithmetic, Compare}
-use Rattle.merc_code.specs.Steps.{Effect, Binds, Fails, Raises, compares, operates}
+use Rattle.merc_code.specs.Steps.{Effect, Fails, Raises, compares, operates}
 use Rattle.merc_load.specs.Frames.{FitsInstruction}
 use Rattle.merc_frames.specs.declared.slot.Slot.TheVariants.{Empty, Int as IntSlot, Text as TextSlot, Cell as CellSlot, Mark}
 use Rattle.merc_store.specs.Data.{StoreData, with_current}

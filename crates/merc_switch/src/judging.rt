@@ -1,8 +1,8 @@
 //! How disjuncts are taken apart into tasks.
-ghost use Rattle.std.specs.Prelude.{◌≡◌, ◌∷◌, ◌++◌, ◌≤◌, [], true, List, length, map, Some, IfOk, IfSome, OnOk};
+ghost use Rattle.std.specs.Prelude.{◌≡◌, ◌∷◌, ◌++◌, ◌≤◌, [], true, List, map, Some, IfOk, IfSome, OnOk};
 ghost use Rattle.std.specs.List.{list_all, AllByRecursion};
 ghost use Rattle.merc_graded_tree.specs.Nodes.{Node};
-ghost use Rattle.merc_grading.specs.Switches.{grouped, symbol_at, is_there};
+ghost use Rattle.merc_grading.specs.Switches.{symbol_at, is_there};
 ghost use Rattle.merc_switch.specs.declared.tasks.Task.TheVariants.{Judge, Close};
 ghost use Rattle.merc_switch.specs.Handing.{IsHanded};
 ghost use Rattle.merc_switch.specs.Selections.{MayCount};

@@ -1,7 +1,5 @@
 //! How a goal is taken apart into tasks.
 ghost use Rattle.std.specs.Prelude.{◌≡◌, ◌∷◌, ◌++◌, length, IfOk, OnOk};
-ghost use Rattle.merc_graded_tree.specs.Nodes.{outputs_of, category_of};
-ghost use Rattle.merc_graded_tree.specs.Roots.{label_of};
 ghost use Rattle.merc_grading.specs.Switches.{split_variables};
 ghost use Rattle.merc_switch.specs.Plans.{plan, in_turn, disjoined, decided};
 

@@ -1,5 +1,5 @@
 //! Some disjuncts of a disjunction.
-ghost use Rattle.std.specs.Prelude.{◌≡◌, true, filter, IfOk, OnOk};
+ghost use Rattle.std.specs.Prelude.{◌≡◌, true, filter, IfOk};
 ghost use Rattle.std.specs.List.{list_all};
 ghost use Rattle.merc_graded_tree.specs.Nodes.{nodes_of, outputs_of, span_of};
 ghost use Rattle.merc_graded_tree.specs.Variables.{in_nodes};

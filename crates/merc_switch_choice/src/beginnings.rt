@@ -1,6 +1,5 @@
 //! What goals begin with.
 ghost use Rattle.std.specs.Prelude.{◌≡◌, ◌++◌, reverse, IfOk, OnOk};
-ghost use Rattle.merc_graded_tree.specs.Nodes.{nodes_of};
 ghost use Rattle.merc_grading.specs.Switches.{beginning, basic_beginning};
 ghost use Rattle.merc_switch_choice.specs.Beginnings.{Begins, left_with};
 

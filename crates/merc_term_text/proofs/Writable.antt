@@ -1,7 +1,7 @@
 -- What was read from a text can be written.
-use Rattle.std.proofs.Common.{◌≡◌, ℕ, Bool, true, false, ◌==◌, ◌&&◌, List, [], ◌∷◌, Some, None, find, codes, refl, sym, subst, arith}
+use Rattle.std.proofs.Common.{◌≡◌, ℕ, Bool, true, false, ◌==◌, ◌&&◌, List, [], ◌∷◌, Some, None, codes, refl, sym, subst, arith}
 use Rattle.std.specs.Char.{encode_utf8}
-use Rattle.std.proofs.lemmas.Bool.{cond_both, eqb-true, and_parts}
+use Rattle.std.proofs.lemmas.Bool.{eqb-true}
 use Rattle.merc_base.specs.Names.{HoldsFixed, fixed_names, comma_name, cons_name, nil_name}
 use Rattle.merc_base.specs.declared.place.Span.{Span}
 use Rattle.merc_terms.proofs.Table.{infix_name as infix_is_named}
@@ -9,7 +9,6 @@ use Rattle.merc_tokens.specs.declared.token.Token.{Token}
 use Rattle.merc_tokens.specs.declared.token.TokenKind.{TokenKind}
 use Rattle.merc_tree.specs.Term.{Term, Terms, Variable, Integer, Text, Application, none, more, bare, bare_all, with_span, HasWords, HaveWords}
 use Rattle.merc_terms.specs.declared.operators.Operator.{Operator}
-use Rattle.merc_terms.specs.Operators.{operators, is_infix, infix_named}
 use Rattle.merc_terms.specs.Reading.{Spells, SpellsArguments, SpellsItems, IsName, IsQualified, IsInfix}
 use Rattle.merc_terms.specs.Reading.IsName.{plain, left_plain, quoted}
 use Rattle.merc_terms.specs.Reading.IsQualified.{unquoted, quoted as quoted_part}

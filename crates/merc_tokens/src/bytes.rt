@@ -1,7 +1,7 @@
 //! Classes of bytes, and the longest runs of them.
 ghost use Rattle.std.specs.Prelude.{◌≡◌, ◌≤◌, ◌==◌, length, drop};
 ghost use Rattle.std.specs.List.{prefix_len};
-ghost use Rattle.merc_tokens.specs.Bytes.{is_word, is_letter, is_graphic, digit_of, is_digit_of, is_underscore, start_of, class_test, begins_with, next_is};
+ghost use Rattle.merc_tokens.specs.Bytes.{is_word, is_letter, is_graphic, digit_of, is_digit_of, start_of, class_test, begins_with, next_is};
 
 // The bytes that graphic names are made of.
 const GRAPHIC: &[u8] = b"+-*/\\^<>=~:.?@#&$";

@@ -2,8 +2,8 @@
 ghost use Rattle.std.specs.Prelude.{◌≡◌, ◌+◌, ◌≤◌, ◌&&◌, ◌==◌, drop, length, reverse, slice_get, IfSome, Some, option_map};
 ghost use Rattle.std.specs.Str.{continuation_len, chars};
 ghost use Rattle.std.specs.List.{prefix_len};
-ghost use Rattle.merc_tokens.specs.Bytes.{class_test, is_underscore};
-ghost use Rattle.merc_tokens.specs.Integers.{within_limit, digits_value, digits_len, more_digits_len, based_integer, first_character, front_character, front_escape, character_at, form_of, integer_at, character_integer};
+ghost use Rattle.merc_tokens.specs.Bytes.{is_underscore};
+ghost use Rattle.merc_tokens.specs.Integers.{within_limit, digits_value, digits_len, more_digits_len, based_integer, first_character, front_character, front_escape, character_at, form_of, integer_at};
 ghost use Rattle.merc_tokens.specs.declared.bytes.Class.TheVariants.{Digits};
 
 use crate::bytes::{Class, begins_with_digit, digit_of, run_len};

@@ -1,6 +1,5 @@
 //! The top call.
 ghost use Rattle.std.specs.Prelude.{◌≡◌, ◌<◌, ◌≤◌, All, ℕ, IfOk, false, [], ◌∷◌, length};
-ghost use Rattle.std.specs.List.{flat_map};
 ghost use Rattle.merc_top.specs.Loading.{file_limit};
 ghost use Rattle.merc_top.specs.Output.{IsCheckDue, refusal_line, text_of, too_long_line};
 ghost use Rattle.merc_top.specs.Statuses.{status_told, too_long_status, usage_status};

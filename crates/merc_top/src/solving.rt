@@ -1,5 +1,5 @@
 //! Runs of goals, whose lines are written as the answers come.
-ghost use Rattle.std.specs.Prelude.{◌≡◌, ◌<◌, ℕ, suc, List, [], ◌∷◌, length, IfOk};
+ghost use Rattle.std.specs.Prelude.{◌≡◌, ◌<◌, ℕ, suc, [], ◌∷◌, length, IfOk};
 ghost use Rattle.merc_graded_tree.specs.Nodes.{Node};
 ghost use Rattle.merc_meaning.specs.Trace.{Env, Run, RunDone};
 ghost use Rattle.merc_meaning.specs.Programs.{program_with};

@@ -1,5 +1,5 @@
 //! Writes whole texts to a sink that may take less than it is given.
-ghost use Rattle.std.specs.Prelude.{◌<◌, List, ℕ};
+ghost use Rattle.std.specs.Prelude.{◌<◌, ℕ};
 ghost use Rattle.std.specs.List.{flat_map};
 ghost use Rattle.merc_top.specs.Writing.{Puts, Writes};
 

@@ -3,7 +3,7 @@ use Rattle.std.specs.Prelude.{◌≡◌, ℕ, ◌-◌, ◌==◌, List, [], ◌�
 use Rattle.merc_base.specs.Names.{int_name, string_name}
 use Rattle.merc_tree.specs.declared.types.TypeShape.{TypeShape}
 use Rattle.merc_tree.specs.declared.types.TypeShape.TheVariants.{Variable as VariableShape, Int as IntShape, Text as TextShape, Application as ApplicationShape}
-use Rattle.merc_tree.specs.Types.{TypeExpr, TypeExprs, TypeVariable, IntType, TextType, TypeApplication, no_types, more_types, types_of, type_list}
+use Rattle.merc_tree.specs.Types.{TypeExpr, TypeVariable, IntType, TextType, TypeApplication, no_types, types_of, type_list}
 
 abbrev pub type_shape_of : TypeExpr → TypeShape
 type_shape_of (TypeVariable name) = VariableShape name

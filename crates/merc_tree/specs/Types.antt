@@ -1,6 +1,5 @@
 -- Types, as declarations and the checker of types have them. Names are numbers in a table of names.
-use Rattle.std.specs.Prelude.{◌≡◌, ℕ, ◌==◌, List, [], ◌∷◌, Option, Some, None, if◌then◌else◌}
-use Rattle.merc_tree.specs.Term.{Term, Terms, Variable, Integer, Text, Application, none, more}
+use Rattle.std.specs.Prelude.{◌≡◌, ℕ, ◌==◌, List, [], ◌∷◌, if◌then◌else◌}
 
 -- a type is a type variable, `int`, `string`, or a type's name with arguments
 mutual

@@ -1,5 +1,5 @@
 -- The typings of small goals, over a module that declares nothing.
-use Rattle.std.specs.Prelude.{◌≡◌, ◌<◌, ℕ, zero, suc, pos, List, [], ◌∷◌, Option, Some, None, refl}
+use Rattle.std.specs.Prelude.{◌≡◌, ◌<◌, ℕ, zero, suc, pos, [], ◌∷◌, Option, Some, None, refl}
 use Rattle.std.specs.Option.{IfSome}
 use Rattle.std.proofs.Common.{sym, ◌∙◌, arith}
 use Rattle.merc_tree.specs.Term.{no_span}

@@ -1,5 +1,5 @@
 //! Declared types as equations.
-ghost use Rattle.std.specs.Prelude.{◌≡◌, ◌<◌, List, length, map, reverse, IfOk, OnOk};
+ghost use Rattle.std.specs.Prelude.{◌≡◌, ◌<◌, length, map, reverse, IfOk};
 ghost use Rattle.merc_tree.specs.Types.{TypeApplication, TypeExpr, no_types, replaced, types_of};
 ghost use Rattle.merc_type_table.specs.Table.{type_at};
 ghost use Rattle.merc_type_check.specs.Building.{frames_weight, AreBuilt, Finds, Finishes, HasMore, IsFilled, IsSplit, IsUnderWay};

@@ -20,7 +20,6 @@ impl Model for TypeTable {
 
     ghost Value = { List TypeExpr };
 
-    ghost use Rattle.std.specs.Coded.{codes};
     ghost use Rattle.merc_tree.specs.TypeTerms.{types_code};
 
     ghost coded = { types_code };

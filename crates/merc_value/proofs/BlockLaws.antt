@@ -1,7 +1,7 @@
 -- Each word of a whole block stands for exactly one value.
 use Rattle.std.proofs.Common.{◌≡◌, ℕ, zero, suc, ◌<◌, ◌≤◌, List, [], ◌∷◌, ◌++◌, length, Some, get_or, refl, sym, ap, subst, ◌∙◌, arith, slice_get}
 use Rattle.std.specs.List.{All}
-use Rattle.merc_value.specs.Value.{Value, Values, Con, none}
+use Rattle.merc_value.specs.Value.{Value, Values, Con}
 use Rattle.merc_value.specs.Block.{CellData, BlockData, StandsFor, StandForAll, int, text, atom, cell, nothing, both, IsBelow, AreLower, IsWhole, word_value, word_values, cell_values, value_of, with_cell, no_value}
 use Rattle.merc_value.specs.declared.word.Word.{Word}
 use Rattle.merc_value.specs.declared.word.Word.TheVariants.{Int as IntWord, Text as TextWord, Atom as AtomWord, Cell as CellWord}

@@ -1,5 +1,5 @@
 -- What the definitions of Text say of some values.
-use Rattle.std.specs.Prelude.{◌≡◌, ℕ, pos, negsuc, true, false, List, [], ◌∷◌, codes, refl}
+use Rattle.std.specs.Prelude.{◌≡◌, ℕ, pos, negsuc, true, List, [], ◌∷◌, codes, refl}
 use Rattle.std.specs.Fmt.{digits}
 use Rattle.merc_base.specs.Names.{cons_name, nil_name}
 use Rattle.merc_value.specs.Value.{Value, Int, Text, Con, none, more}

@@ -1,7 +1,7 @@
 -- The values of a block's cells, by place.
 use Rattle.std.proofs.Common.{◌≡◌, ℕ, zero, suc, ◌+◌, ◌<◌, List, [], ◌∷◌, ◌++◌, length, Some, get_or, refl, sym, ap, subst, ◌∙◌, arith, slice_get, length-append}
 use Rattle.std.specs.List.{All}
-use Rattle.merc_value.specs.Value.{Value, Con, none}
+use Rattle.merc_value.specs.Value.{Value, Con}
 use Rattle.merc_value.specs.Block.{CellData, IsBelow, word_value, word_values, cell_value, values_behind, cell_values, no_value}
 use Rattle.merc_value.specs.declared.word.Word.{Word}
 use Rattle.merc_value.specs.declared.word.Word.TheVariants.{Int as IntWord, Text as TextWord, Atom as AtomWord, Cell as CellWord}

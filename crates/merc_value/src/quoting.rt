@@ -1,5 +1,5 @@
 //! Names and texts, each within quotes where it needs them.
-ghost use Rattle.std.specs.Prelude.{◌≡◌, ◌++◌, IfOk, OnOk, OnErr};
+ghost use Rattle.std.specs.Prelude.{◌≡◌, ◌++◌, IfOk, OnOk};
 ghost use Rattle.std.specs.List.{list_all, list_any};
 ghost use Rattle.std.specs.Str.{bytes_eq};
 ghost use Rattle.merc_value.specs.Text.{text_at, escape, quoted, is_word_byte, is_word, is_plain, name_text};

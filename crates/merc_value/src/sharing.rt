@@ -2,7 +2,7 @@
 ghost use Rattle.std.specs.Prelude.{◌≡◌, ◌<◌, ◌≤◌, ◌↔◌, ℕ, [], length, map, slice_get, Some, IfOk, IfSome, IfNone, IsTrue, OnOk};
 ghost use Rattle.std.specs.List.{All};
 ghost use Rattle.merc_value.specs.Value.{Con};
-ghost use Rattle.merc_value.specs.Block.{AreLower, IsBelow, word_values, cell_values, value_of, root_values};
+ghost use Rattle.merc_value.specs.Block.{AreLower, IsBelow, word_values, cell_values, root_values};
 ghost use Rattle.merc_value.specs.Sharing.{AreShared, KeepsShared, IsWordFor, moved, AreMoved};
 
 use crate::block::Cell;

@@ -1,9 +1,9 @@
 //! The text of a value.
 ghost use Rattle.std.specs.Prelude.{◌≡◌, ◌++◌, ◌<◌, ◌∷◌, [], length, slice_get, IfOk, IfSome, OnOk, OnErr};
 ghost use Rattle.merc_base.specs.Characters.{close_code};
-ghost use Rattle.merc_value.specs.Block.{AreLower, IsBelow, cell_values, value_of, root_values};
+ghost use Rattle.merc_value.specs.Block.{AreLower, IsBelow, value_of, root_values};
 ghost use Rattle.merc_value.specs.Text.{value_text, tail_text, arguments_text, others_text};
-ghost use Rattle.merc_value.specs.Writing.{arguments_at, arguments_from, todo_text, pending, IsTodoBelow, AreTodosBelow, piece_text, Takes, AppendsFront};
+ghost use Rattle.merc_value.specs.Writing.{arguments_at, arguments_from, todo_text, IsTodoBelow, piece_text, Takes, AppendsFront};
 
 use crate::block::Cell;
 use crate::quoting::{name_text, quoted, text_of};

@@ -20,18 +20,17 @@ use Rattle.merc_readiness.specs.Bounds.{all_behind}
 use Rattle.merc_modes.specs.Conjuncts.{GoesIfReady, Passing, Amid, SweepGives}
 use Rattle.merc_modes.specs.Positions.{IsAt, IsFirst}
 use Rattle.merc_readiness.specs.Facts.{subgoals, all_subgoals}
-use Rattle.merc_readiness.specs.Outside.{IsStretch}
-use Rattle.merc_readiness.specs.Sweeps.{Extends, AreKnownFrom}
+use Rattle.merc_readiness.specs.Sweeps.{Extends}
 use Rattle.merc_modes.specs.Walking.{Gives, Orders}
 use Rattle.merc_modes.specs.Walks.{Walked, all_settled}
 use Rattle.merc_modes.specs.declared.written.Written.{Written}
-use Rattle.merc_readiness.proofs.Binding.{extends_same, extends_on, extends_all, next_known}
+use Rattle.merc_readiness.proofs.Binding.{extends_same, extends_on, extends_all}
 use Rattle.merc_modes.proofs.Beside.{facts_of_first, facts_from, blank_there, beside_goes, beside_stuck, beside_err, walked_tells, never_stuck}
 use Rattle.merc_readiness.proofs.Marking.{subgoals_length, all_subgoals_length, parts_length}
 use Rattle.merc_modes.proofs.Resuming.{at_next, parts_within, known_from, stretch_from}
 use Rattle.merc_readiness.proofs.Stepping.{facts_of_next}
 use Rattle.merc_modes.proofs.Stepped.{if_stays, if_goes, first_tells, passing_on, none_told, goes_agree, place_from, placed_next, member_passes, member_marks, member_stays, member_goes, seen_same, sweep_on, sweep_back, end_told, end_ready, step_err, sweep_err, rounds_first, fewer_by, rounds_err, rounds_end}
-use Rattle.merc_modes.proofs.Walked.{stretch_front, next_stretch, known_next, walked_on, walked_end, walked_stuck}
+use Rattle.merc_modes.proofs.Walked.{stretch_front, walked_on, walked_end, walked_stuck}
 use Rattle.merc_modes.proofs.Wholes.{next_item, end_within, at_behind, some_parts, undone_is, known_parts, known_own, negation_stuck, negation_binds, negation_ready, quantified_stuck, quantified_ready, disjunction_stuck, disjunction_differs, disjunction_ready, conjunction_stuck, conjunction_ready, parallel_stuck, parallel_ready}
 use Rattle.merc_modes.proofs.+walking.Goals as goal
 use Rattle.merc_modes.proofs.+walking.Answers.Links as links_of

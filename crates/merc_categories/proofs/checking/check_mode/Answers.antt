@@ -1,5 +1,4 @@
-use Rattle.std.proofs.Common.{List, [], ◌∷◌, ◌++◌, refl, sym, ap, ◌-◌, slice_get, ◌∙◌}
-use Rattle.merc_graded_tree.specs.Nodes.{Node}
+use Rattle.std.proofs.Common.{List, [], ◌∷◌, ◌++◌, refl, sym, ap, ◌-◌, ◌∙◌}
 use Rattle.merc_order.specs.Procedures.{bound_at}
 use Rattle.merc_tree.specs.declared.declarations.Arg.{Arg}
 use Rattle.merc_grading.specs.Faults.{finished}

@@ -1,4 +1,4 @@
-use Rattle.std.proofs.Common.{rules, ap}
+use Rattle.std.proofs.Common.{rules}
 use Rattle.merc_cell.proofs.Keeping.{splits}
 use Rattle.merc_cell.proofs.calls.new_cell.Goals as goal
 

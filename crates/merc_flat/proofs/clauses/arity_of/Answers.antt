@@ -1,5 +1,4 @@
 use Rattle.std.proofs.Common.{length, ap, arith}
-use Rattle.merc_goals.specs.Written.{parts}
 use Rattle.merc_flat.proofs.ArityLaws.{fewer_arguments}
 use Rattle.merc_flat.proofs.clauses.arity_of.Goals as goal
 

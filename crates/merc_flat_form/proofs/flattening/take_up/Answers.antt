@@ -1,12 +1,12 @@
-use Rattle.std.proofs.Common.{◌≡◌, ◌∷◌, ◌++◌, true, false, if◌then◌else◌, map, List, Result, Ok, Err, OnOk, length, drop, ap, sym, subst, ◌∙◌}
+use Rattle.std.proofs.Common.{◌≡◌, ◌∷◌, ◌++◌, true, false, if◌then◌else◌, map, Result, Ok, Err, OnOk, ap, subst, ◌∙◌}
 use Rattle.merc_scopes.specs.Scopes.{is_blank}
 use Rattle.merc_known.specs.Known.{callee_in}
 use Rattle.merc_goals.specs.Entries.{GoalEntry}
 use Rattle.merc_goals.specs.declared.goal.Form.TheVariants.{Parallel, Disjunction, Conditional, Negated, Quantified}
-use Rattle.merc_flat_form.specs.Frames.{keeps_of, less}
+use Rattle.merc_flat_form.specs.Frames.{keeps_of}
 use Rattle.merc_flat_form.specs.Steps.{frame_of, kept, simple_goals}
 use Rattle.merc_flat_form.specs.FlatForm.{simple}
-use Rattle.merc_flat_form.specs.declared.frames.Closing.TheVariants.{Keep, Join, JoinParallel, Disjoin, Choose, Negate, Quantify}
+use Rattle.merc_flat_form.specs.declared.frames.Closing.TheVariants.{Keep, Join, JoinParallel, Disjoin, Negate, Quantify}
 use Rattle.merc_flat_form.proofs.TakingUp.{parallel_up, disjunction_up, negated_up, conjunction_up, quantified_up, conditional_up, IsLeaf, is_leaf, leaf_placed, leaf_up, placed, placed_both}
 use Rattle.merc_flat_form.proofs.flattening.take_up.Goals as goal
 

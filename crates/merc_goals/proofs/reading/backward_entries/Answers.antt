@@ -1,6 +1,5 @@
 use Rattle.std.proofs.Common.{◌≡◌, ◌+◌, ◌-◌, ◌∷◌, ◌++◌, [], length, ap, subst, sym}
 use Rattle.merc_goals.specs.Plans.{plan}
-use Rattle.merc_goals.specs.declared.planning.Task.{Task}
 use Rattle.merc_goals.specs.declared.planning.Task.TheVariants.{Read, Put}
 use Rattle.merc_goals.proofs.NumberLaws.{TasksFit, fit_append, fit_popped, plan_fits}
 use Rattle.merc_goals.proofs.Writing.{read_step, put_step}

@@ -2,7 +2,6 @@ use Rattle.std.proofs.Common.{ap, sym, ◌∙◌}
 use Rattle.merc_goals.specs.Written.{written}
 use Rattle.merc_goals.specs.Entries.{entries_of, written_of}
 use Rattle.merc_goals.specs.EntryCode.{written_of-entries_of}
-use Rattle.merc_goals.specs.Numbers.{NumberedTerm}
 use Rattle.merc_goals.proofs.RoleLaws.{goal_at}
 use Rattle.merc_goals.proofs.Writing.{turned}
 use Rattle.merc_goals.proofs.reading.written_goal.Goals as goal

@@ -1,5 +1,5 @@
 -- The items that are left stand before those that are read, which are so many scripts.
-use Rattle.std.proofs.Common.{◌≡◌, ◌++◌, ◌≤◌, List, length, drop}
+use Rattle.std.proofs.Common.{◌≡◌, ◌++◌, ◌≤◌, List, length}
 use Rattle.std.specs.Prelude.{Some}
 use Rattle.merc_script.specs.declared.items.Item.{Item}
 use Rattle.merc_script.specs.Counting.{count_in}

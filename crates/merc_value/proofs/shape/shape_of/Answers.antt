@@ -1,7 +1,7 @@
 -- A cell has the value of its constructor with its arguments' values.
 use Rattle.std.proofs.Common.{◌≡◌, ◌<◌, ◌∙◌, sym, ap, subst, length, arith}
 use Rattle.std.specs.List.{All}
-use Rattle.merc_value.specs.Value.{Value, Con, none}
+use Rattle.merc_value.specs.Value.{Value, Con}
 use Rattle.merc_value.specs.Block.{CellData, IsBelow, cell_values, word_values, value_of, no_value}
 use Rattle.merc_value.specs.Writing.{arguments_of, HasShape}
 use Rattle.merc_value.proofs.Values.{cell_value_at}

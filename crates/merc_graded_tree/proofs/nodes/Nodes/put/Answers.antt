@@ -1,5 +1,5 @@
 -- The label takes the last goals' starts away, and its size counts their entries and itself.
-use Rattle.std.proofs.Common.{◌≡◌, ℕ, ◌≤◌, ◌-◌, ◌+◌, [], ◌∷◌, ◌++◌, length, vec_len, take, get_or, None, ap, ◌∙◌, arith}
+use Rattle.std.proofs.Common.{◌≡◌, ℕ, ◌≤◌, ◌-◌, ◌+◌, [], ◌∷◌, ◌++◌, length, vec_len, take, get_or, ap, ◌∙◌, arith}
 use Rattle.merc_graded_tree.specs.declared.entries.Label.{Label}
 use Rattle.merc_graded_tree.specs.Roots.{arity_of, last_joined}
 use Rattle.merc_graded_tree.specs.Entries.{nodes_from}

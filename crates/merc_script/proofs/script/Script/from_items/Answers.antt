@@ -1,6 +1,4 @@
 use Rattle.std.proofs.Common.{◌≡◌, refl}
-use Rattle.std.specs.Prelude.{Some}
-use Rattle.merc_script.specs.Counting.{count_in}
 use Rattle.merc_script.proofs.Reading.{is_script, one_counted}
 use Rattle.merc_script.proofs.script.Script.from_items.Goals as goal
 
