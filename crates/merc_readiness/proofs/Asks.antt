@@ -1,30 +1,20 @@
 -- What a goal is asked with, and what is told of it.
-use Rattle.std.specs.Prelude.{◌≡◌, ◌≤◌, ◌<◌, ◌+◌, ◌-◌, ℕ, suc, Bool, true, false, not, List, [], ◌∷◌, length, take, drop, refl}
+use Rattle.std.specs.Prelude.{◌≡◌, ◌≤◌, ◌<◌, ◌+◌, ℕ, suc, Bool, List, [], ◌∷◌, length, take, drop}
 use Rattle.std.specs.List.{slice_index_or}
 use Rattle.std.proofs.Common.{◌∙◌, ap, sym, subst, arith}
 use Rattle.std.proofs.lemmas.List.{length-append, take_at, get_or_at, drop_more, drop_all}
 use Rattle.merc_base.specs.declared.place.Span.{Span}
 use Rattle.merc_tree.specs.declared.declarations.ModeDecl.{ModeDecl}
-use Rattle.merc_goal_tree.specs.Nodes.{Node, Nodes, Conjunction, no_nodes, more_nodes, nodes_of, list_of}
+use Rattle.merc_goal_tree.specs.Nodes.{Node, Conjunction, no_nodes, more_nodes, nodes_of}
 use Rattle.merc_goal_tree.specs.Parts.{parts_of, all_parts}
-use Rattle.merc_order.specs.Bound.{Bound, among}
-use Rattle.merc_order.specs.Marks.{left}
-use Rattle.merc_order.specs.Order.{from}
-use Rattle.merc_order.specs.Ordered.{is_ready}
+use Rattle.merc_order.specs.Bound.{among}
 use Rattle.merc_readiness.specs.Asking.{joined_by, AreMarked, AreKnown}
 use Rattle.merc_readiness.specs.Facts.{subgoals, all_subgoals, AreFactsOf}
-use Rattle.merc_readiness.specs.Sweeps.{Extends, BindsGone, AreGone, Swept}
+use Rattle.merc_readiness.specs.Sweeps.{Extends, BindsGone, AreGone}
 use Rattle.merc_readiness.specs.declared.facts.Facts.{Facts}
-use Rattle.merc_readiness.proofs.Conjunctions.{gone_of, left_length, go_on, marked_of_gone, swept_ready, swept_stuck, gone_ready}
+use Rattle.merc_readiness.specs.declared.waiting.Waiting.{Waiting}
+use Rattle.merc_readiness.proofs.Conjunctions.{gone_of}
 use Rattle.merc_readiness.proofs.Marking.{known_goal, known_length, all_subgoals_length, parts_length}
-
-pub not_true : (b : Bool) → not b ≡ true → b ≡ false
-not_true true h = cc
-not_true false h = refl
-
-pub not_false : (b : Bool) → not b ≡ false → b ≡ true
-not_false true h = refl
-not_false false h = cc
 
 -- What was bound since is unbound.
 pub undone : (old new : List ℕ) (mark : ℕ) → Extends old new → mark ≡ length old → take mark new ≡ old
@@ -42,10 +32,6 @@ rest_length goals index goal room is =
 
 pub no_rest : (goals : List Node) (index : ℕ) → length goals ≤ index → nodes_of (drop index goals) ≡ no_nodes
 no_rest goals index h = ap nodes_of (drop_all index goals h)
-
-pub list_length : (goals : List Node) → length (list_of (nodes_of goals)) ≡ length goals
-list_length [] = refl
-list_length (goal ∷ goals) = ap suc (list_length goals)
 
 module _ (total : ℕ → ℕ) (modes : ℕ → List ModeDecl) where
   -- the facts of a goal's parts, and its own
@@ -69,33 +55,10 @@ module _ (total : ℕ → ℕ) (modes : ℕ → List ModeDecl) where
       }
 
   -- the goals of a conjunction, where those that are marked are bound
-  pub gone_at_first : (goals : List Node) (span : Span) (facts : List Facts) (flags : List Bool) (old now : List ℕ) → AreKnown total modes (all_subgoals (nodes_of goals)) facts
-      → AreMarked total modes (Conjunction (nodes_of goals) span) flags (among old) → BindsGone (nodes_of goals) facts flags old now
-      → AreGone total modes (nodes_of goals) (among old) flags (among now) (length (list_of (nodes_of goals)))
-  gone_at_first goals span facts flags old now known m binds =
+  pub gone_at_first : (goals : List Node) (span : Span) (facts : List Facts) (flags : List Bool) (old now : List ℕ) (listed : List Waiting) → AreKnown total modes (all_subgoals (nodes_of goals)) facts
+      → AreMarked total modes (Conjunction (nodes_of goals) span) flags (among old) → BindsGone (nodes_of goals) facts flags old now listed
+      → AreGone total modes (nodes_of goals) (among old) flags (among now) listed
+  gone_at_first goals span facts flags old now listed known m binds =
       let (then, way, sound) = m.sound in
-      gone_of total modes (nodes_of goals) (among old) flags (among now) (length (list_of (nodes_of goals))) m.inner then m.fits m.flags_are way sound
-      (binds total modes m.inner m.fits m.flags_are known)
-      (subst (λ n. length (left total modes (nodes_of goals) m.inner) ≤ n) (sym (list_length goals)) (left_length total modes goals m.inner m.fits))
-
-  -- What a time over the goals tells.
-
-  ended : (goals : Nodes) (start : Bound) (flags : List Bool) (now : Bound) (is_new is_left : Bool) (count : ℕ) (span : Span) → Swept total modes goals start flags now is_new is_left count
-      → AreMarked total modes (Conjunction goals span) flags start
-  ended goals start flags now is_new is_left count span s =
-      marked_of_gone total modes goals start flags now count span (go_on total modes goals start flags now is_new is_left count count s (omega arith))
-
-  pub all_went : (goals : Nodes) (start : Bound) (flags : List Bool) (now : Bound) (is_new is_left : Bool) (count : ℕ) (span : Span) → Swept total modes goals start flags now is_new is_left count
-      → is_left ≡ false → (is_ready (from total modes (Conjunction goals span) start) ≡ true) × AreMarked total modes (Conjunction goals span) flags start
-  all_went goals start flags now is_new is_left count span s h =
-      (swept_ready total modes goals start flags now is_new is_left count span s h, ended goals start flags now is_new is_left count span s)
-
-  pub none_went : (goals : Nodes) (start : Bound) (flags : List Bool) (now : Bound) (is_new is_left : Bool) (count : ℕ) (span : Span) → Swept total modes goals start flags now is_new is_left count
-      → is_left ≡ true → is_new ≡ false → (is_ready (from total modes (Conjunction goals span) start) ≡ false) × AreMarked total modes (Conjunction goals span) flags start
-  none_went goals start flags now is_new is_left count span s h n =
-      (swept_stuck total modes goals start flags now is_new is_left count span s h n, ended goals start flags now is_new is_left count span s)
-
-  pub no_time_left : (goals : Nodes) (start : Bound) (flags : List Bool) (now : Bound) (count : ℕ) (span : Span) → AreGone total modes goals start flags now count → count ≡ 0
-      → (is_ready (from total modes (Conjunction goals span) start) ≡ true) × AreMarked total modes (Conjunction goals span) flags start
-  no_time_left goals start flags now count span g h =
-      (gone_ready total modes goals start flags now span (subst (λ n. AreGone total modes goals start flags now n) h g), marked_of_gone total modes goals start flags now count span g)
+      let (set, are) = binds total modes m.inner m.fits m.flags_are known in
+      gone_of total modes (nodes_of goals) (among old) flags (among now) listed m.inner then m.fits m.flags_are way sound set are

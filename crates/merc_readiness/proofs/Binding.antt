@@ -1,4 +1,4 @@
--- The goals of a conjunction that went are bound at once.
+-- What those of a conjunction's goals bind that went is bound, and the others are listed.
 use Rattle.std.specs.Prelude.{◌≡◌, ◌==◌, ◌+◌, ◌&&◌, ◌||◌, ℕ, suc, Bool, true, false, List, [], ◌∷◌, ◌++◌, length, refl, if◌then◌else◌}
 use Rattle.std.specs.List.{slice_index_or}
 use Rattle.std.proofs.Common.{◌∙◌, ap, sym, subst, arith, eqb-true}
@@ -13,10 +13,12 @@ use Rattle.merc_order.specs.Order.{binds}
 use Rattle.merc_readiness.specs.Asking.{flags_of, Fits, more, AreKnown}
 use Rattle.merc_readiness.specs.Bounds.{behind, all_behind}
 use Rattle.merc_readiness.specs.Facts.{subgoals, all_subgoals, AreFactsOf}
-use Rattle.merc_readiness.specs.Sweeps.{Extends, AreKnownFrom, marked_bind, BindsFrom}
+use Rattle.merc_readiness.specs.Sweeps.{Extends, AreKnownFrom, marked_bind, BindsFrom, ListsBefore, AreLeft, listed_if_left}
 use Rattle.merc_readiness.specs.declared.facts.Facts.{Facts}
+use Rattle.merc_readiness.specs.declared.waiting.Waiting.{Waiting}
 use Rattle.merc_readiness.proofs.Bounds.{or_assoc, or_false, among-append}
 use Rattle.merc_readiness.proofs.Marking.{known_split, known_goal, known_length, marks_length, subgoals_length, own_mark}
+use Rattle.merc_readiness.proofs.Listed.{lists_first, lists_on, lists_last}
 
 -- binding is putting behind
 
@@ -97,12 +99,14 @@ module _ (total : ℕ → ℕ) (modes : ℕ → List ModeDecl) where
   pub bound_behind : (goal : Node) (own : Facts) (old : List ℕ) → AreFactsOf total modes goal own → among (all_behind old own.binds) ≡ with (among old) (binds total modes goal)
   bound_behind goal own old known = fun_ext (λ variable. among_all old own.binds variable ∙ ap (λ b. among old variable || b) (known.binds_are variable))
 
-  one_more : (goal : Node) (rest : Nodes) (facts : List Facts) (flags : List Bool) (at : ℕ) (now target : Bound) (own : ℕ) (mark : Bool) (front : List Bool) (marked : Marked)
-      → Fits (more_nodes goal rest) marked → length front ≡ at → flags ≡ front ++ flags_of marked → AreKnownFrom total modes (all_subgoals (more_nodes goal rest)) facts at
-      → ((variable : ℕ) → target variable ≡ (now variable || marked_bind total modes (more_nodes goal rest) marked variable))
+  one_more : (goal : Node) (rest : Nodes) (facts : List Facts) (flags : List Bool) (at : ℕ) (now target : Bound) (whole : Marked) (index : ℕ) (listed : List Waiting) (own : ℕ) (mark : Bool)
+      (front : List Bool) (marked : Marked) → Fits (more_nodes goal rest) marked → length front ≡ at → flags ≡ front ++ flags_of marked
+      → AreKnownFrom total modes (all_subgoals (more_nodes goal rest)) facts at
+      → ((variable : ℕ) → target variable ≡ (now variable || marked_bind total modes (more_nodes goal rest) marked variable)) → ListsBefore whole index marked listed
       → slice_index_or flags own false ≡ mark → suc own ≡ at + length (parts_of goal)
-      → BindsFrom total modes rest facts flags (at + length (parts_of goal)) (λ variable. now variable || (mark && binds total modes goal variable)) target
-  one_more goal rest facts flags at now target own mark front marked (more g r gone inner others f o) at_is flags_are known target_is mark_is own_is =
+      → BindsFrom total modes rest facts flags (at + length (parts_of goal)) (λ variable. now variable || (mark && binds total modes goal variable)) target whole (suc index)
+      (listed_if_left mark (record { index = index; at = at }) listed)
+  one_more goal rest facts flags at now target whole index listed own mark front marked (more g r gone inner others f o) at_is flags_are known target_is lists mark_is own_is =
       let k = next_known goal rest facts at known in
       let long : length (flags_of inner ++ gone ∷ []) ≡ length (parts_of goal) = marks_length goal inner gone f in
       let shape : flags ≡ front ++ ((flags_of inner ++ gone ∷ []) ++ flags_of others) = flags_are ∙ ap (λ l. front ++ l) (sym (append_assoc (flags_of inner) (gone ∷ []) (flags_of others))) in
@@ -118,36 +122,40 @@ module _ (total : ℕ → ℕ) (modes : ℕ → List ModeDecl) where
         target_is = λ variable. target_is variable
             ∙ sym (or_assoc (now variable) (gone && binds total modes goal variable) (marked_bind total modes rest others variable))
             ∙ ap (λ b. (now variable || (b && binds total modes goal variable)) || marked_bind total modes rest others variable) same;
+        lists = subst (λ b. ListsBefore whole (suc index) others (listed_if_left b (record { index = index; at = at }) listed)) same (lists_on whole inner others gone index at listed lists);
       }
 
   -- the next goal is not marked
-  pub binds_over : (goal : Node) (rest : Nodes) (facts : List Facts) (flags : List Bool) (at own : ℕ) (now target : Bound) → BindsFrom total modes (more_nodes goal rest) facts flags at now target
-      → slice_index_or flags own false ≡ false → suc own ≡ at + length (parts_of goal) → BindsFrom total modes rest facts flags (at + length (parts_of goal)) now target
-  binds_over goal rest facts flags at own now target b mark own_is =
-      subst (λ set. BindsFrom total modes rest facts flags (at + length (parts_of goal)) set target) (fun_ext (λ variable. or_false (now variable)))
-      (one_more goal rest facts flags at now target own false b.front b.marked b.fits b.at_is b.flags_are b.known b.target_is mark own_is)
+  pub binds_over : (goal : Node) (rest : Nodes) (facts : List Facts) (flags : List Bool) (at own : ℕ) (now target : Bound) (whole : Marked) (index : ℕ) (listed : List Waiting)
+      → BindsFrom total modes (more_nodes goal rest) facts flags at now target whole index listed → slice_index_or flags own false ≡ false → suc own ≡ at + length (parts_of goal)
+      → BindsFrom total modes rest facts flags (at + length (parts_of goal)) now target whole (suc index) (listed ++ record { index = index; at = at } ∷ [])
+  binds_over goal rest facts flags at own now target whole index listed b mark own_is =
+      subst (λ set. BindsFrom total modes rest facts flags (at + length (parts_of goal)) set target whole (suc index) (listed ++ record { index = index; at = at } ∷ []))
+      (fun_ext (λ variable. or_false (now variable)))
+      (one_more goal rest facts flags at now target whole index listed own false b.front b.marked b.fits b.at_is b.flags_are b.known b.target_is b.lists mark own_is)
 
   -- The next goal is marked, and what it binds is bound.
-  pub binds_on : (goal : Node) (rest : Nodes) (facts : List Facts) (flags : List Bool) (at own : ℕ) (old : List ℕ) (target : Bound) (found : Facts)
-      → BindsFrom total modes (more_nodes goal rest) facts flags at (among old) target → slice_index_or flags own false ≡ true → suc own ≡ at + length (parts_of goal)
-      → found ≡ slice_index_or facts own found → BindsFrom total modes rest facts flags (at + length (parts_of goal)) (among (all_behind old found.binds)) target
-  binds_on goal rest facts flags at own old target found b mark own_is found_is =
+  pub binds_on : (goal : Node) (rest : Nodes) (facts : List Facts) (flags : List Bool) (at own : ℕ) (old : List ℕ) (target : Bound) (whole : Marked) (index : ℕ) (listed : List Waiting) (found : Facts)
+      → BindsFrom total modes (more_nodes goal rest) facts flags at (among old) target whole index listed → slice_index_or flags own false ≡ true → suc own ≡ at + length (parts_of goal)
+      → found ≡ slice_index_or facts own found
+      → BindsFrom total modes rest facts flags (at + length (parts_of goal)) (among (all_behind old found.binds)) target whole (suc index) listed
+  binds_on goal rest facts flags at own old target whole index listed found b mark own_is found_is =
       let k = next_known goal rest facts at b.known in
       let same : found ≡ k.own = found_is ∙ own_facts goal rest facts at own found k own_is in
       let set : among (all_behind old found.binds) ≡ with (among old) (binds total modes goal) = ap (λ (f : Facts). among (all_behind old f.binds)) same ∙ bound_behind goal k.own old k.own_known in
-      subst (λ s. BindsFrom total modes rest facts flags (at + length (parts_of goal)) s target) (sym set)
-      (one_more goal rest facts flags at (among old) target own true b.front b.marked b.fits b.at_is b.flags_are b.known b.target_is mark own_is)
+      subst (λ s. BindsFrom total modes rest facts flags (at + length (parts_of goal)) s target whole (suc index) listed) (sym set)
+      (one_more goal rest facts flags at (among old) target whole index listed own true b.front b.marked b.fits b.at_is b.flags_are b.known b.target_is b.lists mark own_is)
 
   -- none is left
-  all_bound : (facts : List Facts) (flags : List Bool) (at : ℕ) (now target : Bound) (marked : Marked) → Fits no_nodes marked
-      → ((variable : ℕ) → target variable ≡ (now variable || marked_bind total modes no_nodes marked variable)) → now ≡ target
-  all_bound facts flags at now target marked fits target_is = fun_ext (λ variable. sym (target_is variable ∙ or_false (now variable)))
+  all_bound : (now target : Bound) (marked : Marked) → Fits no_nodes marked → ((variable : ℕ) → target variable ≡ (now variable || marked_bind total modes no_nodes marked variable)) → now ≡ target
+  all_bound now target marked fits target_is = fun_ext (λ variable. sym (target_is variable ∙ or_false (now variable)))
 
-  pub bound_at_last : (facts : List Facts) (flags : List Bool) (at : ℕ) (now target : Bound) → BindsFrom total modes no_nodes facts flags at now target → now ≡ target
-  bound_at_last facts flags at now target b = all_bound facts flags at now target b.marked b.fits b.target_is
+  pub bound_at_last : (facts : List Facts) (flags : List Bool) (at : ℕ) (now target : Bound) (whole : Marked) (index : ℕ) (listed : List Waiting)
+      → BindsFrom total modes no_nodes facts flags at now target whole index listed → (now ≡ target) × AreLeft whole listed
+  bound_at_last facts flags at now target whole index listed b = (all_bound now target b.marked b.fits b.target_is, lists_last whole b.marked index listed b.fits b.lists)
 
   pub bound_at_first : (goals : Nodes) (facts : List Facts) (marked : Marked) (flags : List Bool) (now : Bound) → Fits goals marked → flags ≡ flags_of marked
-      → AreKnown total modes (all_subgoals goals) facts → BindsFrom total modes goals facts flags 0 now (with now (marked_bind total modes goals marked))
+      → AreKnown total modes (all_subgoals goals) facts → BindsFrom total modes goals facts flags 0 now (with now (marked_bind total modes goals marked)) marked 0 []
   bound_at_first goals facts marked flags now fits same known = record {
     front = [];
     marked = marked;
@@ -156,4 +164,5 @@ module _ (total : ℕ → ℕ) (modes : ℕ → List ModeDecl) where
     fits = fits;
     known = record { front = []; back = facts; at_is = refl; facts_are = refl; known = known };
     target_is = λ variable. refl;
+    lists = lists_first marked;
   }

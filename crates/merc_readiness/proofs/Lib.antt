@@ -29,3 +29,4 @@ pub mod Inner
 pub mod Asks
 pub mod Turns
 pub mod Halves
+pub mod Listed

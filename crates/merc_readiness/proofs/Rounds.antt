@@ -1,164 +1,126 @@
--- One time over the goals of a conjunction, from the left: what is kept.
-use Rattle.std.specs.Prelude.{◌≡◌, ◌≤◌, ◌<◌, ◌+◌, ℕ, Bool, true, false, List, [], ◌∷◌, ◌++◌, length}
+-- The marks of a conjunction's goals, of which one is taken apart.
+use Rattle.std.specs.Prelude.{◌≡◌, ◌+◌, ℕ, zero, suc, Bool, true, false, not, List, [], ◌∷◌, ◌++◌, length, take, drop, refl}
 use Rattle.std.proofs.Common.{◌∙◌, ap, sym, subst, arith}
 use Rattle.std.proofs.lemmas.List.{length-append, append_assoc}
 use Rattle.merc_tree.specs.declared.declarations.ModeDecl.{ModeDecl}
-use Rattle.merc_goal_tree.specs.Nodes.{Node, Nodes, more_nodes}
-use Rattle.merc_goal_tree.specs.Parts.{parts_of}
-use Rattle.merc_order.specs.Bound.{Bound, with, Holds}
+use Rattle.merc_goal_tree.specs.Nodes.{Node, Nodes, more_nodes, nodes_of}
+use Rattle.merc_goal_tree.specs.Parts.{parts_of, all_parts}
+use Rattle.merc_order.specs.Bound.{Bound, Holds}
 use Rattle.merc_order.specs.Marks.{Marked, more_marks, unless, kept, move_of, left, IsSound, SoundLeft}
 use Rattle.merc_order.specs.Moves.{Move}
-use Rattle.merc_order.specs.Order.{binds, from, moves}
-use Rattle.merc_order.specs.Ordered.{is_ready}
-use Rattle.merc_order.specs.Ways.{Removed, here, later, Went, went, AllStuck}
-use Rattle.merc_order.proofs.MoveLaws.{or_left}
 use Rattle.merc_order.proofs.Marks.{sound-more, left-more}
 use Rattle.merc_readiness.specs.Asking.{flags_of, joined_by, Fits, more}
-use Rattle.merc_readiness.specs.Sweeps.{new_one, Closed, During}
-use Rattle.merc_readiness.proofs.Marking.{marks_length, regrouped}
+use Rattle.merc_readiness.specs.Sweeps.{new_one, times_left}
+use Rattle.merc_readiness.proofs.Marking.{marks_length}
 
-removed_middle : (before others : List Move) (move : Move) → Removed move (before ++ move ∷ others) (before ++ others)
-removed_middle [] others move = here move others
-removed_middle (first ∷ before) others move = later first move (before ++ move ∷ others) (before ++ others) (removed_middle before others move)
+head_is : (one other : Node) (rest others : List Node) → one ∷ rest ≡ other ∷ others → one ≡ other
+head_is one other rest others same = cc
 
-stuck_more : (before : List Move) (move : Move) (bound : Bound) → AllStuck before bound → is_ready (move.from bound) ≡ false → AllStuck (before ++ move ∷ []) bound
-stuck_more [] move bound stuck this = (this, tt)
-stuck_more (first ∷ before) move bound (one, stuck) this = (one, stuck_more before move bound stuck this)
+kept_front : (went : Bool) (move : Move) (front back : List Move) → kept went move (front ++ back) ≡ kept went move front ++ back
+kept_front true move front back = refl
+kept_front false move front back = refl
 
-moved : (before others : List Move) (move : Move) → before ++ move ∷ others ≡ (before ++ move ∷ []) ++ others
-moved before others move = sym (append_assoc before (move ∷ []) others)
+deeper : (front : List Bool) (went : Bool) (those flags back : List Bool) → flags ≡ those ++ back → front ++ went ∷ flags ≡ (front ++ went ∷ those) ++ back
+deeper front went those flags back is = ap (λ l. front ++ went ∷ l) is ∙ sym (append_assoc front (went ∷ those) back)
 
-module _ (total : ℕ → ℕ) (modes : ℕ → List ModeDecl) (goals : Nodes) (bound : Bound) where
-  -- the same with the next goal's marks taken apart
-  pub record Open (goal : Node) (rest : Nodes) (flags : List Bool) (at : ℕ) (now : Bound) (is_new is_left : Bool) (count : ℕ) : Type 0 where
+module _ (total : ℕ → ℕ) (modes : ℕ → List ModeDecl) where
+  -- all marks, where those of the goal of an index are these
+  pub record Put (goals : Nodes) (marked : Marked) (index : ℕ) (goal : Node) (front back : List Bool) (before behind : List Move) (now : Bound) (inner : Marked) (gone : Bool) : Type 0 where
+    pub marks : Marked
+    pub fits : Fits goals marks
+    pub flags_are : flags_of marks ≡ front ++ ((flags_of inner ++ gone ∷ []) ++ back)
+    pub left_is : left total modes goals marks ≡ before ++ kept gone (move_of total modes goal) behind
+    pub own_is : times_left index marks ≡ new_one (not gone)
+    pub same : (other : ℕ) → (index ≡ other → ⊥) → times_left other marks ≡ times_left other marked
+    pub sound : (later : Bound) → Holds now later → unless gone (IsSound total modes goal inner later) → SoundLeft total modes goals marks later
+
+  -- the marks of the goal of an index taken apart from those before and behind
+  pub record Apart (goals : Nodes) (marked : Marked) (index : ℕ) (goal : Node) (at : ℕ) (now : Bound) : Type 0 where
     pub front : List Bool
-    pub before : List Move
     pub gone : Bool
     pub inner : Marked
-    pub others : Marked
-    pub at_is : length front ≡ at
-    pub flags_are : flags ≡ front ++ ((flags_of inner ++ gone ∷ []) ++ flags_of others)
-    pub fits_inner : Fits (joined_by goal) inner
-    pub fits_others : Fits rest others
-    pub way : Went (moves total modes goals) bound (before ++ kept gone (move_of total modes goal) (left total modes rest others)) now
-    pub sound_inner : unless gone (IsSound total modes goal inner now)
-    pub sound_others : SoundLeft total modes rest others now
-    pub close : (marked : Marked) (later : Bound) → Holds now later → Fits (more_nodes goal rest) marked → SoundLeft total modes (more_nodes goal rest) marked later
-        → Closed total modes goals bound (front ++ flags_of marked) (before ++ left total modes (more_nodes goal rest) marked) later
-    pub stuck : is_new ≡ false → AllStuck before now
-    pub none_left : is_left ≡ false → before ≡ []
-    pub some_left : is_left ≡ true → 0 < length before
-    pub fewer : length (before ++ kept gone (move_of total modes goal) (left total modes rest others)) + new_one is_new ≤ count
+    pub back : List Bool
+    pub before : List Move
+    pub behind : List Move
+    pub front_long : length front ≡ at
+    pub flags_are : flags_of marked ≡ front ++ ((flags_of inner ++ gone ∷ []) ++ back)
+    pub fits : Fits (joined_by goal) inner
+    pub sound : unless gone (IsSound total modes goal inner now)
+    pub left_is : left total modes goals marked ≡ before ++ kept gone (move_of total modes goal) behind
+    pub own_is : times_left index marked ≡ new_one (not gone)
+    pub put : (marks : Marked) (went : Bool) → Fits (joined_by goal) marks → Put goals marked index goal front back before behind now marks went
 
-  opened : (goal : Node) (rest : Nodes) (flags : List Bool) (at : ℕ) (now : Bound) (is_new is_left : Bool) (count : ℕ) (front : List Bool) (before : List Move) (marked : Marked)
-      → Fits (more_nodes goal rest) marked → length front ≡ at → flags ≡ front ++ flags_of marked
-      → Went (moves total modes goals) bound (before ++ left total modes (more_nodes goal rest) marked) now → SoundLeft total modes (more_nodes goal rest) marked now
-      → ((others : Marked) (later : Bound) → Holds now later → Fits (more_nodes goal rest) others → SoundLeft total modes (more_nodes goal rest) others later
-      → Closed total modes goals bound (front ++ flags_of others) (before ++ left total modes (more_nodes goal rest) others) later)
-      → (is_new ≡ false → AllStuck before now) → (is_left ≡ false → before ≡ []) → (is_left ≡ true → 0 < length before)
-      → length (before ++ left total modes (more_nodes goal rest) marked) + new_one is_new ≤ count → Open goal rest flags at now is_new is_left count
-  opened goal rest flags at now is_new is_left count front before marked (more g r gone inner others f o) at_is flags_are way (one, sound) close stuck none_left some_left fewer = record {
-    front = front;
-    before = before;
+  same_behind : (gone went : Bool) (inner marks others : Marked) (other : ℕ) → (0 ≡ other → ⊥) → times_left other (more_marks went marks others) ≡ times_left other (more_marks gone inner others)
+  same_behind gone went inner marks others zero not_same = absurd (not_same refl)
+  same_behind gone went inner marks others (suc other) not_same = refl
+
+  apart_here : (goal : Node) (rest : Nodes) (now : Bound) (marked : Marked) → Fits (more_nodes goal rest) marked → SoundLeft total modes (more_nodes goal rest) marked now
+      → Apart (more_nodes goal rest) marked 0 goal 0 now
+  apart_here goal rest now marked (more g r gone inner others f fits) (one, sound) = record {
+    front = [];
     gone = gone;
     inner = inner;
-    others = others;
-    at_is = at_is;
-    flags_are = flags_are ∙ ap (λ l. front ++ l) (sym (append_assoc (flags_of inner) (gone ∷ []) (flags_of others)));
-    fits_inner = f;
-    fits_others = o;
-    way = way;
-    sound_inner = one;
-    sound_others = sound;
-    close = close;
-    stuck = stuck;
-    none_left = none_left;
-    some_left = some_left;
-    fewer = fewer;
+    back = flags_of others;
+    before = [];
+    behind = left total modes rest others;
+    front_long = refl;
+    flags_are = sym (append_assoc (flags_of inner) (gone ∷ []) (flags_of others));
+    fits = f;
+    sound = one;
+    left_is = refl;
+    own_is = refl;
+    put = λ marks went those. record {
+      marks = more_marks went marks others;
+      fits = more goal rest went marks others those fits;
+      flags_are = sym (append_assoc (flags_of marks) (went ∷ []) (flags_of others));
+      left_is = refl;
+      own_is = refl;
+      same = λ other not_same. same_behind gone went inner marks others other not_same;
+      sound = λ later holds own. (own, left-more total modes rest others now later holds sound);
+    };
   }
 
-  pub taken_apart : (goal : Node) (rest : Nodes) (flags : List Bool) (at : ℕ) (now : Bound) (is_new is_left : Bool) (count : ℕ) → During total modes goals bound (more_nodes goal rest) flags at now is_new is_left count
-      → Open goal rest flags at now is_new is_left count
-  taken_apart goal rest flags at now is_new is_left count d =
-      opened goal rest flags at now is_new is_left count d.front d.before d.marked d.fits d.at_is d.flags_are d.way d.sound d.close d.stuck d.none_left d.some_left d.fewer
+  unless_more : (went : Bool) (goal : Node) (inner : Marked) (now later : Bound) → Holds now later → unless went (IsSound total modes goal inner now) → unless went (IsSound total modes goal inner later)
+  unless_more true goal inner now later holds sound = tt
+  unless_more false goal inner now later holds sound = sound-more total modes goal inner now later holds sound
 
-  front_length : (front : List Bool) (at : ℕ) (goal : Node) (inner : Marked) (gone : Bool) → length front ≡ at → Fits (joined_by goal) inner
-      → length (front ++ (flags_of inner ++ gone ∷ [])) ≡ at + length (parts_of goal)
-  front_length front at goal inner gone h fits = length-append front (flags_of inner ++ gone ∷ []) ∙ ap (λ n. n + length (flags_of inner ++ gone ∷ [])) h ∙ ap (λ n. at + n) (marks_length goal inner gone fits)
+  same_deeper : (went : Bool) (inner one others : Marked) (index other : ℕ) → (suc index ≡ other → ⊥) → ((another : ℕ) → (index ≡ another → ⊥) → times_left another one ≡ times_left another others)
+      → times_left other (more_marks went inner one) ≡ times_left other (more_marks went inner others)
+  same_deeper went inner one others index zero not_same same = refl
+  same_deeper went inner one others index (suc other) not_same same = same other (λ e. not_same (ap suc e))
 
-  -- the next goal went before
-  pub pass_over : (goal : Node) (rest : Nodes) (flags : List Bool) (at : ℕ) (now : Bound) (is_new is_left : Bool) (count : ℕ) (o : Open goal rest flags at now is_new is_left count)
-      → o.gone ≡ true → During total modes goals bound rest flags (at + length (parts_of goal)) now is_new is_left count
-  pass_over goal rest flags at now is_new is_left count o gone =
-      record {
-        front = o.front ++ (flags_of o.inner ++ o.gone ∷ []);
-        before = o.before;
-        marked = o.others;
-        at_is = front_length o.front at goal o.inner o.gone o.at_is o.fits_inner;
-        flags_are = o.flags_are ∙ sym (append_assoc o.front (flags_of o.inner ++ o.gone ∷ []) (flags_of o.others));
-        fits = o.fits_others;
-        way = subst (λ b. Went (moves total modes goals) bound (o.before ++ kept b (move_of total modes goal) (left total modes rest o.others)) now) gone o.way;
-        sound = o.sound_others;
-        close = λ others later holds fits sound.
-            subst (λ b. Closed total modes goals bound ((o.front ++ (flags_of o.inner ++ b ∷ [])) ++ flags_of others) (o.before ++ left total modes rest others) later) (sym gone)
-            (subst (λ l. Closed total modes goals bound l (o.before ++ left total modes rest others) later) (regrouped o.front (flags_of o.inner) true (flags_of others))
-            (o.close (more_marks true o.inner others) later holds (more goal rest true o.inner others o.fits_inner fits) (tt, sound)));
-        stuck = o.stuck;
-        none_left = o.none_left;
-        some_left = o.some_left;
-        fewer = subst (λ b. length (o.before ++ kept b (move_of total modes goal) (left total modes rest o.others)) + new_one is_new ≤ count) gone o.fewer;
-      }
+  apart_later : (first goal : Node) (rest : Nodes) (index at all : ℕ) (now : Bound) (went : Bool) (inner others : Marked) → Fits (joined_by first) inner → unless went (IsSound total modes first inner now)
+      → Apart rest others index goal at now → all ≡ length (parts_of first) + at → Apart (more_nodes first rest) (more_marks went inner others) (suc index) goal all now
+  apart_later first goal rest index at all now went inner others f sound a all_is = record {
+    front = flags_of inner ++ went ∷ a.front;
+    gone = a.gone;
+    inner = a.inner;
+    back = a.back;
+    before = kept went (move_of total modes first) a.before;
+    behind = a.behind;
+    front_long = omega (arith, all_is, a.front_long, marks_length first inner went f, length-append (flags_of inner) (went ∷ a.front), length-append (flags_of inner) (went ∷ []));
+    flags_are = deeper (flags_of inner) went a.front (flags_of others) ((flags_of a.inner ++ a.gone ∷ []) ++ a.back) a.flags_are;
+    fits = a.fits;
+    sound = a.sound;
+    left_is = ap (λ l. kept went (move_of total modes first) l) a.left_is ∙ kept_front went (move_of total modes first) a.before (kept a.gone (move_of total modes goal) a.behind);
+    own_is = a.own_is;
+    put = λ marks gone those. let p = a.put marks gone those in record {
+      marks = more_marks went inner p.marks;
+      fits = more first rest went inner p.marks f p.fits;
+      flags_are = deeper (flags_of inner) went a.front (flags_of p.marks) ((flags_of marks ++ gone ∷ []) ++ a.back) p.flags_are;
+      left_is = ap (λ l. kept went (move_of total modes first) l) p.left_is ∙ kept_front went (move_of total modes first) a.before (kept gone (move_of total modes goal) a.behind);
+      own_is = p.own_is;
+      same = λ other not_same. same_deeper went inner p.marks others index other not_same p.same;
+      sound = λ later holds own. (unless_more went first inner now later holds sound, p.sound later holds own);
+    };
+  }
 
-  -- It was asked and is not ready.
-  pub stays : (goal : Node) (rest : Nodes) (flags : List Bool) (at : ℕ) (now : Bound) (is_new is_left : Bool) (count : ℕ) (o : Open goal rest flags at now is_new is_left count)
-      → o.gone ≡ false → (inner : Marked) → Fits (joined_by goal) inner → IsSound total modes goal inner now → is_ready (from total modes goal now) ≡ false
-      → During total modes goals bound rest (o.front ++ ((flags_of inner ++ false ∷ []) ++ flags_of o.others)) (at + length (parts_of goal)) now is_new true count
-  stays goal rest flags at now is_new is_left count o gone inner fits_inner sound_inner not_ready =
-      record {
-        front = o.front ++ (flags_of inner ++ false ∷ []);
-        before = o.before ++ move_of total modes goal ∷ [];
-        marked = o.others;
-        at_is = front_length o.front at goal inner false o.at_is fits_inner;
-        flags_are = sym (append_assoc o.front (flags_of inner ++ false ∷ []) (flags_of o.others));
-        fits = o.fits_others;
-        way = subst (λ l. Went (moves total modes goals) bound l now) (moved o.before (left total modes rest o.others) (move_of total modes goal))
-            (subst (λ b. Went (moves total modes goals) bound (o.before ++ kept b (move_of total modes goal) (left total modes rest o.others)) now) gone o.way);
-        sound = o.sound_others;
-        close = λ others later holds fits sound.
-            subst (λ l. Closed total modes goals bound ((o.front ++ (flags_of inner ++ false ∷ [])) ++ flags_of others) l later) (moved o.before (left total modes rest others) (move_of total modes goal))
-            (subst (λ l. Closed total modes goals bound l (o.before ++ move_of total modes goal ∷ left total modes rest others) later) (regrouped o.front (flags_of inner) false (flags_of others))
-            (o.close (more_marks false inner others) later holds (more goal rest false inner others fits_inner fits) (sound-more total modes goal inner now later holds sound_inner, sound)));
-        stuck = λ same. stuck_more o.before (move_of total modes goal) now (o.stuck same) not_ready;
-        none_left = λ no. cc;
-        some_left = λ yes. omega (arith, length-append o.before (move_of total modes goal ∷ []));
-        fewer = subst (λ l. length l + new_one is_new ≤ count) (moved o.before (left total modes rest o.others) (move_of total modes goal))
-            (subst (λ b. length (o.before ++ kept b (move_of total modes goal) (left total modes rest o.others)) + new_one is_new ≤ count) gone o.fewer);
-      }
-
-  -- It was asked and is ready: it goes.
-  pub goes : (goal : Node) (rest : Nodes) (flags : List Bool) (at : ℕ) (now : Bound) (is_new is_left : Bool) (count : ℕ) (o : Open goal rest flags at now is_new is_left count)
-      → o.gone ≡ false → (inner : Marked) → Fits (joined_by goal) inner → is_ready (from total modes goal now) ≡ true
-      → During total modes goals bound rest (o.front ++ ((flags_of inner ++ true ∷ []) ++ flags_of o.others)) (at + length (parts_of goal)) (with now (binds total modes goal)) true is_left count
-  goes goal rest flags at now is_new is_left count o gone inner fits_inner ready =
-      let holds_now : Holds now (with now (binds total modes goal)) = λ variable h. or_left (now variable) (binds total modes goal variable) h in
-      let fewer : length (o.before ++ move_of total modes goal ∷ left total modes rest o.others) + new_one is_new ≤ count =
-      subst (λ b. length (o.before ++ kept b (move_of total modes goal) (left total modes rest o.others)) + new_one is_new ≤ count) gone o.fewer in
-      record {
-        front = o.front ++ (flags_of inner ++ true ∷ []);
-        before = o.before;
-        marked = o.others;
-        at_is = front_length o.front at goal inner true o.at_is fits_inner;
-        flags_are = sym (append_assoc o.front (flags_of inner ++ true ∷ []) (flags_of o.others));
-        fits = o.fits_others;
-        way = went (moves total modes goals) (o.before ++ move_of total modes goal ∷ left total modes rest o.others) (o.before ++ left total modes rest o.others) bound now (move_of total modes goal)
-            (subst (λ b. Went (moves total modes goals) bound (o.before ++ kept b (move_of total modes goal) (left total modes rest o.others)) now) gone o.way)
-            (removed_middle o.before (left total modes rest o.others) (move_of total modes goal)) ready;
-        sound = left-more total modes rest o.others now (with now (binds total modes goal)) holds_now o.sound_others;
-        close = λ others later holds fits sound.
-            subst (λ l. Closed total modes goals bound l (o.before ++ left total modes rest others) later) (regrouped o.front (flags_of inner) true (flags_of others))
-            (o.close (more_marks true inner others) later (λ variable h. holds variable (holds_now variable h)) (more goal rest true inner others fits_inner fits) (tt, sound));
-        stuck = λ no. cc;
-        none_left = o.none_left;
-        some_left = o.some_left;
-        fewer = omega (arith, fewer, length-append o.before (move_of total modes goal ∷ left total modes rest o.others), length-append o.before (left total modes rest o.others));
-      }
+  pub apart : (goals : List Node) (index : ℕ) (goal : Node) (rest : List Node) (marked : Marked) (now : Bound) → drop index goals ≡ goal ∷ rest → Fits (nodes_of goals) marked
+      → SoundLeft total modes (nodes_of goals) marked now → Apart (nodes_of goals) marked index goal (length (all_parts (nodes_of (take index goals)))) now
+  apart [] zero goal rest marked now there fits sound = cc
+  apart [] (suc index) goal rest marked now there fits sound = cc
+  apart (first ∷ others) zero goal rest marked now there fits sound =
+      subst (λ g. Apart (nodes_of (first ∷ others)) marked 0 g 0 now) (head_is first goal others rest there) (apart_here first (nodes_of others) now marked fits sound)
+  apart (first ∷ others) (suc index) goal rest marked now there (more f r went inner behind fits_inner fits) (one, sound) =
+      apart_later first goal (nodes_of others) index (length (all_parts (nodes_of (take index others)))) (length (all_parts (nodes_of (first ∷ take index others)))) now went inner behind fits_inner one
+      (apart others index goal rest behind now there fits sound) (length-append (parts_of first) (all_parts (nodes_of (take index others))))

@@ -1,94 +1,132 @@
--- One goal of a conjunction more is asked.
-use Rattle.std.specs.Prelude.{◌≡◌, ◌+◌, ℕ, suc, Bool, true, false, List, [], ◌∷◌, ◌++◌, length}
+-- A goal of a conjunction is asked that did not go, whichever it is.
+use Rattle.std.specs.Prelude.{◌≡◌, ◌==◌, ◌+◌, ℕ, suc, Bool, true, false, not, List, [], ◌∷◌, ◌++◌, length, drop, refl}
 use Rattle.std.specs.List.{slice_range, slice_index_or}
-use Rattle.std.proofs.Common.{◌∙◌, ap, sym, subst, arith}
-use Rattle.std.proofs.lemmas.List.{length-append}
+use Rattle.std.proofs.Common.{◌∙◌, ap, sym, subst, arith, eqb-true}
+use Rattle.std.proofs.lemmas.Bool.{eqb-false}
 use borrow.Rule.Slice.PartMut.{put_mid}
 use Rattle.merc_tree.specs.declared.declarations.ModeDecl.{ModeDecl}
-use Rattle.merc_goal_tree.specs.Nodes.{Node, Nodes, more_nodes}
+use Rattle.merc_goal_tree.specs.Nodes.{Node, Nodes, more_nodes, nodes_of}
 use Rattle.merc_goal_tree.specs.Parts.{parts_of}
-use Rattle.merc_order.specs.Bound.{Bound, with, among}
-use Rattle.merc_order.specs.Marks.{Marked, part, unless, IsSound}
-use Rattle.merc_order.specs.Order.{binds, from}
+use Rattle.merc_order.specs.Bound.{Bound, with, among, Holds}
+use Rattle.merc_order.specs.Marks.{Marked, part, unless, kept, move_of, left, IsSound}
+use Rattle.merc_order.specs.Moves.{Move}
+use Rattle.merc_order.specs.Order.{binds, from, moves}
 use Rattle.merc_order.specs.Ordered.{is_ready}
+use Rattle.merc_order.specs.Ways.{Removed, here, later, Went, went}
+use Rattle.merc_order.proofs.MoveLaws.{or_left}
 use Rattle.merc_readiness.specs.Asking.{flags_of, IsMarked, AreKnown}
 use Rattle.merc_readiness.specs.Bounds.{all_behind}
 use Rattle.merc_readiness.specs.Facts.{subgoals, all_subgoals}
-use Rattle.merc_readiness.specs.Sweeps.{During, AreKnownFrom}
+use Rattle.merc_readiness.specs.Sweeps.{AreGone, AreKnownFrom, new_one, IsPlaced, times, times_left}
 use Rattle.merc_readiness.specs.declared.facts.Facts.{Facts}
+use Rattle.merc_readiness.specs.declared.waiting.Waiting.{Waiting}
 use Rattle.merc_readiness.proofs.Binding.{next_known, own_facts, bound_behind}
-use Rattle.merc_readiness.proofs.Marking.{marks_length, own_mark, middle, put_middle}
-use Rattle.merc_readiness.proofs.Rounds.{Open, taken_apart, pass_over, stays, goes}
+use Rattle.merc_readiness.proofs.Marking.{marks_length, middle, put_middle}
+use Rattle.merc_readiness.proofs.Rounds.{Apart, apart}
+use Rattle.merc_readiness.proofs.Listed.{times-append, new_same, new_other, one_more}
 
-module _ (total : ℕ → ℕ) (modes : ℕ → List ModeDecl) (goals : Nodes) (start : Bound) where
-  -- the next goal's own mark
-  mark_is : (goal : Node) (rest : Nodes) (flags : List Bool) (at : ℕ) (now : Bound) (is_new is_left : Bool) (count : ℕ) (o : Open total modes goals start goal rest flags at now is_new is_left count) (own : ℕ)
-      → suc own ≡ at + length (parts_of goal) → slice_index_or flags own false ≡ o.gone
-  mark_is goal rest flags at now is_new is_left count o own h =
-      let long = marks_length goal o.inner o.gone o.fits_inner in
-      let two = length-append (flags_of o.inner) (o.gone ∷ []) in
-      let front = o.at_is in
-      ap (λ l. slice_index_or l own false) o.flags_are ∙ own_mark o.front (flags_of o.inner) o.gone (flags_of o.others) own false (omega arith)
+removed_middle : (before others : List Move) (move : Move) → Removed move (before ++ move ∷ others) (before ++ others)
+removed_middle [] others move = here move others
+removed_middle (first ∷ before) others move = later first move (before ++ move ∷ others) (before ++ others) (removed_middle before others move)
 
-  -- It went before.
-  pub step_over : (goal : Node) (rest : Nodes) (flags : List Bool) (at : ℕ) (now : Bound) (is_new is_left : Bool) (count own : ℕ)
-      → During total modes goals start (more_nodes goal rest) flags at now is_new is_left count → suc own ≡ at + length (parts_of goal) → slice_index_or flags own false ≡ true
-      → During total modes goals start rest flags (at + length (parts_of goal)) now is_new is_left count
-  step_over goal rest flags at now is_new is_left count own d h mark =
-      let o = taken_apart total modes goals start goal rest flags at now is_new is_left count d in
-      pass_over total modes goals start goal rest flags at now is_new is_left count o (sym (mark_is goal rest flags at now is_new is_left count o own h) ∙ mark)
+-- those that are listed are left where one of them is asked again, or went
+
+left_still_by : (marked marks : Marked) (index other : ℕ) (same : Bool) → (index == other) ≡ same → times_left index marks ≡ times_left index marked
+    → ((another : ℕ) → (index ≡ another → ⊥) → times_left another marks ≡ times_left another marked) → times_left other marks ≡ times_left other marked
+left_still_by marked marks index other true is own others = subst (λ n. times_left n marks ≡ times_left n marked) (eqb-true index other is) own
+left_still_by marked marks index other false is own others = others other (eqb-false index other is)
+
+left_less_by : (marks : Marked) (listed : List Waiting) (index other : ℕ) (same : Bool) → (index == other) ≡ same → times index listed ≡ times_left index marks
+    → ((index ≡ other → ⊥) → times other listed ≡ times_left other marks) → times other listed ≡ times_left other marks
+left_less_by marks listed index other true is own others = subst (λ n. times n listed ≡ times_left n marks) (eqb-true index other is) own
+left_less_by marks listed index other false is own others = others (eqb-false index other is)
+
+times_middle : (index : ℕ) (before behind : List Waiting) (waiting : Waiting) → times index (before ++ waiting ∷ behind) ≡ times index (waiting ∷ []) + times index (before ++ behind)
+times_middle index before behind waiting = omega (arith, times-append index before (waiting ∷ behind), times-append index before behind)
+
+module _ (total : ℕ → ℕ) (modes : ℕ → List ModeDecl) (goals : List Node) (start : Bound) (waiting : Waiting) (goal : Node) where
+  -- all marks and those of the goal that is asked, which is listed between others
+  pub record Asking (flags : List Bool) (now : Bound) (before behind : List Waiting) (at : ℕ) : Type 0 where
+    pub gone : AreGone total modes (nodes_of goals) start flags now (before ++ waiting ∷ behind)
+    pub own : Apart total modes (nodes_of goals) gone.marked waiting.index goal at now
+    pub not_gone : own.gone ≡ false
+    pub no_other : times waiting.index (before ++ behind) ≡ 0
+
+  pub asking : (rest : List Node) (flags : List Bool) (now : Bound) (before behind : List Waiting) (at : ℕ) → drop waiting.index goals ≡ goal ∷ rest → IsPlaced goals waiting → waiting.at ≡ at
+      → AreGone total modes (nodes_of goals) start flags now (before ++ waiting ∷ behind) → Asking flags now before behind at
+  asking rest flags now before behind at there (room, placed) at_is g =
+      let a = subst (λ n. Apart total modes (nodes_of goals) g.marked waiting.index goal n now) (sym placed ∙ at_is) (apart total modes goals waiting.index goal rest g.marked now there g.fits g.sound) in
+      let one = one_more a.gone (times waiting.index (before ++ behind))
+      (omega (arith, times_middle waiting.index before behind waiting, new_same waiting.index waiting.index refl, g.are_left waiting.index, a.own_is)) in
+      record { gone = g; own = a; not_gone = one.0; no_other = one.1 }
 
   -- its marks, as they are handed on
-  pub marks_of_next : (goal : Node) (rest : Nodes) (flags : List Bool) (at : ℕ) (now : Bound) (is_new is_left : Bool) (count own end : ℕ)
-      → During total modes goals start (more_nodes goal rest) flags at now is_new is_left count → suc own ≡ at + length (parts_of goal) → end ≡ at + length (parts_of goal)
-      → slice_index_or flags own false ≡ false → IsMarked total modes goal (slice_range flags at end) now
-  marks_of_next goal rest flags at now is_new is_left count own end d h e mark =
-      let o = taken_apart total modes goals start goal rest flags at now is_new is_left count d in
-      let gone : o.gone ≡ false = sym (mark_is goal rest flags at now is_new is_left count o own h) ∙ mark in
-      let long = marks_length goal o.inner o.gone o.fits_inner in
+  pub marks_of : (flags : List Bool) (now : Bound) (before behind : List Waiting) (at end : ℕ) (a : Asking flags now before behind at) → end ≡ at + length (parts_of goal)
+      → IsMarked total modes goal (slice_range flags at end) now
+  marks_of flags now before behind at end a e =
+      let o = a.own in
+      let long = marks_length goal o.inner o.gone o.fits in
       record {
         inner = o.inner;
         went = o.gone;
-        fits = o.fits_inner;
-        flags_are = ap (λ l. slice_range l at end) o.flags_are ∙ middle o.front (flags_of o.inner ++ o.gone ∷ []) (flags_of o.others) at end o.at_is (ap (λ n. at + n) long ∙ sym e);
-        sound = subst (λ b. part b (is_ready (from total modes goal now) ≡ true) (IsSound total modes goal o.inner now)) (sym gone)
-            (subst (λ b. unless b (IsSound total modes goal o.inner now)) gone o.sound_inner);
+        fits = o.fits;
+        flags_are = ap (λ l. slice_range l at end) (a.gone.flags_are ∙ o.flags_are) ∙ middle o.front (flags_of o.inner ++ o.gone ∷ []) o.back at end o.front_long (ap (λ n. at + n) long ∙ sym e);
+        sound = subst (λ b. part b (is_ready (from total modes goal now) ≡ true) (IsSound total modes goal o.inner now)) (sym a.not_gone)
+            (subst (λ b. unless b (IsSound total modes goal o.inner now)) a.not_gone o.sound);
       }
 
-  -- all marks, where those of the next goal are these
-  put_there : (goal : Node) (rest : Nodes) (flags : List Bool) (at : ℕ) (now : Bound) (is_new is_left : Bool) (count size : ℕ) (o : Open total modes goals start goal rest flags at now is_new is_left count)
-      (new : List Bool) (m : IsMarked total modes goal new now) (ready : Bool) → size ≡ length (parts_of goal) → m.went ≡ ready
-      → o.front ++ ((flags_of m.inner ++ ready ∷ []) ++ flags_of o.others) ≡ put_mid at size flags new
-  put_there goal rest flags at now is_new is_left count size o new m ready s went =
-      let long = marks_length goal o.inner o.gone o.fits_inner in
-      sym (ap (λ l. put_mid at size l new) o.flags_are
-      ∙ put_middle o.front (flags_of o.inner ++ o.gone ∷ []) (flags_of o.others) new at size o.at_is (long ∙ sym s)
-      ∙ ap (λ l. o.front ++ (l ++ flags_of o.others)) (m.flags_are ∙ ap (λ b. flags_of m.inner ++ b ∷ []) went))
+  -- all marks, where those of the goal are these
+  put_there : (flags new : List Bool) (now : Bound) (before behind : List Waiting) (at size : ℕ) (a : Asking flags now before behind at) (m : IsMarked total modes goal new now) (ready : Bool)
+      → size ≡ length (parts_of goal) → m.went ≡ ready → put_mid at size flags new ≡ a.own.front ++ ((flags_of m.inner ++ ready ∷ []) ++ a.own.back)
+  put_there flags new now before behind at size a m ready s went_is =
+      let o = a.own in
+      let long = marks_length goal o.inner o.gone o.fits in
+      ap (λ l. put_mid at size l new) (a.gone.flags_are ∙ o.flags_are)
+      ∙ put_middle o.front (flags_of o.inner ++ o.gone ∷ []) o.back new at size o.front_long (long ∙ sym s)
+      ∙ ap (λ l. o.front ++ (l ++ o.back)) (m.flags_are ∙ ap (λ b. flags_of m.inner ++ b ∷ []) went_is)
 
-  sound_by : (goal : Node) (inner : Marked) (now : Bound) (gone : Bool) → gone ≡ false → part gone (is_ready (from total modes goal now) ≡ true) (IsSound total modes goal inner now) → IsSound total modes goal inner now
-  sound_by goal inner now gone h sound = subst (λ b. part b (is_ready (from total modes goal now) ≡ true) (IsSound total modes goal inner now)) h sound
+  sound_by : (inner : Marked) (now : Bound) (gone : Bool) → gone ≡ false → part gone (is_ready (from total modes goal now) ≡ true) (IsSound total modes goal inner now) → IsSound total modes goal inner now
+  sound_by inner now gone h sound = subst (λ b. part b (is_ready (from total modes goal now) ≡ true) (IsSound total modes goal inner now)) h sound
 
-  -- It was asked and is not ready.
-  pub step_left : (goal : Node) (rest : Nodes) (flags : List Bool) (at : ℕ) (now : Bound) (is_new is_left : Bool) (count own size : ℕ) (new : List Bool)
-      → During total modes goals start (more_nodes goal rest) flags at now is_new is_left count → suc own ≡ at + length (parts_of goal) → slice_index_or flags own false ≡ false
-      → size ≡ length (parts_of goal) → is_ready (from total modes goal now) ≡ false → (m : IsMarked total modes goal new now) → m.went ≡ false
-      → During total modes goals start rest (put_mid at size flags new) (at + length (parts_of goal)) now is_new true count
-  step_left goal rest flags at now is_new is_left count own size new d h mark s not_ready m went =
-      let o = taken_apart total modes goals start goal rest flags at now is_new is_left count d in
-      let gone : o.gone ≡ false = sym (mark_is goal rest flags at now is_new is_left count o own h) ∙ mark in
-      subst (λ l. During total modes goals start rest l (at + length (parts_of goal)) now is_new true count) (put_there goal rest flags at now is_new is_left count size o new m false s went)
-      (stays total modes goals start goal rest flags at now is_new is_left count o gone m.inner m.fits (sound_by goal m.inner now m.went went m.sound) not_ready)
+  moves_are : (flags : List Bool) (now : Bound) (before behind : List Waiting) (at : ℕ) (a : Asking flags now before behind at)
+      → left total modes (nodes_of goals) a.gone.marked ≡ a.own.before ++ move_of total modes goal ∷ a.own.behind
+  moves_are flags now before behind at a = a.own.left_is ∙ ap (λ b. a.own.before ++ kept b (move_of total modes goal) a.own.behind) a.not_gone
 
-  -- It was asked and is ready.
-  pub step_on : (goal : Node) (rest : Nodes) (flags : List Bool) (at : ℕ) (now : Bound) (is_new is_left : Bool) (count own size : ℕ) (new : List Bool)
-      → During total modes goals start (more_nodes goal rest) flags at now is_new is_left count → suc own ≡ at + length (parts_of goal) → slice_index_or flags own false ≡ false
-      → size ≡ length (parts_of goal) → is_ready (from total modes goal now) ≡ true → (m : IsMarked total modes goal new now) → m.went ≡ true
-      → During total modes goals start rest (put_mid at size flags new) (at + length (parts_of goal)) (with now (binds total modes goal)) true is_left count
-  step_on goal rest flags at now is_new is_left count own size new d h mark s ready m went =
-      let o = taken_apart total modes goals start goal rest flags at now is_new is_left count d in
-      let gone : o.gone ≡ false = sym (mark_is goal rest flags at now is_new is_left count o own h) ∙ mark in
-      subst (λ l. During total modes goals start rest l (at + length (parts_of goal)) (with now (binds total modes goal)) true is_left count) (put_there goal rest flags at now is_new is_left count size o new m true s went)
-      (goes total modes goals start goal rest flags at now is_new is_left count o gone m.inner m.fits ready)
+  -- It is not ready: it is left as it was.
+  pub stays_there : (flags new : List Bool) (now : Bound) (before behind : List Waiting) (at size : ℕ) (a : Asking flags now before behind at) (m : IsMarked total modes goal new now)
+      → size ≡ length (parts_of goal) → m.went ≡ false → AreGone total modes (nodes_of goals) start (put_mid at size flags new) now (before ++ waiting ∷ behind)
+  stays_there flags new now before behind at size a m s went_is =
+      let p = a.own.put m.inner false m.fits in
+      record {
+        marked = p.marks;
+        fits = p.fits;
+        flags_are = put_there flags new now before behind at size a m false s went_is ∙ sym p.flags_are;
+        way = subst (λ l. Went (moves total modes (nodes_of goals)) start l now) (moves_are flags now before behind at a ∙ sym p.left_is) a.gone.way;
+        sound = p.sound now (λ variable h. h) (sound_by m.inner now m.went went_is m.sound);
+        are_left = λ other. a.gone.are_left other
+            ∙ sym (left_still_by a.gone.marked p.marks waiting.index other (waiting.index == other) refl
+            (p.own_is ∙ sym (a.own.own_is ∙ ap (λ b. new_one (not b)) a.not_gone)) p.same);
+      }
+
+  -- It is ready: it goes.
+  pub goes_there : (flags new : List Bool) (now : Bound) (before behind : List Waiting) (at size : ℕ) (a : Asking flags now before behind at) (m : IsMarked total modes goal new now)
+      → size ≡ length (parts_of goal) → m.went ≡ true → is_ready (from total modes goal now) ≡ true
+      → AreGone total modes (nodes_of goals) start (put_mid at size flags new) (with now (binds total modes goal)) (before ++ behind)
+  goes_there flags new now before behind at size a m s went_is ready =
+      let p = a.own.put m.inner true m.fits in
+      let holds_now : Holds now (with now (binds total modes goal)) = λ variable h. or_left (now variable) (binds total modes goal variable) h in
+      record {
+        marked = p.marks;
+        fits = p.fits;
+        flags_are = put_there flags new now before behind at size a m true s went_is ∙ sym p.flags_are;
+        way = subst (λ l. Went (moves total modes (nodes_of goals)) start l (with now (binds total modes goal))) (sym p.left_is)
+            (went (moves total modes (nodes_of goals)) (a.own.before ++ move_of total modes goal ∷ a.own.behind) (a.own.before ++ a.own.behind) start now (move_of total modes goal)
+            (subst (λ l. Went (moves total modes (nodes_of goals)) start l now) (moves_are flags now before behind at a) a.gone.way)
+            (removed_middle a.own.before a.own.behind (move_of total modes goal)) ready);
+        sound = p.sound (with now (binds total modes goal)) holds_now tt;
+        are_left = λ other. left_less_by p.marks (before ++ behind) waiting.index other (waiting.index == other) refl (a.no_other ∙ sym p.own_is)
+            (λ not_same. omega (arith, times_middle other before behind waiting, new_other waiting.index other not_same, a.gone.are_left other, p.same other not_same));
+      }
 
 -- the facts of the next goal, as they are handed on
 pub facts_of_next : (total : ℕ → ℕ) (modes : ℕ → List ModeDecl) (goal : Node) (rest : Nodes) (facts : List Facts) (at end : ℕ) → AreKnownFrom total modes (all_subgoals (more_nodes goal rest)) facts at

@@ -1,21 +1,21 @@
 -- How far one time over the goals of a conjunction, an `&` or a disjunction has come.
-use Rattle.std.specs.Prelude.{◌≡◌, ◌≤◌, ◌<◌, ◌+◌, ℕ, Bool, true, false, List, [], ◌++◌, ◌&&◌, ◌||◌, length}
+use Rattle.std.specs.Prelude.{◌≡◌, ◌==◌, ◌<◌, ◌+◌, ℕ, zero, suc, Bool, true, false, not, List, [], ◌∷◌, ◌++◌, ◌&&◌, ◌||◌, length, take, drop}
 use Rattle.merc_tree.specs.declared.declarations.ModeDecl.{ModeDecl}
 use Rattle.merc_tree.specs.declared.declarations.PredDecl.{PredDecl}
 use Rattle.merc_base.specs.declared.place.Span.{Span}
-use Rattle.merc_goal_tree.specs.Nodes.{Node, Nodes, Conjunction, no_nodes, more_nodes, list_of}
-use Rattle.merc_goal_tree.specs.Parts.{parts_of}
-use Rattle.merc_order.specs.Bound.{Bound, with, among, Holds}
+use Rattle.merc_goal_tree.specs.Nodes.{Node, Nodes, Conjunction, no_nodes, more_nodes, nodes_of}
+use Rattle.merc_goal_tree.specs.Parts.{parts_of, all_parts}
+use Rattle.merc_order.specs.Bound.{Bound, with, among}
 use Rattle.merc_order.specs.Marks.{Marked, no_marks, more_marks, left, SoundLeft, SoundEach, SoundBeside}
-use Rattle.merc_order.specs.Moves.{Move, beside, each_from}
+use Rattle.merc_order.specs.Moves.{beside, each_from}
 use Rattle.merc_order.specs.Order.{binds, from, moves}
 use Rattle.merc_order.specs.Ordered.{is_ready, are_ready}
 use Rattle.merc_order.specs.Procedures.{modes_of}
-use Rattle.merc_order.specs.Ways.{Went, AllStuck}
+use Rattle.merc_order.specs.Ways.{Went}
 use Rattle.merc_readiness.specs.Asking.{flags_of, Fits, AreMarked, AreKnown}
 use Rattle.merc_readiness.specs.Facts.{all_subgoals}
-use Rattle.merc_readiness.specs.declared.sweeping.Sweep.{Sweep}
 use Rattle.merc_readiness.specs.declared.facts.Facts.{Facts}
+use Rattle.merc_readiness.specs.declared.waiting.Waiting.{Waiting}
 
 -- what is bound behind others
 abbrev pub Extends : List ℕ → List ℕ → Type 0
@@ -39,8 +39,41 @@ marked_bind total modes no_nodes marked variable = false
 marked_bind total modes (more_nodes first rest) no_marks variable = false
 marked_bind total modes (more_nodes first rest) (more_marks gone inner others) variable = (gone && binds total modes first variable) || marked_bind total modes rest others variable
 
--- Where the marked ones of these goals are bound behind what is bound now, it is this.
-pub record BindsFrom (total : ℕ → ℕ) (modes : ℕ → List ModeDecl) (rest : Nodes) (facts : List Facts) (flags : List Bool) (at : ℕ) (now target : Bound) : Type 0 where
+-- There is a goal of this index, and its parts stand behind those of the goals before it.
+abbrev pub IsPlaced : List Node → Waiting → Type 0
+IsPlaced goals waiting = (waiting.index < length goals) × (waiting.at ≡ length (all_parts (nodes_of (take waiting.index goals))))
+
+abbrev pub ArePlaced : List Node → List Waiting → Type 0
+ArePlaced goals [] = Unit {0}
+ArePlaced goals (waiting ∷ others) = IsPlaced goals waiting × ArePlaced goals others
+
+-- how often a goal is listed
+abbrev pub times : ℕ → List Waiting → ℕ
+times index [] = 0
+times index (waiting ∷ others) = new_one (waiting.index == index) + times index others
+
+-- how often a goal has to be listed: once, where there is one that did not go
+abbrev pub times_left : ℕ → Marked → ℕ
+times_left index no_marks = 0
+times_left zero (more_marks gone inner others) = new_one (not gone)
+times_left (suc index) (more_marks gone inner others) = times_left index others
+
+-- Listed are the goals that did not go, each once, in any order.
+abbrev pub AreLeft : Marked → List Waiting → Type 0
+AreLeft marked listed = (index : ℕ) → times index listed ≡ times_left index marked
+
+abbrev pub listed_if_left : Bool → Waiting → List Waiting → List Waiting
+listed_if_left true waiting listed = listed
+listed_if_left false waiting listed = listed ++ waiting ∷ []
+
+-- Of all goals those before this index are listed that did not go. The marks from there on are these.
+pub record ListsBefore (whole : Marked) (index : ℕ) (marked : Marked) (listed : List Waiting) : Type 0 where
+  pub before : (other : ℕ) → other < index → times other listed ≡ times_left other whole
+  pub behind : (other : ℕ) → times (index + other) listed ≡ 0
+  pub rest_is : (other : ℕ) → times_left (index + other) whole ≡ times_left other marked
+
+-- From this index on goals are to be gone through, of all that are marked so. Where the marked ones are bound behind what is bound now, it is this.
+pub record BindsFrom (total : ℕ → ℕ) (modes : ℕ → List ModeDecl) (rest : Nodes) (facts : List Facts) (flags : List Bool) (at : ℕ) (now target : Bound) (whole : Marked) (index : ℕ) (listed : List Waiting) : Type 0 where
   pub front : List Bool
   pub marked : Marked
   pub at_is : length front ≡ at
@@ -48,55 +81,37 @@ pub record BindsFrom (total : ℕ → ℕ) (modes : ℕ → List ModeDecl) (rest
   pub fits : Fits rest marked
   pub known : AreKnownFrom total modes (all_subgoals rest) facts at
   pub target_is : (variable : ℕ) → target variable ≡ (now variable || marked_bind total modes rest marked variable)
+  pub lists : ListsBefore whole index marked listed
 
--- One more of them is bound, if it is marked.
-abbrev pub BindsOne : Node → List Facts → List Bool → ℕ → List ℕ → List ℕ → Type 0
-BindsOne goal facts flags at old new =
-    (total : ℕ → ℕ) (modes : ℕ → List ModeDecl) (rest : Nodes) (target : Bound) → BindsFrom total modes (more_nodes goal rest) facts flags at (among old) target
-    → BindsFrom total modes rest facts flags (at + length (parts_of goal)) (among new) target
+-- One more of them is bound, if it is marked, and is listed else.
+abbrev pub BindsOne : Node → List Facts → List Bool → ℕ → List ℕ → List ℕ → Bool → Type 0
+BindsOne goal facts flags at old new gone =
+    (total : ℕ → ℕ) (modes : ℕ → List ModeDecl) (rest : Nodes) (target : Bound) (whole : Marked) (index : ℕ) (listed : List Waiting)
+    → BindsFrom total modes (more_nodes goal rest) facts flags at (among old) target whole index listed
+    → BindsFrom total modes rest facts flags (at + length (parts_of goal)) (among new) target whole (suc index) (listed_if_left gone (record { index = index; at = at }) listed)
 
--- The marked ones of goals are bound.
-abbrev pub BindsGone : Nodes → List Facts → List Bool → List ℕ → List ℕ → Type 0
-BindsGone goals facts flags old new =
+-- The marked ones of goals are bound, and the others are listed.
+abbrev pub BindsGone : Nodes → List Facts → List Bool → List ℕ → List ℕ → List Waiting → Type 0
+BindsGone goals facts flags old new listed =
     (total : ℕ → ℕ) (modes : ℕ → List ModeDecl) (marked : Marked) → Fits goals marked → flags ≡ flags_of marked → AreKnown total modes (all_subgoals goals) facts
-    → among new ≡ with (among old) (marked_bind total modes goals marked)
+    → (among new ≡ with (among old) (marked_bind total modes goals marked)) × AreLeft marked listed
 
--- Of the goals of a conjunction from what was bound, those that are marked went, and this is bound now. At most so many are left.
-pub record AreGone (total : ℕ → ℕ) (modes : ℕ → List ModeDecl) (goals : Nodes) (bound : Bound) (flags : List Bool) (now : Bound) (count : ℕ) : Type 0 where
+-- Of the goals of a conjunction from what was bound, those that are marked went, and this is bound now. The others are listed.
+pub record AreGone (total : ℕ → ℕ) (modes : ℕ → List ModeDecl) (goals : Nodes) (bound : Bound) (flags : List Bool) (now : Bound) (listed : List Waiting) : Type 0 where
   pub marked : Marked
   pub fits : Fits goals marked
   pub flags_are : flags ≡ flags_of marked
   pub way : Went (moves total modes goals) bound (left total modes goals marked) now
   pub sound : SoundLeft total modes goals marked now
-  pub fewer : length (left total modes goals marked) ≤ count
+  pub are_left : AreLeft marked listed
+
+-- None of the goals that are listed is ready.
+abbrev pub AreStuck : (ℕ → ℕ) → (ℕ → List ModeDecl) → List Node → List Waiting → Bound → Type 0
+AreStuck total modes goals [] now = Unit {0}
+AreStuck total modes goals (waiting ∷ others) now =
+    ((goal : Node) (rest : List Node) → drop waiting.index goals ≡ goal ∷ rest → is_ready (from total modes goal now) ≡ false) × AreStuck total modes goals others now
 
 module _ (total : ℕ → ℕ) (modes : ℕ → List ModeDecl) (goals : Nodes) (bound : Bound) where
-  -- the marks of all goals, of which these are left, from what is bound now
-  pub record Closed (flags : List Bool) (rest : List Move) (now : Bound) : Type 0 where
-    pub marked : Marked
-    pub fits : Fits goals marked
-    pub flags_are : flags ≡ flags_of marked
-    pub left_are : left total modes goals marked ≡ rest
-    pub sound : SoundLeft total modes goals marked now
-
-  -- These goals are still to be asked in this sweep, from this mark on. `is_new` tells whether one went in this sweep, and `is_left` whether one that was
-  -- asked is left.
-  pub record During (rest : Nodes) (flags : List Bool) (at : ℕ) (now : Bound) (is_new is_left : Bool) (count : ℕ) : Type 0 where
-    pub front : List Bool
-    pub before : List Move
-    pub marked : Marked
-    pub at_is : length front ≡ at
-    pub flags_are : flags ≡ front ++ flags_of marked
-    pub fits : Fits rest marked
-    pub way : Went (moves total modes goals) bound (before ++ left total modes rest marked) now
-    pub sound : SoundLeft total modes rest marked now
-    pub close : (others : Marked) (later : Bound) → Holds now later → Fits rest others → SoundLeft total modes rest others later
-        → Closed (front ++ flags_of others) (before ++ left total modes rest others) later
-    pub stuck : is_new ≡ false → AllStuck before now
-    pub none_left : is_left ≡ false → before ≡ []
-    pub some_left : is_left ≡ true → 0 < length before
-    pub fewer : length (before ++ left total modes rest marked) + new_one is_new ≤ count
-
   -- Arms from here on are still to be asked; those before are ready.
   pub record DuringArms (rest : Nodes) (flags : List Bool) (at : ℕ) : Type 0 where
     pub front : List Bool
@@ -122,35 +137,32 @@ module _ (total : ℕ → ℕ) (modes : ℕ → List ModeDecl) (goals : Nodes) (
         → (whole : Marked) × Fits goals whole × (flags_of whole ≡ front ++ flags_of others) × SoundBeside total modes goals whole bound
     pub ready : are_ready (beside 1 (moves total modes goals) bound) ≡ are_ready (beside number (moves total modes rest) now)
 
--- One goal of a conjunction more was asked.
-abbrev pub Steps : List PredDecl → Node → List Facts → List Bool → List Bool → ℕ → List ℕ → List ℕ → Sweep → Sweep → Type 0
-Steps predicates goal facts old new at bound after before now =
-    (total : ℕ → ℕ) (goals rest : Nodes) (start : Bound) (count : ℕ) → AreKnownFrom total (modes_of predicates) (all_subgoals (more_nodes goal rest)) facts at
-    → During total (modes_of predicates) goals start (more_nodes goal rest) old at (among bound) before.is_new before.is_left count
-    → During total (modes_of predicates) goals start rest new (at + length (parts_of goal)) (among after) now.is_new now.is_left count
+-- What is so of the goals that are listed where one of them was asked: it went, or is not ready.
+abbrev pub AskGives : (ℕ → ℕ) → (ℕ → List ModeDecl) → List Node → Node → Bound → List Bool → List ℕ → List ℕ → List Waiting → Waiting → List Waiting → Bool → Type 0
+AskGives total modes goals goal start flags bound after before waiting behind true = AreGone total modes (nodes_of goals) start flags (among after) (before ++ behind)
+AskGives total modes goals goal start flags bound after before waiting behind false =
+    AreGone total modes (nodes_of goals) start flags (among after) (before ++ waiting ∷ behind) × (after ≡ bound) × (is_ready (from total modes goal (among after)) ≡ false)
 
--- All goals of a conjunction were asked that had not gone. Where none of them went none is ready.
-pub record Swept (total : ℕ → ℕ) (modes : ℕ → List ModeDecl) (goals : Nodes) (start : Bound) (flags : List Bool) (now : Bound) (is_new is_left : Bool) (count : ℕ) : Type 0 where
-  pub marked : Marked
-  pub fits : Fits goals marked
-  pub flags_are : flags ≡ flags_of marked
-  pub way : Went (moves total modes goals) start (left total modes goals marked) now
-  pub sound : SoundLeft total modes goals marked now
-  pub stuck : is_new ≡ false → AllStuck (left total modes goals marked) now
-  pub none_left : is_left ≡ false → left total modes goals marked ≡ []
-  pub some_left : is_left ≡ true → 0 < length (left total modes goals marked)
-  pub fewer : length (left total modes goals marked) + new_one is_new ≤ count
+-- One goal of a conjunction was asked that is listed.
+abbrev pub AsksOne : List PredDecl → Node → List Facts → List Bool → List Bool → ℕ → List ℕ → List ℕ → Bool → Type 0
+AsksOne predicates goal facts old new at bound after ready =
+    (total : ℕ → ℕ) (goals rest : List Node) (start : Bound) (before behind : List Waiting) (waiting : Waiting) → AreKnown total (modes_of predicates) (all_subgoals (nodes_of goals)) facts
+    → drop waiting.index goals ≡ goal ∷ rest → IsPlaced goals waiting → waiting.at ≡ at
+    → AreGone total (modes_of predicates) (nodes_of goals) start old (among bound) (before ++ waiting ∷ behind)
+    → AskGives total (modes_of predicates) goals goal start new bound after before waiting behind ready
 
-abbrev pub Sweeps : List PredDecl → Nodes → List Facts → List Bool → List Bool → List ℕ → List ℕ → Sweep → Type 0
-Sweeps predicates goals facts old new bound after swept =
-    (total : ℕ → ℕ) (start : Bound) (count : ℕ) → AreKnown total (modes_of predicates) (all_subgoals goals) facts
-    → AreGone total (modes_of predicates) goals start old (among bound) count
-    → Swept total (modes_of predicates) goals start new (among after) swept.is_new swept.is_left count
+-- All goals were asked that are listed, and those that did not go are listed again. Where none of them went none is ready.
+abbrev pub Sweeps : List PredDecl → List Node → List Facts → List Bool → List Bool → List ℕ → List ℕ → List Waiting → List Waiting → Type 0
+Sweeps predicates goals facts old new bound after listed kept =
+    (total : ℕ → ℕ) (start : Bound) → AreKnown total (modes_of predicates) (all_subgoals (nodes_of goals)) facts
+    → AreGone total (modes_of predicates) (nodes_of goals) start old (among bound) listed
+    → AreGone total (modes_of predicates) (nodes_of goals) start new (among after) kept
+    × (length kept ≡ length listed → AreStuck total (modes_of predicates) goals kept (among after))
 
--- The goals of a conjunction were asked, from what was bound, as often as one of them went.
-abbrev pub SweepsAll : List PredDecl → Nodes → List Facts → List Bool → List Bool → List ℕ → List ℕ → Bool → Type 0
-SweepsAll predicates goals facts old new bound after ready =
-    (total : ℕ → ℕ) (start : Bound) (span : Span) → AreKnown total (modes_of predicates) (all_subgoals goals) facts
-    → AreGone total (modes_of predicates) goals start old (among bound) (length (list_of goals))
-    → (is_ready (from total (modes_of predicates) (Conjunction goals span) start) ≡ ready)
-    × AreMarked total (modes_of predicates) (Conjunction goals span) new start
+-- The goals of a conjunction that are listed were asked, from what was bound, as often as one of them went.
+abbrev pub SweepsAll : List PredDecl → List Node → List Facts → List Bool → List Bool → List ℕ → List ℕ → List Waiting → Bool → Type 0
+SweepsAll predicates goals facts old new bound after listed ready =
+    (total : ℕ → ℕ) (start : Bound) (span : Span) → AreKnown total (modes_of predicates) (all_subgoals (nodes_of goals)) facts
+    → AreGone total (modes_of predicates) (nodes_of goals) start old (among bound) listed
+    → (is_ready (from total (modes_of predicates) (Conjunction (nodes_of goals) span) start) ≡ ready)
+    × AreMarked total (modes_of predicates) (Conjunction (nodes_of goals) span) new start

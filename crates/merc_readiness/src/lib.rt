@@ -16,6 +16,7 @@ mod knowing;
 mod occurrences;
 mod simple;
 mod sweeping;
+mod waiting;
 
 pub use asking::advance;
 pub use bound::BoundSet;

@@ -1,4 +1,4 @@
-//! Whether a conjunction is ready: its goals are asked from the left, as long as one of them goes.
+//! Whether a conjunction is ready: its goals are asked again and again, as long as one of them goes.
 ghost use Rattle.std.specs.Prelude.{◌≡◌, ◌≤◌, ◌+◌, length, OnOk, IfOk};
 ghost use Rattle.merc_base.specs.declared.place.Span.{Span};
 ghost use Rattle.merc_goal_tree.specs.Nodes.{Conjunction, nodes_of};
@@ -6,28 +6,19 @@ ghost use Rattle.merc_goal_tree.specs.Parts.{parts_of, all_parts};
 ghost use Rattle.merc_order.specs.Bound.{among};
 ghost use Rattle.merc_readiness.specs.Asking.{AskedParts};
 ghost use Rattle.merc_readiness.specs.declared.facts.Facts.{Facts};
-ghost use Rattle.merc_readiness.specs.Sweeps.{Extends, Steps, Sweeps, SweepsAll};
+ghost use Rattle.merc_readiness.specs.Sweeps.{Extends, ArePlaced, AsksOne, Sweeps, SweepsAll};
 
 use crate::asking::advance;
 use crate::bound::BoundSet;
 use crate::facts::Facts;
-use crate::joined_goals::bind_gone;
+use crate::waiting::{Waiting, bind_gone};
 use merc_base::NoMemory;
 use merc_goal_tree::NodeRef;
 use merc_tree::PredDecl;
 use std::alloc::Global;
 
-// How far the goals of a conjunction came when each was asked once that had not gone.
-#[derive(Clone, Copy)]
-pub(crate) struct Sweep {
-    // one of them went
-    pub(crate) is_new: bool,
-    // one of them is left
-    pub(crate) is_left: bool,
-}
-
-/// Asks whether a conjunction of these goals is ready that is not marked itself. Those that are ready go, from the left, as
-/// long as one is.
+/// Asks whether a conjunction of these goals is ready that is not marked itself. Those that are ready go, as long as one
+/// is.
 ///
 /// # Errors
 ///
@@ -47,13 +38,14 @@ pub(crate) fn advance_all(
     ensures asked { IfOk result (λ ready. (span : Span) (own : Facts) → AskedParts predicates.now (Conjunction (nodes_of goals.now) span) facts.now own marks.old marks.new (among bound.old) ready) }
 {
     let before = bound.mark();
-    bind_gone(goals, facts, marks, bound)?;
-    let ready = sweep_all(alloc, predicates, goals, facts, marks, bound)?;
+    let left = bind_gone(alloc, goals, facts, marks, bound)?;
+    let ready = sweep_all(alloc, predicates, goals, facts, marks, bound, left)?;
     bound.undo(before);
     Ok(ready)
 }
 
-// Asks the goals of a conjunction that have not gone, from the left, as long as one goes. What they bind is bound.
+// Asks the goals of a conjunction that are left, forwards and backwards in turn, as long as one goes. What they bind is
+// bound. Goals of which each needs what the next one binds all go when they are asked backwards.
 #[cycle(asking)]
 fn sweep_all(
     alloc: Global,
@@ -62,25 +54,27 @@ fn sweep_all(
     facts: &[Facts],
     marks: &mut [bool],
     bound: &mut BoundSet,
+    left: Vec<Waiting>,
 ) -> Result<bool, NoMemory>
     requires known { length facts.now ≡ length (all_parts (nodes_of goals.now)) }
     requires marked { length marks.old ≡ length (all_parts (nodes_of goals.now)) }
+    requires placed { ArePlaced goals.now left.items }
     ensures extends { OnOk result (Extends bound.old bound.new) }
-    ensures asked { IfOk result (λ ready. SweepsAll predicates.now (nodes_of goals.now) facts.now marks.old marks.new bound.old bound.new ready) }
+    ensures asked { IfOk result (λ ready. SweepsAll predicates.now goals.now facts.now marks.old marks.new bound.old bound.new left.items ready) }
 {
-    for _round in 0..goals.len() {
-        let swept = sweep_once(alloc, predicates, goals, facts, marks, bound)?;
-        if !swept.is_left {
-            return Ok(true);
-        }
-        if !swept.is_new {
+    let mut rest = left;
+    while !rest.is_empty() {
+        let mut kept = sweep_once(alloc, predicates, goals, facts, marks, bound, &rest)?;
+        if kept.len() == rest.len() {
             return Ok(false);
         }
+        kept.reverse();
+        rest = kept;
     }
     Ok(true)
 }
 
-// Asks each of the goals of a conjunction once that has not gone.
+// Asks each of the goals of a conjunction once that are left. Those that did not go are given, in their order.
 #[cycle(asking)]
 fn sweep_once(
     alloc: Global,
@@ -89,25 +83,27 @@ fn sweep_once(
     facts: &[Facts],
     marks: &mut [bool],
     bound: &mut BoundSet,
-) -> Result<Sweep, NoMemory>
+    left: &[Waiting],
+) -> Result<Vec<Waiting>, NoMemory>
     requires known { length facts.now ≡ length (all_parts (nodes_of goals.now)) }
     requires marked { length marks.old ≡ length (all_parts (nodes_of goals.now)) }
+    requires placed { ArePlaced goals.now left.now }
     ensures extends { OnOk result (Extends bound.old bound.new) }
-    ensures sweeps { IfOk result (λ swept. Sweeps predicates.now (nodes_of goals.now) facts.now marks.old marks.new bound.old bound.new swept) }
+    ensures placed { IfOk result (λ kept. ArePlaced goals.now kept.items) }
+    ensures fewer { IfOk result (λ kept. length kept.items ≤ length left.now) }
+    ensures sweeps { IfOk result (λ kept. Sweeps predicates.now goals.now facts.now marks.old marks.new bound.old bound.new left.now kept.items) }
 {
-    let mut swept = Sweep {
-        is_new: false,
-        is_left: false,
-    };
-    let mut at = 0;
-    for goal in goals {
-        swept = ask_member(alloc, predicates, goal, facts, marks, at, bound, swept)?;
-        at += goal.part_count();
+    let mut kept = Vec::new(alloc);
+    for waiting in left {
+        let goal = &goals[waiting.index];
+        if !ask_member(alloc, predicates, goal, facts, marks, waiting.at, bound)? {
+            kept.push(*waiting)?;
+        }
     }
-    Ok(swept)
+    Ok(kept)
 }
 
-// Asks the next goal of a conjunction, unless it has gone. Its parts stand from this index on.
+// Asks a goal of a conjunction, and binds what it binds where it is ready. Its parts stand from this index on.
 #[cycle(asking)]
 fn ask_member(
     alloc: Global,
@@ -117,18 +113,13 @@ fn ask_member(
     marks: &mut [bool],
     at: usize,
     bound: &mut BoundSet,
-    swept: Sweep,
-) -> Result<Sweep, NoMemory>
+) -> Result<bool, NoMemory>
     requires known { at + length (parts_of goal.now) ≤ length facts.now }
     requires marked { at + length (parts_of goal.now) ≤ length marks.old }
     ensures extends { OnOk result (Extends bound.old bound.new) }
-    ensures steps { IfOk result (λ now. Steps predicates.now goal.now facts.now marks.old marks.new at bound.old bound.new swept now) }
+    ensures asks { IfOk result (λ ready. AsksOne predicates.now goal.now facts.now marks.old marks.new at bound.old bound.new ready) }
 {
     let end = at + goal.part_count();
-    let own = end - 1;
-    if marks[own] {
-        return Ok(swept);
-    }
     if !advance(
         alloc,
         predicates,
@@ -137,14 +128,8 @@ fn ask_member(
         &mut marks[at..end],
         bound,
     )? {
-        return Ok(Sweep {
-            is_new: swept.is_new,
-            is_left: true,
-        });
+        return Ok(false);
     }
-    bound.bind_all(facts[own].binds.as_slice())?;
-    Ok(Sweep {
-        is_new: true,
-        is_left: swept.is_left,
-    })
+    bound.bind_all(facts[end - 1].binds.as_slice())?;
+    Ok(true)
 }

@@ -1,4 +1,6 @@
-use Rattle.std.proofs.Common.{◌≡◌, ◌∙◌, ◌+◌, ◌-◌, ◌<◌, ◌++◌, [], suc, ap, sym, subst, refl, true, false, IfOk, length, take, drop, slice_range, arith}
+use Rattle.std.proofs.Common.{◌≡◌, ◌∙◌, ◌+◌, ◌-◌, ◌≤◌, ◌<◌, ◌++◌, [], suc, ap, sym, subst, refl, true, false, IfOk, length, take, drop, slice_range, arith}
+use Rattle.std.specs.List.{slice_index_or}
+use Rattle.std.proofs.lemmas.List.{drop_all, append-nil}
 use Rattle.std.proofs.lemmas.Result.{IfOk-weaker}
 use borrow.Rule.Slice.PartMut.{put_mid}
 use Rattle.merc_goal_tree.specs.Nodes.{Node, Conjunction, Parallel, nodes_of, span_of}
@@ -8,19 +10,20 @@ use Rattle.merc_order.specs.Procedures.{modes_of}
 use Rattle.merc_readiness.specs.Asking.{Asked, AskedParts}
 use Rattle.merc_readiness.specs.Bounds.{all_behind}
 use Rattle.merc_readiness.specs.Chains.{AskedArm, AskedLinks, IsOpen, IsReached, Told}
-use Rattle.merc_readiness.specs.Facts.{all_subgoals}
-use Rattle.merc_readiness.specs.Sweeps.{Extends, AreGone, AreKnownFrom, During, DuringArms, DuringBeside}
+use Rattle.merc_readiness.specs.Sweeps.{Extends, ArePlaced, AreGone, AreStuck, DuringArms, DuringBeside, listed_if_left}
 use Rattle.merc_readiness.specs.declared.facts.Facts.{Facts}
+use Rattle.merc_readiness.specs.declared.waiting.Waiting.{Waiting}
 use Rattle.merc_readiness.proofs.Asked.{asked_marked, parts_marked, marked_again}
-use Rattle.merc_readiness.proofs.Asks.{not_true, not_false, undone, rest_nodes, rest_length, no_rest, list_length, own_known, gone_at_first, all_went, none_went, no_time_left}
-use Rattle.merc_readiness.proofs.Binding.{extends_same, extends_on, extends_all, next_known}
+use Rattle.merc_readiness.proofs.Asks.{undone, rest_length, no_rest, own_known, gone_at_first}
+use Rattle.merc_readiness.proofs.Binding.{extends_same, extends_on, extends_all}
 use Rattle.merc_readiness.proofs.ChainLaws.{begin_chain, conditional_length}
-use Rattle.merc_readiness.proofs.Conjunctions.{begin_sweep, end_sweep}
+use Rattle.merc_readiness.proofs.Conjunctions.{all_went, none_went, is_empty}
 use Rattle.merc_readiness.proofs.Each.{begin_beside, not_by_arms, end_arms, end_beside}
 use Rattle.merc_readiness.proofs.Halves.{condition_stops, owed_stops, then_asked, arm_stops_decision, decision_owes, decision_asked, negation_stops, negation_asked, quantified_asked}
+use Rattle.merc_readiness.proofs.Listed.{not_empty, none_counted, placed_here, parts_here, placed_if_left, placed-reverse, within_if_left, gone_reversed}
 use Rattle.merc_readiness.proofs.Marking.{parts_length}
-use Rattle.merc_readiness.proofs.Stepping.{step_over}
-use Rattle.merc_readiness.proofs.Turns.{arm_stops, arm_goes, beside_stops, beside_goes, link_stops, link_goes, last_stops, last_goes, member_stays, member_goes}
+use Rattle.merc_readiness.proofs.Turns.{arm_stops, arm_goes, beside_stops, beside_goes, link_stops, link_goes, last_stops, last_goes, member_stays, member_goes, member_asked}
+use Rattle.merc_readiness.proofs.+asking.Goals.{sweeping::sweep_once-then-not-branch+in_ok-push, sweeping::sweep_once-else-not-branch}
 use Rattle.merc_readiness.proofs.+asking.Goals as goal
 
 pub asking::advance-overflow_sub-own : goal.asking::advance-overflow_sub-own
@@ -419,126 +422,125 @@ chains::advance_links-returns-else-branch-clause-asked t c = λ total known m.
 pub sweeping::advance_all-returns-clause-asked : goal.sweeping::advance_all-returns-clause-asked
 sweeping::advance_all-returns-clause-asked t c = λ span own total known own_known m.
     c.in_ok-ready.ensures.asked total (among c.args.bound.now) span known (gone_at_first total (modes_of c.args.predicates.now) c.args.goals.now span c.args.facts.now c.args.marks.now
-    c.args.bound.now c.bind_gone.new.bound known m c.in_ok-bind_gone.ensures.binds)
+    c.args.bound.now c.bind_gone.new.bound c.in_ok-left.left.items known m c.in_ok-left.ensures.binds)
 
-pub sweeping::ask_member-overflow_sub-own : goal.sweeping::ask_member-overflow_sub-own
-sweeping::ask_member-overflow_sub-own t c = let h = parts_length c.args.goal.now in omega arith
+pub sweeping::ask_member-overflow_sub-end : goal.sweeping::ask_member-overflow_sub-end
+sweeping::ask_member-overflow_sub-end t c = let h = parts_length c.args.goal.now in omega (arith, c.part_count.ensures)
 
-pub sweeping::ask_member-bounds-marks-own : goal.sweeping::ask_member-bounds-marks-own
-sweeping::ask_member-bounds-marks-own t c = let h = parts_length c.args.goal.now in omega arith
+pub sweeping::ask_member-bounds-facts-end : goal.sweeping::ask_member-bounds-facts-end
+sweeping::ask_member-bounds-facts-end t c = let h = parts_length c.args.goal.now in omega (arith, c.part_count.ensures)
 
-pub sweeping::ask_member-returns-then-marks-own-clause-steps : goal.sweeping::ask_member-returns-then-marks-own-clause-steps
-sweeping::ask_member-returns-then-marks-own-clause-steps t c = λ total goals rest start count known d.
-    let h = parts_length c.args.goal.now in
+pub sweeping::ask_member-returns-then-not-branch-clause-asks : goal.sweeping::ask_member-returns-then-not-branch-clause-asks
+sweeping::ask_member-returns-then-not-branch-clause-asks t c =
     let same = c.part_count.ensures in
-    let own_is : suc (c.args.at + c.part_count.result - 1) ≡ c.args.at + length (parts_of c.args.goal.now) = omega arith in
-    step_over total (modes_of c.args.predicates.now) goals start c.args.goal.now rest c.args.marks.now c.args.at (among c.args.bound.now) c.args.swept.is_new c.args.swept.is_left count
-    (c.args.at + c.part_count.result - 1) d own_is c.if-marks-own.true
-
-pub sweeping::ask_member-returns-then-not-branch-clause-steps : goal.sweeping::ask_member-returns-then-not-branch-clause-steps
-sweeping::ask_member-returns-then-not-branch-clause-steps t c = λ total goals rest start count known d.
-    let h = parts_length c.args.goal.now in
-    let same = c.part_count.ensures in
-    let own_is : suc (c.args.at + c.part_count.result - 1) ≡ c.args.at + length (parts_of c.args.goal.now) = omega arith in
-    let end_is : (c.args.at + c.part_count.result) ≡ c.args.at + length (parts_of c.args.goal.now) = omega arith in
-    let size_is : (c.args.at + c.part_count.result - c.args.at) ≡ length (parts_of c.args.goal.now) = omega arith in
-    subst (λ b. During total (modes_of c.args.predicates.now) goals start rest (put_mid c.args.at (c.args.at + c.part_count.result - c.args.at) c.args.marks.now c.advance.new.marks)
-    (c.args.at + length (parts_of c.args.goal.now)) (among b) c.args.swept.is_new true count)
-    (sym c.in_ok-advance.ensures.same)
-    (member_stays c.args.predicates.now c.args.goal.now c.args.facts.now c.args.marks.now c.advance.new.marks c.args.at (c.args.at + c.part_count.result - 1)
-    (c.args.at + c.part_count.result) (c.args.at + c.part_count.result - c.args.at) (among c.args.bound.now) c.args.swept.is_new c.args.swept.is_left own_is end_is size_is
-    c.if-marks-own.false
-    (subst (λ r. Asked c.args.predicates.now c.args.goal.now (slice_range c.args.facts.now c.args.at (c.args.at + c.part_count.result)) (slice_range c.args.marks.now c.args.at
-    (c.args.at + c.part_count.result)) c.advance.new.marks (among c.args.bound.now) r) c.if-not-branch.true c.in_ok-advance.ensures.asked) total goals rest start count known d)
-
-pub sweeping::ask_member-bounds-facts-own : goal.sweeping::ask_member-bounds-facts-own
-sweeping::ask_member-bounds-facts-own t c = let h = parts_length c.args.goal.now in omega arith
+    let end = c.args.at + c.part_count.result in
+    let end_is : end ≡ c.args.at + length (parts_of c.args.goal.now) = omega arith in
+    let size_is : end - c.args.at ≡ length (parts_of c.args.goal.now) = omega arith in
+    member_stays c.args.predicates.now c.args.goal.now c.args.facts.now c.args.marks.now c.advance.new.marks c.args.at end (end - c.args.at) c.args.bound.now c.advance.new.bound end_is size_is
+    c.in_ok-advance.ensures.same
+    (subst (λ r. Asked c.args.predicates.now c.args.goal.now (slice_range c.args.facts.now c.args.at end) (slice_range c.args.marks.now c.args.at end) c.advance.new.marks (among c.args.bound.now) r)
+    c.if-not-branch.true c.in_ok-advance.ensures.asked)
 
 pub sweeping::ask_member-returns-clause-extends : goal.sweeping::ask_member-returns-clause-extends
 sweeping::ask_member-returns-clause-extends t c =
     subst (λ l. Extends c.args.bound.now l) (sym (c.in_ok-bind_all.ensures ∙ ap (λ b. all_behind b c.as_slice.result.now) c.in_ok-advance.ensures.same))
     (extends_all c.args.bound.now c.as_slice.result.now)
 
-pub sweeping::ask_member-returns-clause-steps : goal.sweeping::ask_member-returns-clause-steps
-sweeping::ask_member-returns-clause-steps t c = λ total goals rest start count known d.
+pub sweeping::ask_member-returns-clause-asks : goal.sweeping::ask_member-returns-clause-asks
+sweeping::ask_member-returns-clause-asks t c =
     let h = parts_length c.args.goal.now in
     let same = c.part_count.ensures in
-    let own_is : suc (c.args.at + c.part_count.result - 1) ≡ c.args.at + length (parts_of c.args.goal.now) = omega arith in
-    let end_is : (c.args.at + c.part_count.result) ≡ c.args.at + length (parts_of c.args.goal.now) = omega arith in
-    let size_is : (c.args.at + c.part_count.result - c.args.at) ≡ length (parts_of c.args.goal.now) = omega arith in
-    let set : c.bind_all.new.self ≡ all_behind c.args.bound.now c.index-facts-own.result.binds =
+    let end = c.args.at + c.part_count.result in
+    let end_is : end ≡ c.args.at + length (parts_of c.args.goal.now) = omega arith in
+    let size_is : end - c.args.at ≡ length (parts_of c.args.goal.now) = omega arith in
+    let own_is : suc (end - 1) ≡ c.args.at + length (parts_of c.args.goal.now) = omega arith in
+    let set : c.bind_all.new.self ≡ all_behind c.args.bound.now c.index-facts-end.result.binds =
     c.in_ok-bind_all.ensures ∙ ap (λ b. all_behind b c.as_slice.result.now) c.in_ok-advance.ensures.same ∙ ap (λ l. all_behind c.args.bound.now l) c.as_slice.ensures
-    ∙ ap (λ (f : Facts). all_behind c.args.bound.now f.binds) (sym c.index-facts-own.is) in
-    subst (λ b. During total (modes_of c.args.predicates.now) goals start rest (put_mid c.args.at (c.args.at + c.part_count.result - c.args.at) c.args.marks.now c.advance.new.marks)
-    (c.args.at + length (parts_of c.args.goal.now)) (among b) true c.args.swept.is_left count) (sym set)
-    (member_goes c.args.predicates.now c.args.goal.now c.args.facts.now c.args.marks.now c.advance.new.marks c.args.at (c.args.at + c.part_count.result - 1)
-    (c.args.at + c.part_count.result) (c.args.at + c.part_count.result - c.args.at) c.args.bound.now c.index-facts-own.result c.args.swept.is_new c.args.swept.is_left own_is end_is
-    size_is c.if-marks-own.false
-    c.index-facts-own.is (subst (λ r. Asked c.args.predicates.now c.args.goal.now (slice_range c.args.facts.now c.args.at (c.args.at + c.part_count.result))
-    (slice_range c.args.marks.now c.args.at (c.args.at + c.part_count.result)) c.advance.new.marks (among c.args.bound.now) r) c.if-not-branch.false c.in_ok-advance.ensures.asked) total
-    goals rest start count known d)
+    ∙ ap (λ (f : Facts). all_behind c.args.bound.now f.binds) (sym c.index-facts-end.is) in
+    member_goes c.args.predicates.now c.args.goal.now c.args.facts.now c.args.marks.now c.advance.new.marks c.args.at end (end - 1) (end - c.args.at) c.args.bound.now c.bind_all.new.self
+    c.index-facts-end.result end_is size_is own_is c.index-facts-end.is set
+    (subst (λ r. Asked c.args.predicates.now c.args.goal.now (slice_range c.args.facts.now c.args.at end) (slice_range c.args.marks.now c.args.at end) c.advance.new.marks (among c.args.bound.now) r)
+    c.if-not-branch.false c.in_ok-advance.ensures.asked)
 
-pub sweeping::sweep_all-returns-then-not-swept-clause-asked : goal.sweeping::sweep_all-returns-then-not-swept-clause-asked
-sweeping::sweep_all-returns-then-not-swept-clause-asked t c = λ total start span known gone.
-    all_went total (modes_of c.args.predicates.now) (nodes_of c.args.goals.now) start c.sweep_once.new.marks (among c.sweep_once.new.bound) c.in_ok-swept.swept.is_new
-    c.in_ok-swept.swept.is_left (length c.args.goals.now - c.loop-round._round) span
-    (c.in_ok-swept.ensures.sweeps total start (length c.args.goals.now - c.loop-round._round) known
-    (c.loop-round.invariant.gone total start known (subst (λ n. AreGone total (modes_of c.args.predicates.now) (nodes_of c.args.goals.now) start c.args.marks.now
-    (among c.args.bound.now) n) (list_length c.args.goals.now) gone))) (not_true c.in_ok-swept.swept.is_left c.if-not-swept.true)
+pub sweeping::sweep_all-returns-then-len-clause-asked : goal.sweeping::sweep_all-returns-then-len-clause-asked
+sweeping::sweep_all-returns-then-len-clause-asked t c = λ total start span known gone.
+    let (now, stuck) = c.in_ok-kept.ensures.sweeps total start known (subst (λ l. AreGone total (modes_of c.args.predicates.now) (nodes_of c.args.goals.now) start c.loop-alloc.marks (among c.loop-alloc.bound) l)
+    (sym c.deref.ensures.value) (c.loop-alloc.invariant.gone total start known gone)) in
+    let rest_is : length c.deref.result.now ≡ length c.loop-alloc.rest.items = ap (λ l. length l) c.deref.ensures.value in
+    let some = not_empty c.loop-alloc.rest.len c.loop-alloc-test.ensures in
+    let same : length c.in_ok-kept.kept.items ≡ length c.deref.result.now = omega (arith, rest_is, c.in_ok-kept.kept.ok.0, c.loop-alloc.rest.ok.0, c.len.ensures, c.len-in-loop-alloc.ensures, c.if-len.true) in
+    none_went total (modes_of c.args.predicates.now) c.args.goals.now start c.sweep_once.new.marks (among c.sweep_once.new.bound) c.in_ok-kept.kept.items span
+    (omega (arith, some, same, rest_is, c.loop-alloc.rest.ok.0)) now (stuck same)
 
-pub sweeping::sweep_all-returns-then-not-swept-2-clause-asked : goal.sweeping::sweep_all-returns-then-not-swept-2-clause-asked
-sweeping::sweep_all-returns-then-not-swept-2-clause-asked t c = λ total start span known gone.
-    none_went total (modes_of c.args.predicates.now) (nodes_of c.args.goals.now) start c.sweep_once.new.marks (among c.sweep_once.new.bound) c.in_ok-swept.swept.is_new
-    c.in_ok-swept.swept.is_left (length c.args.goals.now - c.loop-round._round) span
-    (c.in_ok-swept.ensures.sweeps total start (length c.args.goals.now - c.loop-round._round) known
-    (c.loop-round.invariant.gone total start known (subst (λ n. AreGone total (modes_of c.args.predicates.now) (nodes_of c.args.goals.now) start c.args.marks.now
-    (among c.args.bound.now) n) (list_length c.args.goals.now) gone))) (not_false c.in_ok-swept.swept.is_left c.if-not-swept.false)
-    (not_true c.in_ok-swept.swept.is_new c.if-not-swept-2.true)
+pub sweeping::sweep_all-loop-alloc-preserved : goal.sweeping::sweep_all-loop-alloc-preserved
+sweeping::sweep_all-loop-alloc-preserved t c = record {
+  placed = subst (λ l. ArePlaced c.args.goals.now l) (sym c.reverse.ensures.items) (placed-reverse c.args.goals.now c.in_ok-kept.kept.items c.in_ok-kept.ensures.placed);
+  extends = extends_on c.args.bound.now c.loop-alloc.bound c.sweep_once.new.bound c.loop-alloc.invariant.extends c.in_ok-kept.ensures.extends;
+  gone = λ total start known gone.
+      subst (λ l. AreGone total (modes_of c.args.predicates.now) (nodes_of c.args.goals.now) start c.sweep_once.new.marks (among c.sweep_once.new.bound) l) (sym c.reverse.ensures.items)
+      (gone_reversed total (modes_of c.args.predicates.now) (nodes_of c.args.goals.now) start c.sweep_once.new.marks (among c.sweep_once.new.bound) c.in_ok-kept.kept.items
+      (c.in_ok-kept.ensures.sweeps total start known (subst (λ l. AreGone total (modes_of c.args.predicates.now) (nodes_of c.args.goals.now) start c.loop-alloc.marks (among c.loop-alloc.bound) l)
+      (sym c.deref.ensures.value) (c.loop-alloc.invariant.gone total start known gone))).0);
+}
 
 pub sweeping::sweep_all-returns-clause-asked : goal.sweeping::sweep_all-returns-clause-asked
 sweeping::sweep_all-returns-clause-asked t c = λ total start span known gone.
-    no_time_left total (modes_of c.args.predicates.now) (nodes_of c.args.goals.now) start c.loop-round.marks (among c.loop-round.bound) (length c.args.goals.now - c.loop-round._round) span
-    (c.loop-round.invariant.gone total start known (subst (λ n. AreGone total (modes_of c.args.predicates.now) (nodes_of c.args.goals.now) start c.args.marks.now
-    (among c.args.bound.now) n) (list_length c.args.goals.now) gone)) (omega arith)
+    let none = none_counted c.loop-alloc.rest.len c.loop-alloc-test.ensures in
+    all_went total (modes_of c.args.predicates.now) (nodes_of c.args.goals.now) start c.loop-alloc.marks (among c.loop-alloc.bound) span
+    (subst (λ l. AreGone total (modes_of c.args.predicates.now) (nodes_of c.args.goals.now) start c.loop-alloc.marks (among c.loop-alloc.bound) l)
+    (is_empty c.loop-alloc.rest.items (omega (arith, none, c.loop-alloc.rest.ok.0))) (c.loop-alloc.invariant.gone total start known gone))
 
-pub sweeping::sweep_once-loop-goal-init : goal.sweeping::sweep_once-loop-goal-init
-sweeping::sweep_once-loop-goal-init t c = record {
-  at_is = omega arith;
-  extends = extends_same c.args.bound.now;
-  during = λ total start count known gone. (
-    record { front = []; back = c.args.facts.now; at_is = refl; facts_are = refl; known = known },
-    begin_sweep total (modes_of c.args.predicates.now) (nodes_of c.args.goals.now) start c.args.marks.now (among c.args.bound.now) count gone,
-  );
-}
+pub sweeping::sweep_once-bounds-goals-waiting : goal.sweeping::sweep_once-bounds-goals-waiting
+sweeping::sweep_once-bounds-goals-waiting t c = (placed_here c.args.goals.now c.args.left.now c.loop-waiting.waiting-index _ _ c.requires.placed c.loop-waiting-test.true refl).0
 
-pub sweeping::sweep_once-loop-goal-preserved : goal.sweeping::sweep_once-loop-goal-preserved
-sweeping::sweep_once-loop-goal-preserved t c =
-    let room : c.loop-goal.goal-index < length c.args.goals.now = omega arith in
-    let cut = rest_nodes c.args.goals.now c.loop-goal.goal-index c.goal-item.result room c.goal-item.is in
-    let count_is = c.part_count-at.ensures in
+pub sweeping::sweep_once-offset_bounds-goals-waiting : goal.sweeping::sweep_once-offset_bounds-goals-waiting
+sweeping::sweep_once-offset_bounds-goals-waiting t c =
+    let first : Waiting = record { index = 0; at = 0 } in
+    let waiting = slice_index_or c.args.left.now c.loop-waiting.waiting-index first in
+    let within = (placed_here c.args.goals.now c.args.left.now c.loop-waiting.waiting-index waiting first c.requires.placed c.loop-waiting-test.true refl).0 in
+    omega (arith, within)
+
+pub sweeping::sweep_once-ask_member-requires : goal.sweeping::sweep_once-ask_member-requires
+sweeping::sweep_once-ask_member-requires t c =
+    let first : Waiting = record { index = 0; at = 0 } in
+    let waiting = slice_index_or c.args.left.now c.loop-waiting.waiting-index first in
+    let placed = placed_here c.args.goals.now c.args.left.now c.loop-waiting.waiting-index waiting first c.requires.placed c.loop-waiting-test.true refl in
+    let within = parts_here c.args.goals.now waiting c.index-goals-waiting.result placed c.index-goals-waiting.is in
+    (omega (arith, within), (omega (arith, within, c.requires.known), omega (arith, within, c.requires.marked, c.loop-waiting.auto.marks)))
+
+pub sweeping::sweep_once-loop-waiting-preserved : goal.sweeping::sweep_once-loop-waiting-preserved
+sweeping::sweep_once-loop-waiting-preserved t c =
+    let index = c.loop-waiting.waiting-index in
+    let first : Waiting = record { index = 0; at = 0 } in
+    let waiting = slice_index_or c.args.left.now index first in
+    let kept = c.loop-waiting.kept.items in
+    let ready = c.in_ok-ask_member.field-0 in
+    let placed = placed_here c.args.goals.now c.args.left.now index waiting first c.requires.placed c.loop-waiting-test.true refl in
+    let listed : c.if-not-branch.kept.items ≡ listed_if_left ready waiting kept = elim c.if-not-branch.branch [
+      | sweeping::sweep_once-then-not-branch+in_ok-push w ↦
+          ap (λ v. v.items) w.kept-is ∙ w.in_ok-push.ensures.items ∙ sym (ap (λ b. listed_if_left b waiting kept) w.if-not-branch.true)
+      | sweeping::sweep_once-else-not-branch w ↦ ap (λ v. v.items) w.kept-is ∙ sym (ap (λ b. listed_if_left b waiting kept) w.if-not-branch.false)
+    ] in
     record {
-      at_is = let parts = rest_length c.args.goals.now c.loop-goal.goal-index c.goal-item.result room c.goal-item.is in let at_is = c.loop-goal.invariant.at_is in omega arith;
-      extends = extends_on c.args.bound.now c.loop-goal.bound c.ask_member.new.bound c.loop-goal.invariant.extends c.in_ok-swept.ensures.extends;
-      during = λ total start count known gone.
-          let (k, d) = c.loop-goal.invariant.during total start count known gone in
-          let rest = nodes_of (drop (c.loop-goal.goal-index + 1) c.args.goals.now) in
-          let here = subst (λ n. AreKnownFrom total (modes_of c.args.predicates.now) (all_subgoals n) c.args.facts.now c.loop-goal.at) cut k in
-          let steps = c.in_ok-swept.ensures.steps total (nodes_of c.args.goals.now) rest start count here
-          (subst (λ n. During total (modes_of c.args.predicates.now) (nodes_of c.args.goals.now) start n c.loop-goal.marks c.loop-goal.at
-          (among c.loop-goal.bound) c.loop-goal.swept.is_new c.loop-goal.swept.is_left count) cut d) in (
-            subst (λ n. AreKnownFrom total (modes_of c.args.predicates.now) (all_subgoals rest) c.args.facts.now (c.loop-goal.at + n)) (sym count_is) (next_known total
-                (modes_of c.args.predicates.now) c.goal-item.result rest c.args.facts.now c.loop-goal.at here).others_known,
-            subst (λ n. During total (modes_of c.args.predicates.now) (nodes_of c.args.goals.now) start rest c.ask_member.new.marks (c.loop-goal.at + n)
-                (among c.ask_member.new.bound) c.in_ok-swept.swept.is_new c.in_ok-swept.swept.is_left count)
-                (sym count_is) steps,
-          );
+      placed = subst (λ l. ArePlaced c.args.goals.now l) (sym listed) (placed_if_left c.args.goals.now ready waiting kept placed c.loop-waiting.invariant.placed);
+      fewer = subst (λ l. length l ≤ index + 1) (sym listed) (within_if_left ready waiting kept index c.loop-waiting.invariant.fewer);
+      extends = extends_on c.args.bound.now c.loop-waiting.bound c.ask_member.new.bound c.loop-waiting.invariant.extends c.in_ok-ask_member.ensures.extends;
+      gone = λ total start known gone.
+          let (now, stuck) = c.loop-waiting.invariant.gone total start known gone in
+          subst (λ l. AreGone total (modes_of c.args.predicates.now) (nodes_of c.args.goals.now) start c.ask_member.new.marks (among c.ask_member.new.bound) (l ++ drop (index + 1) c.args.left.now)
+          × (length l ≡ index + 1 → AreStuck total (modes_of c.args.predicates.now) c.args.goals.now l (among c.ask_member.new.bound))) (sym listed)
+          (member_asked c.args.predicates.now c.args.goals.now c.index-goals-waiting.result c.args.facts.now c.loop-waiting.marks c.ask_member.new.marks c.loop-waiting.bound c.ask_member.new.bound
+          kept c.args.left.now waiting first index ready c.loop-waiting-test.true refl c.requires.placed c.index-goals-waiting.is c.loop-waiting.invariant.fewer c.in_ok-ask_member.ensures.asks
+          total start known now stuck);
     }
 
 pub sweeping::sweep_once-returns-clause-sweeps : goal.sweeping::sweep_once-returns-clause-sweeps
-sweeping::sweep_once-returns-clause-sweeps t c = λ total start count known gone.
-    let (k, d) = c.loop-goal.invariant.during total start count known gone in
-    let none_left = no_rest c.args.goals.now c.loop-goal.goal-index (omega arith) in
-    end_sweep total (modes_of c.args.predicates.now) (nodes_of c.args.goals.now) start c.loop-goal.marks c.loop-goal.at (among c.loop-goal.bound) c.loop-goal.swept.is_new
-    c.loop-goal.swept.is_left count
-    (subst (λ n. During total (modes_of c.args.predicates.now) (nodes_of c.args.goals.now) start n c.loop-goal.marks c.loop-goal.at
-    (among c.loop-goal.bound) c.loop-goal.swept.is_new c.loop-goal.swept.is_left count) none_left d)
+sweeping::sweep_once-returns-clause-sweeps t c = λ total start known gone.
+    let index = c.loop-waiting.waiting-index in
+    let kept = c.loop-waiting.kept.items in
+    let (now, stuck) = c.loop-waiting.invariant.gone total start known gone in
+    let none_left : drop index c.args.left.now ≡ [] = drop_all index c.args.left.now (omega (arith, c.loop-waiting-test.false)) in (
+      subst (λ l. AreGone total (modes_of c.args.predicates.now) (nodes_of c.args.goals.now) start c.loop-waiting.marks (among c.loop-waiting.bound) l) (append-nil kept)
+          (subst (λ l. AreGone total (modes_of c.args.predicates.now) (nodes_of c.args.goals.now) start c.loop-waiting.marks (among c.loop-waiting.bound) (kept ++ l)) none_left now),
+      λ same. stuck (omega (arith, same, c.loop-waiting-test.false, c.loop-waiting.invariant.fewer)),
+    )

@@ -1,4 +1,4 @@
-use Rattle.std.proofs.Common.{◌≡◌, ◌+◌, ◌*◌, ◌-◌, ◌≤◌, ℕ, drop, length}
+use Rattle.std.proofs.Common.{◌≡◌, ◌+◌, ◌*◌, ◌≤◌, ◌++◌, ℕ, drop, length}
 use Rattle.merc_base.specs.declared.place.Span.{Span}
 use Rattle.merc_goal_tree.specs.Nodes.{Parallel, Disjunction, nodes_of}
 use Rattle.merc_goal_tree.specs.Parts.{parts_of, all_parts}
@@ -7,7 +7,7 @@ use Rattle.merc_order.specs.Procedures.{modes_of}
 use Rattle.merc_readiness.specs.Asking.{IsMarked, AreMarked, AreKnown, joined_by}
 use Rattle.merc_readiness.specs.Chains.{IsOpen}
 use Rattle.merc_readiness.specs.Facts.{subgoals, all_subgoals}
-use Rattle.merc_readiness.specs.Sweeps.{Extends, AreGone, AreKnownFrom, During, DuringArms, DuringBeside}
+use Rattle.merc_readiness.specs.Sweeps.{Extends, ArePlaced, AreGone, AreStuck, AreKnownFrom, DuringArms, DuringBeside}
 use Rattle.merc_readiness.proofs.+asking.Given as goal
 
 -- A call's measure is seven times the number of the parts that it is given, and the rank of the function.
@@ -83,20 +83,25 @@ invariant-chains::advance_links-loop-link l = record {
 abbrev pub decreases-chains::advance_links-loop-link : goal.decreases-chains::advance_links-loop-link
 decreases-chains::advance_links-loop-link l = length (parts_of l.last)
 
-abbrev pub invariant-sweeping::sweep_once-loop-goal : goal.invariant-sweeping::sweep_once-loop-goal
-invariant-sweeping::sweep_once-loop-goal l = record {
-  at_is : l.at + length (all_parts (nodes_of (drop l.goal-index l.goals))) ≡ length (all_parts (nodes_of l.goals));
-  extends : Extends l.fn.bound l.bound;
-  during : (total : ℕ → ℕ) (start : Bound) (count : ℕ) → AreKnown total (modes_of l.predicates) (all_subgoals (nodes_of l.goals)) l.facts
-      → AreGone total (modes_of l.predicates) (nodes_of l.goals) start l.fn.marks (among l.fn.bound) count
-      → AreKnownFrom total (modes_of l.predicates) (all_subgoals (nodes_of (drop l.goal-index l.goals))) l.facts l.at
-      × During total (modes_of l.predicates) (nodes_of l.goals) start (nodes_of (drop l.goal-index l.goals)) l.marks l.at (among l.bound) l.swept.is_new l.swept.is_left count;
-}
-
-abbrev pub invariant-sweeping::sweep_all-loop-round : goal.invariant-sweeping::sweep_all-loop-round
-invariant-sweeping::sweep_all-loop-round l = record {
+abbrev pub invariant-sweeping::sweep_once-loop-waiting : goal.invariant-sweeping::sweep_once-loop-waiting
+invariant-sweeping::sweep_once-loop-waiting l = record {
+  placed : ArePlaced l.goals l.kept.items;
+  fewer : length l.kept.items ≤ l.waiting-index;
   extends : Extends l.fn.bound l.bound;
   gone : (total : ℕ → ℕ) (start : Bound) → AreKnown total (modes_of l.predicates) (all_subgoals (nodes_of l.goals)) l.facts
-      → AreGone total (modes_of l.predicates) (nodes_of l.goals) start l.fn.marks (among l.fn.bound) (length l.goals)
-      → AreGone total (modes_of l.predicates) (nodes_of l.goals) start l.marks (among l.bound) (length l.goals - l._round);
+      → AreGone total (modes_of l.predicates) (nodes_of l.goals) start l.fn.marks (among l.fn.bound) l.left
+      → AreGone total (modes_of l.predicates) (nodes_of l.goals) start l.marks (among l.bound) (l.kept.items ++ drop l.waiting-index l.left)
+      × (length l.kept.items ≡ l.waiting-index → AreStuck total (modes_of l.predicates) l.goals l.kept.items (among l.bound));
 }
+
+abbrev pub invariant-sweeping::sweep_all-loop-alloc : goal.invariant-sweeping::sweep_all-loop-alloc
+invariant-sweeping::sweep_all-loop-alloc l = record {
+  placed : ArePlaced l.goals l.rest.items;
+  extends : Extends l.fn.bound l.bound;
+  gone : (total : ℕ → ℕ) (start : Bound) → AreKnown total (modes_of l.predicates) (all_subgoals (nodes_of l.goals)) l.facts
+      → AreGone total (modes_of l.predicates) (nodes_of l.goals) start l.fn.marks (among l.fn.bound) l.fn.left.items
+      → AreGone total (modes_of l.predicates) (nodes_of l.goals) start l.marks (among l.bound) l.rest.items;
+}
+
+abbrev pub decreases-sweeping::sweep_all-loop-alloc : goal.decreases-sweeping::sweep_all-loop-alloc
+decreases-sweeping::sweep_all-loop-alloc l = length l.rest.items
