@@ -48,10 +48,6 @@ pub one_more : (bit : Bool) (n : ℕ) → suc n ≡ new_one (not bit) → (bit �
 one_more true n h = absurd (omega (arith, h))
 one_more false n h = (refl, omega (arith, h))
 
-pub at_most : (bit : Bool) → new_one bit ≤ 1
-at_most true = omega arith
-at_most false = omega arith
-
 -- parts, cut before the goal of an index
 
 pub all_parts_cut : (goals : List Node) (index : ℕ) → length (all_parts (nodes_of goals)) ≡ length (all_parts (nodes_of (take index goals))) + length (all_parts (nodes_of (drop index goals)))

@@ -87,10 +87,6 @@ own_mark front inner went back at default h =
     ∙ ap (λ l. slice_index_or l at default) (sym (append_assoc front inner (went ∷ back)))
     ∙ get_or_at (front ++ inner) went back default at (length-append front inner ∙ h)
 
-pub regrouped : {X : Type 0} (front inner : List X) (own : X) (back : List X) → front ++ (inner ++ own ∷ back) ≡ (front ++ (inner ++ own ∷ [])) ++ back
-regrouped front inner own back =
-    ap (λ l. front ++ l) (sym (append_assoc inner (own ∷ []) back)) ∙ sym (append_assoc front (inner ++ own ∷ []) back)
-
 -- facts of the parts, cut as the parts are
 
 module _ (total : ℕ → ℕ) (modes : ℕ → List ModeDecl) where
