@@ -4,6 +4,7 @@ pub mod BoundsExamples
 pub mod CallModeCode
 pub mod Facts
 pub mod Sweeps
+pub mod SweepsExamples
 pub mod Chains
 pub mod ChainsExamples
 pub mod Reaches
