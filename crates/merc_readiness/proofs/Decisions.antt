@@ -18,6 +18,7 @@ use Rattle.merc_readiness.specs.Outside.{occurs_outside, IsStretch}
 use Rattle.merc_readiness.proofs.Bounds.{or_false}
 use Rattle.merc_readiness.proofs.CompleteGoals.{is_last, still_known}
 use Rattle.merc_readiness.proofs.Found.{owed_by, binds_within}
+use Rattle.merc_readiness.proofs.Needs.{conditional_needed}
 
 and_true : (one : Bool) → (one && true) ≡ one
 and_true true = refl
@@ -95,12 +96,12 @@ module _ (total : ℕ → ℕ) (modes : ℕ → List ModeDecl) where
       (subst (λ n. AreKnown total modes (facts ++ own ∷ []) (record { part = n; start = start } ∷ last ∷ []) goals) (sym part_is)
       (is_last total modes facts own start (Conjunction (first_arm condition then_part) span) are, (still_known total modes facts own last else_part known, tt)))
 
-  pub conditional_are : (condition then_part else_part : Node) (span : Span) (all : List ℕ) (start end then_end : ℕ) (own decided found : Facts)
+  pub conditional_are : (condition then_part else_part : Node) (span : Span) (all : List ℕ) (start end then_end : ℕ) (own arm decided found : Facts)
       → IsStretch total all start end (variables (Conditional condition then_part else_part span)) → then_end ≡ end - length (variables else_part)
-      → AreFactsOf total modes condition own → AreFactsOf total modes (Disjunction (two_arms condition then_part else_part span) span) decided
-      → found.reached ≡ decided.reached → found.binds ≡ decided.binds → found.owed ≡ decided.owed → found.occurrences ≡ decided.occurrences
+      → AreFactsOf total modes condition own → AreFactsOf total modes (Conjunction (first_arm condition then_part) span) arm → AreFactsOf total modes (Disjunction (two_arms condition then_part else_part span) span) decided
+      → found.reached ≡ decided.reached → found.binds ≡ decided.binds → found.owed ≡ decided.owed → found.needs ≡ arm.needs → found.occurrences ≡ decided.occurrences
       → found.owed_by_condition ≡ filter (λ variable. occurs_outside all start then_end variable) own.binds → AreFactsOf total modes (Conditional condition then_part else_part span) found
-  conditional_are condition then_part else_part span all start end then_end own decided found stretch then_end_is own_are are r b o n c =
+  conditional_are condition then_part else_part span all start end then_end own arm decided found stretch then_end_is own_are arm_are are r b o s n c =
       let one = variables condition ++ variables then_part in
       let goals = two_arms condition then_part else_part span in
       let inside = variables (Conditional condition then_part else_part span) in
@@ -119,5 +120,6 @@ module _ (total : ℕ → ℕ) (modes : ℕ → List ModeDecl) where
         owed_by_condition_are = λ bound. ap (are_bound bound) c
             ∙ owed_by total modes all start then_end one (variables condition) own.binds (binds total modes condition) bound
             (first_stretch condition then_part else_part span all start end then_end stretch then_end_is) own_are.binds_are (binds_within total modes condition);
+        needed = conditional_needed total modes condition then_part else_part span arm found.needs arm_are s;
         occurrences_are = n ∙ are.occurrences_are ∙ ap (λ l. length l) same;
       }

@@ -8,16 +8,19 @@ use Rattle.merc_tree.specs.declared.declarations.ModeDecl.{ModeDecl}
 use Rattle.merc_goal_tree.specs.Nodes.{Nodes, Disjunction, no_nodes, more_nodes}
 use Rattle.merc_goal_tree.specs.Variables.{all_variables}
 use Rattle.merc_order.specs.Bound.{Bound, among, are_bound}
-use Rattle.merc_order.specs.Order.{Arm, any_reached, counting, all_bind, differ_on, shared, reached, some_reached, binds, some_bind, arms}
+use Rattle.merc_order.specs.Order.{Arm, any_reached, counting, all_bind, differ_on, shared, reached, some_reached, binds, some_bind, arms, from}
+use Rattle.merc_order.specs.Ordered.{is_ready}
 use Rattle.merc_readiness.specs.declared.facts.Facts.{Facts}
 use Rattle.merc_readiness.specs.declared.complete.Complete.{Complete}
 use Rattle.merc_readiness.specs.Arms.{counts, among_all, all_of, those_bound, those_owed}
 use Rattle.merc_readiness.specs.Bounds.{all_behind}
 use Rattle.merc_readiness.specs.Complete.{AreKnown}
 use Rattle.merc_readiness.specs.Facts.{AreFactsOf}
+use Rattle.merc_readiness.specs.Needs.{found_in, is_needed}
 use Rattle.merc_readiness.specs.Outside.{occurs_outside, IsStretch}
 use Rattle.merc_readiness.proofs.ArmLaws.{some_counting, all_counting, bound_of, owed_of, owed_by_some, among-those_bound, among-those_owed, listed_is}
 use Rattle.merc_readiness.proofs.Found.{both_true, either_true, or_left, or_right, among-filter, owed_by, some_within}
+use Rattle.merc_readiness.proofs.Needs.{disjunction_needed}
 use Rattle.merc_readiness.proofs.Outside.{outside_stretch}
 
 any_one : (reached binds : Bool) → (not (reached || true) || binds) ≡ true → ((reached || true) && binds) ≡ true
@@ -55,8 +58,9 @@ module _ (total : ℕ → ℕ) (modes : ℕ → List ModeDecl) where
       → ((variable : ℕ) → among some variable ≡ some_count any (arms total modes goals) variable) → ((variable : ℕ) → among_all every variable ≡ all_count any (arms total modes goals) variable)
       → found.reached ≡ any → found.binds ≡ filter (λ variable. occurs_outside all start end variable) (those_bound any some (all_behind [] (all_of some every)))
       → found.owed ≡ filter (λ variable. occurs_outside all start end variable) (those_owed any some (all_behind [] (all_of some every))) → found.owed_by_condition ≡ []
+      → ((bound : Bound) → is_ready (from total modes (Disjunction goals span) bound) ≡ true → are_bound bound found.needs ≡ true)
       → found.occurrences ≡ end - start → IsStretch total all start end (all_variables goals) → AreFactsOf total modes (Disjunction goals span) found
-  disjunction_are goals span all start end any some every found any_is some_are every_are r b o c n stretch =
+  disjunction_are goals span all start end any some every found any_is some_are every_are r b o c needed n stretch =
       let inside = all_variables goals in
       let own = arms total modes goals in
       let outer : Bound = λ variable. occurs_outside all start end variable in
@@ -89,6 +93,7 @@ module _ (total : ℕ → ℕ) (modes : ℕ → List ModeDecl) where
             ∙ owed_by total modes all start end inside inside (those_owed any some listed) (differ_on own) bound stretch owed_is
             (λ variable differ. within variable (some_is variable ∙ owed_by_some (any_reached own) (list_any (λ arm. arm.binds variable) (counting own)) (all_bind own variable) differ));
         owed_by_condition_are = λ bound. ap (are_bound bound) c;
+        needed = needed;
         occurrences_are = n ∙ (let e = stretch.end_is in let s = stretch.start_is in omega arith);
       }
 
@@ -98,17 +103,19 @@ pub record AreArms (facts : List Facts) (joined : List Complete) (any : Bool) (s
   pub some_are : (total : ℕ → ℕ) (modes : ℕ → List ModeDecl) (goals : Nodes) (variable : ℕ) → AreKnown total modes facts joined goals → among some variable ≡ some_count any (arms total modes goals) variable
   pub every_are : (total : ℕ → ℕ) (modes : ℕ → List ModeDecl) (goals : Nodes) (variable : ℕ) → AreKnown total modes facts joined goals → among_all every variable ≡ all_count any (arms total modes goals) variable
 
-pub found_are : (facts : List Facts) (joined : List Complete) (all : List ℕ) (start end : ℕ) (any : Bool) (some slice slice' others : List ℕ) (every : Option (List ℕ)) (occurrences : ℕ) (result : Result Facts NoMemory) → AreArms facts joined any some every
+pub found_are : (facts : List Facts) (joined : List Complete) (all : List ℕ) (start end : ℕ) (any : Bool) (some slice slice' others needs : List ℕ) (every : Option (List ℕ)) (occurrences : ℕ) (result : Result Facts NoMemory) → AreArms facts joined any some every
     → slice ≡ some → slice' ≡ some → others ≡ all_of slice' every → IfOk result (λ found. found.reached ≡ any)
     → IfOk result (λ found. found.binds ≡ filter (λ variable. occurs_outside all start end variable) (those_bound any slice (all_behind [] others)))
     → IfOk result (λ found. found.owed ≡ filter (λ variable. occurs_outside all start end variable) (those_owed any slice (all_behind [] others)))
-    → IfOk result (λ found. found.owed_by_condition ≡ []) → IfOk result (λ found. found.occurrences ≡ occurrences) → occurrences ≡ end - start
+    → IfOk result (λ found. found.owed_by_condition ≡ []) → ((variable : ℕ) → among needs variable ≡ is_needed (found_in facts joined) variable) → IfOk result (λ found. found.needs ≡ needs)
+    → IfOk result (λ found. found.occurrences ≡ occurrences) → occurrences ≡ end - start
     → IfOk result (λ found. (total : ℕ → ℕ) (modes : ℕ → List ModeDecl) (goals : Nodes) (span : Span) → AreKnown total modes facts joined goals → IsStretch total all start end (all_variables goals) → AreFactsOf total modes (Disjunction goals span) found)
-found_are facts joined all start end any some slice slice' others every occurrences (Ok found) are s s' e r b o c n count = λ total modes goals span known stretch.
+found_are facts joined all start end any some slice slice' others needs every occurrences (Ok found) are s s' e r b o c needed is n count = λ total modes goals span known stretch.
     let same : others ≡ all_of some every = e ∙ ap (λ l. all_of l every) s' in
     let outer = filter (λ variable. occurs_outside all start end variable) in
     disjunction_are total modes goals span all start end any some every found (are.any_is total modes goals known)
     (λ variable. are.some_are total modes goals variable known) (λ variable. are.every_are total modes goals variable known) r
     (b ∙ ap (λ l. outer (those_bound any l (all_behind [] others))) s ∙ ap (λ l. outer (those_bound any some (all_behind [] l))) same)
-    (o ∙ ap (λ l. outer (those_owed any l (all_behind [] others))) s ∙ ap (λ l. outer (those_owed any some (all_behind [] l))) same) c (n ∙ count) stretch
-found_are facts joined all start end any some slice slice' others every occurrences (Err fault) are s s' e r b o c n count = tt
+    (o ∙ ap (λ l. outer (those_owed any l (all_behind [] others))) s ∙ ap (λ l. outer (those_owed any some (all_behind [] l))) same) c
+    (disjunction_needed total modes facts joined goals span found.needs known (λ variable. ap (λ l. among l variable) is ∙ needed variable)) (n ∙ count) stretch
+found_are facts joined all start end any some slice slice' others needs every occurrences (Err fault) are s s' e r b o c needed is n count = tt

@@ -10,12 +10,14 @@ use Rattle.merc_goal_tree.specs.declared.goal.SimpleGoal.{SimpleGoal}
 use Rattle.merc_goal_tree.specs.Nodes.{Node, Nodes, Simple, Conjunction, Parallel, Disjunction, Conditional, Negation, Quantified, no_nodes, more_nodes}
 use Rattle.merc_goal_tree.specs.Variables.{variables, all_variables, variables_of}
 use Rattle.merc_order.specs.Bound.{Bound, among, are_bound}
-use Rattle.merc_order.specs.Order.{outside, is_simple_reached, binds, some_bind}
+use Rattle.merc_order.specs.Order.{outside, is_simple_reached, binds, some_bind, from}
+use Rattle.merc_order.specs.Ordered.{is_ready}
 use Rattle.merc_readiness.specs.declared.facts.Facts.{Facts}
 use Rattle.merc_readiness.specs.Bounds.{behind, all_behind}
 use Rattle.merc_readiness.specs.Facts.{AreFactsOf}
 use Rattle.merc_readiness.specs.Outside.{occurs_outside, IsStretch}
 use Rattle.merc_readiness.proofs.Bounds.{or_assoc, or_false, among-append}
+use Rattle.merc_readiness.proofs.Inner.{negation_ready, quantified_ready}
 use Rattle.merc_readiness.proofs.Outside.{outside_stretch}
 
 -- truth values
@@ -167,24 +169,27 @@ module _ (total : ℕ → ℕ) (modes : ℕ → List ModeDecl) where
       (sym (outside_stretch total modes all start end inside variable stretch) ∙ h.1)))
 
   pub simple_are : (goal : SimpleGoal) (span : Span) (facts : Facts) → facts.reached ≡ is_simple_reached total modes goal → facts.binds ≡ all_behind [] (variables_of goal)
-      → facts.owed ≡ [] → facts.owed_by_condition ≡ [] → facts.occurrences ≡ length (variables_of goal) → AreFactsOf total modes (Simple goal span) facts
-  simple_are goal span facts r b o c n = record {
+      → facts.owed ≡ [] → facts.owed_by_condition ≡ [] → ((bound : Bound) → is_ready (from total modes (Simple goal span) bound) ≡ true → are_bound bound facts.needs ≡ true)
+      → facts.occurrences ≡ length (variables_of goal) → AreFactsOf total modes (Simple goal span) facts
+  simple_are goal span facts r b o c needed n = record {
     reached_is = r;
     binds_are = λ variable. ap (λ l. among l variable) b ∙ among-all_behind [] (variables_of goal) variable;
     owed_are = λ bound. ap (are_bound bound) o;
     owed_by_condition_are = λ bound. ap (are_bound bound) c;
+    needed = needed;
     occurrences_are = n;
   }
 
   pub negation_are : (goal : Node) (span : Span) (all : List ℕ) (start end : ℕ) (inner facts : Facts) → IsStretch total all start end (variables goal) → AreFactsOf total modes goal inner
       → facts.reached ≡ true → facts.binds ≡ [] → facts.owed ≡ filter (λ variable. occurs_outside all start end variable) inner.binds → facts.owed_by_condition ≡ []
-      → facts.occurrences ≡ inner.occurrences → AreFactsOf total modes (Negation goal span) facts
-  negation_are goal span all start end inner facts stretch known r b o c n = record {
+      → facts.needs ≡ inner.needs → facts.occurrences ≡ inner.occurrences → AreFactsOf total modes (Negation goal span) facts
+  negation_are goal span all start end inner facts stretch known r b o c s n = record {
     reached_is = r;
     binds_are = λ variable. ap (λ l. among l variable) b;
     owed_are = λ bound. ap (are_bound bound) o
         ∙ owed_by all start end (variables goal) (variables goal) inner.binds (binds total modes goal) bound stretch known.binds_are (binds_within goal);
     owed_by_condition_are = λ bound. ap (are_bound bound) c;
+    needed = λ bound ready. ap (λ l. are_bound bound l) s ∙ known.needed bound (both_true (is_ready (from total modes goal bound)) _ (sym (negation_ready total modes goal span bound) ∙ ready)).0;
     occurrences_are = n ∙ known.occurrences_are;
   }
 
@@ -197,8 +202,8 @@ module _ (total : ℕ → ℕ) (modes : ℕ → List ModeDecl) where
 
   pub quantified_are : (own : List ℕ) (goal : Node) (span : Span) (all : List ℕ) (start end : ℕ) (inner facts : Facts) → IsStretch total all start end (variables goal) → AreFactsOf total modes goal inner
       → facts.reached ≡ inner.reached → facts.binds ≡ filter (λ variable. occurs_outside all start end variable) inner.binds → facts.owed ≡ [] → facts.owed_by_condition ≡ []
-      → facts.occurrences ≡ inner.occurrences → AreFactsOf total modes (Quantified own goal span) facts
-  quantified_are own goal span all start end inner facts stretch known r b o c n = record {
+      → facts.needs ≡ inner.needs → facts.occurrences ≡ inner.occurrences → AreFactsOf total modes (Quantified own goal span) facts
+  quantified_are own goal span all start end inner facts stretch known r b o c s n = record {
     reached_is = r ∙ known.reached_is;
     binds_are = λ variable. ap (λ l. among l variable) b ∙ among-filter (λ v. occurs_outside all start end v) inner.binds variable
         ∙ ap (λ t. t && occurs_outside all start end variable) (known.binds_are variable)
@@ -206,5 +211,6 @@ module _ (total : ℕ → ℕ) (modes : ℕ → List ModeDecl) where
         ∙ shared_by (among (variables goal) variable) (binds total modes goal variable) (outside total modes (variables goal) variable) (binds_within goal variable);
     owed_are = λ bound. ap (are_bound bound) o;
     owed_by_condition_are = λ bound. ap (are_bound bound) c;
+    needed = λ bound ready. ap (λ l. are_bound bound l) s ∙ known.needed bound (sym (quantified_ready total modes own goal span bound) ∙ ready);
     occurrences_are = n ∙ known.occurrences_are;
   }

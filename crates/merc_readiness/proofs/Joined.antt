@@ -12,8 +12,10 @@ use Rattle.merc_readiness.specs.declared.complete.Complete.{Complete}
 use Rattle.merc_readiness.specs.Bounds.{all_behind}
 use Rattle.merc_readiness.specs.Complete.{AreKnown}
 use Rattle.merc_readiness.specs.Facts.{AreFactsOf}
+use Rattle.merc_readiness.specs.Needs.{found_in, is_needed_together}
 use Rattle.merc_readiness.proofs.Bounds.{or_assoc, or_false}
 use Rattle.merc_readiness.proofs.Found.{among-all_behind}
+use Rattle.merc_readiness.proofs.Needs.{conjunction_needed, parallel_needed}
 
 -- what comes of facts, where there are some
 
@@ -65,8 +67,10 @@ module _ (total : ℕ → ℕ) (modes : ℕ → List ModeDecl) (facts : List Fac
       ∙ or_assoc (among known variable) (binds total modes first variable) (some_bind total modes rest variable)
 
   pub conjunction_are : (joined : List Complete) (goals : Nodes) (span : Span) (found : Facts) → found.reached ≡ reached_on facts true joined → found.binds ≡ bound_on facts [] joined
-      → found.owed ≡ [] → found.owed_by_condition ≡ [] → AreKnown total modes facts joined goals → found.occurrences ≡ length (all_variables goals) → AreFactsOf total modes (Conjunction goals span) found
-  conjunction_are joined goals span found r b o c are n = record {
+      → found.owed ≡ [] → found.owed_by_condition ≡ [] → ((variable : ℕ) → among found.needs variable ≡ is_needed_together (found_in facts joined) variable)
+      → AreKnown total modes facts joined goals → found.occurrences ≡ length (all_variables goals) → AreFactsOf total modes (Conjunction goals span) found
+  conjunction_are joined goals span found r b o c s are n = record {
+    needed = conjunction_needed total modes facts joined goals span found.needs are s;
     reached_is = r ∙ reached_on_is joined goals true are;
     binds_are = λ variable. ap (λ l. among l variable) b ∙ bound_on_is joined goals [] variable are;
     owed_are = λ bound. ap (are_bound bound) o;
@@ -75,8 +79,10 @@ module _ (total : ℕ → ℕ) (modes : ℕ → List ModeDecl) (facts : List Fac
   }
 
   pub parallel_are : (joined : List Complete) (goals : Nodes) (span : Span) (found : Facts) → found.reached ≡ reached_on facts true joined → found.binds ≡ bound_on facts [] joined
-      → found.owed ≡ [] → found.owed_by_condition ≡ [] → AreKnown total modes facts joined goals → found.occurrences ≡ length (all_variables goals) → AreFactsOf total modes (Parallel goals span) found
-  parallel_are joined goals span found r b o c are n = record {
+      → found.owed ≡ [] → found.owed_by_condition ≡ [] → ((variable : ℕ) → among found.needs variable ≡ is_needed_together (found_in facts joined) variable)
+      → AreKnown total modes facts joined goals → found.occurrences ≡ length (all_variables goals) → AreFactsOf total modes (Parallel goals span) found
+  parallel_are joined goals span found r b o c s are n = record {
+    needed = parallel_needed total modes facts joined goals span found.needs are s;
     reached_is = r ∙ reached_on_is joined goals true are;
     binds_are = λ variable. ap (λ l. among l variable) b ∙ bound_on_is joined goals [] variable are;
     owed_are = λ bound. ap (are_bound bound) o;

@@ -12,6 +12,8 @@ pub mod Reaches
 pub mod Occurring
 pub mod Outside
 pub mod Found
+pub mod Needs
+pub mod Keeping
 pub mod Joined
 pub mod Arms
 pub mod ArmLaws

@@ -16,12 +16,12 @@ all_failing : counts false false ≡ true
 all_failing = refl
 
 abbrev binds_two : Facts
-binds_two = record { reached = true; binds = 4 ∷ 2 ∷ []; owed = []; owed_by_condition = []; occurrences = 3 }
+binds_two = record { reached = true; binds = 4 ∷ 2 ∷ []; owed = []; owed_by_condition = []; needs = []; occurrences = 3 }
 
 one_more : bound_with true (2 ∷ []) binds_two ≡ 2 ∷ 4 ∷ []
 one_more = refl
 
-none_more : bound_with true (2 ∷ []) (record { reached = false; binds = 4 ∷ 2 ∷ []; owed = []; owed_by_condition = []; occurrences = 3 }) ≡ 2 ∷ []
+none_more : bound_with true (2 ∷ []) (record { reached = false; binds = 4 ∷ 2 ∷ []; owed = []; owed_by_condition = []; needs = []; occurrences = 3 }) ≡ 2 ∷ []
 none_more = refl
 
 -- of the variables 3, 1, 3 the middle one alone

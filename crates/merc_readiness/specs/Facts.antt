@@ -4,7 +4,8 @@ use Rattle.merc_tree.specs.declared.declarations.ModeDecl.{ModeDecl}
 use Rattle.merc_goal_tree.specs.Nodes.{Node, Nodes, Simple, Conjunction, Parallel, Disjunction, Conditional, Negation, Quantified, no_nodes, more_nodes}
 use Rattle.merc_goal_tree.specs.Variables.{variables, all_variables}
 use Rattle.merc_order.specs.Bound.{Bound, among, are_bound}
-use Rattle.merc_order.specs.Order.{agree, arms, binds, binds_inside, decision_arms, reached}
+use Rattle.merc_order.specs.Order.{agree, arms, binds, binds_inside, decision_arms, from, reached}
+use Rattle.merc_order.specs.Ordered.{is_ready}
 use Rattle.merc_readiness.specs.declared.facts.Facts.{Facts}
 
 -- the goals that the parts of a goal are, in the order of the parts
@@ -44,4 +45,5 @@ module _ (total : ℕ → ℕ) (modes : ℕ → List ModeDecl) where
     pub binds_are : (variable : ℕ) → among facts.binds variable ≡ binds total modes goal variable
     pub owed_are : (bound : Bound) → are_bound bound facts.owed ≡ keeps_apart goal bound
     pub owed_by_condition_are : (bound : Bound) → are_bound bound facts.owed_by_condition ≡ condition_keeps_apart goal bound
+    pub needed : (bound : Bound) → is_ready (from total modes goal bound) ≡ true → are_bound bound facts.needs ≡ true
     pub occurrences_are : facts.occurrences ≡ length (variables goal)

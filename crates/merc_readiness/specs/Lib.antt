@@ -11,6 +11,8 @@ pub mod Reaches
 pub mod Occurring
 pub mod OccurringExamples
 pub mod Outside
+pub mod Needs
+pub mod NeedsExamples
 pub mod Complete
 pub mod Knowing
 pub mod KnowingExamples

@@ -55,7 +55,8 @@ pub fn advance(
     Ok(ready)
 }
 
-// The same of a goal that is not marked itself: the pass goes into it, and leaves it.
+// The same of a goal that is not marked itself: the pass goes into it, and leaves it. What it needs is looked at before: its
+// parts are not gone over each time that more is bound.
 #[cycle(asking)]
 fn advance_within(
     alloc: Global,
@@ -71,6 +72,9 @@ fn advance_within(
     ensures same { OnOk result (bound.new ≡ bound.old) }
     ensures asked { IfOk result (λ ready. AskedParts predicates.now goal.now facts.now own.now marks.old marks.new (among bound.old) ready) }
 {
+    if !bound.are_bound(own.needs.as_slice()) {
+        return Ok(false);
+    }
     bound.enter()?;
     let asked = advance_parts(alloc, predicates, goal, facts, own, marks, bound);
     bound.leave();

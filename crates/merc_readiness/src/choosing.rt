@@ -25,7 +25,7 @@ pub(crate) fn is_any_reached(facts: &[Facts], joined: &[Complete]) -> bool
     let mut rest = joined;
     while let [complete, others @ ..] = rest {
         if let Some(found) = facts_at(facts, *complete) {
-            any = either(any, found.reached);
+            any |= found.reached;
         }
         rest = others;
     }
@@ -147,10 +147,4 @@ fn is_counting(any_reached: bool, reached: bool) -> bool
     ensures { result ≡ counts any_reached reached }
 {
     reached || !any_reached
-}
-
-fn either(one: bool, other: bool) -> bool
-    ensures { result ≡ (one || other) }
-{
-    one || other
 }

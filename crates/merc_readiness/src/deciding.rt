@@ -17,8 +17,9 @@ use crate::bound::BoundSet;
 use crate::choosing::{bound_by_all, bound_by_some, is_any_reached, those_in};
 use crate::complete::Complete;
 use crate::facts::Facts;
-use crate::finding::those_outside;
+use crate::finding::{put_those_not_in, those_outside};
 use crate::joining::{conjunction_facts, facts_at};
+use crate::needing::needed_by_some;
 use crate::occurrences::Occurrences;
 use merc_base::NoMemory;
 use merc_goal_tree::{Var, Vars};
@@ -46,6 +47,7 @@ pub(crate) fn disjunction_facts(
     let reached = is_any_reached(facts, joined);
     let some = bound_by_some(alloc, set, facts, joined, reached)?;
     let every = bound_by_all(alloc, set, facts, joined, reached)?;
+    let needs = needed_by_some(alloc, set, facts, joined)?;
     arms_facts(
         alloc,
         set,
@@ -55,6 +57,7 @@ pub(crate) fn disjunction_facts(
         reached,
         some.as_slice(),
         those_of_all(some.as_slice(), &every),
+        needs,
         end.saturating_sub(start),
     )
 }
@@ -87,12 +90,15 @@ pub(crate) fn conditional_facts(
     let goes = [condition, then_part];
     let occurrences = then_end.saturating_sub(start);
     let first_arm = conjunction_facts(alloc, set, facts, &goes, occurrences)?;
+    // What its else part needs it leaves out: in a chain the lists would get longer and longer.
+    let needs = Vars::from_vec(Vec::from_slice(alloc, first_arm.needs.as_slice())?);
     let part = facts.len();
     facts.push(first_arm)?;
     let arms = [Complete { part, start }, else_part];
     let mut decided = disjunction_facts(alloc, set, all, start, end, facts, &arms)?;
     facts.truncate(part);
     decided.owed_by_condition = owed_by_condition;
+    decided.needs = needs;
     Ok(decided)
 }
 
@@ -127,7 +133,7 @@ fn those_of_all<'a>(some: &'a [Var], every: &'a Option<Vars>) -> &'a [Var]
 }
 
 // The facts of a goal with arms, of which some bind these variables and all bind those, and in which variables occur so
-// often. The set has no variables, before and after.
+// often. They need these. The set has no variables, before and after.
 fn arms_facts(
     alloc: Global,
     set: &mut BoundSet,
@@ -137,6 +143,7 @@ fn arms_facts(
     reached: bool,
     some: &[Var],
     every: &[Var],
+    needs: Vars,
     occurrences: usize,
 ) -> Result<Facts, NoMemory>
     requires { set.old ≡ [] }
@@ -145,11 +152,13 @@ fn arms_facts(
     ensures owed { IfOk result (λ found. found.owed ≡ filter (λ variable. occurs_outside all.now start end variable) (those_owed reached some.now (all_behind [] every.now))) }
     ensures occurrences { IfOk result (λ found. found.occurrences ≡ occurrences) }
     ensures condition { IfOk result (λ found. found.owed_by_condition ≡ []) }
+    ensures needs { IfOk result (λ found. found.needs ≡ needs) }
     ensures cleared { OnOk result (set.new ≡ []) }
 {
     set.bind_all(every)?;
     let shared = those_in(alloc, set, some)?;
-    let differing = those_not_in(alloc, set, some)?;
+    let mut differing = Vars::new(alloc);
+    put_those_not_in(set, &mut differing, some)?;
     set.undo(0);
     let bound = one_of(reached, some, shared.as_slice());
     let owed = one_of(reached, differing.as_slice(), &[]);
@@ -158,6 +167,7 @@ fn arms_facts(
         binds: those_outside(alloc, all, start, end, bound)?,
         owed: those_outside(alloc, all, start, end, owed)?,
         owed_by_condition: Vars::new(alloc),
+        needs,
         occurrences,
     })
 }
@@ -167,17 +177,4 @@ fn one_of<'a>(holds: bool, these: &'a [Var], others: &'a [Var]) -> &'a [Var]
     ensures { result.now ≡ (if holds then these.now else others.now) }
 {
     if holds { these } else { others }
-}
-
-// Those of the variables that are not bound.
-fn those_not_in(alloc: Global, set: &BoundSet, variables: &[Var]) -> Result<Vars, NoMemory>
-    ensures { IfOk result (λ apart. apart ≡ filter (λ variable. not (among set.now variable)) variables.now) }
-{
-    let mut apart = Vars::new(alloc);
-    for variable in variables {
-        if !set.is_bound(*variable) {
-            apart.push(*variable)?;
-        }
-    }
-    Ok(apart)
 }

@@ -14,6 +14,9 @@ pub struct Facts {
     pub owed: Vars,
     /// The same of the condition of an if-then-else.
     pub owed_by_condition: Vars,
+    /// Variables without which it is not ready: those that it reads and that no goal in it binds. Those that the goal that
+    /// joins it needs too are told there alone, for that is looked at first.
+    pub needs: Vars,
     /// How often variables occur in it.
     pub occurrences: usize,
 }

@@ -1,10 +1,11 @@
 //! What is known of each part of a body.
-ghost use Rattle.std.specs.Prelude.{◌≡◌, ◌||◌, ℕ, List, [], ◌∷◌, length, IfOk, OnOk};
+ghost use Rattle.std.specs.Prelude.{◌≡◌, ◌||◌, not, ℕ, List, [], ◌∷◌, ◌++◌, length, IfOk, OnOk};
 ghost use Rattle.std.specs.List.{filter};
 ghost use Rattle.merc_base.specs.declared.place.Span.{Span};
 ghost use Rattle.merc_tree.specs.declared.declarations.ModeDecl.{ModeDecl};
 ghost use Rattle.merc_goal_tree.specs.Nodes.{Node, Simple, Negation, Quantified};
 ghost use Rattle.merc_goal_tree.specs.Variables.{variables, variables_of};
+ghost use Rattle.merc_order.specs.Bound.{among};
 ghost use Rattle.merc_order.specs.CallModes.{can_succeed, may_answer};
 ghost use Rattle.merc_order.specs.Order.{is_simple_reached};
 ghost use Rattle.merc_order.specs.Procedures.{modes_of};
@@ -14,6 +15,7 @@ ghost use Rattle.merc_readiness.specs.Outside.{occurs_outside, IsStretch};
 
 use crate::bound::BoundSet;
 use crate::facts::Facts;
+use crate::needing::read_by;
 use crate::occurrences::Occurrences;
 use crate::simple::modes_at;
 use merc_base::{Most, NoMemory};
@@ -39,11 +41,13 @@ pub(crate) fn simple_facts(
     let mut binds = Vars::new(alloc);
     put_goal(set, &mut binds, goal)?;
     set.undo(0);
+    let needs = read_by(alloc, predicates, goal)?;
     Ok(Facts {
         reached: is_simple_reached(goal, predicates),
         binds,
         owed: Vars::new(alloc),
         owed_by_condition: Vars::new(alloc),
+        needs,
         occurrences: occurrence_count(goal),
     })
 }
@@ -63,11 +67,13 @@ pub(crate) fn negation_facts(
     ensures { IfOk result (λ facts. (total : ℕ → ℕ) (modes : ℕ → List ModeDecl) (goal : Node) (span : Span) → IsStretch total all.now start end (variables goal) → AreFactsOf total modes goal inner.now → AreFactsOf total modes (Negation goal span) facts) }
 {
     let owed = those_outside(alloc, all, start, end, inner.binds.as_slice())?;
+    let needs = Vars::from_vec(Vec::from_slice(alloc, inner.needs.as_slice())?);
     Ok(Facts {
         reached: true,
         binds: Vars::new(alloc),
         owed,
         owed_by_condition: Vars::new(alloc),
+        needs,
         occurrences: inner.occurrences,
     })
 }
@@ -87,11 +93,13 @@ pub(crate) fn quantified_facts(
     ensures { IfOk result (λ facts. (total : ℕ → ℕ) (modes : ℕ → List ModeDecl) (own : List ℕ) (goal : Node) (span : Span) → IsStretch total all.now start end (variables goal) → AreFactsOf total modes goal inner.now → AreFactsOf total modes (Quantified own goal span) facts) }
 {
     let binds = those_outside(alloc, all, start, end, inner.binds.as_slice())?;
+    let needs = Vars::from_vec(Vec::from_slice(alloc, inner.needs.as_slice())?);
     Ok(Facts {
         reached: inner.reached,
         binds,
         owed: Vars::new(alloc),
         owed_by_condition: Vars::new(alloc),
+        needs,
         occurrences: inner.occurrences,
     })
 }
@@ -213,4 +221,20 @@ pub(crate) fn those_outside(
         }
     }
     Ok(outer)
+}
+
+/// Puts those of the variables behind the others that are not bound.
+pub(crate) fn put_those_not_in(
+    set: &BoundSet,
+    found: &mut Vars,
+    variables: &[Var],
+) -> Result<(), NoMemory>
+    ensures { OnOk result (found.new ≡ found.old ++ filter (λ variable. not (among set.now variable)) variables.now) }
+{
+    for variable in variables {
+        if !set.is_bound(*variable) {
+            found.push(*variable)?;
+        }
+    }
+    Ok(())
 }

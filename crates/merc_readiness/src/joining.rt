@@ -12,6 +12,7 @@ use crate::bound::BoundSet;
 use crate::complete::Complete;
 use crate::facts::Facts;
 use crate::finding::put_all;
+use crate::needing::needed_together;
 use merc_base::NoMemory;
 use merc_goal_tree::Vars;
 use std::alloc::Global;
@@ -39,17 +40,19 @@ pub(crate) fn conjunction_facts(
     let mut rest = joined;
     while let [complete, others @ ..] = rest {
         if let Some(found) = facts_at(facts, *complete) {
-            reached = both(reached, found.reached);
+            reached &= found.reached;
             put_all(set, &mut binds, found.binds.as_slice())?;
         }
         rest = others;
     }
     set.undo(0);
+    let needs = needed_together(alloc, set, facts, joined)?;
     Ok(Facts {
         reached,
         binds,
         owed: Vars::new(alloc),
         owed_by_condition: Vars::new(alloc),
+        needs,
         occurrences,
     })
 }
@@ -59,10 +62,4 @@ pub(crate) fn facts_at(facts: &[Facts], complete: Complete) -> Option<&Facts>
     ensures { option_map (λ found. found.now) result ≡ slice_get facts.now complete.part }
 {
     facts.get(complete.part)
-}
-
-fn both(one: bool, other: bool) -> bool
-    ensures { result ≡ (one && other) }
-{
-    one && other
 }

@@ -18,6 +18,7 @@ use crate::deciding::{conditional_facts, disjunction_facts};
 use crate::facts::Facts;
 use crate::finding::{negation_facts, quantified_facts, simple_facts};
 use crate::joining::conjunction_facts;
+use crate::needing::leave_out;
 use crate::occurrences::Occurrences;
 use merc_base::NoMemory;
 use merc_goal_tree::{NodeRef, Root};
@@ -97,8 +98,12 @@ fn complete_part(
         root,
     )?;
     known.end = place_behind(all, start, found.occurrences);
+    set.bind_all(found.needs.as_slice())?;
     let part = known.facts.len();
     known.facts.push(found)?;
+    // What it needs is looked at before its goals are asked: they need not tell it again.
+    leave_out(alloc, set, &mut known.facts, joined)?;
+    set.undo(0);
     known.complete.truncate(kept);
     known.complete.push(Complete { part, start })?;
     Ok(())

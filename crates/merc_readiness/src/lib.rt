@@ -13,6 +13,7 @@ mod finding;
 mod joined_goals;
 mod joining;
 mod knowing;
+mod needing;
 mod occurrences;
 mod simple;
 mod sweeping;

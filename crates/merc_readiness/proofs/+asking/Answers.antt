@@ -22,6 +22,7 @@ use Rattle.merc_readiness.proofs.Each.{begin_beside, not_by_arms, end_arms, end_
 use Rattle.merc_readiness.proofs.Halves.{condition_stops, owed_stops, then_asked, arm_stops_decision, decision_owes, decision_asked, negation_stops, negation_asked, quantified_asked}
 use Rattle.merc_readiness.proofs.Listed.{not_empty, none_counted, placed_here, parts_here, placed_if_left, placed-reverse, within_if_left, gone_reversed}
 use Rattle.merc_readiness.proofs.Marking.{parts_length}
+use Rattle.merc_readiness.proofs.Needs.{not_without_needs}
 use Rattle.merc_readiness.proofs.Turns.{arm_stops, arm_goes, beside_stops, beside_goes, link_stops, link_goes, last_stops, last_goes, member_stays, member_goes, member_asked}
 use Rattle.merc_readiness.proofs.+asking.Goals.{sweeping::sweep_once-then-not-branch+in_ok-push, sweeping::sweep_once-else-not-branch}
 use Rattle.merc_readiness.proofs.+asking.Goals as goal
@@ -52,6 +53,12 @@ asking::advance-returns-clause-asked t c = λ total known m.
       marked_again total (modes_of c.args.predicates.now) c.args.goal.now c.args.marks.now c.advance_within.new.marks (among c.args.bound.now)
           (c.part_count-own.result - 1) c.in_ok-ready.ready own_is m is marked,
     )
+
+pub asking::advance_within-returns-then-not-are_bound-clause-asked : goal.asking::advance_within-returns-then-not-are_bound-clause-asked
+asking::advance_within-returns-then-not-are_bound-clause-asked t c = λ total known own_known m.
+    let needs : are_bound (among c.args.bound.now) c.args.own.now.needs ≡ false =
+    sym (c.are_bound.ensures ∙ ap (λ l. are_bound (among c.args.bound.now) l) c.as_slice.ensures) ∙ c.if-not-are_bound.true in
+    (not_without_needs total (modes_of c.args.predicates.now) c.args.goal.now c.args.own.now (among c.args.bound.now) own_known needs, m)
 
 pub asking::advance_within-returns-clause-asked : goal.asking::advance_within-returns-clause-asked
 asking::advance_within-returns-clause-asked t c =

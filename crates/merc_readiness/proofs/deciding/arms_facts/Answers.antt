@@ -1,4 +1,6 @@
-use Rattle.std.proofs.Common.{◌∙◌, ap}
+use Rattle.std.proofs.Common.{◌∙◌, ◌++◌, not, ap}
+use Rattle.std.specs.List.{filter}
+use Rattle.merc_order.specs.Bound.{among}
 use Rattle.merc_readiness.specs.Bounds.{all_behind}
 use Rattle.merc_readiness.specs.Outside.{occurs_outside}
 use Rattle.merc_readiness.proofs.ArmLaws.{bound_is, owed_is}
@@ -12,6 +14,7 @@ returns-clause-binds c =
 
 pub returns-clause-owed : goal.returns-clause-owed
 returns-clause-owed c =
-    owed_is (λ variable. occurs_outside c.args.all.now c.args.start c.args.end variable) c.args.reached c.args.some.now c.in_ok-differing.differing c.as_slice-2.result.now c.bind_all.new.self _ c.one_of-owed.result.now _
-    c.in_ok-those_outside-2.ensures c.one_of-owed.ensures c.as_slice-2.ensures c.in_ok-differing.ensures
+    owed_is (λ variable. occurs_outside c.args.all.now c.args.start c.args.end variable) c.args.reached c.args.some.now c.put_those_not_in.new.found c.as_slice-2.result.now c.bind_all.new.self _ c.one_of-owed.result.now _
+    c.in_ok-those_outside-2.ensures c.one_of-owed.ensures c.as_slice-2.ensures
+    (c.in_ok-put_those_not_in.ensures ∙ ap (λ l. l ++ filter (λ variable. not (among c.bind_all.new.self variable)) c.args.some.now) c.new-differing.ensures)
     (c.in_ok-bind_all.ensures ∙ ap (λ l. all_behind l c.args.every.now) c.requires)

@@ -23,7 +23,8 @@ returns-clause-facts c = λ total modes first second third span known stretch.
     (decided_known total modes c.args.facts.now.items c.deref-4.result.now c.in_ok-first_arm.first_arm c.len-part.result c.args.start c.args.else_part first second third span
     (c.deref-4.ensures.value ∙ c.in_ok-push.ensures.items) (c.len-part.ensures ∙ sym c.deref-3.ensures.len ∙ ap (λ l. length l) c.deref-3.ensures.value) own last)
     (decided_stretch total modes first second third span all c.args.start c.args.end stretch) in
-    conditional_are total modes first second third span all c.args.start c.args.end then_end one.found c.in_ok-decided.decided _ stretch then_is one.are decided refl refl refl refl
+    conditional_are total modes first second third span all c.args.start c.args.end then_end one.found c.in_ok-first_arm.first_arm c.in_ok-decided.decided _ stretch then_is one.are own decided refl refl refl
+    (c.from_vec-needs.ensures ∙ c.in_ok-from_slice.ensures.items ∙ c.as_slice.ensures) refl
     (c.in_ok-owed_by_condition.ensures
     ∙ ap (filter (λ variable. occurs_outside all c.args.start then_end variable))
     (c.binds_at-condition_binds.ensures one.found (ap (λ l. slice_get l c.args.condition.part) c.deref-2.ensures.value ∙ one.there)))
