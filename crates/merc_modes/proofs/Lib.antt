@@ -13,4 +13,7 @@ pub mod Chaining
 pub mod Beside
 pub mod Agreeing
 pub mod Resuming
-pub mod Places
+pub mod Awaiting
+pub mod Within
+pub mod Firsts
+pub mod Freeing

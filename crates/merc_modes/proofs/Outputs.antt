@@ -55,7 +55,7 @@ among-each_once (first ∷ rest) variable =
 
 -- one place more
 
-take_step : (all : List ℕ) (place : ℕ) → take (suc place) all ≡ take place all ++ option_to_list (slice_get all place)
+pub take_step : (all : List ℕ) (place : ℕ) → take (suc place) all ≡ take place all ++ option_to_list (slice_get all place)
 take_step [] zero = refl
 take_step [] (suc place) = refl
 take_step (first ∷ rest) zero = refl
@@ -265,7 +265,7 @@ outputs_are total modes goal facts all start end bound seen found known stretch 
 
 -- at the start
 
-drop_taken : (all : List ℕ) (start : ℕ) → drop start (take start all) ≡ []
+pub drop_taken : (all : List ℕ) (start : ℕ) → drop start (take start all) ≡ []
 drop_taken [] zero = refl
 drop_taken [] (suc start) = refl
 drop_taken (first ∷ rest) zero = refl

@@ -1,6 +1,6 @@
 -- The goals of a conjunction by their index: where one stands, its marks among those of all, and which stay stuck when another goes.
-use Rattle.std.specs.Prelude.{◌≡◌, ◌≤◌, ◌<◌, ◌+◌, ◌==◌, ◌||◌, ℕ, zero, suc, Bool, true, false, List, [], ◌∷◌, ◌++◌, length, take, drop, refl}
-use Rattle.std.proofs.Common.{◌∙◌, ap, sym, subst, arith}
+use Rattle.std.specs.Prelude.{◌≡◌, ◌≤◌, ◌<◌, ◌+◌, ◌||◌, ℕ, zero, suc, Bool, true, false, List, [], ◌∷◌, ◌++◌, length, take, drop, refl}
+use Rattle.std.proofs.Common.{◌∙◌, ◌⊎◌, ap, sym, subst, arith, inl, inr}
 use Rattle.std.proofs.Math.Seq.{take-append_seam, drop-append_seam}
 use Rattle.std.proofs.lemmas.List.{length-append, append_assoc, append-nil}
 use Rattle.merc_tree.specs.declared.declarations.ModeDecl.{ModeDecl}
@@ -20,9 +20,9 @@ use Rattle.merc_readiness.specs.Sweeps.{AreKnownFrom}
 use Rattle.merc_readiness.specs.declared.facts.Facts.{Facts}
 use Rattle.merc_readiness.proofs.Bounds.{among-append, or_false}
 use Rattle.merc_readiness.proofs.Marking.{known_split, known_length, all_subgoals_length, marks_length}
-use Rattle.merc_modes.specs.Conjuncts.{left_before}
-use Rattle.merc_modes.specs.Positions.{IsAt, IsPlaced, IsFirst, variables_before}
-use Rattle.merc_modes.proofs.Agreeing.{Agree, agree_front, agree_back, from_same}
+use Rattle.merc_modes.specs.Conjuncts.{went_at, AskedAreStuck}
+use Rattle.merc_modes.specs.Positions.{IsAt, IsPlaced, variables_before}
+use Rattle.merc_modes.proofs.Agreeing.{Agree}
 use Rattle.merc_modes.proofs.Walked.{stretch_front, stretch_back}
 
 -- goals cut before an index
@@ -48,7 +48,7 @@ all_subgoals_cut (goal ∷ goals) zero = refl
 all_subgoals_cut (goal ∷ goals) (suc index) =
     ap (λ l. subgoals goal ++ l) (all_subgoals_cut goals index) ∙ sym (append_assoc (subgoals goal) (all_subgoals (nodes_of (take index goals))) (all_subgoals (nodes_of (drop index goals))))
 
-head_is : (one other : Node) (rest others : List Node) → one ∷ rest ≡ other ∷ others → one ≡ other
+pub head_is : (one other : Node) (rest others : List Node) → one ∷ rest ≡ other ∷ others → one ≡ other
 head_is one other rest others same = cc
 
 pub drop_next : (goals : List Node) (index : ℕ) (goal : Node) (rest : List Node) → drop index goals ≡ goal ∷ rest → drop (suc index) goals ≡ rest
@@ -69,6 +69,14 @@ variables_next [] (suc index) goal rest there = cc
 variables_next (first ∷ others) zero goal rest there = append-nil (variables first) ∙ ap variables (head_is first goal others rest there)
 variables_next (first ∷ others) (suc index) goal rest there =
     ap (λ l. variables first ++ l) (variables_next others index goal rest there) ∙ sym (append_assoc (variables first) (variables_before others index) (variables goal))
+
+pub variables_longer : (goals : List Node) (index other : ℕ) → index ≤ other → length (variables_before goals index) ≤ length (variables_before goals other)
+variables_longer goals zero other h = omega arith
+variables_longer goals (suc index) zero h = absurd (omega (arith, h))
+variables_longer [] (suc index) (suc other) h = omega arith
+variables_longer (goal ∷ goals) (suc index) (suc other) h =
+    let rest = variables_longer goals index other (omega (arith, h)) in
+    omega (arith, rest, length-append (variables goal) (variables_before goals index), length-append (variables goal) (variables_before goals other))
 
 pub at_is : (goals : List Node) (index at : ℕ) → IsAt goals index at → at ≡ length (all_parts (nodes_of (take index goals)))
 at_is goals index at (within, is) = omega (arith, is, all_parts_cut goals index)
@@ -132,54 +140,20 @@ front_is total all start front s =
     ∙ ap (λ n. drop n (s.before ++ front)) (sym s.start_is)
     ∙ drop-append_seam s.before front
 
-pub before_is : (total : ℕ → ℕ) (all : List ℕ) (start : ℕ) (goals : List Node) (index : ℕ) → IsStretch total all start (start + length (all_variables (nodes_of goals))) (all_variables (nodes_of goals))
-    → drop start (take (start + length (variables_before goals index)) all) ≡ variables_before goals index
-before_is total all start goals index stretch =
-    front_is total all start (variables_before goals index)
-    (stretch_front total all start (variables_before goals index) (all_variables (nodes_of (drop index goals))) (cut_stretch total all start goals index stretch))
-
 pub own_is : (total : ℕ → ℕ) (all : List ℕ) (place : ℕ) (goal : Node) (behind : List ℕ) → IsStretch total all place (place + length (variables goal ++ behind)) (variables goal ++ behind)
     → drop place (take (place + length (variables goal)) all) ≡ variables goal
 own_is total all place goal behind stretch = front_is total all place (variables goal) (stretch_front total all place (variables goal) behind stretch)
 
--- what does not occur before a place occurs before no earlier one
-
-pub none_taken : (place : ℕ) → ◌≡◌ {A = List ℕ} (take place []) []
-none_taken zero = refl
-none_taken (suc place) = refl
-
-pub none_dropped : (start : ℕ) → ◌≡◌ {A = List ℕ} (drop start []) []
-none_dropped zero = refl
-none_dropped (suc start) = refl
-
-or_less : (same one other : Bool) → (other ≡ false → one ≡ false) → (same || other) ≡ false → (same || one) ≡ false
-or_less true one other less not = cc
-or_less false one other less not = less not
-
-pub among_less : (all : List ℕ) (start place other variable : ℕ) → place ≤ other → among (drop start (take other all)) variable ≡ false → among (drop start (take place all)) variable ≡ false
-among_less [] start place other variable h not = ap (λ l. among (drop start l) variable) (none_taken place) ∙ ap (λ l. among l variable) (none_dropped start)
-among_less (first ∷ rest) start zero other variable h not = ap (λ l. among l variable) (none_dropped start)
-among_less (first ∷ rest) start (suc place) zero variable h not = absurd (omega (arith, h))
-among_less (first ∷ rest) zero (suc place) (suc other) variable h not =
-    or_less (variable == first) (among (take place rest) variable) (among (take other rest) variable) (λ n. among_less rest zero place other variable (omega (arith, h)) n) not
-among_less (first ∷ rest) (suc start) (suc place) (suc other) variable h not = among_less rest start place other variable (omega (arith, h)) not
-
 -- The same of these variables is bound, where the new ones do not occur in them.
 
-agree_by : (all : List ℕ) (start first place : ℕ) (inside those bound new : List ℕ) (variable : ℕ) (old fresh : Bool) → among bound variable ≡ old → among new variable ≡ fresh
-    → drop start (take place all) ≡ inside → place ≤ first → IsFirst start all (among new) those first → (among new variable ≡ true → among bound variable ≡ false → among those variable ≡ true)
+agree_by : (inside bound new : List ℕ) (variable : ℕ) (fresh : Bool) → among new variable ≡ fresh → ((variable : ℕ) → among new variable ≡ true → among inside variable ≡ true → ⊥)
     → among inside variable ≡ true → among bound variable ≡ (among bound variable || among new variable)
-agree_by all start first place inside those bound new variable true fresh o f is less firsts there inner = o ∙ sym (ap (λ b. b || among new variable) o)
-agree_by all start first place inside those bound new variable false false o f is less firsts there inner = sym (ap (λ b. among bound variable || b) f ∙ or_false (among bound variable))
-agree_by all start first place inside those bound new variable false true o f is less firsts there inner =
-    let none : among (drop start (take place all)) variable ≡ false = among_less all start place first variable less (firsts variable f (there f o)) in
-    let wrong : true ≡ false = sym inner ∙ sym (ap (λ l. among l variable) is) ∙ none in cc
+agree_by inside bound new variable true f apart inner = absurd (apart variable f inner)
+agree_by inside bound new variable false f apart inner = sym (ap (λ b. among bound variable || b) f ∙ or_false (among bound variable))
 
-pub agrees : (all : List ℕ) (start first place : ℕ) (inside those bound new after : List ℕ) → after ≡ bound ++ new → drop start (take place all) ≡ inside → place ≤ first
-    → IsFirst start all (among new) those first → ((variable : ℕ) → among new variable ≡ true → among bound variable ≡ false → among those variable ≡ true) → Agree inside (among bound) (among after)
-agrees all start first place inside those bound new after longer is less firsts there = λ variable inner.
-    agree_by all start first place inside those bound new variable (among bound variable) (among new variable) refl refl is less firsts (there variable) inner
-    ∙ sym (among-append bound new variable) ∙ ap (λ l. among l variable) (sym longer)
+pub agrees : (inside bound new after : List ℕ) → after ≡ bound ++ new → ((variable : ℕ) → among new variable ≡ true → among inside variable ≡ true → ⊥) → Agree inside (among bound) (among after)
+agrees inside bound new after longer apart = λ variable inner.
+    agree_by inside bound new variable (among new variable) refl apart inner ∙ sym (among-append bound new variable) ∙ ap (λ l. among l variable) (sym longer)
 
 -- moves
 
@@ -187,42 +161,36 @@ kept_front : (went : Bool) (move : Move) (front back : List Move) → kept went 
 kept_front true move front back = refl
 kept_front false move front back = refl
 
-kept_stuck : (went : Bool) (move : Move) (one other : List Move) (now later : Bound) → (AllStuck one now → AllStuck other later) → (is_ready (move.from now) ≡ false → is_ready (move.from later) ≡ false)
-    → AllStuck (kept went move one) now → AllStuck (kept went move other) later
-kept_stuck true move one other now later rest own stuck = rest stuck
-kept_stuck false move one other now later rest own (first, stuck) = (own first, rest stuck)
-
 module _ (total : ℕ → ℕ) (modes : ℕ → List ModeDecl) where
-  -- none of fewer goals is ready
-  pub stuck_less : (other index : ℕ) (goals : Nodes) (marked : Marked) (now : Bound) → other ≤ index → AllStuck (left_before total modes index goals marked) now
-      → AllStuck (left_before total modes other goals marked) now
-  stuck_less zero index goals marked now h stuck = tt
-  stuck_less (suc other) zero goals marked now h stuck = absurd (omega (arith, h))
-  stuck_less (suc other) (suc index) no_nodes marked now h stuck = tt
-  stuck_less (suc other) (suc index) (more_nodes first rest) no_marks now h stuck = tt
-  stuck_less (suc other) (suc index) (more_nodes first rest) (more_marks went inner others) now h stuck =
-      kept_stuck went (move_of total modes first) (left_before total modes index rest others) (left_before total modes other rest others) now now
-      (λ s. stuck_less other index rest others now (omega (arith, h)) s) (λ one. one) stuck
+  -- those that are left of the goals before the one of this index
+  abbrev pub left_before : ℕ → Nodes → Marked → List Move
+  left_before zero goals marked = []
+  left_before (suc index) no_nodes marked = []
+  left_before (suc index) (more_nodes first rest) no_marks = []
+  left_before (suc index) (more_nodes first rest) (more_marks went inner others) = kept went (move_of total modes first) (left_before index rest others)
 
-  -- none is ready where the same of their variables is bound
-  pub stuck_still : (index : ℕ) (goals : List Node) (marked : Marked) (now later : Bound) → Agree (variables_before goals index) now later → AllStuck (left_before total modes index (nodes_of goals) marked) now
-      → AllStuck (left_before total modes index (nodes_of goals) marked) later
-  stuck_still zero goals marked now later agree stuck = tt
-  stuck_still (suc index) [] marked now later agree stuck = tt
-  stuck_still (suc index) (goal ∷ goals) no_marks now later agree stuck = tt
-  stuck_still (suc index) (goal ∷ goals) (more_marks went inner others) now later agree stuck =
-      kept_stuck went (move_of total modes goal) (left_before total modes index (nodes_of goals) others) (left_before total modes index (nodes_of goals) others) now later
-      (λ s. stuck_still index goals others now later (agree_back (variables goal) (variables_before goals index) now later agree) s)
-      (λ one. sym (ap is_ready (from_same total modes goal now later (agree_front (variables goal) (variables_before goals index) now later agree))) ∙ one) stuck
+  kept_stuck : (went : Bool) (move : Move) (moves : List Move) (now : Bound) → (went ≡ false → is_ready (move.from now) ≡ false) → AllStuck moves now → AllStuck (kept went move moves) now
+  kept_stuck true move moves now own stuck = stuck
+  kept_stuck false move moves now own stuck = (own refl, stuck)
+
+  -- none of them is ready, where none is awaited
+  pub stuck_before : (index : ℕ) (goals : List Node) (marked : Marked) (awaited : ℕ → Bool) (now : Bound) → AskedAreStuck total modes awaited goals marked now → ((other : ℕ) → other < index → awaited other ≡ false)
+      → AllStuck (left_before index (nodes_of goals) marked) now
+  stuck_before zero goals marked awaited now stuck none = tt
+  stuck_before (suc index) [] marked awaited now stuck none = tt
+  stuck_before (suc index) (goal ∷ goals) no_marks awaited now stuck none = tt
+  stuck_before (suc index) (goal ∷ goals) (more_marks went inner others) awaited now stuck none =
+      kept_stuck went (move_of total modes goal) (left_before index (nodes_of goals) others) now (λ left. stuck 0 goal goals refl (none 0 (omega arith)) left)
+      (stuck_before index goals others (λ other. awaited (suc other)) now (λ other later rest there not left. stuck (suc other) later rest there not left) (λ other less. none (suc other) (omega (arith, less))))
 
   -- all marks, where those of the goal of an index are these
   pub record Put (goals : Nodes) (marked : Marked) (index : ℕ) (goal : Node) (front back : List Bool) (others : List Move) (now : Bound) (inner : Marked) (gone : Bool) : Type 0 where
     pub marks : Marked
     pub fits : Fits goals marks
     pub flags_are : flags_of marks ≡ front ++ ((flags_of inner ++ gone ∷ []) ++ back)
-    pub left_is : left total modes goals marks ≡ left_before total modes index goals marked ++ kept gone (move_of total modes goal) others
-    pub same : (other : ℕ) → other ≤ index → left_before total modes other goals marks ≡ left_before total modes other goals marked
-    pub next_is : left_before total modes (suc index) goals marks ≡ left_before total modes index goals marked ++ kept gone (move_of total modes goal) []
+    pub left_is : left total modes goals marks ≡ left_before index goals marked ++ kept gone (move_of total modes goal) others
+    pub own : went_at index marks ≡ gone
+    pub same : (other : ℕ) → (other ≡ index) ⊎ (went_at other marks ≡ went_at other marked)
     pub sound : (later : Bound) → Holds now later → unless gone (IsSound total modes goal inner later) → SoundLeft total modes goals marks later
 
   -- the marks of the goal of an index taken apart from those before and behind
@@ -236,13 +204,13 @@ module _ (total : ℕ → ℕ) (modes : ℕ → List ModeDecl) where
     pub flags_are : flags_of marked ≡ front ++ ((flags_of inner ++ gone ∷ []) ++ back)
     pub fits : Fits (joined_by goal) inner
     pub sound : unless gone (IsSound total modes goal inner now)
-    pub left_is : left total modes goals marked ≡ left_before total modes index goals marked ++ kept gone (move_of total modes goal) others
-    pub next_is : left_before total modes (suc index) goals marked ≡ left_before total modes index goals marked ++ kept gone (move_of total modes goal) []
+    pub left_is : left total modes goals marked ≡ left_before index goals marked ++ kept gone (move_of total modes goal) others
+    pub own : went_at index marked ≡ gone
     pub put : (marks : Marked) (went : Bool) → Fits (joined_by goal) marks → Put goals marked index goal front back others now marks went
 
-  none_before : (other : ℕ) (goals : Nodes) (one marked : Marked) → other ≤ 0 → left_before total modes other goals one ≡ left_before total modes other goals marked
-  none_before zero goals one marked h = refl
-  none_before (suc other) goals one marked h = absurd (omega (arith, h))
+  same_behind : (other : ℕ) (one went : Bool) (marks inner behind : Marked) → (other ≡ 0) ⊎ (went_at other (more_marks one marks behind) ≡ went_at other (more_marks went inner behind))
+  same_behind zero one went marks inner behind = inl refl
+  same_behind (suc other) one went marks inner behind = inr refl
 
   apart_here : (goal : Node) (rest : Nodes) (now : Bound) (marked : Marked) → Fits (more_nodes goal rest) marked → SoundLeft total modes (more_nodes goal rest) marked now → Apart (more_nodes goal rest) marked 0 goal 0 now
   apart_here goal rest now marked (more g r gone inner behind f fits) (one, sound) = record {
@@ -256,14 +224,14 @@ module _ (total : ℕ → ℕ) (modes : ℕ → List ModeDecl) where
     fits = f;
     sound = one;
     left_is = refl;
-    next_is = refl;
+    own = refl;
     put = λ marks went those. record {
       marks = more_marks went marks behind;
       fits = more goal rest went marks behind those fits;
       flags_are = sym (append_assoc (flags_of marks) (went ∷ []) (flags_of behind));
       left_is = refl;
-      same = λ other h. none_before other (more_nodes goal rest) (more_marks went marks behind) (more_marks gone inner behind) h;
-      next_is = refl;
+      own = refl;
+      same = λ other. same_behind other went gone marks inner behind;
       sound = λ later holds own. (own, left-more total modes rest behind now later holds sound);
     };
   }
@@ -272,11 +240,14 @@ module _ (total : ℕ → ℕ) (modes : ℕ → List ModeDecl) where
   unless_more true goal inner now later holds sound = tt
   unless_more false goal inner now later holds sound = sound-more total modes goal inner now later holds sound
 
-  same_before : (first : Node) (rest : Nodes) (went : Bool) (inner one behind : Marked) (index other : ℕ) → other ≤ suc index
-      → ((another : ℕ) → another ≤ index → left_before total modes another rest one ≡ left_before total modes another rest behind)
-      → left_before total modes other (more_nodes first rest) (more_marks went inner one) ≡ left_before total modes other (more_nodes first rest) (more_marks went inner behind)
-  same_before first rest went inner one behind index zero h same = refl
-  same_before first rest went inner one behind index (suc other) h same = ap (λ l. kept went (move_of total modes first) l) (same other (omega (arith, h)))
+  same_later : (other index : ℕ) (went : Bool) (inner marks behind : Marked) → ((another : ℕ) → (another ≡ index) ⊎ (went_at another marks ≡ went_at another behind))
+      → (other ≡ suc index) ⊎ (went_at other (more_marks went inner marks) ≡ went_at other (more_marks went inner behind))
+  same_later zero index went inner marks behind same = inr refl
+  same_later (suc other) index went inner marks behind same = by (same other)
+    where
+      by : (other ≡ index) ⊎ (went_at other marks ≡ went_at other behind) → (suc other ≡ suc index) ⊎ (went_at other marks ≡ went_at other behind)
+      by (inl is) = inl (ap suc is)
+      by (inr is) = inr is
 
   deeper : (front : List Bool) (went : Bool) (those flags back : List Bool) → flags ≡ those ++ back → front ++ went ∷ flags ≡ (front ++ went ∷ those) ++ back
   deeper front went those flags back is = ap (λ l. front ++ went ∷ l) is ∙ sym (append_assoc front (went ∷ those) back)
@@ -293,15 +264,15 @@ module _ (total : ℕ → ℕ) (modes : ℕ → List ModeDecl) where
     flags_are = deeper (flags_of inner) went a.front (flags_of behind) ((flags_of a.inner ++ a.gone ∷ []) ++ a.back) a.flags_are;
     fits = a.fits;
     sound = a.sound;
-    left_is = ap (λ l. kept went (move_of total modes first) l) a.left_is ∙ kept_front went (move_of total modes first) (left_before total modes index rest behind) (kept a.gone (move_of total modes goal) a.others);
-    next_is = ap (λ l. kept went (move_of total modes first) l) a.next_is ∙ kept_front went (move_of total modes first) (left_before total modes index rest behind) (kept a.gone (move_of total modes goal) []);
+    left_is = ap (λ l. kept went (move_of total modes first) l) a.left_is ∙ kept_front went (move_of total modes first) (left_before index rest behind) (kept a.gone (move_of total modes goal) a.others);
+    own = a.own;
     put = λ marks gone those. let p = a.put marks gone those in record {
       marks = more_marks went inner p.marks;
       fits = more first rest went inner p.marks f p.fits;
       flags_are = deeper (flags_of inner) went a.front (flags_of p.marks) ((flags_of marks ++ gone ∷ []) ++ a.back) p.flags_are;
-      left_is = ap (λ l. kept went (move_of total modes first) l) p.left_is ∙ kept_front went (move_of total modes first) (left_before total modes index rest behind) (kept gone (move_of total modes goal) a.others);
-      same = λ other h. same_before first rest went inner p.marks behind index other h p.same;
-      next_is = ap (λ l. kept went (move_of total modes first) l) p.next_is ∙ kept_front went (move_of total modes first) (left_before total modes index rest behind) (kept gone (move_of total modes goal) []);
+      left_is = ap (λ l. kept went (move_of total modes first) l) p.left_is ∙ kept_front went (move_of total modes first) (left_before index rest behind) (kept gone (move_of total modes goal) a.others);
+      own = p.own;
+      same = λ other. same_later other index went inner p.marks behind p.same;
       sound = λ later holds own. (unless_more went first inner now later holds sound, p.sound later holds own);
     };
   }

@@ -11,7 +11,6 @@ use Rattle.merc_order.specs.Moves.{Move, Next, fault_in, behind, if_ready_next, 
 use Rattle.merc_order.specs.Ordered.{Ordered, Outcome, Ready, Stuck, is_ready, Outcomes, AllReady, OneStuck, then_all}
 use Rattle.merc_order.specs.Ways.{AllStuck}
 use Rattle.merc_modes.specs.Conjuncts.{TellsFirst}
-use Rattle.merc_readiness.specs.Sweeps.{new_one}
 use Rattle.merc_modes.specs.Walks.{ordereds_of, behind_them, AreWritten, GivesAll, all_settled}
 use Rattle.merc_modes.specs.declared.written.Written.{Written}
 use Rattle.merc_modes.proofs.Emitted.{behind_ready, behind_stuck}
@@ -45,18 +44,6 @@ settled_goes (first ∷ rest) others move now goal stuck is =
 pub settled_stuck : (move : Move) (others : List Move) (now : Bound) (fault : Refusal) → AllStuck (move ∷ others) now → move.from now ≡ Stuck fault → all_settled (move ∷ others) now ≡ OneStuck fault
 settled_stuck move others now fault stuck is =
     ap (λ n. settled_next (move.from now) now n (settled (length others))) (next_none (move ∷ others) now stuck) ∙ ap fault_in is
-
-pub stuck_more : (before : List Move) (move : Move) (bound : Bound) → AllStuck before bound → is_ready (move.from bound) ≡ false → AllStuck (before ++ move ∷ []) bound
-stuck_more [] move bound stuck this = (this, tt)
-stuck_more (first ∷ before) move bound (one, stuck) this = (one, stuck_more before move bound stuck this)
-
-pub few_new : (b : Bool) → new_one b ≤ 1
-few_new true = omega arith
-few_new false = omega arith
-
-pub not_new : (b : Bool) → b ≡ false → new_one b ≡ 0
-not_new true h = cc
-not_new false h = refl
 
 -- The goals of a conjunction were asked, and none of those that are left is ready: the first tells the fault.
 

@@ -1,10 +1,8 @@
 -- What is said of each function that lets the goals of a conjunction go.
-use Rattle.std.specs.Prelude.{◌≡◌, ◌≤◌, ◌<◌, ◌+◌, ◌||◌, nat_lt, ℕ, zero, suc, Bool, true, false, List, [], ◌∷◌, ◌++◌, length, take, drop, replicate, None, Result, Ok, Err, refl}
+use Rattle.std.specs.Prelude.{◌≡◌, ◌≤◌, ◌<◌, ◌+◌, ℕ, zero, suc, Bool, true, false, List, [], ◌∷◌, ◌++◌, length, take, drop, replicate, Result, Ok, Err, refl}
 use Rattle.std.specs.List.{slice_range, slice_index_or}
 use Rattle.std.proofs.Common.{◌∙◌, ◌⊎◌, ap, sym, subst, arith, set, inl, inr}
-use Rattle.std.proofs.lemmas.Bool.{cases_lt}
-use Rattle.std.proofs.lemmas.Bool.Decides.{nat_tests}
-use Rattle.std.proofs.lemmas.List.{length-append, append_assoc, append-nil, drop_at, set_at}
+use Rattle.std.proofs.lemmas.List.{length-append, append_assoc, drop_at, set_at}
 use borrow.Rule.Slice.PartMut.{put_mid}
 use Rattle.merc_base.specs.declared.refusal.Fault.{Fault}
 use Rattle.merc_base.specs.declared.refusal.Fault.TheVariants.{Refused, NoMemory}
@@ -12,7 +10,7 @@ use Rattle.merc_tree.specs.declared.declarations.ModeDecl.{ModeDecl}
 use Rattle.merc_goal_tree.specs.Nodes.{Node, Nodes, no_nodes, more_nodes, nodes_of}
 use Rattle.merc_goal_tree.specs.Parts.{parts_of, all_parts}
 use Rattle.merc_goal_tree.specs.Variables.{variables, all_variables}
-use Rattle.merc_order.specs.Bound.{Bound, with, among}
+use Rattle.merc_order.specs.Bound.{Bound, nothing, with, among}
 use Rattle.merc_order.specs.Marks.{Marked, part, unless, kept, move_of, left, IsSound}
 use Rattle.merc_order.specs.Moves.{Move}
 use Rattle.merc_order.specs.Order.{binds, from, moves}
@@ -23,24 +21,25 @@ use Rattle.merc_readiness.specs.Asking.{AreKnown, flags_of, joined_by, Fits, mor
 use Rattle.merc_readiness.specs.Bounds.{all_behind}
 use Rattle.merc_readiness.specs.Facts.{AreFactsOf, subgoals, all_subgoals}
 use Rattle.merc_readiness.specs.Outside.{IsStretch}
-use Rattle.merc_readiness.specs.Sweeps.{Extends, AreKnownFrom, new_one}
+use Rattle.merc_readiness.specs.Sweeps.{Extends, AreKnownFrom}
 use Rattle.merc_readiness.specs.declared.facts.Facts.{Facts}
-use Rattle.merc_modes.specs.Conjuncts.{HasGone, Goes, Stays, GoesIfReady, TellsFirst, Passing, left_before, Amid, Stepped, StepGives, SweepGives}
-use Rattle.merc_modes.specs.Positions.{variables_before, IsAt, IsPlaced, IsNext, IsFirst}
+use Rattle.merc_modes.specs.Agenda.{start_at, StandAt, Ascends, inside, awaits, IsTaken, AwaitsAgain}
+use Rattle.merc_modes.specs.Conjuncts.{HasGone, Goes, Stays, GoesIfReady, TellsFirst, Passing, went_at, AskedAreStuck, Amid, AskGives, NextGives}
+use Rattle.merc_modes.specs.Positions.{variables_before, IsAt, IsPlaced, IsNext}
 use Rattle.merc_modes.specs.Walking.{Gives}
 use Rattle.merc_modes.specs.Walks.{GivesAll, behind_them, all_settled}
+use Rattle.merc_modes.specs.declared.agenda.Agenda.{Agenda}
+use Rattle.merc_modes.specs.declared.agenda.Start.{Start}
 use Rattle.merc_modes.specs.declared.written.Written.{Written}
 use Rattle.merc_readiness.proofs.Binding.{next_known, bound_behind}
 use Rattle.merc_readiness.proofs.Blank.{inner_marks, all_blank, all_blank_fits, all_blank_flags, all_left, left_sound}
-use Rattle.merc_readiness.proofs.Bounds.{among-append}
 use Rattle.merc_readiness.proofs.Conjunctions.{left_length}
-use Rattle.merc_readiness.proofs.Found.{binds_within}
 use Rattle.merc_readiness.proofs.Marking.{marks_length, own_mark, middle, put_middle, parts_length, subgoals_end, all_subgoals_length}
-use Rattle.merc_modes.proofs.Agreeing.{Agree}
+use Rattle.merc_modes.proofs.Agreeing.{from_same}
 use Rattle.merc_modes.proofs.Emitted.{none_written, behind_on, behind_ready, written_on}
-use Rattle.merc_modes.proofs.Resuming.{at_is, before_is, own_is, variables_next, known_from, rest_from, agrees, stuck_less, stuck_still, Apart, apart}
-use Rattle.merc_modes.proofs.Settling.{settled_goes, stuck_more, few_new, not_new, told_fault, told_ready}
-use Rattle.merc_modes.proofs.Walked.{known_next, next_stretch, place_is, stretch_within}
+use Rattle.merc_modes.proofs.Resuming.{at_is, own_is, head_is, index_within, variables_next, variables_longer, known_from, rest_from, agrees, left_before, stuck_before, Apart, apart}
+use Rattle.merc_modes.proofs.Settling.{settled_goes, told_fault, told_ready}
+use Rattle.merc_modes.proofs.Walked.{known_next, next_stretch, stretch_within}
 use Rattle.merc_modes.proofs.Wholes.{known_own}
 
 -- a goal's own mark is set
@@ -75,6 +74,18 @@ pub gone_by : (goal : Node) (flags : List Bool) (index : ℕ) → length flags �
 gone_by goal flags index h own =
     let l = last_of flags index (omega (arith, h, own)) in
     own_by goal flags l.front l.back l.own index l.is l.long (h ∙ sym own) h
+
+-- where the goals begin
+
+pub within_goals : (goals : List Node) (starts : List Start) (index asked : ℕ) → StandAt goals starts → index < asked → asked < length starts → index < length goals
+within_goals goals starts index asked stands h room = let long = stands.0 in omega (arith, long, h, room)
+
+pub at_start : (goals : List Node) (starts : List Start) (index asked : ℕ) (here : Start) → StandAt goals starts → index < asked → asked < length starts → here ≡ start_at starts index → IsAt goals index here.at
+at_start goals starts index asked here stands h room is = subst (λ s. IsAt goals index s.at) (sym is) (stands.1 index (omega (arith, h, room)))
+
+pub placed_start : (goals : List Node) (starts : List Start) (start index asked : ℕ) (here : Start) → ((other : ℕ) → other < length starts → IsPlaced start goals other (start_at starts other).place)
+    → index < asked → asked < length starts → here ≡ start_at starts index → IsPlaced start goals index here.place
+placed_start goals starts start index asked here placed h room is = subst (λ s. IsPlaced start goals index s.place) (sym is) (placed index (omega (arith, h, room)))
 
 module _ (total : ℕ → ℕ) (modes : ℕ → List ModeDecl) where
   pub own_of : (goal : Node) (facts : List Facts) (own : ℕ) (found : Facts) → AreKnown total modes (subgoals goal) facts → suc own ≡ length (parts_of goal) → found ≡ slice_index_or facts own found
@@ -188,37 +199,12 @@ module _ (total : ℕ → ℕ) (modes : ℕ → List ModeDecl) where
       → Passing total modes no_nodes facts flags at all place those → new ≡ old → TellsFirst those bound old new (Ok unit)
   none_told facts flags at all place those bound old new unit p same = subst (λ l. TellsFirst l bound old new (Ok unit)) (sym p.left_is) same
 
-  -- what is bound agrees with what was, on the variables of the goals before the first place of a new one
+  -- what is bound behind what was
 
   since_is : (old new : List ℕ) (mark : ℕ) → Extends old new → mark ≡ length old → new ≡ old ++ drop mark new
   since_is old new mark (extra, is) h = is ∙ ap (λ l. old ++ l) (sym (ap (λ l. drop mark l) is ∙ drop_at old extra mark (sym h)))
 
-  new_is : (old fresh bound : Bool) → (old || fresh) ≡ (old || bound) → fresh ≡ true → old ≡ false → bound ≡ true
-  new_is true fresh bound same new old = cc
-  new_is false fresh bound same new old = sym same ∙ new
-
-  pub goes_agree : (goal : Node) (goals rest : List Node) (all : List ℕ) (start first index other place next mark : ℕ) (bound after : List ℕ)
-      → IsStretch total all start (start + length (all_variables (nodes_of goals))) (all_variables (nodes_of goals)) → IsPlaced start goals index place → drop index goals ≡ goal ∷ rest
-      → next ≡ place + length (variables goal) → Extends bound after → mark ≡ length bound → among after ≡ with (among bound) (binds total modes goal)
-      → IsFirst start all (among (drop mark after)) (drop place (take next all)) first → start + length (variables_before goals other) ≤ first
-      → Agree (variables_before goals other) (among bound) (among after)
-  goes_agree goal goals rest all start first index other place next mark bound after stretch placed there next_is extends mark_is bound_is firsts far =
-      let new = drop mark after in
-      let s = rest_from total all start goals rest index place goal there placed stretch in
-      let own : drop place (take next all) ≡ variables goal = ap (λ n. drop place (take n all)) next_is ∙ own_is total all place goal (all_variables (nodes_of rest)) s in
-      let longer = since_is bound after mark extends mark_is in
-      agrees all start first (start + length (variables_before goals other)) (variables_before goals other) (drop place (take next all)) bound new after longer (before_is total all start goals other stretch) far firsts
-      (λ variable fresh old. ap (λ l. among l variable) own ∙ binds_within total modes goal variable
-      (new_is (among bound variable) (among new variable) (binds total modes goal variable) (sym (among-append bound new variable) ∙ ap (λ l. among l variable) (sym longer) ∙ ap (λ (b : Bound). b variable) bound_is) fresh old))
-
-  -- the place behind the goal of an index
-
-  pub place_from : (goals rest : List Node) (index at own start place next : ℕ) (facts : List Facts) (all : List ℕ) (goal : Node) (found : Facts) → drop index goals ≡ goal ∷ rest → suc own ≡ at + length (parts_of goal)
-      → IsAt goals index at → AreKnown total modes (all_subgoals (nodes_of goals)) facts → IsStretch total all start (start + length (all_variables (nodes_of goals))) (all_variables (nodes_of goals))
-      → IsPlaced start goals index place → found ≡ slice_index_or facts own found → (place + found.occurrences ≤ length all → next ≡ place + found.occurrences) → next ≡ place + length (variables goal)
-  place_from goals rest index at own start place next facts all goal found there own_is is known stretch placed found_is next_is =
-      let f = known_next total modes goal (nodes_of rest) facts at own found (known_from total modes goals rest index at facts goal there is known) own_is found_is in
-      place_is total modes goal all place next (all_variables (nodes_of rest)) found f (rest_from total all start goals rest index place goal there placed stretch) next_is
+  -- where the next goal begins
 
   pub placed_next : (goals rest : List Node) (index at start place next next_place : ℕ) (facts : List Facts) (all : List ℕ) (goal : Node) → drop index goals ≡ goal ∷ rest → next ≡ suc index → IsAt goals index at
       → AreKnown total modes (all_subgoals (nodes_of goals)) facts → IsStretch total all start (start + length (all_variables (nodes_of goals))) (all_variables (nodes_of goals)) → IsPlaced start goals index place
@@ -235,9 +221,9 @@ module _ (total : ℕ → ℕ) (modes : ℕ → List ModeDecl) where
   -- the goal of an index is asked
 
   module _ (goals : List Node) (whole : Outcomes) where
-    apart_at : (goal : Node) (rest : List Node) (index at : ℕ) (flags : List Bool) (now : Bound) (old written : Written) (count : ℕ) → drop index goals ≡ goal ∷ rest → IsAt goals index at
-        → (d : Amid total modes goals whole index flags now old written count) → Apart total modes (nodes_of goals) d.marked index goal at now
-    apart_at goal rest index at flags now old written count there is d =
+    apart_at : (goal : Node) (rest : List Node) (index at : ℕ) (awaited : ℕ → Bool) (flags : List Bool) (now : Bound) (old written : Written) (count : ℕ) → drop index goals ≡ goal ∷ rest → IsAt goals index at
+        → (d : Amid total modes goals whole awaited flags now now old written count) → Apart total modes (nodes_of goals) d.marked index goal at now
+    apart_at goal rest index at awaited flags now old written count there is d =
         subst (λ n. Apart total modes (nodes_of goals) d.marked index goal n now) (sym (at_is goals index at is)) (apart total modes goals index goal rest d.marked now there d.fits d.sound)
 
     mark_is : (goal : Node) (index at own : ℕ) (flags : List Bool) (now : Bound) (marked : Marked) (o : Apart total modes (nodes_of goals) marked index goal at now) → flags ≡ flags_of marked
@@ -248,40 +234,50 @@ module _ (total : ℕ → ℕ) (modes : ℕ → List ModeDecl) where
         let front = o.front_long in
         ap (λ l. slice_index_or l own false) (is ∙ o.flags_are) ∙ own_mark o.front (flags_of o.inner) o.gone o.back own false (omega (arith, long, two, front, h))
 
-    same_place : (place : ℕ) → nat_lt place place ≡ false
-    same_place place = grind (arith, nat_tests)
+    same_goal : (goal other : Node) (rest others : List Node) (index : ℕ) → drop index goals ≡ goal ∷ rest → drop index goals ≡ other ∷ others → goal ≡ other
+    same_goal goal other rest others index there is = head_is goal other rest others (sym there ∙ is)
 
-    none_more : (place few count : ℕ) → few ≤ count → few + new_one (nat_lt place place) ≤ count
-    none_more place few count h = let e = not_new (nat_lt place place) (same_place place) in omega (arith, h, e)
+    -- Those that are not awaited are stuck where the goal that was asked is, and the others are as they were.
+    stuck_on : (goal : Node) (rest : List Node) (index : ℕ) (awaited later : ℕ → Bool) (marked marks : Marked) (now : Bound) → drop index goals ≡ goal ∷ rest → IsTaken index awaited later
+        → AskedAreStuck total modes awaited goals marked now → ((other : ℕ) → (other ≡ index) ⊎ (went_at other marks ≡ went_at other marked))
+        → (went_at index marks ≡ false → is_ready (from total modes goal now) ≡ false) → AskedAreStuck total modes later goals marks now
+    stuck_on goal rest index awaited later marked marks now there taken stuck same own = λ other one others here not left. by other one others here left (same other) (taken.others other not)
+      where
+        asked : (other : ℕ) (one : Node) (others : List Node) → drop other goals ≡ one ∷ others → went_at other marks ≡ false → other ≡ index → is_ready (from total modes one now) ≡ false
+        asked other one others here left is =
+            ap (λ g. is_ready (from total modes g now)) (sym (same_goal goal one rest others index there (ap (λ n. drop n goals) (sym is) ∙ here))) ∙ own (ap (λ n. went_at n marks) (sym is) ∙ left)
+
+        by : (other : ℕ) (one : Node) (others : List Node) → drop other goals ≡ one ∷ others → went_at other marks ≡ false → (other ≡ index) ⊎ (went_at other marks ≡ went_at other marked)
+            → (other ≡ index) ⊎ (awaited other ≡ false) → is_ready (from total modes one now) ≡ false
+        by other one others here left (inl is) before = asked other one others here left is
+        by other one others here left (inr kept_so) (inl is) = asked other one others here left is
+        by other one others here left (inr kept_so) (inr before) = stuck other one others here before (sym kept_so ∙ left)
 
     -- It went before.
-    pub member_passes : (goal : Node) (rest : List Node) (index at own start place : ℕ) (flags : List Bool) (now : Bound) (old written : Written) (count : ℕ) → drop index goals ≡ goal ∷ rest → IsAt goals index at
-        → Amid total modes goals whole index flags now old written count → suc own ≡ at + length (parts_of goal) → slice_index_or flags own false ≡ true
-        → Stepped total modes goals start place whole index flags now place old written count
-    member_passes goal rest index at own start place flags now old written count there is d h mark =
-        let o = apart_at goal rest index at flags now old written count there is d in
+    pub member_passes : (goal : Node) (rest : List Node) (index at own : ℕ) (awaited later : ℕ → Bool) (flags : List Bool) (now : Bound) (old written : Written) (count : ℕ) → drop index goals ≡ goal ∷ rest → IsAt goals index at
+        → IsTaken index awaited later → Amid total modes goals whole awaited flags now now old written count → suc own ≡ at + length (parts_of goal) → slice_index_or flags own false ≡ true
+        → Amid total modes goals whole later flags now now old written count
+    member_passes goal rest index at own awaited later flags now old written count there is taken d h mark =
+        let o = apart_at goal rest index at awaited flags now old written count there is d in
         let gone : o.gone ≡ true = sym (mark_is goal index at own flags now d.marked o d.flags_are h) ∙ mark in
-        let next : left_before total modes (suc index) (nodes_of goals) d.marked ≡ left_before total modes index (nodes_of goals) d.marked =
-        o.next_is ∙ ap (λ b. left_before total modes index (nodes_of goals) d.marked ++ kept b (move_of total modes goal) []) gone ∙ append-nil (left_before total modes index (nodes_of goals) d.marked) in
         record {
           marked = d.marked;
           done = d.done;
           fits = d.fits;
           flags_are = d.flags_are;
           sound = d.sound;
-          stuck = λ other less far. stuck_less total modes other index (nodes_of goals) d.marked now less d.stuck;
-          passed = λ far. subst (λ l. AllStuck l now) (sym next) d.stuck;
+          stuck = stuck_on goal rest index awaited later d.marked d.marked now there taken d.stuck (λ other. inr refl) (λ left. let no : true ≡ false = sym gone ∙ sym o.own ∙ left in cc);
           whole_is = d.whole_is;
           are_written = d.are_written;
-          fewer = none_more place (length (left total modes (nodes_of goals) d.marked)) count d.fewer;
+          fewer = d.fewer;
         }
 
     -- its marks, as they are handed on
-    pub member_marks : (goal : Node) (rest : List Node) (index at own end : ℕ) (flags : List Bool) (now : Bound) (old written : Written) (count : ℕ) → drop index goals ≡ goal ∷ rest → IsAt goals index at
-        → Amid total modes goals whole index flags now old written count → suc own ≡ at + length (parts_of goal) → end ≡ at + length (parts_of goal) → slice_index_or flags own false ≡ false
+    pub member_marks : (goal : Node) (rest : List Node) (index at own end : ℕ) (awaited : ℕ → Bool) (flags : List Bool) (now : Bound) (old written : Written) (count : ℕ) → drop index goals ≡ goal ∷ rest → IsAt goals index at
+        → Amid total modes goals whole awaited flags now now old written count → suc own ≡ at + length (parts_of goal) → end ≡ at + length (parts_of goal) → slice_index_or flags own false ≡ false
         → IsMarked total modes goal (slice_range flags at end) now
-    member_marks goal rest index at own end flags now old written count there is d h e mark =
-        let o = apart_at goal rest index at flags now old written count there is d in
+    member_marks goal rest index at own end awaited flags now old written count there is d h e mark =
+        let o = apart_at goal rest index at awaited flags now old written count there is d in
         let gone : o.gone ≡ false = sym (mark_is goal index at own flags now d.marked o d.flags_are h) ∙ mark in
         let long = marks_length goal o.inner o.gone o.fits in
         record {
@@ -308,119 +304,149 @@ module _ (total : ℕ → ℕ) (modes : ℕ → List ModeDecl) where
     left_with goal index at now marked o gone = o.left_is ∙ ap (λ b. left_before total modes index (nodes_of goals) marked ++ kept b (move_of total modes goal) o.others) gone
 
     -- It was asked and is not ready.
-    pub member_stays : (goal : Node) (rest : List Node) (index at own size start place : ℕ) (flags new : List Bool) (bound after : List ℕ) (old mid late : Written) (count : ℕ) → drop index goals ≡ goal ∷ rest
-        → IsAt goals index at → Amid total modes goals whole index flags (among bound) old mid count → suc own ≡ at + length (parts_of goal) → slice_index_or flags own false ≡ false → size ≡ length (parts_of goal)
-        → Stays total modes goal new bound after mid late → Stepped total modes goals start place whole index (put_mid at size flags new) (among after) place old late count
-    member_stays goal rest index at own size start place flags new bound after old mid late count there is d h mark s y =
+    member_stays : (goal : Node) (rest : List Node) (index at own size : ℕ) (awaited later : ℕ → Bool) (flags new : List Bool) (bound after : List ℕ) (old mid late : Written) (count : ℕ) → drop index goals ≡ goal ∷ rest
+        → IsAt goals index at → IsTaken index awaited later → Amid total modes goals whole awaited flags (among bound) (among bound) old mid count → suc own ≡ at + length (parts_of goal) → slice_index_or flags own false ≡ false
+        → size ≡ length (parts_of goal) → Stays total modes goal new bound after mid late → Amid total modes goals whole later (put_mid at size flags new) (among after) (among after) old late count
+    member_stays goal rest index at own size awaited later flags new bound after old mid late count there is taken d h mark s y =
         let now = among bound in
-        let o = apart_at goal rest index at flags now old mid count there is d in
+        let o = apart_at goal rest index at awaited flags now old mid count there is d in
         let gone : o.gone ≡ false = sym (mark_is goal index at own flags now d.marked o d.flags_are h) ∙ mark in
         let m = y.marked in
         let own_sound : IsSound total modes goal m.inner now = subst (λ b. part b (is_ready (from total modes goal now) ≡ true) (IsSound total modes goal m.inner now)) y.went_is m.sound in
         let p = o.put m.inner false m.fits in
         let those : left total modes (nodes_of goals) d.marked ≡ left total modes (nodes_of goals) p.marks = left_with goal index at now d.marked o gone ∙ sym p.left_is in
-        subst (λ w. Stepped total modes goals start place whole index (put_mid at size flags new) (among after) place old w count) (sym y.same)
-        (subst (λ b. Stepped total modes goals start place whole index (put_mid at size flags new) (among b) place old mid count) (sym y.same_bound)
+        subst (λ w. Amid total modes goals whole later (put_mid at size flags new) (among after) (among after) old w count) (sym y.same)
+        (subst (λ b. Amid total modes goals whole later (put_mid at size flags new) (among b) (among b) old mid count) (sym y.same_bound)
         (record {
           marked = p.marks;
           done = d.done;
           fits = p.fits;
           flags_are = sym (p.flags_are ∙ put_there goal index at size flags new now d.marked m.inner false o d.flags_are s (m.flags_are ∙ ap (λ b. flags_of m.inner ++ b ∷ []) y.went_is));
           sound = p.sound now (λ variable b. b) own_sound;
-          stuck = λ other less far. subst (λ l. AllStuck l now) (sym (p.same other less)) (stuck_less total modes other index (nodes_of goals) d.marked now less d.stuck);
-          passed = λ far. subst (λ l. AllStuck l now) (sym p.next_is) (stuck_more (left_before total modes index (nodes_of goals) d.marked) (move_of total modes goal) now d.stuck y.stuck);
+          stuck = stuck_on goal rest index awaited later d.marked p.marks now there taken d.stuck p.same (λ left. y.stuck);
           whole_is = subst (λ l. whole ≡ behind_them d.done (all_settled l now)) those d.whole_is;
           are_written = d.are_written;
-          fewer = none_more place (length (left total modes (nodes_of goals) p.marks)) count (subst (λ l. length l ≤ count) those d.fewer);
+          fewer = subst (λ l. length l ≤ count) those d.fewer;
         }))
 
     -- It was asked and is ready: it goes.
-    pub member_goes : (goal : Node) (rest : List Node) (index at own size start place first : ℕ) (flags new : List Bool) (bound after : List ℕ) (old mid late : Written) (count : ℕ) → drop index goals ≡ goal ∷ rest
-        → IsAt goals index at → IsPlaced start goals index place → Amid total modes goals whole index flags (among bound) old mid count → suc own ≡ at + length (parts_of goal) → slice_index_or flags own false ≡ false
-        → size ≡ length (parts_of goal) → Goes total modes goal new bound after mid late
-        → ((other : ℕ) → start + length (variables_before goals other) ≤ first → Agree (variables_before goals other) (among bound) (among after))
-        → Stepped total modes goals start place whole index (put_mid at size flags new) (among after) first old late count
-    member_goes goal rest index at own size start place first flags new bound after old mid late count there is placed d h mark s y agree =
+    member_goes : (goal : Node) (rest : List Node) (index at own size : ℕ) (awaited later : ℕ → Bool) (flags new : List Bool) (bound after : List ℕ) (old mid late : Written) (less : ℕ) → drop index goals ≡ goal ∷ rest
+        → IsAt goals index at → IsTaken index awaited later → Amid total modes goals whole awaited flags (among bound) (among bound) old mid (suc less) → suc own ≡ at + length (parts_of goal)
+        → slice_index_or flags own false ≡ false → size ≡ length (parts_of goal) → Goes total modes goal new bound after mid late
+        → (amid : Amid total modes goals whole later (put_mid at size flags new) (among bound) (among after) old late less) × (went_at index amid.marked ≡ true)
+    member_goes goal rest index at own size awaited later flags new bound after old mid late less there is taken d h mark s y =
         let now = among bound in
-        let o = apart_at goal rest index at flags now old mid count there is d in
+        let o = apart_at goal rest index at awaited flags now old mid (suc less) there is d in
         let gone : o.gone ≡ false = sym (mark_is goal index at own flags now d.marked o d.flags_are h) ∙ mark in
         let p = o.put y.gone.inner true y.gone.fits in
         let before = left_before total modes index (nodes_of goals) d.marked in
         let those = left_with goal index at now d.marked o gone in
-        let later : left total modes (nodes_of goals) p.marks ≡ before ++ o.others = p.left_is in
-        let fewer : length (before ++ move_of total modes goal ∷ o.others) ≤ count = subst (λ l. length l ≤ count) those d.fewer in
-        let left_now : length (left total modes (nodes_of goals) p.marks) ≡ length (before ++ o.others) = ap length later in
-        record {
-          marked = p.marks;
-          done = d.done ++ y.ordered ∷ [];
-          fits = p.fits;
-          flags_are = sym (p.flags_are ∙ put_there goal index at size flags new now d.marked y.gone.inner true o d.flags_are s y.gone.flags_are);
-          sound = p.sound (among after) (λ variable b. ap (λ (l : Bound). l variable) y.bound_is ∙ or_left (among bound variable) (binds total modes goal variable) b) tt;
-          stuck = λ other less far. subst (λ l. AllStuck l (among after)) (sym (p.same other less))
-              (stuck_still total modes other goals d.marked now (among after) (agree other far) (stuck_less total modes other index (nodes_of goals) d.marked now less d.stuck));
-          passed = λ far. subst (λ l. AllStuck l (among after)) (sym (p.next_is ∙ append-nil before))
-              (stuck_still total modes index goals d.marked now (among after) (agree index (subst (λ n. n ≤ first) placed far)) d.stuck);
-          whole_is = subst (λ l. whole ≡ behind_them d.done (all_settled l now)) those d.whole_is
-              ∙ ap (λ x. behind_them d.done x) (settled_goes before o.others (move_of total modes goal) now y.ordered d.stuck y.outcome)
-              ∙ behind_on d.done y.ordered (all_settled (before ++ o.others) (with now (binds total modes goal)))
-              ∙ ap (λ b. behind_them (d.done ++ y.ordered ∷ []) (all_settled (before ++ o.others) b)) (sym y.bound_is)
-              ∙ ap (λ l. behind_them (d.done ++ y.ordered ∷ []) (all_settled l (among after))) (sym later);
-          are_written = written_on modes d.done y.ordered old mid late d.are_written y.written;
-          fewer = omega (arith, fewer, left_now, few_new (nat_lt first place), length-append before (move_of total modes goal ∷ o.others), length-append before o.others);
-        }
+        let later_left : left total modes (nodes_of goals) p.marks ≡ before ++ o.others = p.left_is in
+        let fewer : length (before ++ move_of total modes goal ∷ o.others) ≤ suc less = subst (λ l. length l ≤ suc less) those d.fewer in
+        let left_now : length (left total modes (nodes_of goals) p.marks) ≡ length (before ++ o.others) = ap length later_left in
+        let stuck = stuck_before total modes index goals d.marked awaited now d.stuck taken.first in (
+          record {
+            marked = p.marks;
+            done = d.done ++ y.ordered ∷ [];
+            fits = p.fits;
+            flags_are = sym (p.flags_are ∙ put_there goal index at size flags new now d.marked y.gone.inner true o d.flags_are s y.gone.flags_are);
+            sound = p.sound (among after) (λ variable b. ap (λ (l : Bound). l variable) y.bound_is ∙ or_left (among bound variable) (binds total modes goal variable) b) tt;
+            stuck = stuck_on goal rest index awaited later d.marked p.marks now there taken d.stuck p.same (λ left. let no : true ≡ false = sym p.own ∙ left in cc);
+            whole_is = subst (λ l. whole ≡ behind_them d.done (all_settled l now)) those d.whole_is
+                ∙ ap (λ x. behind_them d.done x) (settled_goes before o.others (move_of total modes goal) now y.ordered stuck y.outcome)
+                ∙ behind_on d.done y.ordered (all_settled (before ++ o.others) (with now (binds total modes goal)))
+                ∙ ap (λ b. behind_them (d.done ++ y.ordered ∷ []) (all_settled (before ++ o.others) b)) (sym y.bound_is)
+                ∙ ap (λ l. behind_them (d.done ++ y.ordered ∷ []) (all_settled l (among after))) (sym later_left);
+            are_written = written_on modes d.done y.ordered old mid late d.are_written y.written;
+            fewer = omega (arith, fewer, left_now, length-append before (move_of total modes goal ∷ o.others), length-append before o.others);
+          },
+          p.own,
+        )
 
-    -- the set to look up variables in is as it was
-    pub seen_same : (index start place first : ℕ) (flags : List Bool) (now : Bound) (old written : Written) (seen : List ℕ) (count : ℕ) → written.seen ≡ [] → seen ≡ []
-        → Stepped total modes goals start place whole index flags now first old written count
-        → Stepped total modes goals start place whole index flags now first old (record { nodes = written.nodes; fresh = written.fresh; seen = seen }) count
-    seen_same index start place first flags now old written seen count none empty d =
-        subst (λ l. Stepped total modes goals start place whole index flags now first old (record { nodes = written.nodes; fresh = written.fresh; seen = l }) count) (none ∙ sym empty) d
+    pub member_asked : (goal : Node) (rest : List Node) (index at own size : ℕ) (awaited later : ℕ → Bool) (flags new : List Bool) (bound after : List ℕ) (old mid late : Written) (less : ℕ) → drop index goals ≡ goal ∷ rest
+        → IsAt goals index at → IsTaken index awaited later → Amid total modes goals whole awaited flags (among bound) (among bound) old mid (suc less) → suc own ≡ at + length (parts_of goal)
+        → slice_index_or flags own false ≡ false → size ≡ length (parts_of goal) → (result : Result Bool Fault) → GoesIfReady total modes goal new bound after mid late result
+        → AskGives total modes goals whole index later (put_mid at size flags new) (among bound) (among after) old late less result
+    member_asked goal rest index at own size awaited later flags new bound after old mid late less there is taken d h mark s (Ok true) y =
+        member_goes goal rest index at own size awaited later flags new bound after old mid late less there is taken d h mark s y
+    member_asked goal rest index at own size awaited later flags new bound after old mid late less there is taken d h mark s (Ok false) y =
+        member_stays goal rest index at own size awaited later flags new bound after old mid late (suc less) there is taken d h mark s y
+    member_asked goal rest index at own size awaited later flags new bound after old mid late less there is taken d h mark s (Err (Refused refusal)) y = y
+    member_asked goal rest index at own size awaited later flags new bound after old mid late less there is taken d h mark s (Err NoMemory) y = tt
 
-    -- Behind it the next is asked, or an earlier one.
+    -- Those in which a variable occurs that is new are awaited: all others that are left are as stuck as they were.
 
-    pub sweep_on : (index place first start : ℕ) (flags : List Bool) (now : Bound) (old written : Written) (count : ℕ) → Stepped total modes goals start place whole index flags now first old written count → place ≤ first
-        → Amid total modes goals whole (suc index) flags now old written count
-    sweep_on index place first start flags now old written count d h = record {
-      marked = d.marked;
-      done = d.done;
-      fits = d.fits;
-      flags_are = d.flags_are;
-      sound = d.sound;
-      stuck = d.passed h;
-      whole_is = d.whole_is;
-      are_written = d.are_written;
-      fewer = let few = d.fewer in omega (arith, few);
-    }
-
-    stuck_back : (index place first start back back_place : ℕ) (flags : List Bool) (now : Bound) (old written : Written) (count : ℕ) (d : Stepped total modes goals start place whole index flags now first old written count)
-        → back ≤ index → (first < back_place → back ≡ 0) → IsPlaced start goals back back_place → (first < back_place) ⊎ (back_place ≤ first) → AllStuck (left_before total modes back (nodes_of goals) d.marked) now
-    stuck_back index place first start back back_place flags now old written count d less far placed (inl behind) =
-        subst (λ n. AllStuck (left_before total modes n (nodes_of goals) d.marked) now) (sym (far behind)) tt
-    stuck_back index place first start back back_place flags now old written count d less far placed (inr before) = d.stuck back less (subst (λ n. n ≤ first) placed before)
-
-    pub sweep_back : (index place first start back back_place : ℕ) (flags : List Bool) (now : Bound) (old written : Written) (less : ℕ)
-        → Stepped total modes goals start place whole index flags now first old written (suc less) → first < place → back ≤ index → (first < back_place → back ≡ 0) → IsPlaced start goals back back_place
-        → Amid total modes goals whole back flags now old written less
-    sweep_back index place first start back back_place flags now old written less d h low far placed = record {
-      marked = d.marked;
-      done = d.done;
-      fits = d.fits;
-      flags_are = d.flags_are;
-      sound = d.sound;
-      stuck = stuck_back index place first start back back_place flags now old written (suc less) d low far placed (cases_lt first back_place);
-      whole_is = d.whole_is;
-      are_written = d.are_written;
-      fewer = one_fewer (length (left total modes (nodes_of goals) d.marked)) (nat_lt first place) (lt_true first place h) d.fewer;
-    }
+    awaited_from : (binding start mark : ℕ) (all : List ℕ) (bound after : List ℕ) (agenda new : Agenda) (marked : Marked) → IsStretch total all start (start + length (all_variables (nodes_of goals))) (all_variables (nodes_of goals))
+        → length agenda.starts.items ≡ suc (length goals) → ((index : ℕ) → index < length agenda.starts.items → IsPlaced start goals index (start_at agenda.starts.items index).place)
+        → AwaitsAgain all binding (drop mark after) agenda new → Extends bound after → mark ≡ length bound → AskedAreStuck total modes (awaits agenda) goals marked (among bound) → went_at binding marked ≡ true
+        → AskedAreStuck total modes (awaits new) goals marked (among after)
+    awaited_from binding start mark all bound after agenda new marked stretch long placed again extends mark_is stuck gone = λ index goal rest there not left.
+        sym (ap is_ready (from_same total modes goal (among bound) (among after)
+        (agrees (variables goal) bound (drop mark after) after (since_is bound after mark extends mark_is)
+        (λ variable fresh inner. none index goal rest there not left (again.each ascends index variable fresh (ap (λ l. among l variable) (inside_is index goal rest there) ∙ inner))))))
+        ∙ stuck index goal rest there (before index (awaits agenda index) refl not) left
       where
-        one_fewer : (few : ℕ) (b : Bool) → b ≡ true → few + new_one b ≤ suc less → few ≤ less
-        one_fewer few true e h = omega (arith, h)
-        one_fewer few false e h = cc
+        starts : List Start
+        starts = agenda.starts.items
 
-        lt_true : (one other : ℕ) → one < other → nat_lt one other ≡ true
-        lt_true one other h = grind (arith, nat_tests)
+        ascends : Ascends starts
+        ascends = λ index other h room.
+            let one : (start_at starts index).place ≡ start + length (variables_before goals index) = placed index (omega (arith, h, room)) in
+            let two : (start_at starts other).place ≡ start + length (variables_before goals other) = placed other room in
+            omega (arith, one, two, variables_longer goals index other h)
 
-    -- the end of the goals
+        inside_is : (index : ℕ) (goal : Node) (rest : List Node) → drop index goals ≡ goal ∷ rest → inside all starts index ≡ variables goal
+        inside_is index goal rest there =
+            let within = index_within goals index goal rest there in
+            let here : (start_at starts index).place ≡ start + length (variables_before goals index) = placed index (omega (arith, within, long)) in
+            let next : (start_at starts (suc index)).place ≡ start + length (variables_before goals (suc index)) = placed (suc index) (omega (arith, within, long)) in
+            let longer : length (variables_before goals (suc index)) ≡ length (variables_before goals index) + length (variables goal) =
+            ap (λ l. length l) (variables_next goals index goal rest there) ∙ length-append (variables_before goals index) (variables goal) in
+            let end : (start_at starts (suc index)).place ≡ (start_at starts index).place + length (variables goal) = omega (arith, here, next, longer) in
+            ap (λ n. drop (start_at starts index).place (take n all)) end
+            ∙ own_is total all (start_at starts index).place goal (all_variables (nodes_of rest)) (rest_from total all start goals rest index (start_at starts index).place goal there here stretch)
+
+        none : (index : ℕ) (goal : Node) (rest : List Node) → drop index goals ≡ goal ∷ rest → awaits new index ≡ false → went_at index marked ≡ false → (index ≡ binding) ⊎ (awaits new index ≡ true) → ⊥
+        none index goal rest there not left (inl is) = let no : true ≡ false = sym gone ∙ ap (λ n. went_at n marked) (sym is) ∙ left in cc
+        none index goal rest there not left (inr again_so) = let no : true ≡ false = sym again_so ∙ not in cc
+
+        before : (index : ℕ) (was : Bool) → awaits agenda index ≡ was → awaits new index ≡ false → awaits agenda index ≡ false
+        before index true is not = let no : true ≡ false = sym (again.more index is) ∙ not in cc
+        before index false is not = is
+
+    pub awaited_on : (binding start mark : ℕ) (all : List ℕ) (flags : List Bool) (bound after : List ℕ) (agenda new : Agenda) (old written : Written) (less : ℕ)
+        → IsStretch total all start (start + length (all_variables (nodes_of goals))) (all_variables (nodes_of goals))
+        → length agenda.starts.items ≡ suc (length goals) → ((index : ℕ) → index < length agenda.starts.items → IsPlaced start goals index (start_at agenda.starts.items index).place)
+        → AwaitsAgain all binding (drop mark after) agenda new → Extends bound after → mark ≡ length bound
+        → (d : Amid total modes goals whole (awaits agenda) flags (among bound) (among after) old written less) → went_at binding d.marked ≡ true
+        → Amid total modes goals whole (awaits new) flags (among after) (among after) old written less
+    awaited_on binding start mark all flags bound after agenda new old written less stretch long placed again extends mark_is d gone = record {
+      marked = d.marked;
+      done = d.done;
+      fits = d.fits;
+      flags_are = d.flags_are;
+      sound = d.sound;
+      stuck = awaited_from binding start mark all bound after agenda new d.marked stretch long placed again extends mark_is d.stuck gone;
+      whole_is = d.whole_is;
+      are_written = d.are_written;
+      fewer = d.fewer;
+    }
+
+    -- none is awaited
+
+    pub none_awaited : (awaited : ℕ → Bool) (flags : List Bool) (now : Bound) (old written : Written) (count : ℕ) → Amid total modes goals whole awaited flags now now old written count
+        → ((index : ℕ) → index < length goals → awaited index ≡ false) → Amid total modes goals whole nothing flags now now old written count
+    none_awaited awaited flags now old written count d none = record {
+      marked = d.marked;
+      done = d.done;
+      fits = d.fits;
+      flags_are = d.flags_are;
+      sound = d.sound;
+      stuck = λ index goal rest there not left. d.stuck index goal rest there (none index (index_within goals index goal rest there)) left;
+      whole_is = d.whole_is;
+      are_written = d.are_written;
+      fewer = d.fewer;
+    }
 
     all_before : (those : List Node) (index : ℕ) (marked : Marked) → length those ≤ index → Fits (nodes_of those) marked → left_before total modes index (nodes_of those) marked ≡ left total modes (nodes_of those) marked
     all_before [] zero marked h fits = refl
@@ -428,71 +454,55 @@ module _ (total : ℕ → ℕ) (modes : ℕ → List ModeDecl) where
     all_before (first ∷ rest) zero marked h fits = absurd (omega (arith, h))
     all_before (first ∷ rest) (suc index) marked h (more f r went inner others fi fo) = ap (λ l. kept went (move_of total modes first) l) (all_before rest index others (omega (arith, h)) fo)
 
-    none_ready : (index : ℕ) (flags : List Bool) (now : Bound) (old written : Written) (count : ℕ) (d : Amid total modes goals whole index flags now old written count) → length goals ≤ index
-        → AllStuck (left total modes (nodes_of goals) d.marked) now
-    none_ready index flags now old written count d h = subst (λ l. AllStuck l now) (all_before goals index d.marked h d.fits) d.stuck
+    none_ready : (flags : List Bool) (now : Bound) (old written : Written) (count : ℕ) (d : Amid total modes goals whole nothing flags now now old written count) → AllStuck (left total modes (nodes_of goals) d.marked) now
+    none_ready flags now old written count d =
+        subst (λ l. AllStuck l now) (all_before goals (length goals) d.marked (omega arith) d.fits) (stuck_before total modes (length goals) goals d.marked nothing now d.stuck (λ other h. refl))
 
-    pub end_told : (start index : ℕ) (flags marks : List Bool) (now late : Bound) (old mid new : Written) (count less : ℕ) (fault : Fault) → Amid total modes goals whole index flags now old mid count → length goals ≤ index
-        → ((marked : Marked) → Fits (nodes_of goals) marked → flags ≡ flags_of marked → TellsFirst (left total modes (nodes_of goals) marked) now mid new (Err fault))
-        → SweepGives total modes goals start whole marks late old new less (Err fault)
-    end_told start index flags marks now late old mid new count less fault d h tells =
-        fault_given start marks late old new less fault
-        (told_fault modes whole (left total modes (nodes_of goals) d.marked) d.done now fault mid new old new (none_ready index flags now old mid count d h) (tells d.marked d.fits d.flags_are) d.whole_is)
-      where
-        fault_given : (start : ℕ) (marks : List Bool) (late : Bound) (old new : Written) (less : ℕ) (fault : Fault) → GivesAll modes whole old new (Err fault)
-            → SweepGives total modes goals start whole marks late old new less (Err fault)
-        fault_given start marks late old new less (Refused refusal) gives = gives
-        fault_given start marks late old new less NoMemory gives = tt
-
-    pub end_ready : (start index : ℕ) (flags marks : List Bool) (now late : Bound) (old mid new : Written) (count less : ℕ) (unit : Unit {0}) → Amid total modes goals whole index flags now old mid count → length goals ≤ index
-        → ((marked : Marked) → Fits (nodes_of goals) marked → flags ≡ flags_of marked → TellsFirst (left total modes (nodes_of goals) marked) now mid new (Ok unit))
-        → SweepGives total modes goals start whole marks late old new less (Ok None)
-    end_ready start index flags marks now late old mid new count less unit d h tells =
-        told_ready modes whole (left total modes (nodes_of goals) d.marked) d.done now unit old mid new (none_ready index flags now old mid count d h) (tells d.marked d.fits d.flags_are) d.whole_is d.are_written
+    pub end_told : (flags : List Bool) (now : Bound) (old mid new : Written) (count : ℕ) (result : Result (Unit {0}) Fault) → Amid total modes goals whole nothing flags now now old mid count
+        → ((marked : Marked) → Fits (nodes_of goals) marked → flags ≡ flags_of marked → TellsFirst (left total modes (nodes_of goals) marked) now mid new result) → GivesAll modes whole old new result
+    end_told flags now old mid new count (Ok unit) d tells =
+        told_ready modes whole (left total modes (nodes_of goals) d.marked) d.done now unit old mid new (none_ready flags now old mid count d) (tells d.marked d.fits d.flags_are) d.whole_is d.are_written
+    end_told flags now old mid new count (Err fault) d tells =
+        told_fault modes whole (left total modes (nodes_of goals) d.marked) d.done now fault mid new old new (none_ready flags now old mid count d) (tells d.marked d.fits d.flags_are) d.whole_is
 
     -- faults that cannot be
 
-    pub step_err : (goal : Node) (flags marks : List Bool) (start place index : ℕ) (bound after : List ℕ) (now : Bound) (old mid new late : Written) (count : ℕ) (fault : Fault)
-        → GoesIfReady total modes goal flags bound after mid late (Err fault) → StepGives total modes goals start place whole index marks now old new count (Err fault)
-    step_err goal flags marks start place index bound after now old mid new late count (Refused refusal) gives = gives
-    step_err goal flags marks start place index bound after now old mid new late count NoMemory gives = tt
+    pub next_err : (index : ℕ) (awaited later : ℕ → Bool) (marks flags : List Bool) (before now then : Bound) (old new late : Written) (less : ℕ) (fault : Fault)
+        → AskGives total modes goals whole index awaited marks before now old new less (Err fault) → NextGives total modes goals whole later flags then old late less (Err fault)
+    next_err index awaited later marks flags before now then old new late less (Refused refusal) gives = absurd gives
+    next_err index awaited later marks flags before now then old new late less NoMemory gives = tt
 
-    pub sweep_err : (start place index : ℕ) (marks flags : List Bool) (now then : Bound) (old new late : Written) (count less : ℕ) (fault : Fault)
-        → StepGives total modes goals start place whole index marks now old new count (Err fault) → SweepGives total modes goals start whole flags then old late less (Err fault)
-    sweep_err start place index marks flags now then old new late count less (Refused refusal) gives = absurd gives
-    sweep_err start place index marks flags now then old new late count less NoMemory gives = tt
+    pub rounds_err : (awaited : ℕ → Bool) (flags : List Bool) (now : Bound) (old new late : Written) (less : ℕ) (fault : Fault) → NextGives total modes goals whole awaited flags now old new less (Err fault)
+        → GivesAll modes whole old late (Err fault)
+    rounds_err awaited flags now old new late less (Refused refusal) gives = absurd gives
+    rounds_err awaited flags now old new late less NoMemory gives = tt
 
-  -- times over the goals
+  -- one goal goes each time
 
-  pub rounds_first : (goals : List Node) (flags : List Bool) (bound : Bound) (old : Written) (size : ℕ) → flags ≡ replicate size false → size ≡ length (all_parts (nodes_of goals))
-      → Amid total modes goals (all_settled (moves total modes (nodes_of goals)) bound) 0 flags bound old old (length goals)
-  rounds_first goals flags bound old size is s = record {
+  pub rounds_first : (goals : List Node) (awaited : ℕ → Bool) (flags : List Bool) (bound : Bound) (old : Written) (size : ℕ) → flags ≡ replicate size false → size ≡ length (all_parts (nodes_of goals))
+      → ((index : ℕ) → awaited index ≡ true) → Amid total modes goals (all_settled (moves total modes (nodes_of goals)) bound) awaited flags bound bound old old (length goals)
+  rounds_first goals awaited flags bound old size is s all = record {
     marked = all_blank (nodes_of goals);
     done = [];
     fits = all_blank_fits (nodes_of goals);
     flags_are = is ∙ ap (λ n. replicate n false) s ∙ sym (all_blank_flags (nodes_of goals));
     sound = left_sound total modes (nodes_of goals) bound;
-    stuck = tt;
+    stuck = λ index goal rest there not left. let no : true ≡ false = sym (all index) ∙ not in cc;
     whole_is = ap (λ l. all_settled l bound) (sym (all_left total modes (nodes_of goals)));
     are_written = none_written modes old;
     fewer = left_length total modes goals (all_blank (nodes_of goals)) (all_blank_fits (nodes_of goals));
   }
 
-  pub fewer_by : (goals : List Node) (whole : Outcomes) (index : ℕ) (flags : List Bool) (now : Bound) (old written : Written) (count other : ℕ) → count ≡ other
-      → Amid total modes goals whole index flags now old written count → Amid total modes goals whole index flags now old written other
-  fewer_by goals whole index flags now old written count other same p = subst (λ n. Amid total modes goals whole index flags now old written n) same p
+  pub fewer_by : (goals : List Node) (whole : Outcomes) (awaited : ℕ → Bool) (flags : List Bool) (now : Bound) (old written : Written) (count other : ℕ) → count ≡ other
+      → Amid total modes goals whole awaited flags now now old written count → Amid total modes goals whole awaited flags now now old written other
+  fewer_by goals whole awaited flags now old written count other same p = subst (λ n. Amid total modes goals whole awaited flags now now old written n) same p
 
-  pub rounds_err : (goals : List Node) (start : ℕ) (whole : Outcomes) (flags : List Bool) (now : Bound) (old new late : Written) (less : ℕ) (fault : Fault) → SweepGives total modes goals start whole flags now old new less (Err fault)
-      → GivesAll modes whole old late (Err fault)
-  rounds_err goals start whole flags now old new late less (Refused refusal) gives = gives
-  rounds_err goals start whole flags now old new late less NoMemory gives = tt
+  no_moves : (all : List Move) → length all ≤ 0 → all ≡ []
+  no_moves [] h = refl
+  no_moves (first ∷ rest) h = absurd (omega arith)
 
-  nothing : (all : List Move) → length all ≤ 0 → all ≡ []
-  nothing [] h = refl
-  nothing (first ∷ rest) h = absurd (omega arith)
-
-  pub rounds_end : (goals : List Node) (whole : Outcomes) (index : ℕ) (flags : List Bool) (now : Bound) (old new : Written) (count : ℕ) → Amid total modes goals whole index flags now old new count → count ≡ 0
+  pub rounds_end : (goals : List Node) (whole : Outcomes) (awaited : ℕ → Bool) (flags : List Bool) (now : Bound) (old new : Written) (count : ℕ) → Amid total modes goals whole awaited flags now now old new count → count ≡ 0
       → GivesAll modes whole old new (Ok tt)
-  rounds_end goals whole index flags now old new count p none =
+  rounds_end goals whole awaited flags now old new count p none =
       let few : length (left total modes (nodes_of goals) p.marked) ≤ 0 = subst (λ n. length (left total modes (nodes_of goals) p.marked) ≤ n) none p.fewer in
-      (p.done, p.whole_is ∙ ap (λ l. behind_them p.done (all_settled l now)) (nothing (left total modes (nodes_of goals) p.marked) few) ∙ behind_ready p.done, p.are_written)
+      (p.done, p.whole_is ∙ ap (λ l. behind_them p.done (all_settled l now)) (no_moves (left total modes (nodes_of goals) p.marked) few) ∙ behind_ready p.done, p.are_written)

@@ -15,6 +15,7 @@ use Rattle.merc_readiness.specs.Asking.{AreKnown}
 use Rattle.merc_readiness.specs.Facts.{all_subgoals, AreFactsOf}
 use Rattle.merc_readiness.specs.Outside.{IsStretch}
 use Rattle.merc_readiness.specs.Sweeps.{AreKnownFrom}
+use Rattle.merc_modes.specs.Positions.{IsNext}
 use Rattle.merc_modes.specs.Walking.{IsWritten, Gives}
 use Rattle.merc_modes.specs.Walks.{behind_them, GivesAll, Walked}
 use Rattle.merc_readiness.specs.declared.facts.Facts.{Facts}
@@ -113,3 +114,11 @@ module _ (total : ℕ → ℕ) (modes : ℕ → List ModeDecl) where
   walked_stuck facts at all place whole now old mid late new rest outcome (Refused refusal) w is gives =
       w.whole_is ∙ ap (λ o. behind_them w.done o) (is refusal gives) ∙ behind_stuck w.done refusal
   walked_stuck facts at all place whole now old mid late new rest outcome NoMemory w is gives = tt
+
+-- the place behind the variables of a goal
+pub next_place : (goal : Node) (facts : List Facts) (all : List ℕ) (at own place next : ℕ) (found : Facts) → suc own ≡ at + length (parts_of goal) → found ≡ slice_index_or facts own found
+    → (place + found.occurrences ≤ length all → next ≡ place + found.occurrences) → IsNext goal facts all at place next
+next_place goal facts all at own place next found own_is is next_is = λ total modes rest known room.
+    let f = known_next total modes goal rest facts at own found known own_is is in
+    let n : found.occurrences ≡ length (variables goal) = f.occurrences_are in
+    next_is (omega (arith, n, room)) ∙ ap (λ m. place + m) n

@@ -1,26 +1,27 @@
 -- How the goals of a conjunction go one after the other, each as the leftmost that is ready.
-use Rattle.std.specs.Prelude.{◌≡◌, ◌≤◌, ◌+◌, nat_lt, ℕ, zero, suc, Bool, true, false, List, [], ◌∷◌, ◌++◌, length, drop, Option, Some, None, Result, Ok, Err}
+use Rattle.std.specs.Prelude.{◌≡◌, ◌≤◌, ◌+◌, ℕ, zero, suc, Bool, true, false, List, [], ◌∷◌, ◌++◌, length, drop, Result, Ok, Err}
 use Rattle.merc_base.specs.declared.refusal.Fault.{Fault}
 use Rattle.merc_base.specs.declared.refusal.Fault.TheVariants.{Refused, NoMemory}
 use Rattle.merc_tree.specs.declared.declarations.ModeDecl.{ModeDecl}
 use Rattle.merc_tree.specs.declared.declarations.PredDecl.{PredDecl}
-use Rattle.merc_goal_tree.specs.Nodes.{Node, Nodes, no_nodes, more_nodes, nodes_of}
+use Rattle.merc_goal_tree.specs.Nodes.{Node, Nodes, nodes_of}
 use Rattle.merc_goal_tree.specs.Variables.{variables, all_variables}
-use Rattle.merc_order.specs.Bound.{Bound, among, with}
-use Rattle.merc_order.specs.Marks.{Marked, no_marks, more_marks, kept, move_of, left, SoundLeft}
+use Rattle.merc_order.specs.Bound.{Bound, nothing, among, with}
+use Rattle.merc_order.specs.Marks.{Marked, no_marks, more_marks, left, SoundLeft}
 use Rattle.merc_order.specs.Moves.{Move}
 use Rattle.merc_order.specs.Order.{binds, from}
-use Rattle.merc_order.specs.Ordered.{Ordered, Outcomes, AllReady, OneStuck, Ready, Stuck, is_ready}
+use Rattle.merc_order.specs.Ordered.{Ordered, Outcomes, Ready, Stuck, is_ready}
 use Rattle.merc_order.specs.Procedures.{modes_of}
-use Rattle.merc_order.specs.Ways.{AllStuck}
 use Rattle.merc_readiness.specs.Asking.{AreKnown, IsMarked, Fits, flags_of, joined_by}
 use Rattle.merc_readiness.specs.Facts.{subgoals, all_subgoals}
 use Rattle.merc_readiness.specs.Outside.{IsStretch}
-use Rattle.merc_readiness.specs.Sweeps.{AreKnownFrom, new_one}
-use Rattle.merc_modes.specs.Positions.{variables_before, IsAt, IsPlaced}
+use Rattle.merc_readiness.specs.Sweeps.{AreKnownFrom}
+use Rattle.merc_modes.specs.Agenda.{ArePlaced, awaits, IsTaken}
+use Rattle.merc_modes.specs.Positions.{IsAt, IsPlaced}
 use Rattle.merc_modes.specs.Walking.{IsWritten}
-use Rattle.merc_modes.specs.Walks.{ordereds_of, behind_them, AreWritten, all_settled}
-use Rattle.merc_modes.specs.declared.positions.Position.{Position}
+use Rattle.merc_modes.specs.Walks.{behind_them, AreWritten, all_settled}
+use Rattle.merc_modes.specs.declared.agenda.Agenda.{Agenda}
+use Rattle.merc_modes.specs.declared.agenda.Start.{Start}
 use Rattle.merc_readiness.specs.declared.facts.Facts.{Facts}
 use Rattle.merc_modes.specs.declared.written.Written.{Written}
 
@@ -71,6 +72,12 @@ FirstTells predicates goals facts all start flags bound old new result =
     (total : ℕ → ℕ) (marked : Marked) → Fits goals marked → flags ≡ flags_of marked → AreKnown total (modes_of predicates) (all_subgoals goals) facts
     → IsStretch total all start (start + length (all_variables goals)) (all_variables goals) → TellsFirst (left total (modes_of predicates) goals marked) (among bound) old new result
 
+-- whether the goal of an index went
+abbrev pub went_at : ℕ → Marked → Bool
+went_at index no_marks = true
+went_at zero (more_marks went inner others) = went
+went_at (suc index) (more_marks went inner others) = went_at index others
+
 module _ (total : ℕ → ℕ) (modes : ℕ → List ModeDecl) where
   -- The search for the first goal that is left: those before went.
   pub record Passing (rest : Nodes) (facts : List Facts) (flags : List Bool) (at : ℕ) (all : List ℕ) (place : ℕ) (those : List Move) : Type 0 where
@@ -83,63 +90,51 @@ module _ (total : ℕ → ℕ) (modes : ℕ → List ModeDecl) where
     pub known : AreKnownFrom total modes (all_subgoals rest) facts at
     pub stretch : IsStretch total all place (place + length (all_variables rest)) (all_variables rest)
 
-  -- those that are left of the goals before the one of this index
-  abbrev pub left_before : ℕ → Nodes → Marked → List Move
-  left_before zero goals marked = []
-  left_before (suc index) no_nodes marked = []
-  left_before (suc index) (more_nodes first rest) no_marks = []
-  left_before (suc index) (more_nodes first rest) (more_marks went inner others) = kept went (move_of total modes first) (left_before index rest others)
+  -- Of the goals that are left those that are not awaited are not ready.
+  abbrev pub AskedAreStuck : (ℕ → Bool) → List Node → Marked → Bound → Type 0
+  AskedAreStuck awaited goals marked bound =
+      (index : ℕ) (goal : Node) (rest : List Node) → drop index goals ≡ goal ∷ rest → awaited index ≡ false → went_at index marked ≡ false → is_ready (from total modes goal bound) ≡ false
 
-  -- Of all goals at most so many are left, and those before this index are not ready from what is bound now. What becomes of all is what becomes of those that are
-  -- left behind those that are written.
-  pub record Amid (goals : List Node) (whole : Outcomes) (index : ℕ) (flags : List Bool) (now : Bound) (old written : Written) (count : ℕ) : Type 0 where
+  -- Of all goals at most so many are left, and those of them that are not awaited were not ready from what was bound before. What becomes of all from what was
+  -- bound first is what becomes from what is bound now of those that are left, behind those that are written.
+  pub record Amid (goals : List Node) (whole : Outcomes) (awaited : ℕ → Bool) (flags : List Bool) (before now : Bound) (old written : Written) (count : ℕ) : Type 0 where
     pub marked : Marked
     pub done : List Ordered
     pub fits : Fits (nodes_of goals) marked
     pub flags_are : flags ≡ flags_of marked
     pub sound : SoundLeft total modes (nodes_of goals) marked now
-    pub stuck : AllStuck (left_before index (nodes_of goals) marked) now
+    pub stuck : AskedAreStuck awaited goals marked before
     pub whole_is : whole ≡ behind_them done (all_settled (left total modes (nodes_of goals) marked) now)
     pub are_written : AreWritten modes done old written
     pub fewer : length (left total modes (nodes_of goals) marked) ≤ count
 
-  -- The goal of this index was asked: those before it are not ready up to this first place, and if that is not before its own then it is not ready either, or went.
-  pub record Stepped (goals : List Node) (start place : ℕ) (whole : Outcomes) (index : ℕ) (flags : List Bool) (now : Bound) (first : ℕ) (old written : Written) (count : ℕ) : Type 0 where
-    pub marked : Marked
-    pub done : List Ordered
-    pub fits : Fits (nodes_of goals) marked
-    pub flags_are : flags ≡ flags_of marked
-    pub sound : SoundLeft total modes (nodes_of goals) marked now
-    pub stuck : (other : ℕ) → other ≤ index → start + length (variables_before goals other) ≤ first → AllStuck (left_before other (nodes_of goals) marked) now
-    pub passed : place ≤ first → AllStuck (left_before (suc index) (nodes_of goals) marked) now
-    pub whole_is : whole ≡ behind_them done (all_settled (left total modes (nodes_of goals) marked) now)
-    pub are_written : AreWritten modes done old written
-    pub fewer : length (left total modes (nodes_of goals) marked) + new_one (nat_lt first place) ≤ count
+  -- The goal of this index was asked, and goes or is left.
+  abbrev pub AskGives : List Node → Outcomes → ℕ → (ℕ → Bool) → List Bool → Bound → Bound → Written → Written → ℕ → Result Bool Fault → Type 0
+  AskGives goals whole index awaited flags before now old written less (Ok true) = (amid : Amid goals whole awaited flags before now old written less) × (went_at index amid.marked ≡ true)
+  AskGives goals whole index awaited flags before now old written less (Ok false) = Amid goals whole awaited flags now now old written (suc less)
+  AskGives goals whole index awaited flags before now old written less (Err (Refused refusal)) = ⊥
+  AskGives goals whole index awaited flags before now old written less (Err NoMemory) = Unit {0}
 
-  abbrev pub StepGives : List Node → ℕ → ℕ → Outcomes → ℕ → List Bool → Bound → Written → Written → ℕ → Result ℕ Fault → Type 0
-  StepGives goals start place whole index flags now old written count (Ok first) = Stepped goals start place whole index flags now first old written count
-  StepGives goals start place whole index flags now old written count (Err (Refused refusal)) = ⊥
-  StepGives goals start place whole index flags now old written count (Err NoMemory) = Unit {0}
+  -- The first that is ready of those that are awaited goes, or none is.
+  abbrev pub NextGives : List Node → Outcomes → (ℕ → Bool) → List Bool → Bound → Written → Written → ℕ → Result Bool Fault → Type 0
+  NextGives goals whole awaited flags now old written less (Ok true) = Amid goals whole awaited flags now now old written less
+  NextGives goals whole awaited flags now old written less (Ok false) = Amid goals whole nothing flags now now old written (suc less)
+  NextGives goals whole awaited flags now old written less (Err (Refused refusal)) = ⊥
+  NextGives goals whole awaited flags now old written less (Err NoMemory) = Unit {0}
 
-  -- One time over the goals ends where none is left, or where one before has to be asked again.
-  abbrev pub SweepGives : List Node → ℕ → Outcomes → List Bool → Bound → Written → Written → ℕ → Result (Option Position) Fault → Type 0
-  SweepGives goals start whole flags now old written less (Ok None) = (done : List Ordered) × (whole ≡ AllReady (ordereds_of done)) × AreWritten modes done old written
-  SweepGives goals start whole flags now old written less (Ok (Some back)) = IsPlaced start goals back.index back.place × Amid goals whole back.index flags now old written less
-  SweepGives goals start whole flags now old written less (Err (Refused refusal)) = whole ≡ OneStuck refusal
-  SweepGives goals start whole flags now old written less (Err NoMemory) = Unit {0}
+-- The first goal that is awaited is asked.
+abbrev pub AsksOn : List PredDecl → Node → List Facts → List ℕ → Start → List Bool → List Bool → List ℕ → List ℕ → Written → Written → Result Bool Fault → Type 0
+AsksOn predicates goal facts all here flags flags_after bound after mid new result =
+    (total : ℕ → ℕ) (goals rest : List Node) (start index : ℕ) (whole : Outcomes) (awaited later : ℕ → Bool) (old : Written) (less : ℕ) → AreKnown total (modes_of predicates) (all_subgoals (nodes_of goals)) facts
+    → IsStretch total all start (start + length (all_variables (nodes_of goals))) (all_variables (nodes_of goals)) → drop index goals ≡ goal ∷ rest
+    → IsAt goals index here.at → IsPlaced start goals index here.place → IsTaken index awaited later
+    → Amid total (modes_of predicates) goals whole awaited flags (among bound) (among bound) old mid (suc less)
+    → AskGives total (modes_of predicates) goals whole index later flags_after (among bound) (among after) old new less result
 
--- One goal more is asked, and goes if it is ready.
-abbrev pub StepsOn : List PredDecl → Node → List Facts → List ℕ → ℕ → Position → List Bool → List Bool → List ℕ → List ℕ → Written → Written → Result ℕ Fault → Type 0
-StepsOn predicates goal facts all start here flags flags_after bound after mid new result =
-    (total : ℕ → ℕ) (goals rest : List Node) (whole : Outcomes) (old : Written) (count : ℕ) → AreKnown total (modes_of predicates) (all_subgoals (nodes_of goals)) facts
-    → IsStretch total all start (start + length (all_variables (nodes_of goals))) (all_variables (nodes_of goals)) → drop here.index goals ≡ goal ∷ rest
-    → IsAt goals here.index here.at → IsPlaced start goals here.index here.place
-    → Amid total (modes_of predicates) goals whole here.index flags (among bound) old mid count
-    → StepGives total (modes_of predicates) goals start here.place whole here.index flags_after (among after) old new count result
-
-abbrev pub SweepsOn : List PredDecl → List Node → List Facts → List ℕ → ℕ → Position → List Bool → List Bool → List ℕ → List ℕ → Written → Written → Result (Option Position) Fault → Type 0
-SweepsOn predicates goals facts all start from flags flags_after bound after mid new result =
-    (total : ℕ → ℕ) (whole : Outcomes) (old : Written) (less : ℕ) → AreKnown total (modes_of predicates) (all_subgoals (nodes_of goals)) facts
-    → IsStretch total all start (start + length (all_variables (nodes_of goals))) (all_variables (nodes_of goals)) → IsPlaced start goals from.index from.place
-    → Amid total (modes_of predicates) goals whole from.index flags (among bound) old mid (suc less)
-    → SweepGives total (modes_of predicates) goals start whole flags_after (among after) old new less result
+-- Goals that are awaited are asked, up to one that goes.
+abbrev pub NextOn : List PredDecl → List Node → List Facts → List ℕ → Agenda → Agenda → List Bool → List Bool → List ℕ → List ℕ → Written → Written → Result Bool Fault → Type 0
+NextOn predicates goals facts all agenda later flags flags_after bound after mid new result =
+    (total : ℕ → ℕ) (start : ℕ) (whole : Outcomes) (old : Written) (less : ℕ) → AreKnown total (modes_of predicates) (all_subgoals (nodes_of goals)) facts
+    → IsStretch total all start (start + length (all_variables (nodes_of goals))) (all_variables (nodes_of goals)) → ArePlaced start goals facts all agenda.starts.items
+    → Amid total (modes_of predicates) goals whole (awaits agenda) flags (among bound) (among bound) old mid (suc less)
+    → NextGives total (modes_of predicates) goals whole (awaits later) flags_after (among after) old new less result

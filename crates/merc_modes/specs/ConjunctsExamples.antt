@@ -1,15 +1,14 @@
 -- Goals of conjunctions that go, over `true` and `X = Y` with X and Y free.
-use Rattle.std.specs.Prelude.{◌≡◌, ◌≤◌, ℕ, zero, suc, Bool, true, false, List, [], ◌∷◌, ◌++◌, length, Some, None, Ok, Err, refl}
-use Rattle.std.proofs.Common.{arith}
+use Rattle.std.specs.Prelude.{◌≡◌, ℕ, zero, suc, Bool, true, false, List, [], ◌∷◌, ◌++◌, length, drop, Ok, Err, refl}
+use Rattle.std.proofs.Common.{ap, sym, arith}
 use Rattle.merc_base.specs.declared.refusal.Fault.TheVariants.{Refused}
 use Rattle.merc_goal_tree.specs.Nodes.{Node, Nodes, no_nodes, more_nodes, nodes_of}
 use Rattle.merc_order.specs.Bound.{nothing}
 use Rattle.merc_order.specs.Marks.{Marked, no_marks, more_marks}
-use Rattle.merc_order.specs.Order.{moves}
-use Rattle.merc_order.specs.Ordered.{no_goals, AllReady, OneStuck}
-use Rattle.merc_order.specs.Ways.{AllStuck}
+use Rattle.merc_order.specs.Order.{from, moves}
+use Rattle.merc_order.specs.Ordered.{AllReady, OneStuck, is_ready}
 use Rattle.merc_readiness.specs.Asking.{Fits, none, more, flags_of}
-use Rattle.merc_modes.specs.Conjuncts.{HasGone, Goes, Stays, GoesIfReady, TellsFirst, Passing, left_before, Amid, Stepped, StepGives, SweepGives}
+use Rattle.merc_modes.specs.Conjuncts.{HasGone, Goes, Stays, GoesIfReady, TellsFirst, Passing, went_at, AskedAreStuck, Amid, AskGives, NextGives}
 use Rattle.merc_modes.specs.Walks.{ordereds_of}
 use Rattle.merc_modes.specs.WalksExamples.{no_modes, body, in_body, truth, unready, never, done, true_facts, true_known, no_stretch, clean, one, none_written, one_written}
 
@@ -90,35 +89,54 @@ left_marks = more_marks false no_marks no_marks
 left_fits : Fits (nodes_of (unready ∷ [])) left_marks
 left_fits = more unready no_nodes false no_marks no_marks none none
 
-asked_one : left_before in_body no_modes 1 (nodes_of (unready ∷ truth ∷ [])) (more_marks false no_marks (more_marks false no_marks no_marks)) ≡ moves in_body no_modes (nodes_of (unready ∷ []))
-asked_one = refl
+second_went : went_at 1 (more_marks false no_marks (more_marks true no_marks no_marks)) ≡ true
+second_went = refl
 
-gone_before : left_before in_body no_modes 1 (nodes_of (truth ∷ unready ∷ [])) (more_marks true no_marks (more_marks false no_marks no_marks)) ≡ []
-gone_before = refl
+first_left : went_at 0 (more_marks false no_marks (more_marks true no_marks no_marks)) ≡ false
+first_left = refl
 
-amid : Amid in_body no_modes (unready ∷ []) (OneStuck never) 1 (false ∷ []) nothing clean clean 1
+no_item : (index : ℕ) (goal : Node) (rest : List Node) → drop index [] ≡ goal ∷ rest → ⊥
+no_item zero goal rest there = cc
+no_item (suc index) goal rest there = cc
+
+first_is : (one other : Node) (rest : List Node) → one ∷ [] ≡ other ∷ rest → one ≡ other
+first_is one other rest there = cc
+
+-- none is awaited
+asked_stuck : AskedAreStuck in_body no_modes nothing (unready ∷ []) left_marks nothing
+asked_stuck zero goal rest there not left = ap (λ g. is_ready (from in_body no_modes g nothing)) (sym (first_is unready goal rest there))
+asked_stuck (suc index) goal rest there not left = absurd (no_item index goal rest there)
+
+asked_not_stuck : AskedAreStuck in_body no_modes nothing (truth ∷ []) left_marks nothing → ⊥
+asked_not_stuck wrong = let ready : true ≡ false = wrong 0 truth [] refl refl refl in cc
+
+amid : Amid in_body no_modes (unready ∷ []) (OneStuck never) nothing (false ∷ []) nothing nothing clean clean 1
 amid = record {
   marked = left_marks;
   done = [];
   fits = left_fits;
   flags_are = refl;
   sound = (tt, tt);
-  stuck = (refl, tt);
+  stuck = asked_stuck;
   whole_is = refl;
   are_written = none_written;
   fewer = omega arith;
 }
 
-at_first : Amid in_body no_modes (unready ∷ []) (OneStuck never) 0 (false ∷ []) nothing clean clean 1
-at_first = record {
-  marked = left_marks;
-  done = [];
-  fits = left_fits;
+gone_stuck : AskedAreStuck in_body no_modes nothing (truth ∷ []) (more_marks true no_marks no_marks) nothing
+gone_stuck zero goal rest there not left = cc
+gone_stuck (suc index) goal rest there not left = absurd (no_item index goal rest there)
+
+all_gone : Amid in_body no_modes (truth ∷ []) (AllReady (ordereds_of (done ∷ []))) nothing (true ∷ []) nothing nothing clean one 0
+all_gone = record {
+  marked = more_marks true no_marks no_marks;
+  done = done ∷ [];
+  fits = more truth no_nodes true no_marks no_marks none none;
   flags_are = refl;
   sound = (tt, tt);
-  stuck = tt;
+  stuck = gone_stuck;
   whole_is = refl;
-  are_written = none_written;
+  are_written = one_written;
   fewer = omega arith;
 }
 
@@ -129,48 +147,24 @@ no_mark (first ∷ rest) went back same = cc
 has_mark : (goal : Node) (rest : Nodes) (marked : Marked) → Fits (more_nodes goal rest) marked → [] ≡ flags_of marked → ⊥
 has_mark goal rest marked (more first others went inner behind fits fit) same = no_mark (flags_of inner) went (flags_of behind) same
 
-not_amid : Amid in_body no_modes (unready ∷ []) (OneStuck never) 1 [] nothing clean clean 1 → ⊥
+not_amid : Amid in_body no_modes (unready ∷ []) (OneStuck never) nothing [] nothing nothing clean clean 1 → ⊥
 not_amid wrong = has_mark unready no_nodes wrong.marked wrong.fits wrong.flags_are
 
-none_first : (other : ℕ) → other ≤ 0 → AllStuck (left_before in_body no_modes other (nodes_of (unready ∷ [])) left_marks) nothing
-none_first zero h = tt
-none_first (suc other) h = absurd (omega (arith, h))
+ask : AskGives in_body no_modes (truth ∷ []) (AllReady (ordereds_of (done ∷ []))) 0 nothing (true ∷ []) nothing nothing clean one 0 (Ok true)
+unfolding all_gone
+ask = (all_gone, refl)
 
-stepped : Stepped in_body no_modes (unready ∷ []) 0 0 (OneStuck never) 0 (false ∷ []) nothing 0 clean clean 1
-stepped = record {
-  marked = left_marks;
-  done = [];
-  fits = left_fits;
-  flags_are = refl;
-  sound = (tt, tt);
-  stuck = λ other less far. none_first other less;
-  passed = λ far. (refl, tt);
-  whole_is = refl;
-  are_written = none_written;
-  fewer = omega arith;
-}
+ask_left : AskGives in_body no_modes (unready ∷ []) (OneStuck never) 0 nothing (false ∷ []) nothing nothing clean clean 0 (Ok false)
+ask_left = amid
 
-not_stepped : Stepped in_body no_modes (unready ∷ []) 0 0 (OneStuck never) 0 [] nothing 0 clean clean 1 → ⊥
-not_stepped wrong = has_mark unready no_nodes wrong.marked wrong.fits wrong.flags_are
+ask_no_refusal : AskGives in_body no_modes (unready ∷ []) (OneStuck never) 0 nothing (false ∷ []) nothing nothing clean clean 0 (Err (Refused never)) → ⊥
+ask_no_refusal wrong = wrong
 
-step : StepGives in_body no_modes (unready ∷ []) 0 0 (OneStuck never) 0 (false ∷ []) nothing clean clean 1 (Ok 0)
-step = stepped
+next_goes : NextGives in_body no_modes (truth ∷ []) (AllReady (ordereds_of (done ∷ []))) nothing (true ∷ []) nothing clean one 0 (Ok true)
+next_goes = all_gone
 
-step_no_refusal : StepGives in_body no_modes (unready ∷ []) 0 0 (OneStuck never) 0 (false ∷ []) nothing clean clean 1 (Err (Refused never)) → ⊥
-step_no_refusal wrong = wrong
+none_goes : NextGives in_body no_modes (unready ∷ []) (OneStuck never) nothing (false ∷ []) nothing clean clean 0 (Ok false)
+none_goes = amid
 
-all_went : SweepGives in_body no_modes (truth ∷ []) 0 (AllReady (ordereds_of (done ∷ []))) (true ∷ []) nothing clean one 0 (Ok None)
-all_went = (done ∷ [], refl, one_written)
-
-goes_back : SweepGives in_body no_modes (unready ∷ []) 0 (OneStuck never) (false ∷ []) nothing clean clean 1 (Ok (Some (record { index = 0; at = 0; place = 0 })))
-goes_back = (refl, at_first)
-
--- the first goal's variables occur from the place 0 on
-goes_back_not : SweepGives in_body no_modes (unready ∷ []) 0 (OneStuck never) (false ∷ []) nothing clean clean 1 (Ok (Some (record { index = 0; at = 0; place = 1 }))) → ⊥
-goes_back_not wrong = let placed = wrong.0 in cc
-
-none_goes : SweepGives in_body no_modes (unready ∷ []) 0 (OneStuck never) (false ∷ []) nothing clean clean 0 (Err (Refused never))
-none_goes = refl
-
-none_goes_not : SweepGives in_body no_modes [] 0 (AllReady no_goals) [] nothing clean clean 0 (Err (Refused never)) → ⊥
-none_goes_not wrong = cc
+next_no_refusal : NextGives in_body no_modes (unready ∷ []) (OneStuck never) nothing (false ∷ []) nothing clean clean 0 (Err (Refused never)) → ⊥
+next_no_refusal wrong = wrong

@@ -1,3 +1,5 @@
+pub mod Places
+pub mod PlacesExamples
 pub mod Testing
 pub mod Outputs
 pub mod Putting
@@ -11,6 +13,8 @@ pub mod Walks
 pub mod WalksExamples
 pub mod Positions
 pub mod PositionsExamples
+pub mod Agenda
+pub mod AgendaExamples
 pub mod Conjuncts
 pub mod ConjunctsExamples
 pub mod Linked

@@ -1,15 +1,12 @@
 -- Where the goals of a conjunction stand: the marks of their parts, and the places of their variables.
-use Rattle.std.specs.Prelude.{◌≡◌, ◌≤◌, ◌+◌, ℕ, true, false, List, length, take, drop}
+use Rattle.std.specs.Prelude.{◌≡◌, ◌≤◌, ◌+◌, ℕ, List, length, take, drop}
 use Rattle.merc_tree.specs.declared.declarations.ModeDecl.{ModeDecl}
 use Rattle.merc_goal_tree.specs.Nodes.{Node, Nodes, more_nodes, nodes_of}
 use Rattle.merc_goal_tree.specs.Parts.{all_parts}
 use Rattle.merc_goal_tree.specs.Variables.{variables, all_variables}
-use Rattle.merc_order.specs.Bound.{Bound, among}
-use Rattle.merc_readiness.specs.Asking.{AreKnown}
 use Rattle.merc_readiness.specs.Facts.{all_subgoals}
 use Rattle.merc_readiness.specs.Sweeps.{AreKnownFrom}
 use Rattle.merc_readiness.specs.declared.facts.Facts.{Facts}
-use Rattle.merc_modes.specs.declared.positions.Position.{Position}
 
 -- The parts of the goal of this index stand from there on; behind the last goal stand none.
 abbrev pub IsAt : List Node → ℕ → ℕ → Type 0
@@ -23,17 +20,8 @@ variables_before goals index = all_variables (nodes_of (take index goals))
 abbrev pub IsPlaced : ℕ → List Node → ℕ → ℕ → Type 0
 IsPlaced start goals index place = place ≡ start + length (variables_before goals index)
 
--- Where the facts say how often the variables of goals occur, one goal is placed as another is.
-abbrev pub StaysPlaced : List Node → List Facts → Position → Position → Type 0
-StaysPlaced goals facts from to =
-    (total : ℕ → ℕ) (modes : ℕ → List ModeDecl) (start : ℕ) → AreKnown total modes (all_subgoals (nodes_of goals)) facts → IsPlaced start goals from.index from.place → IsPlaced start goals to.index to.place
-
 -- the place behind the variables of a goal
 abbrev pub IsNext : Node → List Facts → List ℕ → ℕ → ℕ → ℕ → Type 0
 IsNext goal facts all at place next =
     (total : ℕ → ℕ) (modes : ℕ → List ModeDecl) (rest : Nodes) → AreKnownFrom total modes (all_subgoals (more_nodes goal rest)) facts at
     → place + length (variables goal) ≤ length all → next ≡ place + length (variables goal)
-
--- Of these variables those that pass a test occur nowhere from `start` on before this place.
-abbrev pub IsFirst : ℕ → List ℕ → Bound → List ℕ → ℕ → Type 0
-IsFirst start all test inside place = (variable : ℕ) → test variable ≡ true → among inside variable ≡ true → among (drop start (take place all)) variable ≡ false

@@ -2,9 +2,8 @@
 use Rattle.std.specs.Prelude.{◌≡◌, List, [], ◌∷◌, refl}
 use Rattle.std.proofs.Common.{arith}
 use Rattle.merc_goal_tree.specs.Nodes.{Node, no_nodes}
-use Rattle.merc_order.specs.Bound.{among}
 use Rattle.merc_readiness.specs.Sweeps.{AreKnownFrom}
-use Rattle.merc_modes.specs.Positions.{IsAt, variables_before, IsPlaced, StaysPlaced, IsNext, IsFirst}
+use Rattle.merc_modes.specs.Positions.{IsAt, variables_before, IsPlaced, IsNext}
 use Rattle.merc_modes.specs.WalksExamples.{no_modes, body, in_body, truth, unready, true_facts, true_known}
 
 abbrev goals : List Node
@@ -33,12 +32,6 @@ placed = refl
 not_placed : IsPlaced 5 goals 2 6 → ⊥
 not_placed wrong = cc
 
-stays : StaysPlaced (truth ∷ []) (true_facts ∷ []) (record { index = 0; at = 0; place = 4 }) (record { index = 0; at = 0; place = 4 })
-stays total modes start known is = is
-
-stays_not : StaysPlaced (truth ∷ []) (true_facts ∷ []) (record { index = 0; at = 0; place = 4 }) (record { index = 0; at = 0; place = 3 }) → ⊥
-stays_not wrong = let is = wrong in_body no_modes 4 (true_known, tt) refl in cc
-
 next : IsNext truth (true_facts ∷ []) body 0 0 0
 next total modes rest known room = refl
 
@@ -47,14 +40,3 @@ known = record { front = []; back = true_facts ∷ []; at_is = refl; facts_are =
 
 next_not : IsNext truth (true_facts ∷ []) body 0 0 1 → ⊥
 next_not wrong = let is = wrong in_body no_modes no_nodes known (omega arith) in cc
-
--- the variable 1 occurs at the places 0 and 2
-
-first : IsFirst 0 (1 ∷ 2 ∷ 1 ∷ []) (among (1 ∷ [])) (1 ∷ []) 0
-first variable new inside = refl
-
-first_later : IsFirst 1 (1 ∷ 2 ∷ 1 ∷ []) (among (1 ∷ [])) (1 ∷ []) 1
-first_later variable new inside = refl
-
-first_not : IsFirst 0 (1 ∷ 2 ∷ 1 ∷ []) (among (1 ∷ [])) (1 ∷ []) 2 → ⊥
-first_not wrong = let none = wrong 1 refl refl in cc

@@ -49,10 +49,10 @@ abbrev pub tested : Ordered
 tested = put (Split 1 (Constructor 200 1) (2 ∷ []) (true ∷ [])) [] no_span
 
 abbrev pub true_facts : Facts
-true_facts = record { reached = true; binds = []; owed = []; owed_by_condition = []; occurrences = 0 }
+true_facts = record { reached = true; binds = []; owed = []; owed_by_condition = []; needs = []; occurrences = 0 }
 
 pub true_known : AreFactsOf in_body no_modes truth true_facts
-true_known = record { reached_is = refl; binds_are = λ variable. refl; owed_are = λ bound. refl; owed_by_condition_are = λ bound. refl; occurrences_are = refl }
+true_known = record { reached_is = refl; binds_are = λ variable. refl; owed_are = λ bound. refl; owed_by_condition_are = λ bound. refl; needed = λ bound ready. refl; occurrences_are = refl }
 
 -- `true` has no variables
 pub no_stretch : IsStretch in_body body 0 0 []

@@ -1,14 +1,14 @@
 //! The order of goals in sequence, written out.
-ghost use Rattle.std.specs.Prelude.{◌≡◌, ◌+◌, ◌≤◌, [], length, OnOk, IfOk, IfSome};
+ghost use Rattle.std.specs.Prelude.{◌≡◌, ◌+◌, ◌≤◌, [], length, OnOk};
 ghost use Rattle.merc_goal_tree.specs.Nodes.{Conjunction, nodes_of};
 ghost use Rattle.merc_goal_tree.specs.Parts.{parts_of, all_parts};
-ghost use Rattle.merc_modes.specs.Conjuncts.{MayGo, FirstTells, StepsOn, SweepsOn};
-ghost use Rattle.merc_modes.specs.Positions.{IsAt};
+ghost use Rattle.merc_modes.specs.Agenda.{IsSound, StandAt};
+ghost use Rattle.merc_modes.specs.Conjuncts.{MayGo, FirstTells, AsksOn, NextOn};
 ghost use Rattle.merc_readiness.specs.Sweeps.{Extends};
 ghost use Rattle.merc_modes.specs.Walking.{Orders};
 ghost use Rattle.merc_modes.specs.Walks.{AddsOne, Adds, OrdersAll, all_settled};
 
-use crate::positions::{Position, first_of, step_back, step_on};
+use crate::agenda::{Agenda, Start};
 use crate::walking::{Setting, clear, place_behind, walk};
 use crate::writing::outputs_of;
 use crate::written::Written;
@@ -68,8 +68,8 @@ pub(crate) fn walk_conjunction(
     Ok(())
 }
 
-// Writes the goals out, going over them from the left. Where one of them bound a variable it goes back to the first in
-// which that occurs: those before it were asked, and are as ready as they were.
+// Writes the goals out. Each time the first of those that are to be asked goes that is ready. Where none is, none of
+// those that are left is.
 #[cycle(walking)]
 fn walk_rounds(
     setting: &Setting<'_>,
@@ -88,82 +88,73 @@ fn walk_rounds(
     ensures adds { OnOk result (Adds written.old written.new) }
 {
     clear(marks);
-    let mut from = Position {
-        index: 0,
-        at: 0,
-        place: start,
-    };
+    let mut agenda = Agenda::of(setting, goals, facts, start)?;
     for _round in 0..goals.len() {
-        match walk_sweep(setting, goals, facts, start, from, marks, bound, written)? {
-            Some(back) => from = back,
-            None => return Ok(()),
+        if !walk_next(setting, goals, facts, &mut agenda, marks, bound, written)? {
+            return walk_first_left(setting, goals, facts, start, marks, bound, written);
         }
     }
     Ok(())
 }
 
-// Goes over the goals from this one on. Those that are ready go, up to one behind which others before it have to be asked
-// again: the first of these is given. None where none is left.
+// Asks those that are to be asked, up to one that is ready, which goes. False where none is.
 #[cycle(walking)]
-fn walk_sweep(
+fn walk_next(
     setting: &Setting<'_>,
     goals: &[NodeRef<'_>],
     facts: &[Facts],
-    start: usize,
-    from: Position,
+    agenda: &mut Agenda,
     marks: &mut [bool],
     bound: &mut BoundSet,
     written: &mut Written,
-) -> Result<Option<Position>, Fault>
+) -> Result<bool, Fault>
     requires known { length facts.now ≡ length (all_parts (nodes_of goals.now)) }
     requires marked { length marks.old ≡ length (all_parts (nodes_of goals.now)) }
     requires seen { written.old.seen ≡ [] }
-    requires at { IsAt goals.now from.index from.at }
+    requires sound { IsSound agenda.old }
+    requires stands { StandAt goals.now agenda.old.starts.items }
     ensures extends { OnOk result (Extends bound.old bound.new) }
-    ensures at { IfOk result (λ back. IfSome back (λ position. IsAt goals.now position.index position.at)) }
-    ensures sweeps { SweepsOn setting.now.predicates.now goals.now facts.now setting.now.all.now start from marks.old marks.new bound.old bound.new written.old written.new result }
+    ensures sound { OnOk result (IsSound agenda.new) }
+    ensures starts { OnOk result (agenda.new.starts ≡ agenda.old.starts) }
+    ensures next { NextOn setting.now.predicates.now goals.now facts.now setting.now.all.now agenda.old agenda.new marks.old marks.new bound.old bound.new written.old written.new result }
     ensures adds { OnOk result (Adds written.old written.new) }
 {
-    let mut here = from;
-    while here.index < goals.len() {
-        let goal = &goals[here.index];
-        let first = walk_member(setting, goal, facts, start, here, marks, bound, written)?;
-        if first < here.place {
-            return Ok(Some(step_back(goals, facts, here, first)));
+    while let Some(index) = agenda.take() {
+        let goal = &goals[index];
+        let here = agenda.start(index);
+        let known = bound.mark();
+        if walk_member(setting, goal, facts, here, marks, bound, written)? {
+            agenda.await_all(setting.all, index, bound.since(known))?;
+            return Ok(true);
         }
-        here = step_on(setting, goal, facts, here);
     }
-    walk_first_left(setting, goals, facts, start, marks, bound, written)?;
-    Ok(None)
+    Ok(false)
 }
 
-// Asks the next goal, unless it went, and writes it out if it is ready. The first place of a variable that it bound, or
-// its own where none occurs before it.
+// Asks a goal, unless it went, and writes it out if it is ready. Whether it goes now.
 #[cycle(walking)]
 fn walk_member(
     setting: &Setting<'_>,
     goal: &NodeRef<'_>,
     facts: &[Facts],
-    start: usize,
-    here: Position,
+    here: Start,
     marks: &mut [bool],
     bound: &mut BoundSet,
     written: &mut Written,
-) -> Result<usize, Fault>
+) -> Result<bool, Fault>
     requires known { here.at + length (parts_of goal.now) ≤ length facts.now }
     requires marked { here.at + length (parts_of goal.now) ≤ length marks.old }
     requires seen { written.old.seen ≡ [] }
     ensures extends { OnOk result (Extends bound.old bound.new) }
-    ensures steps { StepsOn setting.now.predicates.now goal.now facts.now setting.now.all.now start here marks.old marks.new bound.old bound.new written.old written.new result }
+    ensures asks { AsksOn setting.now.predicates.now goal.now facts.now setting.now.all.now here marks.old marks.new bound.old bound.new written.old written.new result }
     ensures adds { OnOk result (Adds written.old written.new) }
 {
     let end = here.at + goal.part_count();
     let own = end - 1;
     if marks[own] {
-        return Ok(here.place);
+        return Ok(false);
     }
-    let known = bound.mark();
-    if !walk_if_ready(
+    walk_if_ready(
         setting,
         goal,
         &facts[here.at..end],
@@ -171,14 +162,7 @@ fn walk_member(
         &mut marks[here.at..end],
         bound,
         written,
-    )? {
-        return Ok(here.place);
-    }
-    let found = &facts[own];
-    let next = place_behind(setting.all, here.place, found.occurrences);
-    let new = bound.since(known);
-    let first = first_of(setting.all, start, here.place, next, new, &mut written.seen)?;
-    Ok(first)
+    )
 }
 
 // Writes a goal out if it is ready, and binds what it binds.

@@ -1,12 +1,13 @@
 //! The order of the goals of procedures.
 #![tactic(auto)]
 
+mod agenda;
 mod conjuncts;
 mod disjuncts;
 mod links;
 mod ordering;
 mod parallel;
-mod positions;
+mod places;
 mod testing;
 mod walking;
 mod writing;

@@ -13,12 +13,13 @@ ghost use Rattle.merc_readiness.specs.Facts.{AreFactsOf};
 ghost use Rattle.merc_modes.specs.Told.{IsTold, fault_in};
 ghost use Rattle.merc_modes.specs.Walking.{Orders};
 
+use crate::places::Places;
 use crate::walking::{Setting, walk};
 use crate::written::Written;
 use merc_base::{Detail, Fault, NoMemory, Refusal, Rule, Span};
 use merc_goal_tree::{NodeRef, Nodes as FlatNodes, Var};
 use merc_graded_tree::Nodes;
-use merc_readiness::{BoundSet, Facts, Occurrences, facts_of, occurrences_of};
+use merc_readiness::{BoundSet, Facts, facts_of, occurrences_of};
 use merc_tree::{Arg, ModeDecl, PredDecl};
 use std::alloc::Global;
 
@@ -26,7 +27,7 @@ use std::alloc::Global;
 #[derive(Drop)]
 struct Body {
     // the head variables, and behind them those of the goal as they occur in it
-    all: Occurrences,
+    all: Places,
     // of the goal's parts
     facts: Vec<Facts>,
     // the number of the first fresh variable
@@ -290,6 +291,7 @@ fn body_of(
     let all = occurrences_of(alloc, heads, goal)?;
     let facts = facts_of(alloc, predicates, &all, heads.len(), goal)?;
     let fresh = all.number_beyond()?;
+    let all = Places::of(alloc, all)?;
     Ok(Body { all, facts, fresh })
 }
 

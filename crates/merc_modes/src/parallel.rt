@@ -1,7 +1,9 @@
 //! The order of goals side by side, written out.
-ghost use Rattle.std.specs.Prelude.{◌≡◌, ◌+◌, ◌≤◌, ℕ, [], length, OnOk, IfOk};
+ghost use Rattle.std.specs.Prelude.{◌≡◌, ◌+◌, ◌≤◌, ◌&&◌, ◌||◌, not, ℕ, [], length, OnOk, IfOk};
+ghost use Rattle.std.specs.List.{list_any};
 ghost use Rattle.merc_goal_tree.specs.Nodes.{Parallel, nodes_of};
 ghost use Rattle.merc_goal_tree.specs.Parts.{parts_of, all_parts};
+ghost use Rattle.merc_order.specs.Bound.{among};
 ghost use Rattle.merc_order.specs.Faults.{conjunct_fault, needing};
 ghost use Rattle.merc_modes.specs.Beside.{all_beside, FreedBy, Needs, StuckBeside, TellsReady};
 ghost use Rattle.merc_readiness.specs.Sweeps.{Extends};
@@ -13,9 +15,9 @@ use crate::walking::{Setting, clear, place_behind, walk};
 use crate::writing::outputs_of;
 use crate::written::Written;
 use merc_base::{Detail, Fault, NoMemory, Refusal, Rule, Span};
-use merc_goal_tree::NodeRef;
+use merc_goal_tree::{NodeRef, Var};
 use merc_graded_tree::Running;
-use merc_readiness::{BoundSet, Facts, advance};
+use merc_readiness::{BoundSet, Facts, Occurrences, advance, occurrences_of};
 
 /// Writes goals side by side out in their order.
 ///
@@ -180,14 +182,47 @@ fn needed_by(
     ensures same { OnOk result (bound.new ≡ bound.old) }
     ensures needs { IfOk result (λ other. Needs setting.now.predicates.now goal.now (nodes_of others.now) facts.now number bound.old other) }
 {
-    let mut at = goal.part_count();
+    let own = goal.part_count();
+    let ready = is_ready(setting, goal, &facts[..own], &mut marks[..own], bound)?;
+    let inside = occurrences_of(setting.alloc, &[], goal)?;
+    let mut at = own;
     for (index, later) in others.iter().enumerate() {
-        if is_freed_by(setting, goal, later, facts, at, marks, bound)? {
+        let end = at + later.part_count();
+        if can_free(ready, &inside, &facts[end - 1], bound)
+            && is_freed_by(setting, goal, later, facts, at, marks, bound)?
+        {
             return Ok(Some(number + 1 + index));
         }
-        at += later.part_count();
+        at = end;
     }
     Ok(None)
+}
+
+// Whether a goal in which these occur may be ready behind one with these facts: if it is ready, or that binds one of them
+// that is not bound.
+fn can_free(ready: bool, inside: &Occurrences, later: &Facts, bound: &BoundSet) -> bool
+    ensures { result ≡ (ready || list_any (λ variable. not (among bound.now variable) && among inside.now variable) later.now.binds) }
+{
+    ready || binds_one(later.binds.as_slice(), inside, bound)
+}
+
+// Whether one of these variables is not bound and occurs inside.
+fn binds_one(variables: &[Var], inside: &Occurrences, bound: &BoundSet) -> bool
+    ensures { result ≡ list_any (λ variable. not (among bound.now variable) && among inside.now variable) variables.now }
+{
+    for variable in variables {
+        if !bound.is_bound(*variable) && occurs(inside, *variable) {
+            return true;
+        }
+    }
+    false
+}
+
+// Whether the variable occurs at all: everything lies behind the empty stretch at the start.
+fn occurs(inside: &Occurrences, variable: Var) -> bool
+    ensures { result ≡ among inside.now variable }
+{
+    inside.is_outside(0, 0, variable)
 }
 
 // Whether another goal is ready, and the goal is ready behind it. The parts of the goal stand first, those of the other

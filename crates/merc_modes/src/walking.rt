@@ -12,11 +12,12 @@ use crate::conjuncts::walk_conjunction;
 use crate::disjuncts::walk_disjunction;
 use crate::links::walk_chain;
 use crate::parallel::walk_parallel;
+use crate::places::Places;
 use crate::writing::{order_simple, outputs_of};
 use crate::written::Written;
 use merc_base::{Detail, Fault, NoMemory, Refusal, Rule, Span};
 use merc_goal_tree::{NodeRef, NodeView, SimpleGoal, Vars};
-use merc_readiness::{BoundSet, Facts, Occurrences, members};
+use merc_readiness::{BoundSet, Facts, members};
 use merc_tree::PredDecl;
 use std::alloc::Global;
 
@@ -26,7 +27,7 @@ pub(crate) struct Setting<'a> {
     pub(crate) alloc: Global,
     pub(crate) predicates: &'a [PredDecl],
     /// The head variables, and behind them those of the body as they occur in it.
-    pub(crate) all: &'a Occurrences,
+    pub(crate) all: &'a Places,
 }
 
 /// Writes a goal out in its order from what is bound. Its variables occur from `start` on. The marks say nothing before
@@ -237,10 +238,10 @@ pub(crate) fn fault_at(rule: Rule, span: Span) -> Fault
 }
 
 /// The place behind so many occurrences from a place on, or that behind the last where there are not so many.
-pub(crate) fn place_behind(all: &Occurrences, start: usize, count: usize) -> usize
+pub(crate) fn place_behind(all: &Places, start: usize, count: usize) -> usize
     ensures { start + count ≤ length all.now → result ≡ start + count }
 {
-    let end = all.len();
+    let end = all.occurrences().len();
     if start <= end && count <= end - start {
         start + count
     } else {

@@ -1,5 +1,5 @@
 //! Goals that hold no others, written out with their tests, and the outputs of goals.
-ghost use Rattle.std.specs.Prelude.{◌≡◌, ◌+◌, ◌≤◌, ◌&&◌, ℕ, List, [], None, length, take, drop, slice_get, IfOk, OnOk};
+ghost use Rattle.std.specs.Prelude.{◌≡◌, ◌+◌, ◌≤◌, ◌&&◌, ◌∷◌, ℕ, List, [], None, length, take, drop, slice_get, IfOk, OnOk};
 ghost use Rattle.std.specs.List.{filter};
 ghost use Rattle.merc_tree.specs.declared.declarations.ModeDecl.{ModeDecl};
 ghost use Rattle.merc_goal_tree.specs.Nodes.{Node};
@@ -13,11 +13,13 @@ ghost use Rattle.merc_order.specs.Spelt.{inputs_in, with_tests};
 ghost use Rattle.merc_readiness.specs.Facts.{AreFactsOf};
 ghost use Rattle.merc_readiness.specs.Bounds.{all_behind};
 ghost use Rattle.merc_readiness.specs.Outside.{IsStretch};
-ghost use Rattle.merc_modes.specs.Outputs.{is_output, kept};
+ghost use Rattle.merc_modes.specs.Outputs.{is_output, kept, found_at};
+ghost use Rattle.merc_modes.specs.Places.{AreFirstPlaces};
 ghost use Rattle.merc_modes.specs.Putting.{IsPut, PutsIf};
 ghost use Rattle.merc_readiness.specs.Reaches.{first_since};
 ghost use Rattle.merc_modes.specs.Walking.{Gives};
 
+use crate::places::Places;
 use crate::testing::{
     call_tested, inner_outputs, push_tests, replaced, tested, tested_places, untested_places,
     writes_of,
@@ -38,7 +40,7 @@ use std::alloc::Global;
 /// `NoMemory` where memory was refused.
 pub(crate) fn outputs_of(
     alloc: Global,
-    all: &Occurrences,
+    all: &Places,
     facts: &Facts,
     start: usize,
     bound: &BoundSet,
@@ -49,7 +51,14 @@ pub(crate) fn outputs_of(
     ensures cleared { OnOk result (seen.new ≡ []) }
 {
     let end = number_past(start, facts.occurrences)?;
-    see_outputs(all, facts.binds.as_slice(), start, end, bound, seen)?;
+    see_outputs(
+        all.occurrences(),
+        facts.binds.as_slice(),
+        start,
+        end,
+        bound,
+        seen,
+    )?;
     let outputs = in_order(alloc, all, start, end, seen)?;
     seen.undo(0);
     Ok(outputs)
@@ -74,11 +83,10 @@ fn see_outputs(
     Ok(())
 }
 
-// Those in the set that occur from one place to another, in the order in which they occur there first. It looks no
-// further than where all of them were found.
+// Those in the set that occur from one place to another, in the order in which they occur there first.
 fn in_order(
     alloc: Global,
-    all: &Occurrences,
+    all: &Places,
     start: usize,
     end: usize,
     seen: &BoundSet,
@@ -86,17 +94,68 @@ fn in_order(
     requires { start ≤ end }
     ensures { IfOk result (λ found. found ≡ each_once (filter (among seen.now) (drop start (take end all.now)))) }
 {
-    let mut found = Vars::new(alloc);
-    let mut left = seen.mark();
-    let mut place = start;
-    while 0 < left && place < end {
-        if let Some(variable) = next_found(all, start, place, seen) {
-            found.push(variable)?;
-            left -= 1;
+    match seen.since(0) {
+        [only] => {
+            let places = first_alone(all, start, end, *only);
+            found_at(alloc, all.occurrences(), start, places, seen)
         }
-        place += 1;
+        variables => {
+            let places = first_places(alloc, all, start, end, variables)?;
+            found_at(alloc, all.occurrences(), start, &places, seen)
+        }
+    }
+}
+
+// Those in the set that stand at these places and occur nowhere from `start` on before them.
+fn found_at(
+    alloc: Global,
+    all: &Occurrences,
+    start: usize,
+    places: &[usize],
+    seen: &BoundSet,
+) -> Result<Vars, NoMemory>
+    ensures { IfOk result (λ found. found ≡ found_at start (among seen.now) all.now places.now) }
+{
+    let mut found = Vars::new(alloc);
+    for place in places {
+        if let Some(variable) = next_found(all, start, *place, seen) {
+            found.push(variable)?;
+        }
     }
     Ok(found)
+}
+
+// The place at which the variable occurs first from one place to another, if it does.
+fn first_alone(all: &Places, start: usize, end: usize, variable: Var) -> &[usize]
+    ensures { AreFirstPlaces start end (variable ∷ []) all.now result.now }
+{
+    let places = all.within(start, end, variable);
+    if places.is_empty() {
+        places
+    } else {
+        &places[..1]
+    }
+}
+
+// The places at which these variables occur first from one place to another, in ascending order, each once.
+fn first_places(
+    alloc: Global,
+    all: &Places,
+    start: usize,
+    end: usize,
+    variables: &[Var],
+) -> Result<Vec<usize>, NoMemory>
+    ensures { IfOk result (λ places. AreFirstPlaces start end variables.now all.now places.items) }
+{
+    let mut places = Vec::with_capacity(alloc, variables.len())?;
+    for variable in variables {
+        if let Some(place) = all.within(start, end, *variable).first() {
+            places.push(*place)?;
+        }
+    }
+    places.sort_unstable();
+    places.dedup();
+    Ok(places)
 }
 
 /// The variable at a place, if it is in the set and does not occur from `start` on before that place.

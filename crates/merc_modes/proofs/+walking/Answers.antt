@@ -1,5 +1,5 @@
 mod Links
-use Rattle.std.proofs.Common.{◌≡◌, ◌+◌, ◌-◌, ◌∙◌, suc, true, false, [], ◌∷◌, Ok, Err, IfSome, take, drop, length, ap, sym, subst, refl, arith, slice_index_or}
+use Rattle.std.proofs.Common.{◌≡◌, ◌+◌, ◌-◌, ◌<◌, ◌∙◌, ℕ, suc, true, false, [], ◌∷◌, Ok, Err, IfSome, take, drop, length, ap, sym, subst, refl, arith, slice_index_or}
 use Rattle.std.proofs.lemmas.List.{drop_all}
 use Rattle.std.proofs.lemmas.Result.{err_from_is_err_and}
 use Rattle.std.proofs.lemmas.Slice.{between_to_end}
@@ -17,19 +17,23 @@ use Rattle.merc_order.specs.Procedures.{modes_of}
 use Rattle.merc_readiness.specs.Asking.{AreKnown}
 use Rattle.merc_modes.specs.Beside.{all_beside, TellsStuck}
 use Rattle.merc_readiness.specs.Bounds.{all_behind}
-use Rattle.merc_modes.specs.Conjuncts.{GoesIfReady, Passing, Amid, SweepGives}
-use Rattle.merc_modes.specs.Positions.{IsAt, IsFirst}
+use Rattle.std.specs.declared.alloc.Global.{Global}
+use Rattle.std.specs.declared.vec.Vec.{Vec}
+use Rattle.merc_modes.specs.Agenda.{start_at, StandAt, ArePlaced, awaits, AwaitsAgain}
+use Rattle.merc_modes.specs.Conjuncts.{GoesIfReady, Passing, AskGives, NextGives}
+use Rattle.merc_modes.specs.Positions.{IsPlaced}
 use Rattle.merc_readiness.specs.Facts.{subgoals, all_subgoals}
 use Rattle.merc_readiness.specs.Sweeps.{Extends}
 use Rattle.merc_modes.specs.Walking.{Gives, Orders}
 use Rattle.merc_modes.specs.Walks.{Walked, all_settled}
+use Rattle.merc_modes.specs.declared.agenda.Start.{Start}
 use Rattle.merc_modes.specs.declared.written.Written.{Written}
 use Rattle.merc_readiness.proofs.Binding.{extends_same, extends_on, extends_all}
 use Rattle.merc_modes.proofs.Beside.{facts_of_first, facts_from, blank_there, beside_goes, beside_stuck, beside_err, walked_tells, never_stuck}
 use Rattle.merc_readiness.proofs.Marking.{subgoals_length, all_subgoals_length, parts_length}
 use Rattle.merc_modes.proofs.Resuming.{at_next, parts_within, known_from, stretch_from}
 use Rattle.merc_readiness.proofs.Stepping.{facts_of_next}
-use Rattle.merc_modes.proofs.Stepped.{if_stays, if_goes, first_tells, passing_on, none_told, goes_agree, place_from, placed_next, member_passes, member_marks, member_stays, member_goes, seen_same, sweep_on, sweep_back, end_told, end_ready, step_err, sweep_err, rounds_first, fewer_by, rounds_err, rounds_end}
+use Rattle.merc_modes.proofs.Stepped.{if_stays, if_goes, first_tells, passing_on, none_told, within_goals, at_start, placed_start, member_passes, member_marks, member_asked, awaited_on, none_awaited, end_told, next_err, rounds_first, fewer_by, rounds_err, rounds_end}
 use Rattle.merc_modes.proofs.Walked.{stretch_front, walked_on, walked_end, walked_stuck}
 use Rattle.merc_modes.proofs.Wholes.{next_item, end_within, at_behind, some_parts, undone_is, known_parts, known_own, negation_stuck, negation_binds, negation_ready, quantified_stuck, quantified_ready, disjunction_stuck, disjunction_differs, disjunction_ready, conjunction_stuck, conjunction_ready, parallel_stuck, parallel_ready}
 use Rattle.merc_modes.proofs.+walking.Goals as goal
@@ -233,189 +237,179 @@ pub conjuncts::walk_rounds-loop-round-init : goal.conjuncts::walk_rounds-loop-ro
 conjuncts::walk_rounds-loop-round-init t c = record {
   extends = extends_same c.args.bound.now;
   adds = record { more = omega arith; cleared = c.requires.seen };
-  at = (omega arith, omega arith);
+  sound = c.in_ok-agenda.ensures.sound;
+  stands = c.in_ok-agenda.ensures.stands;
+  placed = c.in_ok-agenda.ensures.placed;
   amid = λ total known stretch.
       let modes = modes_of c.args.setting.now.predicates.now in
-      let goals = c.args.goals.now in (
-        omega arith,
-        fewer_by total modes goals (all_settled (moves total modes (nodes_of goals)) (among c.args.bound.now)) 0 c.clear.new.marks (among c.args.bound.now) c.args.written.now c.args.written.now
-            (length goals) (length goals - 0) (omega arith)
-            (rounds_first total modes goals c.clear.new.marks (among c.args.bound.now) c.args.written.now (length c.args.marks.now) c.clear.ensures c.requires.marked),
-      );
+      let goals = c.args.goals.now in
+      fewer_by total modes goals (all_settled (moves total modes (nodes_of goals)) (among c.args.bound.now)) (awaits c.in_ok-agenda.agenda) c.clear.new.marks (among c.args.bound.now) c.args.written.now c.args.written.now
+      (length goals) (length goals - 0) (omega arith)
+      (rounds_first total modes goals (awaits c.in_ok-agenda.agenda) c.clear.new.marks (among c.args.bound.now) c.args.written.now (length c.args.marks.now) c.clear.ensures c.requires.marked c.in_ok-agenda.ensures.fresh);
 }
 
-pub conjuncts::walk_rounds-returns-in_err-back-clause-orders : goal.conjuncts::walk_rounds-returns-in_err-back-clause-orders
-conjuncts::walk_rounds-returns-in_err-back-clause-orders t c =
-    let p = err_from_is_err_and c.from_residual.result c.from_residual.ensures.1 in
+pub conjuncts::walk_rounds-returns-in_err-walk_next-clause-orders : goal.conjuncts::walk_rounds-returns-in_err-walk_next-clause-orders
+conjuncts::walk_rounds-returns-in_err-walk_next-clause-orders t c =
+    let p = err_from_is_err_and c.from_residual-in_err-walk_next.result c.from_residual-in_err-walk_next.ensures.1 in
     rw (p.1, p.2) (λ total known stretch.
     let modes = modes_of c.args.setting.now.predicates.now in
     let goals = c.args.goals.now in
     let whole = all_settled (moves total modes (nodes_of goals)) (among c.args.bound.now) in
     let less = length goals - (c.loop-round._round + 1) in
-    let is = c.loop-round.invariant.amid total known stretch in
-    let now = fewer_by total modes goals whole c.loop-round.from.index c.loop-round.marks (among c.loop-round.bound) c.args.written.now c.loop-round.written (length goals - c.loop-round._round) (suc less)
-    (omega (arith, c.loop-round-test.true)) is.1 in
-    rounds_err total modes goals c.args.start whole c.walk_sweep.new.marks (among c.walk_sweep.new.bound) c.args.written.now c.walk_sweep.new.written c.walk_sweep.new.written less c.in_err-back.field-0.0
-    (c.in_err-back.ensures.sweeps total whole c.args.written.now less known stretch is.0 now))
+    let i = c.loop-round.invariant in
+    let now = fewer_by total modes goals whole (awaits c.loop-round.agenda) c.loop-round.marks (among c.loop-round.bound) c.args.written.now c.loop-round.written (length goals - c.loop-round._round) (suc less)
+    (omega (arith, c.loop-round-test.true)) (i.amid total known stretch) in
+    rounds_err total modes goals whole (awaits c.walk_next.new.agenda) c.walk_next.new.marks (among c.walk_next.new.bound) c.args.written.now c.walk_next.new.written c.walk_next.new.written less c.in_err-walk_next.field-0.0
+    (c.in_err-walk_next.ensures.next total c.args.start whole c.args.written.now less known stretch i.placed now))
 
-pub conjuncts::walk_rounds-returns-in-None-clause-orders : goal.conjuncts::walk_rounds-returns-in-None-clause-orders
-conjuncts::walk_rounds-returns-in-None-clause-orders t c = λ total known stretch.
+pub conjuncts::walk_rounds-returns-then-not-branch-clause-orders : goal.conjuncts::walk_rounds-returns-then-not-branch-clause-orders
+conjuncts::walk_rounds-returns-then-not-branch-clause-orders t c = λ total known stretch.
     let modes = modes_of c.args.setting.now.predicates.now in
     let goals = c.args.goals.now in
     let whole = all_settled (moves total modes (nodes_of goals)) (among c.args.bound.now) in
     let less = length goals - (c.loop-round._round + 1) in
-    let is = c.loop-round.invariant.amid total known stretch in
-    let now = fewer_by total modes goals whole c.loop-round.from.index c.loop-round.marks (among c.loop-round.bound) c.args.written.now c.loop-round.written (length goals - c.loop-round._round) (suc less)
-    (omega (arith, c.loop-round-test.true)) is.1 in
-    subst (λ o. SweepGives total modes goals c.args.start whole c.walk_sweep.new.marks (among c.walk_sweep.new.bound) c.args.written.now c.walk_sweep.new.written less (Ok o)) c.in-None.is
-    (c.in_ok-back.ensures.sweeps total whole c.args.written.now less known stretch is.0 now)
+    let i = c.loop-round.invariant in
+    let now = fewer_by total modes goals whole (awaits c.loop-round.agenda) c.loop-round.marks (among c.loop-round.bound) c.args.written.now c.loop-round.written (length goals - c.loop-round._round) (suc less)
+    (omega (arith, c.loop-round-test.true)) (i.amid total known stretch) in
+    let none = subst (λ b. NextGives total modes goals whole (awaits c.walk_next.new.agenda) c.walk_next.new.marks (among c.walk_next.new.bound) c.args.written.now c.walk_next.new.written less (Ok b)) c.if-not-branch.true
+    (c.in_ok-walk_next.ensures.next total c.args.start whole c.args.written.now less known stretch i.placed now) in
+    end_told total modes goals whole c.walk_next.new.marks (among c.walk_next.new.bound) c.args.written.now c.walk_next.new.written c.walk_first_left.new.written (suc less) c.walk_first_left.result none
+    (λ marked fits flags. c.walk_first_left.ensures.tells total marked fits flags known stretch)
 
 pub conjuncts::walk_rounds-loop-round-preserved : goal.conjuncts::walk_rounds-loop-round-preserved
-conjuncts::walk_rounds-loop-round-preserved t c = record {
-  extends = extends_on c.args.bound.now c.loop-round.bound c.walk_sweep.new.bound c.loop-round.invariant.extends c.in_ok-back.ensures.extends;
-  adds = record { more = omega (arith, c.loop-round.invariant.adds.more, c.in_ok-back.ensures.adds.more); cleared = c.in_ok-back.ensures.adds.cleared };
-  at = subst (λ o. IfSome o (λ position. IsAt c.args.goals.now position.index position.at)) c.in-Some.is c.in_ok-back.ensures.at;
-  amid = λ total known stretch.
-      let modes = modes_of c.args.setting.now.predicates.now in
-      let goals = c.args.goals.now in
-      let whole = all_settled (moves total modes (nodes_of goals)) (among c.args.bound.now) in
-      let less = length goals - (c.loop-round._round + 1) in
-      let is = c.loop-round.invariant.amid total known stretch in
-      let now = fewer_by total modes goals whole c.loop-round.from.index c.loop-round.marks (among c.loop-round.bound) c.args.written.now c.loop-round.written (length goals - c.loop-round._round) (suc less)
-      (omega (arith, c.loop-round-test.true)) is.1 in
-      subst (λ o. SweepGives total modes goals c.args.start whole c.walk_sweep.new.marks (among c.walk_sweep.new.bound) c.args.written.now c.walk_sweep.new.written less (Ok o)) c.in-Some.is
-      (c.in_ok-back.ensures.sweeps total whole c.args.written.now less known stretch is.0 now);
-}
+conjuncts::walk_rounds-loop-round-preserved t c =
+    let i = c.loop-round.invariant in
+    let goals = c.args.goals.now in
+    let same = ap (λ (v : Vec Start Global). v.items) (sym c.in_ok-walk_next.ensures.starts) in
+    record {
+      extends = extends_on c.args.bound.now c.loop-round.bound c.walk_next.new.bound i.extends c.in_ok-walk_next.ensures.extends;
+      adds = record { more = omega (arith, i.adds.more, c.in_ok-walk_next.ensures.adds.more); cleared = c.in_ok-walk_next.ensures.adds.cleared };
+      sound = c.in_ok-walk_next.ensures.sound;
+      stands = subst (λ l. StandAt goals l) same i.stands;
+      placed = subst (λ l. ArePlaced c.args.start goals c.args.facts.now c.args.setting.now.all.now l) same i.placed;
+      amid = λ total known stretch.
+          let modes = modes_of c.args.setting.now.predicates.now in
+          let whole = all_settled (moves total modes (nodes_of goals)) (among c.args.bound.now) in
+          let less = length goals - (c.loop-round._round + 1) in
+          let now = fewer_by total modes goals whole (awaits c.loop-round.agenda) c.loop-round.marks (among c.loop-round.bound) c.args.written.now c.loop-round.written (length goals - c.loop-round._round) (suc less)
+          (omega (arith, c.loop-round-test.true)) (i.amid total known stretch) in
+          subst (λ b. NextGives total modes goals whole (awaits c.walk_next.new.agenda) c.walk_next.new.marks (among c.walk_next.new.bound) c.args.written.now c.walk_next.new.written less (Ok b)) c.if-not-branch.false
+          (c.in_ok-walk_next.ensures.next total c.args.start whole c.args.written.now less known stretch i.placed now);
+    }
 
 pub conjuncts::walk_rounds-returns-clause-orders : goal.conjuncts::walk_rounds-returns-clause-orders
 conjuncts::walk_rounds-returns-clause-orders t c = λ total known stretch.
     let modes = modes_of c.args.setting.now.predicates.now in
     let goals = c.args.goals.now in
-    rounds_end total modes goals (all_settled (moves total modes (nodes_of goals)) (among c.args.bound.now)) c.loop-round.from.index c.loop-round.marks (among c.loop-round.bound) c.args.written.now c.loop-round.written
-    (length goals - c.loop-round._round) (c.loop-round.invariant.amid total known stretch).1 (omega arith)
+    rounds_end total modes goals (all_settled (moves total modes (nodes_of goals)) (among c.args.bound.now)) (awaits c.loop-round.agenda) c.loop-round.marks (among c.loop-round.bound) c.args.written.now c.loop-round.written
+    (length goals - c.loop-round._round) (c.loop-round.invariant.amid total known stretch) (omega arith)
 
--- one time over the goals of a conjunction
+-- the goals that are to be asked, up to one that goes
 
-pub conjuncts::walk_sweep-loop-here-init : goal.conjuncts::walk_sweep-loop-here-init
-conjuncts::walk_sweep-loop-here-init t c = record {
-  at = c.requires.at;
+pub conjuncts::walk_next-loop-index-init : goal.conjuncts::walk_next-loop-index-init
+conjuncts::walk_next-loop-index-init t c = record {
   extends = extends_same c.args.bound.now;
   adds = record { more = omega arith; cleared = c.requires.seen };
-  amid = λ total whole old count known stretch placed amid. (placed, amid);
+  sound = c.requires.sound;
+  starts = refl;
+  amid = λ total start whole old count known stretch placed amid. amid;
 }
 
-pub conjuncts::walk_sweep-returns-in_err-first-clause-sweeps : goal.conjuncts::walk_sweep-returns-in_err-first-clause-sweeps
-conjuncts::walk_sweep-returns-in_err-first-clause-sweeps t c =
-    let p = err_from_is_err_and c.from_residual.result c.from_residual.ensures.1 in
-    rw (p.1, p.2) (λ total whole old less known stretch placed amid.
-    let modes = modes_of c.args.setting.now.predicates.now in
-    let goals = c.args.goals.now in
-    let goal = c.index-goals-here.result in
-    let rest = drop (c.loop-here.here.index + 1) goals in
-    let there = next_item goals c.loop-here.here.index goal c.loop-here-test.true c.index-goals-here.is in
-    let is = c.loop-here.invariant.amid total whole old (suc less) known stretch placed amid in
-    let step = c.in_err-first.ensures.steps total goals rest whole old (suc less) known stretch there c.loop-here.invariant.at is.0 is.1 in
-    sweep_err total modes goals whole c.args.start c.loop-here.here.place c.loop-here.here.index c.walk_member.new.marks c.walk_member.new.marks (among c.walk_member.new.bound) (among c.walk_member.new.bound)
-    old c.walk_member.new.written c.walk_member.new.written (suc less) less c.in_err-first.field-0.0 step)
+pub conjuncts::walk_next-bounds-goals-index : goal.conjuncts::walk_next-bounds-goals-index
+conjuncts::walk_next-bounds-goals-index t c =
+    let stands = subst (λ (v : Vec Start Global). StandAt c.args.goals.now v.items) (sym (c.take.ensures.starts ∙ c.loop-index.invariant.starts)) c.requires.stands in
+    within_goals c.args.goals.now c.take.new.self.starts.items c.in-Some.index c.take.new.self.asked stands c.in-Some.ensures.some c.take.ensures.sound.room
 
-pub conjuncts::walk_sweep-returns-then-first-here-clause-sweeps : goal.conjuncts::walk_sweep-returns-then-first-here-clause-sweeps
-conjuncts::walk_sweep-returns-then-first-here-clause-sweeps t c = λ total whole old less known stretch placed amid.
-    let modes = modes_of c.args.setting.now.predicates.now in
-    let goals = c.args.goals.now in
-    let goal = c.index-goals-here.result in
-    let rest = drop (c.loop-here.here.index + 1) goals in
-    let there = next_item goals c.loop-here.here.index goal c.loop-here-test.true c.index-goals-here.is in
-    let is = c.loop-here.invariant.amid total whole old (suc less) known stretch placed amid in
-    let step = c.in_ok-first.ensures.steps total goals rest whole old (suc less) known stretch there c.loop-here.invariant.at is.0 is.1 in
-    let back = c.step_back.ensures.placed total modes c.args.start known is.0 in (
-      back,
-      sweep_back total modes goals whole c.loop-here.here.index c.loop-here.here.place c.in_ok-first.first c.args.start c.step_back.result.index c.step_back.result.place c.walk_member.new.marks (among c.walk_member.new.bound)
-          old c.walk_member.new.written less step c.if-first-here.true c.step_back.ensures.back c.step_back.ensures.far back,
-    )
+pub conjuncts::walk_next-start-here-requires : goal.conjuncts::walk_next-start-here-requires
+conjuncts::walk_next-start-here-requires t c = omega (arith, c.in-Some.ensures.some, c.take.ensures.sound.room)
 
-pub conjuncts::walk_sweep-loop-here-preserved : goal.conjuncts::walk_sweep-loop-here-preserved
-conjuncts::walk_sweep-loop-here-preserved t c =
+pub conjuncts::walk_next-walk_member-requires : goal.conjuncts::walk_next-walk_member-requires
+conjuncts::walk_next-walk_member-requires t c =
     let goals = c.args.goals.now in
-    let goal = c.index-goals-here.result in
-    let rest = drop (c.loop-here.here.index + 1) goals in
-    let there = next_item goals c.loop-here.here.index goal c.loop-here-test.true c.index-goals-here.is in
-    let next : c.step_on-here.result.index ≡ suc c.loop-here.here.index = omega (arith, c.step_on-here.ensures.index) in
+    let index = c.in-Some.index in
+    let stands = subst (λ (v : Vec Start Global). StandAt goals v.items) (sym (c.take.ensures.starts ∙ c.loop-index.invariant.starts)) c.requires.stands in
+    let room = within_goals goals c.take.new.self.starts.items index c.take.new.self.asked stands c.in-Some.ensures.some c.take.ensures.sound.room in
+    let there = next_item goals index c.index-goals-index.result room c.index-goals-index.is in
+    let at = at_start goals c.take.new.self.starts.items index c.take.new.self.asked c.start-here.result stands c.in-Some.ensures.some c.take.ensures.sound.room c.start-here.ensures in
+    let within = parts_within goals index c.start-here.result.at c.index-goals-index.result (drop (index + 1) goals) there at in
+    (omega (arith, within), (omega (arith, within, c.requires.known), (omega (arith, within, c.requires.marked, c.loop-index.auto.marks), c.loop-index.invariant.adds.cleared)))
+
+pub conjuncts::walk_next-loop-index-preserved : goal.conjuncts::walk_next-loop-index-preserved
+conjuncts::walk_next-loop-index-preserved t c =
+    let i = c.loop-index.invariant in
+    let goals = c.args.goals.now in
+    let index = c.in-Some.index in
+    let goal = c.index-goals-index.result in
+    let starts = c.take.ensures.starts ∙ i.starts in
+    let stands = subst (λ (v : Vec Start Global). StandAt goals v.items) (sym starts) c.requires.stands in
+    let room = within_goals goals c.take.new.self.starts.items index c.take.new.self.asked stands c.in-Some.ensures.some c.take.ensures.sound.room in
+    let there = next_item goals index goal room c.index-goals-index.is in
+    let at = at_start goals c.take.new.self.starts.items index c.take.new.self.asked c.start-here.result stands c.in-Some.ensures.some c.take.ensures.sound.room c.start-here.ensures in
     record {
-      at = subst (λ n. IsAt goals n c.step_on-here.result.at) (sym next)
-          (subst (λ n. IsAt goals (suc c.loop-here.here.index) n) (sym c.step_on-here.ensures.at) (at_next goals c.loop-here.here.index c.loop-here.here.at goal rest there c.loop-here.invariant.at));
-      extends = extends_on c.args.bound.now c.loop-here.bound c.walk_member.new.bound c.loop-here.invariant.extends c.in_ok-first.ensures.extends;
-      adds = record { more = omega (arith, c.loop-here.invariant.adds.more, c.in_ok-first.ensures.adds.more); cleared = c.in_ok-first.ensures.adds.cleared };
-      amid = λ total whole old count known stretch placed amid.
+      extends = extends_on c.args.bound.now c.loop-index.bound c.walk_member.new.bound i.extends c.in_ok-walk_member.ensures.extends;
+      adds = record { more = omega (arith, i.adds.more, c.in_ok-walk_member.ensures.adds.more); cleared = c.in_ok-walk_member.ensures.adds.cleared };
+      sound = c.take.ensures.sound;
+      starts = starts;
+      amid = λ total start whole old count known stretch placed amid.
           let modes = modes_of c.args.setting.now.predicates.now in
-          let is = c.loop-here.invariant.amid total whole old count known stretch placed amid in
-          let step = c.in_ok-first.ensures.steps total goals rest whole old count known stretch there c.loop-here.invariant.at is.0 is.1 in (
-            placed_next total modes goals rest c.loop-here.here.index c.loop-here.here.at c.args.start c.loop-here.here.place c.step_on-here.result.index c.step_on-here.result.place c.args.facts.now c.args.setting.now.all.now goal
-                there next c.loop-here.invariant.at known stretch is.0 c.step_on-here.ensures.place,
-            subst (λ n. Amid total modes goals whole n c.walk_member.new.marks (among c.walk_member.new.bound) old c.walk_member.new.written count) (sym next)
-                (sweep_on total modes goals whole c.loop-here.here.index c.loop-here.here.place c.in_ok-first.first c.args.start c.walk_member.new.marks (among c.walk_member.new.bound) old c.walk_member.new.written count step c.if-first-here.false),
-          );
+          let places = subst (λ (v : Vec Start Global). (other : ℕ) → other < length v.items → IsPlaced start goals other (start_at v.items other).place) (sym starts) (placed total modes known stretch) in
+          let here = placed_start goals c.take.new.self.starts.items start index c.take.new.self.asked c.start-here.result places c.in-Some.ensures.some c.take.ensures.sound.room c.start-here.ensures in
+          subst (λ b. AskGives total modes goals whole index (awaits c.take.new.self) c.walk_member.new.marks (among c.loop-index.bound) (among c.walk_member.new.bound) old c.walk_member.new.written count (Ok b)) c.if-branch.false
+          (c.in_ok-walk_member.ensures.asks total goals (drop (index + 1) goals) start index whole (awaits c.loop-index.agenda) (awaits c.take.new.self) old count known stretch there at here c.in-Some.ensures.taken
+          (i.amid total start whole old count known stretch placed amid));
     }
 
-pub conjuncts::walk_sweep-returns-in_err-walk_first_left-clause-sweeps : goal.conjuncts::walk_sweep-returns-in_err-walk_first_left-clause-sweeps
-conjuncts::walk_sweep-returns-in_err-walk_first_left-clause-sweeps t c =
-    let p = err_from_is_err_and c.from_residual-in_err-walk_first_left.result c.from_residual-in_err-walk_first_left.ensures.1 in
-    rw (p.1, p.2) (λ total whole old less known stretch placed amid.
+pub conjuncts::walk_next-returns-in_err-walk_member-clause-next : goal.conjuncts::walk_next-returns-in_err-walk_member-clause-next
+conjuncts::walk_next-returns-in_err-walk_member-clause-next t c =
+    let p = err_from_is_err_and c.from_residual.result c.from_residual.ensures.1 in
+    rw (p.1, p.2) (λ total start whole old less known stretch placed amid.
+    let i = c.loop-index.invariant in
     let modes = modes_of c.args.setting.now.predicates.now in
     let goals = c.args.goals.now in
-    let is = c.loop-here.invariant.amid total whole old (suc less) known stretch placed amid in
-    end_told total modes goals whole c.args.start c.loop-here.here.index c.loop-here.marks c.walk_first_left.new.marks (among c.loop-here.bound) (among c.walk_first_left.new.bound)
-    old c.loop-here.written c.walk_first_left.new.written (suc less) less c.in_err-walk_first_left.field-0.0 is.1 c.loop-here-test.false
-    (λ marked fits flags. c.in_err-walk_first_left.ensures.tells total marked fits flags known stretch))
+    let index = c.in-Some.index in
+    let goal = c.index-goals-index.result in
+    let starts = c.take.ensures.starts ∙ i.starts in
+    let stands = subst (λ (v : Vec Start Global). StandAt goals v.items) (sym starts) c.requires.stands in
+    let room = within_goals goals c.take.new.self.starts.items index c.take.new.self.asked stands c.in-Some.ensures.some c.take.ensures.sound.room in
+    let there = next_item goals index goal room c.index-goals-index.is in
+    let at = at_start goals c.take.new.self.starts.items index c.take.new.self.asked c.start-here.result stands c.in-Some.ensures.some c.take.ensures.sound.room c.start-here.ensures in
+    let places = subst (λ (v : Vec Start Global). (other : ℕ) → other < length v.items → IsPlaced start goals other (start_at v.items other).place) (sym starts) (placed total modes known stretch) in
+    let here = placed_start goals c.take.new.self.starts.items start index c.take.new.self.asked c.start-here.result places c.in-Some.ensures.some c.take.ensures.sound.room c.start-here.ensures in
+    next_err total modes goals whole index (awaits c.take.new.self) (awaits c.take.new.self) c.walk_member.new.marks c.walk_member.new.marks (among c.loop-index.bound) (among c.walk_member.new.bound) (among c.walk_member.new.bound)
+    old c.walk_member.new.written c.walk_member.new.written less c.in_err-walk_member.field-0.0
+    (c.in_err-walk_member.ensures.asks total goals (drop (index + 1) goals) start index whole (awaits c.loop-index.agenda) (awaits c.take.new.self) old less known stretch there at here c.in-Some.ensures.taken
+    (i.amid total start whole old less known stretch placed amid)))
 
-pub conjuncts::walk_sweep-returns-clause-sweeps : goal.conjuncts::walk_sweep-returns-clause-sweeps
-conjuncts::walk_sweep-returns-clause-sweeps t c = λ total whole old less known stretch placed amid.
+pub conjuncts::walk_next-returns-then-branch-clause-next : goal.conjuncts::walk_next-returns-then-branch-clause-next
+conjuncts::walk_next-returns-then-branch-clause-next t c = λ total start whole old less known stretch placed amid.
+    let i = c.loop-index.invariant in
     let modes = modes_of c.args.setting.now.predicates.now in
     let goals = c.args.goals.now in
-    let is = c.loop-here.invariant.amid total whole old (suc less) known stretch placed amid in
-    end_ready total modes goals whole c.args.start c.loop-here.here.index c.loop-here.marks c.walk_first_left.new.marks (among c.loop-here.bound) (among c.walk_first_left.new.bound)
-    old c.loop-here.written c.walk_first_left.new.written (suc less) less c.in_ok-walk_first_left.field-0 is.1 c.loop-here-test.false
-    (λ marked fits flags. c.in_ok-walk_first_left.ensures.tells total marked fits flags known stretch)
+    let index = c.in-Some.index in
+    let goal = c.index-goals-index.result in
+    let starts = c.take.ensures.starts ∙ i.starts in
+    let stands = subst (λ (v : Vec Start Global). StandAt goals v.items) (sym starts) c.requires.stands in
+    let room = within_goals goals c.take.new.self.starts.items index c.take.new.self.asked stands c.in-Some.ensures.some c.take.ensures.sound.room in
+    let there = next_item goals index goal room c.index-goals-index.is in
+    let at = at_start goals c.take.new.self.starts.items index c.take.new.self.asked c.start-here.result stands c.in-Some.ensures.some c.take.ensures.sound.room c.start-here.ensures in
+    let places = subst (λ (v : Vec Start Global). (other : ℕ) → other < length v.items → IsPlaced start goals other (start_at v.items other).place) (sym starts) (placed total modes known stretch) in
+    let here = placed_start goals c.take.new.self.starts.items start index c.take.new.self.asked c.start-here.result places c.in-Some.ensures.some c.take.ensures.sound.room c.start-here.ensures in
+    let step = subst (λ b. AskGives total modes goals whole index (awaits c.take.new.self) c.walk_member.new.marks (among c.loop-index.bound) (among c.walk_member.new.bound) old c.walk_member.new.written less (Ok b)) c.if-branch.true
+    (c.in_ok-walk_member.ensures.asks total goals (drop (index + 1) goals) start index whole (awaits c.loop-index.agenda) (awaits c.take.new.self) old less known stretch there at here c.in-Some.ensures.taken
+    (i.amid total start whole old less known stretch placed amid)) in
+    let again = subst (λ l. AwaitsAgain c.args.setting.now.all.now index l c.take.new.self c.await_all.new.self) c.since.ensures c.in_ok-await_all.ensures.awaits in
+    awaited_on total modes goals whole index start c.mark-known.result c.args.setting.now.all.now c.walk_member.new.marks c.loop-index.bound c.walk_member.new.bound c.take.new.self c.await_all.new.self
+    old c.walk_member.new.written less stretch stands.0 places again c.in_ok-walk_member.ensures.extends c.mark-known.ensures step.0 step.1
 
-pub conjuncts::walk_sweep-walk_member-requires : goal.conjuncts::walk_sweep-walk_member-requires
-conjuncts::walk_sweep-walk_member-requires t c =
-    let there = next_item c.args.goals.now c.loop-here.here.index c.index-goals-here.result c.loop-here-test.true c.index-goals-here.is in
-    let within = parts_within c.args.goals.now c.loop-here.here.index c.loop-here.here.at c.index-goals-here.result (drop (c.loop-here.here.index + 1) c.args.goals.now) there c.loop-here.invariant.at in
-    (omega (arith, within), (omega (arith, within, c.requires.known), (omega (arith, within, c.requires.marked, c.loop-here.auto.marks), c.loop-here.invariant.adds.cleared)))
+pub conjuncts::walk_next-returns-clause-next : goal.conjuncts::walk_next-returns-clause-next
+conjuncts::walk_next-returns-clause-next t c = λ total start whole old less known stretch placed amid.
+    let i = c.loop-index.invariant in
+    let goals = c.args.goals.now in
+    let long : length c.loop-index.agenda.starts.items ≡ suc (length goals) = ap (λ (v : Vec Start Global). length v.items) i.starts ∙ c.requires.stands.0 in
+    none_awaited total (modes_of c.args.setting.now.predicates.now) goals whole (awaits c.loop-index.agenda) c.loop-index.marks (among c.loop-index.bound) old c.loop-index.written (suc less)
+    (i.amid total start whole old less known stretch placed amid) (λ index h. c.in_default.ensures.none index (omega (arith, h, long)))
 
-pub conjuncts::walk_sweep-step_back-requires-clause-at : goal.conjuncts::walk_sweep-step_back-requires-clause-at
-conjuncts::walk_sweep-step_back-requires-clause-at t c = c.loop-here.invariant.at
-
-pub conjuncts::walk_sweep-returns-then-first-here-clause-extends : goal.conjuncts::walk_sweep-returns-then-first-here-clause-extends
-conjuncts::walk_sweep-returns-then-first-here-clause-extends t c = extends_on c.args.bound.now c.loop-here.bound c.walk_member.new.bound c.loop-here.invariant.extends c.in_ok-first.ensures.extends
-
-pub conjuncts::walk_sweep-returns-then-first-here-clause-adds : goal.conjuncts::walk_sweep-returns-then-first-here-clause-adds
-conjuncts::walk_sweep-returns-then-first-here-clause-adds t c = record {
-  more = omega (arith, c.loop-here.invariant.adds.more, c.in_ok-first.ensures.adds.more);
-  cleared = c.in_ok-first.ensures.adds.cleared;
-}
-
-pub conjuncts::walk_sweep-step_on-here-requires-clause-known : goal.conjuncts::walk_sweep-step_on-here-requires-clause-known
-conjuncts::walk_sweep-step_on-here-requires-clause-known t c =
-    let there = next_item c.args.goals.now c.loop-here.here.index c.index-goals-here.result c.loop-here-test.true c.index-goals-here.is in
-    let within = parts_within c.args.goals.now c.loop-here.here.index c.loop-here.here.at c.index-goals-here.result (drop (c.loop-here.here.index + 1) c.args.goals.now) there c.loop-here.invariant.at in
-    omega (arith, within, c.requires.known)
-
-pub conjuncts::walk_sweep-walk_first_left-requires : goal.conjuncts::walk_sweep-walk_first_left-requires
-conjuncts::walk_sweep-walk_first_left-requires t c = (omega arith, (c.requires.known, (omega (arith, c.requires.marked, c.loop-here.auto.marks), c.loop-here.invariant.adds.cleared)))
-
-pub conjuncts::walk_sweep-returns-clause-extends : goal.conjuncts::walk_sweep-returns-clause-extends
-conjuncts::walk_sweep-returns-clause-extends t c = subst (λ l. Extends c.args.bound.now l) (sym c.in_ok-walk_first_left.ensures.same) c.loop-here.invariant.extends
-
-pub conjuncts::walk_sweep-returns-clause-adds : goal.conjuncts::walk_sweep-returns-clause-adds
-conjuncts::walk_sweep-returns-clause-adds t c = record {
-  more = omega (arith, c.loop-here.invariant.adds.more, c.in_ok-walk_first_left.ensures.adds.more);
-  cleared = c.in_ok-walk_first_left.ensures.adds.cleared;
-}
-
-pub conjuncts::walk_member-bounds-facts-own : goal.conjuncts::walk_member-bounds-facts-own
-conjuncts::walk_member-bounds-facts-own t c = omega (arith, some_parts c.args.goal.now c.part_count.result c.part_count.ensures, c.part_count.ensures, c.requires.known)
-
--- the next goal of a conjunction
+-- a goal that is asked
 
 pub conjuncts::walk_member-overflow_sub-own : goal.conjuncts::walk_member-overflow_sub-own
 conjuncts::walk_member-overflow_sub-own t c = omega (arith, some_parts c.args.goal.now c.part_count.result c.part_count.ensures)
@@ -425,74 +419,27 @@ conjuncts::walk_member-bounds-marks-own t c =
     let one = some_parts c.args.goal.now c.part_count.result c.part_count.ensures in
     omega (arith, one, c.part_count.ensures, c.requires.marked)
 
-pub conjuncts::walk_member-returns-then-marks-own-clause-steps : goal.conjuncts::walk_member-returns-then-marks-own-clause-steps
-conjuncts::walk_member-returns-then-marks-own-clause-steps t c = λ total goals rest whole old count known stretch there at placed amid.
-    let modes = modes_of c.args.setting.now.predicates.now in
+pub conjuncts::walk_member-returns-then-marks-own-clause-asks : goal.conjuncts::walk_member-returns-then-marks-own-clause-asks
+conjuncts::walk_member-returns-then-marks-own-clause-asks t c = λ total goals rest start index whole awaited later old less known stretch there at placed taken amid.
     let one = some_parts c.args.goal.now c.part_count.result c.part_count.ensures in
-    member_passes total modes goals whole c.args.goal.now rest c.args.here.index c.args.here.at (c.args.here.at + c.part_count.result - 1) c.args.start c.args.here.place c.args.marks.now (among c.args.bound.now)
-    old c.args.written.now count there at amid (omega (arith, one, c.part_count.ensures)) c.if-marks-own.true
+    member_passes total (modes_of c.args.setting.now.predicates.now) goals whole c.args.goal.now rest index c.args.here.at (c.args.here.at + c.part_count.result - 1) awaited later c.args.marks.now (among c.args.bound.now)
+    old c.args.written.now (suc less) there at taken amid (omega (arith, one, c.part_count.ensures)) c.if-marks-own.true
 
-pub conjuncts::walk_member-returns-in_err-walk_if_ready-clause-steps : goal.conjuncts::walk_member-returns-in_err-walk_if_ready-clause-steps
-conjuncts::walk_member-returns-in_err-walk_if_ready-clause-steps t c =
-    let p = err_from_is_err_and c.from_residual.result c.from_residual.ensures.1 in
-    rw (p.1, p.2) (λ total goals rest whole old count known stretch there at placed amid.
+pub conjuncts::walk_member-returns-clause-asks : goal.conjuncts::walk_member-returns-clause-asks
+conjuncts::walk_member-returns-clause-asks t c = λ total goals rest start index whole awaited later old less known stretch there at placed taken amid.
     let modes = modes_of c.args.setting.now.predicates.now in
     let goal = c.args.goal.now in
     let one = some_parts goal c.part_count.result c.part_count.ensures in
     let own : suc (c.args.here.at + c.part_count.result - 1) ≡ c.args.here.at + length (parts_of goal) = omega (arith, one, c.part_count.ensures) in
     let end : c.args.here.at + c.part_count.result ≡ c.args.here.at + length (parts_of goal) = ap (λ n. c.args.here.at + n) c.part_count.ensures in
-    let from = known_from total modes goals rest c.args.here.index c.args.here.at c.args.facts.now goal there at known in
+    let from = known_from total modes goals rest index c.args.here.at c.args.facts.now goal there at known in
     let k = facts_of_next total modes goal (nodes_of rest) c.args.facts.now c.args.here.at (c.args.here.at + c.part_count.result) from end in
-    let s = stretch_from total c.args.setting.now.all.now c.args.start goals rest c.args.here.index c.args.here.place goal there placed stretch in
-    let m = member_marks total modes goals whole goal rest c.args.here.index c.args.here.at (c.args.here.at + c.part_count.result - 1) (c.args.here.at + c.part_count.result) c.args.marks.now (among c.args.bound.now)
-    old c.args.written.now count there at amid own end c.if-marks-own.false in
-    step_err total modes goals whole goal c.walk_if_ready.new.marks c.walk_if_ready.new.marks c.args.start c.args.here.place c.args.here.index c.args.bound.now c.walk_if_ready.new.bound (among c.walk_if_ready.new.bound)
-    old c.args.written.now c.walk_if_ready.new.written c.walk_if_ready.new.written count c.in_err-walk_if_ready.field-0.0 (c.in_err-walk_if_ready.ensures.goes total k s m))
-
-pub conjuncts::walk_member-returns-then-not-branch-clause-steps : goal.conjuncts::walk_member-returns-then-not-branch-clause-steps
-conjuncts::walk_member-returns-then-not-branch-clause-steps t c = λ total goals rest whole old count known stretch there at placed amid.
-    let modes = modes_of c.args.setting.now.predicates.now in
-    let goal = c.args.goal.now in
-    let one = some_parts goal c.part_count.result c.part_count.ensures in
-    let own : suc (c.args.here.at + c.part_count.result - 1) ≡ c.args.here.at + length (parts_of goal) = omega (arith, one, c.part_count.ensures) in
-    let end : c.args.here.at + c.part_count.result ≡ c.args.here.at + length (parts_of goal) = ap (λ n. c.args.here.at + n) c.part_count.ensures in
-    let from = known_from total modes goals rest c.args.here.index c.args.here.at c.args.facts.now goal there at known in
-    let k = facts_of_next total modes goal (nodes_of rest) c.args.facts.now c.args.here.at (c.args.here.at + c.part_count.result) from end in
-    let s = stretch_from total c.args.setting.now.all.now c.args.start goals rest c.args.here.index c.args.here.place goal there placed stretch in
-    let m = member_marks total modes goals whole goal rest c.args.here.index c.args.here.at (c.args.here.at + c.part_count.result - 1) (c.args.here.at + c.part_count.result) c.args.marks.now (among c.args.bound.now)
-    old c.args.written.now count there at amid own end c.if-marks-own.false in
-    let stays = subst (λ b. GoesIfReady total modes goal c.walk_if_ready.new.marks c.args.bound.now c.walk_if_ready.new.bound c.args.written.now c.walk_if_ready.new.written (Ok b)) c.if-not-branch.true
-    (c.in_ok-walk_if_ready.ensures.goes total k s m) in
-    member_stays total modes goals whole goal rest c.args.here.index c.args.here.at (c.args.here.at + c.part_count.result - 1) (c.args.here.at + c.part_count.result - c.args.here.at) c.args.start c.args.here.place
-    c.args.marks.now c.walk_if_ready.new.marks c.args.bound.now c.walk_if_ready.new.bound old c.args.written.now c.walk_if_ready.new.written count there at amid own c.if-marks-own.false
-    (omega (arith, c.part_count.ensures)) stays
-
-pub conjuncts::walk_member-returns-clause-steps : goal.conjuncts::walk_member-returns-clause-steps
-conjuncts::walk_member-returns-clause-steps t c = λ total goals rest whole old count known stretch there at placed amid.
-    let modes = modes_of c.args.setting.now.predicates.now in
-    let goal = c.args.goal.now in
-    let one = some_parts goal c.part_count.result c.part_count.ensures in
-    let own : suc (c.args.here.at + c.part_count.result - 1) ≡ c.args.here.at + length (parts_of goal) = omega (arith, one, c.part_count.ensures) in
-    let end : c.args.here.at + c.part_count.result ≡ c.args.here.at + length (parts_of goal) = ap (λ n. c.args.here.at + n) c.part_count.ensures in
-    let from = known_from total modes goals rest c.args.here.index c.args.here.at c.args.facts.now goal there at known in
-    let k = facts_of_next total modes goal (nodes_of rest) c.args.facts.now c.args.here.at (c.args.here.at + c.part_count.result) from end in
-    let s = stretch_from total c.args.setting.now.all.now c.args.start goals rest c.args.here.index c.args.here.place goal there placed stretch in
-    let m = member_marks total modes goals whole goal rest c.args.here.index c.args.here.at (c.args.here.at + c.part_count.result - 1) (c.args.here.at + c.part_count.result) c.args.marks.now (among c.args.bound.now)
-    old c.args.written.now count there at amid own end c.if-marks-own.false in
-    let goes = subst (λ b. GoesIfReady total modes goal c.walk_if_ready.new.marks c.args.bound.now c.walk_if_ready.new.bound c.args.written.now c.walk_if_ready.new.written (Ok b)) c.if-not-branch.false
-    (c.in_ok-walk_if_ready.ensures.goes total k s m) in
-    let next : c.place_behind-next.result ≡ c.args.here.place + length (variables goal) =
-    place_from total modes goals rest c.args.here.index c.args.here.at (c.args.here.at + c.part_count.result - 1) c.args.start c.args.here.place c.place_behind-next.result c.args.facts.now c.args.setting.now.all.now goal
-    c.index-facts-own.result there own at known stretch placed c.index-facts-own.is c.place_behind-next.ensures in
-    let firsts = subst (λ l. IsFirst c.args.start c.args.setting.now.all.now (among l) (drop c.args.here.place (take c.place_behind-next.result c.args.setting.now.all.now)) c.in_ok-first.first) c.since-new.ensures
-    c.in_ok-first.ensures.first in
-    seen_same total modes goals whole c.args.here.index c.args.start c.args.here.place c.in_ok-first.first (put_mid c.args.here.at (c.args.here.at + c.part_count.result - c.args.here.at) c.args.marks.now c.walk_if_ready.new.marks)
-    (among c.walk_if_ready.new.bound) old c.walk_if_ready.new.written c.first_of.new.seen count (c.in_ok-walk_if_ready.ensures.adds.cleared) (c.in_ok-first.ensures.cleared)
-    (member_goes total modes goals whole goal rest c.args.here.index c.args.here.at (c.args.here.at + c.part_count.result - 1) (c.args.here.at + c.part_count.result - c.args.here.at) c.args.start c.args.here.place c.in_ok-first.first
-    c.args.marks.now c.walk_if_ready.new.marks c.args.bound.now c.walk_if_ready.new.bound old c.args.written.now c.walk_if_ready.new.written count there at placed amid own c.if-marks-own.false
-    (omega (arith, c.part_count.ensures)) goes
-    (λ other far. goes_agree total modes goal goals rest c.args.setting.now.all.now c.args.start c.in_ok-first.first c.args.here.index other c.args.here.place c.place_behind-next.result c.mark-known.result
-    c.args.bound.now c.walk_if_ready.new.bound stretch placed there next c.in_ok-walk_if_ready.ensures.extends c.mark-known.ensures goes.bound_is firsts far))
+    let s = stretch_from total c.args.setting.now.all.now start goals rest index c.args.here.place goal there placed stretch in
+    let m = member_marks total modes goals whole goal rest index c.args.here.at (c.args.here.at + c.part_count.result - 1) (c.args.here.at + c.part_count.result) awaited c.args.marks.now (among c.args.bound.now)
+    old c.args.written.now (suc less) there at amid own end c.if-marks-own.false in
+    member_asked total modes goals whole goal rest index c.args.here.at (c.args.here.at + c.part_count.result - 1) (c.args.here.at + c.part_count.result - c.args.here.at) awaited later
+    c.args.marks.now c.walk_if_ready.new.marks c.args.bound.now c.walk_if_ready.new.bound old c.args.written.now c.walk_if_ready.new.written less there at taken amid own c.if-marks-own.false
+    (omega (arith, c.part_count.ensures)) c.walk_if_ready.result (c.walk_if_ready.ensures.goes total k s m)
 
 -- a goal that goes if it is ready
 

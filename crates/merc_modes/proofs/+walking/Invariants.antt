@@ -1,4 +1,4 @@
-use Rattle.std.proofs.Common.{◌≡◌, ◌+◌, ◌*◌, ◌-◌, ◌≤◌, ℕ, [], drop, length, reverse}
+use Rattle.std.proofs.Common.{◌≡◌, ◌+◌, ◌*◌, ◌-◌, ◌≤◌, ℕ, suc, [], drop, length, reverse}
 use Rattle.merc_goal_tree.specs.Nodes.{nodes_of}
 use Rattle.merc_goal_tree.specs.Parts.{parts_of, all_parts}
 use Rattle.merc_goal_tree.specs.Variables.{variables, all_variables}
@@ -12,7 +12,7 @@ use Rattle.merc_readiness.specs.Asking.{AreKnown, Fits, flags_of}
 use Rattle.merc_modes.specs.Linked.{Within}
 use Rattle.merc_modes.specs.Beside.{all_beside}
 use Rattle.merc_modes.specs.Conjuncts.{Passing, Amid}
-use Rattle.merc_modes.specs.Positions.{IsAt, IsPlaced}
+use Rattle.merc_modes.specs.Agenda.{StandAt, ArePlaced, awaits, awaited_count, IsSound}
 use Rattle.merc_readiness.specs.Facts.{subgoals, all_subgoals}
 use Rattle.merc_readiness.specs.Outside.{IsStretch}
 use Rattle.merc_readiness.specs.Sweeps.{Extends}
@@ -46,8 +46,8 @@ decreases-conjuncts::walk_conjunction l = 8 * length (all_parts (nodes_of l.goal
 abbrev pub decreases-conjuncts::walk_rounds : goal.decreases-conjuncts::walk_rounds
 decreases-conjuncts::walk_rounds l = 8 * length (all_parts (nodes_of l.goals.now)) + 4
 
-abbrev pub decreases-conjuncts::walk_sweep : goal.decreases-conjuncts::walk_sweep
-decreases-conjuncts::walk_sweep l = 8 * length (all_parts (nodes_of l.goals.now)) + 3
+abbrev pub decreases-conjuncts::walk_next : goal.decreases-conjuncts::walk_next
+decreases-conjuncts::walk_next l = 8 * length (all_parts (nodes_of l.goals.now)) + 3
 
 abbrev pub decreases-conjuncts::walk_first_left : goal.decreases-conjuncts::walk_first_left
 decreases-conjuncts::walk_first_left l = 8 * length (all_parts (nodes_of l.goals.now)) + 1
@@ -76,27 +76,29 @@ abbrev pub invariant-conjuncts::walk_rounds-loop-round : goal.invariant-conjunct
 invariant-conjuncts::walk_rounds-loop-round l = record {
   extends : Extends l.fn.bound l.bound;
   adds : Adds l.fn.written l.written;
-  at : IsAt l.goals l.from.index l.from.at;
+  sound : IsSound l.agenda;
+  stands : StandAt l.goals l.agenda.starts.items;
+  placed : ArePlaced l.start l.goals l.facts l.setting.all.now l.agenda.starts.items;
   amid : (total : ℕ → ℕ) → AreKnown total (modes_of l.setting.predicates.now) (all_subgoals (nodes_of l.goals)) l.facts
       → IsStretch total l.setting.all.now l.start (l.start + length (all_variables (nodes_of l.goals))) (all_variables (nodes_of l.goals))
-      → IsPlaced l.start l.goals l.from.index l.from.place
-      × Amid total (modes_of l.setting.predicates.now) l.goals (all_settled (moves total (modes_of l.setting.predicates.now) (nodes_of l.goals)) (among l.fn.bound)) l.from.index
-      l.marks (among l.bound) l.fn.written l.written (length l.goals - l._round);
+      → Amid total (modes_of l.setting.predicates.now) l.goals (all_settled (moves total (modes_of l.setting.predicates.now) (nodes_of l.goals)) (among l.fn.bound)) (awaits l.agenda)
+      l.marks (among l.bound) (among l.bound) l.fn.written l.written (length l.goals - l._round);
 }
 
-abbrev pub invariant-conjuncts::walk_sweep-loop-here : goal.invariant-conjuncts::walk_sweep-loop-here
-invariant-conjuncts::walk_sweep-loop-here l = record {
-  at : IsAt l.goals l.here.index l.here.at;
+abbrev pub invariant-conjuncts::walk_next-loop-index : goal.invariant-conjuncts::walk_next-loop-index
+invariant-conjuncts::walk_next-loop-index l = record {
   extends : Extends l.fn.bound l.bound;
   adds : Adds l.fn.written l.written;
-  amid : (total : ℕ → ℕ) (whole : Outcomes) (old : Written) (count : ℕ) → AreKnown total (modes_of l.setting.predicates.now) (all_subgoals (nodes_of l.goals)) l.facts
-      → IsStretch total l.setting.all.now l.start (l.start + length (all_variables (nodes_of l.goals))) (all_variables (nodes_of l.goals)) → IsPlaced l.start l.goals l.fn.from.index l.fn.from.place
-      → Amid total (modes_of l.setting.predicates.now) l.goals whole l.fn.from.index l.fn.marks (among l.fn.bound) old l.fn.written count
-      → IsPlaced l.start l.goals l.here.index l.here.place × Amid total (modes_of l.setting.predicates.now) l.goals whole l.here.index l.marks (among l.bound) old l.written count;
+  sound : IsSound l.agenda;
+  starts : l.agenda.starts ≡ l.fn.agenda.starts;
+  amid : (total : ℕ → ℕ) (start : ℕ) (whole : Outcomes) (old : Written) (count : ℕ) → AreKnown total (modes_of l.setting.predicates.now) (all_subgoals (nodes_of l.goals)) l.facts
+      → IsStretch total l.setting.all.now start (start + length (all_variables (nodes_of l.goals))) (all_variables (nodes_of l.goals)) → ArePlaced start l.goals l.facts l.setting.all.now l.fn.agenda.starts.items
+      → Amid total (modes_of l.setting.predicates.now) l.goals whole (awaits l.fn.agenda) l.fn.marks (among l.fn.bound) (among l.fn.bound) old l.fn.written (suc count)
+      → Amid total (modes_of l.setting.predicates.now) l.goals whole (awaits l.agenda) l.marks (among l.bound) (among l.bound) old l.written (suc count);
 }
 
-abbrev pub decreases-conjuncts::walk_sweep-loop-here : goal.decreases-conjuncts::walk_sweep-loop-here
-decreases-conjuncts::walk_sweep-loop-here l = length l.goals - l.here.index
+abbrev pub decreases-conjuncts::walk_next-loop-index : goal.decreases-conjuncts::walk_next-loop-index
+decreases-conjuncts::walk_next-loop-index l = awaited_count l.agenda
 
 abbrev pub invariant-conjuncts::walk_first_left-loop-goal : goal.invariant-conjuncts::walk_first_left-loop-goal
 invariant-conjuncts::walk_first_left-loop-goal l = record {

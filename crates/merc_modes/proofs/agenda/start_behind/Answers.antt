@@ -1,7 +1,7 @@
 use Rattle.std.proofs.Common.{◌+◌, ◌-◌, arith}
-use Rattle.merc_modes.proofs.Places.{next_place}
+use Rattle.merc_modes.proofs.Walked.{next_place}
 use Rattle.merc_modes.proofs.Wholes.{some_parts}
-use Rattle.merc_modes.proofs.positions.step_on.Goals as goal
+use Rattle.merc_modes.proofs.agenda.start_behind.Goals as goal
 
 pub overflow_sub-own : goal.overflow_sub-own
 overflow_sub-own c = omega (arith, some_parts c.args.goal.now c.part_count.result c.part_count.ensures)
