@@ -15,7 +15,7 @@ use Rattle.merc_modes.specs.Agenda.{start_at, Ascends, Holds, inside, awaits, Is
 use Rattle.merc_modes.specs.Places.{places_from, places_within}
 use Rattle.merc_modes.specs.declared.agenda.Agenda.{Agenda}
 use Rattle.merc_modes.specs.declared.agenda.Start.{Start}
-use Rattle.merc_readiness.proofs.Bounds.{among-append}
+use Rattle.merc_goal_facts.proofs.Bounds.{among-append}
 
 -- tests
 

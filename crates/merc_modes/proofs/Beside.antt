@@ -21,14 +21,14 @@ use Rattle.merc_order.specs.Moves.{needed, beside, beside_next}
 use Rattle.merc_order.specs.Order.{binds, from, moves}
 use Rattle.merc_order.specs.Ordered.{Ordered, Ready, Stuck, is_ready, Outcomes, OneStuck, then_all}
 use Rattle.merc_order.specs.Procedures.{modes_of}
-use Rattle.merc_readiness.specs.Asking.{AreKnown, Asked, IsMarked}
+use Rattle.merc_goal_facts.specs.Facts.{AreKnown, subgoals, all_subgoals}
+use Rattle.merc_readiness.specs.Asking.{Asked, IsMarked}
 use Rattle.merc_modes.specs.Beside.{TellsReady, TellsStuck}
 use Rattle.merc_modes.specs.Conjuncts.{GoesIfReady}
-use Rattle.merc_readiness.specs.Facts.{subgoals, all_subgoals}
 use Rattle.merc_readiness.specs.Sweeps.{AreKnownFrom}
 use Rattle.merc_modes.specs.Walking.{Gives}
 use Rattle.merc_modes.specs.Walks.{behind_them, GivesAll, Walked}
-use Rattle.merc_readiness.specs.declared.facts.Facts.{Facts}
+use Rattle.merc_goal_facts.specs.declared.facts.Facts.{Facts}
 use Rattle.merc_modes.specs.declared.written.Written.{Written}
 use Rattle.merc_readiness.proofs.Binding.{next_known}
 use Rattle.merc_readiness.proofs.Blank.{marked_blank}

@@ -20,15 +20,15 @@ use Rattle.merc_order.specs.Ordered.{Ordered, Ready, Stuck, if_ready}
 use Rattle.merc_order.specs.Procedures.{IsBody, are_bound_behind, body_from, bound_at, first_fresh, total_of}
 use Rattle.merc_order.specs.Spelt.{spelt}
 use Rattle.merc_modes.specs.Bodies.{IsKnown}
-use Rattle.merc_readiness.specs.Bounds.{behind, all_behind}
-use Rattle.merc_readiness.specs.Facts.{subgoals, AreFactsOf}
-use Rattle.merc_readiness.specs.Outside.{IsStretch}
-use Rattle.merc_readiness.specs.declared.facts.Facts.{Facts}
+use Rattle.merc_goal_facts.specs.Bounds.{behind, all_behind}
+use Rattle.merc_goal_facts.specs.Facts.{subgoals, AreFactsOf}
+use Rattle.merc_goal_facts.specs.Outside.{IsStretch}
+use Rattle.merc_goal_facts.specs.declared.facts.Facts.{Facts}
 use Rattle.merc_modes.specs.declared.ordering.Body.{Body}
+use Rattle.merc_goal_facts.proofs.Bounds.{or_false}
+use Rattle.merc_goal_facts.proofs.Outside.{count-append}
 use Rattle.merc_readiness.proofs.Binding.{among_all}
-use Rattle.merc_readiness.proofs.Bounds.{or_false}
 use Rattle.merc_readiness.proofs.Marking.{known_goal, known_length, parts_length, subgoals_length}
-use Rattle.merc_readiness.proofs.Outside.{count-append}
 
 -- the arguments that a mode has bound
 

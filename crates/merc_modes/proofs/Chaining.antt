@@ -18,15 +18,14 @@ use Rattle.merc_order.specs.Bound.{Bound, with, are_bound}
 use Rattle.merc_order.specs.Faults.{binds_outer, unbound_output}
 use Rattle.merc_order.specs.Order.{agree, binds, binds_inside, decision_arms, from, outputs_of}
 use Rattle.merc_order.specs.Ordered.{Ordered, put, Decision, Outcome, Ready, Stuck, if_ready}
-use Rattle.merc_readiness.specs.Asking.{AreKnown}
+use Rattle.merc_goal_facts.specs.Facts.{AreKnown, AreFactsOf, subgoals, all_subgoals}
 use Rattle.merc_modes.specs.Linked.{ending, Guarded, GuardGives, Chain, outermost, inside, Within, Closing, CloseGives}
-use Rattle.merc_readiness.specs.Facts.{AreFactsOf, subgoals, all_subgoals}
-use Rattle.merc_readiness.specs.Outside.{IsStretch}
+use Rattle.merc_goal_facts.specs.Outside.{IsStretch}
 use Rattle.merc_readiness.specs.Sweeps.{AreKnownFrom}
 use Rattle.merc_modes.specs.Walking.{IsWritten, Gives}
 use Rattle.merc_modes.specs.Walks.{AreWritten}
 use Rattle.merc_modes.specs.declared.links.Link.{Link}
-use Rattle.merc_readiness.specs.declared.facts.Facts.{Facts}
+use Rattle.merc_goal_facts.specs.declared.facts.Facts.{Facts}
 use Rattle.merc_modes.specs.declared.written.Written.{Written}
 use Rattle.merc_readiness.proofs.Binding.{next_known}
 use Rattle.merc_modes.proofs.Emitted.{decision_written, none_written, written_on, written_one, one_written, all_written}

@@ -14,9 +14,9 @@ use Rattle.std.proofs.lemmas.List.Sorted.{All-permutation, Contains-permutation}
 use Rattle.std.proofs.lemmas.Map.Keys.{IsStrictlyIncreasing-dedup}
 use Rattle.std.proofs.lemmas.List.Kept.{Contains-dedup_nat}
 use Rattle.merc_order.specs.Bound.{Bound, among, each_once}
-use Rattle.merc_readiness.specs.Reaches.{first_since, new_among}
-use Rattle.merc_readiness.proofs.Bounds.{among-append}
-use Rattle.merc_readiness.proofs.Found.{among-filter}
+use Rattle.merc_goal_facts.specs.Reaches.{first_since, new_among}
+use Rattle.merc_goal_facts.proofs.Bounds.{among-append}
+use Rattle.merc_goal_facts.proofs.Found.{among-filter}
 use Rattle.merc_modes.specs.Outputs.{kept, found_at}
 use Rattle.merc_modes.specs.Places.{places_from, places_within, AreFirstPlaces}
 use Rattle.merc_modes.proofs.Outputs.{found_step, drop_taken}

@@ -10,9 +10,9 @@ use Rattle.merc_goal_tree.specs.Variables.{variables}
 use Rattle.merc_order.specs.Bound.{Bound, among, with}
 use Rattle.merc_order.specs.Order.{binds, from}
 use Rattle.merc_order.specs.Ordered.{is_ready}
-use Rattle.merc_readiness.specs.Facts.{AreFactsOf, all_subgoals}
+use Rattle.merc_goal_facts.specs.Facts.{AreFactsOf, all_subgoals}
+use Rattle.merc_goal_facts.specs.declared.facts.Facts.{Facts}
 use Rattle.merc_readiness.specs.Sweeps.{AreKnownFrom}
-use Rattle.merc_readiness.specs.declared.facts.Facts.{Facts}
 use Rattle.merc_modes.proofs.Agreeing.{Agree, from_same}
 use Rattle.merc_modes.proofs.Walked.{known_next}
 

@@ -12,15 +12,15 @@ use Rattle.merc_goal_tree.specs.Nodes.{Node}
 use Rattle.merc_goal_tree.specs.Variables.{variables}
 use Rattle.merc_order.specs.Bound.{Bound, among, each_once}
 use Rattle.merc_order.specs.Order.{binds, outputs_of}
-use Rattle.merc_readiness.specs.Bounds.{all_behind}
-use Rattle.merc_readiness.specs.Facts.{AreFactsOf}
-use Rattle.merc_readiness.specs.Outside.{IsStretch, occurs_outside}
+use Rattle.merc_goal_facts.specs.Bounds.{all_behind}
+use Rattle.merc_goal_facts.specs.Facts.{AreFactsOf}
+use Rattle.merc_goal_facts.specs.Outside.{IsStretch, occurs_outside}
 use Rattle.merc_modes.specs.Outputs.{is_output, kept}
-use Rattle.merc_readiness.specs.Reaches.{new_among, first_since}
-use Rattle.merc_readiness.specs.declared.facts.Facts.{Facts}
-use Rattle.merc_readiness.proofs.Bounds.{among-append}
-use Rattle.merc_readiness.proofs.Found.{among-filter, among-all_behind}
-use Rattle.merc_readiness.proofs.Outside.{outside_stretch}
+use Rattle.merc_goal_facts.specs.Reaches.{new_among, first_since}
+use Rattle.merc_goal_facts.specs.declared.facts.Facts.{Facts}
+use Rattle.merc_goal_facts.proofs.Bounds.{among-append}
+use Rattle.merc_goal_facts.proofs.Found.{among-filter, among-all_behind}
+use Rattle.merc_goal_facts.proofs.Outside.{outside_stretch}
 
 -- each once
 

@@ -13,12 +13,12 @@ use Rattle.merc_order.specs.Moves.{Move}
 use Rattle.merc_order.specs.Ordered.{is_ready}
 use Rattle.merc_order.specs.Ways.{AllStuck}
 use Rattle.merc_order.proofs.Marks.{sound-more, left-more}
-use Rattle.merc_readiness.specs.Asking.{AreKnown, flags_of, joined_by, Fits, more}
-use Rattle.merc_readiness.specs.Facts.{subgoals, all_subgoals}
-use Rattle.merc_readiness.specs.Outside.{IsStretch}
+use Rattle.merc_goal_facts.specs.Facts.{AreKnown, subgoals, all_subgoals}
+use Rattle.merc_goal_facts.specs.Outside.{IsStretch}
+use Rattle.merc_goal_facts.specs.declared.facts.Facts.{Facts}
+use Rattle.merc_readiness.specs.Asking.{flags_of, joined_by, Fits, more}
 use Rattle.merc_readiness.specs.Sweeps.{AreKnownFrom}
-use Rattle.merc_readiness.specs.declared.facts.Facts.{Facts}
-use Rattle.merc_readiness.proofs.Bounds.{among-append, or_false}
+use Rattle.merc_goal_facts.proofs.Bounds.{among-append, or_false}
 use Rattle.merc_readiness.proofs.Marking.{known_split, known_length, all_subgoals_length, marks_length}
 use Rattle.merc_modes.specs.Conjuncts.{went_at, AskedAreStuck}
 use Rattle.merc_modes.specs.Positions.{IsAt, IsPlaced, variables_before}

@@ -17,12 +17,12 @@ use Rattle.merc_order.specs.Order.{binds, from, moves}
 use Rattle.merc_order.specs.Ordered.{is_ready, Outcomes}
 use Rattle.merc_order.specs.Ways.{AllStuck}
 use Rattle.merc_order.proofs.MoveLaws.{or_left}
-use Rattle.merc_readiness.specs.Asking.{AreKnown, flags_of, joined_by, Fits, more, IsMarked}
-use Rattle.merc_readiness.specs.Bounds.{all_behind}
-use Rattle.merc_readiness.specs.Facts.{AreFactsOf, subgoals, all_subgoals}
-use Rattle.merc_readiness.specs.Outside.{IsStretch}
+use Rattle.merc_goal_facts.specs.Facts.{AreKnown, AreFactsOf, subgoals, all_subgoals}
+use Rattle.merc_goal_facts.specs.Bounds.{all_behind}
+use Rattle.merc_goal_facts.specs.Outside.{IsStretch}
+use Rattle.merc_goal_facts.specs.declared.facts.Facts.{Facts}
+use Rattle.merc_readiness.specs.Asking.{flags_of, joined_by, Fits, more, IsMarked}
 use Rattle.merc_readiness.specs.Sweeps.{Extends, AreKnownFrom}
-use Rattle.merc_readiness.specs.declared.facts.Facts.{Facts}
 use Rattle.merc_modes.specs.Agenda.{start_at, StandAt, Ascends, inside, awaits, IsTaken, AwaitsAgain}
 use Rattle.merc_modes.specs.Conjuncts.{HasGone, Goes, Stays, GoesIfReady, TellsFirst, Passing, went_at, AskedAreStuck, Amid, AskGives, NextGives}
 use Rattle.merc_modes.specs.Positions.{variables_before, IsAt, IsPlaced, IsNext}

@@ -10,10 +10,10 @@ use Rattle.merc_tree.specs.declared.declarations.Arg.TheVariants.{Input, Output}
 use Rattle.merc_order.specs.Bound.{Bound, with, among}
 use Rattle.merc_order.specs.CallModes.{tested}
 use Rattle.merc_order.specs.Spelt.{replaced, tested_places, untested_places, written, numbered, inner_outputs}
-use Rattle.merc_readiness.specs.Bounds.{behind, all_behind}
+use Rattle.merc_goal_facts.specs.Bounds.{behind, all_behind}
 use Rattle.merc_modes.specs.Testing.{written_here}
-use Rattle.merc_readiness.proofs.Bounds.{or_assoc, or_false}
-use Rattle.merc_readiness.proofs.Found.{among-all_behind}
+use Rattle.merc_goal_facts.proofs.Bounds.{or_assoc, or_false}
+use Rattle.merc_goal_facts.proofs.Found.{among-all_behind}
 
 -- which variables are tested
 

@@ -11,14 +11,13 @@ use Rattle.merc_goal_tree.specs.Nodes.{Node, Nodes, more_nodes}
 use Rattle.merc_goal_tree.specs.Parts.{parts_of}
 use Rattle.merc_goal_tree.specs.Variables.{variables, all_variables}
 use Rattle.merc_order.specs.Ordered.{Ordered, Outcome, Stuck, Outcomes, no_goals, AllReady, OneStuck, then_all}
-use Rattle.merc_readiness.specs.Asking.{AreKnown}
-use Rattle.merc_readiness.specs.Facts.{all_subgoals, AreFactsOf}
-use Rattle.merc_readiness.specs.Outside.{IsStretch}
+use Rattle.merc_goal_facts.specs.Facts.{AreKnown, all_subgoals, AreFactsOf}
+use Rattle.merc_goal_facts.specs.Outside.{IsStretch}
 use Rattle.merc_readiness.specs.Sweeps.{AreKnownFrom}
 use Rattle.merc_modes.specs.Positions.{IsNext}
 use Rattle.merc_modes.specs.Walking.{IsWritten, Gives}
 use Rattle.merc_modes.specs.Walks.{behind_them, GivesAll, Walked}
-use Rattle.merc_readiness.specs.declared.facts.Facts.{Facts}
+use Rattle.merc_goal_facts.specs.declared.facts.Facts.{Facts}
 use Rattle.merc_modes.specs.declared.written.Written.{Written}
 use Rattle.merc_readiness.proofs.Binding.{next_known, own_facts}
 use Rattle.merc_modes.proofs.Emitted.{behind_on, behind_ready, behind_stuck, none_written, written_on}

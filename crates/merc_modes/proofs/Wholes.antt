@@ -18,12 +18,11 @@ use Rattle.merc_order.specs.Faults.{binds_outer, unbound_output}
 use Rattle.merc_order.specs.Moves.{each_from, beside}
 use Rattle.merc_order.specs.Order.{agree, arms, binds, binds_inside, from, moves, outputs_of}
 use Rattle.merc_order.specs.Ordered.{put, Sequence, Beside as BesideStep, Choice, Denial, Within, Outcome, Ready, Stuck, Outcomes, if_ready, if_all_ready}
-use Rattle.merc_readiness.specs.Asking.{AreKnown}
-use Rattle.merc_readiness.specs.Facts.{AreFactsOf}
+use Rattle.merc_goal_facts.specs.Facts.{AreKnown, AreFactsOf}
 use Rattle.merc_readiness.specs.Sweeps.{Extends}
 use Rattle.merc_modes.specs.Walking.{Gives}
 use Rattle.merc_modes.specs.Walks.{GivesAll, ordereds_of, all_settled}
-use Rattle.merc_readiness.specs.declared.facts.Facts.{Facts}
+use Rattle.merc_goal_facts.specs.declared.facts.Facts.{Facts}
 use Rattle.merc_modes.specs.declared.written.Written.{Written}
 use Rattle.merc_modes.proofs.Emitted.{choice_written, sequence_written, beside_written, denial_written, within_written}
 use Rattle.merc_readiness.proofs.Marking.{known_split, known_length, parts_length}

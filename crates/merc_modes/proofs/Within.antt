@@ -8,7 +8,7 @@ use Rattle.std.proofs.lemmas.Bool.{ltb-true, ltb-false, lt-ltb, le-ltb, le-leb, 
 use Rattle.std.proofs.lemmas.List.{append-nil}
 use Rattle.std.specs.declared.alloc.Global.{Global}
 use Rattle.std.specs.declared.vec.Vec.{Vec}
-use Rattle.merc_readiness.specs.Reaches.{first_since, new_among}
+use Rattle.merc_goal_facts.specs.Reaches.{first_since, new_among}
 use Rattle.merc_modes.specs.Places.{places_from, places_within, table_at, row_of, TellsPlaces}
 use Rattle.merc_modes.proofs.Outputs.{take_step, drop_taken}
 

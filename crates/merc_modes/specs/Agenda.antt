@@ -7,10 +7,9 @@ use Rattle.merc_tree.specs.declared.declarations.ModeDecl.{ModeDecl}
 use Rattle.merc_goal_tree.specs.Nodes.{Node, nodes_of}
 use Rattle.merc_goal_tree.specs.Variables.{all_variables}
 use Rattle.merc_order.specs.Bound.{among}
-use Rattle.merc_readiness.specs.Asking.{AreKnown}
-use Rattle.merc_readiness.specs.Facts.{all_subgoals}
-use Rattle.merc_readiness.specs.Outside.{IsStretch}
-use Rattle.merc_readiness.specs.declared.facts.Facts.{Facts}
+use Rattle.merc_goal_facts.specs.Facts.{AreKnown, all_subgoals}
+use Rattle.merc_goal_facts.specs.Outside.{IsStretch}
+use Rattle.merc_goal_facts.specs.declared.facts.Facts.{Facts}
 use Rattle.merc_modes.specs.Positions.{IsAt, IsPlaced}
 use Rattle.merc_modes.specs.declared.agenda.Agenda.{Agenda}
 use Rattle.merc_modes.specs.declared.agenda.Start.{Start}

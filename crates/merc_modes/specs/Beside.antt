@@ -11,12 +11,11 @@ use Rattle.merc_order.specs.Moves.{beside, needed}
 use Rattle.merc_order.specs.Order.{binds, from, moves}
 use Rattle.merc_order.specs.Ordered.{Outcomes, OneStuck, is_ready}
 use Rattle.merc_order.specs.Procedures.{modes_of}
-use Rattle.merc_readiness.specs.Asking.{AreKnown}
-use Rattle.merc_readiness.specs.Facts.{subgoals, all_subgoals}
-use Rattle.merc_readiness.specs.Outside.{IsStretch}
+use Rattle.merc_goal_facts.specs.Facts.{AreKnown, subgoals, all_subgoals}
+use Rattle.merc_goal_facts.specs.Outside.{IsStretch}
 use Rattle.merc_readiness.specs.Sweeps.{AreKnownFrom}
 use Rattle.merc_modes.specs.Walks.{Joining}
-use Rattle.merc_readiness.specs.declared.facts.Facts.{Facts}
+use Rattle.merc_goal_facts.specs.declared.facts.Facts.{Facts}
 
 -- the goals of a parallel conjunction are numbered from 1
 abbrev pub all_beside : Joining

@@ -10,8 +10,7 @@ use Rattle.merc_goal_tree.specs.Variables.{variables}
 use Rattle.merc_graded_tree.specs.Nodes.{Node as OrderedNode}
 use Rattle.merc_order.specs.Ordered.{Outcome, Stuck}
 use Rattle.merc_order.specs.Procedures.{IsBody, first_fresh, total_of}
-use Rattle.merc_readiness.specs.Asking.{AreKnown}
-use Rattle.merc_readiness.specs.Facts.{subgoals}
+use Rattle.merc_goal_facts.specs.Facts.{AreKnown, subgoals}
 use Rattle.merc_modes.specs.declared.ordering.Body.{Body}
 use Rattle.merc_modes.specs.declared.ordering.Found.{Found}
 

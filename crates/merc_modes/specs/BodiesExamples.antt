@@ -9,9 +9,8 @@ use Rattle.merc_order.specs.OrderExamples.{at, modes, f, x, y, call}
 use Rattle.merc_order.specs.Ordered.{Ordered, put, Called, Ready, Stuck}
 use Rattle.merc_order.specs.Procedures.{total_of}
 use Rattle.merc_order.specs.Spelt.{spelt}
-use Rattle.merc_readiness.specs.Asking.{AreKnown}
+use Rattle.merc_goal_facts.specs.Facts.{AreKnown, subgoals}
 use Rattle.merc_modes.specs.Bodies.{IsKnown, PutsTree, AreFound}
-use Rattle.merc_readiness.specs.Facts.{subgoals}
 use Rattle.merc_modes.specs.declared.ordering.Body.{Body}
 use Rattle.merc_modes.specs.declared.ordering.Found.{Found}
 

@@ -12,9 +12,9 @@ use Rattle.merc_order.specs.Moves.{Move}
 use Rattle.merc_order.specs.Order.{binds, from}
 use Rattle.merc_order.specs.Ordered.{Ordered, Outcomes, Ready, Stuck, is_ready}
 use Rattle.merc_order.specs.Procedures.{modes_of}
-use Rattle.merc_readiness.specs.Asking.{AreKnown, IsMarked, Fits, flags_of, joined_by}
-use Rattle.merc_readiness.specs.Facts.{subgoals, all_subgoals}
-use Rattle.merc_readiness.specs.Outside.{IsStretch}
+use Rattle.merc_goal_facts.specs.Facts.{AreKnown, subgoals, all_subgoals}
+use Rattle.merc_goal_facts.specs.Outside.{IsStretch}
+use Rattle.merc_readiness.specs.Asking.{IsMarked, Fits, flags_of, joined_by}
 use Rattle.merc_readiness.specs.Sweeps.{AreKnownFrom}
 use Rattle.merc_modes.specs.Agenda.{ArePlaced, awaits, IsTaken}
 use Rattle.merc_modes.specs.Positions.{IsAt, IsPlaced}
@@ -22,7 +22,7 @@ use Rattle.merc_modes.specs.Walking.{IsWritten}
 use Rattle.merc_modes.specs.Walks.{behind_them, AreWritten, all_settled}
 use Rattle.merc_modes.specs.declared.agenda.Agenda.{Agenda}
 use Rattle.merc_modes.specs.declared.agenda.Start.{Start}
-use Rattle.merc_readiness.specs.declared.facts.Facts.{Facts}
+use Rattle.merc_goal_facts.specs.declared.facts.Facts.{Facts}
 use Rattle.merc_modes.specs.declared.written.Written.{Written}
 
 -- A goal that went: its own mark says so, those of its parts say nothing.

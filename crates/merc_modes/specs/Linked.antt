@@ -12,13 +12,12 @@ use Rattle.merc_order.specs.Faults.{unbound_output}
 use Rattle.merc_order.specs.Order.{agree, decision_arms, from, outputs_of}
 use Rattle.merc_order.specs.Ordered.{Ordered, put, Decision, Outcome, Ready, Stuck, if_ready}
 use Rattle.merc_order.specs.Procedures.{modes_of}
-use Rattle.merc_readiness.specs.Asking.{AreKnown}
-use Rattle.merc_readiness.specs.Facts.{AreFactsOf, subgoals}
-use Rattle.merc_readiness.specs.Outside.{IsStretch}
+use Rattle.merc_goal_facts.specs.Facts.{AreKnown, AreFactsOf, subgoals}
+use Rattle.merc_goal_facts.specs.Outside.{IsStretch}
 use Rattle.merc_modes.specs.Walking.{Gives}
 use Rattle.merc_modes.specs.Walks.{AreWritten}
 use Rattle.merc_modes.specs.declared.links.Link.{Link}
-use Rattle.merc_readiness.specs.declared.facts.Facts.{Facts}
+use Rattle.merc_goal_facts.specs.declared.facts.Facts.{Facts}
 use Rattle.merc_modes.specs.declared.written.Written.{Written}
 
 abbrev pub IsConditional : Node → Type 0

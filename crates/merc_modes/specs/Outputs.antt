@@ -2,8 +2,8 @@
 use Rattle.std.specs.Prelude.{ℕ, Bool, not, ◌&&◌, List, [], ◌∷◌, ◌++◌, Option, Some, None, if◌then◌else◌}
 use Rattle.std.specs.Option.{option_to_list}
 use Rattle.merc_order.specs.Bound.{Bound}
-use Rattle.merc_readiness.specs.Outside.{occurs_outside}
-use Rattle.merc_readiness.specs.Reaches.{first_since}
+use Rattle.merc_goal_facts.specs.Outside.{occurs_outside}
+use Rattle.merc_goal_facts.specs.Reaches.{first_since}
 
 -- a variable that is not bound and occurs outside the stretch from one place to another
 abbrev pub is_output : Bound → List ℕ → ℕ → ℕ → ℕ → Bool

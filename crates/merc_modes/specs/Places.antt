@@ -5,7 +5,7 @@ use Rattle.std.specs.List.Sorted.{IsStrictlyIncreasing}
 use Rattle.std.specs.declared.alloc.Global.{Global}
 use Rattle.std.specs.declared.vec.Vec.{Vec}
 use Rattle.merc_order.specs.Bound.{among}
-use Rattle.merc_readiness.specs.Reaches.{first_since}
+use Rattle.merc_goal_facts.specs.Reaches.{first_since}
 
 -- the places of a variable among these, of which the first stands at this place
 abbrev pub places_from : ℕ → ℕ → List ℕ → List ℕ

@@ -4,9 +4,9 @@ use Rattle.merc_tree.specs.declared.declarations.ModeDecl.{ModeDecl}
 use Rattle.merc_goal_tree.specs.Nodes.{Node, Nodes, more_nodes, nodes_of}
 use Rattle.merc_goal_tree.specs.Parts.{all_parts}
 use Rattle.merc_goal_tree.specs.Variables.{variables, all_variables}
-use Rattle.merc_readiness.specs.Facts.{all_subgoals}
+use Rattle.merc_goal_facts.specs.Facts.{all_subgoals}
+use Rattle.merc_goal_facts.specs.declared.facts.Facts.{Facts}
 use Rattle.merc_readiness.specs.Sweeps.{AreKnownFrom}
-use Rattle.merc_readiness.specs.declared.facts.Facts.{Facts}
 
 -- The parts of the goal of this index stand from there on; behind the last goal stand none.
 abbrev pub IsAt : List Node → ℕ → ℕ → Type 0

@@ -11,10 +11,9 @@ use Rattle.merc_order.specs.Order.{from}
 use Rattle.merc_order.specs.Ordered.{Ordered, Outcome, Ready, Stuck}
 use Rattle.merc_order.specs.Procedures.{modes_of}
 use Rattle.merc_order.specs.Spelt.{spelt, twins}
-use Rattle.merc_readiness.specs.Asking.{AreKnown}
-use Rattle.merc_readiness.specs.Facts.{subgoals}
-use Rattle.merc_readiness.specs.Outside.{IsStretch}
-use Rattle.merc_readiness.specs.declared.facts.Facts.{Facts}
+use Rattle.merc_goal_facts.specs.Facts.{AreKnown, subgoals}
+use Rattle.merc_goal_facts.specs.Outside.{IsStretch}
+use Rattle.merc_goal_facts.specs.declared.facts.Facts.{Facts}
 use Rattle.merc_modes.specs.declared.written.Written.{Written}
 
 -- An ordered goal stands behind those that were written before, its fresh variables numbered on.

@@ -13,11 +13,10 @@ use Rattle.merc_order.specs.Order.{moves}
 use Rattle.merc_order.specs.Ordered.{Ordered, Ordereds, no_goals, more_goals, Outcomes, AllReady, OneStuck, then_all}
 use Rattle.merc_order.specs.Procedures.{modes_of}
 use Rattle.merc_order.specs.Spelt.{spelt, twins}
-use Rattle.merc_readiness.specs.Asking.{AreKnown}
-use Rattle.merc_readiness.specs.Facts.{all_subgoals}
-use Rattle.merc_readiness.specs.Outside.{IsStretch}
+use Rattle.merc_goal_facts.specs.Facts.{AreKnown, all_subgoals}
+use Rattle.merc_goal_facts.specs.Outside.{IsStretch}
+use Rattle.merc_goal_facts.specs.declared.facts.Facts.{Facts}
 use Rattle.merc_readiness.specs.Sweeps.{AreKnownFrom}
-use Rattle.merc_readiness.specs.declared.facts.Facts.{Facts}
 use Rattle.merc_modes.specs.declared.written.Written.{Written}
 
 abbrev pub ordereds_of : List Ordered → Ordereds

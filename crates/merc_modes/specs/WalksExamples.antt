@@ -14,11 +14,11 @@ use Rattle.merc_order.specs.Faults.{never_ready}
 use Rattle.merc_order.specs.Order.{moves}
 use Rattle.merc_order.specs.Ordered.{Ordered, put, Truth, Split, no_goals, more_goals, AllReady, OneStuck}
 use Rattle.merc_order.specs.Spelt.{spelt}
-use Rattle.merc_readiness.specs.Facts.{AreFactsOf}
-use Rattle.merc_readiness.specs.Outside.{IsStretch}
+use Rattle.merc_goal_facts.specs.Facts.{AreFactsOf}
+use Rattle.merc_goal_facts.specs.Outside.{IsStretch}
 use Rattle.merc_readiness.specs.Sweeps.{AreKnownFrom}
 use Rattle.merc_modes.specs.Walks.{ordereds_of, behind_them, twins_in, spelt_list, AreWritten, AddsOne, AddsTwo, Adds, GivesAll, all_settled, OrdersAll, Walked}
-use Rattle.merc_readiness.specs.declared.facts.Facts.{Facts}
+use Rattle.merc_goal_facts.specs.declared.facts.Facts.{Facts}
 use Rattle.merc_modes.specs.declared.written.Written.{Written}
 
 abbrev pub no_modes : ℕ → List ModeDecl

@@ -8,8 +8,8 @@ ghost use Rattle.merc_modes.specs.Positions.{IsNext};
 use crate::places::Places;
 use crate::walking::{Setting, place_behind};
 use merc_base::NoMemory;
+use merc_goal_facts::Facts;
 use merc_goal_tree::{NodeRef, Var};
-use merc_readiness::Facts;
 use std::collections::BTreeSet;
 
 /// Where a goal of a conjunction begins: its first part, and the first place of its variables.

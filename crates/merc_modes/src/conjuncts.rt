@@ -13,9 +13,10 @@ use crate::walking::{Setting, clear, place_behind, walk};
 use crate::writing::outputs_of;
 use crate::written::Written;
 use merc_base::{Fault, Span};
+use merc_goal_facts::{BoundSet, Facts};
 use merc_goal_tree::NodeRef;
 use merc_graded_tree::Running;
-use merc_readiness::{BoundSet, Facts, advance};
+use merc_readiness::advance;
 
 /// Writes a conjunction of these goals out in its order: of those that are left the leftmost that is ready goes next.
 ///

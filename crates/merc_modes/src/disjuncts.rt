@@ -10,8 +10,8 @@ use crate::walking::{Setting, fault_at, place_behind, walk};
 use crate::writing::outputs_of;
 use crate::written::Written;
 use merc_base::{Fault, Rule, Span};
+use merc_goal_facts::{BoundSet, Facts};
 use merc_goal_tree::NodeRef;
-use merc_readiness::{BoundSet, Facts};
 
 /// Writes a disjunction of these goals out in its order.
 ///

@@ -9,8 +9,8 @@ use crate::walking::{Setting, fault_at, place_behind, walk};
 use crate::writing::outputs_of;
 use crate::written::Written;
 use merc_base::{Fault, Rule, Span};
+use merc_goal_facts::{BoundSet, Facts};
 use merc_goal_tree::{NodeRef, NodeView};
-use merc_readiness::{BoundSet, Facts};
 
 // An if-then-else whose condition and then part are written.
 #[derive(Clone, Copy)]

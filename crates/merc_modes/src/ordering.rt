@@ -9,7 +9,7 @@ ghost use Rattle.merc_order.specs.Bound.{among};
 ghost use Rattle.merc_order.specs.Faults.{unbound_output};
 ghost use Rattle.merc_order.specs.Procedures.{are_bound_behind, body_from, bound_at, fault_of, mode_faults, mode_trees, modes_of, numbers_below, order_fault, procedure_trees, query_from, total_of, tree_of, IsQuery};
 ghost use Rattle.merc_modes.specs.Bodies.{IsKnown, PutsTree, AreFound};
-ghost use Rattle.merc_readiness.specs.Facts.{AreFactsOf};
+ghost use Rattle.merc_goal_facts.specs.Facts.{AreFactsOf};
 ghost use Rattle.merc_modes.specs.Told.{IsTold, fault_in};
 ghost use Rattle.merc_modes.specs.Walking.{Orders};
 
@@ -17,9 +17,9 @@ use crate::places::Places;
 use crate::walking::{Setting, walk};
 use crate::written::Written;
 use merc_base::{Detail, Fault, NoMemory, Refusal, Rule, Span};
+use merc_goal_facts::{BoundSet, Facts, facts_of, occurrences_of};
 use merc_goal_tree::{NodeRef, Nodes as FlatNodes, Var};
 use merc_graded_tree::Nodes;
-use merc_readiness::{BoundSet, Facts, facts_of, occurrences_of};
 use merc_tree::{Arg, ModeDecl, PredDecl};
 use std::alloc::Global;
 

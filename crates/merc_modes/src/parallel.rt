@@ -15,9 +15,10 @@ use crate::walking::{Setting, clear, place_behind, walk};
 use crate::writing::outputs_of;
 use crate::written::Written;
 use merc_base::{Detail, Fault, NoMemory, Refusal, Rule, Span};
+use merc_goal_facts::{BoundSet, Facts, Occurrences, occurrences_of};
 use merc_goal_tree::{NodeRef, Var};
 use merc_graded_tree::Running;
-use merc_readiness::{BoundSet, Facts, Occurrences, advance, occurrences_of};
+use merc_readiness::advance;
 
 /// Writes goals side by side out in their order.
 ///

@@ -5,8 +5,8 @@ ghost use Rattle.std.specs.List.Sorted.{IsNonDecreasing};
 ghost use Rattle.merc_modes.specs.Places.{places_within, table_at, TellsPlaces};
 
 use merc_base::NoMemory;
+use merc_goal_facts::Occurrences;
 use merc_goal_tree::Var;
-use merc_readiness::Occurrences;
 use std::alloc::Global;
 use std::marker::Model;
 

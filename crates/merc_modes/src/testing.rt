@@ -6,13 +6,13 @@ ghost use Rattle.merc_graded_tree.specs.Nodes.{list_of};
 ghost use Rattle.merc_order.specs.Bound.{among};
 ghost use Rattle.merc_order.specs.CallModes.{tested, call_tested};
 ghost use Rattle.merc_order.specs.Spelt.{replaced, tested_places, untested_places, written, numbered, tests_of, inner_outputs};
-ghost use Rattle.merc_readiness.specs.Bounds.{behind};
+ghost use Rattle.merc_goal_facts.specs.Bounds.{behind};
 ghost use Rattle.merc_modes.specs.Testing.{written_here};
 
 use merc_base::{NoMemory, Span};
+use merc_goal_facts::{BoundSet, number_past, those_in};
 use merc_goal_tree::{Var, Vars};
 use merc_graded_tree::{BasicGoal, Nodes};
-use merc_readiness::{BoundSet, number_past, those_in};
 use merc_tree::Arg;
 use std::alloc::Global;
 

@@ -16,8 +16,9 @@ use crate::places::Places;
 use crate::writing::{order_simple, outputs_of};
 use crate::written::Written;
 use merc_base::{Detail, Fault, NoMemory, Refusal, Rule, Span};
+use merc_goal_facts::{BoundSet, Facts};
 use merc_goal_tree::{NodeRef, NodeView, SimpleGoal, Vars};
-use merc_readiness::{BoundSet, Facts, members};
+use merc_readiness::members;
 use merc_tree::PredDecl;
 use std::alloc::Global;
 

@@ -10,13 +10,13 @@ ghost use Rattle.merc_order.specs.Faults.{never_ready};
 ghost use Rattle.merc_order.specs.Order.{outputs_of, simple_from};
 ghost use Rattle.merc_order.specs.Procedures.{modes_of};
 ghost use Rattle.merc_order.specs.Spelt.{inputs_in, with_tests};
-ghost use Rattle.merc_readiness.specs.Facts.{AreFactsOf};
-ghost use Rattle.merc_readiness.specs.Bounds.{all_behind};
-ghost use Rattle.merc_readiness.specs.Outside.{IsStretch};
+ghost use Rattle.merc_goal_facts.specs.Facts.{AreFactsOf};
+ghost use Rattle.merc_goal_facts.specs.Bounds.{all_behind};
+ghost use Rattle.merc_goal_facts.specs.Outside.{IsStretch};
 ghost use Rattle.merc_modes.specs.Outputs.{is_output, kept, found_at};
 ghost use Rattle.merc_modes.specs.Places.{AreFirstPlaces};
 ghost use Rattle.merc_modes.specs.Putting.{IsPut, PutsIf};
-ghost use Rattle.merc_readiness.specs.Reaches.{first_since};
+ghost use Rattle.merc_goal_facts.specs.Reaches.{first_since};
 ghost use Rattle.merc_modes.specs.Walking.{Gives};
 
 use crate::places::Places;
@@ -26,9 +26,10 @@ use crate::testing::{
 };
 use crate::written::Written;
 use merc_base::{Detail, Fault, NoMemory, Refusal, Rule, Span};
+use merc_goal_facts::{BoundSet, Facts, Occurrences, modes_at, number_past};
 use merc_goal_tree::{Operation, Predicate, SimpleGoal, Symbol, Var, Vars};
 use merc_graded_tree::{BasicGoal, Procedure, Running};
-use merc_readiness::{BoundSet, Facts, Occurrences, mode_taken, modes_at, number_past};
+use merc_readiness::mode_taken;
 use merc_tree::{Arg, ModeDecl, PredDecl};
 use std::alloc::Global;
 

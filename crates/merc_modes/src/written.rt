@@ -1,6 +1,6 @@
 //! Goals as they are written out in their order.
+use merc_goal_facts::BoundSet;
 use merc_graded_tree::Nodes;
-use merc_readiness::BoundSet;
 
 /// Goals that were written out in their order.
 #[derive(Drop)]

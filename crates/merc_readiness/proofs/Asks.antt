@@ -8,10 +8,10 @@ use Rattle.merc_tree.specs.declared.declarations.ModeDecl.{ModeDecl}
 use Rattle.merc_goal_tree.specs.Nodes.{Node, Conjunction, no_nodes, more_nodes, nodes_of}
 use Rattle.merc_goal_tree.specs.Parts.{parts_of, all_parts}
 use Rattle.merc_order.specs.Bound.{among}
-use Rattle.merc_readiness.specs.Asking.{joined_by, AreMarked, AreKnown}
-use Rattle.merc_readiness.specs.Facts.{subgoals, all_subgoals, AreFactsOf}
+use Rattle.merc_goal_facts.specs.Facts.{AreKnown, subgoals, all_subgoals, AreFactsOf}
+use Rattle.merc_goal_facts.specs.declared.facts.Facts.{Facts}
+use Rattle.merc_readiness.specs.Asking.{joined_by, AreMarked}
 use Rattle.merc_readiness.specs.Sweeps.{Extends, BindsGone, AreGone}
-use Rattle.merc_readiness.specs.declared.facts.Facts.{Facts}
 use Rattle.merc_readiness.specs.declared.waiting.Waiting.{Waiting}
 use Rattle.merc_readiness.proofs.Conjunctions.{gone_of}
 use Rattle.merc_readiness.proofs.Marking.{known_goal, known_length, all_subgoals_length, parts_length}

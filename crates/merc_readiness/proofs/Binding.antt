@@ -10,13 +10,13 @@ use Rattle.merc_goal_tree.specs.Parts.{parts_of}
 use Rattle.merc_order.specs.Bound.{Bound, with, among}
 use Rattle.merc_order.specs.Marks.{Marked}
 use Rattle.merc_order.specs.Order.{binds}
-use Rattle.merc_readiness.specs.Asking.{flags_of, Fits, more, AreKnown}
-use Rattle.merc_readiness.specs.Bounds.{behind, all_behind}
-use Rattle.merc_readiness.specs.Facts.{subgoals, all_subgoals, AreFactsOf}
+use Rattle.merc_goal_facts.specs.Facts.{AreKnown, subgoals, all_subgoals, AreFactsOf}
+use Rattle.merc_goal_facts.specs.Bounds.{behind, all_behind}
+use Rattle.merc_goal_facts.specs.declared.facts.Facts.{Facts}
+use Rattle.merc_readiness.specs.Asking.{flags_of, Fits, more}
 use Rattle.merc_readiness.specs.Sweeps.{Extends, AreKnownFrom, marked_bind, BindsFrom, ListsBefore, AreLeft, listed_if_left}
-use Rattle.merc_readiness.specs.declared.facts.Facts.{Facts}
 use Rattle.merc_readiness.specs.declared.waiting.Waiting.{Waiting}
-use Rattle.merc_readiness.proofs.Bounds.{or_assoc, or_false, among-append}
+use Rattle.merc_goal_facts.proofs.Bounds.{or_assoc, or_false, among-append}
 use Rattle.merc_readiness.proofs.Marking.{known_split, known_goal, known_length, marks_length, subgoals_length, own_mark}
 use Rattle.merc_readiness.proofs.Listed.{lists_first, lists_on, lists_last}
 

@@ -1,68 +1,38 @@
 -- One if-then-else: whether it is ready, and its marks by those of its parts.
-use Rattle.std.specs.Prelude.{◌≡◌, ◌+◌, ◌&&◌, ℕ, Bool, true, false, List, [], ◌∷◌, ◌++◌, length, take, drop, refl, if◌then◌else◌}
+use Rattle.std.specs.Prelude.{◌≡◌, ◌+◌, ◌&&◌, ℕ, Bool, true, false, List, [], ◌∷◌, ◌++◌, length, take, drop, refl}
 use Rattle.std.specs.List.{slice_range, slice_index_or}
 use Rattle.std.proofs.Common.{◌∙◌, ap, sym, subst, arith}
 use Rattle.std.proofs.lemmas.List.{length-append, append_assoc, append-nil, take_at, drop_at, get_or_at}
 use Rattle.merc_base.specs.declared.place.Span.{Span}
-use Rattle.merc_base.specs.declared.refusal.Refusal.{Refusal}
 use Rattle.merc_tree.specs.declared.declarations.ModeDecl.{ModeDecl}
-use Rattle.merc_goal_tree.specs.Nodes.{Node, Conditional, no_nodes, more_nodes, span_of}
+use Rattle.merc_goal_tree.specs.Nodes.{Node, Conditional, no_nodes, more_nodes}
 use Rattle.merc_goal_tree.specs.Parts.{parts_of}
 use Rattle.merc_goal_tree.specs.Variables.{variables}
 use Rattle.merc_order.specs.Bound.{Bound, with, among}
-use Rattle.merc_order.specs.Faults.{binds_outer, unbound_output}
 use Rattle.merc_order.specs.Marks.{Marked, no_marks, more_marks, IsSound}
-use Rattle.merc_order.specs.Order.{agree, binds, binds_inside, decision_arms, from}
-use Rattle.merc_order.specs.Ordered.{Outcome, Stuck, is_ready}
-use Rattle.merc_readiness.specs.Asking.{flags_of, Fits, none, more, IsMarked, AreMarked, AreKnown}
-use Rattle.merc_readiness.specs.Bounds.{all_behind}
-use Rattle.merc_readiness.specs.Chains.{is_arm_ready, AreArmMarked, Told}
-use Rattle.merc_readiness.specs.Facts.{subgoals, all_subgoals, AreFactsOf}
+use Rattle.merc_order.specs.Order.{binds, binds_inside, from}
+use Rattle.merc_order.specs.Ordered.{is_ready}
+use Rattle.merc_goal_facts.specs.Facts.{AreKnown, subgoals, all_subgoals, AreFactsOf}
+use Rattle.merc_goal_facts.specs.Bounds.{all_behind}
+use Rattle.merc_goal_facts.specs.Ready.{is_arm_ready}
+use Rattle.merc_goal_facts.specs.declared.facts.Facts.{Facts}
+use Rattle.merc_readiness.specs.Asking.{flags_of, Fits, none, more, IsMarked, AreMarked}
+use Rattle.merc_readiness.specs.Chains.{AreArmMarked, Told}
 use Rattle.merc_readiness.specs.Sweeps.{AreKnownFrom}
-use Rattle.merc_readiness.specs.declared.facts.Facts.{Facts}
+use Rattle.merc_goal_facts.proofs.Ready.{and_true, arms_agree, conditional_ready}
 use Rattle.merc_readiness.proofs.Asked.{part_by}
 use Rattle.merc_readiness.proofs.Binding.{bound_behind}
-use Rattle.merc_readiness.proofs.Inner.{ready_then, and_true}
 use Rattle.merc_readiness.proofs.Marking.{marks_length, middle, known_split, known_length, known_goal, subgoals_length}
-
-and_assoc : (a b c : Bool) → ((a && b) && c) ≡ (a && (b && c))
-and_assoc true b c = refl
-and_assoc false b c = refl
 
 pub and_false : (a : Bool) → (a && false) ≡ false
 and_false true = refl
 and_false false = refl
-
-ready_in : (a b : Bool) (outcome : Outcome) (fault : Refusal) → is_ready outcome ≡ b → is_ready (if a then outcome else Stuck fault) ≡ (a && b)
-ready_in true b outcome fault h = h
-ready_in false b outcome fault h = refl
 
 three : {X : Type 0} (a : List X) (x : X) (b : List X) (y : X) (rest : List X) → a ++ x ∷ (b ++ y ∷ rest) ≡ ((a ++ x ∷ []) ++ (b ++ y ∷ [])) ++ rest
 three a x b y rest =
     sym (append_assoc (a ++ x ∷ []) (b ++ y ∷ []) rest ∙ append_assoc a (x ∷ []) ((b ++ y ∷ []) ++ rest) ∙ ap (λ l. a ++ x ∷ l) (append_assoc b (y ∷ []) rest))
 
 module _ (total : ℕ → ℕ) (modes : ℕ → List ModeDecl) where
-  -- The facts of its arms tell that an if-then-else binds the same in both.
-  abbrev pub arms_agree : Node → Node → Node → Span → Bound → Bool
-  arms_agree condition then_part else_part span bound =
-      agree total modes bound (variables (Conditional condition then_part else_part span)) (decision_arms total modes condition then_part else_part)
-
-  pub conditional_ready : (condition then_part else_part : Node) (span : Span) (bound : Bound)
-      → is_ready (from total modes (Conditional condition then_part else_part span) bound)
-      ≡ (is_arm_ready total modes condition then_part bound && (is_ready (from total modes else_part bound) && arms_agree condition then_part else_part span bound))
-  conditional_ready condition then_part else_part span bound =
-      let a = arms_agree condition then_part else_part span bound in
-      let e = is_ready (from total modes else_part bound) in
-      let t = is_ready (from total modes then_part (with bound (binds total modes condition))) in
-      let k = binds_inside total modes bound (variables condition ++ variables then_part) (variables condition) (binds total modes condition) in
-      let c = is_ready (from total modes condition bound) in
-      ready_then (from total modes condition bound) _ (k && (t && (e && a)))
-      (λ first. ready_in k (t && (e && a)) _ (binds_outer (span_of condition))
-      (ready_then (from total modes then_part (with bound (binds total modes condition))) _ (e && a)
-      (λ second. ready_then (from total modes else_part bound) _ a
-      (λ third. ready_in a true _ (unbound_output span) refl ∙ and_true a))))
-      ∙ sym (and_assoc c (k && t) (e && a) ∙ ap (λ b. c && b) (and_assoc k t (e && a)))
-
   -- marks of an arm, and how many they are
 
   pub flags_length : (goal : Node) (flags : List Bool) (bound : Bound) → IsMarked total modes goal flags bound → length flags ≡ length (parts_of goal)
@@ -144,39 +114,39 @@ module _ (total : ℕ → ℕ) (modes : ℕ → List ModeDecl) where
   pub not_by_arm : (condition then_part else_part : Node) (span : Span) (bound : Bound) → is_arm_ready total modes condition then_part bound ≡ false
       → is_ready (from total modes (Conditional condition then_part else_part span) bound) ≡ false
   not_by_arm condition then_part else_part span bound h =
-      conditional_ready condition then_part else_part span bound
-      ∙ ap (λ b. b && (is_ready (from total modes else_part bound) && arms_agree condition then_part else_part span bound)) h
+      conditional_ready total modes condition then_part else_part span bound
+      ∙ ap (λ b. b && (is_ready (from total modes else_part bound) && arms_agree total modes condition then_part else_part span bound)) h
 
   pub not_by_else : (condition then_part else_part : Node) (span : Span) (bound : Bound) → is_ready (from total modes else_part bound) ≡ false
       → is_ready (from total modes (Conditional condition then_part else_part span) bound) ≡ false
   not_by_else condition then_part else_part span bound h =
-      conditional_ready condition then_part else_part span bound
-      ∙ ap (λ b. is_arm_ready total modes condition then_part bound && (b && arms_agree condition then_part else_part span bound)) h
+      conditional_ready total modes condition then_part else_part span bound
+      ∙ ap (λ b. is_arm_ready total modes condition then_part bound && (b && arms_agree total modes condition then_part else_part span bound)) h
       ∙ and_false (is_arm_ready total modes condition then_part bound)
 
-  pub not_by_agreement : (condition then_part else_part : Node) (span : Span) (bound : Bound) → arms_agree condition then_part else_part span bound ≡ false
+  pub not_by_agreement : (condition then_part else_part : Node) (span : Span) (bound : Bound) → arms_agree total modes condition then_part else_part span bound ≡ false
       → is_ready (from total modes (Conditional condition then_part else_part span) bound) ≡ false
   not_by_agreement condition then_part else_part span bound h =
-      conditional_ready condition then_part else_part span bound
+      conditional_ready total modes condition then_part else_part span bound
       ∙ ap (λ b. is_arm_ready total modes condition then_part bound && (is_ready (from total modes else_part bound) && b)) h
       ∙ ap (λ b. is_arm_ready total modes condition then_part bound && b) (and_false (is_ready (from total modes else_part bound)))
       ∙ and_false (is_arm_ready total modes condition then_part bound)
 
   pub by_else : (condition then_part else_part : Node) (span : Span) (bound : Bound) (ready : Bool) → is_arm_ready total modes condition then_part bound ≡ true
-      → is_ready (from total modes else_part bound) ≡ ready → arms_agree condition then_part else_part span bound ≡ true
+      → is_ready (from total modes else_part bound) ≡ ready → arms_agree total modes condition then_part else_part span bound ≡ true
       → is_ready (from total modes (Conditional condition then_part else_part span) bound) ≡ ready
   by_else condition then_part else_part span bound ready arm last h =
-      conditional_ready condition then_part else_part span bound
-      ∙ ap (λ b. b && (is_ready (from total modes else_part bound) && arms_agree condition then_part else_part span bound)) arm
+      conditional_ready total modes condition then_part else_part span bound
+      ∙ ap (λ b. b && (is_ready (from total modes else_part bound) && arms_agree total modes condition then_part else_part span bound)) arm
       ∙ ap (λ b. is_ready (from total modes else_part bound) && b) h ∙ and_true (is_ready (from total modes else_part bound)) ∙ last
 
   pub by_agreement : (condition then_part else_part : Node) (span : Span) (bound : Bound) (ready : Bool) → is_arm_ready total modes condition then_part bound ≡ true
-      → is_ready (from total modes else_part bound) ≡ true → arms_agree condition then_part else_part span bound ≡ ready
+      → is_ready (from total modes else_part bound) ≡ true → arms_agree total modes condition then_part else_part span bound ≡ ready
       → is_ready (from total modes (Conditional condition then_part else_part span) bound) ≡ ready
   by_agreement condition then_part else_part span bound ready arm last h =
-      conditional_ready condition then_part else_part span bound
-      ∙ ap (λ b. b && (is_ready (from total modes else_part bound) && arms_agree condition then_part else_part span bound)) arm
-      ∙ ap (λ b. b && arms_agree condition then_part else_part span bound) last ∙ h
+      conditional_ready total modes condition then_part else_part span bound
+      ∙ ap (λ b. b && (is_ready (from total modes else_part bound) && arms_agree total modes condition then_part else_part span bound)) arm
+      ∙ ap (λ b. b && arms_agree total modes condition then_part else_part span bound) last ∙ h
 
   -- the two parts of an arm
 
@@ -313,7 +283,7 @@ module _ (total : ℕ → ℕ) (modes : ℕ → List ModeDecl) where
 
   -- They agree: it is ready where the else part is.
   pub decision_by_else : (condition then_part else_part : Node) (span : Span) (arm rest : List Bool) (bound : Bound) (ready : Bool) → is_arm_ready total modes condition then_part bound ≡ true
-      → is_ready (from total modes else_part bound) ≡ ready → arms_agree condition then_part else_part span bound ≡ true
+      → is_ready (from total modes else_part bound) ≡ ready → arms_agree total modes condition then_part else_part span bound ≡ true
       → AreArmMarked total modes condition then_part arm bound → IsMarked total modes else_part rest bound
       → (is_ready (from total modes (Conditional condition then_part else_part span) bound) ≡ ready) × AreMarked total modes (Conditional condition then_part else_part span) (arm ++ rest) bound
   decision_by_else condition then_part else_part span arm rest bound ready arm_is else_is agrees a m =

@@ -12,12 +12,14 @@ use Rattle.merc_order.specs.Bound.{Bound, are_bound}
 use Rattle.merc_order.specs.Marks.{part, IsSound}
 use Rattle.merc_order.specs.Order.{from}
 use Rattle.merc_order.specs.Ordered.{is_ready}
-use Rattle.merc_readiness.specs.Asking.{flags_of, IsMarked, AreKnown}
-use Rattle.merc_readiness.specs.Chains.{Links, no_links, more_links, around, ends, is_arm_ready, AreArmMarked, AreLinked, none, more, Told, IsOpen, IsReached}
-use Rattle.merc_readiness.specs.Facts.{subgoals, AreFactsOf}
+use Rattle.merc_goal_facts.specs.Facts.{AreKnown, subgoals, AreFactsOf}
+use Rattle.merc_goal_facts.specs.Ready.{is_arm_ready}
+use Rattle.merc_goal_facts.specs.declared.facts.Facts.{Facts}
+use Rattle.merc_readiness.specs.Asking.{flags_of, IsMarked}
+use Rattle.merc_readiness.specs.Chains.{Links, no_links, more_links, around, ends, AreArmMarked, AreLinked, none, more, Told, IsOpen, IsReached}
 use Rattle.merc_readiness.specs.Sweeps.{AreKnownFrom}
-use Rattle.merc_readiness.specs.declared.facts.Facts.{Facts}
-use Rattle.merc_readiness.proofs.ChainAsks.{arm_parts, link_marked, told_link, not_by_arm, not_by_else, by_agreement, arms_agree, arm_length, flags_length, KnownOn, known_on, known_here}
+use Rattle.merc_goal_facts.proofs.Ready.{arms_agree}
+use Rattle.merc_readiness.proofs.ChainAsks.{arm_parts, link_marked, told_link, not_by_arm, not_by_else, by_agreement, arm_length, flags_length, KnownOn, known_on, known_here}
 use Rattle.merc_readiness.proofs.Marking.{marks_length, middle, put_middle, own_mark, subgoals_length}
 
 regroup : {X : Type 0} (before arm own : List X) (x : X) (after : List X) → before ++ ((arm ++ (own ++ x ∷ [])) ++ after) ≡ (before ++ arm) ++ (own ++ x ∷ after)

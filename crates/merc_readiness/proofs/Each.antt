@@ -18,7 +18,7 @@ use Rattle.merc_order.specs.Ordered.{Ordereds, Outcome, Ready, Stuck, is_ready, 
 use Rattle.merc_order.proofs.MoveLaws.{then_all-ready}
 use Rattle.merc_readiness.specs.Asking.{flags_of, joined_by, Fits, more, IsMarked, AreMarked}
 use Rattle.merc_readiness.specs.Sweeps.{DuringArms, DuringBeside}
-use Rattle.merc_readiness.proofs.Inner.{ready_if, and_true}
+use Rattle.merc_goal_facts.proofs.Ready.{ready_if, and_true}
 use Rattle.merc_readiness.proofs.Marking.{marks_length, middle, put_middle}
 
 first_ready : (outcome : Outcome) (others : Outcomes) → is_ready outcome ≡ true → are_ready (and_all outcome others) ≡ are_ready others

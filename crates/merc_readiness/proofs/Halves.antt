@@ -13,13 +13,15 @@ use Rattle.merc_order.specs.Bound.{Bound, with, among, are_bound}
 use Rattle.merc_order.specs.Order.{binds, binds_inside, from}
 use Rattle.merc_order.specs.Ordered.{is_ready}
 use Rattle.merc_order.specs.Procedures.{modes_of}
-use Rattle.merc_readiness.specs.Asking.{IsMarked, AreMarked, AreKnown, Asked, AskedParts}
-use Rattle.merc_readiness.specs.Bounds.{all_behind}
-use Rattle.merc_readiness.specs.Chains.{is_arm_ready, AreArmMarked, AskedArm}
-use Rattle.merc_readiness.specs.Facts.{subgoals, AreFactsOf}
-use Rattle.merc_readiness.specs.declared.facts.Facts.{Facts}
-use Rattle.merc_readiness.proofs.Inner.{negation_ready, quantified_ready, inner_known, negation_inner, negation_marked, quantified_inner, quantified_marked}
-use Rattle.merc_readiness.proofs.ChainAsks.{arm_first, arm_second, both_marked, arm_length, flags_length, known_both, bound_by_first, arm_by_condition, arm_by_owed, arm_by_then, arms_agree, decision_known, decision_marked, decision_by_arm, decision_by_else, not_by_agreement}
+use Rattle.merc_goal_facts.specs.Facts.{AreKnown, subgoals, AreFactsOf}
+use Rattle.merc_goal_facts.specs.Bounds.{all_behind}
+use Rattle.merc_goal_facts.specs.Ready.{is_arm_ready}
+use Rattle.merc_goal_facts.specs.declared.facts.Facts.{Facts}
+use Rattle.merc_readiness.specs.Asking.{IsMarked, AreMarked, Asked, AskedParts}
+use Rattle.merc_readiness.specs.Chains.{AreArmMarked, AskedArm}
+use Rattle.merc_goal_facts.proofs.Ready.{negation_ready, quantified_ready, arms_agree}
+use Rattle.merc_readiness.proofs.Inner.{inner_known, negation_inner, negation_marked, quantified_inner, quantified_marked}
+use Rattle.merc_readiness.proofs.ChainAsks.{arm_first, arm_second, both_marked, arm_length, flags_length, known_both, bound_by_first, arm_by_condition, arm_by_owed, arm_by_then, decision_known, decision_marked, decision_by_arm, decision_by_else, not_by_agreement}
 use Rattle.merc_readiness.proofs.Marking.{put_middle, subgoals_length}
 
 -- the end of a list anew

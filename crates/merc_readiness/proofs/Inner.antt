@@ -1,43 +1,17 @@
 -- A goal that joins one goal: its marks are those of that goal.
-use Rattle.std.specs.Prelude.{◌≡◌, ◌&&◌, ℕ, Bool, true, false, List, refl, if◌then◌else◌}
-use Rattle.std.proofs.Common.{◌∙◌, subst}
+use Rattle.std.specs.Prelude.{◌≡◌, ℕ, Bool, List}
+use Rattle.std.proofs.Common.{subst}
 use Rattle.std.proofs.lemmas.List.{append-nil}
 use Rattle.merc_base.specs.declared.place.Span.{Span}
-use Rattle.merc_base.specs.declared.refusal.Refusal.{Refusal}
 use Rattle.merc_tree.specs.declared.declarations.ModeDecl.{ModeDecl}
 use Rattle.merc_goal_tree.specs.Nodes.{Node, Negation, Quantified, no_nodes, more_nodes}
-use Rattle.merc_goal_tree.specs.Variables.{variables}
 use Rattle.merc_order.specs.Bound.{Bound}
-use Rattle.merc_order.specs.Faults.{binds_outer}
 use Rattle.merc_order.specs.Marks.{Marked, no_marks, more_marks, IsSound}
-use Rattle.merc_order.specs.Order.{binds, binds_inside, from}
-use Rattle.merc_order.specs.Ordered.{Ordered, Outcome, Ready, Stuck, is_ready, if_ready}
-use Rattle.merc_readiness.specs.Asking.{flags_of, Fits, none, more, IsMarked, AreMarked, AreKnown}
-use Rattle.merc_readiness.specs.Facts.{subgoals, all_subgoals}
-use Rattle.merc_readiness.specs.declared.facts.Facts.{Facts}
-
-pub ready_then : (outcome : Outcome) (made : Ordered → Outcome) (b : Bool) → ((goal : Ordered) → is_ready (made goal) ≡ b) → is_ready (if_ready outcome made) ≡ (is_ready outcome && b)
-ready_then (Ready goal) made b h = h goal
-ready_then (Stuck fault) made b h = refl
-
-pub ready_if : (a : Bool) (goal : Ordered) (fault : Refusal) → is_ready (if a then Ready goal else Stuck fault) ≡ a
-ready_if true goal fault = refl
-ready_if false goal fault = refl
-
-pub and_true : (a : Bool) → (a && true) ≡ a
-and_true true = refl
-and_true false = refl
+use Rattle.merc_goal_facts.specs.Facts.{AreKnown, subgoals, all_subgoals}
+use Rattle.merc_goal_facts.specs.declared.facts.Facts.{Facts}
+use Rattle.merc_readiness.specs.Asking.{flags_of, Fits, none, more, IsMarked, AreMarked}
 
 module _ (total : ℕ → ℕ) (modes : ℕ → List ModeDecl) where
-  pub negation_ready : (goal : Node) (span : Span) (bound : Bound) → is_ready (from total modes (Negation goal span) bound)
-      ≡ (is_ready (from total modes goal bound) && binds_inside total modes bound (variables goal) (variables goal) (binds total modes goal))
-  negation_ready goal span bound =
-      ready_then (from total modes goal bound) _ (binds_inside total modes bound (variables goal) (variables goal) (binds total modes goal))
-      (λ inner. ready_if (binds_inside total modes bound (variables goal) (variables goal) (binds total modes goal)) _ (binds_outer span))
-
-  pub quantified_ready : (own : List ℕ) (goal : Node) (span : Span) (bound : Bound) → is_ready (from total modes (Quantified own goal span) bound) ≡ is_ready (from total modes goal bound)
-  quantified_ready own goal span bound = ready_then (from total modes goal bound) _ true (λ inner. refl) ∙ and_true (is_ready (from total modes goal bound))
-
   pub inner_known : (goal : Node) (facts : List Facts) → AreKnown total modes (all_subgoals (more_nodes goal no_nodes)) facts → AreKnown total modes (subgoals goal) facts
   inner_known goal facts known = subst (λ l. AreKnown total modes l facts) (append-nil (subgoals goal)) known
 

@@ -13,10 +13,10 @@ use Rattle.merc_order.specs.Marks.{Marked, no_marks, more_marks, kept, left}
 use Rattle.merc_order.specs.Order.{from}
 use Rattle.merc_order.specs.Ordered.{is_ready}
 use Rattle.merc_order.specs.Ways.{AllStuck}
-use Rattle.merc_readiness.specs.Asking.{Fits, none, more, AreKnown}
-use Rattle.merc_readiness.specs.Facts.{subgoals, all_subgoals}
+use Rattle.merc_goal_facts.specs.Facts.{AreKnown, subgoals, all_subgoals}
+use Rattle.merc_goal_facts.specs.declared.facts.Facts.{Facts}
+use Rattle.merc_readiness.specs.Asking.{Fits, none, more}
 use Rattle.merc_readiness.specs.Sweeps.{new_one, AreKnownFrom, IsPlaced, ArePlaced, times, times_left, AreLeft, AreGone, AreStuck, ListsBefore, listed_if_left}
-use Rattle.merc_readiness.specs.declared.facts.Facts.{Facts}
 use Rattle.merc_readiness.specs.declared.waiting.Waiting.{Waiting}
 use Rattle.merc_readiness.proofs.Marking.{known_split, known_length, all_subgoals_length}
 

@@ -8,9 +8,9 @@ use Rattle.merc_tree.specs.declared.declarations.ModeDecl.{ModeDecl}
 use Rattle.merc_goal_tree.specs.Nodes.{Node, Nodes, Simple, Conjunction, Parallel, Disjunction, Conditional, Negation, Quantified, no_nodes, more_nodes}
 use Rattle.merc_goal_tree.specs.Parts.{parts_of, all_parts}
 use Rattle.merc_order.specs.Marks.{Marked}
-use Rattle.merc_readiness.specs.Asking.{flags_of, joined_by, Fits, none, more, AreKnown}
-use Rattle.merc_readiness.specs.Facts.{subgoals, all_subgoals, AreFactsOf}
-use Rattle.merc_readiness.specs.declared.facts.Facts.{Facts}
+use Rattle.merc_goal_facts.specs.Facts.{AreKnown, subgoals, all_subgoals, AreFactsOf}
+use Rattle.merc_goal_facts.specs.declared.facts.Facts.{Facts}
+use Rattle.merc_readiness.specs.Asking.{flags_of, joined_by, Fits, none, more}
 
 pub parts_length : (goal : Node) → length (parts_of goal) ≡ suc (length (all_parts (joined_by goal)))
 parts_length (Simple goal span) = refl

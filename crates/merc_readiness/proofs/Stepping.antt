@@ -14,11 +14,11 @@ use Rattle.merc_order.specs.Order.{binds, from, moves}
 use Rattle.merc_order.specs.Ordered.{is_ready}
 use Rattle.merc_order.specs.Ways.{Removed, here, later, Went, went}
 use Rattle.merc_order.proofs.MoveLaws.{or_left}
-use Rattle.merc_readiness.specs.Asking.{flags_of, IsMarked, AreKnown}
-use Rattle.merc_readiness.specs.Bounds.{all_behind}
-use Rattle.merc_readiness.specs.Facts.{subgoals, all_subgoals}
+use Rattle.merc_goal_facts.specs.Facts.{AreKnown, subgoals, all_subgoals}
+use Rattle.merc_goal_facts.specs.Bounds.{all_behind}
+use Rattle.merc_goal_facts.specs.declared.facts.Facts.{Facts}
+use Rattle.merc_readiness.specs.Asking.{flags_of, IsMarked}
 use Rattle.merc_readiness.specs.Sweeps.{AreGone, AreKnownFrom, new_one, IsPlaced, times, times_left}
-use Rattle.merc_readiness.specs.declared.facts.Facts.{Facts}
 use Rattle.merc_readiness.specs.declared.waiting.Waiting.{Waiting}
 use Rattle.merc_readiness.proofs.Binding.{next_known, own_facts, bound_behind}
 use Rattle.merc_readiness.proofs.Marking.{marks_length, middle, put_middle}

@@ -13,12 +13,12 @@ use Rattle.merc_order.specs.Bound.{Bound, among}
 use Rattle.merc_order.specs.Order.{from}
 use Rattle.merc_order.specs.Ordered.{is_ready}
 use Rattle.merc_order.specs.Procedures.{modes_of}
-use Rattle.merc_readiness.specs.Asking.{Asked, AreKnown, AreMarked}
-use Rattle.merc_readiness.specs.Bounds.{all_behind}
+use Rattle.merc_goal_facts.specs.Facts.{AreKnown, all_subgoals}
+use Rattle.merc_goal_facts.specs.Bounds.{all_behind}
+use Rattle.merc_goal_facts.specs.declared.facts.Facts.{Facts}
+use Rattle.merc_readiness.specs.Asking.{Asked, AreMarked}
 use Rattle.merc_readiness.specs.Chains.{AskedArm, Told, IsOpen, IsReached}
-use Rattle.merc_readiness.specs.Facts.{all_subgoals}
 use Rattle.merc_readiness.specs.Sweeps.{AreKnownFrom, DuringArms, DuringBeside, ArePlaced, listed_if_left, AreGone, AreStuck, AskGives, AsksOne}
-use Rattle.merc_readiness.specs.declared.facts.Facts.{Facts}
 use Rattle.merc_readiness.specs.declared.waiting.Waiting.{Waiting}
 use Rattle.merc_readiness.proofs.Asks.{rest_nodes}
 use Rattle.merc_readiness.proofs.Binding.{next_known}

@@ -11,7 +11,7 @@ use Rattle.merc_order.specs.Moves.{Move}
 use Rattle.merc_order.specs.Order.{binds, moves}
 use Rattle.merc_order.specs.Ways.{Removed, here, later, Went, start, went}
 use Rattle.merc_readiness.specs.Sweeps.{marked_bind}
-use Rattle.merc_readiness.proofs.Bounds.{or_false}
+use Rattle.merc_goal_facts.proofs.Bounds.{or_false}
 
 abbrev one_of : Bool → ℕ
 one_of true = 1

@@ -8,8 +8,8 @@ use Rattle.merc_order.specs.Marks.{Marked, no_marks, more_marks, part, IsSound}
 use Rattle.merc_order.specs.Order.{from}
 use Rattle.merc_order.specs.Ordered.{is_ready}
 use Rattle.merc_order.specs.Procedures.{modes_of}
-use Rattle.merc_readiness.specs.Facts.{AreFactsOf, subgoals, all_subgoals}
-use Rattle.merc_readiness.specs.declared.facts.Facts.{Facts}
+use Rattle.merc_goal_facts.specs.Facts.{AreFactsOf, AreKnown, subgoals, all_subgoals}
+use Rattle.merc_goal_facts.specs.declared.facts.Facts.{Facts}
 
 -- marks in the order of the parts: those of a part's own parts before its own
 abbrev pub flags_of : Marked → List Bool
@@ -47,13 +47,6 @@ module _ (total : ℕ → ℕ) (modes : ℕ → List ModeDecl) where
     pub fits : Fits (joined_by goal) inner
     pub flags_are : flags ≡ flags_of inner
     pub sound : IsSound total modes goal inner bound
-
-  -- facts of each of these goals
-  abbrev pub AreKnown : List Node → List Facts → Type 0
-  AreKnown [] [] = Unit {0}
-  AreKnown [] (found ∷ rest) = ⊥
-  AreKnown (part ∷ parts) [] = ⊥
-  AreKnown (part ∷ parts) (found ∷ rest) = AreFactsOf total modes part found × AreKnown parts rest
 
 -- A goal that is asked with right marks tells whether it is ready. Its marks stay right, and it is marked where it is ready.
 abbrev pub Asked : List PredDecl → Node → List Facts → List Bool → List Bool → Bound → Bool → Type 0

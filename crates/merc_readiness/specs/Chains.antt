@@ -1,18 +1,18 @@
 -- How far a chain of if-then-elses has come, of which each is the else part of the one before it.
-use Rattle.std.specs.Prelude.{◌≡◌, ℕ, Bool, true, false, List, [], ◌∷◌, ◌++◌, ◌&&◌, length, Option, Some, None}
+use Rattle.std.specs.Prelude.{◌≡◌, ℕ, Bool, true, false, List, [], ◌∷◌, ◌++◌, length, Option, Some, None}
 use Rattle.merc_base.specs.declared.place.Span.{Span}
 use Rattle.merc_tree.specs.declared.declarations.ModeDecl.{ModeDecl}
 use Rattle.merc_tree.specs.declared.declarations.PredDecl.{PredDecl}
 use Rattle.merc_goal_tree.specs.Nodes.{Node, Conditional}
-use Rattle.merc_goal_tree.specs.Variables.{variables}
 use Rattle.merc_order.specs.Bound.{Bound, with}
-use Rattle.merc_order.specs.Order.{binds, binds_inside, from}
+use Rattle.merc_order.specs.Order.{binds, from}
 use Rattle.merc_order.specs.Ordered.{is_ready}
 use Rattle.merc_order.specs.Procedures.{modes_of}
-use Rattle.merc_readiness.specs.Asking.{IsMarked, AreKnown}
-use Rattle.merc_readiness.specs.Facts.{AreFactsOf, subgoals}
+use Rattle.merc_goal_facts.specs.Facts.{AreKnown, AreFactsOf, subgoals}
+use Rattle.merc_goal_facts.specs.Ready.{is_arm_ready}
+use Rattle.merc_goal_facts.specs.declared.facts.Facts.{Facts}
+use Rattle.merc_readiness.specs.Asking.{IsMarked}
 use Rattle.merc_readiness.specs.Sweeps.{AreKnownFrom}
-use Rattle.merc_readiness.specs.declared.facts.Facts.{Facts}
 
 -- if-then-elses, each the else part of the next, from the innermost to the outermost
 pub data Links : Type 0 where
@@ -35,13 +35,6 @@ module _ (total : ℕ → ℕ) (modes : ℕ → List ModeDecl) where
   abbrev pub Told : Node → List Bool → Bound → Bool → Type 0
   Told goal flags bound ready = (is_ready (from total modes goal bound) ≡ ready) × ((marked : IsMarked total modes goal flags bound) × (marked.went ≡ ready))
 
-  -- A condition is ready, binds nothing that occurs outside, and the then part is ready behind it.
-  abbrev pub is_arm_ready : Node → Node → Bound → Bool
-  is_arm_ready condition then_part bound =
-      is_ready (from total modes condition bound)
-      && (binds_inside total modes bound (variables condition ++ variables then_part) (variables condition) (binds total modes condition)
-      && is_ready (from total modes then_part (with bound (binds total modes condition))))
-
   -- the marks of a condition and of its then part
   pub record AreArmMarked (condition then_part : Node) (flags : List Bool) (bound : Bound) : Type 0 where
     pub first : List Bool
@@ -53,7 +46,7 @@ module _ (total : ℕ → ℕ) (modes : ℕ → List ModeDecl) where
   -- The marks before and behind those of the last else part: the conditions and then parts are ready, and no if-then-else is marked.
   pub data AreLinked : Links → List Bool → List Bool → Bound → Type 0 where
     none : (bound : Bound) → AreLinked no_links [] [] bound
-    more : (condition then_part : Node) (span : Span) (outer : Links) (before own after : List Bool) (bound : Bound) → is_arm_ready condition then_part bound ≡ true
+    more : (condition then_part : Node) (span : Span) (outer : Links) (before own after : List Bool) (bound : Bound) → is_arm_ready total modes condition then_part bound ≡ true
         → AreArmMarked condition then_part own bound → AreLinked outer before after bound → AreLinked (more_links condition then_part span outer) (before ++ own) (false ∷ after) bound
 
   -- A goal is a chain that ends with this goal, which is to be asked. Its marks stand from this index on.

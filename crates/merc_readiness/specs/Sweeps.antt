@@ -12,9 +12,9 @@ use Rattle.merc_order.specs.Order.{binds, from, moves}
 use Rattle.merc_order.specs.Ordered.{is_ready, are_ready}
 use Rattle.merc_order.specs.Procedures.{modes_of}
 use Rattle.merc_order.specs.Ways.{Went}
-use Rattle.merc_readiness.specs.Asking.{flags_of, Fits, AreMarked, AreKnown}
-use Rattle.merc_readiness.specs.Facts.{all_subgoals}
-use Rattle.merc_readiness.specs.declared.facts.Facts.{Facts}
+use Rattle.merc_goal_facts.specs.Facts.{AreKnown, all_subgoals}
+use Rattle.merc_goal_facts.specs.declared.facts.Facts.{Facts}
+use Rattle.merc_readiness.specs.Asking.{flags_of, Fits, AreMarked}
 use Rattle.merc_readiness.specs.declared.waiting.Waiting.{Waiting}
 
 -- what is bound behind others

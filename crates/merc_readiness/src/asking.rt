@@ -4,16 +4,15 @@ ghost use Rattle.merc_base.specs.declared.place.Span.{Span};
 ghost use Rattle.merc_goal_tree.specs.Nodes.{Parallel, Disjunction, nodes_of};
 ghost use Rattle.merc_goal_tree.specs.Parts.{parts_of, all_parts};
 ghost use Rattle.merc_order.specs.Bound.{among};
+ghost use Rattle.merc_goal_facts.specs.declared.facts.Facts.{Facts};
 ghost use Rattle.merc_readiness.specs.Asking.{joined_by, Asked, AskedParts};
-ghost use Rattle.merc_readiness.specs.declared.facts.Facts.{Facts};
 
-use crate::bound::BoundSet;
 use crate::chains::{Link, advance_decision};
-use crate::facts::Facts;
 use crate::joined_goals::members;
 use crate::simple::is_simple_ready;
 use crate::sweeping::advance_all;
 use merc_base::NoMemory;
+use merc_goal_facts::{BoundSet, Facts};
 use merc_goal_tree::{NodeRef, NodeView};
 use merc_tree::PredDecl;
 use std::alloc::Global;

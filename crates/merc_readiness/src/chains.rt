@@ -8,9 +8,8 @@ ghost use Rattle.merc_readiness.specs.Asking.{Asked, AskedParts};
 ghost use Rattle.merc_readiness.specs.Chains.{AskedArm, AskedLinks, Closes};
 
 use crate::asking::advance;
-use crate::bound::BoundSet;
-use crate::facts::Facts;
 use merc_base::NoMemory;
+use merc_goal_facts::{BoundSet, Facts};
 use merc_goal_tree::{NodeRef, NodeView};
 use merc_tree::PredDecl;
 use std::alloc::Global;

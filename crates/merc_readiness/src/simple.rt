@@ -4,10 +4,11 @@ ghost use Rattle.std.specs.Option.{option_map};
 ghost use Rattle.merc_order.specs.Bound.{among, are_bound};
 ghost use Rattle.merc_order.specs.CallModes.{inputs_of, width, taken_from};
 ghost use Rattle.merc_order.specs.Procedures.{modes_of};
-ghost use Rattle.merc_readiness.specs.CallModeCode.{wider_of, can_go};
+ghost use Rattle.merc_goal_facts.specs.Ready.{can_go};
+ghost use Rattle.merc_readiness.specs.CallModeCode.{wider_of};
 
-use crate::bound::BoundSet;
-use merc_goal_tree::{Predicate, SimpleGoal, Var};
+use merc_goal_facts::{BoundSet, modes_at};
+use merc_goal_tree::{SimpleGoal, Var};
 use merc_tree::{Arg, ModeDecl, PredDecl};
 
 /// Whether the goal can go where these variables are bound.
@@ -28,16 +29,6 @@ pub(crate) fn is_simple_ready(goal: &SimpleGoal, predicates: &[PredDecl], bound:
             let modes = modes_at(predicates, *predicate);
             mode_taken(modes, arguments.as_slice(), bound).is_some()
         }
-    }
-}
-
-/// The modes of a predicate, none where there is no such predicate.
-pub fn modes_at(predicates: &[PredDecl], predicate: Predicate) -> &[ModeDecl]
-    ensures { result.now ≡ modes_of predicates.now predicate }
-{
-    match predicates.get(predicate.number()) {
-        Some(declared) => declared.modes.as_slice(),
-        None => &[],
     }
 }
 

@@ -4,15 +4,14 @@ ghost use Rattle.merc_base.specs.declared.place.Span.{Span};
 ghost use Rattle.merc_goal_tree.specs.Nodes.{Conjunction, nodes_of};
 ghost use Rattle.merc_goal_tree.specs.Parts.{parts_of, all_parts};
 ghost use Rattle.merc_order.specs.Bound.{among};
+ghost use Rattle.merc_goal_facts.specs.declared.facts.Facts.{Facts};
 ghost use Rattle.merc_readiness.specs.Asking.{AskedParts};
-ghost use Rattle.merc_readiness.specs.declared.facts.Facts.{Facts};
 ghost use Rattle.merc_readiness.specs.Sweeps.{Extends, ArePlaced, AsksOne, Sweeps, SweepsAll};
 
 use crate::asking::advance;
-use crate::bound::BoundSet;
-use crate::facts::Facts;
 use crate::waiting::{Waiting, bind_gone};
 use merc_base::NoMemory;
+use merc_goal_facts::{BoundSet, Facts};
 use merc_goal_tree::NodeRef;
 use merc_tree::PredDecl;
 use std::alloc::Global;

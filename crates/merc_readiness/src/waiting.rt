@@ -4,9 +4,8 @@ ghost use Rattle.merc_goal_tree.specs.Nodes.{nodes_of};
 ghost use Rattle.merc_goal_tree.specs.Parts.{parts_of, all_parts};
 ghost use Rattle.merc_readiness.specs.Sweeps.{Extends, ArePlaced, BindsOne, BindsGone};
 
-use crate::bound::BoundSet;
-use crate::facts::Facts;
 use merc_base::NoMemory;
+use merc_goal_facts::{BoundSet, Facts};
 use merc_goal_tree::NodeRef;
 use std::alloc::Global;
 

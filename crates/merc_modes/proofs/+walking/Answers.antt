@@ -14,15 +14,14 @@ use Rattle.merc_order.specs.Moves.{each_from, beside}
 use Rattle.merc_order.specs.Order.{binds, from, moves, outputs_of}
 use Rattle.merc_order.specs.Ordered.{and_all, is_ready}
 use Rattle.merc_order.specs.Procedures.{modes_of}
-use Rattle.merc_readiness.specs.Asking.{AreKnown}
+use Rattle.merc_goal_facts.specs.Facts.{AreKnown, subgoals, all_subgoals}
 use Rattle.merc_modes.specs.Beside.{all_beside, TellsStuck}
-use Rattle.merc_readiness.specs.Bounds.{all_behind}
+use Rattle.merc_goal_facts.specs.Bounds.{all_behind}
 use Rattle.std.specs.declared.alloc.Global.{Global}
 use Rattle.std.specs.declared.vec.Vec.{Vec}
 use Rattle.merc_modes.specs.Agenda.{start_at, StandAt, ArePlaced, awaits, AwaitsAgain}
 use Rattle.merc_modes.specs.Conjuncts.{GoesIfReady, Passing, AskGives, NextGives}
 use Rattle.merc_modes.specs.Positions.{IsPlaced}
-use Rattle.merc_readiness.specs.Facts.{subgoals, all_subgoals}
 use Rattle.merc_readiness.specs.Sweeps.{Extends}
 use Rattle.merc_modes.specs.Walking.{Gives, Orders}
 use Rattle.merc_modes.specs.Walks.{Walked, all_settled}

@@ -8,13 +8,13 @@ use Rattle.merc_order.specs.Moves.{each_from, beside}
 use Rattle.merc_order.specs.Order.{moves}
 use Rattle.merc_order.specs.Ordered.{Outcomes}
 use Rattle.merc_order.specs.Procedures.{modes_of}
-use Rattle.merc_readiness.specs.Asking.{AreKnown, Fits, flags_of}
+use Rattle.merc_goal_facts.specs.Facts.{AreKnown, subgoals, all_subgoals}
+use Rattle.merc_readiness.specs.Asking.{Fits, flags_of}
 use Rattle.merc_modes.specs.Linked.{Within}
 use Rattle.merc_modes.specs.Beside.{all_beside}
 use Rattle.merc_modes.specs.Conjuncts.{Passing, Amid}
 use Rattle.merc_modes.specs.Agenda.{StandAt, ArePlaced, awaits, awaited_count, IsSound}
-use Rattle.merc_readiness.specs.Facts.{subgoals, all_subgoals}
-use Rattle.merc_readiness.specs.Outside.{IsStretch}
+use Rattle.merc_goal_facts.specs.Outside.{IsStretch}
 use Rattle.merc_readiness.specs.Sweeps.{Extends}
 use Rattle.merc_modes.specs.Walks.{Adds, Walked, all_settled}
 use Rattle.merc_modes.specs.declared.written.Written.{Written}

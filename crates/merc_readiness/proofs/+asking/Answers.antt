@@ -7,12 +7,13 @@ use Rattle.merc_goal_tree.specs.Nodes.{Node, Conjunction, Parallel, nodes_of, sp
 use Rattle.merc_goal_tree.specs.Parts.{parts_of}
 use Rattle.merc_order.specs.Bound.{among, are_bound}
 use Rattle.merc_order.specs.Procedures.{modes_of}
+use Rattle.merc_goal_facts.specs.Bounds.{all_behind}
+use Rattle.merc_goal_facts.specs.declared.facts.Facts.{Facts}
 use Rattle.merc_readiness.specs.Asking.{Asked, AskedParts}
-use Rattle.merc_readiness.specs.Bounds.{all_behind}
 use Rattle.merc_readiness.specs.Chains.{AskedArm, AskedLinks, IsOpen, IsReached, Told}
 use Rattle.merc_readiness.specs.Sweeps.{Extends, ArePlaced, AreGone, AreStuck, DuringArms, DuringBeside, listed_if_left}
-use Rattle.merc_readiness.specs.declared.facts.Facts.{Facts}
 use Rattle.merc_readiness.specs.declared.waiting.Waiting.{Waiting}
+use Rattle.merc_goal_facts.proofs.Needs.{not_without_needs}
 use Rattle.merc_readiness.proofs.Asked.{asked_marked, parts_marked, marked_again}
 use Rattle.merc_readiness.proofs.Asks.{undone, rest_length, no_rest, own_known, gone_at_first}
 use Rattle.merc_readiness.proofs.Binding.{extends_same, extends_on, extends_all}
@@ -22,7 +23,6 @@ use Rattle.merc_readiness.proofs.Each.{begin_beside, not_by_arms, end_arms, end_
 use Rattle.merc_readiness.proofs.Halves.{condition_stops, owed_stops, then_asked, arm_stops_decision, decision_owes, decision_asked, negation_stops, negation_asked, quantified_asked}
 use Rattle.merc_readiness.proofs.Listed.{not_empty, none_counted, placed_here, parts_here, placed_if_left, placed-reverse, within_if_left, gone_reversed}
 use Rattle.merc_readiness.proofs.Marking.{parts_length}
-use Rattle.merc_readiness.proofs.Needs.{not_without_needs}
 use Rattle.merc_readiness.proofs.Turns.{arm_stops, arm_goes, beside_stops, beside_goes, link_stops, link_goes, last_stops, last_goes, member_stays, member_goes, member_asked}
 use Rattle.merc_readiness.proofs.+asking.Goals.{sweeping::sweep_once-then-not-branch+in_ok-push, sweeping::sweep_once-else-not-branch}
 use Rattle.merc_readiness.proofs.+asking.Goals as goal

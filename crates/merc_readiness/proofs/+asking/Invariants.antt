@@ -4,9 +4,9 @@ use Rattle.merc_goal_tree.specs.Nodes.{Parallel, Disjunction, nodes_of}
 use Rattle.merc_goal_tree.specs.Parts.{parts_of, all_parts}
 use Rattle.merc_order.specs.Bound.{Bound, among}
 use Rattle.merc_order.specs.Procedures.{modes_of}
-use Rattle.merc_readiness.specs.Asking.{IsMarked, AreMarked, AreKnown, joined_by}
+use Rattle.merc_goal_facts.specs.Facts.{AreKnown, subgoals, all_subgoals}
+use Rattle.merc_readiness.specs.Asking.{IsMarked, AreMarked, joined_by}
 use Rattle.merc_readiness.specs.Chains.{IsOpen}
-use Rattle.merc_readiness.specs.Facts.{subgoals, all_subgoals}
 use Rattle.merc_readiness.specs.Sweeps.{Extends, ArePlaced, AreGone, AreStuck, AreKnownFrom, DuringArms, DuringBeside}
 use Rattle.merc_readiness.proofs.+asking.Given as goal
 

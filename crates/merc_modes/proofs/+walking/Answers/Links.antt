@@ -10,10 +10,9 @@ use Rattle.merc_order.specs.Bound.{among, are_bound, with}
 use Rattle.merc_order.specs.Faults.{binds_outer}
 use Rattle.merc_order.specs.Order.{binds, from}
 use Rattle.merc_order.specs.Procedures.{modes_of}
-use Rattle.merc_readiness.specs.Asking.{AreKnown}
-use Rattle.merc_readiness.specs.Bounds.{all_behind}
+use Rattle.merc_goal_facts.specs.Facts.{AreKnown, subgoals}
+use Rattle.merc_goal_facts.specs.Bounds.{all_behind}
 use Rattle.merc_modes.specs.Linked.{Guarded, GuardGives, Within, Closing}
-use Rattle.merc_readiness.specs.Facts.{subgoals}
 use Rattle.merc_readiness.specs.Sweeps.{Extends}
 use Rattle.merc_modes.specs.Walking.{Gives}
 use Rattle.merc_readiness.proofs.Binding.{extends_all, bound_behind}

@@ -2,9 +2,8 @@ use Rattle.std.proofs.Common.{◌≡◌, ◌+◌, ◌<◌, ℕ, List, length}
 use Rattle.merc_tree.specs.declared.declarations.ModeDecl.{ModeDecl}
 use Rattle.merc_goal_tree.specs.Nodes.{nodes_of}
 use Rattle.merc_goal_tree.specs.Variables.{all_variables}
-use Rattle.merc_readiness.specs.Asking.{AreKnown}
-use Rattle.merc_readiness.specs.Facts.{all_subgoals}
-use Rattle.merc_readiness.specs.Outside.{IsStretch}
+use Rattle.merc_goal_facts.specs.Facts.{AreKnown, all_subgoals}
+use Rattle.merc_goal_facts.specs.Outside.{IsStretch}
 use Rattle.merc_modes.specs.Agenda.{start_at}
 use Rattle.merc_modes.specs.Positions.{IsAt, IsPlaced}
 use Rattle.merc_modes.proofs.agenda.starts_of.Given as goal

@@ -1,6 +1,6 @@
 use Rattle.std.proofs.Common.{◌∙◌, ap}
 use Rattle.merc_order.specs.Bound.{among, are_bound}
-use Rattle.merc_readiness.specs.Bounds.{all_behind}
+use Rattle.merc_goal_facts.specs.Bounds.{all_behind}
 use Rattle.merc_modes.proofs.Bodies.{all_bound}
 use Rattle.merc_modes.proofs.ordering.are_bound_behind.Goals as goal
 

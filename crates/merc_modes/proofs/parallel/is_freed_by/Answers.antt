@@ -4,7 +4,7 @@ use Rattle.merc_order.specs.Bound.{among, with}
 use Rattle.merc_order.specs.Order.{binds, from}
 use Rattle.merc_order.specs.Ordered.{is_ready}
 use Rattle.merc_order.specs.Procedures.{modes_of}
-use Rattle.merc_readiness.specs.Bounds.{all_behind}
+use Rattle.merc_goal_facts.specs.Bounds.{all_behind}
 use Rattle.merc_readiness.specs.Sweeps.{Extends}
 use Rattle.merc_modes.proofs.Beside.{facts_of_first}
 use Rattle.merc_readiness.proofs.Binding.{extends_all}

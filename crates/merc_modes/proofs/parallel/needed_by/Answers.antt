@@ -8,7 +8,7 @@ use Rattle.merc_order.specs.Moves.{needed}
 use Rattle.merc_order.specs.Order.{binds, from, moves}
 use Rattle.merc_order.specs.Ordered.{is_ready}
 use Rattle.merc_order.specs.Procedures.{modes_of}
-use Rattle.merc_readiness.specs.Facts.{all_subgoals}
+use Rattle.merc_goal_facts.specs.Facts.{all_subgoals}
 use Rattle.merc_readiness.specs.Sweeps.{AreKnownFrom}
 use Rattle.merc_modes.proofs.Beside.{facts_behind, facts_next, facts_of_first, needs_later}
 use Rattle.merc_modes.proofs.Freeing.{still_stuck}

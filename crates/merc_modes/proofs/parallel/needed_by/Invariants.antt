@@ -6,8 +6,7 @@ use Rattle.merc_order.specs.Marks.{move_of}
 use Rattle.merc_order.specs.Moves.{needed}
 use Rattle.merc_order.specs.Order.{moves}
 use Rattle.merc_order.specs.Procedures.{modes_of}
-use Rattle.merc_readiness.specs.Asking.{AreKnown}
-use Rattle.merc_readiness.specs.Facts.{all_subgoals}
+use Rattle.merc_goal_facts.specs.Facts.{AreKnown, all_subgoals}
 use Rattle.merc_readiness.specs.Sweeps.{AreKnownFrom}
 use Rattle.merc_modes.proofs.parallel.needed_by.Given as goal
 

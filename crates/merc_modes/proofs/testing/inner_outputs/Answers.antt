@@ -1,5 +1,5 @@
 use Rattle.std.proofs.Common.{◌∙◌, ap}
-use Rattle.merc_readiness.specs.Bounds.{all_behind}
+use Rattle.merc_goal_facts.specs.Bounds.{all_behind}
 use Rattle.merc_modes.proofs.Tests.{inner_are}
 use Rattle.merc_modes.proofs.testing.inner_outputs.Goals as goal
 

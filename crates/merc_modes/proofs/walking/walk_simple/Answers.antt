@@ -3,7 +3,7 @@ use Rattle.merc_goal_tree.specs.Nodes.{Simple}
 use Rattle.merc_order.specs.Bound.{among}
 use Rattle.merc_order.specs.Order.{simple_from}
 use Rattle.merc_order.specs.Procedures.{modes_of}
-use Rattle.merc_readiness.specs.Facts.{AreFactsOf}
+use Rattle.merc_goal_facts.specs.Facts.{AreFactsOf}
 use Rattle.merc_modes.specs.Walking.{Gives}
 use Rattle.merc_modes.specs.declared.written.Written.{Written}
 use Rattle.merc_modes.proofs.Emitted.{gives_from, adds_one}

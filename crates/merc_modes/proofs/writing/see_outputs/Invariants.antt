@@ -1,7 +1,7 @@
 use Rattle.std.proofs.Common.{◌≡◌, drop}
 use Rattle.std.specs.List.{filter}
 use Rattle.merc_order.specs.Bound.{among}
-use Rattle.merc_readiness.specs.Bounds.{all_behind}
+use Rattle.merc_goal_facts.specs.Bounds.{all_behind}
 use Rattle.merc_modes.specs.Outputs.{is_output}
 use Rattle.merc_modes.proofs.writing.see_outputs.Given as goal
 

@@ -1,7 +1,7 @@
 use Rattle.std.proofs.Common.{◌≡◌, ◌∙◌, ◌<◌, ◌≤◌, ap, sym, true, false, length, arith}
 use Rattle.std.proofs.lemmas.List.{length-set}
 use Rattle.merc_order.specs.Bound.{among, are_bound}
-use Rattle.merc_readiness.specs.declared.facts.Facts.{Facts}
+use Rattle.merc_goal_facts.specs.declared.facts.Facts.{Facts}
 use Rattle.merc_readiness.proofs.ChainLaws.{reached_on, reached_stuck, reached_end}
 use Rattle.merc_readiness.proofs.chains.close_links.Goals as goal
 

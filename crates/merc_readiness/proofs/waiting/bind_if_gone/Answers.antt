@@ -2,9 +2,9 @@ use Rattle.std.proofs.Common.{◌≡◌, ◌+◌, ◌-◌, ◌∙◌, ap, sym, s
 use Rattle.std.specs.List.{slice_index_or}
 use Rattle.merc_goal_tree.specs.Parts.{parts_of}
 use Rattle.merc_order.specs.Bound.{among}
-use Rattle.merc_readiness.specs.Bounds.{all_behind}
+use Rattle.merc_goal_facts.specs.Bounds.{all_behind}
+use Rattle.merc_goal_facts.specs.declared.facts.Facts.{Facts}
 use Rattle.merc_readiness.specs.Sweeps.{Extends, BindsFrom}
-use Rattle.merc_readiness.specs.declared.facts.Facts.{Facts}
 use Rattle.merc_readiness.proofs.Marking.{parts_length}
 use Rattle.merc_readiness.proofs.Binding.{extends_all, binds_over, binds_on}
 use Rattle.merc_readiness.proofs.waiting.bind_if_gone.Goals as goal

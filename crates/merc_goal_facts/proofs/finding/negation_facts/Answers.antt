@@ -1,0 +1,11 @@
+use Rattle.std.proofs.Common.{◌∙◌, ap, refl}
+use Rattle.std.specs.List.{filter}
+use Rattle.merc_goal_facts.specs.Outside.{occurs_outside}
+use Rattle.merc_goal_facts.proofs.Found.{negation_are}
+use Rattle.merc_goal_facts.proofs.finding.negation_facts.Goals as goal
+
+pub returns : goal.returns
+returns c = λ total modes goal span stretch known.
+    negation_are total modes goal span c.args.all.now c.args.start c.args.end c.args.inner.now _ stretch known refl c.new.ensures
+    (c.in_ok-owed.ensures ∙ ap (filter (λ variable. occurs_outside c.args.all.now c.args.start c.args.end variable)) c.as_slice.ensures) c.new-2.ensures
+    (c.from_vec-needs.ensures ∙ c.in_ok-from_slice.ensures.items ∙ c.as_slice-2.ensures) refl

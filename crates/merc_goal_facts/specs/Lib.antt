@@ -1,0 +1,16 @@
+pub mod Bounds
+pub mod BoundsExamples
+pub mod Facts
+pub mod Reaches
+pub mod Occurring
+pub mod OccurringExamples
+pub mod Outside
+pub mod Needs
+pub mod NeedsExamples
+pub mod Complete
+pub mod Knowing
+pub mod KnowingExamples
+pub mod Arms
+pub mod ArmsExamples
+pub mod Ready
+pub mod ReadyExamples

@@ -1,0 +1,180 @@
+//! What is known of goals with arms, by what their arms bind.
+ghost use Rattle.std.specs.Prelude.{◌≡◌, ◌∷◌, not, ℕ, List, Some, [], IfOk, OnOk, slice_get, if◌then◌else◌};
+ghost use Rattle.std.specs.List.{filter};
+ghost use Rattle.merc_base.specs.declared.place.Span.{Span};
+ghost use Rattle.merc_tree.specs.declared.declarations.ModeDecl.{ModeDecl};
+ghost use Rattle.merc_goal_tree.specs.Nodes.{Node, Nodes, Disjunction, Conditional, no_nodes, more_nodes};
+ghost use Rattle.merc_goal_tree.specs.Variables.{variables, all_variables};
+ghost use Rattle.merc_order.specs.Bound.{among};
+ghost use Rattle.merc_goal_facts.specs.Arms.{all_of, those_bound, those_owed};
+ghost use Rattle.merc_goal_facts.specs.Bounds.{all_behind};
+ghost use Rattle.merc_goal_facts.specs.Complete.{AreKnown};
+ghost use Rattle.merc_goal_facts.specs.Facts.{AreFactsOf};
+ghost use Rattle.merc_goal_facts.specs.Outside.{occurs_outside, IsStretch};
+ghost use Rattle.merc_goal_facts.specs.declared.facts.Facts.{Facts as FactsValue};
+
+use crate::bound::BoundSet;
+use crate::choosing::{bound_by_all, bound_by_some, is_any_reached, those_in};
+use crate::complete::Complete;
+use crate::facts::Facts;
+use crate::finding::{put_those_not_in, those_outside};
+use crate::joining::{conjunction_facts, facts_at};
+use crate::needing::needed_by_some;
+use crate::occurrences::Occurrences;
+use merc_base::NoMemory;
+use merc_goal_tree::{Var, Vars};
+use std::alloc::Global;
+
+/// The facts of a disjunction, by those of its arms; it occurs from one place to another. The set has no variables, before
+/// and after.
+///
+/// # Errors
+///
+/// `NoMemory` where memory was refused.
+pub(crate) fn disjunction_facts(
+    alloc: Global,
+    set: &mut BoundSet,
+    all: &Occurrences,
+    start: usize,
+    end: usize,
+    facts: &[Facts],
+    joined: &[Complete],
+) -> Result<Facts, NoMemory>
+    requires { set.old ≡ [] }
+    ensures facts { IfOk result (λ found. (total : ℕ → ℕ) (modes : ℕ → List ModeDecl) (goals : Nodes) (span : Span) → AreKnown total modes facts.now joined.now goals → IsStretch total all.now start end (all_variables goals) → AreFactsOf total modes (Disjunction goals span) found) }
+    ensures cleared { OnOk result (set.new ≡ []) }
+{
+    let reached = is_any_reached(facts, joined);
+    let some = bound_by_some(alloc, set, facts, joined, reached)?;
+    let every = bound_by_all(alloc, set, facts, joined, reached)?;
+    let needs = needed_by_some(alloc, set, facts, joined)?;
+    arms_facts(
+        alloc,
+        set,
+        all,
+        start,
+        end,
+        reached,
+        some.as_slice(),
+        those_of_all(some.as_slice(), &every),
+        needs,
+        end.saturating_sub(start),
+    )
+}
+
+/// The facts of an if-then-else, by those of its condition, its then part and its else part; it occurs from one place to
+/// another. The set has no variables and the list has the same facts, before and after.
+///
+/// # Errors
+///
+/// `NoMemory` where memory was refused.
+pub(crate) fn conditional_facts(
+    alloc: Global,
+    set: &mut BoundSet,
+    all: &Occurrences,
+    start: usize,
+    end: usize,
+    facts: &mut Vec<Facts>,
+    condition: Complete,
+    then_part: Complete,
+    else_part: Complete,
+) -> Result<Facts, NoMemory>
+    requires { set.old ≡ [] }
+    ensures facts { IfOk result (λ found. (total : ℕ → ℕ) (modes : ℕ → List ModeDecl) (first second third : Node) (span : Span) → AreKnown total modes facts.old.items (condition ∷ then_part ∷ else_part ∷ []) (more_nodes first (more_nodes second (more_nodes third no_nodes))) → IsStretch total all.now start end (variables (Conditional first second third span)) → AreFactsOf total modes (Conditional first second third span) found) }
+    ensures same { OnOk result (facts.new.items ≡ facts.old.items) }
+    ensures cleared { OnOk result (set.new ≡ []) }
+{
+    let then_end = end.saturating_sub(occurrences_at(facts, else_part));
+    let condition_binds = binds_at(facts, condition);
+    let owed_by_condition = those_outside(alloc, all, start, then_end, condition_binds)?;
+    let goes = [condition, then_part];
+    let occurrences = then_end.saturating_sub(start);
+    let first_arm = conjunction_facts(alloc, set, facts, &goes, occurrences)?;
+    // What its else part needs it leaves out: in a chain the lists would get longer and longer.
+    let needs = Vars::from_vec(Vec::from_slice(alloc, first_arm.needs.as_slice())?);
+    let part = facts.len();
+    facts.push(first_arm)?;
+    let arms = [Complete { part, start }, else_part];
+    let mut decided = disjunction_facts(alloc, set, all, start, end, facts, &arms)?;
+    facts.truncate(part);
+    decided.owed_by_condition = owed_by_condition;
+    decided.needs = needs;
+    Ok(decided)
+}
+
+// What a goal that is complete binds.
+fn binds_at(facts: &[Facts], complete: Complete) -> &[Var]
+    ensures { (found : FactsValue) → slice_get facts.now complete.part ≡ Some found → result.now ≡ found.binds }
+{
+    match facts_at(facts, complete) {
+        Some(found) => found.binds.as_slice(),
+        None => &[],
+    }
+}
+
+// How often variables occur in a goal that is complete.
+fn occurrences_at(facts: &[Facts], complete: Complete) -> usize
+    ensures { (found : FactsValue) → slice_get facts.now complete.part ≡ Some found → result ≡ found.occurrences }
+{
+    match facts_at(facts, complete) {
+        Some(found) => found.occurrences,
+        None => 0,
+    }
+}
+
+// Those that all arms bind, where these are those that some arm binds.
+fn those_of_all<'a>(some: &'a [Var], every: &'a Option<Vars>) -> &'a [Var]
+    ensures { result.now ≡ all_of some.now every.now }
+{
+    match every {
+        Some(every) => every.as_slice(),
+        None => some,
+    }
+}
+
+// The facts of a goal with arms, of which some bind these variables and all bind those, and in which variables occur so
+// often. They need these. The set has no variables, before and after.
+fn arms_facts(
+    alloc: Global,
+    set: &mut BoundSet,
+    all: &Occurrences,
+    start: usize,
+    end: usize,
+    reached: bool,
+    some: &[Var],
+    every: &[Var],
+    needs: Vars,
+    occurrences: usize,
+) -> Result<Facts, NoMemory>
+    requires { set.old ≡ [] }
+    ensures reached { IfOk result (λ found. found.reached ≡ reached) }
+    ensures binds { IfOk result (λ found. found.binds ≡ filter (λ variable. occurs_outside all.now start end variable) (those_bound reached some.now (all_behind [] every.now))) }
+    ensures owed { IfOk result (λ found. found.owed ≡ filter (λ variable. occurs_outside all.now start end variable) (those_owed reached some.now (all_behind [] every.now))) }
+    ensures occurrences { IfOk result (λ found. found.occurrences ≡ occurrences) }
+    ensures condition { IfOk result (λ found. found.owed_by_condition ≡ []) }
+    ensures needs { IfOk result (λ found. found.needs ≡ needs) }
+    ensures cleared { OnOk result (set.new ≡ []) }
+{
+    set.bind_all(every)?;
+    let shared = those_in(alloc, set, some)?;
+    let mut differing = Vars::new(alloc);
+    put_those_not_in(set, &mut differing, some)?;
+    set.undo(0);
+    let bound = one_of(reached, some, shared.as_slice());
+    let owed = one_of(reached, differing.as_slice(), &[]);
+    Ok(Facts {
+        reached,
+        binds: those_outside(alloc, all, start, end, bound)?,
+        owed: those_outside(alloc, all, start, end, owed)?,
+        owed_by_condition: Vars::new(alloc),
+        needs,
+        occurrences,
+    })
+}
+
+// These where it holds, else the others.
+fn one_of<'a>(holds: bool, these: &'a [Var], others: &'a [Var]) -> &'a [Var]
+    ensures { result.now ≡ (if holds then these.now else others.now) }
+{
+    if holds { these } else { others }
+}

@@ -1,9 +1,0 @@
-use Rattle.std.proofs.Common.{◌≡◌, false, length}
-use Rattle.merc_readiness.proofs.Arms.{any_on}
-use Rattle.merc_readiness.proofs.choosing.is_any_reached.Given as goal
-
-abbrev pub invariant-loop-rest : goal.invariant-loop-rest
-invariant-loop-rest l = any_on l.facts l.any l.rest ≡ any_on l.facts false l.joined
-
-abbrev pub decreases-loop-rest : goal.decreases-loop-rest
-decreases-loop-rest l = length l.rest

@@ -1,8 +1,0 @@
-use Rattle.std.proofs.Common.{◌≡◌, ◌++◌, drop}
-use Rattle.std.specs.List.{filter}
-use Rattle.merc_readiness.specs.Outside.{occurs_outside}
-use Rattle.merc_readiness.proofs.finding.those_outside.Given as goal
-
-abbrev pub invariant-loop-variable : goal.invariant-loop-variable
-invariant-loop-variable l =
-    l.outer ++ filter (λ variable. occurs_outside l.all l.start l.end variable) (drop l.variable-index l.variables) ≡ filter (λ variable. occurs_outside l.all l.start l.end variable) l.variables
