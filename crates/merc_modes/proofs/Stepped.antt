@@ -160,20 +160,13 @@ module _ (total : ℕ → ℕ) (modes : ℕ → List ModeDecl) where
       let front = o.at_is in
       ap (λ l. slice_index_or l own false) o.flags_are ∙ own_mark o.front (flags_of o.inner) o.gone (flags_of o.others) own false (omega (arith, long, two, front, h))
 
-  tells_by : (goal : Node) (others : List Move) (bound : Bound) (old mid new : Written) (result : Result (Unit {0}) Fault) → Gives modes (from total modes goal bound) mid new result
-      → TellsFirst (move_of total modes goal ∷ others) bound old new result
-  tells_by goal others bound old mid new (Ok done) (ordered, is, w) = ap is_ready is
-  tells_by goal others bound old mid new (Err (Refused refusal)) gives = gives
-  tells_by goal others bound old mid new (Err NoMemory) gives = tt
-
-  pub first_tells : (goal : Node) (rest : Nodes) (facts : List Facts) (flags : List Bool) (at own : ℕ) (all : List ℕ) (place : ℕ) (those : List Move) (bound : Bound) (old mid new : Written) (result : Result (Unit {0}) Fault)
+  pub first_tells : (goal : Node) (rest : Nodes) (facts : List Facts) (flags : List Bool) (at own : ℕ) (all : List ℕ) (place : ℕ) (those : List Move) (bound : Bound) (old new : Written) (result : Result (Unit {0}) Fault)
       → Passing total modes (more_nodes goal rest) facts flags at all place those → suc own ≡ at + length (parts_of goal) → slice_index_or flags own false ≡ false
-      → Gives modes (from total modes goal bound) mid new result → TellsFirst those bound old new result
-  first_tells goal rest facts flags at own all place those bound old mid new result p h mark gives =
+      → Gives modes (from total modes goal bound) old new result → TellsFirst modes those bound old new result
+  first_tells goal rest facts flags at own all place those bound old new result p h mark gives =
       let o = pass_apart goal rest facts flags at all place those p in
       let gone : o.gone ≡ false = sym (pass_mark goal rest flags at own those o h) ∙ mark in
-      subst (λ l. TellsFirst l bound old new result) (sym (o.left_is ∙ ap (λ b. kept b (move_of total modes goal) (left total modes rest o.others)) gone))
-      (tells_by goal (left total modes rest o.others) bound old mid new result gives)
+      subst (λ l. TellsFirst modes l bound old new result) (sym (o.left_is ∙ ap (λ b. kept b (move_of total modes goal) (left total modes rest o.others)) gone)) gives
 
   pub passing_on : (goal : Node) (rest : Nodes) (facts : List Facts) (flags : List Bool) (at own end : ℕ) (all : List ℕ) (place next : ℕ) (found : Facts) (those : List Move)
       → Passing total modes (more_nodes goal rest) facts flags at all place those → suc own ≡ at + length (parts_of goal) → end ≡ at + length (parts_of goal) → slice_index_or flags own false ≡ true
@@ -196,8 +189,8 @@ module _ (total : ℕ → ℕ) (modes : ℕ → List ModeDecl) where
   -- none is left
 
   pub none_told : (facts : List Facts) (flags : List Bool) (at : ℕ) (all : List ℕ) (place : ℕ) (those : List Move) (bound : Bound) (old new : Written) (unit : Unit {0})
-      → Passing total modes no_nodes facts flags at all place those → new ≡ old → TellsFirst those bound old new (Ok unit)
-  none_told facts flags at all place those bound old new unit p same = subst (λ l. TellsFirst l bound old new (Ok unit)) (sym p.left_is) same
+      → Passing total modes no_nodes facts flags at all place those → new ≡ old → TellsFirst modes those bound old new (Ok unit)
+  none_told facts flags at all place those bound old new unit p same = subst (λ l. TellsFirst modes l bound old new (Ok unit)) (sym p.left_is) same
 
   -- what is bound behind what was
 
@@ -454,16 +447,31 @@ module _ (total : ℕ → ℕ) (modes : ℕ → List ModeDecl) where
     all_before (first ∷ rest) zero marked h fits = absurd (omega (arith, h))
     all_before (first ∷ rest) (suc index) marked h (more f r went inner others fi fo) = ap (λ l. kept went (move_of total modes first) l) (all_before rest index others (omega (arith, h)) fo)
 
-    none_ready : (flags : List Bool) (now : Bound) (old written : Written) (count : ℕ) (d : Amid total modes goals whole nothing flags now now old written count) → AllStuck (left total modes (nodes_of goals) d.marked) now
-    none_ready flags now old written count d =
-        subst (λ l. AllStuck l now) (all_before goals (length goals) d.marked (omega arith) d.fits) (stuck_before total modes (length goals) goals d.marked nothing now d.stuck (λ other h. refl))
+    none_ready : (awaited : ℕ → Bool) (flags : List Bool) (now : Bound) (old written : Written) (count : ℕ) (d : Amid total modes goals whole awaited flags now now old written count)
+        → ((index : ℕ) → awaited index ≡ false) → AllStuck (left total modes (nodes_of goals) d.marked) now
+    none_ready awaited flags now old written count d none =
+        subst (λ l. AllStuck l now) (all_before goals (length goals) d.marked (omega arith) d.fits) (stuck_before total modes (length goals) goals d.marked awaited now d.stuck (λ other h. none other))
 
-    pub end_told : (flags : List Bool) (now : Bound) (old mid new : Written) (count : ℕ) (result : Result (Unit {0}) Fault) → Amid total modes goals whole nothing flags now now old mid count
-        → ((marked : Marked) → Fits (nodes_of goals) marked → flags ≡ flags_of marked → TellsFirst (left total modes (nodes_of goals) marked) now mid new result) → GivesAll modes whole old new result
-    end_told flags now old mid new count (Ok unit) d tells =
-        told_ready modes whole (left total modes (nodes_of goals) d.marked) d.done now unit old mid new (none_ready flags now old mid count d) (tells d.marked d.fits d.flags_are) d.whole_is d.are_written
-    end_told flags now old mid new count (Err fault) d tells =
-        told_fault modes whole (left total modes (nodes_of goals) d.marked) d.done now fault mid new old new (none_ready flags now old mid count d) (tells d.marked d.fits d.flags_are) d.whole_is
+    last_or_stuck : (awaited : ℕ → Bool) (flags : List Bool) (now : Bound) (old written : Written) (count : ℕ) (d : Amid total modes goals whole awaited flags now now old written count)
+        → (count ≤ 1) ⊎ ((index : ℕ) → awaited index ≡ false) → (length (left total modes (nodes_of goals) d.marked) ≤ 1) ⊎ AllStuck (left total modes (nodes_of goals) d.marked) now
+    last_or_stuck awaited flags now old written count d (inl few) = inl (omega (arith, few, d.fewer))
+    last_or_stuck awaited flags now old written count d (inr none) = inr (none_ready awaited flags now old written count d none)
+
+    -- the same, where marks, bound and written are these
+    pub amid_at : (awaited : ℕ → Bool) (flags marks : List Bool) (bound known : List ℕ) (old written new : Written) (count : ℕ) → marks ≡ flags → known ≡ bound → new ≡ written
+        → Amid total modes goals whole awaited flags (among bound) (among bound) old written count → Amid total modes goals whole awaited marks (among known) (among known) old new count
+    amid_at awaited flags marks bound known old written new count flags_is bound_is written_is d =
+        subst (λ l. Amid total modes goals whole awaited l (among known) (among known) old new count) (sym flags_is)
+        (subst (λ l. Amid total modes goals whole awaited flags (among l) (among l) old new count) (sym bound_is)
+        (subst (λ w. Amid total modes goals whole awaited flags (among bound) (among bound) old w count) (sym written_is) d))
+
+    pub end_told : (awaited : ℕ → Bool) (flags : List Bool) (now : Bound) (old mid new : Written) (count : ℕ) (result : Result (Unit {0}) Fault) → Amid total modes goals whole awaited flags now now old mid count
+        → (count ≤ 1) ⊎ ((index : ℕ) → awaited index ≡ false)
+        → ((marked : Marked) → Fits (nodes_of goals) marked → flags ≡ flags_of marked → TellsFirst modes (left total modes (nodes_of goals) marked) now mid new result) → GivesAll modes whole old new result
+    end_told awaited flags now old mid new count (Ok unit) d end tells =
+        told_ready modes whole (left total modes (nodes_of goals) d.marked) d.done now unit old mid new (last_or_stuck awaited flags now old mid count d end) (tells d.marked d.fits d.flags_are) d.whole_is d.are_written
+    end_told awaited flags now old mid new count (Err fault) d end tells =
+        told_fault modes whole (left total modes (nodes_of goals) d.marked) d.done now fault mid new old new (last_or_stuck awaited flags now old mid count d end) (tells d.marked d.fits d.flags_are) d.whole_is
 
     -- faults that cannot be
 
@@ -496,13 +504,3 @@ module _ (total : ℕ → ℕ) (modes : ℕ → List ModeDecl) where
   pub fewer_by : (goals : List Node) (whole : Outcomes) (awaited : ℕ → Bool) (flags : List Bool) (now : Bound) (old written : Written) (count other : ℕ) → count ≡ other
       → Amid total modes goals whole awaited flags now now old written count → Amid total modes goals whole awaited flags now now old written other
   fewer_by goals whole awaited flags now old written count other same p = subst (λ n. Amid total modes goals whole awaited flags now now old written n) same p
-
-  no_moves : (all : List Move) → length all ≤ 0 → all ≡ []
-  no_moves [] h = refl
-  no_moves (first ∷ rest) h = absurd (omega arith)
-
-  pub rounds_end : (goals : List Node) (whole : Outcomes) (awaited : ℕ → Bool) (flags : List Bool) (now : Bound) (old new : Written) (count : ℕ) → Amid total modes goals whole awaited flags now now old new count → count ≡ 0
-      → GivesAll modes whole old new (Ok tt)
-  rounds_end goals whole awaited flags now old new count p none =
-      let few : length (left total modes (nodes_of goals) p.marked) ≤ 0 = subst (λ n. length (left total modes (nodes_of goals) p.marked) ≤ n) none p.fewer in
-      (p.done, p.whole_is ∙ ap (λ l. behind_them p.done (all_settled l now)) (no_moves (left total modes (nodes_of goals) p.marked) few) ∙ behind_ready p.done, p.are_written)

@@ -10,7 +10,7 @@ use Rattle.merc_order.specs.Bound.{Bound, nothing, among, with}
 use Rattle.merc_order.specs.Marks.{Marked, no_marks, more_marks, left, SoundLeft}
 use Rattle.merc_order.specs.Moves.{Move}
 use Rattle.merc_order.specs.Order.{binds, from}
-use Rattle.merc_order.specs.Ordered.{Ordered, Outcomes, Ready, Stuck, is_ready}
+use Rattle.merc_order.specs.Ordered.{Ordered, Outcomes, Ready, is_ready}
 use Rattle.merc_order.specs.Procedures.{modes_of}
 use Rattle.merc_goal_facts.specs.Facts.{AreKnown, subgoals, all_subgoals}
 use Rattle.merc_goal_facts.specs.Outside.{IsStretch}
@@ -18,7 +18,7 @@ use Rattle.merc_readiness.specs.Asking.{IsMarked, Fits, flags_of, joined_by}
 use Rattle.merc_readiness.specs.Sweeps.{AreKnownFrom}
 use Rattle.merc_modes.specs.Agenda.{ArePlaced, awaits, IsTaken}
 use Rattle.merc_modes.specs.Positions.{IsAt, IsPlaced}
-use Rattle.merc_modes.specs.Walking.{IsWritten}
+use Rattle.merc_modes.specs.Walking.{IsWritten, Gives}
 use Rattle.merc_modes.specs.Walks.{behind_them, AreWritten, all_settled}
 use Rattle.merc_modes.specs.declared.agenda.Agenda.{Agenda}
 use Rattle.merc_modes.specs.declared.agenda.Start.{Start}
@@ -58,19 +58,18 @@ MayGo predicates goal facts all start flags flags_after bound after old new resu
     (total : ℕ → ℕ) → AreKnown total (modes_of predicates) (subgoals goal) facts → IsStretch total all start (start + length (variables goal)) (variables goal)
     → IsMarked total (modes_of predicates) goal flags (among bound) → GoesIfReady total (modes_of predicates) goal flags_after bound after old new result
 
--- The first goal that is left tells why none of them is ready; where none is left nothing is written.
-abbrev pub TellsFirst : List Move → Bound → Written → Written → Result (Unit {0}) Fault → Type 0
-TellsFirst [] bound old new (Ok done) = new ≡ old
-TellsFirst [] bound old new (Err (Refused refusal)) = ⊥
-TellsFirst [] bound old new (Err NoMemory) = Unit {0}
-TellsFirst (move ∷ moves) bound old new (Ok done) = is_ready (move.from bound) ≡ true
-TellsFirst (move ∷ moves) bound old new (Err (Refused refusal)) = move.from bound ≡ Stuck refusal
-TellsFirst (move ∷ moves) bound old new (Err NoMemory) = Unit {0}
+-- The first goal that is left is written in its order, or tells its fault; where none is left nothing is written.
+abbrev pub TellsFirst : (ℕ → List ModeDecl) → List Move → Bound → Written → Written → Result (Unit {0}) Fault → Type 0
+TellsFirst modes [] bound old new (Ok done) = new ≡ old
+TellsFirst modes [] bound old new (Err (Refused refusal)) = ⊥
+TellsFirst modes [] bound old new (Err NoMemory) = Unit {0}
+TellsFirst modes (move ∷ moves) bound old new result = Gives modes (move.from bound) old new result
 
 abbrev pub FirstTells : List PredDecl → Nodes → List Facts → List ℕ → ℕ → List Bool → List ℕ → Written → Written → Result (Unit {0}) Fault → Type 0
 FirstTells predicates goals facts all start flags bound old new result =
     (total : ℕ → ℕ) (marked : Marked) → Fits goals marked → flags ≡ flags_of marked → AreKnown total (modes_of predicates) (all_subgoals goals) facts
-    → IsStretch total all start (start + length (all_variables goals)) (all_variables goals) → TellsFirst (left total (modes_of predicates) goals marked) (among bound) old new result
+    → IsStretch total all start (start + length (all_variables goals)) (all_variables goals)
+    → TellsFirst (modes_of predicates) (left total (modes_of predicates) goals marked) (among bound) old new result
 
 -- whether the goal of an index went
 abbrev pub went_at : ℕ → Marked → Bool

@@ -11,6 +11,7 @@ use Rattle.merc_readiness.specs.Asking.{Fits, none, more, flags_of}
 use Rattle.merc_modes.specs.Conjuncts.{HasGone, Goes, Stays, GoesIfReady, TellsFirst, Passing, went_at, AskedAreStuck, Amid, AskGives, NextGives}
 use Rattle.merc_modes.specs.Walks.{ordereds_of}
 use Rattle.merc_modes.specs.WalksExamples.{no_modes, body, in_body, truth, unready, never, done, true_facts, true_known, no_stretch, clean, one, none_written, one_written}
+use Rattle.merc_modes.specs.declared.written.Written.{Written}
 
 -- marks of a goal that holds no others
 
@@ -47,17 +48,34 @@ goes_if_ready = goes
 no_refusal : GoesIfReady in_body no_modes unready (false ∷ []) [] [] clean clean (Err (Refused never)) → ⊥
 no_refusal wrong = wrong
 
-first_tells : TellsFirst (moves in_body no_modes (nodes_of (unready ∷ truth ∷ []))) nothing clean clean (Err (Refused never))
+-- of `X = Y, true` the first is not ready, and of `true, X = Y` it is
+
+first_tells : TellsFirst no_modes (moves in_body no_modes (nodes_of (unready ∷ truth ∷ []))) nothing clean clean (Err (Refused never))
 first_tells = refl
 
-first_tells_not : TellsFirst (moves in_body no_modes (nodes_of (truth ∷ unready ∷ []))) nothing clean clean (Err (Refused never)) → ⊥
+first_tells_not : TellsFirst no_modes (moves in_body no_modes (nodes_of (truth ∷ unready ∷ []))) nothing clean clean (Err (Refused never)) → ⊥
 first_tells_not wrong = cc
 
-none_tells : TellsFirst [] nothing one one (Ok tt)
+first_written : TellsFirst no_modes (moves in_body no_modes (nodes_of (truth ∷ unready ∷ []))) nothing clean one (Ok tt)
+first_written = (done, refl, record { nodes = refl; fresh = refl; seen = refl })
+
+-- it is not written
+first_missing : TellsFirst no_modes (moves in_body no_modes (nodes_of (truth ∷ unready ∷ []))) nothing clean clean (Ok tt) → ⊥
+first_missing (ordered, is, written) = let wrong = written.nodes in cc
+
+-- it is not ready
+first_unready : TellsFirst no_modes (moves in_body no_modes (nodes_of (unready ∷ truth ∷ []))) nothing clean one (Ok tt) → ⊥
+first_unready (ordered, is, written) = cc
+
+none_tells : TellsFirst no_modes [] nothing one one (Ok tt)
 none_tells = refl
 
-none_tells_not : TellsFirst [] nothing clean one (Err (Refused never)) → ⊥
-none_tells_not wrong = wrong
+-- none is left, but one is written
+none_tells_not : TellsFirst no_modes [] nothing clean one (Ok tt) → ⊥
+none_tells_not wrong = let same = ap (λ (w : Written). w.nodes) wrong in cc
+
+none_refused : TellsFirst no_modes [] nothing clean clean (Err (Refused never)) → ⊥
+none_refused wrong = wrong
 
 -- Marks are not fewer than those in front.
 

@@ -69,8 +69,8 @@ pub(crate) fn walk_conjunction(
     Ok(())
 }
 
-// Writes the goals out. Each time the first of those that are to be asked goes that is ready. Where none is, none of
-// those that are left is.
+// Writes the goals out. Each time the first of those that are to be asked goes that is ready, up to the last one that is
+// left, which is walked without being asked. Where none is ready, none of those that are left is.
 #[cycle(walking)]
 fn walk_rounds(
     setting: &Setting<'_>,
@@ -90,12 +90,12 @@ fn walk_rounds(
 {
     clear(marks);
     let mut agenda = Agenda::of(setting, goals, facts, start)?;
-    for _round in 0..goals.len() {
+    for _round in 1..goals.len() {
         if !walk_next(setting, goals, facts, &mut agenda, marks, bound, written)? {
-            return walk_first_left(setting, goals, facts, start, marks, bound, written);
+            break;
         }
     }
-    Ok(())
+    walk_first_left(setting, goals, facts, start, marks, bound, written)
 }
 
 // Asks those that are to be asked, up to one that is ready, which goes. False where none is.
@@ -195,7 +195,7 @@ pub(crate) fn walk_if_ready(
     Ok(true)
 }
 
-// Walks the first goal that is left, for its fault.
+// Walks the first goal that is left: it is written out, or its fault is told.
 #[cycle(walking)]
 fn walk_first_left(
     setting: &Setting<'_>,

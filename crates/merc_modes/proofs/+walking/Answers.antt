@@ -1,20 +1,20 @@
 mod Links
-use Rattle.std.proofs.Common.{◌≡◌, ◌+◌, ◌-◌, ◌<◌, ◌∙◌, ℕ, suc, true, false, [], ◌∷◌, Ok, Err, IfSome, take, drop, length, ap, sym, subst, refl, arith, slice_index_or}
+use Rattle.std.proofs.Common.{◌≡◌, ◌+◌, ◌-◌, ◌<◌, ◌∙◌, ℕ, suc, true, false, [], ◌∷◌, Ok, Err, inl, inr, take, drop, length, ap, sym, subst, refl, arith, slice_index_or}
 use Rattle.std.proofs.lemmas.List.{drop_all}
 use Rattle.std.proofs.lemmas.Result.{err_from_is_err_and}
 use Rattle.std.proofs.lemmas.Slice.{between_to_end}
 use Rattle.std.specs.List.{slice_range}
-use borrow.Rule.Slice.PartMut.{put_mid}
 use Rattle.merc_goal_tree.specs.Nodes.{Node, Simple, Conjunction, Disjunction, Negation, Quantified, nodes_of, Parallel}
 use Rattle.merc_goal_tree.specs.Parts.{parts_of}
 use Rattle.merc_goal_tree.specs.Variables.{variables, all_variables}
-use Rattle.merc_order.specs.Bound.{among, are_bound, with}
-use Rattle.merc_order.specs.Marks.{left}
+use Rattle.merc_order.specs.Bound.{among, are_bound, nothing, with}
+use Rattle.merc_order.specs.Marks.{Marked, left}
 use Rattle.merc_order.specs.Moves.{each_from, beside}
 use Rattle.merc_order.specs.Order.{binds, from, moves, outputs_of}
 use Rattle.merc_order.specs.Ordered.{and_all, is_ready}
 use Rattle.merc_order.specs.Procedures.{modes_of}
 use Rattle.merc_goal_facts.specs.Facts.{AreKnown, subgoals, all_subgoals}
+use Rattle.merc_readiness.specs.Asking.{Fits, flags_of}
 use Rattle.merc_modes.specs.Beside.{all_beside, TellsStuck}
 use Rattle.merc_goal_facts.specs.Bounds.{all_behind}
 use Rattle.std.specs.declared.alloc.Global.{Global}
@@ -30,12 +30,13 @@ use Rattle.merc_modes.specs.declared.written.Written.{Written}
 use Rattle.merc_readiness.proofs.Binding.{extends_same, extends_on, extends_all}
 use Rattle.merc_modes.proofs.Beside.{facts_of_first, facts_from, blank_there, beside_goes, beside_stuck, beside_err, walked_tells, never_stuck}
 use Rattle.merc_readiness.proofs.Marking.{subgoals_length, all_subgoals_length, parts_length}
-use Rattle.merc_modes.proofs.Resuming.{at_next, parts_within, known_from, stretch_from}
+use Rattle.merc_modes.proofs.Resuming.{parts_within, known_from, stretch_from}
 use Rattle.merc_readiness.proofs.Stepping.{facts_of_next}
-use Rattle.merc_modes.proofs.Stepped.{if_stays, if_goes, first_tells, passing_on, none_told, within_goals, at_start, placed_start, member_passes, member_marks, member_asked, awaited_on, none_awaited, end_told, next_err, rounds_first, fewer_by, rounds_err, rounds_end}
+use Rattle.merc_modes.proofs.Stepped.{if_stays, if_goes, first_tells, passing_on, none_told, within_goals, at_start, placed_start, member_passes, member_marks, member_asked, awaited_on, none_awaited, amid_at, end_told, next_err, rounds_first, fewer_by, rounds_err}
 use Rattle.merc_modes.proofs.Walked.{stretch_front, walked_on, walked_end, walked_stuck}
 use Rattle.merc_modes.proofs.Wholes.{next_item, end_within, at_behind, some_parts, undone_is, known_parts, known_own, negation_stuck, negation_binds, negation_ready, quantified_stuck, quantified_ready, disjunction_stuck, disjunction_differs, disjunction_ready, conjunction_stuck, conjunction_ready, parallel_stuck, parallel_ready}
 use Rattle.merc_modes.proofs.+walking.Goals as goal
+use Rattle.merc_modes.proofs.+walking.Goals.{conjuncts::walk_rounds-else-loop-round-test, conjuncts::walk_rounds-then-loop-round-test+in_ok-walk_next+then-not-branch}
 use Rattle.merc_modes.proofs.+walking.Answers.Links as links_of
 
 -- negations
@@ -243,7 +244,7 @@ conjuncts::walk_rounds-loop-round-init t c = record {
       let modes = modes_of c.args.setting.now.predicates.now in
       let goals = c.args.goals.now in
       fewer_by total modes goals (all_settled (moves total modes (nodes_of goals)) (among c.args.bound.now)) (awaits c.in_ok-agenda.agenda) c.clear.new.marks (among c.args.bound.now) c.args.written.now c.args.written.now
-      (length goals) (length goals - 0) (omega arith)
+      (length goals) (length goals + 1 - 1) (omega arith)
       (rounds_first total modes goals (awaits c.in_ok-agenda.agenda) c.clear.new.marks (among c.args.bound.now) c.args.written.now (length c.args.marks.now) c.clear.ensures c.requires.marked c.in_ok-agenda.ensures.fresh);
 }
 
@@ -254,26 +255,12 @@ conjuncts::walk_rounds-returns-in_err-walk_next-clause-orders t c =
     let modes = modes_of c.args.setting.now.predicates.now in
     let goals = c.args.goals.now in
     let whole = all_settled (moves total modes (nodes_of goals)) (among c.args.bound.now) in
-    let less = length goals - (c.loop-round._round + 1) in
+    let less = length goals - c.loop-round._round in
     let i = c.loop-round.invariant in
-    let now = fewer_by total modes goals whole (awaits c.loop-round.agenda) c.loop-round.marks (among c.loop-round.bound) c.args.written.now c.loop-round.written (length goals - c.loop-round._round) (suc less)
+    let now = fewer_by total modes goals whole (awaits c.loop-round.agenda) c.loop-round.marks (among c.loop-round.bound) c.args.written.now c.loop-round.written (length goals + 1 - c.loop-round._round) (suc less)
     (omega (arith, c.loop-round-test.true)) (i.amid total known stretch) in
     rounds_err total modes goals whole (awaits c.walk_next.new.agenda) c.walk_next.new.marks (among c.walk_next.new.bound) c.args.written.now c.walk_next.new.written c.walk_next.new.written less c.in_err-walk_next.field-0.0
     (c.in_err-walk_next.ensures.next total c.args.start whole c.args.written.now less known stretch i.placed now))
-
-pub conjuncts::walk_rounds-returns-then-not-branch-clause-orders : goal.conjuncts::walk_rounds-returns-then-not-branch-clause-orders
-conjuncts::walk_rounds-returns-then-not-branch-clause-orders t c = λ total known stretch.
-    let modes = modes_of c.args.setting.now.predicates.now in
-    let goals = c.args.goals.now in
-    let whole = all_settled (moves total modes (nodes_of goals)) (among c.args.bound.now) in
-    let less = length goals - (c.loop-round._round + 1) in
-    let i = c.loop-round.invariant in
-    let now = fewer_by total modes goals whole (awaits c.loop-round.agenda) c.loop-round.marks (among c.loop-round.bound) c.args.written.now c.loop-round.written (length goals - c.loop-round._round) (suc less)
-    (omega (arith, c.loop-round-test.true)) (i.amid total known stretch) in
-    let none = subst (λ b. NextGives total modes goals whole (awaits c.walk_next.new.agenda) c.walk_next.new.marks (among c.walk_next.new.bound) c.args.written.now c.walk_next.new.written less (Ok b)) c.if-not-branch.true
-    (c.in_ok-walk_next.ensures.next total c.args.start whole c.args.written.now less known stretch i.placed now) in
-    end_told total modes goals whole c.walk_next.new.marks (among c.walk_next.new.bound) c.args.written.now c.walk_next.new.written c.walk_first_left.new.written (suc less) c.walk_first_left.result none
-    (λ marked fits flags. c.walk_first_left.ensures.tells total marked fits flags known stretch)
 
 pub conjuncts::walk_rounds-loop-round-preserved : goal.conjuncts::walk_rounds-loop-round-preserved
 conjuncts::walk_rounds-loop-round-preserved t c =
@@ -289,19 +276,40 @@ conjuncts::walk_rounds-loop-round-preserved t c =
       amid = λ total known stretch.
           let modes = modes_of c.args.setting.now.predicates.now in
           let whole = all_settled (moves total modes (nodes_of goals)) (among c.args.bound.now) in
-          let less = length goals - (c.loop-round._round + 1) in
-          let now = fewer_by total modes goals whole (awaits c.loop-round.agenda) c.loop-round.marks (among c.loop-round.bound) c.args.written.now c.loop-round.written (length goals - c.loop-round._round) (suc less)
+          let less = length goals - c.loop-round._round in
+          let now = fewer_by total modes goals whole (awaits c.loop-round.agenda) c.loop-round.marks (among c.loop-round.bound) c.args.written.now c.loop-round.written (length goals + 1 - c.loop-round._round) (suc less)
           (omega (arith, c.loop-round-test.true)) (i.amid total known stretch) in
-          subst (λ b. NextGives total modes goals whole (awaits c.walk_next.new.agenda) c.walk_next.new.marks (among c.walk_next.new.bound) c.args.written.now c.walk_next.new.written less (Ok b)) c.if-not-branch.false
-          (c.in_ok-walk_next.ensures.next total c.args.start whole c.args.written.now less known stretch i.placed now);
+          fewer_by total modes goals whole (awaits c.walk_next.new.agenda) c.walk_next.new.marks (among c.walk_next.new.bound) c.args.written.now c.walk_next.new.written less
+          (length goals + 1 - (c.loop-round._round + 1)) (omega arith)
+          (subst (λ b. NextGives total modes goals whole (awaits c.walk_next.new.agenda) c.walk_next.new.marks (among c.walk_next.new.bound) c.args.written.now c.walk_next.new.written less (Ok b)) c.if-not-branch.false
+          (c.in_ok-walk_next.ensures.next total c.args.start whole c.args.written.now less known stretch i.placed now));
     }
 
 pub conjuncts::walk_rounds-returns-clause-orders : goal.conjuncts::walk_rounds-returns-clause-orders
 conjuncts::walk_rounds-returns-clause-orders t c = λ total known stretch.
     let modes = modes_of c.args.setting.now.predicates.now in
     let goals = c.args.goals.now in
-    rounds_end total modes goals (all_settled (moves total modes (nodes_of goals)) (among c.args.bound.now)) (awaits c.loop-round.agenda) c.loop-round.marks (among c.loop-round.bound) c.args.written.now c.loop-round.written
-    (length goals - c.loop-round._round) (c.loop-round.invariant.amid total known stretch) (omega arith)
+    let whole = all_settled (moves total modes (nodes_of goals)) (among c.args.bound.now) in
+    let i = c.loop-round.invariant in
+    let tells = λ (marked : Marked) (fits : Fits (nodes_of goals) marked) (flags : c.loop-round-test.marks ≡ flags_of marked). c.walk_first_left.ensures.tells total marked fits flags known stretch in
+    elim c.loop-round-test.branch [
+      | conjuncts::walk_rounds-else-loop-round-test w ↦
+          end_told total modes goals whole (awaits c.loop-round.agenda) c.loop-round-test.marks (among c.loop-round-test.bound) c.args.written.now c.loop-round-test.written c.walk_first_left.new.written
+          (length goals + 1 - c.loop-round._round) c.walk_first_left.result
+          (amid_at total modes goals whole (awaits c.loop-round.agenda) c.loop-round.marks c.loop-round-test.marks c.loop-round.bound c.loop-round-test.bound c.args.written.now c.loop-round.written c.loop-round-test.written
+          (length goals + 1 - c.loop-round._round) w.marks-is w.bound-is w.written-is (i.amid total known stretch))
+          (inl (omega (arith, w.loop-round-test.false))) tells
+      | conjuncts::walk_rounds-then-loop-round-test+in_ok-walk_next+then-not-branch w ↦
+          let less = length goals - c.loop-round._round in
+          let now = fewer_by total modes goals whole (awaits c.loop-round.agenda) c.loop-round.marks (among c.loop-round.bound) c.args.written.now c.loop-round.written (length goals + 1 - c.loop-round._round) (suc less)
+          (omega (arith, w.loop-round-test.true)) (i.amid total known stretch) in
+          let none = subst (λ b. NextGives total modes goals whole (awaits w.walk_next.new.agenda) w.walk_next.new.marks (among w.walk_next.new.bound) c.args.written.now w.walk_next.new.written less (Ok b)) w.if-not-branch.true
+          (w.in_ok-walk_next.ensures.next total c.args.start whole c.args.written.now less known stretch i.placed now) in
+          end_told total modes goals whole nothing c.loop-round-test.marks (among c.loop-round-test.bound) c.args.written.now c.loop-round-test.written c.walk_first_left.new.written (suc less) c.walk_first_left.result
+          (amid_at total modes goals whole nothing w.walk_next.new.marks c.loop-round-test.marks w.walk_next.new.bound c.loop-round-test.bound c.args.written.now w.walk_next.new.written c.loop-round-test.written
+          (suc less) w.marks-is w.bound-is w.written-is none)
+          (inr (λ index. refl)) tells
+    ]
 
 -- the goals that are to be asked, up to one that goes
 
@@ -501,9 +509,10 @@ conjuncts::walk_first_left-returns-then-not-marks-own-clause-tells t c = λ tota
     (next_item c.args.goals.now c.loop-goal.goal-index goal c.loop-goal-test.true c.goal-item.is) (c.loop-goal.invariant.passing total marked fits flags known stretch) in
     let k = facts_of_next total modes goal (nodes_of rest) c.args.facts.now c.loop-goal.at (c.loop-goal.at + c.part_count.result) p.known (ap (λ n. c.loop-goal.at + n) c.part_count.ensures) in
     let s = stretch_front total c.args.setting.now.all.now c.loop-goal.place (variables goal) (all_variables (nodes_of rest)) p.stretch in
-    let gives = subst (λ b. Gives modes (from total modes goal (among b)) c.loop-goal.written c.walk.new.written c.walk.result) c.loop-goal.invariant.same (c.walk.ensures.orders total k s) in
+    let gives = subst (λ b. Gives modes (from total modes goal (among b)) c.args.written.now c.walk.new.written c.walk.result) c.loop-goal.invariant.same
+    (subst (λ w. Gives modes (from total modes goal (among c.loop-goal.bound)) w c.walk.new.written c.walk.result) c.loop-goal.invariant.same_written (c.walk.ensures.orders total k s)) in
     first_tells total modes goal (nodes_of rest) c.args.facts.now c.args.marks.now c.loop-goal.at (c.loop-goal.at + c.part_count.result - 1) c.args.setting.now.all.now c.loop-goal.place those (among c.args.bound.now)
-    c.args.written.now c.loop-goal.written c.walk.new.written c.walk.result p (omega (arith, one, c.part_count.ensures))
+    c.args.written.now c.walk.new.written c.walk.result p (omega (arith, one, c.part_count.ensures))
     (ap (λ l. slice_index_or l (c.loop-goal.at + c.part_count.result - 1) false) (sym c.loop-goal.invariant.same_marks) ∙ c.if-not-marks-own.true) gives
 
 pub conjuncts::walk_first_left-loop-goal-preserved : goal.conjuncts::walk_first_left-loop-goal-preserved

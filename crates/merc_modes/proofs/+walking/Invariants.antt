@@ -82,7 +82,7 @@ invariant-conjuncts::walk_rounds-loop-round l = record {
   amid : (total : ℕ → ℕ) → AreKnown total (modes_of l.setting.predicates.now) (all_subgoals (nodes_of l.goals)) l.facts
       → IsStretch total l.setting.all.now l.start (l.start + length (all_variables (nodes_of l.goals))) (all_variables (nodes_of l.goals))
       → Amid total (modes_of l.setting.predicates.now) l.goals (all_settled (moves total (modes_of l.setting.predicates.now) (nodes_of l.goals)) (among l.fn.bound)) (awaits l.agenda)
-      l.marks (among l.bound) (among l.bound) l.fn.written l.written (length l.goals - l._round);
+      l.marks (among l.bound) (among l.bound) l.fn.written l.written (length l.goals + 1 - l._round);
 }
 
 abbrev pub invariant-conjuncts::walk_next-loop-index : goal.invariant-conjuncts::walk_next-loop-index
