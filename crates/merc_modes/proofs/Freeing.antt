@@ -7,7 +7,7 @@ use Rattle.merc_tree.specs.declared.declarations.ModeDecl.{ModeDecl}
 use Rattle.merc_goal_tree.specs.Nodes.{Node, Nodes, more_nodes}
 use Rattle.merc_goal_tree.specs.Parts.{parts_of}
 use Rattle.merc_goal_tree.specs.Variables.{variables}
-use Rattle.merc_order.specs.Bound.{Bound, among, with}
+use Rattle.merc_order.specs.Bound.{among, with}
 use Rattle.merc_order.specs.Order.{binds, from}
 use Rattle.merc_order.specs.Ordered.{is_ready}
 use Rattle.merc_goal_facts.specs.Facts.{AreFactsOf, all_subgoals}

@@ -2,9 +2,8 @@
 use Rattle.std.specs.Prelude.{◌≡◌, ◌≤◌, ◌==◌, ◌+◌, ◌-◌, ◌||◌, ◌&&◌, not, ℕ, zero, suc, Bool, true, false, List, [], ◌∷◌, ◌++◌, length, take, drop, slice_get, Option, Some, None, refl, if◌then◌else◌}
 use Rattle.std.specs.List.{filter}
 use Rattle.std.specs.Option.{option_to_list}
-use Rattle.std.proofs.Common.{◌∙◌, ap, sym, subst, arith}
-use Rattle.std.proofs.lemmas.Bool.{eqb-true}
-use Rattle.std.proofs.lemmas.List.{append-nil, append_assoc, take-append-drop, take-take, drop-take, drop_at, take_at}
+use Rattle.std.proofs.Common.{◌∙◌, ap, sym, arith}
+use Rattle.std.proofs.lemmas.List.{append-nil, drop-take, drop_at, take_at}
 use Rattle.std.proofs.lemmas.List.Elements.{filter-append}
 use mathlib.Core.Path.{fun_ext}
 use Rattle.merc_tree.specs.declared.declarations.ModeDecl.{ModeDecl}
@@ -18,7 +17,6 @@ use Rattle.merc_goal_facts.specs.Outside.{IsStretch, occurs_outside}
 use Rattle.merc_modes.specs.Outputs.{is_output, kept}
 use Rattle.merc_goal_facts.specs.Reaches.{new_among, first_since}
 use Rattle.merc_goal_facts.specs.declared.facts.Facts.{Facts}
-use Rattle.merc_goal_facts.proofs.Bounds.{among-append}
 use Rattle.merc_goal_facts.proofs.Found.{among-filter, among-all_behind}
 use Rattle.merc_goal_facts.proofs.Outside.{outside_stretch}
 

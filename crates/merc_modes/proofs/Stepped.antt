@@ -36,7 +36,7 @@ use Rattle.merc_readiness.proofs.Blank.{inner_marks, all_blank, all_blank_fits, 
 use Rattle.merc_readiness.proofs.Conjunctions.{left_length}
 use Rattle.merc_readiness.proofs.Marking.{marks_length, own_mark, middle, put_middle, parts_length, subgoals_end, all_subgoals_length}
 use Rattle.merc_modes.proofs.Agreeing.{from_same}
-use Rattle.merc_modes.proofs.Emitted.{none_written, behind_on, behind_ready, written_on}
+use Rattle.merc_modes.proofs.Emitted.{none_written, behind_on, written_on}
 use Rattle.merc_modes.proofs.Resuming.{at_is, own_is, head_is, index_within, variables_next, variables_longer, known_from, rest_from, agrees, left_before, stuck_before, Apart, apart}
 use Rattle.merc_modes.proofs.Settling.{settled_goes, told_fault, told_ready}
 use Rattle.merc_modes.proofs.Walked.{known_next, next_stretch, stretch_within}

@@ -1,6 +1,5 @@
-use Rattle.std.proofs.Common.{◌≡◌, ◌+◌, ◌≤◌, ◌<◌, ◌∙◌, ◌++◌, ◌∷◌, ℕ, List, [], suc, length, drop, ap, sym, subst, arith}
+use Rattle.std.proofs.Common.{◌≡◌, ◌+◌, ◌<◌, ◌∙◌, ◌++◌, ◌∷◌, ℕ, List, [], suc, length, drop, ap, sym, subst, arith}
 use Rattle.std.proofs.lemmas.List.{length-append}
-use Rattle.merc_goal_tree.specs.Parts.{parts_of}
 use Rattle.merc_modes.specs.Agenda.{start_at}
 use Rattle.merc_modes.specs.Positions.{IsAt, IsPlaced}
 use Rattle.merc_modes.specs.declared.agenda.Start.{Start}

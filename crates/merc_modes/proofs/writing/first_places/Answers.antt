@@ -1,5 +1,5 @@
-use Rattle.std.proofs.Common.{◌+◌, ◌∙◌, sym, subst, take, arith}
-use Rattle.std.proofs.lemmas.List.{take_all, take_more}
+use Rattle.std.proofs.Common.{◌+◌, sym, subst, take, arith}
+use Rattle.std.proofs.lemmas.List.{take_all}
 use Rattle.std.proofs.lemmas.List.Filters.{dedup_is}
 use Rattle.merc_modes.specs.Places.{AreFirstPlaces}
 use Rattle.merc_modes.proofs.Firsts.{AreFirsts, next_firsts, next_same, firsts_sorted}

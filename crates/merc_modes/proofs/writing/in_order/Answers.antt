@@ -1,4 +1,4 @@
-use Rattle.std.proofs.Common.{◌∷◌, [], ◌∙◌, ap, sym, subst, refl}
+use Rattle.std.proofs.Common.{◌∷◌, [], ◌∙◌, sym, subst}
 use Rattle.merc_modes.specs.Places.{AreFirstPlaces}
 use Rattle.merc_modes.proofs.Firsts.{gathered_all, one_is}
 use Rattle.merc_modes.proofs.writing.in_order.Goals as goal

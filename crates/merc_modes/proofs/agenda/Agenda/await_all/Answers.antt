@@ -1,4 +1,4 @@
-use Rattle.std.proofs.Common.{◌≡◌, ◌+◌, ◌∙◌, take, slice_index_or, ap, sym, subst, refl, arith}
+use Rattle.std.proofs.Common.{◌∙◌, take, slice_index_or, ap, sym, subst, refl, arith}
 use Rattle.merc_modes.specs.Agenda.{AwaitsAgain}
 use Rattle.merc_modes.specs.Places.{places_within}
 use Rattle.merc_modes.proofs.Awaiting.{none_more, item_is, take_item, start_is, variables_more}

@@ -1,5 +1,5 @@
-use Rattle.std.proofs.Common.{◌≡◌, ◌+◌, ◌≤◌, ◌<◌, ◌∙◌, ℕ, List, suc, take, length, slice_index_or, ap, sym, subst, refl, arith}
-use Rattle.merc_modes.specs.Agenda.{start_at, Holds, IsSound, AwaitsPlaces}
+use Rattle.std.proofs.Common.{◌≡◌, ◌+◌, ◌<◌, ◌∙◌, suc, take, slice_index_or, ap, sym, subst, refl, arith}
+use Rattle.merc_modes.specs.Agenda.{Holds, IsSound, AwaitsPlaces}
 use Rattle.merc_modes.specs.declared.agenda.Agenda.{Agenda}
 use Rattle.merc_modes.proofs.Awaiting.{take_item, start_is, places_more, place_own, place_other, put_below, put_more, put_there}
 use Rattle.merc_modes.proofs.agenda.Agenda.await_places.Goals as goal
