@@ -1,5 +1,5 @@
 -- Going back to a caller.
-use Rattle.std.proofs.Common.{◌≡◌, ℕ, suc, ◌+◌, ◌-◌, ◌<◌, ◌≤◌, List, ◌∷◌, length, take, Some, slice_get, slice_index_or, refl, sym, ap, ◌∙◌, subst, arith}
+use Rattle.std.proofs.Common.{◌≡◌, ℕ, suc, ◌+◌, ◌-◌, ◌<◌, ◌≤◌, List, [], ◌∷◌, length, take, Option, Some, None, slice_get, slice_set, slice_index_or, refl, sym, ap, ◌∙◌, subst, arith}
 use Rattle.merc_frames.specs.declared.slot.Slot.{Slot}
 use Rattle.merc_frames.specs.Handing.{carried, delivered}
 use Rattle.merc_frames.specs.Stacks.{Caller, Stacks}
@@ -8,7 +8,7 @@ use Rattle.merc_frames.specs.declared.kept.Saved.{Saved}
 use Rattle.merc_frames.specs.declared.kept.Kept.{Kept}
 use Rattle.merc_frames.proofs.Stays.{chain_fuel}
 use Rattle.std.proofs.lemmas.Option.{slice_get_read}
-use Rattle.merc_frames.specs.Stacks.{GivesBack}
+use Rattle.merc_frames.specs.Stacks.{GivesBack, GivesSlots}
 use Rattle.merc_frames.proofs.Built.{Built}
 use Rattle.merc_frames.proofs.Moving.{moved_fine, moved_view, grown_length}
 use Rattle.merc_frames.proofs.Newest.{bounded, counted_newest, settled_fine, settled_view}
@@ -29,6 +29,23 @@ given_back : (before after : Stacks) (own outs : List ℕ) (place : ℕ) (slots 
     → after ≡ record { current = delivered outs (carried own before.current) slots; callers = callers; choices = before.choices } → GivesBack before after own outs (Some place)
 given_back before after own outs place slots callers p q =
     (slots, p ∙ ap (λ (x : Stacks). record { place = place; slots = slots } ∷ x.callers) (sym q), ap (λ (x : Stacks). x.current) q, ap (λ (x : Stacks). x.choices) q)
+
+-- a slot for the first output
+one_delivered : (outs : List ℕ) (to : List Slot) → delivered outs [] to ≡ to
+one_delivered [] to = refl
+one_delivered (out ∷ outs) to = refl
+
+-- A slot is given where nothing was given and then the first output's slot is written.
+pub slot_given : (before between after : Stacks) (outs : List ℕ) (out found : ℕ) (slot : Slot) (place : Option ℕ) (at : ℕ) → place ≡ Some at → 1 ≤ length outs → out ≡ found → found ≡ slice_index_or outs 0 found
+    → GivesBack before between [] [] place → after ≡ record between { current = slice_set between.current out slot } → GivesSlots before after (slot ∷ []) outs place
+slot_given before between after outs out found slot None at is some same first gives set = absurd cc
+slot_given before between after [] out found slot (Some place) at is some same first gives set = absurd (omega (arith, some))
+slot_given before between after (first_out ∷ outs) out found slot (Some place) at is some same first gives set = (
+  gives.0,
+  gives.1 ∙ ap (λ (x : Stacks). record { place = place; slots = gives.0 } ∷ x.callers) (sym set),
+  ap (λ (x : Stacks). x.current) set ∙ ap (λ n. slice_set between.current n slot) (same ∙ first) ∙ ap (λ slots. slice_set slots first_out slot) gives.2 ∙ sym (one_delivered outs (slice_set gives.0 first_out slot)),
+  ap (λ (x : Stacks). x.choices) set ∙ gives.3,
+)
 
 module _ (w : List Slot) (saved : List Saved) (cs : List Kept) (base size h : ℕ) (s : Saved) (f : Fine w saved cs base size h) (l : 0 < h) (e : slice_get saved (h - 1) ≡ Some s) where
   pub return_callers : callers_of w saved h ≡ record { place = s.place; slots = frame_of w s.base s.size } ∷ callers_of w saved s.parent

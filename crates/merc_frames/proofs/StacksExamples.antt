@@ -5,7 +5,7 @@ use Rattle.merc_frames.specs.declared.passing.Pass.{Pass}
 use Rattle.merc_frames.specs.declared.slot.Slot.{Slot}
 use Rattle.merc_frames.specs.declared.slot.Slot.TheVariants.{Empty, Cell}
 use Rattle.merc_frames.specs.declared.frames.Backed.TheVariants.{End as BackedEnd, Dead as BackedDead, On as BackedOn}
-use Rattle.merc_frames.specs.Stacks.{Caller, Dead, GoesOn, Stacks, caller_place, oldest, softened, Opens, Enters, Renews, GivesBack, GoesBack}
+use Rattle.merc_frames.specs.Stacks.{Caller, Dead, GoesOn, Stacks, caller_place, oldest, softened, Opens, Enters, Renews, GivesSlots, GivesBack, GoesBack}
 
 abbrev one : List Slot
 one = Cell 1 ∷ []
@@ -93,6 +93,15 @@ Renews-example = record { current = refl; callers = refl; choices = refl }
 -- a slot of the old frame stays
 pub Renews-counterexample : Renews outer (record { current = Cell 2 ∷ Cell 2 ∷ []; callers = []; choices = outer.choices }) 2 inputs → ⊥
 Renews-counterexample = λ renews. absurd (let current = renews.current in cc)
+
+-- a slot goes to slot 1 of the caller's frame
+pub GivesSlots-example : GivesSlots called (record outer { current = Cell 1 ∷ Cell 7 ∷ [] }) (Cell 7 ∷ []) (1 ∷ []) (Some 9)
+GivesSlots-example = (two, refl, refl, refl)
+
+-- one slot further
+pub GivesSlots-further : GivesSlots called (record outer { current = Cell 1 ∷ Cell 7 ∷ [] }) (Cell 7 ∷ []) (0 ∷ []) (Some 9) → ⊥
+GivesSlots-further = λ gives. absurd (let same : two ≡ gives.0 = ap newest_slots gives.1 in
+    let current : Cell 1 ∷ Cell 7 ∷ [] ≡ Cell 7 ∷ Cell 2 ∷ [] = gives.2 ∙ ap (λ slots. delivered (0 ∷ []) (Cell 7 ∷ []) slots) (sym same) in cc)
 
 -- what the called frame has in slot 0 goes to slot 1 of the caller's
 pub GivesBack-example : GivesBack called (record outer { current = Cell 1 ∷ Cell 2 ∷ [] }) (0 ∷ []) (1 ∷ []) (Some 9)

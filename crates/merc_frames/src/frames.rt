@@ -1,6 +1,6 @@
 //! Frames of slots in one list, with who called and the choice points.
 ghost use Rattle.std.specs.Prelude.{◌≡◌, ◌⊎◌, ◌+◌, ◌-◌, ◌≤◌, ℕ, [], ◌∷◌, length, nat_lt, Some, slice_get, slice_set, IfOk, OnOk, OnErr};
-ghost use Rattle.merc_frames.specs.Stacks.{Stacks, GoesOn, caller_place, oldest, softened, Opens, Enters, Renews, GivesBack, GoesBack};
+ghost use Rattle.merc_frames.specs.Stacks.{Stacks, GoesOn, caller_place, oldest, softened, Opens, Enters, Renews, GivesBack, GivesSlots, GoesBack};
 ghost use Rattle.merc_frames.specs.View.{larger, counted, lowered, caller_top, newest};
 ghost use Rattle.merc_frames.specs.declared.copying.TheConstants.{SPARE};
 ghost use Rattle.merc_frames.specs.declared.kept.Kept.{Kept};
@@ -194,6 +194,19 @@ impl Frames {
         } else {
             self.give_back_kept(own, outs)
         }
+    }
+
+    /// As `give_back`, of one slot that is put into the first of the caller's own. The current frame is not read.
+    #[inline(always)]
+    pub fn give_slot(&mut self, slot: Slot, outs: &[Var]) -> Result<Option<usize>, NoMemory>
+        ensures ok { IfOk result (λ place. GivesSlots self.old self.new (slot ∷ []) outs.now place) }
+        ensures err { OnErr result (self.new ≡ self.old) }
+    {
+        let place = self.give_back(&[], &[])?;
+        if let (Some(_), [out, ..]) = (place, outs) {
+            self.set(out.number(), slot);
+        }
+        Ok(place)
     }
 
     // Goes back to the newest caller, if there is one: in a copy of its frame, which the newest choice point keeps.

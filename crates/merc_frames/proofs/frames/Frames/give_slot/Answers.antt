@@ -1,0 +1,7 @@
+use Rattle.merc_frames.proofs.Returning.{slot_given}
+use Rattle.merc_frames.proofs.frames.Frames.give_slot.Goals as goal
+
+pub returns-in-Some-len1-up-clause-ok : goal.returns-in-Some-len1-up-clause-ok
+returns-in-Some-len1-up-clause-ok c =
+    slot_given c.args.self.now c.give_back.new.self c.set.new.self c.args.outs.now c.number.result c.out-item.result c.args.slot c.in_ok-place.place c.in-Some-len1-up.field-0-0 c.in-Some-len1-up.is-0
+    c.in-Some-len1-up.len_at_least c.number.ensures c.out-item.is c.in_ok-place.ensures.ok c.set.ensures.after
