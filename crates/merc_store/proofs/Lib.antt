@@ -12,5 +12,7 @@ pub mod FillLemmas
 pub mod PerformLemmas
 pub mod ConstantLemmas
 pub mod NumberLemmas
+pub mod ReturningLemmas
+pub mod ResultsExamples
 pub mod SeveralLemmas
 pub mod RestoringLemmas

@@ -10,5 +10,6 @@ pub mod MovesExamples
 pub mod DataExamples
 pub mod Performing
 pub mod PerformingExamples
+pub mod Results
 pub mod Several
 pub mod SeveralExamples

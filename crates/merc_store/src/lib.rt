@@ -7,6 +7,7 @@ mod carrying;
 pub mod constants;
 pub mod moving;
 pub mod performing;
+pub mod returning;
 pub mod several;
 mod splitting;
 pub mod store;
