@@ -12,6 +12,7 @@ ghost use Rattle.merc_heap.specs.Heap.{arguments_in, word_of};
 ghost use Rattle.merc_store.specs.Fitting.{FitsFrame};
 ghost use Rattle.merc_store.specs.Performing.{Does, head_of, stored, word_at};
 
+use crate::testing::tested;
 use crate::{Done, Store};
 use merc_base::Name;
 use merc_code::{Instruction, Target};
@@ -39,7 +40,7 @@ impl Store {
     {
         let Some(place) = self.cell(whole) else {
             // Another value has no arguments.
-            return self.literal(whole, symbol);
+            return self.literal_apart(whole, symbol);
         };
         let (head, fields) = cell_in(&self.heap, place);
         if is_head(*symbol, &head) {
@@ -50,7 +51,30 @@ impl Store {
         }
     }
 
+    // Most literals are integers: of these the numbers alone are compared.
+    #[inline(always)]
     pub(crate) fn literal(&self, whole: Var, symbol: &Symbol) -> Done
+        ensures { Does self.now self.now (Instruction.Literal whole symbol.now) result }
+    {
+        match *symbol {
+            Symbol::Integer(number) => self.integer_literal(whole, number),
+            _ => self.literal_apart(whole, symbol),
+        }
+    }
+
+    #[inline(always)]
+    fn integer_literal(&self, whole: Var, number: i64) -> Done
+        ensures { Does self.now self.now (Instruction.Literal whole (Symbol.Integer number)) result }
+    {
+        match self.integer(whole) {
+            Some(found) => tested(number == found),
+            None => Done::Failed,
+        }
+    }
+
+    // Of any literal. It is not put into what calls it, which would become too large.
+    #[inline(never)]
+    fn literal_apart(&self, whole: Var, symbol: &Symbol) -> Done
         ensures { Does self.now self.now (Instruction.Literal whole symbol.now) result }
     {
         let Some(word) = self.word(whole) else {

@@ -1,6 +1,6 @@
 //! Tests of values, and arithmetic.
-ghost use Rattle.std.specs.Prelude.{IfOk};
-ghost use Rattle.merc_store.specs.Performing.{Does};
+ghost use Rattle.std.specs.Prelude.{◌≡◌, IfOk};
+ghost use Rattle.merc_store.specs.Performing.{Does, tested};
 
 use crate::{Done, Store};
 use merc_arithmetic::{compute, holds};
@@ -59,4 +59,12 @@ impl Store {
             Done::Failed
         }
     }
+}
+
+// How a test ends.
+#[inline(always)]
+pub(crate) fn tested(holds: bool) -> Done
+    ensures { result ≡ tested holds }
+{
+    if holds { Done::Bound } else { Done::Failed }
 }

@@ -1,16 +1,11 @@
-use Rattle.std.proofs.Common.{sym, ◌∙◌}
-use Rattle.merc_store.proofs.KindLemmas.{literal_lacks, literal_does, literal_fails}
-use Rattle.merc_store.proofs.ReadingLemmas.{none_of}
-use Rattle.merc_value.specs.Block.{value_of}
+use Rattle.std.proofs.Common.{rules, FitsSigned, sym, ap, subst, ◌∙◌, to_z-of_z}
+use Rattle.std.specs.Int.{w64}
+use Rattle.merc_goal_tree.specs.declared.goal.Symbol.TheVariants.{Integer}
+use Rattle.merc_code.specs.declared.instruction.Instruction.TheVariants.{Literal}
+use Rattle.merc_store.specs.Performing.{Does}
 use Rattle.merc_store.proofs.store.Store.literal.Goals as goal
 
-pub returns-in_default : goal.returns-in_default
-returns-in_default c = literal_lacks c.args.self.now c.args.whole c.args.symbol.now (sym c.word.ensures.word ∙ none_of c.word.result c.in_default.not-Some)
-
-pub returns-then-is_head : goal.returns-then-is_head
-returns-then-is_head c = literal_does c.args.self.now c.args.whole c.args.symbol.now c.in-Some.word (sym c.word.ensures.word ∙ c.in-Some.is)
-    (sym (c.is_head.ensures (value_of c.args.self.now.cells c.in-Some.word) c.head.ensures) ∙ c.if-is_head.true)
-
-pub returns-else-is_head : goal.returns-else-is_head
-returns-else-is_head c = literal_fails c.args.self.now c.args.whole c.args.symbol.now c.in-Some.word (sym c.word.ensures.word ∙ c.in-Some.is)
-    (sym (c.is_head.ensures (value_of c.args.self.now.cells c.in-Some.word) c.head.ensures) ∙ c.if-is_head.false)
+pub returns-in-Integer : goal.returns-in-Integer
+returns-in-Integer c =
+    let fits : FitsSigned w64 c.in-Integer.number = search rules in
+    subst (λ symbol. Does c.args.self.now c.args.self.now (Literal c.args.whole symbol) c.integer_literal.result) (ap Integer (to_z-of_z fits) ∙ sym c.in-Integer.is) c.integer_literal.ensures

@@ -14,7 +14,7 @@ use Rattle.merc_store.proofs.KindLemmas.{does_same, split_plain, split_fails, sp
 use Rattle.merc_store.proofs.store.Store.split.Goals as goal
 
 pub returns-in_default : goal.returns-in_default
-returns-in_default c = split_plain c.args.self.now c.args.whole c.args.symbol.now c.args.variables.now c.in_default.ensures.none c.args.self.now c.literal.result c.literal.ensures
+returns-in_default c = split_plain c.args.self.now c.args.whole c.args.symbol.now c.args.variables.now c.in_default.ensures.none c.args.self.now c.literal_apart.result c.literal_apart.ensures
 
 pub invariant_of-self : goal.invariant_of-self
 invariant_of-self c =
