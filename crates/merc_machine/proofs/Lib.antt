@@ -1,4 +1,5 @@
 pub mod Advancing
+pub mod Attempts
 pub mod CallSteps
 pub mod ChoicePoints
 pub mod Choosing

@@ -9,6 +9,7 @@ mod controlling;
 pub mod machine;
 pub mod running;
 mod stepping;
+mod trying;
 
 pub use machine::Machine;
 pub use running::{Stop, Ticks};

@@ -12,5 +12,6 @@ pub mod several;
 mod splitting;
 pub mod store;
 mod testing;
+pub mod trying;
 
 pub use store::{Backed, Done, Store};
