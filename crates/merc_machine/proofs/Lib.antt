@@ -1,4 +1,5 @@
 pub mod Advancing
+pub mod Asking
 pub mod Attempts
 pub mod CallSteps
 pub mod ChoicePoints
@@ -24,6 +25,7 @@ pub mod Passing
 pub mod Performing
 pub mod Places
 pub mod Reading
+pub mod Resulting
 pub mod Returning
 pub mod Runs
 pub mod Shown

@@ -5,6 +5,7 @@ mod answering;
 mod branching;
 mod calling;
 mod combined;
+mod conditions;
 mod controlling;
 pub mod machine;
 pub mod running;
