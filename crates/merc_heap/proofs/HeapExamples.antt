@@ -1,32 +1,62 @@
--- What the definitions of Heap say of a small heap: the pair of a text with itself, and the pair of that pair with 7.
+-- What the definitions of Heap say of a small heap: the pair of a text with itself, the pair of that pair with 7, and `yes` of that.
 use Rattle.std.proofs.Common.{◌≡◌, pos, List, [], ◌∷◌, refl, arith}
-use Rattle.merc_base.specs.Names.{cons_name, nil_name}
+use Rattle.merc_base.specs.Names.{cons_name, nil_name, yes_name}
 use Rattle.merc_value.specs.Value.{Value, Int, Text, Con, none, more}
 use Rattle.merc_value.specs.Block.{cell_values, value_of}
 use Rattle.merc_value.specs.declared.word.Word.TheVariants.{Int as IntWord, Cell as CellWord}
+use Rattle.merc_heap.specs.Functors.{functor_numbered, list_functor, no_functor, Extends}
 use Rattle.merc_heap.specs.Heap.{cells_of, IsFlat, arguments_in}
+use Rattle.merc_heap.specs.declared.functors.Functor.{Functor}
 use Rattle.merc_heap.specs.declared.slot.Slot.{Slot}
-use Rattle.merc_heap.specs.declared.slot.Slot.TheVariants.{Integer, Text as TextSlot, Cell as CellSlot, Header}
+use Rattle.merc_heap.specs.declared.slot.Slot.TheVariants.{Integer, Text as TextSlot, Cell as CellSlot}
+
+abbrev others : List Functor
+others = record { symbol = yes_name; arity = 1 } ∷ []
 
 abbrev small : List Slot
-small = TextSlot nil_name ∷ TextSlot nil_name ∷ Header 2 cons_name ∷ CellSlot 2 ∷ Integer (pos 7) ∷ Header 2 cons_name ∷ []
+small = TextSlot 0 nil_name ∷ TextSlot 1 nil_name ∷ CellSlot 0 1 ∷ Integer 1 (pos 7) ∷ CellSlot 2 3 ∷ []
 
 abbrev pair : Value
 pair = Con cons_name (more (Text nil_name) (more (Text nil_name) none))
 
-pub value_of-example : value_of (cells_of small) (CellWord 5) ≡ Con cons_name (more pair (more (Int (pos 7)) none))
+pub value_of-example : value_of (cells_of others small) (CellWord 4) ≡ Con yes_name (more (Con cons_name (more pair (more (Int (pos 7)) none))) none)
 unfolding cells_of cell_values
 value_of-example = refl
 
-pub arguments_in-example : arguments_in (cells_of small) (CellWord 5) ≡ CellWord 2 ∷ IntWord (pos 7) ∷ []
+pub arguments_in-example : arguments_in (cells_of others small) (CellWord 3) ≡ CellWord 1 ∷ IntWord (pos 7) ∷ []
 unfolding cells_of
 arguments_in-example = refl
 
+-- no cell ends with the first field of one
+pub arguments_in-inner : arguments_in (cells_of others small) (CellWord 2) ≡ []
+unfolding cells_of
+arguments_in-inner = refl
+
 -- a cell does not stand for its field
-pub value_of-counterexample : value_of (cells_of small) (CellWord 5) ≡ Int (pos 7) → ⊥
+pub value_of-counterexample : value_of (cells_of others small) (CellWord 3) ≡ Int (pos 7) → ⊥
 unfolding cells_of cell_values
 value_of-counterexample same = cc
 
--- a header that counts more fields than there are places before it
-pub IsFlat-counterexample : IsFlat (Header 1 cons_name ∷ []) → ⊥
-IsFlat-counterexample flat = omega (arith, flat.room 0 1 cons_name refl)
+-- a cell with more fields than there are up to its place
+pub IsFlat-counterexample : IsFlat others (Integer 1 (pos 7) ∷ []) → ⊥
+IsFlat-counterexample flat = omega (arith, flat.room 0 (Integer 1 (pos 7)) refl)
+
+-- a number that no constructor has
+pub IsFlat-counterexample-known : IsFlat others (Integer 3 (pos 7) ∷ []) → ⊥
+IsFlat-counterexample-known flat = omega (arith, flat.known 0 (Integer 3 (pos 7)) refl)
+
+pub functor_numbered-example : functor_numbered others 2 ≡ record { symbol = yes_name; arity = 1 }
+functor_numbered-example = refl
+
+pub functor_numbered-list : functor_numbered others 1 ≡ list_functor
+functor_numbered-list = refl
+
+pub functor_numbered-none : functor_numbered others 3 ≡ no_functor
+functor_numbered-none = refl
+
+pub Extends-example : Extends [] others
+Extends-example = record { more = others; grown = refl }
+
+-- a functor is lost
+pub Extends-counterexample : Extends others [] → ⊥
+Extends-counterexample extends = let grown = extends.grown in cc

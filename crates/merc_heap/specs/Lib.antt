@@ -1,2 +1,3 @@
+pub mod Functors
 pub mod Heap
 pub mod Equality

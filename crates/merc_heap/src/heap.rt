@@ -1,11 +1,14 @@
 //! The heap: one flat list of cells.
 ghost use Rattle.std.specs.Prelude.{◌≡◌, ◌+◌, ◌++◌, ◌∷◌, ◌<◌, ◌≤◌, [], Some, length, map, take, slice_get, IfOk, OnOk, OnErr};
 ghost use Rattle.std.specs.List.{All};
+ghost use Rattle.std.specs.Vec.{vec_len, vec_capacity};
 ghost use Rattle.merc_value.specs.Value.{Con};
 ghost use Rattle.merc_value.specs.Block.{AreLower, IsBelow, word_values, cell_values, value_of};
 ghost use Rattle.merc_value.specs.Sharing.{IsWordFor};
-ghost use Rattle.merc_heap.specs.Heap.{Keeps, IsFlat, cell_ending, field_of, word_of, arguments_in, symbol_of};
+ghost use Rattle.merc_heap.specs.Functors.{inner_number};
+ghost use Rattle.merc_heap.specs.Heap.{Keeps, IsFlat, cell_ending, slot_of, word_of, arguments_in, symbol_of};
 
+use crate::functors::{Functor, Functors, INNER};
 use crate::slot::Slot;
 use merc_base::{Name, NoMemory};
 use merc_value::Word;
@@ -42,12 +45,13 @@ impl Mark {
     }
 }
 
-/// Cells on one flat list: the fields of each, and then its header, which names the constructor and counts the fields.
-/// It is seen as the list of what ends at each place.
+/// Cells on one flat list of their fields. The last field of each names the constructor, by a number, which tells how many
+/// fields there are. It is seen as the list of what ends at each place.
 #[derive(Drop)]
 pub struct Heap {
     alloc: Global,
     slots: Vec<Slot>,
+    functors: Functors,
 }
 
 impl Model for Heap {
@@ -57,9 +61,9 @@ impl Model for Heap {
 
     ghost Value = { List CellData };
 
-    ghost view = { λ h. cells_of h.slots.items };
+    ghost view = { λ h. cells_of h.functors h.slots.items };
 
-    ghost invariant = { λ h. IsFlat h.slots.items };
+    ghost invariant = { λ h. IsFlat h.functors h.slots.items };
 }
 
 impl Heap {
@@ -70,11 +74,12 @@ impl Heap {
         Heap {
             alloc,
             slots: Vec::new(alloc),
+            functors: Functors::new(alloc),
         }
     }
 
     /// Puts a constructor with these arguments behind the other cells, and gives the word for it. Where memory is
-    /// refused the heap is unchanged, and so where there are 2^32 arguments or more, which no header counts.
+    /// refused the heap is unchanged, and so where no number of 32 bits is left for a constructor without cells so far.
     #[inline(always)]
     pub fn build(&mut self, symbol: Name, arguments: &[Word]) -> Result<Word, NoMemory>
         requires { All (IsBelow (length self.old)) arguments.now }
@@ -83,10 +88,11 @@ impl Heap {
         ensures front { OnOk result (take (length self.old) self.new ≡ self.old) }
         ensures err { OnErr result (self.new ≡ self.old) }
     {
-        if arguments.is_empty() {
+        let Some((last, front)) = arguments.split_last() else {
             return Ok(Word::Atom(symbol));
-        }
-        let place = push_cell(&mut self.slots, symbol, arguments)?;
+        };
+        let number = self.functors.number(symbol, arguments.len())?;
+        let place = push_cell(&mut self.slots, number, front, *last)?;
         Ok(Word::Cell(place))
     }
 
@@ -99,7 +105,7 @@ impl Heap {
             Word::Int(_) => None,
             Word::Text(_) => None,
             Word::Atom(symbol) => Some(symbol),
-            Word::Cell(place) => Some(symbol_at(&self.slots, place)),
+            Word::Cell(place) => Some(functor_at(&self.functors, &self.slots, place).symbol),
         }
     }
 
@@ -111,7 +117,7 @@ impl Heap {
         ensures fields { map word_of result.1.now ≡ arguments_in self.now (Word.Cell place) }
         ensures lower { AreLower self.now }
     {
-        cell_at(&self.slots, place)
+        cell_at(&self.functors, &self.slots, place)
     }
 
     /// The number of the fields of a word, 0 for all but a cell.
@@ -121,7 +127,7 @@ impl Heap {
         ensures lower { AreLower self.now }
     {
         match word {
-            Word::Cell(place) => arity_at(&self.slots, place),
+            Word::Cell(place) => functor_at(&self.functors, &self.slots, place).arity,
             _ => 0,
         }
     }
@@ -137,7 +143,7 @@ impl Heap {
         ensures { result ≡ slice_get (arguments_in self.now word) index }
     {
         match word {
-            Word::Cell(place) => field_at(&self.slots, place, index),
+            Word::Cell(place) => field_at(&self.functors, &self.slots, place, index),
             _ => None,
         }
     }
@@ -159,71 +165,74 @@ impl Heap {
     }
 }
 
-// The constructor of the cell that ends at a place.
-fn symbol_at(slots: &[Slot], place: usize) -> Name
+// The constructor of the cell that ends at a place, with the number of its fields.
+#[inline(always)]
+fn functor_at(functors: &Functors, slots: &[Slot], place: usize) -> Functor
     requires within { place < length slots.now }
-    ensures { result ≡ (cell_ending slots.now place).symbol }
+    requires flat { IsFlat functors.now slots.now }
+    ensures symbol { result.symbol ≡ (cell_ending functors.now slots.now place).symbol }
+    ensures arity { result.arity ≡ length (cell_ending functors.now slots.now place).arguments }
 {
-    match slots[place] {
-        Slot::Header(_, symbol) => symbol,
-        _ => Name::NIL,
-    }
+    functors.functor(slots[place].number())
 }
 
-// The number of the fields of the cell that ends at a place.
-fn arity_at(slots: &[Slot], place: usize) -> usize
+// The constructor of the cell that ends at a place, and its fields.
+#[inline(always)]
+fn cell_at<'a>(functors: &Functors, slots: &'a [Slot], place: usize) -> (Name, &'a [Slot])
     requires within { place < length slots.now }
-    requires flat { IsFlat slots.now }
-    ensures { result ≡ length (cell_ending slots.now place).arguments }
+    requires flat { IsFlat functors.now slots.now }
+    ensures symbol { result.0 ≡ (cell_ending functors.now slots.now place).symbol }
+    ensures fields { map word_of result.1.now ≡ (cell_ending functors.now slots.now place).arguments }
 {
-    match slots[place] {
-        Slot::Header(arity, _) => arity as usize,
-        _ => 0,
-    }
-}
-
-// The constructor of the cell that ends at a place, and its fields, which lie right before its header.
-fn cell_at(slots: &[Slot], place: usize) -> (Name, &[Slot])
-    requires within { place < length slots.now }
-    requires flat { IsFlat slots.now }
-    ensures symbol { result.0 ≡ (cell_ending slots.now place).symbol }
-    ensures fields { map word_of result.1.now ≡ (cell_ending slots.now place).arguments }
-{
-    match slots[place] {
-        Slot::Header(arity, symbol) => (symbol, &slots[place - arity as usize..place]),
-        _ => (Name::NIL, &slots[0..0]),
-    }
+    let functor = functor_at(functors, slots, place);
+    let end = place + 1;
+    (functor.symbol, &slots[end - functor.arity..end])
 }
 
 // The field of this number of the cell that ends at a place, from 0.
-fn field_at(slots: &[Slot], place: usize, index: usize) -> Option<Word>
+fn field_at(functors: &Functors, slots: &[Slot], place: usize, index: usize) -> Option<Word>
     requires within { place < length slots.now }
-    requires flat { IsFlat slots.now }
-    ensures { result ≡ slice_get (cell_ending slots.now place).arguments index }
+    requires flat { IsFlat functors.now slots.now }
+    ensures { result ≡ slice_get (cell_ending functors.now slots.now place).arguments index }
 {
-    match slots[place] {
-        Slot::Header(arity, _) if index < arity as usize => {
-            Some(slots[place - arity as usize + index].word())
-        }
-        _ => None,
+    let (_, fields) = cell_at(functors, slots, place);
+    if index < fields.len() {
+        Some(fields[index].word())
+    } else {
+        None
     }
 }
 
-// Puts a cell behind the others, and gives the place of its header. Where memory is refused nothing is put there.
+// Puts a cell behind the others, whose constructor has this number, and gives the place of its last field. Where memory is
+// refused nothing is put there.
 #[inline(always)]
-fn push_cell(slots: &mut Vec<Slot>, symbol: Name, arguments: &[Word]) -> Result<usize, NoMemory>
-    ensures place { IfOk result (λ place. place ≡ length slots.old.items + length arguments.now) }
-    ensures ok { OnOk result (slots.new.items ≡ (slots.old.items ++ map field_of arguments.now) ++ Slot.Header (length arguments.now) symbol ∷ []) }
+fn push_cell(
+    slots: &mut Vec<Slot>,
+    number: u32,
+    front: &[Word],
+    last: Word,
+) -> Result<usize, NoMemory>
+    ensures place { IfOk result (λ place. place ≡ length slots.old.items + length front.now) }
+    ensures ok { OnOk result (slots.new.items ≡ (slots.old.items ++ map (slot_of inner_number) front.now) ++ slot_of number last ∷ []) }
     ensures err { OnErr result (slots.new.items ≡ slots.old.items) }
 {
-    let Ok(arity) = u32::try_from(arguments.len()) else {
-        return Err(NoMemory);
-    };
-    let place = slots.len() + arguments.len();
-    slots.reserve(arguments.len() + 1)?;
-    for argument in arguments {
-        slots.push_reserved(Slot::field(*argument));
+    let place = slots.len() + front.len();
+    if place >= slots.capacity() {
+        grow(slots, front.len() + 1)?;
     }
-    slots.push_reserved(Slot::Header(arity, symbol));
+    for field in front {
+        slots.push_reserved(Slot::ending(INNER, *field));
+    }
+    slots.push_reserved(Slot::ending(number, last));
     Ok(place)
+}
+
+// Makes room for so many slots more. It is seldom missing, and what seldom runs is kept out of the callers' code.
+#[cold]
+#[inline(never)]
+fn grow(slots: &mut Vec<Slot>, count: usize) -> Result<(), NoMemory>
+    ensures items { slots.new.items ≡ slots.old.items }
+    ensures ok { OnOk result (vec_len slots.new + count ≤ vec_capacity slots.new) }
+{
+    Ok(slots.reserve(count)?)
 }

@@ -2,6 +2,7 @@
 #![tactic(auto)]
 
 mod equality;
+mod functors;
 pub mod heap;
 pub mod slot;
 

@@ -1,28 +1,21 @@
--- The number of the fields stands in the header.
-use Rattle.std.proofs.Common.{◌∙◌, ◌<◌, List, sym, subst, ap, length, arith}
-use Rattle.merc_value.specs.Block.{CellData, AreLower, IsBelow}
-use Rattle.merc_value.specs.Writing.{arguments_of, arguments_at}
+-- The number of the fields is the one of the arguments of the constructor whose number the last field has.
+use Rattle.std.proofs.Common.{◌∙◌, sym, subst, ap, length}
+use Rattle.merc_value.specs.Block.{AreLower, IsBelow}
 use Rattle.merc_value.specs.declared.word.Word.{Word}
-use Rattle.merc_heap.specs.Heap.{cell_ending, arguments_in}
-use Rattle.merc_heap.specs.declared.slot.Slot.{Slot}
-use Rattle.merc_heap.proofs.CellsLemmas.{length-cells_of, found_ending}
+use Rattle.merc_heap.specs.Heap.{arguments_in}
+use Rattle.merc_heap.proofs.CellsLemmas.{read_within, arguments_read}
 use Rattle.merc_heap.proofs.heap.Heap.arity.Goals as goal
 
-pub arity_at-requires-clause-within : goal.arity_at-requires-clause-within
-arity_at-requires-clause-within c =
-    let within : c.in-Cell.place < length c.args.self.now = subst (IsBelow (length c.args.self.now)) c.in-Cell.is c.requires in
-    let count = length-cells_of c.self.inside.slots.items in
-    let seen = ap length c.self.view_is in
-    let items = ap length c.deref.ensures.value in
-    omega (arith, within, count, seen, items)
+pub functor_at-requires-clause-within : goal.functor_at-requires-clause-within
+functor_at-requires-clause-within c =
+    read_within c.self.inside.functors c.self.inside.slots.items c.deref.result.now c.args.self.now c.in-Cell.place c.self.invariant c.self.view_is c.deref.ensures.value
+    (subst (IsBelow (length c.args.self.now)) c.in-Cell.is c.requires)
 
 pub returns-in-Cell-clause-arity : goal.returns-in-Cell-clause-arity
 returns-in-Cell-clause-arity c =
-    let within : c.in-Cell.place < length c.args.self.now = subst (IsBelow (length c.args.self.now)) c.in-Cell.is c.requires in
-    let within' : c.in-Cell.place < length c.self.inside.slots.items = omega (arith, within, length-cells_of c.self.inside.slots.items, ap length c.self.view_is) in
-    c.arity_at.ensures ∙ ap (λ (ss : List Slot). length (cell_ending ss c.in-Cell.place).arguments) c.deref.ensures.value
-    ∙ ap (λ o. length (arguments_of o)) (sym (found_ending c.self.inside.slots.items c.in-Cell.place within'))
-    ∙ ap (λ (cs : List CellData). length (arguments_at cs c.in-Cell.place)) c.self.view_is
+    c.functor_at.ensures.arity
+    ∙ ap length (sym (arguments_read c.self.inside.functors c.self.inside.slots.items c.deref.result.now c.args.self.now c.in-Cell.place c.self.invariant c.self.view_is c.deref.ensures.value
+    (subst (IsBelow (length c.args.self.now)) c.in-Cell.is c.requires)))
     ∙ ap (λ (w : Word). length (arguments_in c.args.self.now w)) (sym c.in-Cell.is)
 
 pub returns-in-Cell-clause-lower : goal.returns-in-Cell-clause-lower
