@@ -93,7 +93,7 @@ fn other_functor(others: &IndexSet<Functor>, number: u32) -> Functor
     }
 }
 
-// The number of a constructor with this number of arguments, which it is given where it has none.
+// The number of a constructor other than the one of lists, which it is given where it has none.
 #[inline(never)]
 fn other_number(
     others: &mut IndexSet<Functor>,
@@ -107,12 +107,25 @@ fn other_number(
     if is_number(others, *newest, symbol, arity) {
         return Ok(*newest);
     }
+    let number = sought_number(others, symbol, arity)?;
+    *newest = number;
+    Ok(number)
+}
+
+// The same where it is not the newest one. That is seldom asked, and kept out of the way.
+#[cold]
+#[inline(never)]
+fn sought_number(
+    others: &mut IndexSet<Functor>,
+    symbol: Name,
+    arity: usize,
+) -> Result<u32, NoMemory>
+    ensures number { IfOk result (λ number. slice_get (numbered others.new.keys) number ≡ Some (record { symbol = symbol; arity = arity })) }
+    ensures others { Extends others.old.keys others.new.keys }
+{
     let (index, _) = others.insert_full(Functor { symbol, arity })?;
     match u32::try_from(index) {
-        Ok(index) if index < u32::MAX - LIST => {
-            *newest = index + LIST + 1;
-            Ok(index + LIST + 1)
-        }
+        Ok(index) if index < u32::MAX - LIST => Ok(index + LIST + 1),
         _ => Err(NoMemory),
     }
 }
