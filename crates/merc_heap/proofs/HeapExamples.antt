@@ -4,7 +4,7 @@ use Rattle.merc_base.specs.Names.{cons_name, nil_name, yes_name}
 use Rattle.merc_value.specs.Value.{Value, Int, Text, Con, none, more}
 use Rattle.merc_value.specs.Block.{cell_values, value_of}
 use Rattle.merc_value.specs.declared.word.Word.TheVariants.{Int as IntWord, Cell as CellWord}
-use Rattle.merc_heap.specs.Functors.{functor_numbered, list_functor, no_functor, Extends}
+use Rattle.merc_heap.specs.Functors.{functor_numbered, inner_number, list_functor, list_number, no_functor, Extends}
 use Rattle.merc_heap.specs.Heap.{cells_of, IsFlat, arguments_in}
 use Rattle.merc_heap.specs.declared.functors.Functor.{Functor}
 use Rattle.merc_heap.specs.declared.slot.Slot.{Slot}
@@ -48,9 +48,13 @@ IsFlat-counterexample-known flat = omega (arith, flat.known 0 (Integer 3 (pos 7)
 pub functor_numbered-example : functor_numbered others 2 ≡ record { symbol = yes_name; arity = 1 }
 functor_numbered-example = refl
 
-pub functor_numbered-list : functor_numbered others 1 ≡ list_functor
+pub functor_numbered-list : functor_numbered others list_number ≡ list_functor
 functor_numbered-list = refl
 
+pub functor_numbered-inner : functor_numbered others inner_number ≡ no_functor
+functor_numbered-inner = refl
+
+-- a number that no constructor has
 pub functor_numbered-none : functor_numbered others 3 ≡ no_functor
 functor_numbered-none = refl
 

@@ -1,5 +1,5 @@
 //! The constructors of a heap's cells, by number.
-ghost use Rattle.std.specs.Prelude.{◌≡◌, ◌≢◌, [], Some, slice_get, IfOk, IsTrue};
+ghost use Rattle.std.specs.Prelude.{◌≡◌, ◌≢◌, ◌<◌, [], Some, slice_get, IfOk, IsTrue};
 ghost use Rattle.merc_heap.specs.Functors.{functor_numbered, list_number, numbered, Extends};
 
 use indexmap::IndexSet;
@@ -20,13 +20,17 @@ pub const INNER: u32 = 0;
 // The number of the constructor of lists.
 const LIST: u32 = 1;
 
+// The number of the first other constructor.
+const FIRST: u32 = 2;
+
+// How many constructors are looked through before one is sought by its hash, which takes longer.
+const FEW: u32 = 8;
+
 /// Constructors by number. The one of lists has its number from the start, and the others get theirs, from 2 on, where they
 /// are asked for it first. It is seen as the list of these others.
 #[derive(Drop)]
 pub struct Functors {
     others: IndexSet<Functor>,
-    // The number that was given last, which is the one that is often asked for next.
-    newest: u32,
 }
 
 impl Model for Functors {
@@ -45,7 +49,6 @@ impl Functors {
     {
         Functors {
             others: IndexSet::new(alloc),
-            newest: LIST,
         }
     }
 
@@ -73,7 +76,7 @@ impl Functors {
         if symbol == Name::CONS && arity == 2 {
             return Ok(LIST);
         }
-        other_number(&mut self.others, &mut self.newest, symbol, arity)
+        other_number(&mut self.others, symbol, arity)
     }
 }
 
@@ -82,8 +85,8 @@ fn other_functor(others: &IndexSet<Functor>, number: u32) -> Functor
     requires { number ≢ list_number }
     ensures { result ≡ functor_numbered others.now.keys number }
 {
-    if number > LIST {
-        if let Some(functor) = others.get_index((number - LIST - 1) as usize) {
+    if number >= FIRST {
+        if let Some(functor) = others.get_index((number - FIRST) as usize) {
             return *functor;
         }
     }
@@ -95,24 +98,19 @@ fn other_functor(others: &IndexSet<Functor>, number: u32) -> Functor
 
 // The number of a constructor other than the one of lists, which it is given where it has none.
 #[inline(never)]
-fn other_number(
-    others: &mut IndexSet<Functor>,
-    newest: &mut u32,
-    symbol: Name,
-    arity: usize,
-) -> Result<u32, NoMemory>
+fn other_number(others: &mut IndexSet<Functor>, symbol: Name, arity: usize) -> Result<u32, NoMemory>
     ensures number { IfOk result (λ number. slice_get (numbered others.new.keys) number ≡ Some (record { symbol = symbol; arity = arity })) }
     ensures others { Extends others.old.keys others.new.keys }
 {
-    if is_number(others, *newest, symbol, arity) {
-        return Ok(*newest);
+    for number in FIRST..FIRST + FEW {
+        if is_number(others, number, symbol, arity) {
+            return Ok(number);
+        }
     }
-    let number = sought_number(others, symbol, arity)?;
-    *newest = number;
-    Ok(number)
+    sought_number(others, symbol, arity)
 }
 
-// The same where it is not the newest one. That is seldom asked, and kept out of the way.
+// The same by its hash. That is seldom asked, and kept out of the way.
 #[cold]
 #[inline(never)]
 fn sought_number(
@@ -125,19 +123,19 @@ fn sought_number(
 {
     let (index, _) = others.insert_full(Functor { symbol, arity })?;
     match u32::try_from(index) {
-        Ok(index) if index < u32::MAX - LIST => Ok(index + LIST + 1),
+        Ok(index) if index <= u32::MAX - FIRST => Ok(index + FIRST),
         _ => Err(NoMemory),
     }
 }
 
-// Whether this is the number of that constructor, which is not the one of lists.
+// Whether this is the number of that constructor.
+#[inline(always)]
 fn is_number(others: &IndexSet<Functor>, number: u32, symbol: Name, arity: usize) -> bool
+    requires { list_number < number }
     ensures { IsTrue result → slice_get (numbered others.now.keys) number ≡ Some (record { symbol = symbol; arity = arity }) }
 {
-    if number > LIST {
-        if let Some(known) = others.get_index((number - LIST - 1) as usize) {
-            return known.symbol == symbol && known.arity == arity;
-        }
+    match others.get_index((number - FIRST) as usize) {
+        Some(known) => known.symbol == symbol && known.arity == arity,
+        None => false,
     }
-    false
 }
