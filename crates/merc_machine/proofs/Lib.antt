@@ -5,6 +5,7 @@ pub mod CallSteps
 pub mod ChoicePoints
 pub mod Choosing
 pub mod Combining
+pub mod ComingBack
 pub mod Continuing
 pub mod Counting
 pub mod Deciding
@@ -27,6 +28,7 @@ pub mod Places
 pub mod Reading
 pub mod Resulting
 pub mod Returning
+pub mod ReturningResults
 pub mod Runs
 pub mod Shown
 pub mod Silent

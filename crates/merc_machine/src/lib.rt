@@ -8,6 +8,7 @@ mod combined;
 mod conditions;
 mod controlling;
 pub mod machine;
+mod results;
 pub mod running;
 mod stepping;
 mod trying;
