@@ -202,11 +202,35 @@ impl Frames {
         ensures ok { IfOk result (λ place. GivesSlots self.old self.new (slot ∷ []) outs.now place) }
         ensures err { OnErr result (self.new ≡ self.old) }
     {
+        // the condition under which `give_back` copies no frame, so that only this way stands in the callers' code
+        if count_of(&self.choices, 0) < self.height {
+            self.put_slot(slot, outs)
+        } else {
+            self.put_slot_kept(slot, outs)
+        }
+    }
+
+    // The same, in either way.
+    #[inline(always)]
+    fn put_slot(&mut self, slot: Slot, outs: &[Var]) -> Result<Option<usize>, NoMemory>
+        ensures ok { IfOk result (λ place. GivesSlots self.old self.new (slot ∷ []) outs.now place) }
+        ensures err { OnErr result (self.new ≡ self.old) }
+    {
         let place = self.give_back(&[], &[])?;
         if let (Some(_), [out, ..]) = (place, outs) {
             self.set(out.number(), slot);
         }
         Ok(place)
+    }
+
+    // The same, where the newest choice point keeps the frame.
+    #[cold]
+    #[inline(never)]
+    fn put_slot_kept(&mut self, slot: Slot, outs: &[Var]) -> Result<Option<usize>, NoMemory>
+        ensures ok { IfOk result (λ place. GivesSlots self.old self.new (slot ∷ []) outs.now place) }
+        ensures err { OnErr result (self.new ≡ self.old) }
+    {
+        self.put_slot(slot, outs)
     }
 
     // Goes back to the newest caller, if there is one: in a copy of its frame, which the newest choice point keeps.

@@ -178,11 +178,26 @@ pub(crate) fn fill(frames: &mut Frames, variables: &[Var], fields: &[slot::Slot]
             put(frames, *two, second);
             put(frames, *three, third);
         }
+        _ => fill_more(frames, variables, fields),
+    }
+}
+
+// The same of more. It is not put into what calls it, which would become too large.
+#[inline(never)]
+fn fill_more(frames: &mut Frames, variables: &[Var], fields: &[slot::Slot])
+    ensures { frames.new ≡ record frames.old { current = stored variables.now (map word_of fields.now) frames.old.current } }
+{
+    match (variables, fields) {
+        ([one, two, three, four], [first, second, third, fourth]) => {
+            put(frames, *one, first);
+            put(frames, *two, second);
+            put(frames, *three, third);
+            put(frames, *four, fourth);
+        }
         _ => fill_each(frames, variables, fields),
     }
 }
 
-#[inline(never)]
 fn fill_each(frames: &mut Frames, variables: &[Var], fields: &[slot::Slot])
     ensures { frames.new ≡ record frames.old { current = stored variables.now (map word_of fields.now) frames.old.current } }
 {
@@ -193,7 +208,7 @@ fn fill_each(frames: &mut Frames, variables: &[Var], fields: &[slot::Slot])
 
 // Gives a variable the value of a field.
 #[inline(always)]
-fn put(frames: &mut Frames, variable: Var, field: &slot::Slot)
+pub(crate) fn put(frames: &mut Frames, variable: Var, field: &slot::Slot)
     ensures { frames.new ≡ record frames.old { current = slice_set frames.old.current variable (holding (word_of field.now)) } }
 {
     frames.set(variable.number(), Slot::holding(field.word()));

@@ -1,5 +1,5 @@
 use Rattle.merc_frames.proofs.Returning.{slot_given}
-use Rattle.merc_frames.proofs.frames.Frames.give_slot.Goals as goal
+use Rattle.merc_frames.proofs.frames.Frames.put_slot.Goals as goal
 
 pub returns-in-Some-len1-up-clause-ok : goal.returns-in-Some-len1-up-clause-ok
 returns-in-Some-len1-up-clause-ok c =
