@@ -28,14 +28,18 @@ pub fn compute(operation: Operation, left: i64, right: i64) -> Option<i64>
 }
 
 /// Whether a comparison of two integers holds.
+#[inline(always)]
 pub fn holds(test: Comparison, left: i64, right: i64) -> bool
     ensures { result ≡ comparison test left right }
 {
+    // chosen in two steps, for which no table of jumps is needed
+    let (one, other) = match test {
+        Comparison::Less | Comparison::AtMost => (left, right),
+        Comparison::Greater | Comparison::AtLeast => (right, left),
+    };
     match test {
-        Comparison::Less => left < right,
-        Comparison::Greater => left > right,
-        Comparison::AtMost => left <= right,
-        Comparison::AtLeast => left >= right,
+        Comparison::Less | Comparison::Greater => one < other,
+        Comparison::AtMost | Comparison::AtLeast => one <= other,
     }
 }
 

@@ -2,7 +2,7 @@
 use Rattle.std.proofs.Common.{◌≡◌, ℕ, suc, ◌+◌, ◌-◌, ◌<◌, ◌≤◌, List, [], ◌∷◌, length, take, Option, Some, None, slice_get, slice_set, slice_index_or, refl, sym, ap, ◌∙◌, subst, arith}
 use Rattle.merc_frames.specs.declared.slot.Slot.{Slot}
 use Rattle.merc_frames.specs.Handing.{carried, delivered}
-use Rattle.merc_frames.specs.Stacks.{Caller, Stacks}
+use Rattle.merc_frames.specs.Stacks.{Caller, Stacks, caller_place}
 use Rattle.merc_frames.specs.View.{frame_of, linked, chain, callers_of, view_of, Fine, Grows, newest, counted, lowered, caller_top}
 use Rattle.merc_frames.specs.declared.kept.Saved.{Saved}
 use Rattle.merc_frames.specs.declared.kept.Kept.{Kept}
@@ -46,6 +46,11 @@ slot_given before between after (first_out ∷ outs) out found slot (Some place)
   ap (λ (x : Stacks). x.current) set ∙ ap (λ n. slice_set between.current n slot) (same ∙ first) ∙ ap (λ slots. slice_set slots first_out slot) gives.2 ∙ sym (one_delivered outs (slice_set gives.0 first_out slot)),
   ap (λ (x : Stacks). x.choices) set ∙ gives.3,
 )
+
+-- The place that is given is the newest caller's.
+pub given_at_caller : (before after : Stacks) (given : List Slot) (outs : List ℕ) (place : Option ℕ) → GivesSlots before after given outs place → GivesSlots before after given outs (caller_place before.callers)
+given_at_caller before after given outs None gives = subst (λ (place : Option ℕ). GivesSlots before after given outs place) (sym (ap caller_place gives.0)) gives
+given_at_caller before after given outs (Some place) gives = subst (λ (place : Option ℕ). GivesSlots before after given outs place) (sym (ap caller_place gives.1)) gives
 
 module _ (w : List Slot) (saved : List Saved) (cs : List Kept) (base size h : ℕ) (s : Saved) (f : Fine w saved cs base size h) (l : 0 < h) (e : slice_get saved (h - 1) ≡ Some s) where
   pub return_callers : callers_of w saved h ≡ record { place = s.place; slots = frame_of w s.base s.size } ∷ callers_of w saved s.parent

@@ -1,5 +1,5 @@
 -- What the lists of the frames stand for, at one place: a frame called another, which made a choice point and went back to its caller.
-use Rattle.std.proofs.Common.{◌≡◌, ◌⊎◌, inl, inr, ℕ, zero, suc, ◌+◌, ◌≤◌, true, List, [], ◌∷◌, Some, None, slice_get, refl, ap, subst, arith}
+use Rattle.std.proofs.Common.{◌≡◌, inl, inr, ℕ, zero, suc, ◌+◌, ◌≤◌, true, List, [], ◌∷◌, Some, None, slice_get, refl, ap, subst, arith}
 use Rattle.merc_frames.specs.declared.slot.Slot.{Slot}
 use Rattle.merc_frames.specs.declared.slot.Slot.TheVariants.{Cell}
 use Rattle.merc_frames.specs.Stacks.{Stacks, GoesOn}

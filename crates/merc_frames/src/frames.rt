@@ -196,10 +196,11 @@ impl Frames {
         }
     }
 
-    /// As `give_back`, of one slot that is put into the first of the caller's own. The current frame is not read.
+    /// As `give_back`, of one slot that is put into the first of the caller's own. The current frame is not read. Without a
+    /// caller nothing changes.
     #[inline(always)]
-    pub fn give_slot(&mut self, slot: Slot, outs: &[Var]) -> Result<Option<usize>, NoMemory>
-        ensures ok { IfOk result (λ place. GivesSlots self.old self.new (slot ∷ []) outs.now place) }
+    pub fn give_slot(&mut self, slot: Slot, outs: &[Var]) -> Result<(), NoMemory>
+        ensures ok { OnOk result (GivesSlots self.old self.new (slot ∷ []) outs.now (caller_place self.old.callers)) }
         ensures err { OnErr result (self.new ≡ self.old) }
     {
         // the condition under which `give_back` copies no frame, so that only this way stands in the callers' code
@@ -212,22 +213,22 @@ impl Frames {
 
     // The same, in either way.
     #[inline(always)]
-    fn put_slot(&mut self, slot: Slot, outs: &[Var]) -> Result<Option<usize>, NoMemory>
-        ensures ok { IfOk result (λ place. GivesSlots self.old self.new (slot ∷ []) outs.now place) }
+    fn put_slot(&mut self, slot: Slot, outs: &[Var]) -> Result<(), NoMemory>
+        ensures ok { OnOk result (GivesSlots self.old self.new (slot ∷ []) outs.now (caller_place self.old.callers)) }
         ensures err { OnErr result (self.new ≡ self.old) }
     {
         let place = self.give_back(&[], &[])?;
         if let (Some(_), [out, ..]) = (place, outs) {
             self.set(out.number(), slot);
         }
-        Ok(place)
+        Ok(())
     }
 
     // The same, where the newest choice point keeps the frame.
     #[cold]
     #[inline(never)]
-    fn put_slot_kept(&mut self, slot: Slot, outs: &[Var]) -> Result<Option<usize>, NoMemory>
-        ensures ok { IfOk result (λ place. GivesSlots self.old self.new (slot ∷ []) outs.now place) }
+    fn put_slot_kept(&mut self, slot: Slot, outs: &[Var]) -> Result<(), NoMemory>
+        ensures ok { OnOk result (GivesSlots self.old self.new (slot ∷ []) outs.now (caller_place self.old.callers)) }
         ensures err { OnErr result (self.new ≡ self.old) }
     {
         self.put_slot(slot, outs)

@@ -1,16 +1,19 @@
 //! Slots: what a frame holds at each of its numbers.
-ghost use Rattle.std.specs.Prelude.{◌≡◌};
+ghost use Rattle.std.specs.Prelude.{◌≡◌, Some};
+ghost use Rattle.merc_value.specs.declared.word.Word.{Word as WordValue};
 ghost use Rattle.merc_frames.specs.Slots.{holding, word_in, mark_in};
 
 use merc_base::Name;
 use merc_value::Word;
 
-/// What a slot of a frame holds. Nothing comes first, so that a frame is emptied by zeros, and then the words in the order of
-/// `Word`.
+/// What a slot of a frame holds. Nothing comes first, so that a frame is emptied by zeros, and last the words in the order of
+/// `Word`, so that one comparison tells whether there is one.
 #[derive(Clone, Copy, Debug, PartialEq, Eq, Drop)]
 pub enum Slot {
     /// Nothing.
     Empty,
+    /// A mark: a number of choice points.
+    Mark(usize),
     /// The word of an integer.
     Int(i64),
     /// The word of a text, which this name has.
@@ -19,8 +22,6 @@ pub enum Slot {
     Atom(Name),
     /// The word of the cell at this place, from 0.
     Cell(usize),
-    /// A mark: a number of choice points.
-    Mark(usize),
 }
 
 impl Slot {
@@ -43,11 +44,22 @@ impl Slot {
         ensures { result ≡ word_in self }
     {
         match self {
-            Slot::Int(number) => Some(Word::Int(number)),
-            Slot::Text(name) => Some(Word::Text(name)),
-            Slot::Atom(name) => Some(Word::Atom(name)),
-            Slot::Cell(place) => Some(Word::Cell(place)),
-            _ => None,
+            Slot::Empty | Slot::Mark(_) => None,
+            _ => Some(self.held()),
+        }
+    }
+
+    // The word that it holds, where it holds one. Whether it does is not asked here, so that no table of jumps is needed.
+    #[inline(always)]
+    fn held(self) -> Word
+        ensures { (word : WordValue) → word_in self ≡ Some word → result ≡ word }
+    {
+        match self {
+            Slot::Int(number) => Word::Int(number),
+            Slot::Text(name) => Word::Text(name),
+            Slot::Atom(name) => Word::Atom(name),
+            Slot::Cell(place) => Word::Cell(place),
+            Slot::Empty | Slot::Mark(_) => Word::Int(0),
         }
     }
 

@@ -1,5 +1,5 @@
 use Rattle.merc_frames.specs.declared.slot.Slot.TheVariants.{Empty}
-use Rattle.std.proofs.Common.{◌+◌, ◌≤◌, arith}
+use Rattle.std.proofs.Common.{◌+◌, arith}
 use Rattle.merc_frames.proofs.Lists.{drop_later, part_replicate}
 use Rattle.merc_frames.proofs.copying.empty_slots.Goals as goal
 

@@ -1,4 +1,4 @@
-use Rattle.std.proofs.Common.{ap, ◌∙◌, ◌+◌, ◌-◌, ◌<◌, ◌≤◌, arith}
+use Rattle.std.proofs.Common.{ap, ◌∙◌, ◌-◌, ◌<◌, arith}
 use Rattle.merc_frames.specs.View.{newest, counted}
 use Rattle.merc_frames.proofs.Built.{built_here}
 use Rattle.merc_frames.proofs.Returning.{caller_is, place_fine, place_gives}

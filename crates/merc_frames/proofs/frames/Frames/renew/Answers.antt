@@ -1,4 +1,4 @@
-use Rattle.std.proofs.Common.{◌≡◌, ◌+◌, ◌≤◌, refl, ap, ◌∙◌, arith}
+use Rattle.std.proofs.Common.{refl, ap, ◌∙◌, arith}
 use Rattle.merc_frames.specs.View.{newest, counted, lowered, caller_top}
 use Rattle.merc_frames.proofs.Built.{built_passed}
 use Rattle.merc_frames.proofs.Moving.{grown_view, on_err}
