@@ -10,7 +10,7 @@ ghost use Rattle.merc_code.specs.Steps.{target_of, target_at};
 ghost use Rattle.merc_frames.specs.Slots.{holding};
 ghost use Rattle.merc_heap.specs.Heap.{arguments_in, word_of};
 ghost use Rattle.merc_store.specs.Fitting.{FitsFrame};
-ghost use Rattle.merc_store.specs.Performing.{Does, head_of, stored, word_at};
+ghost use Rattle.merc_store.specs.Performing.{Does, head_of, stored, word_at, tested};
 
 use crate::testing::tested;
 use crate::{Done, Store};
@@ -57,18 +57,19 @@ impl Store {
         ensures { Does self.now self.now (Instruction.Literal whole symbol.now) result }
     {
         match *symbol {
-            Symbol::Integer(number) => self.integer_literal(whole, number),
+            Symbol::Integer(number) => tested(self.has_integer(whole, number)),
             _ => self.literal_apart(whole, symbol),
         }
     }
 
+    /// Whether a variable's value is this integer, as the instruction tells that tests it.
     #[inline(always)]
-    fn integer_literal(&self, whole: Var, number: i64) -> Done
-        ensures { Does self.now self.now (Instruction.Literal whole (Symbol.Integer number)) result }
+    pub fn has_integer(&self, whole: Var, number: i64) -> bool
+        ensures { Does self.now self.now (Instruction.Literal whole (Symbol.Integer number)) (tested result) }
     {
         match self.integer(whole) {
-            Some(found) => tested(number == found),
-            None => Done::Failed,
+            Some(found) => number == found,
+            None => false,
         }
     }
 

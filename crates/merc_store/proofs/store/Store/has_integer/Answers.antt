@@ -5,14 +5,13 @@ use Rattle.merc_code.specs.declared.instruction.Instruction.TheVariants.{Literal
 use Rattle.merc_store.specs.Performing.{Does}
 use Rattle.merc_store.proofs.KindLemmas.{integer_lacks, integer_tells}
 use Rattle.merc_store.proofs.ReadingLemmas.{equal_bits}
-use Rattle.merc_store.proofs.store.Store.integer_literal.Goals as goal
+use Rattle.merc_store.proofs.store.Store.has_integer.Goals as goal
 
 pub returns-in-Some : goal.returns-in-Some
 returns-in-Some c =
     let fits : FitsSigned w64 c.args.number = search rules in
     let fits' : FitsSigned w64 c.in-Some.found = search rules in
-    subst (Does c.args.self.now c.args.self.now (Literal c.args.whole (Integer c.args.number))) (sym c.tested.ensures)
-    (integer_tells c.args.self.now c.args.whole c.args.number c.in-Some.found _ (sym c.integer.ensures ∙ c.in-Some.is) (equal_bits c.args.number c.in-Some.found fits fits'))
+    integer_tells c.args.self.now c.args.whole c.args.number c.in-Some.found _ (sym c.integer.ensures ∙ c.in-Some.is) (equal_bits c.args.number c.in-Some.found fits fits')
 
 pub returns-in-None : goal.returns-in-None
 returns-in-None c = integer_lacks c.args.self.now c.args.whole c.args.number (sym c.integer.ensures ∙ c.in-None.is)
