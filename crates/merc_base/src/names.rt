@@ -24,6 +24,24 @@ impl Model for Name {
     ghost inverse = { λ n. record { 0 = n } };
 }
 
+impl Name {
+    /// The name of this number. Its text is that which a table has at the number, if it has one there.
+    #[inline(always)]
+    pub fn new(number: u64) -> Name
+        ensures { result ≡ number }
+    {
+        Name(number)
+    }
+
+    /// The number of the name.
+    #[inline(always)]
+    pub fn number(self) -> u64
+        ensures { result ≡ self }
+    {
+        self.0
+    }
+}
+
 /// The constants, which every table of names holds from the start.
 impl Name {
     /// `division by zero`

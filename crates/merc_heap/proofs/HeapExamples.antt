@@ -3,18 +3,17 @@ use Rattle.std.proofs.Common.{◌≡◌, pos, List, [], ◌∷◌, refl, arith}
 use Rattle.merc_base.specs.Names.{cons_name, nil_name, yes_name}
 use Rattle.merc_value.specs.Value.{Value, Int, Text, Con, none, more}
 use Rattle.merc_value.specs.Block.{cell_values, value_of}
-use Rattle.merc_value.specs.declared.word.Word.TheVariants.{Int as IntWord, Cell as CellWord}
+use Rattle.merc_value.specs.declared.word.Word.TheVariants.{Int as IntWord, Text as TextWord, Cell as CellWord}
 use Rattle.merc_heap.specs.Functors.{functor_numbered, inner_number, list_functor, list_number, no_functor, Extends}
 use Rattle.merc_heap.specs.Heap.{cells_of, IsFlat, arguments_in}
 use Rattle.merc_heap.specs.declared.functors.Functor.{Functor}
-use Rattle.merc_heap.specs.declared.slot.Slot.{Slot}
-use Rattle.merc_heap.specs.declared.slot.Slot.TheVariants.{Integer, Text as TextSlot, Cell as CellSlot}
+use Rattle.merc_heap.specs.Fields.{Field, field_with}
 
 abbrev others : List Functor
 others = record { symbol = yes_name; arity = 1 } ∷ []
 
-abbrev small : List Slot
-small = TextSlot 0 nil_name ∷ TextSlot 1 nil_name ∷ CellSlot 0 1 ∷ Integer 1 (pos 7) ∷ CellSlot 2 3 ∷ []
+abbrev small : List Field
+small = field_with 0 (TextWord nil_name) ∷ field_with 1 (TextWord nil_name) ∷ field_with 0 (CellWord 1) ∷ field_with 1 (IntWord (pos 7)) ∷ field_with 2 (CellWord 3) ∷ []
 
 abbrev pair : Value
 pair = Con cons_name (more (Text nil_name) (more (Text nil_name) none))
@@ -38,12 +37,12 @@ unfolding cells_of cell_values
 value_of-counterexample same = cc
 
 -- a cell with more fields than there are up to its place
-pub IsFlat-counterexample : IsFlat others (Integer 1 (pos 7) ∷ []) → ⊥
-IsFlat-counterexample flat = omega (arith, flat.room 0 (Integer 1 (pos 7)) refl)
+pub IsFlat-counterexample : IsFlat others (field_with 1 (IntWord (pos 7)) ∷ []) → ⊥
+IsFlat-counterexample flat = omega (arith, flat.room 0 (field_with 1 (IntWord (pos 7))) refl)
 
 -- a number that no constructor has
-pub IsFlat-counterexample-known : IsFlat others (Integer 3 (pos 7) ∷ []) → ⊥
-IsFlat-counterexample-known flat = omega (arith, flat.known 0 (Integer 3 (pos 7)) refl)
+pub IsFlat-counterexample-known : IsFlat others (field_with 3 (IntWord (pos 7)) ∷ []) → ⊥
+IsFlat-counterexample-known flat = omega (arith, flat.known 0 (field_with 3 (IntWord (pos 7))) refl)
 
 pub functor_numbered-example : functor_numbered others 2 ≡ record { symbol = yes_name; arity = 1 }
 functor_numbered-example = refl

@@ -1,3 +1,5 @@
+pub mod Fields
+pub mod Slots
 pub mod Functors
 pub mod Heap
 pub mod Equality

@@ -1,7 +1,9 @@
 //! The constructors of a heap's cells, by number.
-ghost use Rattle.std.specs.Prelude.{◌≡◌, ◌≢◌, ◌<◌, [], Some, slice_get, IfOk, IsTrue};
+ghost use Rattle.std.specs.Prelude.{◌≡◌, ◌≢◌, ◌<◌, ◌≤◌, [], Some, slice_get, IfOk, IsTrue};
 ghost use Rattle.merc_heap.specs.Functors.{functor_numbered, list_number, numbered, Extends};
+ghost use Rattle.merc_heap.specs.declared.slot.TheConstants.{MOST};
 
+use crate::slot::MOST;
 use indexmap::IndexSet;
 use merc_base::{Name, NoMemory};
 use std::alloc::Global;
@@ -67,10 +69,11 @@ impl Functors {
     }
 
     /// The number of a constructor with this number of arguments, which it is given where it has none. Others keep theirs,
-    /// also where memory is refused, or where there is no number of 32 bits left.
+    /// also where memory is refused, or where there is no number up to [`MOST`] left.
     #[inline(always)]
     pub fn number(&mut self, symbol: Name, arity: usize) -> Result<u32, NoMemory>
         ensures number { IfOk result (λ number. slice_get (numbered self.new) number ≡ Some (record { symbol = symbol; arity = arity })) }
+        ensures small { IfOk result (λ number. number ≤ MOST) }
         ensures others { Extends self.old self.new }
     {
         if symbol == Name::CONS && arity == 2 {
@@ -100,6 +103,7 @@ fn other_functor(others: &IndexSet<Functor>, number: u32) -> Functor
 #[inline(never)]
 fn other_number(others: &mut IndexSet<Functor>, symbol: Name, arity: usize) -> Result<u32, NoMemory>
     ensures number { IfOk result (λ number. slice_get (numbered others.new.keys) number ≡ Some (record { symbol = symbol; arity = arity })) }
+    ensures small { IfOk result (λ number. number ≤ MOST) }
     ensures others { Extends others.old.keys others.new.keys }
 {
     for number in FIRST..FIRST + FEW {
@@ -119,11 +123,12 @@ fn sought_number(
     arity: usize,
 ) -> Result<u32, NoMemory>
     ensures number { IfOk result (λ number. slice_get (numbered others.new.keys) number ≡ Some (record { symbol = symbol; arity = arity })) }
+    ensures small { IfOk result (λ number. number ≤ MOST) }
     ensures others { Extends others.old.keys others.new.keys }
 {
     let (index, _) = others.insert_full(Functor { symbol, arity })?;
     match u32::try_from(index) {
-        Ok(index) if index <= u32::MAX - FIRST => Ok(index + FIRST),
+        Ok(index) if index <= MOST - FIRST => Ok(index + FIRST),
         _ => Err(NoMemory),
     }
 }

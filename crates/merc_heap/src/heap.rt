@@ -5,8 +5,10 @@ ghost use Rattle.std.specs.Vec.{vec_len, vec_capacity};
 ghost use Rattle.merc_value.specs.Value.{Con};
 ghost use Rattle.merc_value.specs.Block.{AreLower, IsBelow, word_values, cell_values, value_of};
 ghost use Rattle.merc_value.specs.Sharing.{IsWordFor};
+ghost use Rattle.merc_heap.specs.Fields.{field_with};
 ghost use Rattle.merc_heap.specs.Functors.{inner_number};
-ghost use Rattle.merc_heap.specs.Heap.{Keeps, IsFlat, cell_ending, slot_of, word_of, arguments_in, symbol_of};
+ghost use Rattle.merc_heap.specs.declared.slot.TheConstants.{MOST};
+ghost use Rattle.merc_heap.specs.Heap.{Keeps, IsFlat, cell_ending, word_of, arguments_in, symbol_of};
 
 use crate::functors::{Functor, Functors, INNER};
 use crate::slot::Slot;
@@ -79,7 +81,7 @@ impl Heap {
     }
 
     /// Puts a constructor with these arguments behind the other cells, and gives the word for it. Where memory is
-    /// refused the heap is unchanged, and so where no number of 32 bits is left for a constructor without cells so far.
+    /// refused the heap is unchanged, and so where no number up to `slot::MOST` is left for a constructor without cells so far.
     #[inline(always)]
     pub fn build(&mut self, symbol: Name, arguments: &[Word]) -> Result<Word, NoMemory>
         requires { All (IsBelow (length self.old)) arguments.now }
@@ -212,8 +214,9 @@ fn push_cell(
     front: &[Word],
     last: Word,
 ) -> Result<usize, NoMemory>
+    requires { number ≤ MOST }
     ensures place { IfOk result (λ place. place ≡ length slots.old.items + length front.now) }
-    ensures ok { OnOk result (slots.new.items ≡ (slots.old.items ++ map (slot_of inner_number) front.now) ++ slot_of number last ∷ []) }
+    ensures ok { OnOk result (slots.new.items ≡ (slots.old.items ++ map (field_with inner_number) front.now) ++ field_with number last ∷ []) }
     ensures err { OnErr result (slots.new.items ≡ slots.old.items) }
 {
     let place = slots.len() + front.len();

@@ -1,58 +1,98 @@
 //! Places of the heap.
-ghost use Rattle.std.specs.Prelude.{◌≡◌};
-ghost use Rattle.merc_heap.specs.Heap.{slot_of, word_of, number_in};
+ghost use Rattle.std.specs.Prelude.{◌≡◌, ◌≤◌, ◌<◌};
+ghost use Rattle.merc_heap.specs.Fields.{word_with};
+ghost use Rattle.merc_heap.specs.declared.slot.TheConstants.{HALF, KINDS, MOST};
 
 use merc_base::Name;
 use merc_value::Word;
+use std::marker::Model;
 
-/// The word of a field, behind the number of the constructor whose cell ends with the field. That number stands beside the
-/// kind of the word, in bytes that would be spare; the variants are those of `Word` in their order. A word within would
-/// have a tag of its own, which makes a slot half as large again.
-#[derive(Clone, Copy)]
-pub enum Slot {
-    Integer(u32, i64),
-    Text(u32, Name),
-    Atom(u32, Name),
-    Cell(u32, usize),
+/// The largest number that a constructor may have.
+pub const MOST: u32 = u32::MAX / KINDS;
+
+// How many kinds of words there are, and the kinds.
+pub(crate) const KINDS: u32 = 4;
+
+pub(crate) const INT: u32 = 0;
+
+pub(crate) const TEXT: u32 = 1;
+
+pub(crate) const ATOM: u32 = 2;
+
+pub(crate) const CELL: u32 = 3;
+
+// How many values the lower half of a word's bits may have.
+pub(crate) const HALF: u64 = 4_294_967_296;
+
+/// The word of a field, and the number of the constructor whose cell ends with the field.
+///
+/// A run that builds much spends more time on its memory than on its steps. So the number shares four bytes with the kind of
+/// the word, and the bits of the word are kept in two halves, which leaves no byte unused.
+#[derive(Drop)]
+pub struct Slot {
+    header: u32,
+    low: u32,
+    high: u32,
+}
+
+impl Model for Slot {
+    ghost use Rattle.merc_heap.specs.Fields.{Field};
+
+    ghost Value = { Field };
+
+    ghost use Rattle.merc_heap.specs.Slots.{field_of};
+
+    ghost view = { field_of };
 }
 
 impl Slot {
     // The slot of a field with this word, with which a cell ends whose constructor has this number.
     #[inline(always)]
     pub(crate) fn ending(number: u32, word: Word) -> Slot
-        ensures { result ≡ slot_of number word }
+        requires { number ≤ MOST }
+        ensures { result ≡ record { number = number; word = word } }
     {
         match word {
-            Word::Int(integer) => Slot::Integer(number, integer),
-            Word::Text(name) => Slot::Text(number, name),
-            Word::Atom(symbol) => Slot::Atom(number, symbol),
-            Word::Cell(place) => Slot::Cell(number, place),
+            Word::Int(integer) => Slot::of(number, INT, integer.cast_unsigned()),
+            Word::Text(name) => Slot::of(number, TEXT, name.number()),
+            Word::Atom(symbol) => Slot::of(number, ATOM, symbol.number()),
+            Word::Cell(place) => Slot::of(number, CELL, place as u64),
+        }
+    }
+
+    // The slot of a word of this kind with these bits.
+    #[inline(always)]
+    fn of(number: u32, kind: u32, bits: u64) -> Slot
+        requires number { number ≤ MOST }
+        requires kind { kind < KINDS }
+        ensures { result ≡ record { number = number; word = word_with kind bits } }
+    {
+        Slot {
+            header: number * KINDS + kind,
+            low: (bits % HALF) as u32,
+            high: (bits / HALF) as u32,
         }
     }
 
     /// The word of a field.
     #[inline(always)]
     pub fn word(&self) -> Word
-        ensures { result ≡ word_of self.now }
+        ensures { result ≡ self.now.word }
     {
-        match *self {
-            Slot::Integer(_, integer) => Word::Int(integer),
-            Slot::Text(_, name) => Word::Text(name),
-            Slot::Atom(_, symbol) => Word::Atom(symbol),
-            Slot::Cell(_, place) => Word::Cell(place),
+        let bits = u64::from(self.low) + u64::from(self.high) * HALF;
+        match self.header % KINDS {
+            INT => Word::Int(bits.cast_signed()),
+            TEXT => Word::Text(Name::new(bits)),
+            ATOM => Word::Atom(Name::new(bits)),
+            _ => Word::Cell(bits as usize),
         }
     }
 
     // The number of the constructor whose cell ends with this field.
     #[inline(always)]
     pub(crate) fn number(&self) -> u32
-        ensures { result ≡ number_in self.now }
+        ensures { result ≡ self.now.number }
     {
-        match *self {
-            Slot::Integer(number, _) => number,
-            Slot::Text(number, _) => number,
-            Slot::Atom(number, _) => number,
-            Slot::Cell(number, _) => number,
-        }
+        self.header / KINDS
     }
 }
