@@ -1,6 +1,7 @@
 -- What goals ask of the types of their variables.
 use Rattle.std.proofs.Common.{◌≡◌, ℕ, zero, suc, ◌+◌, ◌<◌, ◌≤◌, Bool, true, false, Option, Some, None, List, [], ◌∷◌, ◌++◌, length, map, take, get_or, refl, sym, ap, subst, ◌∙◌, arith, add-zero, add-one}
 use Rattle.std.specs.Prelude.{slice_get}
+use Rattle.std.specs.Option.{IfSome}
 use Rattle.std.proofs.lemmas.List.{map-append, take_all}
 use Rattle.std.proofs.Math.Seq.{take-suc}
 use Rattle.merc_tree.specs.Types.{TypeExpr, TypeApplication, types_of, replaced}
@@ -9,44 +10,95 @@ use Rattle.merc_tree.specs.declared.declarations.Constructor.{Constructor}
 use Rattle.merc_tree.specs.declared.declarations.TypeDef.{TypeDef}
 use Rattle.merc_tree.specs.declared.declarations.PredDecl.{PredDecl}
 use Rattle.merc_known.specs.Known.{constructor_in}
+use Rattle.merc_type_table.specs.Table.{type_at}
 use Rattle.merc_type_check.specs.declared.checker.Checker.{Checker}
-use Rattle.merc_type_check.specs.Progress.{Types, Step, Refuses, Takes, Nothing, Stands, AllStand, Places, IsCleared, GoalTakes}
+use Rattle.merc_type_check.specs.declared.checker.UsedType.{UsedType}
+use Rattle.merc_type_check.specs.Progress.{used_type, Types, Instances, Fits, IsEarlier, Step, Refuses, Takes, Nothing, Stands, AllStand, Places, IsFresh, GoalTakes}
 use Rattle.merc_type_check.specs.Typing.{HaveTypes, HasConstructor, IsConstructed, IsCalled, AreArguments}
-use Rattle.merc_type_check.proofs.Steps.{steps, step_as, grow_takes, grow_grow, stands_on, all_stand_on, cleared_takes}
+use Rattle.merc_type_check.proofs.Steps.{steps, step_as, takes_where, grow_takes, grow_grow, stands_on, all_stand_on, fresh_takes}
 use Rattle.merc_type_check.proofs.Built.{stand_push, stand_as}
+use Rattle.merc_type_check.proofs.Numbers.{take_next}
+use Rattle.merc_type_check.proofs.Listing.{push_same}
 
-pub taken : (done : Bool) (old new : Checker) (Asked : Types → Types → Type 0) → done ≡ true → Takes done old new Asked → Step old new Asked
+map_at : (one other : ℕ → TypeExpr) (names : List ℕ) (k name : ℕ) → slice_get names k ≡ Some name → map one names ≡ map other names
+    → (map one (take k names) ≡ map other (take k names)) × (one name ≡ other name)
+map_at one other [] k name is same = absurd (cc)
+map_at one other (n ∷ ns) zero name is same = let at : n ≡ name = cc in let head : one n ≡ other n = cc in (refl, ap one (sym at) ∙ head ∙ ap other at)
+map_at one other (n ∷ ns) (suc k) name is same =
+    let head : one n ≡ other n = cc in
+    let tail : map one ns ≡ map other ns = cc in
+    let rest = map_at one other ns k name is tail in
+    let before : map one (take k ns) ≡ map other (take k ns) = rest.0 in (cc, rest.1)
+
+pub taken : (done : Bool) (old new : Checker) (Asked : Types → Instances → Type 0) → done ≡ true → Takes done old new Asked → Step old new Asked
 taken done old new Asked e takes = subst (λ (b : Bool). Takes b old new Asked) e takes
 
-pub refused : (done : Bool) (old new : Checker) (Asked : Types → Types → Type 0) → done ≡ false → Takes done old new Asked → Refuses old Asked
+pub refused : (done : Bool) (old new : Checker) (Asked : Types → Instances → Type 0) → done ≡ false → Takes done old new Asked → Refuses old Asked
 refused done old new Asked e takes = subst (λ (b : Bool). Takes b old new Asked) e takes
 
-pub refuses_more : (old : Checker) (One Other : Types → Types → Type 0) → ((types instance : Types) → Other types instance → One types instance)
+pub refuses_more : (old : Checker) (One Other : Types → Instances → Type 0) → ((types : Types) (instance : Instances) → Other types instance → One types instance)
     → Refuses old One → Refuses old Other
 refuses_more old One Other from refuses = λ places types instance fits asked. refuses places types instance fits (from types instance asked)
 
 -- two places one after the other, made equal
-pub two_equal : (done : Bool) (first second third last : Checker) (one other : ℕ) (One Other : Types → Types → TypeExpr) → Places first second one One
+pub two_equal : (done : Bool) (first second third last : Checker) (one other : ℕ) (One Other : Types → Instances → TypeExpr) → Places first second one One
     → Places second third other Other
-    → ((A B : Types → Types → TypeExpr) → Stands third one A → Stands third other B → Takes done third last (λ types instance. A types instance ≡ B types instance))
+    → ((A B : Types → Instances → TypeExpr) → Stands third one A → Stands third other B → Takes done third last (λ types instance. A types instance ≡ B types instance))
     → Takes done first last (λ types instance. One types instance ≡ Other types instance)
 two_equal done first second third last one other One Other a b equal =
     grow_takes done first third last (λ types instance. One types instance ≡ Other types instance) (grow_grow first second third a.grows b.grows)
     (equal One Other (stands_on second third Nothing one One b.grows a.stands) b.stands)
 
+-- a variable waits with the same declared type of an earlier part
+pub given_earlier : (done : Bool) (old new : Checker) (variable number earlier user : ℕ) (names : List ℕ) → IsEarlier old variable number earlier names
+    → Takes done old new (λ types instance. map (instance earlier) names ≡ map (instance user) names)
+    → Takes done old new (λ types instance. types variable ≡ replaced (instance user) (type_at old.graph.table number))
+given_earlier done old new variable number earlier user names is takes =
+    let table : List TypeExpr = old.graph.table in
+    let has : (places types : Types) (instance : Instances) → Fits old places types instance → types variable ≡ replaced (instance earlier) (type_at table number) =
+    λ places types instance fits. subst (λ (o : Option UsedType). IfSome o (λ used. types variable ≡ used_type table instance used)) is.is (fits.waiting variable) in
+    takes_where done old new (λ types instance. map (instance earlier) names ≡ map (instance user) names)
+    (λ types instance. types variable ≡ replaced (instance user) (type_at table number))
+    (λ places types instance fits same. has places types instance fits ∙ (is.are (instance earlier) (instance user)).0 same)
+    (λ places types instance fits same. (is.are (instance earlier) (instance user)).1 (sym (has places types instance fits) ∙ same)) takes
+
+-- one more name of type variables
+pub names_step : (one other : ℕ) (first second third : Checker) (names : List ℕ) (k name : ℕ) → slice_get names k ≡ Some name
+    → Step first second (λ types instance. map (instance one) (take k names) ≡ map (instance other) (take k names))
+    → Step second third (λ types instance. instance one name ≡ instance other name)
+    → Step first third (λ types instance. map (instance one) (take (k + 1) names) ≡ map (instance other) (take (k + 1) names))
+names_step one other first second third names k name is before step =
+    let front : take (k + 1) names ≡ take k names ++ name ∷ [] = take_next names k name is in
+    subst (λ (l : List ℕ). Step first third (λ types instance. map (instance one) l ≡ map (instance other) l)) (sym front)
+    (step_as first third (λ types instance. (map (instance one) (take k names) ≡ map (instance other) (take k names)) × (instance one name ≡ instance other name))
+    (λ types instance. map (instance one) (take k names ++ name ∷ []) ≡ map (instance other) (take k names ++ name ∷ []))
+    (λ types instance both. (push_same (instance one) (instance other) (take k names) name).1 both)
+    (λ types instance same. (push_same (instance one) (instance other) (take k names) name).0 same)
+    (steps first second third (λ types instance. map (instance one) (take k names) ≡ map (instance other) (take k names))
+    (λ types instance. instance one name ≡ instance other name) before step))
+
+pub names_refused : (one other : ℕ) (first second : Checker) (names : List ℕ) (k name : ℕ) → slice_get names k ≡ Some name
+    → Step first second (λ types instance. map (instance one) (take k names) ≡ map (instance other) (take k names))
+    → Refuses second (λ types instance. instance one name ≡ instance other name)
+    → Refuses first (λ types instance. map (instance one) names ≡ map (instance other) names)
+names_refused one other first second names k name is before refuses = λ places types instance fits same.
+    let both = map_at (instance one) (instance other) names k name is same in
+    let middle = before.forth places types instance fits both.0 in
+    refuses middle.0 types instance middle.1 both.1
+
 -- one more parameter of a type
-pub one_parameter : (old new : Checker) (params listed now : List ℕ) (place name k : ℕ) → Places old new place (λ types instance. instance name)
-    → now ≡ listed ++ place ∷ [] → k < length params → name ≡ get_or params k name → AllStand old listed (λ types instance. map instance (take k params))
-    → AllStand new now (λ types instance. map instance (take (k + 1) params))
-one_parameter old new params listed now place name k placed now_is less name_is stand =
-    let Meant : Types → Types → List TypeExpr = λ types instance. map instance (take k params) in
-    let whole : AllStand new (listed ++ place ∷ []) (λ types instance. map instance (take k params) ++ instance name ∷ []) =
-    stand_push new listed place Meant (λ types instance. instance name) (all_stand_on old new Nothing listed Meant placed.grows stand) placed.stands in
+pub one_parameter : (user : ℕ) (old new : Checker) (params listed now : List ℕ) (place name k : ℕ) → Places old new place (λ types instance. instance user name)
+    → now ≡ listed ++ place ∷ [] → k < length params → name ≡ get_or params k name → AllStand old listed (λ types instance. map (instance user) (take k params))
+    → AllStand new now (λ types instance. map (instance user) (take (k + 1) params))
+one_parameter user old new params listed now place name k placed now_is less name_is stand =
+    let Meant : Types → Instances → List TypeExpr = λ types instance. map (instance user) (take k params) in
+    let whole : AllStand new (listed ++ place ∷ []) (λ types instance. map (instance user) (take k params) ++ instance user name ∷ []) =
+    stand_push new listed place Meant (λ types instance. instance user name) (all_stand_on old new Nothing listed Meant placed.grows stand) placed.stands in
     let front : take (k + 1) params ≡ take k params ++ name ∷ [] =
     ap (λ (n : ℕ). take n params) (add-one k) ∙ take-suc params k name less ∙ ap (λ (n : ℕ). take k params ++ n ∷ []) (sym name_is) in
-    subst (λ (l : List ℕ). AllStand new l (λ types instance. map instance (take (k + 1) params))) (sym now_is)
-    (stand_as new (listed ++ place ∷ []) (λ types instance. map instance (take k params) ++ instance name ∷ []) (λ types instance. map instance (take (k + 1) params))
-    (λ types instance. sym (ap (map instance) front ∙ map-append instance (take k params) (name ∷ []))) whole)
+    subst (λ (l : List ℕ). AllStand new l (λ types instance. map (instance user) (take (k + 1) params))) (sym now_is)
+    (stand_as new (listed ++ place ∷ []) (λ types instance. map (instance user) (take k params) ++ instance user name ∷ []) (λ types instance. map (instance user) (take (k + 1) params))
+    (λ types instance. sym (ap (map (instance user)) front ∙ map-append (instance user) (take k params) (name ∷ []))) whole)
 
 -- The types of variables in a list.
 module _ (known : Module) (types instance : Types) where
@@ -109,38 +161,38 @@ module _ (known : Module) (types : Types) where
   head_front (suc k) number (d ∷ ds) have = (have.0, head_front k (number + 1) ds have.1)
 
 -- one more variable of a list
-pub have_step : (known : Module) (first second third : Checker) (variables : List ℕ) (declared : List TypeExpr) (k v : ℕ) (d : TypeExpr) → slice_get variables k ≡ Some v
-    → slice_get declared k ≡ Some d → Step first second (λ types instance. HaveTypes known types instance (take k variables) (take k declared))
-    → Step second third (λ types instance. types v ≡ replaced instance d)
-    → Step first third (λ types instance. HaveTypes known types instance (take (k + 1) variables) (take (k + 1) declared))
-have_step known first second third variables declared k v d v_is d_is one other =
-    subst (λ (n : ℕ). Step first third (λ types instance. HaveTypes known types instance (take n variables) (take n declared))) (sym (add-one k))
-    (step_as first third (λ types instance. HaveTypes known types instance (take k variables) (take k declared) × (types v ≡ replaced instance d))
-    (λ types instance. HaveTypes known types instance (take (suc k) variables) (take (suc k) declared))
-    (λ types instance both. have_push known types instance k variables declared v d v_is d_is both.0 both.1)
-    (λ types instance have. have_pop known types instance k variables declared v d v_is d_is have)
-    (steps first second third (λ types instance. HaveTypes known types instance (take k variables) (take k declared)) (λ types instance. types v ≡ replaced instance d) one other))
+pub have_step : (user : ℕ) (known : Module) (first second third : Checker) (variables : List ℕ) (declared : List TypeExpr) (k v : ℕ) (d : TypeExpr) → slice_get variables k ≡ Some v
+    → slice_get declared k ≡ Some d → Step first second (λ types instance. HaveTypes known types (instance user) (take k variables) (take k declared))
+    → Step second third (λ types instance. types v ≡ replaced (instance user) d)
+    → Step first third (λ types instance. HaveTypes known types (instance user) (take (k + 1) variables) (take (k + 1) declared))
+have_step user known first second third variables declared k v d v_is d_is one other =
+    subst (λ (n : ℕ). Step first third (λ types instance. HaveTypes known types (instance user) (take n variables) (take n declared))) (sym (add-one k))
+    (step_as first third (λ types instance. HaveTypes known types (instance user) (take k variables) (take k declared) × (types v ≡ replaced (instance user) d))
+    (λ types instance. HaveTypes known types (instance user) (take (suc k) variables) (take (suc k) declared))
+    (λ types instance both. have_push known types (instance user) k variables declared v d v_is d_is both.0 both.1)
+    (λ types instance have. have_pop known types (instance user) k variables declared v d v_is d_is have)
+    (steps first second third (λ types instance. HaveTypes known types (instance user) (take k variables) (take k declared)) (λ types instance. types v ≡ replaced (instance user) d) one other))
 
-pub have_refused : (known : Module) (first second : Checker) (variables : List ℕ) (declared : List TypeExpr) (k v : ℕ) (d : TypeExpr) → slice_get variables k ≡ Some v
-    → slice_get declared k ≡ Some d → Step first second (λ types instance. HaveTypes known types instance (take k variables) (take k declared))
-    → Refuses second (λ types instance. types v ≡ replaced instance d) → Refuses first (λ types instance. HaveTypes known types instance variables declared)
-have_refused known first second variables declared k v d v_is d_is step refuses = λ places types instance fits have.
-    let both = have_pop known types instance k variables declared v d v_is d_is (have_front known types instance (suc k) variables declared have) in
+pub have_refused : (user : ℕ) (known : Module) (first second : Checker) (variables : List ℕ) (declared : List TypeExpr) (k v : ℕ) (d : TypeExpr) → slice_get variables k ≡ Some v
+    → slice_get declared k ≡ Some d → Step first second (λ types instance. HaveTypes known types (instance user) (take k variables) (take k declared))
+    → Refuses second (λ types instance. types v ≡ replaced (instance user) d) → Refuses first (λ types instance. HaveTypes known types (instance user) variables declared)
+have_refused user known first second variables declared k v d v_is d_is step refuses = λ places types instance fits have.
+    let both = have_pop known types (instance user) k variables declared v d v_is d_is (have_front known types (instance user) (suc k) variables declared have) in
     let middle = step.forth places types instance fits both.0 in
     refuses middle.0 types instance middle.1 both.1
 
-pub have_all : (known : Module) (first second : Checker) (variables : List ℕ) (declared : List TypeExpr) (k : ℕ) → length variables ≤ k → length declared ≤ k
-    → Step first second (λ types instance. HaveTypes known types instance (take k variables) (take k declared))
-    → Step first second (λ types instance. HaveTypes known types instance variables declared)
-have_all known first second variables declared k one other step =
+pub have_all : (user : ℕ) (known : Module) (first second : Checker) (variables : List ℕ) (declared : List TypeExpr) (k : ℕ) → length variables ≤ k → length declared ≤ k
+    → Step first second (λ types instance. HaveTypes known types (instance user) (take k variables) (take k declared))
+    → Step first second (λ types instance. HaveTypes known types (instance user) variables declared)
+have_all user known first second variables declared k one other step =
     let a : take k variables ≡ variables = take_all k variables one in
     let b : take k declared ≡ declared = take_all k declared other in
-    subst (λ (vs : List ℕ). Step first second (λ types instance. HaveTypes known types instance vs declared)) a
-    (subst (λ (ds : List TypeExpr). Step first second (λ types instance. HaveTypes known types instance (take k variables) ds)) b step)
+    subst (λ (vs : List ℕ). Step first second (λ types instance. HaveTypes known types (instance user) vs declared)) a
+    (subst (λ (ds : List TypeExpr). Step first second (λ types instance. HaveTypes known types (instance user) (take k variables) ds)) b step)
 
-pub have_none : (known : Module) (old : Checker) (variables : List ℕ) (declared : List TypeExpr) → (length variables ≡ length declared → ⊥)
-    → Refuses old (λ types instance. HaveTypes known types instance variables declared)
-have_none known old variables declared apart = λ places types instance fits have. apart (have_length known types instance variables declared have)
+pub have_none : (user : ℕ) (known : Module) (old : Checker) (variables : List ℕ) (declared : List TypeExpr) → (length variables ≡ length declared → ⊥)
+    → Refuses old (λ types instance. HaveTypes known types (instance user) variables declared)
+have_none user known old variables declared apart = λ places types instance fits have. apart (have_length known types (instance user) variables declared have)
 
 -- one more of the first variables
 pub head_step : (known : Module) (first second third : Checker) (declared : List TypeExpr) (k v : ℕ) (d : TypeExpr) → v ≡ k → slice_get declared k ≡ Some d
@@ -175,45 +227,45 @@ some_there (x ∷ xs) zero e less = cc
 some_there (x ∷ xs) (suc k) e less = some_there xs k e (omega arith)
 
 -- a constructor and a call, with what type variables stand for in them
-pub constructed : (done : Bool) (old middle new : Checker) (known : Module) (variable name arity : ℕ) (arguments : List ℕ) (declared : TypeDef) (constructor : Constructor)
-    → Some (declared, constructor) ≡ constructor_in known.types name arity → IsCleared old middle
-    → Takes done middle new (λ types instance. HasConstructor known types instance variable declared constructor arguments)
+pub constructed : (done : Bool) (old new : Checker) (known : Module) (variable name arity : ℕ) (arguments : List ℕ) (declared : TypeDef) (constructor : Constructor)
+    → Some (declared, constructor) ≡ constructor_in known.types name arity → IsFresh old
+    → Takes done old new (λ types instance. HasConstructor known types (instance old.part) variable declared constructor arguments)
     → GoalTakes done old new (λ types. IsConstructed known types variable (constructor_in known.types name arity) arguments)
-constructed done old middle new known variable name arity arguments declared constructor found cleared takes =
-    cleared_takes done old middle new (λ types instance. HasConstructor known types instance variable declared constructor arguments)
-    (λ types. IsConstructed known types variable (constructor_in known.types name arity) arguments) cleared
-    (λ types instance has. subst (λ (o : Option (TypeDef × Constructor)). IsConstructed known types variable o arguments) found (instance, has))
+constructed done old new known variable name arity arguments declared constructor found fresh takes =
+    fresh_takes done old new (λ types own. HasConstructor known types own variable declared constructor arguments)
+    (λ types. IsConstructed known types variable (constructor_in known.types name arity) arguments) fresh
+    (λ types own has. subst (λ (o : Option (TypeDef × Constructor)). IsConstructed known types variable o arguments) found (own, has))
     (λ types has. subst (λ (o : Option (TypeDef × Constructor)). IsConstructed known types variable o arguments) (sym found) has) takes
 
-pub called : (done : Bool) (old middle new : Checker) (known : Module) (predicate : ℕ) (arguments : List ℕ) (declared : PredDecl)
-    → Some declared ≡ slice_get known.preds predicate → IsCleared old middle
-    → Takes done middle new (λ types instance. HaveTypes known types instance arguments declared.args)
+pub called : (done : Bool) (old new : Checker) (known : Module) (predicate : ℕ) (arguments : List ℕ) (declared : PredDecl)
+    → Some declared ≡ slice_get known.preds predicate → IsFresh old
+    → Takes done old new (λ types instance. HaveTypes known types (instance old.part) arguments declared.args)
     → GoalTakes done old new (λ types. IsCalled known types (slice_get known.preds predicate) arguments)
-called done old middle new known predicate arguments declared found cleared takes =
-    cleared_takes done old middle new (λ types instance. HaveTypes known types instance arguments declared.args)
-    (λ types. IsCalled known types (slice_get known.preds predicate) arguments) cleared
-    (λ types instance has. subst (λ (o : Option PredDecl). IsCalled known types o arguments) found (instance, has))
+called done old new known predicate arguments declared found fresh takes =
+    fresh_takes done old new (λ types own. HaveTypes known types own arguments declared.args)
+    (λ types. IsCalled known types (slice_get known.preds predicate) arguments) fresh
+    (λ types own has. subst (λ (o : Option PredDecl). IsCalled known types o arguments) found (own, has))
     (λ types has. subst (λ (o : Option PredDecl). IsCalled known types o arguments) (sym found) has) takes
 
 -- a type over its parameters
-pub whole_placed : (first second third : Checker) (place name : ℕ) (params listed view : List ℕ) → view ≡ listed → Step first second Nothing
-    → AllStand second listed (λ types instance. map instance params)
-    → ((Meant : Types → Types → List TypeExpr) → AllStand second view Meant → Places second third place (λ types instance. TypeApplication name (types_of (Meant types instance))))
-    → Places first third place (λ types instance. TypeApplication name (types_of (map instance params)))
-whole_placed first second third place name params listed view view_is grows stand applied =
-    let placed = applied (λ types instance. map instance params)
-    (subst (λ (l : List ℕ). AllStand second l (λ types instance. map instance params)) (sym view_is) stand) in
+pub whole_placed : (user : ℕ) (first second third : Checker) (place name : ℕ) (params listed view : List ℕ) → view ≡ listed → Step first second Nothing
+    → AllStand second listed (λ types instance. map (instance user) params)
+    → ((Meant : Types → Instances → List TypeExpr) → AllStand second view Meant → Places second third place (λ types instance. TypeApplication name (types_of (Meant types instance))))
+    → Places first third place (λ types instance. TypeApplication name (types_of (map (instance user) params)))
+whole_placed user first second third place name params listed view view_is grows stand applied =
+    let placed = applied (λ types instance. map (instance user) params)
+    (subst (λ (l : List ℕ). AllStand second l (λ types instance. map (instance user) params)) (sym view_is) stand) in
     record { grows = grow_grow first second third grows placed.grows; stands = placed.stands }
 
 -- a variable has a type over its parameters
-abbrev pub HasWhole : ℕ → TypeDef → Types → Types → Type 0
-HasWhole variable declared types instance = types variable ≡ TypeApplication declared.name (types_of (map instance declared.params))
+abbrev pub HasWhole : ℕ → ℕ → TypeDef → Types → Instances → Type 0
+HasWhole user variable declared types instance = types variable ≡ TypeApplication declared.name (types_of (map (instance user) declared.params))
 
-pub whole_taken : (done : Bool) (first second third last : Checker) (one other variable : ℕ) (declared : TypeDef)
+pub whole_taken : (user : ℕ) (done : Bool) (first second third last : Checker) (one other variable : ℕ) (declared : TypeDef)
     → Places first second one (λ types instance. types variable)
-    → Places second third other (λ types instance. TypeApplication declared.name (types_of (map instance declared.params)))
-    → ((A B : Types → Types → TypeExpr) → Stands third one A → Stands third other B → Takes done third last (λ types instance. A types instance ≡ B types instance))
-    → Takes done first last (HasWhole variable declared)
-whole_taken done first second third last one other variable declared a b equal =
+    → Places second third other (λ types instance. TypeApplication declared.name (types_of (map (instance user) declared.params)))
+    → ((A B : Types → Instances → TypeExpr) → Stands third one A → Stands third other B → Takes done third last (λ types instance. A types instance ≡ B types instance))
+    → Takes done first last (HasWhole user variable declared)
+whole_taken user done first second third last one other variable declared a b equal =
     two_equal done first second third last one other (λ types instance. types variable)
-    (λ types instance. TypeApplication declared.name (types_of (map instance declared.params))) a b equal
+    (λ types instance. TypeApplication declared.name (types_of (map (instance user) declared.params))) a b equal

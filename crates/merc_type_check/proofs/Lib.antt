@@ -1,3 +1,4 @@
+pub mod Maps
 pub mod Steps
 pub mod Places
 pub mod Built
@@ -5,3 +6,4 @@ pub mod Numbers
 pub mod Asked
 pub mod Repeating
 pub mod Told
+pub mod Listing

@@ -1,7 +1,7 @@
 -- Declared types by numbers.
 use Rattle.std.proofs.Common.{◌≡◌, ℕ, zero, suc, ◌+◌, ◌<◌, ◌≤◌, ◌⊎◌, inl, inr, Bool, true, false, Option, Some, None, List, [], ◌∷◌, ◌++◌, map, length, take, get_or, refl, sym, ap, subst, ◌∙◌, arith, append_assoc, add-one}
 use Rattle.std.specs.Prelude.{slice_get, ◌==◌, ◌&&◌, if◌then◌else◌}
-use Rattle.std.specs.List.{find, list_any}
+use Rattle.std.specs.List.{AllByRecursion, find, list_any}
 use Rattle.std.specs.Option.{option_map}
 use Rattle.std.proofs.lemmas.List.{map-append, append-nil, take_all}
 use Rattle.merc_base.specs.Groups.{kept, is_key}
@@ -19,7 +19,7 @@ use Rattle.merc_type_table.specs.declared.numbering.TypeNumbering.{TypeNumbering
 use Rattle.merc_type_check.specs.Checked.{head_types}
 use Rattle.merc_type_check.specs.TypeNumbers.{AreDeclared, AreNumbers, AreWithin, NumberOf, numbers_found, Grows, Numbered, NumbersPredicates, NumbersFirst, Renumbers, NumbersConstructors}
 use Rattle.merc_type_check.specs.declared.declared.DeclaredTypes.{DeclaredTypes}
-use Rattle.merc_type_check.specs.Progress.{Types, Places, Stands, Takes}
+use Rattle.merc_type_check.specs.Progress.{Types, Instances, Places, Stands, Takes}
 use Rattle.merc_type_check.specs.declared.checker.Checker.{Checker}
 use Rattle.merc_type_check.proofs.Steps.{grow_takes, takes_as}
 
@@ -52,29 +52,29 @@ type_there (t ∷ ts) zero type e = (omega arith, cc)
 type_there (t ∷ ts) (suc number) type e = let rest = type_there ts number type e in (let less = rest.0 in omega arith, rest.1)
 
 -- a variable is given a declared type that is the same in each instance
-pub given_whole : (done : Bool) (first second third : Checker) (place variable number : ℕ) (table : List TypeExpr) → second.graph.table ≡ table
+pub given_whole : (user : ℕ) (done : Bool) (first second third : Checker) (place variable number : ℕ) (table : List TypeExpr) → second.graph.table ≡ table
     → is_closed (type_at second.graph.table number) ≡ true → Places first second place (λ types instance. types variable)
-    → ((Meant : Types → Types → TypeExpr) → Stands second place Meant → Takes done second third (λ types instance. Meant types instance ≡ type_at second.graph.table number))
-    → Takes done first third (λ types instance. types variable ≡ replaced instance (type_at table number))
-given_whole done first second third place variable number table same closed placed takes =
+    → ((Meant : Types → Instances → TypeExpr) → Stands second place Meant → Takes done second third (λ types instance. Meant types instance ≡ type_at second.graph.table number))
+    → Takes done first third (λ types instance. types variable ≡ replaced (instance user) (type_at table number))
+given_whole user done first second third place variable number table same closed placed takes =
     let whole : TypeExpr = type_at second.graph.table number in
     let at : whole ≡ type_at table number = ap (λ (t : List TypeExpr). type_at t number) same in
-    subst (λ (t : TypeExpr). Takes done first third (λ types instance. types variable ≡ replaced instance t)) at
-    (takes_as done first third (λ types instance. types variable ≡ whole) (λ types instance. types variable ≡ replaced instance whole)
-    (λ types instance is. is ∙ sym (replaced_closed instance whole closed)) (λ types instance is. is ∙ replaced_closed instance whole closed)
+    subst (λ (t : TypeExpr). Takes done first third (λ types instance. types variable ≡ replaced (instance user) t)) at
+    (takes_as done first third (λ types instance. types variable ≡ whole) (λ types instance. types variable ≡ replaced (instance user) whole)
+    (λ types instance is. is ∙ sym (replaced_closed (instance user) whole closed)) (λ types instance is. is ∙ replaced_closed (instance user) whole closed)
     (grow_takes done first second third (λ types instance. types variable ≡ whole) placed.grows (takes (λ types instance. types variable) placed.stands)))
 
 -- a variable has the declared type at a number
-pub given_declared : (done : Bool) (old new : Checker) (table : List TypeExpr) (variable number : ℕ) (declared : TypeExpr) → old.graph.table ≡ table
-    → slice_get table number ≡ Some declared → Takes done old new (λ types instance. types variable ≡ replaced instance (type_at old.graph.table number))
-    → Takes done old new (λ types instance. types variable ≡ replaced instance declared)
-given_declared done old new table variable number declared same there takes =
-    subst (λ (t : TypeExpr). Takes done old new (λ types instance. types variable ≡ replaced instance t))
+pub given_declared : (user : ℕ) (done : Bool) (old new : Checker) (table : List TypeExpr) (variable number : ℕ) (declared : TypeExpr) → old.graph.table ≡ table
+    → slice_get table number ≡ Some declared → Takes done old new (λ types instance. types variable ≡ replaced (instance user) (type_at old.graph.table number))
+    → Takes done old new (λ types instance. types variable ≡ replaced (instance user) declared)
+given_declared user done old new table variable number declared same there takes =
+    subst (λ (t : TypeExpr). Takes done old new (λ types instance. types variable ≡ replaced (instance user) t))
     (ap (λ (t : List TypeExpr). type_at t number) same ∙ (type_there table number declared there).1) takes
 
 pub given_fixed : (done : Bool) (first second third : Checker) (place variable number : ℕ) (type : TypeExpr) (table : List TypeExpr) → slice_get table number ≡ Some type
     → Places first second place (λ types instance. types variable)
-    → ((Meant : Types → Types → TypeExpr) → Stands second place Meant → Takes done second third (λ types instance. Meant types instance ≡ type_at table number))
+    → ((Meant : Types → Instances → TypeExpr) → Stands second place Meant → Takes done second third (λ types instance. Meant types instance ≡ type_at table number))
     → Takes done first third (λ types instance. types variable ≡ type)
 given_fixed done first second third place variable number type table there placed takes =
     let at : type_at table number ≡ type = (type_there table number type there).1 in
@@ -122,7 +122,7 @@ numbers_length table (n ∷ ns) [] are = absurd (cc)
 numbers_length table (n ∷ ns) (t ∷ ts) are =
     let others : map (slice_get table) ns ≡ map Some ts = cc in ap suc (numbers_length table ns ts others)
 
-take_next : {A : Type 0} (xs : List A) (k : ℕ) (x : A) → slice_get xs k ≡ Some x → take (k + 1) xs ≡ take k xs ++ x ∷ []
+pub take_next : {A : Type 0} (xs : List A) (k : ℕ) (x : A) → slice_get xs k ≡ Some x → take (k + 1) xs ≡ take k xs ++ x ∷ []
 take_next xs k x e = ap (λ (n : ℕ). take n xs) (add-one k) ∙ by xs k x e
   where
     by : {B : Type 0} (ys : List B) (i : ℕ) (y : B) → slice_get ys i ≡ Some y → take (suc i) ys ≡ take i ys ++ y ∷ []
@@ -414,7 +414,7 @@ mapped_length table (n ∷ ns) = ap suc (mapped_length table ns)
 -- one of them is given
 pub given_at : (done : Bool) (first second third : Checker) (place variable number : ℕ) (table : List TypeExpr) → second.graph.table ≡ table
     → Places first second place (λ types instance. types variable)
-    → ((Meant : Types → Types → TypeExpr) → Stands second place Meant → Takes done second third (λ types instance. Meant types instance ≡ type_at second.graph.table number))
+    → ((Meant : Types → Instances → TypeExpr) → Stands second place Meant → Takes done second third (λ types instance. Meant types instance ≡ type_at second.graph.table number))
     → Takes done first third (λ types instance. types variable ≡ type_at table number)
 given_at done first second third place variable number table same placed takes =
     takes_as done first third (λ types instance. types variable ≡ type_at second.graph.table number) (λ types instance. types variable ≡ type_at table number)
@@ -446,3 +446,22 @@ head_are table None None number = refl
 head_are table None (Some d) number = absurd number
 head_are table (Some ns) None number = absurd number
 head_are table (Some ns) (Some d) number = number
+
+-- the numbers of predicates' types are there
+pub all_at : {A : Type 0} (P : A → Type 0) (xs : List A) (i : ℕ) (x : A) → AllByRecursion P xs → slice_get xs i ≡ Some x → P x
+all_at P [] i x all e = absurd (cc)
+all_at P (y ∷ ys) zero x all e = subst P (same_some e) all.0
+all_at P (y ∷ ys) (suc i) x all e = all_at P ys i x all.1 e
+
+number_within : {A : Type 0} (types : A → List TypeExpr) (table : List TypeExpr) (numbers : List ℕ) (declared : Option A) → NumberOf types table (Some numbers) declared
+    → AreWithin table numbers
+number_within types table numbers None number = absurd number
+number_within types table numbers (Some d) number = numbers_within table numbers (types d) number
+
+pub all_within : {A : Type 0} (types : A → List TypeExpr) (table : List TypeExpr) (numbers : List (List ℕ)) (declared : ℕ → Option A)
+    → ((i : ℕ) → NumberOf types table (slice_get numbers i) (declared i)) → AllByRecursion (AreWithin table) numbers
+all_within types table [] declared each = tt
+all_within types table (first ∷ rest) declared each = (
+  number_within types table first (declared zero) (each zero),
+  all_within types table rest (λ i. declared (suc i)) (λ i. each (suc i)),
+)

@@ -1,24 +1,29 @@
 -- What the check tells in the end.
-use Rattle.std.proofs.Common.{◌≡◌, ℕ, zero, suc, ◌+◌, ◌<◌, ◌≤◌, true, Option, Some, None, List, [], ◌∷◌, length, take, sym, subst, add-one, arith}
-use Rattle.std.specs.Prelude.{slice_get, is_some}
+use Rattle.std.proofs.Common.{◌≡◌, ℕ, zero, suc, ◌+◌, ◌<◌, ◌≤◌, Bool, true, false, Option, Some, None, List, [], ◌∷◌, length, take, refl, sym, ap, subst, add-one, arith}
+use Rattle.std.specs.Prelude.{slice_get}
 use Rattle.std.specs.Option.{IfSome, IfNone}
 use Rattle.std.specs.List.{AllByRecursion}
+use Rattle.std.specs.Ordering.{nat_cmp}
+use Rattle.std.specs.BTreeMap.{get}
 use Rattle.std.proofs.lemmas.List.{take_all}
 use Rattle.merc_base.specs.declared.place.Span.{Span}
-use Rattle.merc_tree.specs.Types.{TypeExpr}
+use Rattle.merc_tree.specs.Types.{TypeExpr, IntType}
+use Rattle.merc_type_graph.specs.Solutions.{Solves}
+use Rattle.merc_type_graph.specs.Changes.{Decides}
 use Rattle.merc_tree.specs.declared.declarations.Module.{Module}
 use Rattle.merc_goal_tree.specs.declared.entries.Root.{Root}
 use Rattle.merc_goal_tree.specs.declared.entries.Root.TheVariants.{Simple, Conjunction, Parallel, Disjunction, Conditional, Negation, Quantified}
 use Rattle.merc_goal_tree.specs.Nodes.{Node}
 use Rattle.merc_goal_tree.specs.Parts.{parts_of}
 use Rattle.merc_type_check.specs.declared.checker.Checker.{Checker}
+use Rattle.merc_type_check.specs.declared.checker.UsedType.{UsedType}
 use Rattle.merc_type_check.specs.declared.typings.Typing.{Typing}
-use Rattle.merc_type_check.specs.Progress.{Types, Fits, Holds, Step, Refuses, GoalStep, GoalRefuses, Knows, Yields}
+use Rattle.merc_type_check.specs.Progress.{compare_variables, used_type, AgreesIn, AgreesWith, Types, Instances, Fits, Holds, IsSound, Step, Refuses, GoalStep, GoalRefuses, Knows, Waits, Yields}
 use Rattle.merc_type_check.specs.Typing.{AreArguments, IsTyped, IsTypedPart, HasTyping}
 use Rattle.merc_type_check.specs.Typings.{IsTypingOf}
 use Rattle.merc_type_check.specs.Checked.{Tells}
 use Rattle.merc_type_check.specs.Repeats.{IsRepeated}
-use Rattle.merc_type_check.proofs.Steps.{types_read, types_read_agree, plain_goal_takes}
+use Rattle.merc_type_check.proofs.Steps.{plain_goal_takes}
 
 -- the predicate's arguments have their types, and so many parts are typed
 pub record IsTypedUpTo (known : Module) (arguments : List TypeExpr) (goal : Node) (count : ℕ) (types : Types) : Type 0 where
@@ -26,7 +31,7 @@ pub record IsTypedUpTo (known : Module) (arguments : List TypeExpr) (goal : Node
   pub parts : AllByRecursion (IsTypedPart known types) (take count (parts_of goal))
 
 -- the arguments
-pub head_known : (start head : Checker) (known : Module) (arguments : List TypeExpr) (goal : Node) → ((places types instance : Types) → Fits start places types instance)
+pub head_known : (start head : Checker) (known : Module) (arguments : List TypeExpr) (goal : Node) → ((places types : Types) (instance : Instances) → Fits start places types instance)
     → Step start head (λ types instance. AreArguments known types 0 arguments) → Knows head (IsTypedUpTo known arguments goal 0)
 head_known start head known arguments goal free step =
     let whole : GoalStep start head (λ types. AreArguments known types 0 arguments) =
@@ -34,15 +39,13 @@ head_known start head known arguments goal free step =
     record {
       sound = whole.sound;
       back = λ places types holds. record { head = (whole.back places types holds).1; parts = tt };
-      forth = λ types typed.
-          let empty = free types types types in
-          whole.forth types types (record { solved = empty.solved; variables = empty.variables }) typed.head;
+      forth = λ types typed. whole.forth types types (record { instance = λ user. types; fits = free types types (λ user. types) }) typed.head;
     }
 
-pub head_untyped : (start : Checker) (known : Module) (arguments : List TypeExpr) (goal : Node) → ((places types instance : Types) → Fits start places types instance)
+pub head_untyped : (start : Checker) (known : Module) (arguments : List TypeExpr) (goal : Node) → ((places types : Types) (instance : Instances) → Fits start places types instance)
     → Refuses start (λ types instance. AreArguments known types 0 arguments) → HasTyping known arguments goal → ⊥
 head_untyped start known arguments goal free refuses typing =
-    refuses typing.0 typing.0 typing.0 (free typing.0 typing.0 typing.0) typing.1.head
+    refuses typing.0 typing.0 (λ user. typing.0) (free typing.0 typing.0 (λ user. typing.0)) typing.1.head
 
 -- one part more
 part_push : {A : Type 0} (P : A → Type 0) (k : ℕ) (listed : List A) (x : A) → Some x ≡ slice_get listed k → AllByRecursion P (take k listed) → P x
@@ -145,36 +148,111 @@ typed_front known arguments goal k types typed = record {
   parts = part_front (IsTypedPart known types) k (parts_of goal) typed.parts;
 }
 
+pub all_known : (checker : Checker) (known : Module) (arguments : List TypeExpr) (goal : Node) (k : ℕ) → length (parts_of goal) ≤ k
+    → Knows checker (IsTypedUpTo known arguments goal k) → Knows checker (λ types. IsTyped known types arguments goal)
+all_known checker known arguments goal k all knows = record {
+  sound = knows.sound;
+  back = λ places types holds. whole_typed known arguments goal k types all (knows.back places types holds);
+  forth = λ types typed. knows.forth types (typed_front known arguments goal k types typed);
+}
+
+-- Types that solve the equations show types of all variables, and what type variables stand for.
+
+read : Option ℕ → Types → TypeExpr
+read None places = IntType
+read (Some place) places = places place
+
+read_agrees : (o : Option ℕ) (places : Types) → IfSome o (λ place. places place ≡ read o places)
+unfolding read
+read_agrees None places = tt
+read_agrees (Some place) places = refl
+
+instances_read : Checker → Types → Instances
+instances_read checker places = λ user name. read (get compare_variables checker.instances (record { user = user; name = name })) places
+
+instances_read_agree : (checker : Checker) (places : Types) → AgreesIn checker.instances places (instances_read checker places)
+unfolding instances_read
+instances_read_agree checker places = λ variable. read_agrees (get compare_variables checker.instances variable) places
+
+-- the type of a variable: at its place, or the one that it waits with
+shown : Option ℕ → Option UsedType → List TypeExpr → Instances → Types → TypeExpr
+shown None None table instance places = IntType
+shown None (Some used) table instance places = used_type table instance used
+shown (Some place) o table instance places = places place
+
+shown_placed : (o : Option ℕ) (w : Option UsedType) (table : List TypeExpr) (instance : Instances) (places : Types) → IfSome o (λ place. places place ≡ shown o w table instance places)
+unfolding shown
+shown_placed None w table instance places = tt
+shown_placed (Some place) w table instance places = refl
+
+shown_waiting : (checker : Checker) (number : ℕ) (o : Option ℕ) (w : Option UsedType) (table : List TypeExpr) (instance : Instances) (places : Types)
+    → get nat_cmp checker.variables number ≡ o → IfSome w (Waits checker number) → IfSome w (λ used. shown o w table instance places ≡ used_type table instance used)
+unfolding shown
+shown_waiting checker number o None table instance places o_is waits = tt
+shown_waiting checker number None (Some used) table instance places o_is waits = refl
+shown_waiting checker number (Some place) (Some used) table instance places o_is waits = let none = waits.2 in absurd (cc)
+
+pub types_shown : Checker → Types → Types
+types_shown checker places =
+    λ number. shown (get nat_cmp checker.variables number) (get nat_cmp checker.waiting number) checker.graph.table (instances_read checker places) places
+
+pub holds_shown : (checker : Checker) (places : Types) → IsSound checker → Solves checker.graph.entries places → Holds checker places (types_shown checker places)
+unfolding types_shown
+holds_shown checker places sound solved = record {
+  instance = instances_read checker places;
+  fits = record {
+    solved = solved;
+    variables = λ number.
+        shown_placed (get nat_cmp checker.variables number) (get nat_cmp checker.waiting number) checker.graph.table (instances_read checker places) places;
+    waiting = λ number.
+        shown_waiting checker number (get nat_cmp checker.variables number) (get nat_cmp checker.waiting number) checker.graph.table (instances_read checker places) places
+        refl (sound.waiting number);
+    instances = instances_read_agree checker places;
+  };
+}
+
+-- a goal is typed where types solve the equations
+pub told : (solvable : Bool) (checker : Checker) (known : Module) (arguments : List TypeExpr) (goal : Node) → Knows checker (λ types. IsTyped known types arguments goal)
+    → Decides solvable checker.graph.entries → Tells solvable known arguments goal
+told true checker known arguments goal knows decides =
+    let places : Types = decides.0 in
+    (types_shown checker places, knows.back places (types_shown checker places) (holds_shown checker places knows.sound decides.1))
+told false checker known arguments goal knows decides = λ typing.
+    let holds = knows.forth typing.0 typing.1 in
+    decides holds.0 holds.1.fits.solved
+
+-- where nothing waits, the places of variables tell all of their types
+holds_placed : (checker : Checker) (places types : Types) → IsSound checker → checker.may_wait ≡ false → Solves checker.graph.entries places
+    → AgreesWith checker.variables places types → Holds checker places types
+holds_placed checker places types sound mode solved variables = record {
+  instance = instances_read checker places;
+  fits = record {
+    solved = solved;
+    variables = variables;
+    waiting = λ number.
+        subst (λ (o : Option UsedType). IfSome o (λ used. types number ≡ used_type checker.graph.table (instances_read checker places) used))
+        (sym (sound.none_waits mode number)) tt;
+    instances = instances_read_agree checker places;
+  };
+}
+
 -- what is known in the end goes on as a typing
-pub typing_found : (found : Option Typing) (checker : Checker) (known : Module) (arguments : List TypeExpr) (goal : Node) (k : ℕ) → length (parts_of goal) ≤ k
-    → Knows checker (IsTypedUpTo known arguments goal k) → Yields checker found → IfSome found (λ typing. IsTypingOf typing known arguments goal)
-typing_found None checker known arguments goal k all knows yields = tt
-typing_found (Some typing) checker known arguments goal k all knows yields = record {
+pub typing_found : (found : Option Typing) (checker : Checker) (known : Module) (arguments : List TypeExpr) (goal : Node) → checker.may_wait ≡ false
+    → Knows checker (λ types. IsTyped known types arguments goal) → Yields checker found → IfSome found (λ typing. IsTypingOf typing known arguments goal)
+typing_found None checker known arguments goal mode knows yields = tt
+typing_found (Some typing) checker known arguments goal mode knows yields = record {
   there = λ number. rw (yields.2, yields.1) (knows.sound.variables number);
   solvable = rw (yields.1) yields.0;
   sound = λ places types solution.
-      let holds : Holds checker places types = record {
-        solved = rw (← yields.1) solution.solved;
-        variables = rw (← yields.2) solution.variables;
-      } in
-      whole_typed known arguments goal k types all (knows.back places types holds);
+      knows.back places types (holds_placed checker places types knows.sound mode (rw (← yields.1) solution.solved) (rw (← yields.2) solution.variables));
   complete = λ types typed.
-      let holds = knows.forth types (typed_front known arguments goal k types typed) in
-      (holds.0, record { solved = rw (yields.1) holds.1.solved; variables = rw (yields.2) holds.1.variables });
+      let holds = knows.forth types typed in
+      (holds.0, record { solved = rw (yields.1) holds.1.fits.solved; variables = rw (yields.2) holds.1.fits.variables });
 }
 
-pub none_found : (found : Option Typing) (checker : Checker) (known : Module) (arguments : List TypeExpr) (goal : Node) (k : ℕ)
-    → Knows checker (IsTypedUpTo known arguments goal k) → Yields checker found → IfNone found (HasTyping known arguments goal → ⊥)
-none_found (Some typing) checker known arguments goal k knows yields = tt
-none_found None checker known arguments goal k knows yields = λ typing.
-    let holds = knows.forth typing.0 (typed_front known arguments goal k typing.0 typing.1) in
-    yields holds.0 holds.1.solved
-
--- a goal is typed where it has a typing
-pub told : (found : Option Typing) (known : Module) (arguments : List TypeExpr) (goal : Node) → IfSome found (λ typing. IsTypingOf typing known arguments goal)
-    → IfNone found (HasTyping known arguments goal → ⊥) → Tells (is_some found) known arguments goal
-told None known arguments goal some none = none
-told (Some typing) known arguments goal some none =
-    let places : Types = some.solvable.0 in
-    let types : Types = types_read typing.variables places in
-    (types, some.sound places types (record { solved = some.solvable.1; variables = types_read_agree typing.variables places }))
+pub none_found : (found : Option Typing) (checker : Checker) (known : Module) (arguments : List TypeExpr) (goal : Node)
+    → Knows checker (λ types. IsTyped known types arguments goal) → Yields checker found → IfNone found (HasTyping known arguments goal → ⊥)
+none_found (Some typing) checker known arguments goal knows yields = tt
+none_found None checker known arguments goal knows yields = λ typing.
+    let holds = knows.forth typing.0 typing.1 in
+    yields holds.0 holds.1.fits.solved

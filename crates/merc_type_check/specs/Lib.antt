@@ -7,3 +7,5 @@ pub mod TypingExamples
 pub mod Progress
 pub mod Repeats
 pub mod Building
+pub mod Listed
+pub mod Listing

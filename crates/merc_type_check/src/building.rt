@@ -1,9 +1,10 @@
 //! Declared types as equations.
-ghost use Rattle.std.specs.Prelude.{◌≡◌, ◌<◌, length, map, reverse, IfOk};
+ghost use Rattle.std.specs.Prelude.{◌≡◌, ℕ, ◌<◌, ◌≤◌, length, map, reverse, IfOk, OnOk};
 ghost use Rattle.merc_tree.specs.Types.{TypeApplication, TypeExpr, no_types, replaced, types_of};
 ghost use Rattle.merc_type_table.specs.Table.{type_at};
+ghost use Rattle.merc_type_graph.specs.Changes.{AllWithin};
 ghost use Rattle.merc_type_check.specs.Building.{frames_weight, AreBuilt, Finds, Finishes, HasMore, IsFilled, IsSplit, IsUnderWay};
-ghost use Rattle.merc_type_check.specs.Progress.{IsSound, Places};
+ghost use Rattle.merc_type_check.specs.Progress.{IsSound, Keeps, Places};
 ghost use Rattle.merc_type_check.specs.declared.checker.Checker.{Checker as CheckerValue};
 
 use crate::checker::Checker;
@@ -23,15 +24,23 @@ pub(crate) struct Frame {
 }
 
 impl<'a> Checker<'a> {
-    /// A place for a declared type, in which type variables are what they stand for. Each part of it that holds a type
-    /// variable has one place, however often it occurs, and each greatest part without one has one place too.
-    pub(crate) fn declared(&mut self, alloc: Global, number: TypeNumber) -> Result<Place, NoMemory>
+    /// A place for a declared type, in which type variables are what they stand for in the part of the goal that uses it.
+    /// Each part of it that holds a type variable has one place, however often it occurs, and each greatest part without one
+    /// has one place too.
+    pub(crate) fn declared(
+        &mut self,
+        alloc: Global,
+        user: usize,
+        number: TypeNumber,
+    ) -> Result<Place, NoMemory>
         requires sound { IsSound self.old }
         requires there { number < length self.old.graph.table }
-        ensures { IfOk result (λ place. Places self.old self.new place (λ types instance. replaced instance (type_at self.old.graph.table number))) }
+        requires begun { user ≤ self.old.part }
+        ensures placed { IfOk result (λ place. Places self.old self.new place (λ types instance. replaced (instance user) (type_at self.old.graph.table number))) }
+        ensures kept { OnOk result (Keeps self.old self.new) }
     {
         let mut built = BTreeMap::new(alloc);
-        if let Some(place) = self.part(number, &mut built)? {
+        if let Some(place) = self.part(user, number, &mut built)? {
             return Ok(place);
         }
         let mut top = Frame {
@@ -43,7 +52,7 @@ impl<'a> Checker<'a> {
         loop {
             top = match self.node(top.rest) {
                 TypeNode::With { first, rest } => {
-                    self.argument(alloc, top, first, rest, &mut below, &mut built)?
+                    self.argument(alloc, user, top, first, rest, &mut below, &mut built)?
                 }
                 TypeNode::Name(name) => {
                     let place = self.finish(&top, name, &mut built)?;
@@ -60,13 +69,16 @@ impl<'a> Checker<'a> {
     // The place of a part of a declared type, None where its arguments have to be built first.
     fn part(
         &mut self,
+        user: usize,
         number: TypeNumber,
         built: &mut BTreeMap<TypeNumber, Place>,
     ) -> Result<Option<Place>, NoMemory>
         requires sound { IsSound self.old }
         requires there { number < length self.old.graph.table }
-        requires built { AreBuilt self.old.graph.table self.old built.old }
-        ensures { IfOk result (λ found. Finds self.old self.new built.new number found) }
+        requires built { AreBuilt user self.old.graph.table self.old built.old }
+        requires begun { user ≤ self.old.part }
+        ensures found { IfOk result (λ found. Finds user self.old self.new built.new number found) }
+        ensures kept { OnOk result (Keeps self.old self.new) }
     {
         if let Some(place) = built.get(&number).copied() {
             return Ok(Some(place));
@@ -78,7 +90,7 @@ impl<'a> Checker<'a> {
         }
         match self.node(number) {
             TypeNode::Variable(name) => {
-                let place = self.type_variable(name)?;
+                let place = self.type_variable(user, name)?;
                 built.insert(number, place)?;
                 Ok(Some(place))
             }
@@ -90,6 +102,7 @@ impl<'a> Checker<'a> {
     fn argument(
         &mut self,
         alloc: Global,
+        user: usize,
         frame: Frame,
         first: TypeNumber,
         rest: TypeNumber,
@@ -97,13 +110,15 @@ impl<'a> Checker<'a> {
         built: &mut BTreeMap<TypeNumber, Place>,
     ) -> Result<Frame, NoMemory>
         requires sound { IsSound self.old }
-        requires built { AreBuilt self.old.graph.table self.old built.old }
+        requires built { AreBuilt user self.old.graph.table self.old built.old }
+        requires begun { user ≤ self.old.part }
         requires split { IsSplit self.old.graph.table frame.rest first rest }
-        ensures under_way { IfOk result (λ top. (start : CheckerValue) (whole : TypeExpr) → IsUnderWay start self.old built.old frame (reverse below.old.items) whole → IsUnderWay start self.new built.new top (reverse below.new.items) whole) }
+        ensures under_way { IfOk result (λ top. (start : CheckerValue) (whole : TypeExpr) → IsUnderWay user start self.old built.old frame (reverse below.old.items) whole → IsUnderWay user start self.new built.new top (reverse below.new.items) whole) }
         ensures less { IfOk result (λ top. frames_weight self.old.graph.table top (reverse below.new.items) < frames_weight self.old.graph.table frame (reverse below.old.items)) }
+        ensures kept { OnOk result (Keeps self.old self.new) }
     {
         let mut places = frame.places;
-        match self.part(first, built)? {
+        match self.part(user, first, built)? {
             Some(place) => {
                 places.push(place)?;
                 Ok(Frame {
@@ -135,24 +150,30 @@ impl<'a> Checker<'a> {
         built: &mut BTreeMap<TypeNumber, Place>,
     ) -> Result<Place, NoMemory>
         requires sound { IsSound self.old }
-        requires built { AreBuilt self.old.graph.table self.old built.old }
-        requires filled { IsFilled self.old frame.now.places.items (TypeApplication name no_types) (type_at self.old.graph.table frame.now.number) }
-        ensures { IfOk result (λ place. Finishes self.old self.new built.new frame.now.number place) }
+        requires within { AllWithin (length self.old.graph.entries) frame.now.places.items }
+        ensures finished { IfOk result (λ place. (user : ℕ) → AreBuilt user self.old.graph.table self.old built.old → IsFilled user self.old frame.now.places.items (TypeApplication name no_types) (type_at self.old.graph.table frame.now.number) → Finishes user self.old self.new built.new frame.now.number place) }
+        ensures kept { OnOk result (Keeps self.old self.new) }
     {
         let place = self.applied(name, &frame.places)?;
         built.insert(frame.number, place)?;
         Ok(place)
     }
 
-    /// A place for a declared type over what its parameters stand for.
-    pub(crate) fn whole(&mut self, alloc: Global, declared: &TypeDef) -> Result<Place, NoMemory>
-        requires { IsSound self.old }
-        ensures { IfOk result (λ place. Places self.old self.new place (λ types instance. TypeApplication declared.now.name (types_of (map instance declared.now.params)))) }
+    /// A place for a declared type over what its parameters stand for in the part of the goal that uses it.
+    pub(crate) fn whole(
+        &mut self,
+        alloc: Global,
+        user: usize,
+        declared: &TypeDef,
+    ) -> Result<Place, NoMemory>
+        requires sound { IsSound self.old }
+        requires begun { user ≤ self.old.part }
+        ensures { IfOk result (λ place. Places self.old self.new place (λ types instance. TypeApplication declared.now.name (types_of (map (instance user) declared.now.params)))) }
     {
         let params = declared.params.as_slice();
         let mut places = Vec::new(alloc);
         for name in params {
-            places.push(self.type_variable(*name)?)?;
+            places.push(self.type_variable(user, *name)?)?;
         }
         self.applied(declared.name, &places)
     }

@@ -1,10 +1,14 @@
 //! What is known of types while the parts of a goal are gone through.
-ghost use Rattle.std.specs.Prelude.{◌≡◌, ◌<◌, List, length, slice_get, IfOk, Some};
-ghost use Rattle.merc_tree.specs.Types.{TypeExpr, IntType, TextType, TypeApplication, types_of};
+ghost use Rattle.std.specs.Prelude.{◌≡◌, ◌<◌, ◌≤◌, true, List, length, slice_get, IfOk, OnOk, None, Some};
+ghost use Rattle.std.specs.Option.{IfSome};
+ghost use Rattle.std.specs.Ordering.{nat_cmp};
+ghost use Rattle.std.specs.BTreeMap.{get};
+ghost use Rattle.merc_tree.specs.Types.{TypeExpr, IntType, TextType, TypeApplication, replaced, types_of};
 ghost use Rattle.merc_type_table.specs.Table.{is_closed, made, type_at, IsBefore, IsComplete};
-ghost use Rattle.merc_type_graph.specs.Changes.{AllWithin};
-ghost use Rattle.merc_type_check.specs.Progress.{AllStand, Fits, IsCleared, IsSound, Places, Stands, Takes, Types, Yields};
+ghost use Rattle.merc_type_graph.specs.Changes.{AllWithin, Decides};
+ghost use Rattle.merc_type_check.specs.Progress.{begun, AllStand, Fits, Instances, IsEarlier, IsFresh, IsNewIf, IsSound, Keeps, Offers, Places, Stands, Step, Takes, Types, Yields};
 
+use crate::listed::ListedTypes;
 use crate::typings::Typing;
 use merc_base::{Name, NoMemory};
 use merc_goal_tree::Var;
@@ -13,65 +17,150 @@ use merc_type_table::{TypeNode, TypeNumber, TypeTable};
 use std::alloc::Global;
 use std::collections::BTreeMap;
 
+/// A declared type, and the number of the part of the goal that uses it: its type variables stand for what they do there.
+#[derive(Clone, Copy)]
+pub(crate) struct UsedType {
+    pub(crate) number: TypeNumber,
+    pub(crate) user: usize,
+}
+
+/// A type variable of the declarations that a part of the goal uses.
+#[derive(Clone, Copy, PartialEq, Eq, PartialOrd, Ord)]
+pub(crate) struct UsedVariable {
+    pub(crate) user: usize,
+    pub(crate) name: Name,
+}
+
 /// What is known of types: equations between the types at places, and the places of variables and type variables.
 #[derive(Drop)]
 pub(crate) struct Checker<'a> {
     // The declared types of the module.
     table: &'a TypeTable,
+    listed: &'a ListedTypes,
     graph: TypeGraph<'a>,
     // The places of the types of variables that were met.
     variables: BTreeMap<Var, Place>,
-    // The places of what the type variables of the declared types in use stand for, where they were met.
-    instance: BTreeMap<Name, Place>,
+    // The types of those that were met once, or with one declared type: they have no place.
+    waiting: BTreeMap<Var, UsedType>,
+    // Whether variables may go without a place.
+    may_wait: bool,
+    // The places of what type variables stand for, where they were needed.
+    instances: BTreeMap<UsedVariable, Place>,
+    // The number of the part of the goal that is gone through, counted from 1.
+    part: usize,
 }
 
 impl<'a> Checker<'a> {
     /// Nothing is known. It takes no memory.
-    pub(crate) fn new(alloc: Global, table: &'a TypeTable) -> Checker<'a>
+    pub(crate) fn new(alloc: Global, listed: &'a ListedTypes, may_wait: bool) -> Checker<'a>
         ensures sound { IsSound result }
-        ensures free { (places types instance : Types) → Fits result places types instance }
-        ensures table { result.graph.table ≡ table.now }
+        ensures free { (places types : Types) (instance : Instances) → Fits result places types instance }
+        ensures table { result.graph.table ≡ listed.now }
+        ensures mode { result.may_wait ≡ may_wait }
+        ensures first { result.part ≡ 0 }
     {
+        let table = listed.types();
         Checker {
             table,
+            listed,
             graph: TypeGraph::new(alloc, table),
             variables: BTreeMap::new(alloc),
-            instance: BTreeMap::new(alloc),
+            waiting: BTreeMap::new(alloc),
+            may_wait,
+            instances: BTreeMap::new(alloc),
+            part: 0,
         }
     }
 
-    /// Forgets what type variables stood for. They may stand for anything from here on.
-    pub(crate) fn clear(&mut self, alloc: Global)
-        ensures { IsCleared self.old self.new }
+    /// Begins with a part of the goal. Type variables of the declarations that it uses may stand for anything.
+    pub(crate) fn begin(&mut self, number: usize)
+        requires { self.old.part < number }
+        ensures same { self.new ≡ begun self.old number }
+        ensures fresh { IsSound self.old → IsFresh self.new }
     {
-        self.instance = BTreeMap::new(alloc);
+        self.part = number;
+    }
+
+    /// The number of the part of the goal that is gone through.
+    pub(crate) fn part_number(&self) -> usize
+        ensures { result ≡ self.now.part }
+    {
+        self.part
+    }
+
+    /// Whether a variable was not met. It is said only where variables may go without a place.
+    pub(crate) fn is_new(&self, variable: Var) -> bool
+        ensures { IsNewIf result self.now variable }
+    {
+        self.may_wait
+            && !self.variables.contains_key(&variable)
+            && !self.waiting.contains_key(&variable)
+    }
+
+    /// Gives a new variable a declared type, and no place.
+    pub(crate) fn wait(&mut self, variable: Var, used: UsedType) -> Result<(), NoMemory>
+        requires sound { IsSound self.old }
+        requires new { IsNewIf true self.old variable }
+        requires there { used.number < length self.old.graph.table }
+        requires begun { used.user ≤ self.old.part }
+        ensures { OnOk result (Step self.old self.new (λ types instance. types variable ≡ replaced (instance used.user) (type_at self.old.graph.table used.number))) }
+    {
+        self.waiting.insert(variable, used)?;
+        Ok(())
+    }
+
+    /// The part of the goal that gave a variable the declared type of this number, where it has no place, with the type
+    /// variables of the type.
+    pub(crate) fn earlier(&self, variable: Var, number: TypeNumber) -> Option<(usize, &'a [Name])>
+        requires { IsSound self.now }
+        ensures { IfSome result (λ found. IsEarlier self.now variable number found.0 found.1.now) }
+    {
+        let used = self.waiting.get(&variable).copied()?;
+        if used.number != number {
+            return None;
+        }
+        let names = self.listed.variables_of(number)?;
+        Some((used.user, names))
     }
 
     /// The place of a variable's type.
-    pub(crate) fn variable(&mut self, variable: Var) -> Result<Place, NoMemory>
+    pub(crate) fn variable(&mut self, alloc: Global, variable: Var) -> Result<Place, NoMemory>
         requires { IsSound self.old }
         ensures { IfOk result (λ place. Places self.old self.new place (λ types instance. types variable)) }
     {
-        match self.variables.get(&variable).copied() {
-            Some(place) => Ok(place),
-            None => {
-                let place = self.graph.add_unknown()?;
-                self.variables.insert(variable, place)?;
-                Ok(place)
-            }
+        if let Some(place) = self.variables.get(&variable).copied() {
+            return Ok(place);
+        }
+        let place = self.new_place(alloc, variable)?;
+        self.variables.insert(variable, place)?;
+        Ok(place)
+    }
+
+    // A place for the type of a variable that has none, which waits no longer.
+    fn new_place(&mut self, alloc: Global, variable: Var) -> Result<Place, NoMemory>
+        requires sound { IsSound self.old }
+        requires none { get nat_cmp self.old.variables variable ≡ None }
+        ensures { IfOk result (λ place. Offers self.old self.new variable place) }
+    {
+        match self.waiting.remove(&variable) {
+            Some(used) => self.declared(alloc, used.user, used.number),
+            None => Ok(self.graph.add_unknown()?),
         }
     }
 
     /// The place of what a type variable stands for.
-    pub(crate) fn type_variable(&mut self, name: Name) -> Result<Place, NoMemory>
-        requires { IsSound self.old }
-        ensures { IfOk result (λ place. Places self.old self.new place (λ types instance. instance name)) }
+    pub(crate) fn type_variable(&mut self, user: usize, name: Name) -> Result<Place, NoMemory>
+        requires sound { IsSound self.old }
+        requires begun { user ≤ self.old.part }
+        ensures placed { IfOk result (λ place. Places self.old self.new place (λ types instance. instance user name)) }
+        ensures kept { OnOk result (Keeps self.old self.new) }
     {
-        match self.instance.get(&name).copied() {
+        let variable = UsedVariable { user, name };
+        match self.instances.get(&variable).copied() {
             Some(place) => Ok(place),
             None => {
                 let place = self.graph.add_unknown()?;
-                self.instance.insert(name, place)?;
+                self.instances.insert(variable, place)?;
                 Ok(place)
             }
         }
@@ -117,7 +206,8 @@ impl<'a> Checker<'a> {
     pub(crate) fn whole_place(&mut self, number: TypeNumber) -> Result<Place, NoMemory>
         requires sound { IsSound self.old }
         requires declared { number < length self.old.graph.table }
-        ensures { IfOk result (λ place. Places self.old self.new place (λ types instance. type_at self.old.graph.table number)) }
+        ensures placed { IfOk result (λ place. Places self.old self.new place (λ types instance. type_at self.old.graph.table number)) }
+        ensures kept { OnOk result (Keeps self.old self.new) }
     {
         self.graph.add_whole(number)
     }
@@ -126,7 +216,8 @@ impl<'a> Checker<'a> {
     pub(crate) fn applied(&mut self, name: Name, arguments: &[Place]) -> Result<Place, NoMemory>
         requires sound { IsSound self.old }
         requires within { AllWithin (length self.old.graph.entries) arguments.now }
-        ensures { IfOk result (λ place. (Meant : Types → Types → List TypeExpr) → AllStand self.old arguments.now Meant → Places self.old self.new place (λ types instance. TypeApplication name (types_of (Meant types instance)))) }
+        ensures placed { IfOk result (λ place. (Meant : Types → Instances → List TypeExpr) → AllStand self.old arguments.now Meant → Places self.old self.new place (λ types instance. TypeApplication name (types_of (Meant types instance)))) }
+        ensures kept { OnOk result (Keeps self.old self.new) }
     {
         self.graph.add_applied(name, arguments)
     }
@@ -136,7 +227,7 @@ impl<'a> Checker<'a> {
         requires sound { IsSound self.old }
         requires one { one < length self.old.graph.entries }
         requires other { other < length self.old.graph.entries }
-        ensures { IfOk result (λ done. (One Other : Types → Types → TypeExpr) → Stands self.old one One → Stands self.old other Other → Takes done self.old self.new (λ types instance. One types instance ≡ Other types instance)) }
+        ensures { IfOk result (λ done. (One Other : Types → Instances → TypeExpr) → Stands self.old one One → Stands self.old other Other → Takes done self.old self.new (λ types instance. One types instance ≡ Other types instance)) }
     {
         self.graph.make_equal(one, other)
     }
@@ -146,17 +237,24 @@ impl<'a> Checker<'a> {
         requires sound { IsSound self.old }
         requires there { place < length self.old.graph.entries }
         requires declared { whole < length self.old.graph.table }
-        ensures { IfOk result (λ done. (Meant : Types → Types → TypeExpr) → Stands self.old place Meant → Takes done self.old self.new (λ types instance. Meant types instance ≡ type_at self.old.graph.table whole)) }
+        ensures { IfOk result (λ done. (Meant : Types → Instances → TypeExpr) → Stands self.old place Meant → Takes done self.old self.new (λ types instance. Meant types instance ≡ type_at self.old.graph.table whole)) }
     {
         self.graph.make_whole(place, whole)
+    }
+
+    /// Whether types solve the equations.
+    pub(crate) fn is_solvable(&self, alloc: Global) -> Result<bool, NoMemory>
+        ensures { IfOk result (λ solvable. Decides solvable self.now.graph.entries) }
+    {
+        let solvable = self.graph.is_solvable(alloc)?;
+        Ok(solvable)
     }
 
     /// The equations with the places of variables, None where no types solve them.
     pub(crate) fn into_typing(self, alloc: Global) -> Result<Option<Typing<'a>>, NoMemory>
         ensures { IfOk result (λ found. Yields self.entry found) }
     {
-        let solvable = self.graph.is_solvable(alloc)?;
-        if !solvable {
+        if !self.is_solvable(alloc)? {
             return Ok(None);
         }
         Ok(Some(Typing {

@@ -1,9 +1,10 @@
 //! Whether a goal is typed, and its typings.
-ghost use Rattle.std.specs.Prelude.{IfOk};
+ghost use Rattle.std.specs.Prelude.{◌≡◌, IfOk};
 ghost use Rattle.std.specs.Option.{IfSome, IfNone};
 ghost use Rattle.merc_type_check.specs.Checked.{Tells, head_of};
 ghost use Rattle.merc_type_check.specs.TypeNumbers.{AreDeclared, AreNumbers};
-ghost use Rattle.merc_type_check.specs.Typing.{HasTyping};
+ghost use Rattle.merc_type_check.specs.Typing.{HasTyping, IsTyped};
+ghost use Rattle.merc_type_check.specs.Progress.{Knows};
 ghost use Rattle.merc_type_check.specs.Typings.{IsTypingOf};
 ghost use Rattle.merc_tree.specs.declared.declarations.Module.{Module};
 
@@ -17,7 +18,8 @@ use merc_known::Known;
 use merc_type_table::TypeNumber;
 use std::alloc::Global;
 
-/// Whether the variables of a goal have types, as `typing` gives them, in as much time.
+/// Whether the variables of a goal have types, as `typing` gives them. A variable that is an argument with one declared type
+/// alone, however often, takes no more time than the type has type variables, each time but the first.
 ///
 /// # Errors
 ///
@@ -32,8 +34,10 @@ pub fn is_typed(
     requires { AreDeclared known.now declared.now }
     ensures { IfOk result (λ typed. Tells typed known.now (head_of known.now predicate) goal.now) }
 {
-    let found = typing(alloc, known, declared, predicate, goal)?;
-    Ok(found.is_some())
+    match checked(alloc, known, declared, predicate, goal, true)? {
+        Some(checker) => checker.is_solvable(alloc),
+        None => Ok(false),
+    }
 }
 
 /// The types of the variables of a goal, such that the arguments of the predicate that it is the body of, which are its
@@ -61,8 +65,28 @@ pub fn typing<'a>(
     ensures some { IfOk result (λ found. IfSome found (λ typing. IsTypingOf typing known.now (head_of known.now predicate) goal.now)) }
     ensures none { IfOk result (λ found. IfNone found (HasTyping known.now (head_of known.now predicate) goal.now → ⊥)) }
 {
-    let mut checker = Checker::new(alloc, declared.table());
-    let done = checker.take_head(head_numbers(declared, predicate))?;
+    match checked(alloc, known, declared, predicate, goal, false)? {
+        Some(checker) => checker.into_typing(alloc),
+        None => Ok(None),
+    }
+}
+
+// What makes a goal typed, None where something cannot be. Whether variables may go without a place is given.
+fn checked<'a>(
+    alloc: Global,
+    known: &Known<'_>,
+    declared: &'a DeclaredTypes,
+    predicate: Option<Predicate>,
+    goal: &NodeRef<'_>,
+    may_wait: bool,
+) -> Result<Option<Checker<'a>>, NoMemory>
+    requires { AreDeclared known.now declared.now }
+    ensures some { IfOk result (λ found. IfSome found (λ checker. Knows checker (λ types. IsTyped known.now types (head_of known.now predicate) goal.now))) }
+    ensures none { IfOk result (λ found. IfNone found (HasTyping known.now (head_of known.now predicate) goal.now → ⊥)) }
+    ensures mode { IfOk result (λ found. IfSome found (λ checker. checker.may_wait ≡ may_wait)) }
+{
+    let mut checker = Checker::new(alloc, declared.listed(), may_wait);
+    let done = checker.take_head(alloc, head_numbers(declared, predicate))?;
     if !done {
         return Ok(None);
     }
@@ -72,6 +96,7 @@ pub fn typing<'a>(
         match goal.part(index) {
             Some((part, _)) => {
                 if !repeats.is_repeated(goal, index, part)? {
+                    checker.begin(index + 1);
                     let done = checker.take_part(alloc, known, declared, part)?;
                     if !done {
                         return Ok(None);
@@ -81,7 +106,7 @@ pub fn typing<'a>(
             None => unreachable!(),
         }
     }
-    checker.into_typing(alloc)
+    Ok(Some(checker))
 }
 
 // The numbers of the declared types of a predicate's arguments, none where there is no predicate.

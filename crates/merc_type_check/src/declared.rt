@@ -1,20 +1,22 @@
 //! The declared types of a module.
 ghost use Rattle.std.specs.Prelude.{◌≡◌, [], ◌∷◌, slice_get, IfOk, OnOk};
+ghost use Rattle.std.specs.List.{AllByRecursion};
 ghost use Rattle.merc_base.specs.Groups.{kept};
 ghost use Rattle.merc_type_table.specs.Numbering.{IsNumbering};
-ghost use Rattle.merc_type_check.specs.TypeNumbers.{numbers_found, AreDeclared, Numbered, NumbersConstructors, NumbersPredicates, Renumbers};
+ghost use Rattle.merc_type_check.specs.TypeNumbers.{numbers_found, AreDeclared, AreWithin, Numbered, NumbersConstructors, NumbersPredicates, Renumbers};
 
+use crate::listed::ListedTypes;
 use merc_base::{Groups, Key, Name, NoMemory, Sequence};
 use merc_known::Known;
 use merc_tree::{Constructor, PredDecl, TypeDef, TypeExprs};
-use merc_type_table::{TypeNumber, TypeNumbering, TypeTable};
+use merc_type_table::{TypeNumber, TypeNumbering};
 use std::alloc::Global;
 
 /// The declared types of a module by numbers, and the numbers of the types of each predicate's and each constructor's
 /// arguments. It is made once for a module, so that types of clauses are compared by their numbers.
 #[derive(Drop)]
 pub struct DeclaredTypes {
-    table: TypeTable,
+    table: ListedTypes,
     // By the predicates' numbers.
     predicates: Vec<Sequence<TypeNumber>>,
     constructors: Groups<Sequence<TypeNumber>>,
@@ -36,7 +38,8 @@ impl DeclaredTypes {
             known.module().types.as_slice(),
             &mut numbering,
         )?;
-        let table = numbering.into_table(alloc)?;
+        let mut table = ListedTypes::new(alloc, numbering.into_table(alloc)?);
+        list_predicates(alloc, &predicates, &mut table)?;
         Ok(DeclaredTypes {
             table,
             predicates,
@@ -45,7 +48,7 @@ impl DeclaredTypes {
     }
 
     /// The types by numbers.
-    pub(crate) fn table(&self) -> &TypeTable
+    pub(crate) fn listed(&self) -> &ListedTypes
         ensures { result.now ≡ self.now.table }
     {
         &self.table
@@ -87,6 +90,21 @@ fn number_predicates(
         predicates.push(numbers)?;
     }
     Ok(predicates)
+}
+
+// Lists the type variables of the types of predicates' arguments.
+fn list_predicates(
+    alloc: Global,
+    predicates: &[Sequence<TypeNumber>],
+    listed: &mut ListedTypes,
+) -> Result<(), NoMemory>
+    requires { AllByRecursion (AreWithin listed.old) predicates.now }
+    ensures { OnOk result (listed.new ≡ listed.old) }
+{
+    for numbers in predicates {
+        listed.list_all(alloc, numbers.as_slice())?;
+    }
+    Ok(())
 }
 
 // Numbers the types of constructors' arguments.

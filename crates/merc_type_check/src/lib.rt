@@ -6,6 +6,7 @@ mod checker;
 mod checking;
 pub mod declared;
 mod goals;
+mod listed;
 mod repeats;
 pub mod typings;
 

@@ -1,4 +1,4 @@
-use Rattle.std.proofs.Common.{◌≡◌, ◌<◌, ℕ, List, Some, length, get_or, refl, sym, subst, ◌∙◌, arith}
+use Rattle.std.proofs.Common.{◌≡◌, ◌<◌, ◌≤◌, ℕ, List, Some, length, get_or, refl, sym, subst, ◌∙◌, arith}
 use Rattle.std.specs.Prelude.{slice_get}
 use Rattle.std.proofs.lemmas.Option.{slice_get_read}
 use Rattle.merc_tree.specs.Types.{TypeExpr, replaced}
@@ -15,7 +15,7 @@ declared_at table numbers variables types count i d are count_is same less =
     type_of_number table numbers types i d are (omega arith)
 
 pub returns-then-variables-len : goal.returns-then-variables-len
-returns-then-variables-len c = λ known. have_none known c.args.self.now c.args.variables.now c.args.declared.now (λ same. c.if-variables-len.true (same ∙ sym c.len.ensures))
+returns-then-variables-len c = λ known. have_none c.args.user known c.args.self.now c.args.variables.now c.args.declared.now (λ same. c.if-variables-len.true (same ∙ sym c.len.ensures))
 
 pub bounds-numbers-index : goal.bounds-numbers-index
 bounds-numbers-index c =
@@ -43,11 +43,11 @@ returns-then-not-done c = λ known.
     c.requires.numbers c.len.ensures c.if-variables-len.false c.loop-index-test.true in
     let there : slice_get c.args.self.now.graph.table c.index-numbers-index.result ≡ Some found.0 =
     subst (λ (n : ℕ). slice_get c.args.self.now.graph.table n ≡ Some found.0) (sym c.index-numbers-index.is) found.1.1 in
-    have_refused known c.args.self.now c.loop-index.self c.args.variables.now c.args.declared.now c.loop-index.index c.index-variables-index.result found.0
+    have_refused c.args.user known c.args.self.now c.loop-index.self c.args.variables.now c.args.declared.now c.loop-index.index c.index-variables-index.result found.0
     (slice_get_read c.args.variables.now (length c.args.variables.now) c.loop-index.index c.index-variables-index.result refl c.loop-index-test.true c.index-variables-index.is)
     found.1.0 (c.loop-index.invariant.have known)
-    (refused c.in_ok-done.done c.loop-index.self c.has_type.new.self (λ types instance. types c.index-variables-index.result ≡ replaced instance found.0) c.if-not-done.true
-    (given_declared c.in_ok-done.done c.loop-index.self c.has_type.new.self c.args.self.now.graph.table c.index-variables-index.result c.index-numbers-index.result found.0
+    (refused c.in_ok-done.done c.loop-index.self c.has_type.new.self (λ types instance. types c.index-variables-index.result ≡ replaced (instance c.args.user) found.0) c.if-not-done.true
+    (given_declared c.args.user c.in_ok-done.done c.loop-index.self c.has_type.new.self c.args.self.now.graph.table c.index-variables-index.result c.index-numbers-index.result found.0
     c.loop-index.invariant.table there c.in_ok-done.ensures))
 
 pub loop-index-preserved : goal.loop-index-preserved
@@ -56,13 +56,14 @@ loop-index-preserved c =
     c.requires.numbers c.len.ensures c.if-variables-len.false c.loop-index-test.true in
     let there : slice_get c.args.self.now.graph.table c.index-numbers-index.result ≡ Some found.0 =
     subst (λ (n : ℕ). slice_get c.args.self.now.graph.table n ≡ Some found.0) (sym c.index-numbers-index.is) found.1.1 in
-    let step = taken c.in_ok-done.done c.loop-index.self c.has_type.new.self (λ types instance. types c.index-variables-index.result ≡ replaced instance found.0) c.if-not-done.false
-    (given_declared c.in_ok-done.done c.loop-index.self c.has_type.new.self c.args.self.now.graph.table c.index-variables-index.result c.index-numbers-index.result found.0
+    let step = taken c.in_ok-done.done c.loop-index.self c.has_type.new.self (λ types instance. types c.index-variables-index.result ≡ replaced (instance c.args.user) found.0) c.if-not-done.false
+    (given_declared c.args.user c.in_ok-done.done c.loop-index.self c.has_type.new.self c.args.self.now.graph.table c.index-variables-index.result c.index-numbers-index.result found.0
     c.loop-index.invariant.table there c.in_ok-done.ensures) in
     record {
       sound = step.sound;
       table = step.same_table ∙ c.loop-index.invariant.table;
-      have = λ known. have_step known c.args.self.now c.loop-index.self c.has_type.new.self c.args.variables.now c.args.declared.now c.loop-index.index
+      part = step.same_part ∙ c.loop-index.invariant.part;
+      have = λ known. have_step c.args.user known c.args.self.now c.loop-index.self c.has_type.new.self c.args.variables.now c.args.declared.now c.loop-index.index
           c.index-variables-index.result found.0
           (slice_get_read c.args.variables.now (length c.args.variables.now) c.loop-index.index c.index-variables-index.result refl c.loop-index-test.true c.index-variables-index.is)
           found.1.0 (c.loop-index.invariant.have known) step;
@@ -73,4 +74,7 @@ returns c = λ known.
     let count : length c.args.variables.now ≡ c.len.result = c.if-variables-len.false in
     let less = c.loop-index-test.false in
     let same = c.len.ensures in
-    have_all known c.args.self.now c.loop-index.self c.args.variables.now c.args.declared.now c.loop-index.index (omega arith) (omega arith) (c.loop-index.invariant.have known)
+    have_all c.args.user known c.args.self.now c.loop-index.self c.args.variables.now c.args.declared.now c.loop-index.index (omega arith) (omega arith) (c.loop-index.invariant.have known)
+
+pub has_type-requires-clause-begun : goal.has_type-requires-clause-begun
+has_type-requires-clause-begun c = subst (λ (n : ℕ). c.args.user ≤ n) (sym c.loop-index.invariant.part) c.requires.begun

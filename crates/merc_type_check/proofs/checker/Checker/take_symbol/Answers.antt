@@ -7,8 +7,9 @@ use Rattle.merc_tree.specs.declared.declarations.TypeDef.{TypeDef}
 use Rattle.std.proofs.lemmas.Result.{IfOk-weaker}
 use Rattle.merc_tree.specs.Types.{TypeExpr, IntType, TextType}
 use Rattle.merc_type_check.proofs.Steps.{plain_goal_takes}
-use Rattle.merc_type_graph.specs.Solutions.{Graph}
 use Rattle.merc_type_check.specs.TypeNumbers.{AreNumbers}
+use Rattle.merc_type_check.specs.Progress.{Takes}
+use Rattle.merc_type_check.specs.Typing.{HasConstructor}
 use Rattle.merc_type_check.proofs.Numbers.{numbers_are}
 use Rattle.merc_type_check.proofs.Asked.{constructed}
 use Rattle.merc_type_check.proofs.checker.Checker.take_symbol.Goals as goal
@@ -17,8 +18,11 @@ pub returns-in-Some : goal.returns-in-Some
 returns-in-Some c =
     rw c.in-Constructor.is
     (IfOk-weaker c.take_constructor.result _ _
-    (λ done takes. constructed done c.args.self.now c.clear.new.self c.take_constructor.new.self c.args.known.now c.args.variable c.in-Constructor.name
-    c.in-Constructor.arity c.args.arguments.now c.in-Some.type_def.now c.in-Some.constructor.now c.in-Some.ensures c.clear.ensures (takes c.args.known.now))
+    (λ done takes. constructed done c.args.self.now c.take_constructor.new.self c.args.known.now c.args.variable c.in-Constructor.name
+    c.in-Constructor.arity c.args.arguments.now c.in-Some.type_def.now c.in-Some.constructor.now c.in-Some.ensures c.requires.fresh
+    (subst (λ (n : ℕ). Takes done c.args.self.now c.take_constructor.new.self
+    (λ types instance. HasConstructor c.args.known.now types (instance n) c.args.variable c.in-Some.type_def.now c.in-Some.constructor.now c.args.arguments.now))
+    c.part_number.ensures (takes c.args.known.now)))
     c.take_constructor.ensures)
 
 pub returns-in-Integer : goal.returns-in-Integer
@@ -35,8 +39,7 @@ returns-in-Text c =
 
 pub take_constructor-requires-clause-numbers : goal.take_constructor-requires-clause-numbers
 take_constructor-requires-clause-numbers c =
-    let table : c.args.declared.now.table ≡ c.clear.new.self.graph.table = c.requires.table ∙ ap (λ (g : Graph). g.table) (sym c.clear.ensures.graph) in
-    subst (λ (t : List TypeExpr). AreNumbers t c.of_constructor-numbers.result.now c.in-Some.constructor.now.args) table
+    subst (λ (t : List TypeExpr). AreNumbers t c.of_constructor-numbers.result.now c.in-Some.constructor.now.args) c.requires.table
     (subst (λ (l : List ℕ). AreNumbers c.args.declared.now.table l c.in-Some.constructor.now.args) (sym c.of_constructor-numbers.ensures)
     (numbers_are (λ (found : TypeDef × Constructor). found.1.args) c.args.declared.now.table
     (slice_get (kept c.args.declared.now.constructors c.in-Constructor.name c.in-Constructor.arity) 0)

@@ -2,10 +2,10 @@ use Rattle.std.proofs.Common.{sym, ◌∙◌}
 use Rattle.merc_type_check.proofs.Places.{type_variable_known, type_variable_placed}
 use Rattle.merc_type_check.proofs.checker.Checker.type_variable.Goals as goal
 
-pub returns-in-Some : goal.returns-in-Some
-returns-in-Some c = type_variable_known c.args.self.now c.args.name c.in-Some.place c.requires (sym c.get.ensures.value ∙ sym c.in-Some.ensures)
+pub returns-in-Some-clause-placed : goal.returns-in-Some-clause-placed
+returns-in-Some-clause-placed c = type_variable_known c.args.self.now c.args.user c.args.name c.in-Some.place c.requires.sound (sym c.get.ensures.value ∙ sym c.in-Some.ensures)
 
-pub returns-in_ok-insert-in-None : goal.returns-in_ok-insert-in-None
-returns-in_ok-insert-in-None c =
-    type_variable_placed c.args.self.now c.add_unknown.new.self c.insert.new.self c.args.name c.in_ok-place-in-None.place c.requires c.add_unknown.ensures.table c.in_ok-place-in-None.ensures.place
+pub returns-in_ok-insert-in-None-clause-placed : goal.returns-in_ok-insert-in-None-clause-placed
+returns-in_ok-insert-in-None-clause-placed c =
+    type_variable_placed c.args.self.now c.add_unknown.new.self c.insert.new.self c.args.user c.args.name c.in_ok-place-in-None.place c.requires.sound c.requires.begun c.add_unknown.ensures.table c.in_ok-place-in-None.ensures.place
     c.in_ok-place-in-None.ensures.count c.in_ok-place-in-None.ensures.solutions (sym c.get.ensures.value ∙ sym c.in-None.ensures) c.in_ok-insert-in-None.ensures.updates.0

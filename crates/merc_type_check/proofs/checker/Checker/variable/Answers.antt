@@ -1,11 +1,13 @@
 use Rattle.std.proofs.Common.{sym, ◌∙◌}
-use Rattle.merc_type_check.proofs.Places.{variable_known, variable_placed}
+use Rattle.merc_type_check.proofs.Places.{variable_known, variable_given}
 use Rattle.merc_type_check.proofs.checker.Checker.variable.Goals as goal
 
 pub returns-in-Some : goal.returns-in-Some
 returns-in-Some c = variable_known c.args.self.now c.args.variable c.in-Some.place c.requires (sym c.get.ensures.value ∙ sym c.in-Some.ensures)
 
-pub returns-in_ok-insert-in-None : goal.returns-in_ok-insert-in-None
-returns-in_ok-insert-in-None c =
-    variable_placed c.args.self.now c.add_unknown.new.self c.insert.new.self c.args.variable c.in_ok-place-in-None.place c.requires c.add_unknown.ensures.table c.in_ok-place-in-None.ensures.place
-    c.in_ok-place-in-None.ensures.count c.in_ok-place-in-None.ensures.solutions (sym c.get.ensures.value ∙ sym c.in-None.ensures) c.in_ok-insert-in-None.ensures.updates.0
+pub new_place-requires-clause-none : goal.new_place-requires-clause-none
+new_place-requires-clause-none c = sym c.get.ensures.value ∙ sym c.copied.ensures ∙ c.in_default.is
+
+pub returns : goal.returns
+returns c =
+    variable_given c.args.self.now c.new_place.new.self c.insert.new.self c.args.variable c.in_ok-place.place c.in_ok-place.ensures c.in_ok-insert.ensures.updates.0
