@@ -26,8 +26,8 @@ pub(crate) const HALF: u64 = 4_294_967_296;
 
 /// The word of a field, and the number of the constructor whose cell ends with the field.
 ///
-/// A run that builds much spends more time on its memory than on its steps. So the number shares four bytes with the kind of
-/// the word, and the bits of the word are kept in two halves, which leaves no byte unused.
+/// A run that builds much spends a good part of its time on memory that the system clears for it. So the number shares four
+/// bytes with the kind of the word, and the bits of the word are kept in two halves, which leaves no byte unused.
 #[derive(Drop)]
 pub struct Slot {
     header: u32,

@@ -2,6 +2,8 @@
 use Rattle.std.proofs.Common.{◌≡◌, ℕ, zero, suc, ◌+◌, ◌<◌, ◌≤◌, Bool, true, false, Option, Some, None, List, [], ◌∷◌, ◌++◌, length, map, take, get_or, refl, sym, ap, subst, ◌∙◌, arith, add-zero, add-one}
 use Rattle.std.specs.Prelude.{slice_get}
 use Rattle.std.specs.Option.{IfSome}
+use Rattle.std.specs.Ordering.{nat_cmp}
+use Rattle.std.specs.BTreeMap.{get}
 use Rattle.std.proofs.lemmas.List.{map-append, take_all}
 use Rattle.std.proofs.Math.Seq.{take-suc}
 use Rattle.merc_tree.specs.Types.{TypeExpr, TypeApplication, types_of, replaced}
@@ -13,22 +15,13 @@ use Rattle.merc_known.specs.Known.{constructor_in}
 use Rattle.merc_type_table.specs.Table.{type_at}
 use Rattle.merc_type_check.specs.declared.checker.Checker.{Checker}
 use Rattle.merc_type_check.specs.declared.checker.UsedType.{UsedType}
-use Rattle.merc_type_check.specs.Progress.{used_type, Types, Instances, Fits, IsEarlier, Step, Refuses, Takes, Nothing, Stands, AllStand, Places, IsFresh, GoalTakes}
+use Rattle.merc_type_check.specs.declared.matching.NamePair.{NamePair}
+use Rattle.merc_type_check.specs.Matched.{AgreeOn, AreMatched}
+use Rattle.merc_type_check.specs.Progress.{used_type, Types, Instances, Fits, IsSound, Step, Refuses, Takes, Nothing, Stands, AllStand, Places, IsFresh, GoalTakes}
 use Rattle.merc_type_check.specs.Typing.{HaveTypes, HasConstructor, IsConstructed, IsCalled, AreArguments}
 use Rattle.merc_type_check.proofs.Steps.{steps, step_as, takes_where, grow_takes, grow_grow, stands_on, all_stand_on, fresh_takes}
 use Rattle.merc_type_check.proofs.Built.{stand_push, stand_as}
-use Rattle.merc_type_check.proofs.Numbers.{take_next}
-use Rattle.merc_type_check.proofs.Listing.{push_same}
-
-map_at : (one other : ℕ → TypeExpr) (names : List ℕ) (k name : ℕ) → slice_get names k ≡ Some name → map one names ≡ map other names
-    → (map one (take k names) ≡ map other (take k names)) × (one name ≡ other name)
-map_at one other [] k name is same = absurd (cc)
-map_at one other (n ∷ ns) zero name is same = let at : n ≡ name = cc in let head : one n ≡ other n = cc in (refl, ap one (sym at) ∙ head ∙ ap other at)
-map_at one other (n ∷ ns) (suc k) name is same =
-    let head : one n ≡ other n = cc in
-    let tail : map one ns ≡ map other ns = cc in
-    let rest = map_at one other ns k name is tail in
-    let before : map one (take k ns) ≡ map other (take k ns) = rest.0 in (cc, rest.1)
+use Rattle.merc_type_check.proofs.Told.{part_front, part_pop, part_push}
 
 pub taken : (done : Bool) (old new : Checker) (Asked : Types → Instances → Type 0) → done ≡ true → Takes done old new Asked → Step old new Asked
 taken done old new Asked e takes = subst (λ (b : Bool). Takes b old new Asked) e takes
@@ -49,40 +42,86 @@ two_equal done first second third last one other One Other a b equal =
     grow_takes done first third last (λ types instance. One types instance ≡ Other types instance) (grow_grow first second third a.grows b.grows)
     (equal One Other (stands_on second third Nothing one One b.grows a.stands) b.stands)
 
--- a variable waits with the same declared type of an earlier part
-pub given_earlier : (done : Bool) (old new : Checker) (variable number earlier user : ℕ) (names : List ℕ) → IsEarlier old variable number earlier names
-    → Takes done old new (λ types instance. map (instance earlier) names ≡ map (instance user) names)
+-- a variable waits with a declared type that is matched with another
+pub given_used : (done : Bool) (old new : Checker) (variable number user : ℕ) (used : UsedType) (pairs : List NamePair) → get nat_cmp old.waiting variable ≡ Some used
+    → AreMatched pairs (type_at old.graph.table used.number) (type_at old.graph.table number)
+    → Takes done old new (λ types instance. AgreeOn (instance used.user) (instance user) pairs)
     → Takes done old new (λ types instance. types variable ≡ replaced (instance user) (type_at old.graph.table number))
-given_earlier done old new variable number earlier user names is takes =
+given_used done old new variable number user used pairs waits matched takes =
     let table : List TypeExpr = old.graph.table in
-    let has : (places types : Types) (instance : Instances) → Fits old places types instance → types variable ≡ replaced (instance earlier) (type_at table number) =
-    λ places types instance fits. subst (λ (o : Option UsedType). IfSome o (λ used. types variable ≡ used_type table instance used)) is.is (fits.waiting variable) in
-    takes_where done old new (λ types instance. map (instance earlier) names ≡ map (instance user) names)
+    let has : (places types : Types) (instance : Instances) → Fits old places types instance → types variable ≡ used_type table instance used =
+    λ places types instance fits. subst (λ (o : Option UsedType). IfSome o (λ u. types variable ≡ used_type table instance u)) waits (fits.waiting variable) in
+    takes_where done old new (λ types instance. AgreeOn (instance used.user) (instance user) pairs)
     (λ types instance. types variable ≡ replaced (instance user) (type_at table number))
-    (λ places types instance fits same. has places types instance fits ∙ (is.are (instance earlier) (instance user)).0 same)
-    (λ places types instance fits same. (is.are (instance earlier) (instance user)).1 (sym (has places types instance fits) ∙ same)) takes
+    (λ places types instance fits agree. has places types instance fits ∙ (matched (instance used.user) (instance user)).0 agree)
+    (λ places types instance fits same. (matched (instance used.user) (instance user)).1 (sym (has places types instance fits) ∙ same)) takes
 
--- one more name of type variables
-pub names_step : (one other : ℕ) (first second third : Checker) (names : List ℕ) (k name : ℕ) → slice_get names k ≡ Some name
-    → Step first second (λ types instance. map (instance one) (take k names) ≡ map (instance other) (take k names))
-    → Step second third (λ types instance. instance one name ≡ instance other name)
-    → Step first third (λ types instance. map (instance one) (take (k + 1) names) ≡ map (instance other) (take (k + 1) names))
-names_step one other first second third names k name is before step =
-    let front : take (k + 1) names ≡ take k names ++ name ∷ [] = take_next names k name is in
-    subst (λ (l : List ℕ). Step first third (λ types instance. map (instance one) l ≡ map (instance other) l)) (sym front)
-    (step_as first third (λ types instance. (map (instance one) (take k names) ≡ map (instance other) (take k names)) × (instance one name ≡ instance other name))
-    (λ types instance. map (instance one) (take k names ++ name ∷ []) ≡ map (instance other) (take k names ++ name ∷ []))
-    (λ types instance both. (push_same (instance one) (instance other) (take k names) name).1 both)
-    (λ types instance same. (push_same (instance one) (instance other) (take k names) name).0 same)
-    (steps first second third (λ types instance. map (instance one) (take k names) ≡ map (instance other) (take k names))
-    (λ types instance. instance one name ≡ instance other name) before step))
+-- the same where pairs are taken before
+pub given_like : (done : Bool) (old middle new : Checker) (variable number user : ℕ) (used : UsedType) (pairs view : List NamePair) → view ≡ pairs → Step old middle Nothing
+    → get nat_cmp old.waiting variable ≡ Some used → AreMatched pairs (type_at old.graph.table used.number) (type_at old.graph.table number)
+    → Takes done middle new (λ types instance. AgreeOn (instance used.user) (instance user) view)
+    → Takes done old new (λ types instance. types variable ≡ replaced (instance user) (type_at old.graph.table number))
+given_like done old middle new variable number user used pairs view view_is grows waits matched takes =
+    given_used done old new variable number user used pairs waits matched
+    (grow_takes done old middle new (λ types instance. AgreeOn (instance used.user) (instance user) pairs) grows
+    (subst (λ (l : List NamePair). Takes done middle new (λ types instance. AgreeOn (instance used.user) (instance user) l)) view_is takes))
 
-pub names_refused : (one other : ℕ) (first second : Checker) (names : List ℕ) (k name : ℕ) → slice_get names k ≡ Some name
-    → Step first second (λ types instance. map (instance one) (take k names) ≡ map (instance other) (take k names))
-    → Refuses second (λ types instance. instance one name ≡ instance other name)
-    → Refuses first (λ types instance. map (instance one) names ≡ map (instance other) names)
-names_refused one other first second names k name is before refuses = λ places types instance fits same.
-    let both = map_at (instance one) (instance other) names k name is same in
+-- the same of a type that is built then
+pub like_built : (done : Bool) (old middle new : Checker) (variable number user : ℕ) → Step old middle Nothing
+    → Takes done middle new (λ types instance. types variable ≡ replaced (instance user) (type_at middle.graph.table number))
+    → Takes done old new (λ types instance. types variable ≡ replaced (instance user) (type_at old.graph.table number))
+like_built done old middle new variable number user grows takes =
+    subst (λ (t : List TypeExpr). Takes done old new (λ types instance. types variable ≡ replaced (instance user) (type_at t number))) grows.same_table
+    (grow_takes done old middle new (λ types instance. types variable ≡ replaced (instance user) (type_at middle.graph.table number)) grows takes)
+
+-- another variable has the type of one that waits
+pub alike_given : (done : Bool) (old new : Checker) (one other : ℕ) (used : UsedType) → get nat_cmp old.waiting one ≡ Some used
+    → Takes done old new (λ types instance. types other ≡ replaced (instance used.user) (type_at old.graph.table used.number))
+    → Takes done old new (λ types instance. types one ≡ types other)
+alike_given done old new one other used waits takes =
+    let has : (places types : Types) (instance : Instances) → Fits old places types instance → types one ≡ used_type old.graph.table instance used =
+    λ places types instance fits. subst (λ (o : Option UsedType). IfSome o (λ u. types one ≡ used_type old.graph.table instance u)) waits (fits.waiting one) in
+    takes_where done old new (λ types instance. types other ≡ replaced (instance used.user) (type_at old.graph.table used.number)) (λ types instance. types one ≡ types other)
+    (λ places types instance fits same. has places types instance fits ∙ sym same) (λ places types instance fits same. sym same ∙ has places types instance fits) takes
+
+-- it waits with it as this part uses it
+pub given_before : (old : Checker) (variable : ℕ) (used : UsedType) (user : ℕ) → IsSound old → get nat_cmp old.waiting variable ≡ Some used → used.user ≡ user
+    → Step old old (λ types instance. types variable ≡ replaced (instance user) (type_at old.graph.table used.number))
+given_before old variable used user sound waits same = record {
+  sound = sound;
+  longer = omega arith;
+  same_table = refl;
+  same_part = refl;
+  same_mode = refl;
+  back = λ places types instance fits. (
+    fits,
+    subst (λ (n : ℕ). types variable ≡ replaced (instance n) (type_at old.graph.table used.number)) same
+        (subst (λ (o : Option UsedType). IfSome o (λ u. types variable ≡ used_type old.graph.table instance u)) waits (fits.waiting variable)),
+  );
+  forth = λ places types instance fits asked. (places, fits);
+}
+
+-- one more pair of type variables
+pub pairs_step : (one other : ℕ) (first second third : Checker) (pairs : List NamePair) (k : ℕ) (pair : NamePair) → slice_get pairs k ≡ Some pair
+    → Step first second (λ types instance. AgreeOn (instance one) (instance other) (take k pairs))
+    → Step second third (λ types instance. instance one pair.one ≡ instance other pair.other)
+    → Step first third (λ types instance. AgreeOn (instance one) (instance other) (take (k + 1) pairs))
+pairs_step one other first second third pairs k pair is before step =
+    subst (λ (n : ℕ). Step first third (λ types instance. AgreeOn (instance one) (instance other) (take n pairs))) (sym (add-one k))
+    (step_as first third (λ types instance. AgreeOn (instance one) (instance other) (take k pairs) × (instance one pair.one ≡ instance other pair.other))
+    (λ types instance. AgreeOn (instance one) (instance other) (take (suc k) pairs))
+    (λ types instance both. part_push (λ (p : NamePair). instance one p.one ≡ instance other p.other) k pairs pair (sym is) both.0 both.1)
+    (λ types instance agree. part_pop (λ (p : NamePair). instance one p.one ≡ instance other p.other) k pairs pair (sym is) agree)
+    (steps first second third (λ types instance. AgreeOn (instance one) (instance other) (take k pairs))
+    (λ types instance. instance one pair.one ≡ instance other pair.other) before step))
+
+pub pairs_refused : (one other : ℕ) (first second : Checker) (pairs : List NamePair) (k : ℕ) (pair : NamePair) → slice_get pairs k ≡ Some pair
+    → Step first second (λ types instance. AgreeOn (instance one) (instance other) (take k pairs))
+    → Refuses second (λ types instance. instance one pair.one ≡ instance other pair.other)
+    → Refuses first (λ types instance. AgreeOn (instance one) (instance other) pairs)
+pairs_refused one other first second pairs k pair is before refuses = λ places types instance fits agree.
+    let both = part_pop (λ (p : NamePair). instance one p.one ≡ instance other p.other) k pairs pair (sym is)
+    (part_front (λ (p : NamePair). instance one p.one ≡ instance other p.other) (suc k) pairs agree) in
     let middle = before.forth places types instance fits both.0 in
     refuses middle.0 types instance middle.1 both.1
 

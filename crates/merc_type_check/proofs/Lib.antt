@@ -6,4 +6,5 @@ pub mod Numbers
 pub mod Asked
 pub mod Repeating
 pub mod Told
-pub mod Listing
+pub mod Pairings
+pub mod Serving

@@ -1,11 +1,14 @@
 -- Maps with one key more or less.
-use Rattle.std.proofs.Common.{◌≡◌, ℕ, Bool, true, false, cond, Option, Some, None, refl, sym, ap, subst, ◌∙◌, arith, Ordering, Less, Equal, Greater}
+use Rattle.std.proofs.Common.{◌≡◌, ℕ, Bool, true, false, cond, Option, refl, sym, ap, subst, ◌∙◌, arith, Ordering, Less, Equal, Greater}
 use Rattle.std.specs.Option.{IfSome}
 use Rattle.std.specs.Ordering.{nat_cmp, ordering_then, is_eq}
 use Rattle.std.specs.BTreeMap.{BTreeMap, get}
 use Rattle.std.proofs.lemmas.Bool.Decides.{nat_tests}
 use Rattle.merc_type_check.specs.declared.checker.UsedVariable.{UsedVariable}
-use Rattle.merc_type_check.specs.Progress.{compare_variables}
+use Rattle.merc_type_check.specs.declared.matching.NamePair.{NamePair}
+use Rattle.merc_type_check.specs.declared.matching.NumberPair.{NumberPair}
+use Rattle.merc_type_check.specs.Matching.{compare_names}
+use Rattle.merc_type_check.specs.Progress.{compare_numbers, compare_variables}
 
 pub number-equal : (a b : ℕ) → is_eq (nat_cmp a b) ≡ true → a ≡ b
 number-equal a b same = grind (arith, nat_tests)
@@ -32,6 +35,20 @@ variable-equal a b same =
 
 pub variable-same : (a : UsedVariable) → is_eq (compare_variables a a) ≡ true
 variable-same a = then_same (nat_cmp a.user a.user) (nat_cmp a.name a.name) (number-same a.user) (number-same a.name)
+
+pub numbers-equal : (a b : NumberPair) → is_eq (compare_numbers a b) ≡ true → a ≡ b
+numbers-equal a b same =
+    let both = then_equal (nat_cmp a.one b.one) (nat_cmp a.other b.other) same in
+    let with_one : ℕ → NumberPair = λ n. record { one = n; other = a.other } in
+    let with_other : ℕ → NumberPair = λ n. record { one = b.one; other = n } in
+    ap with_one (number-equal a.one b.one both.0) ∙ ap with_other (number-equal a.other b.other both.1)
+
+pub names-equal : (a b : NamePair) → is_eq (compare_names a b) ≡ true → a ≡ b
+names-equal a b same =
+    let both = then_equal (nat_cmp a.one b.one) (nat_cmp a.other b.other) same in
+    let with_one : ℕ → NamePair = λ n. record { one = n; other = a.other } in
+    let with_other : ℕ → NamePair = λ n. record { one = b.one; other = n } in
+    ap with_one (number-equal a.one b.one both.0) ∙ ap with_other (number-equal a.other b.other both.1)
 
 -- Given are an order of keys, and what is to hold of each key and its value.
 module _ {K X : Type 0} (compare : K → K → Ordering) where

@@ -2,7 +2,7 @@
 use Rattle.std.proofs.Common.{◌≡◌, ℕ, zero, suc, ◌+◌, ◌<◌, ◌≤◌, ◌⊎◌, inl, inr, Bool, true, false, Option, Some, None, List, [], ◌∷◌, ◌++◌, map, length, take, get_or, refl, sym, ap, subst, ◌∙◌, arith, append_assoc, add-one}
 use Rattle.std.specs.Prelude.{slice_get, ◌==◌, ◌&&◌, if◌then◌else◌}
 use Rattle.std.specs.List.{AllByRecursion, find, list_any}
-use Rattle.std.specs.Option.{option_map}
+use Rattle.std.specs.Option.{option_map, IfSome}
 use Rattle.std.proofs.lemmas.List.{map-append, append-nil, take_all}
 use Rattle.merc_base.specs.Groups.{kept, is_key}
 use Rattle.merc_base.specs.declared.groups.Key.{Key}
@@ -465,3 +465,8 @@ all_within types table (first ∷ rest) declared each = (
   number_within types table first (declared zero) (each zero),
   all_within types table rest (λ i. declared (suc i)) (λ i. each (suc i)),
 )
+
+pub kept_within : {A : Type 0} (types : A → List TypeExpr) (table : List TypeExpr) (numbers : Option (List ℕ)) (declared : Option A) → NumberOf types table numbers declared
+    → IfSome numbers (AreWithin table)
+kept_within types table None declared number = tt
+kept_within types table (Some ns) declared number = number_within types table ns declared number

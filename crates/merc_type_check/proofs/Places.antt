@@ -11,8 +11,11 @@ use Rattle.merc_type_graph.specs.Changes.{AllWithin, Adds, MakesEqual, MakesWhol
 use Rattle.merc_type_check.specs.declared.checker.Checker.{Checker}
 use Rattle.merc_type_check.specs.declared.checker.UsedType.{UsedType}
 use Rattle.merc_type_check.specs.declared.checker.UsedVariable.{UsedVariable}
-use Rattle.merc_type_check.specs.Progress.{compare_variables, used_type, Types, Instances, AgreesWith, AgreesIn, Fits, AreMet, AreThere, AgreeBelow, IsLocal, IsNewIf, IsSound, Keeps, Offers, Stands, AllStand, Step, Takes, Places, Waits}
-use Rattle.merc_type_check.proofs.Maps.{Changes, all_before, all_changed, changed_here, number-equal, number-same, variable-equal, variable-same}
+use Rattle.merc_type_check.specs.declared.matching.NamePair.{NamePair}
+use Rattle.merc_type_check.specs.declared.matching.NumberPair.{NumberPair}
+use Rattle.merc_type_check.specs.Matched.{AreMatched}
+use Rattle.merc_type_check.specs.Progress.{compare_numbers, compare_variables, used_type, Types, Instances, AgreesWith, AgreesIn, Fits, AreMet, AreThere, AgreeBelow, IsLocal, IsNewIf, IsSound, Keeps, Nothing, Offers, Stands, AllStand, Step, Takes, Places, Waits}
+use Rattle.merc_type_check.proofs.Maps.{Changes, all_before, all_changed, changed_here, number-equal, number-same, numbers-equal, variable-equal, variable-same}
 use Rattle.merc_type_check.proofs.Steps.{grow_nothing, eqb-less, eqb-same}
 
 -- types with another one at a place
@@ -112,6 +115,8 @@ sound_more old graph sound local kept longer = record {
   none_waits = sound.none_waits;
   instances = λ variable.
       met_more (get compare_variables old.instances variable) (length old.graph.entries) (length graph.entries) variable.user old.part longer (sound.instances variable);
+  matchings = λ key. subst (λ (t : List TypeExpr). IfSome (get compare_numbers old.matchings key) (λ pairs. AreMatched pairs (type_at t key.one) (type_at t key.other))) (sym kept)
+      (sound.matchings key);
   table = sound.table ∙ sym kept;
   listed = sound.listed ∙ sym kept;
 }
@@ -195,6 +200,7 @@ waited old more number used sound new there begun updates = record {
     waiting = all_changed nat_cmp number-equal (Waits old) old.waiting more number (Some used) updates (there, begun, new.1) sound.waiting;
     none_waits = λ never. absurd (mode new.0 never);
     instances = sound.instances;
+    matchings = sound.matchings;
     table = sound.table;
     listed = sound.listed;
   };
@@ -226,6 +232,36 @@ waited old more number used sound new there begun updates = record {
     mode : {b : Bool} → b ≡ true → b ≡ false → ⊥
     mode may never = cc
 
+-- pairs of type variables are kept, or given back
+pub matchings_changed : (old : Checker) (new : BTreeMap NumberPair (List NamePair)) (types : NumberPair) (value : Option (List NamePair)) → IsSound old
+    → Changes compare_numbers old.matchings new types value → IfSome value (λ pairs. AreMatched pairs (type_at old.graph.table types.one) (type_at old.graph.table types.other))
+    → Step old (record old { matchings = new }) Nothing
+matchings_changed old new types value sound changes here = record {
+  sound = record {
+    local = sound.local;
+    variables = sound.variables;
+    waiting = sound.waiting;
+    none_waits = sound.none_waits;
+    instances = sound.instances;
+    matchings = all_changed compare_numbers numbers-equal (λ key pairs. AreMatched pairs (type_at old.graph.table key.one) (type_at old.graph.table key.other)) old.matchings new types
+        value changes here sound.matchings;
+    table = sound.table;
+    listed = sound.listed;
+  };
+  longer = omega arith;
+  same_table = refl;
+  same_part = refl;
+  same_mode = refl;
+  back = λ places types instance fits. (
+    record { solved = fits.solved; variables = fits.variables; waiting = fits.waiting; instances = fits.instances },
+    tt,
+  );
+  forth = λ places types instance fits asked. (
+    places,
+    record { solved = fits.solved; variables = fits.variables; waiting = fits.waiting; instances = fits.instances },
+  );
+}
+
 -- A variable that waits gets its place.
 
 -- it waits no longer
@@ -237,6 +273,7 @@ without_sound old less number sound changes = record {
   none_waits = λ never other.
       none (get nat_cmp less other) (all_changed nat_cmp number-equal (λ n u. ⊥) old.waiting less number None changes tt (λ n. empty (get nat_cmp old.waiting n) (sound.none_waits never n)) other);
   instances = sound.instances;
+  matchings = sound.matchings;
   table = sound.table;
   listed = sound.listed;
 }
@@ -368,6 +405,7 @@ variable_given old new found number place offers updates =
               (λ same. ap (get nat_cmp new.waiting) (sym same) ∙ offers.no_wait) (offers.sound.waiting other);
           none_waits = offers.sound.none_waits;
           instances = offers.sound.instances;
+          matchings = offers.sound.matchings;
           table = offers.sound.table;
           listed = offers.sound.listed;
         };
@@ -422,6 +460,7 @@ type_variable_placed old graph found user name place sound begun kept at count a
           none_waits = grown.none_waits;
           instances = all_changed compare_variables variable-equal (λ v p. (p < length graph.entries) × (v.user ≤ old.part)) old.instances found variable (Some place) updates
               (omega arith, begun) grown.instances;
+          matchings = grown.matchings;
           table = grown.table;
           listed = grown.listed;
         };
@@ -460,6 +499,54 @@ type_variable_placed old graph found user name place sound begun kept at count a
             subst (λ (o : Option ℕ). IfSome o (λ p. places p ≡ instance user name))
             (changed_here compare_variables old.instances found variable (Some place) (variable-same variable) updates) (fits.instances variable);
       };
+    }
+
+-- a type variable that was not met stands for the type at a place
+pub type_variable_given : (old : Checker) (found : BTreeMap UsedVariable ℕ) (user name place : ℕ) (Meant : Types → Instances → TypeExpr) → IsSound old → user ≤ old.part
+    → get compare_variables old.instances (record { user = user; name = name }) ≡ None
+    → Changes compare_variables old.instances found (record { user = user; name = name }) (Some place) → Stands old place Meant
+    → Step old (record old { instances = found }) (λ types instance. Meant types instance ≡ instance user name)
+type_variable_given old found user name place Meant sound begun absent updates stands =
+    let variable : UsedVariable = record { user = user; name = name } in
+    let before : (places types : Types) (instance : Instances) → Fits (record old { instances = found }) places types instance → Fits old places types instance =
+    λ places types instance fits. record {
+      solved = fits.solved;
+      variables = fits.variables;
+      waiting = fits.waiting;
+      instances = all_before compare_variables variable-equal (λ v p. places p ≡ instance v.user v.name) old.instances found variable (Some place) None updates absent tt
+          fits.instances;
+    } in
+    record {
+      sound = record {
+        local = sound.local;
+        variables = sound.variables;
+        waiting = sound.waiting;
+        none_waits = sound.none_waits;
+        instances = all_changed compare_variables variable-equal (λ v p. (p < length old.graph.entries) × (v.user ≤ old.part)) old.instances found variable (Some place) updates
+            (stands.there, begun) sound.instances;
+        matchings = sound.matchings;
+        table = sound.table;
+        listed = sound.listed;
+      };
+      longer = omega arith;
+      same_table = refl;
+      same_part = refl;
+      same_mode = refl;
+      back = λ places types instance fits.
+          let here : places place ≡ instance user name =
+          subst (λ (o : Option ℕ). IfSome o (λ p. places p ≡ instance user name))
+          (changed_here compare_variables old.instances found variable (Some place) (variable-same variable) updates) (fits.instances variable) in
+          (before places types instance fits, sym (stands.meant places types instance (before places types instance fits)) ∙ here);
+      forth = λ places types instance fits asked. (
+        places,
+        record {
+          solved = fits.solved;
+          variables = fits.variables;
+          waiting = fits.waiting;
+          instances = all_changed compare_variables variable-equal (λ v p. places p ≡ instance v.user v.name) old.instances found variable (Some place) updates
+              (stands.meant places types instance fits ∙ asked) fits.instances;
+        },
+      );
     }
 
 -- a place of a type's name over the types at other places

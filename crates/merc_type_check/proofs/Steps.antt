@@ -2,7 +2,7 @@
 use Rattle.std.proofs.Common.{◌≡◌, ℕ, ◌<◌, ◌≤◌, Bool, true, false, cond, eqb, Option, Some, None, List, [], ◌∷◌, length, refl, sym, ap, subst, ◌∙◌, arith}
 use Rattle.std.specs.Option.{IfSome}
 use Rattle.std.specs.Ordering.{nat_cmp}
-use Rattle.std.specs.BTreeMap.{BTreeMap, get}
+use Rattle.std.specs.BTreeMap.{get}
 use Rattle.std.proofs.lemmas.Bool.Decides.{nat_tests}
 use Rattle.merc_tree.specs.Types.{TypeExpr, replaced}
 use Rattle.merc_type_table.specs.Table.{type_at}
@@ -111,6 +111,12 @@ all_stand_on old new Asked listed Meant step stand = record {
   meant = λ places types instance fits. stand.meant places types instance (step.back places types instance fits).0;
 }
 
+-- where nothing is asked after it
+pub takes_grow : (first second third : Checker) (Asked : Types → Instances → Type 0) → Step first second Asked → Step second third Nothing → Step first third Asked
+takes_grow first second third Asked step grows =
+    step_as first third (λ types instance. Asked types instance × Nothing types instance) Asked
+    (λ types instance both. both.0) (λ types instance asked. (asked, tt)) (steps first second third Asked Nothing step grows)
+
 pub keeps_on : (first second third : Checker) → Keeps first second → Keeps second third → Keeps first third
 keeps_on first second third one other = (other.0 ∙ one.0, other.1 ∙ one.1)
 
@@ -196,6 +202,28 @@ fresh_takes false old new One Other fresh to from refuses = λ places types hold
     refuses places types (chosen holds.instance old.part own.0) (fits_chosen old places types holds.instance own.0 fresh holds.fits)
     (subst (One types) (sym (chosen_here holds.instance old.part own.0)) own.1)
 
+-- the same where another part tells what type variables stand for
+pub told_takes : (done : Bool) (old new : Checker) (user : ℕ) (One : Types → Types → Type 0) (Other : Types → Type 0)
+    → ((places types : Types) (instance : Instances) → Fits old places types instance → (own : Types) → One types own → One types (instance user))
+    → ((types own : Types) → One types own → Other types) → ((types : Types) → Other types → (own : Types) × One types own)
+    → Takes done old new (λ types instance. One types (instance user)) → GoalTakes done old new Other
+told_takes true old new user One Other told to from step = record {
+  sound = step.sound;
+  same_table = step.same_table;
+  same_part = step.same_part;
+  same_mode = step.same_mode;
+  back = λ places types holds.
+      let before = step.back places types holds.instance holds.fits in
+      (record { instance = holds.instance; fits = before.0 }, to types (holds.instance user) before.1);
+  forth = λ places types holds asked.
+      let own = from types asked in
+      let after = step.forth places types holds.instance holds.fits (told places types holds.instance holds.fits own.0 own.1) in
+      (after.0, record { instance = holds.instance; fits = after.1 });
+}
+told_takes false old new user One Other told to from refuses = λ places types holds asked.
+    let own = from types asked in
+    refuses places types holds.instance holds.fits (told places types holds.instance holds.fits own.0 own.1)
+
 -- a part is begun with
 before_more : (o : Option ℕ) (count user last next : ℕ) → last < next → IfSome o (λ place. (place < count) × (user ≤ last)) → IfSome o (λ place. user < next)
 before_more None count user last next less met = tt
@@ -251,6 +279,7 @@ knows_begun old number Asked less knows = record {
     none_waits = knows.sound.none_waits;
     instances = λ variable.
         met_on (get compare_variables old.instances variable) (length old.graph.entries) variable.user old.part number less (knows.sound.instances variable);
+    matchings = knows.sound.matchings;
     table = knows.sound.table;
     listed = knows.sound.listed;
   };

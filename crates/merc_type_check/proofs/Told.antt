@@ -1,5 +1,5 @@
 -- What the check tells in the end.
-use Rattle.std.proofs.Common.{◌≡◌, ℕ, zero, suc, ◌+◌, ◌<◌, ◌≤◌, Bool, true, false, Option, Some, None, List, [], ◌∷◌, length, take, refl, sym, ap, subst, add-one, arith}
+use Rattle.std.proofs.Common.{◌≡◌, ℕ, zero, suc, ◌+◌, ◌<◌, ◌≤◌, Bool, true, false, Option, Some, None, List, [], ◌∷◌, length, take, refl, sym, subst, add-one, arith}
 use Rattle.std.specs.Prelude.{slice_get}
 use Rattle.std.specs.Option.{IfSome, IfNone}
 use Rattle.std.specs.List.{AllByRecursion}
@@ -48,7 +48,7 @@ head_untyped start known arguments goal free refuses typing =
     refuses typing.0 typing.0 (λ user. typing.0) (free typing.0 typing.0 (λ user. typing.0)) typing.1.head
 
 -- one part more
-part_push : {A : Type 0} (P : A → Type 0) (k : ℕ) (listed : List A) (x : A) → Some x ≡ slice_get listed k → AllByRecursion P (take k listed) → P x
+pub part_push : {A : Type 0} (P : A → Type 0) (k : ℕ) (listed : List A) (x : A) → Some x ≡ slice_get listed k → AllByRecursion P (take k listed) → P x
     → AllByRecursion P (take (suc k) listed)
 part_push P k [] x e all one = absurd (cc)
 part_push P zero (y ∷ ys) x e all one = (subst P (same_some e) one, tt)
@@ -57,7 +57,7 @@ part_push P zero (y ∷ ys) x e all one = (subst P (same_some e) one, tt)
     same_some e = cc
 part_push P (suc k) (y ∷ ys) x e all one = (all.0, part_push P k ys x e all.1 one)
 
-part_pop : {A : Type 0} (P : A → Type 0) (k : ℕ) (listed : List A) (x : A) → Some x ≡ slice_get listed k → AllByRecursion P (take (suc k) listed)
+pub part_pop : {A : Type 0} (P : A → Type 0) (k : ℕ) (listed : List A) (x : A) → Some x ≡ slice_get listed k → AllByRecursion P (take (suc k) listed)
     → AllByRecursion P (take k listed) × P x
 part_pop P k [] x e all = absurd (cc)
 part_pop P zero (y ∷ ys) x e all = (tt, subst P (sym (same_some e)) all.0)
@@ -66,7 +66,7 @@ part_pop P zero (y ∷ ys) x e all = (tt, subst P (sym (same_some e)) all.0)
     same_some e = cc
 part_pop P (suc k) (y ∷ ys) x e all = let rest = part_pop P k ys x e all.1 in ((all.0, rest.0), rest.1)
 
-part_front : {A : Type 0} (P : A → Type 0) (k : ℕ) (listed : List A) → AllByRecursion P listed → AllByRecursion P (take k listed)
+pub part_front : {A : Type 0} (P : A → Type 0) (k : ℕ) (listed : List A) → AllByRecursion P listed → AllByRecursion P (take k listed)
 part_front P zero listed all = tt
 part_front P (suc k) [] all = tt
 part_front P (suc k) (y ∷ ys) all = (all.0, part_front P k ys all.1)

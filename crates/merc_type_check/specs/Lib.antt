@@ -7,5 +7,6 @@ pub mod TypingExamples
 pub mod Progress
 pub mod Repeats
 pub mod Building
-pub mod Listed
-pub mod Listing
+pub mod Matched
+pub mod Matching
+pub mod Serving

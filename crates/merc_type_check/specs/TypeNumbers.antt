@@ -1,6 +1,7 @@
 -- The declared types of a module by numbers.
 use Rattle.std.specs.Prelude.{◌≡◌, ℕ, ◌<◌, List, [], ◌∷◌, ◌++◌, map, length, Option, Some, None, slice_get}
 use Rattle.std.specs.List.{find}
+use Rattle.std.specs.Option.{IfSome}
 use Rattle.std.proofs.Common.{refl}
 use Rattle.merc_tree.specs.Term.{no_span}
 use Rattle.merc_tree.specs.Types.{TypeExpr, TypeVariable, IntType, TextType}
@@ -33,6 +34,10 @@ AreNumbers-few are = cc
 abbrev pub AreWithin : List TypeExpr → List ℕ → Type 0
 AreWithin table [] = Unit {0}
 AreWithin table (number ∷ numbers) = (number < length table) × AreWithin table numbers
+
+-- so are those that are kept for constructors
+abbrev pub AreAllWithin : List TypeExpr → Groups (List ℕ) → Type 0
+AreAllWithin table constructors = (name arity : ℕ) → IfSome (slice_get (kept constructors name arity) 0) (AreWithin table)
 
 -- there are numbers where something is declared, and they are those of its types
 abbrev pub NumberOf : {A : Type 0} → (A → List TypeExpr) → List TypeExpr → Option (List ℕ) → Option A → Type 0

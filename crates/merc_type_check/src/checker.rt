@@ -6,11 +6,13 @@ ghost use Rattle.std.specs.BTreeMap.{get};
 ghost use Rattle.merc_tree.specs.Types.{TypeExpr, IntType, TextType, TypeApplication, replaced, types_of};
 ghost use Rattle.merc_type_table.specs.Table.{is_closed, made, type_at, IsBefore, IsComplete};
 ghost use Rattle.merc_type_graph.specs.Changes.{AllWithin, Decides};
-ghost use Rattle.merc_type_check.specs.Progress.{begun, AllStand, Fits, Instances, IsEarlier, IsFresh, IsNewIf, IsSound, Keeps, Offers, Places, Stands, Step, Takes, Types, Yields};
+ghost use Rattle.merc_type_check.specs.Matched.{AreMatched};
+ghost use Rattle.merc_type_check.specs.Progress.{begun, AllStand, Fits, Instances, IsFresh, IsNewIf, IsSound, Keeps, Nothing, Offers, Places, Stands, Step, Takes, Types, Yields};
 
 use crate::listed::ListedTypes;
+use crate::matching::{NamePair, NumberPair, pairs_between};
 use crate::typings::Typing;
-use merc_base::{Name, NoMemory};
+use merc_base::{Name, NoMemory, Sequence};
 use merc_goal_tree::Var;
 use merc_type_graph::{Place, TypeGraph};
 use merc_type_table::{TypeNode, TypeNumber, TypeTable};
@@ -46,6 +48,8 @@ pub(crate) struct Checker<'a> {
     may_wait: bool,
     // The places of what type variables stand for, where they were needed.
     instances: BTreeMap<UsedVariable, Place>,
+    // Pairs of type variables of two declared types that are alike but for those.
+    matchings: BTreeMap<NumberPair, Sequence<NamePair>>,
     // The number of the part of the goal that is gone through, counted from 1.
     part: usize,
 }
@@ -68,6 +72,7 @@ impl<'a> Checker<'a> {
             waiting: BTreeMap::new(alloc),
             may_wait,
             instances: BTreeMap::new(alloc),
+            matchings: BTreeMap::new(alloc),
             part: 0,
         }
     }
@@ -97,6 +102,22 @@ impl<'a> Checker<'a> {
             && !self.waiting.contains_key(&variable)
     }
 
+    /// The part of the goal that gave a variable the declared type of this number, where it has no place.
+    pub(crate) fn giver(&self, variable: Var, number: TypeNumber) -> Option<usize>
+        ensures { IfSome result (λ user. get nat_cmp self.now.waiting variable ≡ Some (record { number = number; user = user })) }
+    {
+        match self.waiting.get(&variable).copied() {
+            Some(used) => {
+                if used.number == number {
+                    Some(used.user)
+                } else {
+                    None
+                }
+            }
+            None => None,
+        }
+    }
+
     /// Gives a new variable a declared type, and no place.
     pub(crate) fn wait(&mut self, variable: Var, used: UsedType) -> Result<(), NoMemory>
         requires sound { IsSound self.old }
@@ -109,18 +130,54 @@ impl<'a> Checker<'a> {
         Ok(())
     }
 
-    /// The part of the goal that gave a variable the declared type of this number, where it has no place, with the type
-    /// variables of the type.
-    pub(crate) fn earlier(&self, variable: Var, number: TypeNumber) -> Option<(usize, &'a [Name])>
-        requires { IsSound self.now }
-        ensures { IfSome result (λ found. IsEarlier self.now variable number found.0 found.1.now) }
+    /// The declared type that a variable waits with.
+    pub(crate) fn waits_with(&self, variable: Var) -> Option<UsedType>
+        ensures { result ≡ get nat_cmp self.now.waiting variable }
     {
-        let used = self.waiting.get(&variable).copied()?;
-        if used.number != number {
-            return None;
+        self.waiting.get(&variable).copied()
+    }
+
+    /// The type variables of a declared type, each once and beside itself, None where they were not listed.
+    pub(crate) fn variables_of(&self, number: TypeNumber) -> Option<&'a [NamePair]>
+        requires { IsSound self.now }
+        ensures { IfSome result (λ pairs. AreMatched pairs.now (type_at self.now.graph.table number) (type_at self.now.graph.table number)) }
+    {
+        self.listed.variables_of(number)
+    }
+
+    /// The type variables that stand where the other declared type has one, in pairs, None where the types differ in more
+    /// than those. They are to be given back: then they are at hand the next time.
+    pub(crate) fn take_matching(
+        &mut self,
+        alloc: Global,
+        one: TypeNumber,
+        other: TypeNumber,
+    ) -> Result<Option<Sequence<NamePair>>, NoMemory>
+        requires sound { IsSound self.old }
+        requires one { one < length self.old.graph.table }
+        requires other { other < length self.old.graph.table }
+        ensures same { OnOk result (Step self.old self.new Nothing) }
+        ensures matched { IfOk result (λ found. IfSome found (λ pairs. AreMatched pairs (type_at self.old.graph.table one) (type_at self.old.graph.table other))) }
+    {
+        match self.matchings.remove(&NumberPair { one, other }) {
+            Some(pairs) => Ok(Some(pairs)),
+            None => pairs_between(alloc, self.table, NumberPair { one, other }),
         }
-        let names = self.listed.variables_of(number)?;
-        Some((used.user, names))
+    }
+
+    /// Keeps pairs of type variables of two declared types.
+    pub(crate) fn keep_matching(
+        &mut self,
+        one: TypeNumber,
+        other: TypeNumber,
+        pairs: Sequence<NamePair>,
+    ) -> Result<(), NoMemory>
+        requires sound { IsSound self.old }
+        requires matched { AreMatched pairs (type_at self.old.graph.table one) (type_at self.old.graph.table other) }
+        ensures { OnOk result (Step self.old self.new Nothing) }
+    {
+        self.matchings.insert(NumberPair { one, other }, pairs)?;
+        Ok(())
     }
 
     /// The place of a variable's type.
@@ -162,6 +219,28 @@ impl<'a> Checker<'a> {
                 let place = self.graph.add_unknown()?;
                 self.instances.insert(variable, place)?;
                 Ok(place)
+            }
+        }
+    }
+
+    /// Asks that a type variable stands for the type at a place. False where it cannot.
+    pub(crate) fn stands_for(
+        &mut self,
+        user: usize,
+        name: Name,
+        place: Place,
+    ) -> Result<bool, NoMemory>
+        requires sound { IsSound self.old }
+        requires begun { user ≤ self.old.part }
+        requires there { place < length self.old.graph.entries }
+        ensures { IfOk result (λ done. (Meant : Types → Instances → TypeExpr) → Stands self.old place Meant → Takes done self.old self.new (λ types instance. Meant types instance ≡ instance user name)) }
+    {
+        let variable = UsedVariable { user, name };
+        match self.instances.get(&variable).copied() {
+            Some(other) => self.make_equal(place, other),
+            None => {
+                self.instances.insert(variable, place)?;
+                Ok(true)
             }
         }
     }

@@ -18,8 +18,10 @@ use merc_known::Known;
 use merc_type_table::TypeNumber;
 use std::alloc::Global;
 
-/// Whether the variables of a goal have types, as `typing` gives them. A variable that is an argument with one declared type
-/// alone, however often, takes no more time than the type has type variables, each time but the first.
+/// Whether the variables of a goal have types, as `typing` gives them, in as much time or less: a variable takes no place as
+/// long as it is only an argument, with declared types that are alike but for type variables. Then only these type variables
+/// are counted at each use but the first, in pairs that stand at one place; and none at a call that a variable gives the type
+/// of all its arguments whose types have type variables.
 ///
 /// # Errors
 ///

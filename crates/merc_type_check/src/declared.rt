@@ -3,7 +3,7 @@ ghost use Rattle.std.specs.Prelude.{◌≡◌, [], ◌∷◌, slice_get, IfOk, O
 ghost use Rattle.std.specs.List.{AllByRecursion};
 ghost use Rattle.merc_base.specs.Groups.{kept};
 ghost use Rattle.merc_type_table.specs.Numbering.{IsNumbering};
-ghost use Rattle.merc_type_check.specs.TypeNumbers.{numbers_found, AreDeclared, AreWithin, Numbered, NumbersConstructors, NumbersPredicates, Renumbers};
+ghost use Rattle.merc_type_check.specs.TypeNumbers.{numbers_found, AreAllWithin, AreDeclared, AreWithin, Numbered, NumbersConstructors, NumbersPredicates, Renumbers};
 
 use crate::listed::ListedTypes;
 use merc_base::{Groups, Key, Name, NoMemory, Sequence};
@@ -40,6 +40,12 @@ impl DeclaredTypes {
         )?;
         let mut table = ListedTypes::new(alloc, numbering.into_table(alloc)?);
         list_predicates(alloc, &predicates, &mut table)?;
+        list_constructors(
+            alloc,
+            known.module().types.as_slice(),
+            &constructors,
+            &mut table,
+        )?;
         Ok(DeclaredTypes {
             table,
             predicates,
@@ -103,6 +109,44 @@ fn list_predicates(
 {
     for numbers in predicates {
         listed.list_all(alloc, numbers.as_slice())?;
+    }
+    Ok(())
+}
+
+// Lists the type variables of the types of constructors' arguments.
+fn list_constructors(
+    alloc: Global,
+    types: &[TypeDef],
+    constructors: &Groups<Sequence<TypeNumber>>,
+    listed: &mut ListedTypes,
+) -> Result<(), NoMemory>
+    requires { AreAllWithin listed.old constructors.now }
+    ensures { OnOk result (listed.new ≡ listed.old) }
+{
+    for declared in types {
+        list_type(alloc, declared, constructors, listed)?;
+    }
+    Ok(())
+}
+
+// Lists the type variables of the types of the arguments of a type's constructors.
+fn list_type(
+    alloc: Global,
+    declared: &TypeDef,
+    constructors: &Groups<Sequence<TypeNumber>>,
+    listed: &mut ListedTypes,
+) -> Result<(), NoMemory>
+    requires { AreAllWithin listed.old constructors.now }
+    ensures { OnOk result (listed.new ≡ listed.old) }
+{
+    for constructor in declared.constructors.as_slice() {
+        let key = Key {
+            name: constructor.name,
+            arity: constructor.args.len(),
+        };
+        if let Some(numbers) = constructors.at(key).first() {
+            listed.list_all(alloc, numbers.as_slice())?;
+        }
     }
     Ok(())
 }

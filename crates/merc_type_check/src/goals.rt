@@ -1,16 +1,23 @@
 //! What goals ask of the types of their variables.
-ghost use Rattle.std.specs.Prelude.{◌≡◌, ◌<◌, ◌≤◌, true, length, map, slice_get, IfOk};
-ghost use Rattle.merc_tree.specs.Types.{IntType, TextType, replaced};
+ghost use Rattle.std.specs.Prelude.{◌≡◌, ◌<◌, ◌≤◌, true, List, length, map, slice_get, IfOk, Some};
+ghost use Rattle.std.specs.Option.{IfSome};
+ghost use Rattle.std.specs.Ordering.{nat_cmp};
+ghost use Rattle.std.specs.BTreeMap.{get};
+ghost use Rattle.std.specs.List.{AllByRecursion};
+ghost use Rattle.merc_tree.specs.Types.{TypeExpr, IntType, TextType, replaced};
 ghost use Rattle.merc_type_table.specs.Table.{type_at};
 ghost use Rattle.merc_type_check.specs.TypeNumbers.{AreDeclared, AreNumbers, AreWithin};
 ghost use Rattle.merc_type_check.specs.Progress.{GoalTakes, IsFresh, IsSound, Takes};
+ghost use Rattle.merc_type_check.specs.Matched.{AgreeOn};
+ghost use Rattle.merc_type_check.specs.Serving.{IsClosedBut, IsGiven, Serves};
 ghost use Rattle.merc_type_check.specs.Typing.{AreArguments, HasSymbol, HaveTypes, HasConstructor, IsCalled, IsTypedGoal, IsTypedPart};
 ghost use Rattle.merc_base.specs.declared.place.Span.{Span};
 ghost use Rattle.merc_tree.specs.declared.declarations.Module.{Module};
 
 use crate::checker::{Checker, UsedType};
 use crate::declared::DeclaredTypes;
-use merc_base::{Name, NoMemory};
+use crate::matching::NamePair;
+use merc_base::NoMemory;
 use merc_goal_tree::{Predicate, Root, SimpleGoal, Symbol, Var};
 use merc_known::Known;
 use merc_tree::{Constructor, TypeDef, TypeExprs};
@@ -157,10 +164,58 @@ impl<'a> Checker<'a> {
         match known.predicate(predicate.number()) {
             Some(pred) => {
                 let numbers = declared.of_predicate(predicate.number());
-                self.have_types(alloc, self.part_number(), arguments, &pred.args, numbers)
+                let user = self.serving_part(arguments, numbers);
+                self.have_types(alloc, user, arguments, &pred.args, numbers)
             }
             None => Ok(false),
         }
+    }
+
+    // The part of the goal whose type variables serve for a call. Where one declared type alone of the call has type
+    // variables, and an argument waits with it since another part, it is that part; else the one that is gone through.
+    fn serving_part(&self, variables: &[Var], numbers: &[TypeNumber]) -> usize
+        requires sound { IsSound self.now }
+        requires within { AreWithin self.now.graph.table numbers.now }
+        ensures { (declared : List TypeExpr) → AreNumbers self.now.graph.table numbers.now declared → Serves self.now result variables.now declared }
+    {
+        match self.given(variables, numbers) {
+            Some((number, user)) => {
+                if self.is_open_alone(numbers, number) {
+                    user
+                } else {
+                    self.part_number()
+                }
+            }
+            None => self.part_number(),
+        }
+    }
+
+    // The declared type that a variable waits with, where it is the one that the call gives it too, and the part that gave it.
+    fn given(&self, variables: &[Var], numbers: &[TypeNumber]) -> Option<(TypeNumber, usize)>
+        ensures { IfSome result (λ found. IsGiven self.now variables.now numbers.now found.0 found.1) }
+    {
+        for (index, variable) in variables.iter().enumerate() {
+            if let Some(number) = numbers.get(index) {
+                if let Some(user) = self.giver(*variable, *number) {
+                    return Some((*number, user));
+                }
+            }
+        }
+        None
+    }
+
+    // Whether no declared type but this one has type variables.
+    fn is_open_alone(&self, numbers: &[TypeNumber], only: TypeNumber) -> bool
+        requires sound { IsSound self.now }
+        requires within { AreWithin self.now.graph.table numbers.now }
+        ensures { result ≡ true → AllByRecursion (IsClosedBut self.now.graph.table only) numbers.now }
+    {
+        for number in numbers {
+            if *number != only && !self.is_closed(*number) {
+                return false;
+            }
+        }
+        true
     }
 
     // Asks that variables have these declared types, as a part of the goal uses them.
@@ -231,13 +286,70 @@ impl<'a> Checker<'a> {
             self.wait(variable, UsedType { number, user })?;
             return Ok(true);
         }
-        match self.earlier(variable, number) {
-            Some((earlier, names)) => self.stand_alike(names, earlier, user),
+        match self.waits_with(variable) {
+            Some(used) => {
+                if used.number == number {
+                    self.has_same_type(alloc, user, variable, used)
+                } else {
+                    self.has_like_type(alloc, user, variable, used, number)
+                }
+            }
             None => self.has_open_type(alloc, user, variable, number),
         }
     }
 
-    // The same of a type that is built.
+    // Asks that a variable has the declared type that it waits with, as this part of the goal uses it.
+    fn has_same_type(
+        &mut self,
+        alloc: Global,
+        user: usize,
+        variable: Var,
+        used: UsedType,
+    ) -> Result<bool, NoMemory>
+        requires sound { IsSound self.old }
+        requires begun { user ≤ self.old.part }
+        requires waits { get nat_cmp self.old.waiting variable ≡ Some used }
+        ensures { IfOk result (λ done. Takes done self.old self.new (λ types instance. types variable ≡ replaced (instance user) (type_at self.old.graph.table used.number))) }
+    {
+        if used.user == user {
+            return Ok(true);
+        }
+        match self.variables_of(used.number) {
+            Some(pairs) => self.stand_alike(pairs, used.user, user),
+            None => self.has_open_type(alloc, user, variable, used.number),
+        }
+    }
+
+    // Asks that a variable has another declared type than the one that it waits with. Nothing is built where they are alike
+    // but for type variables.
+    fn has_like_type(
+        &mut self,
+        alloc: Global,
+        user: usize,
+        variable: Var,
+        used: UsedType,
+        number: TypeNumber,
+    ) -> Result<bool, NoMemory>
+        requires sound { IsSound self.old }
+        requires number { number < length self.old.graph.table }
+        requires begun { user ≤ self.old.part }
+        requires waits { get nat_cmp self.old.waiting variable ≡ Some used }
+        ensures { IfOk result (λ done. Takes done self.old self.new (λ types instance. types variable ≡ replaced (instance user) (type_at self.old.graph.table number))) }
+    {
+        match self.take_matching(alloc, used.number, number)? {
+            Some(pairs) => {
+                let done = self.stand_alike(pairs.as_slice(), used.user, user)?;
+                if !done {
+                    return Ok(false);
+                }
+                self.keep_matching(used.number, number, pairs)?;
+                Ok(true)
+            }
+            None => self.has_open_type(alloc, user, variable, number),
+        }
+    }
+
+    // Asks that a variable has a declared type, which is built.
     fn has_open_type(
         &mut self,
         alloc: Global,
@@ -255,15 +367,20 @@ impl<'a> Checker<'a> {
         self.make_equal(place, other)
     }
 
-    // Asks that type variables stand for the same in two parts of the goal.
-    fn stand_alike(&mut self, names: &[Name], one: usize, other: usize) -> Result<bool, NoMemory>
+    // Asks that pairs of type variables stand for the same, one in this part of the goal, and the other in that.
+    fn stand_alike(
+        &mut self,
+        pairs: &[NamePair],
+        one: usize,
+        other: usize,
+    ) -> Result<bool, NoMemory>
         requires sound { IsSound self.old }
         requires one { one ≤ self.old.part }
         requires other { other ≤ self.old.part }
-        ensures { IfOk result (λ done. Takes done self.old self.new (λ types instance. map (instance one) names.now ≡ map (instance other) names.now)) }
+        ensures { IfOk result (λ done. Takes done self.old self.new (λ types instance. AgreeOn (instance one) (instance other) pairs.now)) }
     {
-        for name in names {
-            let done = self.stands_alike(*name, one, other)?;
+        for pair in pairs {
+            let done = self.stands_alike(*pair, one, other)?;
             if !done {
                 return Ok(false);
             }
@@ -271,20 +388,66 @@ impl<'a> Checker<'a> {
         Ok(true)
     }
 
-    // Asks that a type variable stands for the same in two parts of the goal.
-    fn stands_alike(&mut self, name: Name, one: usize, other: usize) -> Result<bool, NoMemory>
+    // The same of one pair.
+    fn stands_alike(&mut self, pair: NamePair, one: usize, other: usize) -> Result<bool, NoMemory>
         requires sound { IsSound self.old }
         requires one { one ≤ self.old.part }
         requires other { other ≤ self.old.part }
-        ensures { IfOk result (λ done. Takes done self.old self.new (λ types instance. instance one name ≡ instance other name)) }
+        ensures { IfOk result (λ done. Takes done self.old self.new (λ types instance. instance one pair.one ≡ instance other pair.other)) }
     {
-        let place = self.type_variable(one, name)?;
-        let other_place = self.type_variable(other, name)?;
-        self.make_equal(place, other_place)
+        let place = self.type_variable(one, pair.one)?;
+        self.stands_for(other, pair.other, place)
     }
 
     // Asks that two variables have one type.
     fn are_alike(&mut self, alloc: Global, one: Var, other: Var) -> Result<bool, NoMemory>
+        requires { IsSound self.old }
+        ensures { IfOk result (λ done. Takes done self.old self.new (λ types instance. types one ≡ types other)) }
+    {
+        match self.waits_with(one) {
+            Some(used) => self.leads(alloc, one, used, other),
+            None => self.is_alike(alloc, one, other),
+        }
+    }
+
+    // The same where the first variable does not wait.
+    fn is_alike(&mut self, alloc: Global, one: Var, other: Var) -> Result<bool, NoMemory>
+        requires { IsSound self.old }
+        ensures { IfOk result (λ done. Takes done self.old self.new (λ types instance. types one ≡ types other)) }
+    {
+        match self.waits_with(other) {
+            Some(used) => self.leads(alloc, other, used, one),
+            None => self.have_one_place(alloc, one, other),
+        }
+    }
+
+    // Asks that a variable has the type of another one, which waits. Nothing is built where it is new, or waits with the same
+    // declared type.
+    fn leads(
+        &mut self,
+        alloc: Global,
+        leader: Var,
+        used: UsedType,
+        variable: Var,
+    ) -> Result<bool, NoMemory>
+        requires sound { IsSound self.old }
+        requires waits { get nat_cmp self.old.waiting leader ≡ Some used }
+        ensures { IfOk result (λ done. Takes done self.old self.new (λ types instance. types leader ≡ types variable)) }
+    {
+        if self.needs_no_place(variable, used.number) {
+            self.has_type(alloc, used.user, variable, used.number)
+        } else {
+            self.have_one_place(alloc, leader, variable)
+        }
+    }
+
+    // Whether a variable was not met, or waits with this declared type.
+    fn needs_no_place(&self, variable: Var, number: TypeNumber) -> bool {
+        self.is_new(variable) || self.giver(variable, number).is_some()
+    }
+
+    // Asks that two variables have one type, of which each has its place.
+    fn have_one_place(&mut self, alloc: Global, one: Var, other: Var) -> Result<bool, NoMemory>
         requires { IsSound self.old }
         ensures { IfOk result (λ done. Takes done self.old self.new (λ types instance. types one ≡ types other)) }
     {

@@ -7,6 +7,7 @@ mod checking;
 pub mod declared;
 mod goals;
 mod listed;
+mod matching;
 mod repeats;
 pub mod typings;
 

@@ -1,22 +1,23 @@
 //! Declared types with lists of their type variables.
-ghost use Rattle.std.specs.Prelude.{◌≡◌, ◌<◌, length, IfOk, OnOk};
+ghost use Rattle.std.specs.Prelude.{◌≡◌, ◌<◌, length, OnOk};
 ghost use Rattle.std.specs.Option.{IfSome};
 ghost use Rattle.merc_type_table.specs.Table.{type_at};
-ghost use Rattle.merc_type_check.specs.Listed.{AreListed, AreVariables};
-ghost use Rattle.merc_type_check.specs.Listing.{AddsName, IsMet};
+ghost use Rattle.merc_type_check.specs.Matched.{AreMatched};
 ghost use Rattle.merc_type_check.specs.TypeNumbers.{AreWithin};
 
-use merc_base::{Name, NoMemory, Sequence};
-use merc_type_table::{TypeNode, TypeNumber, TypeTable};
+use crate::matching::{NamePair, NumberPair, pairs_between};
+use merc_base::{NoMemory, Sequence};
+use merc_type_table::{TypeNumber, TypeTable};
 use std::alloc::Global;
-use std::collections::{BTreeMap, BTreeSet};
+use std::collections::BTreeMap;
 use std::marker::Model;
 
 /// Types by numbers, with the type variables of some of them. Contracts see the types.
 #[derive(Drop)]
 pub struct ListedTypes {
     table: TypeTable,
-    variables: BTreeMap<TypeNumber, Sequence<Name>>,
+    // Each type variable beside itself.
+    variables: BTreeMap<TypeNumber, Sequence<NamePair>>,
 }
 
 impl Model for ListedTypes {
@@ -29,7 +30,7 @@ impl Model for ListedTypes {
 
     ghost coded = { types_code };
 
-    ghost use Rattle.merc_type_check.specs.Listed.{AreListed};
+    ghost use Rattle.merc_type_check.specs.Matched.{AreListed};
 
     ghost view = { λ t. t.table };
 
@@ -54,12 +55,12 @@ impl ListedTypes {
         &self.table
     }
 
-    /// The type variables of the type at a number, each once, None where they were not listed.
-    pub(crate) fn variables_of(&self, number: TypeNumber) -> Option<&[Name]>
-        ensures { IfSome result (λ names. AreVariables names.now (type_at self.now number)) }
+    /// The type variables of the type at a number, each once and beside itself, None where they were not listed.
+    pub(crate) fn variables_of(&self, number: TypeNumber) -> Option<&[NamePair]>
+        ensures { IfSome result (λ pairs. AreMatched pairs.now (type_at self.now number) (type_at self.now number)) }
     {
         match self.variables.get(&number) {
-            Some(names) => Some(names.as_slice()),
+            Some(pairs) => Some(pairs.as_slice()),
             None => None,
         }
     }
@@ -88,57 +89,17 @@ impl ListedTypes {
         if self.table.is_closed(number) || self.variables.contains_key(&number) {
             return Ok(());
         }
-        let names = variables_in(alloc, &self.table, number)?;
-        self.variables.insert(number, names)?;
-        Ok(())
-    }
-}
-
-// Names, each once, in the order in which they came.
-#[derive(Drop)]
-pub(crate) struct NamesOnce {
-    names: Sequence<Name>,
-    // The same names.
-    met: BTreeSet<Name>,
-}
-
-impl NamesOnce {
-    // Puts a name behind the others if it is new.
-    fn add(&mut self, name: Name) -> Result<(), NoMemory>
-        requires { IsMet self.old }
-        ensures { OnOk result (AddsName self.old self.new name) }
-    {
-        if self.met.insert(name)? {
-            self.names.push(name)?;
+        let found = pairs_between(
+            alloc,
+            &self.table,
+            NumberPair {
+                one: number,
+                other: number,
+            },
+        )?;
+        if let Some(pairs) = found {
+            self.variables.insert(number, pairs)?;
         }
         Ok(())
     }
-}
-
-// The type variables of a type, each once.
-fn variables_in(
-    alloc: Global,
-    table: &TypeTable,
-    number: TypeNumber,
-) -> Result<Sequence<Name>, NoMemory>
-    requires { number < length table.now }
-    ensures { IfOk result (λ names. AreVariables names (type_at table.now number)) }
-{
-    let mut found = NamesOnce {
-        names: Sequence::new(alloc),
-        met: BTreeSet::new(alloc),
-    };
-    let mut parts = Vec::new(alloc);
-    parts.push(number)?;
-    while let Some(part) = parts.pop() {
-        match table.node(part) {
-            TypeNode::Variable(name) => found.add(name)?,
-            TypeNode::With { first, rest } => {
-                parts.push(rest)?;
-                parts.push(first)?;
-            }
-            TypeNode::Int | TypeNode::Text | TypeNode::Name(_) => {}
-        }
-    }
-    Ok(found.names)
 }

@@ -1,4 +1,4 @@
-use Rattle.std.proofs.Common.{◌≡◌, false, Some, Option, subst}
+use Rattle.std.proofs.Common.{◌≡◌, false, Option, subst}
 use Rattle.std.specs.Option.{IfNone, IfSome}
 use Rattle.std.proofs.lemmas.Result.{IfOk-weaker}
 use Rattle.merc_type_check.specs.Checked.{head_of}

@@ -1,4 +1,4 @@
-use Rattle.std.proofs.Common.{List, ℕ, length, refl, sym, subst}
+use Rattle.std.proofs.Common.{List, length, refl, sym, subst}
 use Rattle.std.proofs.lemmas.Option.{slice_get_read}
 use Rattle.merc_tree.specs.Types.{TypeExpr}
 use Rattle.merc_type_check.specs.TypeNumbers.{AreWithin}

@@ -1,10 +1,14 @@
-use Rattle.std.proofs.Common.{◌≡◌, ◌<◌, true, List, length, sym, subst, ◌∙◌}
+use Rattle.std.proofs.Common.{◌≡◌, ◌<◌, ℕ, true, eqb, List, IfOk, length, sym, subst, ◌∙◌, arith}
+use Rattle.std.proofs.lemmas.Bool.Decides.{nat_tests}
 use Rattle.std.proofs.lemmas.Result.{IfOk-weaker}
-use Rattle.merc_tree.specs.Types.{TypeExpr}
+use Rattle.merc_tree.specs.Types.{TypeExpr, replaced}
 use Rattle.merc_type_table.specs.Table.{is_closed, type_at}
+use Rattle.merc_type_check.specs.Progress.{Takes}
 use Rattle.merc_type_check.proofs.Numbers.{given_whole}
-use Rattle.merc_type_check.proofs.Asked.{given_earlier}
 use Rattle.merc_type_check.proofs.checker.Checker.has_type.Goals as goal
+
+same_number : (a b : ℕ) → true ≡ eqb a b → a ≡ b
+same_number a b e = grind (arith, nat_tests)
 
 pub make_whole-requires-clause-declared : goal.make_whole-requires-clause-declared
 make_whole-requires-clause-declared c = subst (λ (t : List TypeExpr). c.args.number < length t) (sym c.in_ok-place.ensures.grows.same_table) c.requires.number
@@ -17,8 +21,13 @@ returns-then-is_closed c =
     (subst (λ (t : List TypeExpr). is_closed (type_at t c.args.number) ≡ true) (sym c.in_ok-place.ensures.grows.same_table) (sym c.is_closed.ensures ∙ c.if-is_closed.true))
     c.in_ok-place.ensures takes) c.make_whole.ensures
 
-pub returns-in-Some : goal.returns-in-Some
-returns-in-Some c =
-    IfOk-weaker c.stand_alike.result _ _
-    (λ done takes. given_earlier done c.args.self.now c.stand_alike.new.self c.args.variable c.args.number c.in-Some.earlier c.args.user c.in-Some.names.now
-    c.in-Some.ensures takes) c.stand_alike.ensures
+pub has_same_type-requires-clause-waits : goal.has_same_type-requires-clause-waits
+has_same_type-requires-clause-waits c = sym c.waits_with.ensures ∙ c.in-Some.is
+
+pub has_like_type-requires-clause-waits : goal.has_like_type-requires-clause-waits
+has_like_type-requires-clause-waits c = sym c.waits_with.ensures ∙ c.in-Some.is
+
+pub returns-then-eq : goal.returns-then-eq
+returns-then-eq c =
+    subst (λ (n : ℕ). IfOk c.has_same_type.result (λ done. Takes done c.args.self.now c.has_same_type.new.self (λ types instance. types c.args.variable ≡ replaced (instance c.args.user) (type_at c.args.self.now.graph.table n))))
+    (same_number c.in-Some.used.number c.args.number c.if-eq.ensures) c.has_same_type.ensures

@@ -1,6 +1,7 @@
-use Rattle.std.proofs.Common.{◌≡◌, map, take}
+use Rattle.std.proofs.Common.{take}
+use Rattle.merc_type_check.specs.Matched.{AgreeOn}
 use Rattle.merc_type_check.specs.Progress.{Step}
 use Rattle.merc_type_check.proofs.checker.Checker.stand_alike.Given as goal
 
-abbrev pub invariant-loop-name : goal.invariant-loop-name
-invariant-loop-name l = Step l.fn.self l.self (λ types instance. map (instance l.fn.one) (take l.name-index l.names) ≡ map (instance l.fn.other) (take l.name-index l.names))
+abbrev pub invariant-loop-pair : goal.invariant-loop-pair
+invariant-loop-pair l = Step l.fn.self l.self (λ types instance. AgreeOn (instance l.fn.one) (instance l.fn.other) (take l.pair-index l.pairs))

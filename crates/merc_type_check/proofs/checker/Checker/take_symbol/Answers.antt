@@ -1,4 +1,4 @@
-use Rattle.std.proofs.Common.{◌≡◌, ℕ, List, ap, sym, subst, ◌∙◌}
+use Rattle.std.proofs.Common.{◌≡◌, ℕ, List, sym, subst}
 use Rattle.std.specs.Prelude.{slice_get}
 use Rattle.merc_base.specs.Groups.{kept}
 use Rattle.merc_known.specs.Known.{constructor_in}
