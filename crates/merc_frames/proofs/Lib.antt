@@ -9,6 +9,8 @@ pub mod Entering
 pub mod Choices
 pub mod Returning
 pub mod HandingExamples
+pub mod RoomLaws
+pub mod RoomsExamples
 pub mod SlotLaws
 pub mod SlotsExamples
 pub mod StacksExamples

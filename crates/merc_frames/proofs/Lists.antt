@@ -11,12 +11,6 @@ module _ {A : Type 0} where
   get_take (suc n) zero (x ∷ xs) h = refl
   get_take (suc n) (suc i) (x ∷ xs) h = get_take n i xs (omega (arith, h))
 
-  pub get_past : (n i : ℕ) (xs : List A) → n ≤ i → slice_get (take n xs) i ≡ None
-  get_past zero i xs h = refl
-  get_past (suc n) i [] h = refl
-  get_past (suc n) zero (x ∷ xs) h = absurd (omega (arith, h))
-  get_past (suc n) (suc i) (x ∷ xs) h = get_past n i xs (omega (arith, h))
-
   pub get_drop : (n i : ℕ) (xs : List A) → slice_get (drop n xs) i ≡ slice_get xs (n + i)
   get_drop zero i xs = ap (slice_get xs) (let e : i ≡ 0 + i = omega arith in e)
   get_drop (suc n) i [] = refl

@@ -1,6 +1,7 @@
 //! Frames of slots in one list, with who called and the choice points.
-ghost use Rattle.std.specs.Prelude.{◌≡◌, ◌⊎◌, ◌+◌, ◌-◌, ◌≤◌, ℕ, [], ◌∷◌, length, nat_lt, Some, slice_get, slice_set, IfOk, OnOk, OnErr};
+ghost use Rattle.std.specs.Prelude.{◌≡◌, ◌⊎◌, ◌+◌, ◌-◌, ◌<◌, ◌≤◌, ℕ, [], ◌∷◌, length, Some, slice_get, slice_set, IfOk, OnOk, OnErr};
 ghost use Rattle.merc_frames.specs.Stacks.{Stacks, GoesOn, caller_place, oldest, softened, Opens, Enters, Renews, GivesBack, GivesSlots, GoesBack};
+ghost use Rattle.merc_frames.specs.Rooms.{AreSlots, AreTaken, AreReceived, AreCallerSlots};
 ghost use Rattle.merc_frames.specs.View.{larger, counted, lowered, caller_top, newest};
 ghost use Rattle.merc_frames.specs.declared.copying.TheConstants.{SPARE};
 ghost use Rattle.merc_frames.specs.declared.kept.Kept.{Kept};
@@ -84,28 +85,27 @@ impl Frames {
         Ok(())
     }
 
-    /// The slot of this number of the current frame, from 0; `None` past its last.
-    pub fn slot(&self, number: usize) -> Option<Slot>
-        ensures { result ≡ slice_get self.now.current number }
+    /// How many slots the current frame has.
+    pub fn slot_count(&self) -> usize
+        ensures { result ≡ length self.now.current }
     {
-        if number < self.size {
-            Some(self.slots[self.base + number])
-        } else {
-            None
-        }
+        self.size
     }
 
-    /// Writes the slot of this number of the current frame, from 0. `false`, and nothing changed, past its last.
-    pub fn set(&mut self, number: usize, slot: Slot) -> bool
-        ensures written { result ≡ nat_lt number (length self.old.current) }
-        ensures after { self.new ≡ record self.old { current = slice_set self.old.current number slot } }
+    /// The slot of this number, from 0, which the current frame has.
+    pub fn slot(&self, number: usize) -> Slot
+        requires there { number < length self.now.current }
+        ensures { slice_get self.now.current number ≡ Some result }
     {
-        if number < self.size {
-            self.slots[self.base + number] = slot;
-            true
-        } else {
-            false
-        }
+        self.slots[self.base + number]
+    }
+
+    /// Writes the slot of this number, from 0, which the current frame has.
+    pub fn set(&mut self, number: usize, slot: Slot)
+        requires there { number < length self.old.current }
+        ensures { self.new ≡ record self.old { current = slice_set self.old.current number slot } }
+    {
+        self.slots[self.base + number] = slot;
     }
 
     /// The place where the newest caller goes on; `None` without a caller.
@@ -123,6 +123,8 @@ impl Frames {
     /// slots, with what is passed and nothing else. Where memory is refused, nothing changes.
     #[inline(always)]
     pub fn enter(&mut self, place: usize, size: usize, inputs: &[Pass]) -> Result<(), NoMemory>
+        requires taken { AreTaken (length self.old.current) inputs.now }
+        requires received { AreReceived size inputs.now }
         ensures ok { OnOk result (Enters self.old self.new place size inputs.now) }
         ensures err { OnErr result (self.new ≡ self.old) }
     {
@@ -149,6 +151,8 @@ impl Frames {
     /// and nothing else. Where memory is refused, nothing changes.
     #[inline(always)]
     pub fn renew(&mut self, size: usize, inputs: &[Pass]) -> Result<(), NoMemory>
+        requires taken { AreTaken (length self.old.current) inputs.now }
+        requires received { AreReceived size inputs.now }
         ensures ok { OnOk result (Renews self.old self.new size inputs.now) }
         ensures err { OnErr result (self.new ≡ self.old) }
     {
@@ -172,6 +176,8 @@ impl Frames {
     /// changes.
     #[inline(always)]
     pub fn give_back(&mut self, own: &[Var], outs: &[Var]) -> Result<Option<usize>, NoMemory>
+        requires own { AreSlots (length self.old.current) own.now }
+        requires outs { AreCallerSlots self.old.callers outs.now }
         ensures ok { IfOk result (λ place. GivesBack self.old self.new own.now outs.now place) }
         ensures err { OnErr result (self.new ≡ self.old) }
     {
@@ -200,6 +206,7 @@ impl Frames {
     /// caller nothing changes.
     #[inline(always)]
     pub fn give_slot(&mut self, slot: Slot, outs: &[Var]) -> Result<(), NoMemory>
+        requires outs { AreCallerSlots self.old.callers outs.now }
         ensures ok { OnOk result (GivesSlots self.old self.new (slot ∷ []) outs.now (caller_place self.old.callers)) }
         ensures err { OnErr result (self.new ≡ self.old) }
     {
@@ -214,6 +221,7 @@ impl Frames {
     // The same, in either way.
     #[inline(always)]
     fn put_slot(&mut self, slot: Slot, outs: &[Var]) -> Result<(), NoMemory>
+        requires outs { AreCallerSlots self.old.callers outs.now }
         ensures ok { OnOk result (GivesSlots self.old self.new (slot ∷ []) outs.now (caller_place self.old.callers)) }
         ensures err { OnErr result (self.new ≡ self.old) }
     {
@@ -228,6 +236,7 @@ impl Frames {
     #[cold]
     #[inline(never)]
     fn put_slot_kept(&mut self, slot: Slot, outs: &[Var]) -> Result<(), NoMemory>
+        requires outs { AreCallerSlots self.old.callers outs.now }
         ensures ok { OnOk result (GivesSlots self.old self.new (slot ∷ []) outs.now (caller_place self.old.callers)) }
         ensures err { OnErr result (self.new ≡ self.old) }
     {
@@ -238,6 +247,8 @@ impl Frames {
     #[cold]
     #[inline(never)]
     fn give_back_kept(&mut self, own: &[Var], outs: &[Var]) -> Result<Option<usize>, NoMemory>
+        requires own { AreSlots (length self.old.current) own.now }
+        requires outs { AreCallerSlots self.old.callers outs.now }
         ensures ok { IfOk result (λ place. GivesBack self.old self.new own.now outs.now place) }
         ensures err { OnErr result (self.new ≡ self.old) }
     {

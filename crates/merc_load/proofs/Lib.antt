@@ -1,10 +1,14 @@
 pub mod Combined
+pub mod FittingEntries
+pub mod FittingOps
 pub mod LeavingOut
 pub mod Lists
 pub mod Numbers
 pub mod Ops
+pub mod Passed
 pub mod Returning
 pub mod Rooms
+pub mod StandingOps
 pub mod Steps
 pub mod Theorem
 pub mod Walks

@@ -2,7 +2,10 @@ pub mod Combined
 pub mod CombinedExamples
 pub mod Entries
 pub mod EntriesExamples
+pub mod FittingOps
+pub mod FittingOpsExamples
 pub mod Frames
+pub mod FramesExamples
 pub mod LeavingOut
 pub mod LeavingOutExamples
 pub mod Linking

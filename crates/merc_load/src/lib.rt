@@ -3,6 +3,7 @@
 
 mod combining;
 mod entries;
+pub mod laws;
 mod leaving;
 mod linking;
 pub mod loaded;

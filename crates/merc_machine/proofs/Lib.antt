@@ -11,6 +11,7 @@ pub mod Counting
 pub mod Deciding
 pub mod Delivering
 pub mod Entering
+pub mod Fitting
 pub mod Going
 pub mod GoingBack
 pub mod Growing

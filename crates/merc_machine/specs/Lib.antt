@@ -2,6 +2,8 @@ pub mod Coming
 pub mod ComingExamples
 pub mod Event
 pub mod EventExamples
+pub mod Outputs
+pub mod OutputsExamples
 pub mod Running
 pub mod RunningExamples
 pub mod Standing

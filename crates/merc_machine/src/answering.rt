@@ -58,9 +58,9 @@ impl<'a> Machine<'a> {
         ensures below { IsBelow (length self.now.store.cells) result }
         ensures value { value_of self.now.store.cells result ≡ unwrap_or (slot_value self.now.store.cells (slice_get self.now.store.stacks.current variable)) no_value }
     {
-        self.store
-            .slot(variable)
-            .word()
-            .unwrap_or(Word::Atom(Name::NIL))
+        match self.store.slot_if_there(variable) {
+            Some(slot) => slot.word().unwrap_or(Word::Atom(Name::NIL)),
+            None => Word::Atom(Name::NIL),
+        }
     }
 }

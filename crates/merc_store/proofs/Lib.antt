@@ -17,3 +17,4 @@ pub mod ResultsExamples
 pub mod TryingLemmas
 pub mod SeveralLemmas
 pub mod RestoringLemmas
+pub mod StayingLemmas

@@ -1,5 +1,5 @@
 -- What the definitions of calls and returns say.
-use Rattle.std.proofs.Common.{◌≡◌, List, [], ◌∷◌, refl}
+use Rattle.std.proofs.Common.{List, [], ◌∷◌, refl}
 use Rattle.merc_frames.specs.declared.slot.Slot.{Slot}
 use Rattle.merc_frames.specs.declared.slot.Slot.TheVariants.{Cell, Mark}
 use Rattle.merc_frames.specs.Stacks.{Dead, GoesOn}

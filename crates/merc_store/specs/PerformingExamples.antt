@@ -1,6 +1,6 @@
 -- What the functions do that an instruction is made of.
 use Rattle.std.specs.List.{All}
-use Rattle.std.proofs.Common.{◌≡◌, ℕ, ◌<◌, ◌+◌, List, [], ◌∷◌, pos, Some, None, true, false, refl, sym, ap, subst, ◌∙◌, arith}
+use Rattle.std.proofs.Common.{◌≡◌, ℕ, ◌<◌, List, [], ◌∷◌, pos, Some, None, true, false, refl, sym, ap, subst, ◌∙◌, arith}
 use Rattle.std.proofs.lemmas.List.Elements.{All-nil, All-cons}
 use Rattle.merc_base.specs.Names.{division_by_zero_name}
 use Rattle.merc_value.specs.Value.{Int, Con, none, more}
@@ -15,6 +15,7 @@ use Rattle.merc_code.specs.declared.instruction.Instruction.{Instruction}
 use Rattle.merc_code.specs.declared.instruction.Instruction.TheVariants.{Integer, Arithmetic, Compare}
 use Rattle.merc_code.specs.Steps.{Effect, Fails, Raises, compares, operates}
 use Rattle.merc_load.specs.Frames.{FitsInstruction}
+use Rattle.merc_load.specs.FramesExamples.{fits}
 use Rattle.merc_frames.specs.Stacks.{GoesOn}
 use Rattle.merc_frames.specs.declared.slot.Slot.TheVariants.{Empty, Int as IntSlot, Text as TextSlot, Cell as CellSlot, Mark}
 use Rattle.merc_store.specs.Data.{StoreData, with_current}
@@ -85,13 +86,10 @@ does_both-example : DoesBoth store store (Integer 1 (pos 0)) (Arithmetic Div 1 0
 does_both-example = record { performs = λ variables env marks effect fits within within' found. raised_over variables env marks effect (fits.values 0) found }
 
 integer_fits : FitsInstruction 2 3 (Integer 1 (pos 9))
-integer_fits = record {
-  variables_are_there = All-cons (λ (variable : ℕ). variable < 2) 1 [] (omega arith) (All-nil (λ (variable : ℕ). variable < 2));
-  marks_are_there = All-nil (λ (mark : ℕ). 2 + mark < 3);
-}
+integer_fits = fits 2 3 (Integer 1 (pos 9)) (omega arith, tt) tt tt tt
 
 compare_fits : FitsInstruction 2 3 (Compare Less 0 1)
-compare_fits = record { variables_are_there = All-nil (λ (variable : ℕ). variable < 2); marks_are_there = All-nil (λ (mark : ℕ). 2 + mark < 3) }
+compare_fits = fits 2 3 (Compare Less 0 1) tt tt (omega arith, (omega arith, tt)) tt
 
 -- 7 < 9 holds, and then the constant does not stay without a value
 does_both-not : DoesBoth store store (Integer 1 (pos 9)) (Compare Less 0 1) Bound → ⊥
@@ -164,7 +162,7 @@ does_all-example : DoesAll store store tests (1 ∷ []) Failed
 does_all-example = record { performs = λ variables env marks effect fits within are found. failed_over variables env marks effect fits (fits.values 0) found }
 
 compare_back_fits : FitsInstruction 2 3 (Compare Less 1 0)
-compare_back_fits = record { variables_are_there = All-nil (λ (variable : ℕ). variable < 2); marks_are_there = All-nil (λ (mark : ℕ). 2 + mark < 3) }
+compare_back_fits = fits 2 3 (Compare Less 1 0) tt tt (omega arith, (omega arith, tt)) tt
 
 tests_fit : All (FitsInstruction 2 3) tests
 tests_fit = All-cons (FitsInstruction 2 3) (Integer 1 (pos 9)) (Compare Less 1 0 ∷ []) integer_fits (All-cons (FitsInstruction 2 3) (Compare Less 1 0) [] compare_back_fits (All-nil (FitsInstruction 2 3)))

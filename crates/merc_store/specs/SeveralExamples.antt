@@ -1,5 +1,5 @@
 -- Several instructions, one behind the other, of which one fails.
-use Rattle.std.proofs.Common.{◌≡◌, ℕ, zero, suc, [], ◌∷◌, pos, Some, refl, subst, arith}
+use Rattle.std.proofs.Common.{◌≡◌, zero, suc, [], ◌∷◌, pos, Some, refl, subst, arith}
 use Rattle.std.proofs.lemmas.List.Elements.{All-nil}
 use Rattle.merc_value.specs.Value.{Int}
 use Rattle.merc_meaning.specs.Trace.{Env}

@@ -1,13 +1,13 @@
 //! Calls, returns and choice points.
-ghost use Rattle.std.specs.Prelude.{◌≡◌, [], ◌∷◌, List, length, slice_get, slice_set, OnOk};
+ghost use Rattle.std.specs.Prelude.{◌≡◌, ◌<◌, [], ◌∷◌, List, length, slice_get, slice_set, OnOk};
 ghost use Rattle.merc_frames.specs.Stacks.{Caller, GoesOn, caller_place, oldest, softened};
 ghost use Rattle.merc_frames.specs.declared.slot.Slot.{Slot};
 ghost use Rattle.merc_store.specs.Data.{with_choices, with_current};
 ghost use Rattle.merc_store.specs.Fitting.{slot_mark};
 ghost use Rattle.merc_frames.specs.Handing.{empty_frame};
+ghost use Rattle.merc_frames.specs.Rooms.{AreCallerSlots, AreReceived, AreSlots, AreTaken};
 ghost use Rattle.merc_store.specs.Moves.{Calls, CallsLast, GoesBack, Returns};
 
-use crate::carrying::slot_at;
 use crate::store::{Backed, Store};
 use merc_base::NoMemory;
 use merc_frames::{Pass, Slot};
@@ -28,6 +28,8 @@ impl Store {
     /// is passed and nothing else.
     #[inline(always)]
     pub fn call(&mut self, place: usize, size: usize, inputs: &[Pass]) -> Result<(), NoMemory>
+        requires taken { AreTaken (length self.old.stacks.current) inputs.now }
+        requires received { AreReceived size inputs.now }
         ensures { OnOk result (Calls self.old self.new place size inputs.now) }
     {
         self.frames.enter(place, size, inputs)
@@ -36,6 +38,8 @@ impl Store {
     /// A call that takes the place of the current frame.
     #[inline(always)]
     pub fn call_last(&mut self, size: usize, inputs: &[Pass]) -> Result<(), NoMemory>
+        requires taken { AreTaken (length self.old.stacks.current) inputs.now }
+        requires received { AreReceived size inputs.now }
         ensures { OnOk result (CallsLast self.old self.new size inputs.now) }
     {
         self.frames.renew(size, inputs)
@@ -52,14 +56,17 @@ impl Store {
     /// nothing changes.
     #[inline(always)]
     pub fn give_back(&mut self, own: &[Var], outs: &[Var]) -> Result<(), NoMemory>
+        requires own { AreSlots (length self.old.stacks.current) own.now }
+        requires outs { AreCallerSlots self.old.stacks.callers outs.now }
         ensures { OnOk result ((newest : Caller) (callers : List Caller) → self.old.stacks.callers ≡ newest ∷ callers → Returns self.old self.new own.now outs.now) }
     {
         self.frames.give_back(own, outs)?;
         Ok(())
     }
 
-    /// The slot becomes a mark of the number of choice points. Nothing changes where there is no such slot.
+    /// The slot becomes a mark of the number of choice points.
     pub fn set_mark(&mut self, slot: usize)
+        requires slot { slot < length self.old.stacks.current }
         ensures { self.new ≡ with_current self.old (slice_set self.old.stacks.current slot (Slot.Mark (length self.old.stacks.choices))) }
     {
         let count = self.frames.count();
@@ -68,17 +75,19 @@ impl Store {
 
     /// Drops the choice points that were made since the slot's mark was set.
     pub fn commit(&mut self, slot: usize)
+        requires slot { slot < length self.old.stacks.current }
         ensures { self.new ≡ with_choices self.old (oldest (slot_mark (slice_get self.old.stacks.current slot)) self.old.stacks.choices) }
     {
-        let mark = slot_at(&self.frames, slot).mark();
+        let mark = self.frames.slot(slot).mark();
         self.frames.commit(mark);
     }
 
     /// The choice point that was made next after the slot's mark was set only fails from now on.
     pub fn soften(&mut self, slot: usize)
+        requires slot { slot < length self.old.stacks.current }
         ensures { self.new ≡ with_choices self.old (softened (slot_mark (slice_get self.old.stacks.current slot)) self.old.stacks.choices) }
     {
-        let mark = slot_at(&self.frames, slot).mark();
+        let mark = self.frames.slot(slot).mark();
         self.frames.soften(mark);
     }
 

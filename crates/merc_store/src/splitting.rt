@@ -7,6 +7,7 @@ ghost use Rattle.merc_meaning.specs.Values.{fields};
 ghost use Rattle.merc_meaning.specs.Trace.{Env};
 ghost use Rattle.merc_meaning.specs.Steps.{value_at};
 ghost use Rattle.merc_code.specs.Steps.{target_of, target_at};
+ghost use Rattle.merc_frames.specs.Rooms.{AreSlots};
 ghost use Rattle.merc_frames.specs.Slots.{holding};
 ghost use Rattle.merc_heap.specs.Heap.{arguments_in, word_of};
 ghost use Rattle.merc_store.specs.Fitting.{FitsFrame};
@@ -25,6 +26,7 @@ impl Store {
     /// Behind how many instructions a switch goes on; `None` where no target's symbol is that of the variable's value,
     /// and where it has no value.
     pub fn target(&self, whole: Var, targets: &[Target]) -> Option<usize>
+        requires whole { whole < length self.now.stacks.current }
         ensures { (variables : ℕ) (env : Env) (marks : List ℕ) → FitsFrame self.now.cells variables self.now.stacks.current env marks
             → result ≡ target_at (value_at env whole) targets.now }
     {
@@ -36,6 +38,7 @@ impl Store {
 
     #[inline(always)]
     pub(crate) fn split(&mut self, whole: Var, symbol: &Symbol, variables: &[Var]) -> Done
+        requires { (whole < length self.old.stacks.current) × AreSlots (length self.old.stacks.current) variables.now }
         ensures { Does self.old self.new (Instruction.Split whole symbol.now variables.now) result }
     {
         let Some(place) = self.cell(whole) else {
@@ -54,6 +57,7 @@ impl Store {
     // Most literals are integers: of these the numbers alone are compared.
     #[inline(always)]
     pub(crate) fn literal(&self, whole: Var, symbol: &Symbol) -> Done
+        requires { whole < length self.now.stacks.current }
         ensures { Does self.now self.now (Instruction.Literal whole symbol.now) result }
     {
         match *symbol {
@@ -65,6 +69,7 @@ impl Store {
     /// Whether a variable's value is this integer, as the instruction tells that tests it.
     #[inline(always)]
     pub fn has_integer(&self, whole: Var, number: i64) -> bool
+        requires slot { whole < length self.now.stacks.current }
         ensures { Does self.now self.now (Instruction.Literal whole (Symbol.Integer number)) (tested result) }
     {
         match self.integer(whole) {
@@ -76,6 +81,7 @@ impl Store {
     // Of any literal. It is not put into what calls it, which would become too large.
     #[inline(never)]
     fn literal_apart(&self, whole: Var, symbol: &Symbol) -> Done
+        requires { whole < length self.now.stacks.current }
         ensures { Does self.now self.now (Instruction.Literal whole symbol.now) result }
     {
         let Some(word) = self.word(whole) else {
@@ -91,6 +97,7 @@ impl Store {
     // The place of the cell that a variable's value is, if it is one.
     #[inline(always)]
     pub(crate) fn cell(&self, variable: Var) -> Option<usize>
+        requires { variable < length self.now.stacks.current }
         ensures found { IfSome result (λ place. word_at self.now.stacks.current variable ≡ Some (Word.Cell place)) }
         ensures below { IfSome result (λ place. place < length self.now.cells) }
         ensures none { IfNone result ((place : ℕ) → word_at self.now.stacks.current variable ≡ Some (Word.Cell place) → ⊥) }
@@ -104,6 +111,7 @@ impl Store {
     // The constructor without arguments that a variable's value is, if it is one.
     #[inline(always)]
     pub(crate) fn atom(&self, variable: Var) -> Option<Name>
+        requires { variable < length self.now.stacks.current }
         ensures { IfSome result (λ name. word_at self.now.stacks.current variable ≡ Some (Word.Atom name)) }
     {
         match self.word(variable)? {
@@ -166,6 +174,7 @@ pub(crate) fn is_head(symbol: Symbol, head: &Symbol) -> bool
 // Gives variables the values of fields, one for one. Few of them are given without a loop.
 #[inline(always)]
 pub(crate) fn fill(frames: &mut Frames, variables: &[Var], fields: &[slot::Slot])
+    requires { AreSlots (length frames.old.current) variables.now }
     ensures { frames.new ≡ record frames.old { current = stored variables.now (map word_of fields.now) frames.old.current } }
 {
     match (variables, fields) {
@@ -186,6 +195,7 @@ pub(crate) fn fill(frames: &mut Frames, variables: &[Var], fields: &[slot::Slot]
 // The same of more. It is not put into what calls it, which would become too large.
 #[inline(never)]
 fn fill_more(frames: &mut Frames, variables: &[Var], fields: &[slot::Slot])
+    requires { AreSlots (length frames.old.current) variables.now }
     ensures { frames.new ≡ record frames.old { current = stored variables.now (map word_of fields.now) frames.old.current } }
 {
     match (variables, fields) {
@@ -200,6 +210,7 @@ fn fill_more(frames: &mut Frames, variables: &[Var], fields: &[slot::Slot])
 }
 
 fn fill_each(frames: &mut Frames, variables: &[Var], fields: &[slot::Slot])
+    requires { AreSlots (length frames.old.current) variables.now }
     ensures { frames.new ≡ record frames.old { current = stored variables.now (map word_of fields.now) frames.old.current } }
 {
     for (variable, field) in variables.iter().zip(fields) {
@@ -210,6 +221,7 @@ fn fill_each(frames: &mut Frames, variables: &[Var], fields: &[slot::Slot])
 // Gives a variable the value of a field.
 #[inline(always)]
 pub(crate) fn put(frames: &mut Frames, variable: Var, field: &slot::Slot)
+    requires { variable < length frames.old.current }
     ensures { frames.new ≡ record frames.old { current = slice_set frames.old.current variable (holding (word_of field.now)) } }
 {
     frames.set(variable.number(), Slot::holding(field.word()));

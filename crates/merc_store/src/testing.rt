@@ -1,5 +1,5 @@
 //! Tests of values, and arithmetic.
-ghost use Rattle.std.specs.Prelude.{◌≡◌, IfOk};
+ghost use Rattle.std.specs.Prelude.{◌≡◌, ◌<◌, length, IfOk};
 ghost use Rattle.merc_store.specs.Performing.{Does, tested};
 
 use crate::{Done, Store};
@@ -12,6 +12,7 @@ use merc_value::Word;
 impl Store {
     #[inline(always)]
     pub(crate) fn test(&self, one: Var, other: Var) -> Result<Done, NoMemory>
+        requires { (one < length self.now.stacks.current) × (other < length self.now.stacks.current) }
         ensures { IfOk result (Does self.now self.now (Instruction.Test one other)) }
     {
         let Some(first) = self.word(one) else {
@@ -29,6 +30,7 @@ impl Store {
 
     #[inline(always)]
     pub(crate) fn operate(&mut self, operation: Operation, to: Var, one: Var, other: Var) -> Done
+        requires { (to < length self.old.stacks.current) × (one < length self.old.stacks.current) × (other < length self.old.stacks.current) }
         ensures { Does self.old self.new (Instruction.Arithmetic operation to one other) result }
     {
         let Some(left) = self.integer(one) else {
@@ -45,6 +47,7 @@ impl Store {
 
     #[inline(always)]
     pub(crate) fn compare(&self, comparison: Comparison, one: Var, other: Var) -> Done
+        requires { (one < length self.now.stacks.current) × (other < length self.now.stacks.current) }
         ensures { Does self.now self.now (Instruction.Compare comparison one other) result }
     {
         let Some(left) = self.integer(one) else {

@@ -1,13 +1,16 @@
--- What is left of the variables is still to be given the words of the fields that are left.
-use Rattle.std.proofs.Common.{◌≡◌, map}
+-- What is left of the variables is still to be given the words of the fields that are left, and the frame has all of them.
+use Rattle.std.proofs.Common.{◌≡◌, length, map}
 use Rattle.std.specs.Iterator.Adapters.{zip_first, zip_second}
 use Rattle.std.specs.Slice.Iter.{iter_rest}
+use Rattle.merc_frames.specs.Rooms.{AreSlots}
 use Rattle.merc_heap.specs.Heap.{word_of}
 use Rattle.merc_store.specs.Performing.{stored}
 use Rattle.merc_store.proofs.CarryingLaws.{with_slots}
 use Rattle.merc_store.proofs.splitting.fill_each.Given as goal
 
 abbrev pub invariant-loop-variable : goal.invariant-loop-variable
-invariant-loop-variable l =
-    with_slots l.frames (stored (iter_rest (zip_first l.variable-iterator)) (map word_of (iter_rest (zip_second l.variable-iterator))) l.frames.current)
-    ≡ with_slots l.fn.frames (stored l.variables (map word_of l.fields) l.fn.frames.current)
+invariant-loop-variable l = record {
+  there : AreSlots (length l.frames.current) (iter_rest (zip_first l.variable-iterator));
+  same : with_slots l.frames (stored (iter_rest (zip_first l.variable-iterator)) (map word_of (iter_rest (zip_second l.variable-iterator))) l.frames.current)
+      ≡ with_slots l.fn.frames (stored l.variables (map word_of l.fields) l.fn.frames.current);
+}

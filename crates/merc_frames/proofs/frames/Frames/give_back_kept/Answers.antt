@@ -4,6 +4,7 @@ use Rattle.merc_frames.proofs.Built.{built_delivered, built_moved}
 use Rattle.merc_frames.proofs.Moving.{grown_view, on_err}
 use Rattle.merc_frames.proofs.Newest.{low_under}
 use Rattle.merc_frames.proofs.Returning.{caller_is, parent_inside, source_inside, copy_fine, copy_gives}
+use Rattle.merc_frames.proofs.RoomLaws.{caller_slots}
 use Rattle.merc_frames.proofs.frames.Frames.give_back_kept.Goals as goal
 
 abbrev pub returns-in_err-make_room-clause-err : goal.returns-in_err-make_room-clause-err
@@ -14,6 +15,12 @@ copy_frame-requires-clause-source c =
     let used : 0 < c.self.inside.height = omega (arith, c.if-self-eq0.false) in
     let frame = caller_is _ _ _ _ _ _ _ c.self.invariant used c.index-caller.ensures in
     source_inside _ _ _ _ _ _ _ c.self.invariant used frame _ c.in_ok-make_room.ensures.grows
+
+abbrev pub deliver-requires-clause-outs : goal.deliver-requires-clause-outs
+deliver-requires-clause-outs c =
+    let used : 0 < c.self.inside.height = omega (arith, c.if-self-eq0.false) in
+    let frame = caller_is _ _ _ _ _ _ _ c.self.invariant used c.index-caller.ensures in
+    caller_slots _ _ _ _ _ _ c.self.invariant _ c.self.view_is _ c.args.outs.now used frame c.requires.outs
 
 abbrev pub low_of-low-requires-clause-callers : goal.low_of-low-requires-clause-callers
 low_of-low-requires-clause-callers c =

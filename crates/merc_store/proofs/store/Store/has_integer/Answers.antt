@@ -1,8 +1,5 @@
-use Rattle.std.proofs.Common.{rules, FitsSigned, sym, subst, ◌∙◌}
+use Rattle.std.proofs.Common.{rules, FitsSigned, sym, ◌∙◌}
 use Rattle.std.specs.Int.{w64}
-use Rattle.merc_goal_tree.specs.declared.goal.Symbol.TheVariants.{Integer}
-use Rattle.merc_code.specs.declared.instruction.Instruction.TheVariants.{Literal}
-use Rattle.merc_store.specs.Performing.{Does}
 use Rattle.merc_store.proofs.KindLemmas.{integer_lacks, integer_tells}
 use Rattle.merc_store.proofs.ReadingLemmas.{equal_bits}
 use Rattle.merc_store.proofs.store.Store.has_integer.Goals as goal

@@ -1,0 +1,23 @@
+-- The frame that is kept of the newest caller has the slots that outputs go to.
+use Rattle.std.proofs.Common.{◌≡◌, ℕ, ◌+◌, ◌-◌, ◌<◌, ◌≤◌, List, length, drop, Some, slice_get, sym, ap, ◌∙◌, subst, arith}
+use Rattle.std.proofs.lemmas.List.{length-drop, length-take-le}
+use Rattle.merc_frames.specs.declared.slot.Slot.{Slot}
+use Rattle.merc_frames.specs.declared.kept.Saved.{Saved}
+use Rattle.merc_frames.specs.declared.kept.Kept.{Kept}
+use Rattle.merc_frames.specs.Rooms.{AreCallerSlots, AreSlots}
+use Rattle.merc_frames.specs.Stacks.{Stacks}
+use Rattle.merc_frames.specs.View.{frame_of, view_of, Fine}
+use Rattle.merc_frames.proofs.Returning.{return_callers}
+
+-- a frame that lies in the list has as many slots as its size says
+frame_length : (w : List Slot) (base size : ℕ) → base + size ≤ length w → length (frame_of w base size) ≡ size
+frame_length w base size room = length-take-le size (drop base w) (omega (arith, room, length-drop base w))
+
+module _ (w : List Slot) (saved : List Saved) (cs : List Kept) (base size h : ℕ) (f : Fine w saved cs base size h) (shown : Stacks) (e : view_of w saved cs base size h ≡ shown) where
+  -- its frame has these slots, by the size that is kept of it
+  pub caller_slots : (s : Saved) (outs : List ℕ) → 0 < h → slice_get saved (h - 1) ≡ Some s → AreCallerSlots shown.callers outs → AreSlots s.size outs
+  caller_slots s outs used frame are =
+      let top = f.tops (h - 1) s frame in
+      let within = f.within in
+      let here = ap (λ (x : Stacks). x.callers) (sym e) ∙ return_callers w saved cs base size h s f used frame in
+      subst (λ n. AreSlots n outs) (frame_length w s.base s.size (omega (arith, top, within))) (subst (λ callers. AreCallerSlots callers outs) here are)

@@ -1,0 +1,58 @@
+-- Worked examples of instructions of the machine that fit frames.
+use Rattle.std.specs.Prelude.{ℕ, ◌<◌, List, [], ◌∷◌, None, IfSome}
+use Rattle.std.proofs.Common.{arith}
+use Rattle.std.proofs.lemmas.List.Elements.{All-from_recursion}
+use Rattle.merc_goal_tree.specs.declared.goal.Operation.TheVariants.{Subtract}
+use Rattle.merc_code.specs.declared.instruction.Instruction.TheVariants.{Arithmetic, Test}
+use Rattle.merc_frames.specs.declared.passing.Pass.{Pass}
+use Rattle.merc_frames.specs.Rooms.{AreSlots}
+use Rattle.merc_load.specs.FittingOps.{FitsEntry, FitsOp}
+use Rattle.merc_load.specs.Superinstructions.{cell_arm, empty_arm}
+use Rattle.merc_load.specs.declared.loaded.Arm.{Arm}
+use Rattle.merc_load.specs.declared.loaded.Entry.{Entry}
+use Rattle.merc_load.specs.declared.loaded.Op.TheVariants.{Do, Call, LastCall, If, SwitchFields, Fail}
+
+-- a frame of three slots
+
+arithmetic-example : FitsOp 3 (Do (Arithmetic Subtract 2 0 1))
+arithmetic-example = (omega arith, omega arith, omega arith)
+
+-- the fourth slot is looked at
+arithmetic-not : FitsOp 3 (Do (Arithmetic Subtract 2 0 3)) → ⊥
+arithmetic-not f = let h : 3 < 3 = f.2 in absurd (omega (arith, h))
+
+fail-example : FitsOp 0 Fail
+fail-example = tt
+
+-- It does not matter what number of slots the called procedure's frame has.
+call-example : FitsOp 3 (Call 0 (record { from = 2; to = 7 } ∷ []) (1 ∷ []))
+call-example = (All-from_recursion (λ (pass : Pass). pass.from < 3) (record { from = 2; to = 7 } ∷ []) (omega arith, tt), All-from_recursion (λ (slot : ℕ). slot < 3) (1 ∷ []) (omega arith, tt))
+
+call-not : FitsOp 3 (Call 0 (record { from = 3; to = 0 } ∷ []) []) → ⊥
+call-not f = let h : 3 < 3 = f.0 0 (record { from = 3; to = 0 }) (omega arith) in absurd (omega (arith, h))
+
+-- the mark has no slot
+condition-not : FitsOp 3 (If (Test 0 1) 3 4) → ⊥
+condition-not f = let h : 3 < 3 = f.1 in absurd (omega (arith, h))
+
+switch-example : FitsOp 3 (SwitchFields 0 (empty_arm None 0 ∷ cell_arm 1 2 2 ∷ []))
+switch-example = (
+  omega arith,
+  All-from_recursion (λ (arm : Arm). IfSome arm.fields (AreSlots 3)) (empty_arm None 0 ∷ cell_arm 1 2 2 ∷ []) (tt, (All-from_recursion (λ (slot : ℕ). slot < 3) (1 ∷ 2 ∷ []) (omega arith, (omega arith, tt)), tt)),
+)
+
+-- a field is given to the fourth slot
+switch-not : FitsOp 3 (SwitchFields 0 (cell_arm 1 3 2 ∷ [])) → ⊥
+switch-not f = let h : 3 < 3 = f.1 0 (cell_arm 1 3 2) (omega arith) 1 0 (omega arith) in absurd (omega (arith, h))
+
+-- one procedure, whose frames have two slots
+
+abbrev entries : List Entry
+entries = record { place = 0; size = 2 } ∷ []
+
+-- It does not matter from where something is passed.
+entry-example : FitsEntry entries (Call 0 (record { from = 7; to = 1 } ∷ []) (7 ∷ []))
+entry-example = All-from_recursion (λ (pass : Pass). pass.to < 2) (record { from = 7; to = 1 } ∷ []) (omega arith, tt)
+
+entry-not : FitsEntry entries (LastCall 0 (record { from = 0; to = 2 } ∷ [])) → ⊥
+entry-not f = let h : 2 < 2 = f 0 (record { from = 0; to = 2 }) (omega arith) in absurd (omega (arith, h))
