@@ -15,8 +15,8 @@ use Rattle.merc_known.specs.Known.{constructor_in}
 use Rattle.merc_type_table.specs.Table.{type_at}
 use Rattle.merc_type_check.specs.declared.checker.Checker.{Checker}
 use Rattle.merc_type_check.specs.declared.checker.UsedType.{UsedType}
-use Rattle.merc_type_check.specs.declared.matching.NamePair.{NamePair}
-use Rattle.merc_type_check.specs.Matched.{AgreeOn, AreMatched}
+use Rattle.merc_type_matching.specs.declared.matching.NamePair.{NamePair}
+use Rattle.merc_type_matching.specs.Matched.{AgreeOn, AreMatched}
 use Rattle.merc_type_check.specs.Progress.{used_type, Types, Instances, Fits, IsSound, Step, Refuses, Takes, Nothing, Stands, AllStand, Places, IsFresh, GoalTakes}
 use Rattle.merc_type_check.specs.Typing.{HaveTypes, HasConstructor, IsConstructed, IsCalled, AreArguments}
 use Rattle.merc_type_check.proofs.Steps.{steps, step_as, takes_where, grow_takes, grow_grow, stands_on, all_stand_on, fresh_takes}

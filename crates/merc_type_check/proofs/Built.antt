@@ -1,5 +1,5 @@
 -- Declared types as equations.
-use Rattle.std.proofs.Common.{◌≡◌, ℕ, ◌+◌, ◌<◌, ◌≤◌, true, false, Option, Some, None, List, [], ◌∷◌, ◌++◌, length, map, refl, sym, ap, subst, ◌∙◌, arith}
+use Rattle.std.proofs.Common.{◌≡◌, ℕ, ◌<◌, true, false, Option, Some, None, List, [], ◌∷◌, ◌++◌, length, map, refl, sym, ap, subst, ◌∙◌, arith}
 use Rattle.std.specs.Option.{IfSome}
 use Rattle.std.specs.Ordering.{nat_cmp}
 use Rattle.std.specs.BTreeMap.{BTreeMap, IsEmpty, get}
@@ -10,13 +10,14 @@ use Rattle.merc_type_table.specs.declared.node.TypeNode.TheVariants.{Variable, I
 use Rattle.merc_type_table.specs.Table.{type_at, with_first, is_application, is_closed, made, IsComplete}
 use Rattle.merc_type_table.specs.Frames.{with_all}
 use Rattle.merc_type_graph.specs.Changes.{AllWithin}
+use Rattle.merc_type_matching.specs.Weights.{type_weight}
+use Rattle.merc_type_matching.proofs.Parts.{replaced_closed, some_weight, split_weight}
 use Rattle.merc_type_check.specs.declared.building.Frame.{Frame}
 use Rattle.merc_type_check.specs.declared.checker.Checker.{Checker}
-use Rattle.merc_type_check.specs.Building.{instance_at, instances_of, AreBuilt, Finds, Finishes, IsFilled, HasMore, AreWaiting, IsSplit, IsUnderWay, type_weight, frames_weight}
+use Rattle.merc_type_check.specs.Building.{instance_at, instances_of, AreBuilt, Finds, Finishes, IsFilled, HasMore, AreWaiting, IsSplit, IsUnderWay, frames_weight}
 use Rattle.merc_type_check.specs.Progress.{Types, Instances, Step, Nothing, Stands, AllStand, Places}
 use Rattle.merc_type_check.proofs.Steps.{stands_on, all_stand_on, grow_grow}
 use Rattle.merc_type_check.proofs.Places.{MapUpdates, all_more}
-use Rattle.merc_type_check.proofs.Numbers.{replaced_closed}
 
 replaced_all-types_of : (instance : Types) (types : List TypeExpr) → replaced_all instance (types_of types) ≡ types_of (map (replaced instance) types)
 replaced_all-types_of instance [] = refl
@@ -61,39 +62,26 @@ with_all-name name [] = refl
 with_all-name name (first ∷ rest) = ap (with_first first) (with_all-name name rest)
 
 -- what is left to build grows less
-pub some_weight : (table : List TypeExpr) (type : TypeExpr) → 1 ≤ type_weight table type
-some_weight table (TypeVariable name) = omega arith
-some_weight table IntType = omega arith
-some_weight table TextType = omega arith
-some_weight table (TypeApplication name arguments) = omega arith
-
-pub split_weight : (table : List TypeExpr) (first rest : TypeExpr) → is_application rest ≡ true
-    → type_weight table (with_first first rest) ≡ type_weight table first + 1 + type_weight table rest
-split_weight table first (TypeVariable name) e = absurd (cc)
-split_weight table first IntType e = absurd (cc)
-split_weight table first TextType e = absurd (cc)
-split_weight table first (TypeApplication name arguments) e = omega arith
-
 pub less_found : (table : List TypeExpr) (frame top : Frame) (below : List Frame) (first rest : ℕ) → IsSplit table frame.rest first rest → top.rest ≡ rest
     → frames_weight table top below < frames_weight table frame below
 less_found table frame top below first rest split rest_is =
-    let a = ap (type_weight table) split.is ∙ split_weight table (type_at table first) (type_at table rest) split.complete in
-    let b = ap (λ (n : ℕ). type_weight table (type_at table n)) rest_is in
+    let a = ap type_weight split.is ∙ split_weight (type_at table first) (type_at table rest) split.complete in
+    let b = ap (λ (n : ℕ). type_weight (type_at table n)) rest_is in
     omega arith
 
 pub less_argument : (table : List TypeExpr) (frame waits top : Frame) (below : List Frame) (first rest : ℕ) → IsSplit table frame.rest first rest → waits.rest ≡ rest
     → top.rest ≡ first → frames_weight table top (waits ∷ below) < frames_weight table frame below
 less_argument table frame waits top below first rest split rest_is first_is =
-    let a = ap (type_weight table) split.is ∙ split_weight table (type_at table first) (type_at table rest) split.complete in
-    let b = ap (λ (n : ℕ). type_weight table (type_at table n)) rest_is in
-    let c = ap (λ (n : ℕ). type_weight table (type_at table n)) first_is in
+    let a = ap type_weight split.is ∙ split_weight (type_at table first) (type_at table rest) split.complete in
+    let b = ap (λ (n : ℕ). type_weight (type_at table n)) rest_is in
+    let c = ap (λ (n : ℕ). type_weight (type_at table n)) first_is in
     omega arith
 
 pub less_finished : (table : List TypeExpr) (top frame next : Frame) (below : List Frame) (place : ℕ) → HasMore frame next place
     → frames_weight table next below < frames_weight table top (frame ∷ below)
 less_finished table top frame next below place has =
-    let some = some_weight table (type_at table top.rest) in
-    let b = ap (λ (n : ℕ). type_weight table (type_at table n)) has.same_rest in
+    let some = some_weight (type_at table top.rest) in
+    let b = ap (λ (n : ℕ). type_weight (type_at table n)) has.same_rest in
     omega arith
 
 -- Given is the number of the part of the goal that uses the declaration.

@@ -1,4 +1,4 @@
-pub mod Maps
+pub mod Keys
 pub mod Steps
 pub mod Places
 pub mod Built
@@ -6,5 +6,4 @@ pub mod Numbers
 pub mod Asked
 pub mod Repeating
 pub mod Told
-pub mod Pairings
 pub mod Serving

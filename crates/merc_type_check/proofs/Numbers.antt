@@ -12,12 +12,14 @@ use Rattle.merc_tree.specs.declared.declarations.Constructor.{Constructor}
 use Rattle.merc_tree.specs.declared.declarations.TypeDef.{TypeDef}
 use Rattle.merc_tree.specs.declared.declarations.PredDecl.{PredDecl}
 use Rattle.merc_tree.specs.declared.declarations.Module.{Module}
-use Rattle.merc_tree.specs.Types.{TypeExpr, TypeExprs, TypeVariable, IntType, TextType, TypeApplication, no_types, more_types, replaced, replaced_all}
-use Rattle.merc_type_table.specs.Table.{type_at, types_made, is_closed, are_closed}
+use Rattle.merc_tree.specs.Types.{TypeExpr, replaced}
+use Rattle.merc_type_table.specs.Table.{type_at, types_made, is_closed}
 use Rattle.merc_type_table.specs.Numbering.{Extends, IsNumbering}
 use Rattle.merc_type_table.specs.declared.numbering.TypeNumbering.{TypeNumbering}
+use Rattle.merc_type_matching.proofs.Parts.{replaced_closed}
 use Rattle.merc_type_check.specs.Checked.{head_types}
-use Rattle.merc_type_check.specs.TypeNumbers.{AreDeclared, AreNumbers, AreWithin, NumberOf, numbers_found, Grows, Numbered, NumbersPredicates, NumbersFirst, Renumbers, NumbersConstructors}
+use Rattle.merc_type_matching.specs.Listed.{AreWithin}
+use Rattle.merc_type_check.specs.TypeNumbers.{AreDeclared, AreNumbers, NumberOf, numbers_found, Grows, Numbered, NumbersPredicates, NumbersFirst, Renumbers, NumbersConstructors}
 use Rattle.merc_type_check.specs.declared.declared.DeclaredTypes.{DeclaredTypes}
 use Rattle.merc_type_check.specs.Progress.{Types, Instances, Places, Stands, Takes}
 use Rattle.merc_type_check.specs.declared.checker.Checker.{Checker}
@@ -25,25 +27,6 @@ use Rattle.merc_type_check.proofs.Steps.{grow_takes, takes_as}
 
 same_some : {B : Type 0} {a b : B} → Some a ≡ Some b → a ≡ b
 same_some e = cc
-
-and_true : (a b : Bool) → (a && b) ≡ true → (a ≡ true) × (b ≡ true)
-and_true true b e = (refl, e)
-and_true false b e = absurd (cc)
-
--- a type without type variables is the same in each instance
-mutual
-  pub replaced_closed : (instance : Types) (type : TypeExpr) → is_closed type ≡ true → replaced instance type ≡ type
-  replaced_closed instance (TypeVariable name) closed = absurd (cc)
-  replaced_closed instance IntType closed = refl
-  replaced_closed instance TextType closed = refl
-  replaced_closed instance (TypeApplication name arguments) closed = ap (TypeApplication name) (replaced_all_closed instance arguments closed)
-
-  pub replaced_all_closed : (instance : Types) (arguments : TypeExprs) → are_closed arguments ≡ true → replaced_all instance arguments ≡ arguments
-  replaced_all_closed instance no_types closed = refl
-  replaced_all_closed instance (more_types first rest) closed =
-      let both = and_true (is_closed first) (are_closed rest) closed in
-      let a : replaced instance first ≡ first = replaced_closed instance first both.0 in
-      let b : replaced_all instance rest ≡ rest = replaced_all_closed instance rest both.1 in cc
 
 -- the type at a number
 pub type_there : (table : List TypeExpr) (number : ℕ) (type : TypeExpr) → slice_get table number ≡ Some type → (number < length table) × (type_at table number ≡ type)
@@ -396,11 +379,6 @@ numbers_within table (n ∷ ns) (t ∷ ts) are =
     let first : slice_get table n ≡ Some t = cc in
     let others : map (slice_get table) ns ≡ map Some ts = cc in
     ((type_there table n t first).0, numbers_within table ns ts others)
-
-pub within_at : (table : List TypeExpr) (numbers : List ℕ) (i number : ℕ) → AreWithin table numbers → slice_get numbers i ≡ Some number → number < length table
-within_at table [] i number within e = absurd (cc)
-within_at table (n ∷ ns) zero number within e = let same : n ≡ number = same_some e in subst (λ (k : ℕ). k < length table) same within.0
-within_at table (n ∷ ns) (suc i) number within e = within_at table ns i number within.1 e
 
 pub mapped_at : (table : List TypeExpr) (numbers : List ℕ) (i number : ℕ) → slice_get numbers i ≡ Some number → slice_get (map (type_at table) numbers) i ≡ Some (type_at table number)
 mapped_at table [] i number e = absurd (cc)

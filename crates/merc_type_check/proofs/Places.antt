@@ -11,11 +11,12 @@ use Rattle.merc_type_graph.specs.Changes.{AllWithin, Adds, MakesEqual, MakesWhol
 use Rattle.merc_type_check.specs.declared.checker.Checker.{Checker}
 use Rattle.merc_type_check.specs.declared.checker.UsedType.{UsedType}
 use Rattle.merc_type_check.specs.declared.checker.UsedVariable.{UsedVariable}
-use Rattle.merc_type_check.specs.declared.matching.NamePair.{NamePair}
-use Rattle.merc_type_check.specs.declared.matching.NumberPair.{NumberPair}
-use Rattle.merc_type_check.specs.Matched.{AreMatched}
+use Rattle.merc_type_matching.specs.declared.matching.NamePair.{NamePair}
+use Rattle.merc_type_matching.specs.declared.matching.NumberPair.{NumberPair}
+use Rattle.merc_type_matching.specs.Matched.{AreMatched}
 use Rattle.merc_type_check.specs.Progress.{compare_numbers, compare_variables, used_type, Types, Instances, AgreesWith, AgreesIn, Fits, AreMet, AreThere, AgreeBelow, IsLocal, IsNewIf, IsSound, Keeps, Nothing, Offers, Stands, AllStand, Step, Takes, Places, Waits}
-use Rattle.merc_type_check.proofs.Maps.{Changes, all_before, all_changed, changed_here, number-equal, number-same, numbers-equal, variable-equal, variable-same}
+use Rattle.merc_type_matching.proofs.Maps.{Changes, all_before, all_changed, changed_here, number-equal, number-same}
+use Rattle.merc_type_check.proofs.Keys.{numbers-equal, variable-equal, variable-same}
 use Rattle.merc_type_check.proofs.Steps.{grow_nothing, eqb-less, eqb-same}
 
 -- types with another one at a place

@@ -13,7 +13,8 @@ use Rattle.merc_type_check.specs.Progress.{used_type, GoalTakes, IsFresh, IsSoun
 use Rattle.merc_type_check.specs.TypeNumbers.{AreNumbers}
 use Rattle.merc_type_check.specs.Typing.{HaveTypes, IsCalled}
 use Rattle.merc_type_check.specs.Serving.{AreTold, IsClosedBut, IsGiven, Serves}
-use Rattle.merc_type_check.proofs.Numbers.{replaced_closed, type_there}
+use Rattle.merc_type_matching.proofs.Parts.{replaced_closed}
+use Rattle.merc_type_check.proofs.Numbers.{type_there}
 use Rattle.merc_type_check.proofs.Places.{waits_there}
 use Rattle.merc_type_check.proofs.Steps.{told_takes}
 use Rattle.merc_type_check.proofs.Asked.{called}

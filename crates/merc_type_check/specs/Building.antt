@@ -3,9 +3,10 @@ use Rattle.std.specs.Prelude.{◌≡◌, ℕ, ◌+◌, ◌<◌, true, List, [], 
 use Rattle.std.specs.Option.{IfSome}
 use Rattle.std.specs.Ordering.{nat_cmp}
 use Rattle.std.specs.BTreeMap.{BTreeMap, get}
-use Rattle.merc_tree.specs.Types.{TypeExpr, TypeExprs, TypeVariable, IntType, TextType, TypeApplication, no_types, more_types, replaced}
+use Rattle.merc_tree.specs.Types.{TypeExpr, replaced}
 use Rattle.merc_type_table.specs.Table.{type_at, with_first, is_application}
 use Rattle.merc_type_table.specs.Frames.{with_all}
+use Rattle.merc_type_matching.specs.Weights.{type_weight}
 use Rattle.merc_type_check.specs.declared.building.Frame.{Frame}
 use Rattle.merc_type_check.specs.declared.checker.Checker.{Checker}
 use Rattle.merc_type_check.specs.Progress.{Types, Instances, Step, Nothing, Stands, AllStand}
@@ -26,17 +27,6 @@ pub record IsSplit (table : List TypeExpr) (number first rest : ℕ) : Type 0 wh
 -- Given are the declared types, by numbers.
 module _ (table : List TypeExpr) where
   -- how much is left to build
-  abbrev mutual
-    pub type_weight : TypeExpr → ℕ
-    type_weight (TypeVariable name) = 1
-    type_weight IntType = 1
-    type_weight TextType = 1
-    type_weight (TypeApplication name arguments) = 1 + types_weight arguments
-
-    pub types_weight : TypeExprs → ℕ
-    types_weight no_types = 0
-    types_weight (more_types first rest) = type_weight first + 1 + types_weight rest
-
   abbrev pub waiting_weight : List Frame → ℕ
   waiting_weight [] = 0
   waiting_weight (frame ∷ frames) = type_weight (type_at table frame.rest) + waiting_weight frames

@@ -3,10 +3,10 @@ pub mod Typings
 pub mod TypingsExamples
 pub mod Checked
 pub mod TypeNumbers
+pub mod TypeNumbersExamples
 pub mod TypingExamples
 pub mod Progress
 pub mod Repeats
 pub mod Building
-pub mod Matched
-pub mod Matching
 pub mod Serving
+pub mod ServingExamples

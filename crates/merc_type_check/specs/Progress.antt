@@ -8,12 +8,12 @@ use Rattle.merc_tree.specs.Types.{TypeExpr, replaced}
 use Rattle.merc_type_table.specs.Table.{type_at}
 use Rattle.merc_type_graph.specs.Solutions.{Entry, Solves}
 use Rattle.merc_type_graph.specs.Changes.{AllWithin, Decides}
-use Rattle.merc_type_check.specs.Matched.{AreMatched}
+use Rattle.merc_type_matching.specs.Matched.{AreMatched}
 use Rattle.merc_type_check.specs.declared.checker.Checker.{Checker}
 use Rattle.merc_type_check.specs.declared.checker.UsedType.{UsedType}
 use Rattle.merc_type_check.specs.declared.checker.UsedVariable.{UsedVariable}
-use Rattle.merc_type_check.specs.declared.matching.NamePair.{NamePair}
-use Rattle.merc_type_check.specs.declared.matching.NumberPair.{NumberPair}
+use Rattle.merc_type_matching.specs.declared.matching.NamePair.{NamePair}
+use Rattle.merc_type_matching.specs.declared.matching.NumberPair.{NumberPair}
 use Rattle.merc_type_check.specs.declared.typings.Typing.{Typing}
 
 -- types by numbers: of places, of variables, or of what type variables stand for

@@ -1,5 +1,5 @@
 -- The declared types of a module by numbers.
-use Rattle.std.specs.Prelude.{◌≡◌, ℕ, ◌<◌, List, [], ◌∷◌, ◌++◌, map, length, Option, Some, None, slice_get}
+use Rattle.std.specs.Prelude.{◌≡◌, ℕ, List, [], ◌∷◌, ◌++◌, map, Option, Some, None, slice_get}
 use Rattle.std.specs.List.{find}
 use Rattle.std.specs.Option.{IfSome}
 use Rattle.std.proofs.Common.{refl}
@@ -15,6 +15,7 @@ use Rattle.merc_known.specs.Known.{constructor_in, has_name}
 use Rattle.merc_type_table.specs.Table.{types_made}
 use Rattle.merc_type_table.specs.Numbering.{Extends, IsNumbering}
 use Rattle.merc_type_table.specs.declared.numbering.TypeNumbering.{TypeNumbering}
+use Rattle.merc_type_matching.specs.Listed.{AreWithin}
 use Rattle.merc_type_check.specs.declared.declared.DeclaredTypes.{DeclaredTypes}
 
 -- the types at these numbers are these
@@ -30,12 +31,7 @@ AreNumbers-not are = cc
 AreNumbers-few : AreNumbers (IntType ∷ TextType ∷ []) (0 ∷ []) (IntType ∷ TextType ∷ []) → ⊥
 AreNumbers-few are = cc
 
--- there are types at these numbers
-abbrev pub AreWithin : List TypeExpr → List ℕ → Type 0
-AreWithin table [] = Unit {0}
-AreWithin table (number ∷ numbers) = (number < length table) × AreWithin table numbers
-
--- so are those that are kept for constructors
+-- there are types at the numbers that are kept for constructors
 abbrev pub AreAllWithin : List TypeExpr → Groups (List ℕ) → Type 0
 AreAllWithin table constructors = (name arity : ℕ) → IfSome (slice_get (kept constructors name arity) 0) (AreWithin table)
 

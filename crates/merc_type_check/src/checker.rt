@@ -6,15 +6,14 @@ ghost use Rattle.std.specs.BTreeMap.{get};
 ghost use Rattle.merc_tree.specs.Types.{TypeExpr, IntType, TextType, TypeApplication, replaced, types_of};
 ghost use Rattle.merc_type_table.specs.Table.{is_closed, made, type_at, IsBefore, IsComplete};
 ghost use Rattle.merc_type_graph.specs.Changes.{AllWithin, Decides};
-ghost use Rattle.merc_type_check.specs.Matched.{AreMatched};
+ghost use Rattle.merc_type_matching.specs.Matched.{AreMatched};
 ghost use Rattle.merc_type_check.specs.Progress.{begun, AllStand, Fits, Instances, IsFresh, IsNewIf, IsSound, Keeps, Nothing, Offers, Places, Stands, Step, Takes, Types, Yields};
 
-use crate::listed::ListedTypes;
-use crate::matching::{NamePair, NumberPair, pairs_between};
 use crate::typings::Typing;
 use merc_base::{Name, NoMemory, Sequence};
 use merc_goal_tree::Var;
 use merc_type_graph::{Place, TypeGraph};
+use merc_type_matching::{ListedTypes, NamePair, NumberPair, pairs_between};
 use merc_type_table::{TypeNode, TypeNumber, TypeTable};
 use std::alloc::Global;
 use std::collections::BTreeMap;

@@ -3,12 +3,13 @@ ghost use Rattle.std.specs.Prelude.{◌≡◌, [], ◌∷◌, slice_get, IfOk, O
 ghost use Rattle.std.specs.List.{AllByRecursion};
 ghost use Rattle.merc_base.specs.Groups.{kept};
 ghost use Rattle.merc_type_table.specs.Numbering.{IsNumbering};
-ghost use Rattle.merc_type_check.specs.TypeNumbers.{numbers_found, AreAllWithin, AreDeclared, AreWithin, Numbered, NumbersConstructors, NumbersPredicates, Renumbers};
+ghost use Rattle.merc_type_matching.specs.Listed.{AreWithin};
+ghost use Rattle.merc_type_check.specs.TypeNumbers.{numbers_found, AreAllWithin, AreDeclared, Numbered, NumbersConstructors, NumbersPredicates, Renumbers};
 
-use crate::listed::ListedTypes;
 use merc_base::{Groups, Key, Name, NoMemory, Sequence};
 use merc_known::Known;
 use merc_tree::{Constructor, PredDecl, TypeDef, TypeExprs};
+use merc_type_matching::ListedTypes;
 use merc_type_table::{TypeNumber, TypeNumbering};
 use std::alloc::Global;
 

@@ -6,9 +6,10 @@ ghost use Rattle.std.specs.BTreeMap.{get};
 ghost use Rattle.std.specs.List.{AllByRecursion};
 ghost use Rattle.merc_tree.specs.Types.{TypeExpr, IntType, TextType, replaced};
 ghost use Rattle.merc_type_table.specs.Table.{type_at};
-ghost use Rattle.merc_type_check.specs.TypeNumbers.{AreDeclared, AreNumbers, AreWithin};
+ghost use Rattle.merc_type_check.specs.TypeNumbers.{AreDeclared, AreNumbers};
+ghost use Rattle.merc_type_matching.specs.Listed.{AreWithin};
 ghost use Rattle.merc_type_check.specs.Progress.{GoalTakes, IsFresh, IsSound, Takes};
-ghost use Rattle.merc_type_check.specs.Matched.{AgreeOn};
+ghost use Rattle.merc_type_matching.specs.Matched.{AgreeOn};
 ghost use Rattle.merc_type_check.specs.Serving.{IsClosedBut, IsGiven, Serves};
 ghost use Rattle.merc_type_check.specs.Typing.{AreArguments, HasSymbol, HaveTypes, HasConstructor, IsCalled, IsTypedGoal, IsTypedPart};
 ghost use Rattle.merc_base.specs.declared.place.Span.{Span};
@@ -16,11 +17,11 @@ ghost use Rattle.merc_tree.specs.declared.declarations.Module.{Module};
 
 use crate::checker::{Checker, UsedType};
 use crate::declared::DeclaredTypes;
-use crate::matching::NamePair;
 use merc_base::NoMemory;
 use merc_goal_tree::{Predicate, Root, SimpleGoal, Symbol, Var};
 use merc_known::Known;
 use merc_tree::{Constructor, TypeDef, TypeExprs};
+use merc_type_matching::NamePair;
 use merc_type_table::TypeNumber;
 use std::alloc::Global;
 

@@ -6,8 +6,6 @@ mod checker;
 mod checking;
 pub mod declared;
 mod goals;
-mod listed;
-mod matching;
 mod repeats;
 pub mod typings;
 

@@ -3,7 +3,7 @@ use Rattle.merc_goal_tree.specs.Parts.{parts_of}
 use Rattle.merc_tree.specs.Types.{TypeExpr}
 use Rattle.merc_type_table.specs.Table.{type_at}
 use Rattle.merc_type_check.specs.Checked.{head_of}
-use Rattle.merc_type_check.specs.TypeNumbers.{AreWithin}
+use Rattle.merc_type_matching.specs.Listed.{AreWithin}
 use Rattle.merc_tree.specs.declared.declarations.Module.{Module}
 use Rattle.merc_type_check.specs.declared.checker.Checker.{Checker}
 use Rattle.merc_type_check.specs.Progress.{begun, GoalRefuses, GoalStep, GoalTakes, Knows, Takes, Types}

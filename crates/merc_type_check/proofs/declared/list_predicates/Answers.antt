@@ -1,7 +1,7 @@
 use Rattle.std.proofs.Common.{List, length, refl, sym, subst}
 use Rattle.std.proofs.lemmas.Option.{slice_get_read}
 use Rattle.merc_tree.specs.Types.{TypeExpr}
-use Rattle.merc_type_check.specs.TypeNumbers.{AreWithin}
+use Rattle.merc_type_matching.specs.Listed.{AreWithin}
 use Rattle.merc_type_check.proofs.Numbers.{all_at}
 use Rattle.merc_type_check.proofs.declared.list_predicates.Goals as goal
 

@@ -3,7 +3,7 @@ use Rattle.std.specs.Prelude.{slice_get}
 use Rattle.std.specs.Option.{IfSome}
 use Rattle.merc_base.specs.Groups.{kept}
 use Rattle.merc_tree.specs.Types.{TypeExpr}
-use Rattle.merc_type_check.specs.TypeNumbers.{AreWithin}
+use Rattle.merc_type_matching.specs.Listed.{AreWithin}
 use Rattle.merc_type_check.proofs.declared.list_type.Goals as goal
 
 pub list_all-requires : goal.list_all-requires

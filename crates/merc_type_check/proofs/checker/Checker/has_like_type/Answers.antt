@@ -3,8 +3,8 @@ use Rattle.std.specs.Option.{IfSome}
 use Rattle.std.proofs.lemmas.Result.{IfOk-weaker}
 use Rattle.merc_tree.specs.Types.{TypeExpr, replaced}
 use Rattle.merc_type_table.specs.Table.{type_at}
-use Rattle.merc_type_check.specs.Matched.{AgreeOn, AreMatched}
-use Rattle.merc_type_check.specs.declared.matching.NamePair.{NamePair}
+use Rattle.merc_type_matching.specs.Matched.{AgreeOn, AreMatched}
+use Rattle.merc_type_matching.specs.declared.matching.NamePair.{NamePair}
 use Rattle.merc_type_check.proofs.Asked.{given_like, like_built, refused, taken}
 use Rattle.merc_type_check.proofs.Places.{waits_there}
 use Rattle.merc_type_check.proofs.Steps.{takes_grow}

@@ -4,7 +4,7 @@ use Rattle.std.proofs.lemmas.List.{take_all}
 use Rattle.std.proofs.lemmas.Option.{slice_get_read}
 use Rattle.std.specs.List.{AllByRecursion}
 use Rattle.merc_type_check.specs.Serving.{IsClosedBut}
-use Rattle.merc_type_check.proofs.Numbers.{within_at}
+use Rattle.merc_type_matching.proofs.Parts.{within_at}
 use Rattle.merc_type_check.proofs.Serving.{closed_push}
 use Rattle.merc_type_check.proofs.checker.Checker.is_open_alone.Goals.{else-ne-via-then-ne+else-not-is_closed, else-ne-via-else-ne}
 use Rattle.merc_type_check.proofs.checker.Checker.is_open_alone.Goals as goal

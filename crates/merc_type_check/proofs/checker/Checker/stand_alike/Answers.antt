@@ -1,8 +1,8 @@
 use Rattle.std.proofs.Common.{◌≡◌, ◌≤◌, ℕ, List, length, refl, sym, subst}
 use Rattle.std.proofs.lemmas.List.{take_all}
 use Rattle.std.proofs.lemmas.Option.{slice_get_read}
-use Rattle.merc_type_check.specs.declared.matching.NamePair.{NamePair}
-use Rattle.merc_type_check.specs.Matched.{AgreeOn}
+use Rattle.merc_type_matching.specs.declared.matching.NamePair.{NamePair}
+use Rattle.merc_type_matching.specs.Matched.{AgreeOn}
 use Rattle.merc_type_check.specs.Progress.{Nothing, Step}
 use Rattle.merc_type_check.proofs.Steps.{grow_nothing, step_as}
 use Rattle.merc_type_check.proofs.Asked.{pairs_refused, pairs_step, refused, taken}

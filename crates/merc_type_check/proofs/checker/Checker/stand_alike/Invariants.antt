@@ -1,5 +1,5 @@
 use Rattle.std.proofs.Common.{take}
-use Rattle.merc_type_check.specs.Matched.{AgreeOn}
+use Rattle.merc_type_matching.specs.Matched.{AgreeOn}
 use Rattle.merc_type_check.specs.Progress.{Step}
 use Rattle.merc_type_check.proofs.checker.Checker.stand_alike.Given as goal
 

@@ -3,7 +3,8 @@ use Rattle.std.proofs.lemmas.Option.{slice_get_read}
 use Rattle.merc_tree.specs.Types.{TypeExpr}
 use Rattle.merc_type_table.specs.Table.{type_at}
 use Rattle.merc_type_check.proofs.Asked.{taken, refused, head_step, head_refused, head_all}
-use Rattle.merc_type_check.proofs.Numbers.{given_at, mapped_at, mapped_length, within_at}
+use Rattle.merc_type_matching.proofs.Parts.{within_at}
+use Rattle.merc_type_check.proofs.Numbers.{given_at, mapped_at, mapped_length}
 use Rattle.merc_type_check.proofs.checker.Checker.take_head.Goals as goal
 
 pub make_whole-requires-clause-declared : goal.make_whole-requires-clause-declared

@@ -3,9 +3,9 @@ use Rattle.std.specs.BTreeMap.{get}
 use Rattle.std.specs.Option.{IfSome}
 use Rattle.merc_tree.specs.Types.{TypeExpr}
 use Rattle.merc_type_table.specs.Table.{type_at}
-use Rattle.merc_type_check.specs.Matched.{AreMatched}
+use Rattle.merc_type_matching.specs.Matched.{AreMatched}
 use Rattle.merc_type_check.specs.Progress.{compare_numbers}
-use Rattle.merc_type_check.specs.declared.matching.NamePair.{NamePair}
+use Rattle.merc_type_matching.specs.declared.matching.NamePair.{NamePair}
 use Rattle.merc_type_check.proofs.Places.{matchings_changed}
 use Rattle.merc_type_check.proofs.checker.Checker.take_matching.Goals as goal
 

@@ -6,7 +6,8 @@ use Rattle.merc_tree.specs.declared.declarations.Module.{Module}
 use Rattle.merc_tree.specs.declared.declarations.Constructor.{Constructor}
 use Rattle.merc_tree.specs.declared.declarations.TypeDef.{TypeDef}
 use Rattle.merc_tree.specs.declared.declarations.PredDecl.{PredDecl}
-use Rattle.merc_type_check.specs.TypeNumbers.{AreDeclared, AreWithin}
+use Rattle.merc_type_matching.specs.Listed.{AreWithin}
+use Rattle.merc_type_check.specs.TypeNumbers.{AreDeclared}
 use Rattle.merc_type_check.proofs.Numbers.{all_within, declared_all, kept_within}
 use Rattle.merc_type_check.proofs.declared.DeclaredTypes.of.Goals as goal
 

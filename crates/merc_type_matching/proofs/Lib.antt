@@ -1,0 +1,4 @@
+pub mod Maps
+pub mod Parts
+pub mod Linking
+pub mod Pairings

@@ -1,0 +1,5 @@
+pub mod Weights
+pub mod Matched
+pub mod Listed
+pub mod Matching
+pub mod Linked
