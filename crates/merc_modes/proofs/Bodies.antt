@@ -21,7 +21,7 @@ use Rattle.merc_order.specs.Procedures.{IsBody, are_bound_behind, body_from, bou
 use Rattle.merc_order.specs.Spelt.{spelt}
 use Rattle.merc_modes.specs.Bodies.{IsKnown}
 use Rattle.merc_goal_facts.specs.Bounds.{behind, all_behind}
-use Rattle.merc_goal_facts.specs.Facts.{subgoals, AreFactsOf}
+use Rattle.merc_goal_facts.specs.Facts.{subgoals, AreFactsOf, AreKnown}
 use Rattle.merc_goal_facts.specs.Outside.{IsStretch}
 use Rattle.merc_goal_facts.specs.declared.facts.Facts.{Facts}
 use Rattle.merc_modes.specs.declared.ordering.Body.{Body}
@@ -97,6 +97,9 @@ module _ (modes : ℕ → List ModeDecl) (heads : List ℕ) (goal : Node) where
 
   pub facts_length : (facts : List Facts) (body : Body) → facts ≡ body.facts.items → IsKnown modes heads goal body → length facts ≡ length (parts_of goal)
   facts_length facts body is known = ap (λ l. length l) is ∙ known_length (total_of heads goal) modes (subgoals goal) body.facts.items known.facts_are ∙ subgoals_length goal
+
+  pub facts_known : (facts : List Facts) (body : Body) → facts ≡ body.facts.items → IsKnown modes heads goal body → AreKnown (total_of heads goal) modes (subgoals goal) facts
+  facts_known facts body is known = subst (AreKnown (total_of heads goal) modes (subgoals goal)) (sym is) known.facts_are
 
   pub some_facts : (facts : List Facts) (body : Body) → facts ≡ body.facts.items → IsKnown modes heads goal body → 0 < length facts
   some_facts facts body is known = omega (arith, facts_length facts body is known, parts_length goal)

@@ -3,23 +3,19 @@ ghost use Rattle.std.specs.Prelude.{◌≡◌, ◌<◌, ◌-◌, ℕ, List, [], 
 ghost use Rattle.merc_base.specs.FirstFault.{first_of_faults};
 ghost use Rattle.merc_tree.specs.declared.declarations.ModeDecl.{ModeDecl};
 ghost use Rattle.merc_goal_tree.specs.Nodes.{Node};
-ghost use Rattle.merc_goal_tree.specs.Parts.{parts_of};
 ghost use Rattle.merc_graded_tree.specs.Nodes.{Node as OrderedNode};
 ghost use Rattle.merc_order.specs.Bound.{among};
-ghost use Rattle.merc_order.specs.Faults.{unbound_output};
 ghost use Rattle.merc_order.specs.Procedures.{are_bound_behind, body_from, bound_at, fault_of, mode_faults, mode_trees, modes_of, numbers_below, order_fault, procedure_trees, query_from, total_of, tree_of, IsQuery};
-ghost use Rattle.merc_modes.specs.Bodies.{IsKnown, PutsTree, AreFound};
 ghost use Rattle.merc_goal_facts.specs.Facts.{AreFactsOf};
+ghost use Rattle.merc_modes.specs.Bodies.{IsKnown, PutsTree, AreFound};
 ghost use Rattle.merc_modes.specs.Told.{IsTold, fault_in};
-ghost use Rattle.merc_modes.specs.Walking.{Orders};
 
-use crate::places::Places;
-use crate::walking::{Setting, walk};
-use crate::written::Written;
-use merc_base::{Detail, Fault, NoMemory, Refusal, Rule, Span};
+use merc_base::{Fault, NoMemory, Refusal, Rule, Span};
 use merc_goal_facts::{BoundSet, Facts, facts_of, occurrences_of};
+use merc_goal_order::order_goal;
 use merc_goal_tree::{NodeRef, Nodes as FlatNodes, Var};
 use merc_graded_tree::Nodes;
+use merc_simple_goals::{Places, Written, fault_at};
 use merc_tree::{Arg, ModeDecl, PredDecl};
 use std::alloc::Global;
 
@@ -196,44 +192,21 @@ fn order_body(
 {
     written.seen.undo(0);
     written.fresh = body.fresh;
-    order_goal(alloc, predicates, body, heads.len(), goal, bound, written)?;
+    order_goal(
+        alloc,
+        predicates,
+        &body.all,
+        goal,
+        &body.facts,
+        heads.len(),
+        bound,
+        written,
+    )?;
     if are_bound_behind(own_facts(&body.facts), heads, bound)? {
         Ok(())
     } else {
-        Err(unbound_output(span))
+        Err(fault_at(Rule::UnboundOutput, span))
     }
-}
-
-// Writes the goal of a body with so many head variables out in its order from what is bound.
-fn order_goal(
-    alloc: Global,
-    predicates: &[PredDecl],
-    body: &Body,
-    head_count: usize,
-    goal: &NodeRef<'_>,
-    bound: &mut BoundSet,
-    written: &mut Written,
-) -> Result<(), Fault>
-    requires known { length body.now.facts.items ≡ length (parts_of goal.now) }
-    requires seen { written.old.seen ≡ [] }
-    ensures same { OnOk result (bound.new ≡ bound.old) }
-    ensures orders { Orders predicates.now goal.now body.now.facts.items body.now.all head_count bound.old written.old written.new result }
-{
-    let setting = Setting {
-        alloc,
-        predicates,
-        all: &body.all,
-    };
-    let mut marks = vec![in alloc; false; body.facts.len()]?;
-    walk(
-        &setting,
-        goal,
-        &body.facts,
-        head_count,
-        &mut marks,
-        bound,
-        written,
-    )
 }
 
 // Whether these are all bound behind a goal with these facts, if its end can be reached. It binds what the goal binds.
@@ -253,16 +226,6 @@ fn own_facts(facts: &[Facts]) -> &Facts
     ensures { facts.now ≡ take (length facts.now - 1) facts.now ++ result.now ∷ [] }
 {
     &facts[facts.len() - 1]
-}
-
-fn unbound_output(span: Span) -> Fault
-    ensures { result ≡ Fault.Refused (unbound_output span) }
-{
-    Fault::Refused(Refusal {
-        rule: Rule::UnboundOutput,
-        place: span.start(),
-        detail: Detail::Plain,
-    })
 }
 
 // Binds those arguments that a mode has bound before.

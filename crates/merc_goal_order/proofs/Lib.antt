@@ -1,0 +1,11 @@
+pub mod Emitted
+pub mod Walked
+pub mod Settling
+pub mod Wholes
+pub mod Stepped
+pub mod Chaining
+pub mod Beside
+pub mod Agreeing
+pub mod Resuming
+pub mod Awaiting
+pub mod Freeing

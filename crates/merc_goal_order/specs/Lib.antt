@@ -1,0 +1,13 @@
+pub mod Walking
+pub mod WalkingExamples
+pub mod Walks
+pub mod WalksExamples
+pub mod Positions
+pub mod PositionsExamples
+pub mod Agenda
+pub mod AgendaExamples
+pub mod Conjuncts
+pub mod ConjunctsExamples
+pub mod Linked
+pub mod LinkedExamples
+pub mod Beside

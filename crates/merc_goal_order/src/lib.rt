@@ -1,0 +1,11 @@
+//! The order of a goal from what is bound, written out.
+#![tactic(auto)]
+
+mod agenda;
+mod conjuncts;
+mod disjuncts;
+mod links;
+mod parallel;
+mod walking;
+
+pub use walking::order_goal;

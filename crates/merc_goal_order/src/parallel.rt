@@ -1,0 +1,272 @@
+//! The order of goals side by side, written out.
+ghost use Rattle.std.specs.Prelude.{◌≡◌, ◌+◌, ◌≤◌, ◌&&◌, ◌||◌, not, [], length, OnOk, IfOk};
+ghost use Rattle.std.specs.List.{list_any};
+ghost use Rattle.merc_goal_tree.specs.Nodes.{Parallel, nodes_of};
+ghost use Rattle.merc_goal_tree.specs.Parts.{parts_of, all_parts};
+ghost use Rattle.merc_order.specs.Bound.{among};
+ghost use Rattle.merc_goal_order.specs.Beside.{all_beside, FreedBy, Needs, StuckBeside, TellsReady};
+ghost use Rattle.merc_readiness.specs.Sweeps.{Extends};
+ghost use Rattle.merc_goal_order.specs.Walking.{Orders};
+ghost use Rattle.merc_goal_order.specs.Walks.{AddsOne, Adds, OrdersAll};
+
+use crate::conjuncts::walk_if_ready;
+use crate::walking::{Setting, clear, walk};
+use merc_base::{Fault, NoMemory, Span};
+use merc_goal_facts::{BoundSet, Facts, Occurrences, occurrences_of};
+use merc_goal_tree::{NodeRef, Var};
+use merc_graded_tree::Running;
+use merc_readiness::advance;
+use merc_simple_goals::{Written, conjunct_fault, outputs_of};
+
+/// Writes goals side by side out in their order.
+///
+/// # Errors
+///
+/// As for `walk`.
+#[cycle(walking)]
+pub(crate) fn walk_parallel(
+    setting: &Setting<'_>,
+    goals: &[NodeRef<'_>],
+    facts: &[Facts],
+    start: usize,
+    marks: &mut [bool],
+    bound: &mut BoundSet,
+    written: &mut Written,
+    span: Span,
+) -> Result<(), Fault>
+    requires known { length facts.now ≡ length (all_parts (nodes_of goals.now)) + 1 }
+    requires marked { length marks.old ≡ length (all_parts (nodes_of goals.now)) + 1 }
+    requires seen { written.old.seen ≡ [] }
+    ensures same { OnOk result (bound.new ≡ bound.old) }
+    ensures orders { Orders setting.now.predicates.now (Parallel (nodes_of goals.now) span) facts.now setting.now.all.now start bound.old written.old written.new result }
+    ensures adds { OnOk result (AddsOne written.old written.new) }
+{
+    let own = facts.len() - 1;
+    let before = written.nodes.len();
+    let known = bound.mark();
+    walk_conjuncts(
+        setting,
+        goals,
+        &facts[..own],
+        start,
+        &mut marks[..own],
+        bound,
+        written,
+    )?;
+    bound.undo(known);
+    let outputs = outputs_of(
+        setting.alloc,
+        setting.all,
+        &facts[own],
+        start,
+        bound,
+        &mut written.seen,
+    )?;
+    let count = written.nodes.len() - before;
+    written
+        .nodes
+        .conjoin(Running::Parallel(None), count, outputs, span)?;
+    Ok(())
+}
+
+// Writes each of these goals out from what those before it bind, up to one that is not ready.
+#[cycle(walking)]
+fn walk_conjuncts(
+    setting: &Setting<'_>,
+    goals: &[NodeRef<'_>],
+    facts: &[Facts],
+    start: usize,
+    marks: &mut [bool],
+    bound: &mut BoundSet,
+    written: &mut Written,
+) -> Result<(), Fault>
+    requires known { length facts.now ≡ length (all_parts (nodes_of goals.now)) }
+    requires marked { length marks.old ≡ length (all_parts (nodes_of goals.now)) }
+    requires seen { written.old.seen ≡ [] }
+    ensures extends { OnOk result (Extends bound.old bound.new) }
+    ensures orders { OrdersAll all_beside setting.now.predicates.now (nodes_of goals.now) facts.now setting.now.all.now start bound.old written.old written.new result }
+    ensures adds { OnOk result (Adds written.old written.new) }
+{
+    let mut at = 0;
+    let mut place = start;
+    for (index, goal) in goals.iter().enumerate() {
+        let end = at + goal.part_count();
+        let own = end - 1;
+        clear(&mut marks[at..end]);
+        if !walk_if_ready(
+            setting,
+            goal,
+            &facts[at..end],
+            place,
+            &mut marks[at..end],
+            bound,
+            written,
+        )? {
+            return walk_stuck(
+                setting,
+                goal,
+                &goals[index + 1..],
+                &facts[at..],
+                place,
+                &mut marks[at..],
+                bound,
+                written,
+                index + 1,
+            );
+        }
+        let found = &facts[own];
+        place = setting.all.place_behind(place, found.occurrences);
+        at = end;
+    }
+    Ok(())
+}
+
+// Walks a goal that is not ready, for its fault. It has this number, and these stand behind it.
+#[cycle(walking)]
+fn walk_stuck(
+    setting: &Setting<'_>,
+    goal: &NodeRef<'_>,
+    others: &[NodeRef<'_>],
+    facts: &[Facts],
+    start: usize,
+    marks: &mut [bool],
+    bound: &mut BoundSet,
+    written: &mut Written,
+    number: usize,
+) -> Result<(), Fault>
+    requires known { length facts.now ≡ length (parts_of goal.now) + length (all_parts (nodes_of others.now)) }
+    requires marked { length marks.old ≡ length (parts_of goal.now) + length (all_parts (nodes_of others.now)) }
+    requires seen { written.old.seen ≡ [] }
+    requires fits { number + length others.now ≤ 18446744073709551615 }
+    ensures same { OnOk result (bound.new ≡ bound.old) }
+    ensures tells { StuckBeside setting.now.predicates.now goal.now (nodes_of others.now) facts.now setting.now.all.now start number bound.old result }
+    ensures adds { OnOk result (Adds written.old written.new) }
+{
+    let other = needed_by(setting, goal, others, facts, marks, bound, number)?;
+    let own = goal.part_count();
+    let result = walk(
+        setting,
+        goal,
+        &facts[..own],
+        start,
+        &mut marks[..own],
+        bound,
+        written,
+    );
+    match result {
+        Ok(()) => Ok(()),
+        Err(fault) => match fault {
+            Fault::NoMemory => Err(Fault::NoMemory),
+            Fault::Refused(refusal) => {
+                let told = conjunct_fault(number, goal.span(), other, refusal)?;
+                Err(Fault::Refused(told))
+            }
+        },
+    }
+}
+
+// The number of the first of these goals behind which the goal with this number is ready.
+fn needed_by(
+    setting: &Setting<'_>,
+    goal: &NodeRef<'_>,
+    others: &[NodeRef<'_>],
+    facts: &[Facts],
+    marks: &mut [bool],
+    bound: &mut BoundSet,
+    number: usize,
+) -> Result<Option<usize>, NoMemory>
+    requires known { length facts.now ≡ length (parts_of goal.now) + length (all_parts (nodes_of others.now)) }
+    requires marked { length marks.old ≡ length (parts_of goal.now) + length (all_parts (nodes_of others.now)) }
+    requires fits { number + length others.now ≤ 18446744073709551615 }
+    ensures same { OnOk result (bound.new ≡ bound.old) }
+    ensures needs { IfOk result (λ other. Needs setting.now.predicates.now goal.now (nodes_of others.now) facts.now number bound.old other) }
+{
+    let own = goal.part_count();
+    let ready = is_ready(setting, goal, &facts[..own], &mut marks[..own], bound)?;
+    let inside = occurrences_of(setting.alloc, &[], goal)?;
+    let mut at = own;
+    for (index, later) in others.iter().enumerate() {
+        let end = at + later.part_count();
+        if can_free(ready, &inside, &facts[end - 1], bound)
+            && is_freed_by(setting, goal, later, facts, at, marks, bound)?
+        {
+            return Ok(Some(number + 1 + index));
+        }
+        at = end;
+    }
+    Ok(None)
+}
+
+// Whether a goal in which these occur may be ready behind one with these facts: if it is ready, or that binds one of them
+// that is not bound.
+fn can_free(ready: bool, inside: &Occurrences, later: &Facts, bound: &BoundSet) -> bool
+    ensures { result ≡ (ready || list_any (λ variable. not (among bound.now variable) && among inside.now variable) later.now.binds) }
+{
+    ready || binds_one(later.binds.as_slice(), inside, bound)
+}
+
+// Whether one of these variables is not bound and occurs inside.
+fn binds_one(variables: &[Var], inside: &Occurrences, bound: &BoundSet) -> bool
+    ensures { result ≡ list_any (λ variable. not (among bound.now variable) && among inside.now variable) variables.now }
+{
+    for variable in variables {
+        if !bound.is_bound(*variable) && occurs(inside, *variable) {
+            return true;
+        }
+    }
+    false
+}
+
+// Whether the variable occurs at all: everything lies behind the empty stretch at the start.
+fn occurs(inside: &Occurrences, variable: Var) -> bool
+    ensures { result ≡ among inside.now variable }
+{
+    inside.is_outside(0, 0, variable)
+}
+
+// Whether another goal is ready, and the goal is ready behind it. The parts of the goal stand first, those of the other
+// from this index on.
+fn is_freed_by(
+    setting: &Setting<'_>,
+    goal: &NodeRef<'_>,
+    later: &NodeRef<'_>,
+    facts: &[Facts],
+    at: usize,
+    marks: &mut [bool],
+    bound: &mut BoundSet,
+) -> Result<bool, NoMemory>
+    requires first { length (parts_of goal.now) ≤ at }
+    requires known { at + length (parts_of later.now) ≤ length facts.now }
+    requires marked { at + length (parts_of later.now) ≤ length marks.old }
+    ensures same { OnOk result (bound.new ≡ bound.old) }
+    ensures frees { IfOk result (λ freed. FreedBy setting.now.predicates.now goal.now later.now facts.now at bound.old freed) }
+{
+    let end = at + later.part_count();
+    if !is_ready(setting, later, &facts[at..end], &mut marks[at..end], bound)? {
+        return Ok(false);
+    }
+    let known = bound.mark();
+    let found = &facts[end - 1];
+    bound.bind_all(found.binds.as_slice())?;
+    let own = goal.part_count();
+    let freed = is_ready(setting, goal, &facts[..own], &mut marks[..own], bound)?;
+    bound.undo(known);
+    Ok(freed)
+}
+
+// Whether a goal is ready from what is bound. Its marks may say anything before.
+fn is_ready(
+    setting: &Setting<'_>,
+    goal: &NodeRef<'_>,
+    facts: &[Facts],
+    marks: &mut [bool],
+    bound: &mut BoundSet,
+) -> Result<bool, NoMemory>
+    requires known { length facts.now ≡ length (parts_of goal.now) }
+    requires marked { length marks.old ≡ length (parts_of goal.now) }
+    ensures same { OnOk result (bound.new ≡ bound.old) }
+    ensures tells { IfOk result (λ ready. TellsReady setting.now.predicates.now goal.now facts.now bound.old ready) }
+{
+    clear(marks);
+    advance(setting.alloc, setting.predicates, goal, facts, marks, bound)
+}

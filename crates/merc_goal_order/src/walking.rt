@@ -1,0 +1,268 @@
+//! The order of a goal, written out.
+ghost use Rattle.std.specs.Prelude.{◌≡◌, ◌+◌, [], length, replicate, false, OnOk, IfOk};
+ghost use Rattle.merc_goal_tree.specs.Nodes.{Simple, Negation, Quantified};
+ghost use Rattle.merc_goal_tree.specs.Parts.{parts_of};
+ghost use Rattle.merc_goal_order.specs.Walking.{Orders};
+ghost use Rattle.merc_goal_order.specs.Walks.{AddsOne};
+
+use crate::conjuncts::walk_conjunction;
+use crate::disjuncts::walk_disjunction;
+use crate::links::walk_chain;
+use crate::parallel::walk_parallel;
+use merc_base::{Fault, NoMemory, Rule, Span};
+use merc_goal_facts::{BoundSet, Facts};
+use merc_goal_tree::{NodeRef, NodeView, SimpleGoal, Vars};
+use merc_readiness::members;
+use merc_simple_goals::{Places, Written, fault_at, order_simple, outputs_of};
+use merc_tree::PredDecl;
+use std::alloc::Global;
+
+/// What is the same for all parts of a body.
+#[derive(Drop)]
+pub(crate) struct Setting<'a> {
+    pub(crate) alloc: Global,
+    pub(crate) predicates: &'a [PredDecl],
+    /// The head variables, and behind them those of the body as they occur in it.
+    pub(crate) all: &'a Places,
+}
+
+/// Writes a goal out behind others, in its order from what is bound, with fresh variables and tests. `facts` are those of
+/// the goal's parts, and `all` are the variables of its body: the goal's own occur from `start` on. What is bound is the
+/// same behind it.
+///
+/// # Errors
+///
+/// What is wrong with a goal that has no order; `NoMemory` where memory was refused, or goals stand in each other deeper
+/// than `BoundSet::enter` lets them.
+pub fn order_goal(
+    alloc: Global,
+    predicates: &[PredDecl],
+    all: &Places,
+    goal: &NodeRef<'_>,
+    facts: &[Facts],
+    start: usize,
+    bound: &mut BoundSet,
+    written: &mut Written,
+) -> Result<(), Fault>
+    requires known { length facts.now ≡ length (parts_of goal.now) }
+    requires seen { written.old.seen ≡ [] }
+    ensures same { OnOk result (bound.new ≡ bound.old) }
+    ensures orders { Orders predicates.now goal.now facts.now all.now start bound.old written.old written.new result }
+{
+    let setting = Setting {
+        alloc,
+        predicates,
+        all,
+    };
+    let mut marks = vec![in alloc; false; facts.len()]?;
+    walk(&setting, goal, facts, start, &mut marks, bound, written)
+}
+
+/// Writes a goal out in its order from what is bound. Its variables occur from `start` on. The marks say nothing before
+/// and after; what is bound is the same behind it.
+///
+/// It calls itself for the goals that a goal joins. The else parts of an if-then-else are gone through by a loop.
+///
+/// # Errors
+///
+/// As for `order_goal`.
+#[cycle(walking)]
+pub(crate) fn walk(
+    setting: &Setting<'_>,
+    goal: &NodeRef<'_>,
+    facts: &[Facts],
+    start: usize,
+    marks: &mut [bool],
+    bound: &mut BoundSet,
+    written: &mut Written,
+) -> Result<(), Fault>
+    requires known { length facts.now ≡ length (parts_of goal.now) }
+    requires marked { length marks.old ≡ length (parts_of goal.now) }
+    requires seen { written.old.seen ≡ [] }
+    ensures same { OnOk result (bound.new ≡ bound.old) }
+    ensures orders { Orders setting.now.predicates.now goal.now facts.now setting.now.all.now start bound.old written.old written.new result }
+    ensures adds { OnOk result (AddsOne written.old written.new) }
+{
+    bound.enter()?;
+    let walked = walk_parts(setting, goal, facts, start, marks, bound, written);
+    bound.leave();
+    walked
+}
+
+// The same, by the goals that it joins.
+#[cycle(walking)]
+fn walk_parts(
+    setting: &Setting<'_>,
+    goal: &NodeRef<'_>,
+    facts: &[Facts],
+    start: usize,
+    marks: &mut [bool],
+    bound: &mut BoundSet,
+    written: &mut Written,
+) -> Result<(), Fault>
+    requires known { length facts.now ≡ length (parts_of goal.now) }
+    requires marked { length marks.old ≡ length (parts_of goal.now) }
+    requires seen { written.old.seen ≡ [] }
+    ensures same { OnOk result (bound.new ≡ bound.old) }
+    ensures orders { Orders setting.now.predicates.now goal.now facts.now setting.now.all.now start bound.old written.old written.new result }
+    ensures adds { OnOk result (AddsOne written.old written.new) }
+{
+    let span = goal.span();
+    match goal.view() {
+        NodeView::Simple(simple) => {
+            walk_simple(setting, simple, facts, start, bound, written, span)
+        }
+        NodeView::Conjunction(goals) => {
+            let goals = members(setting.alloc, goals)?;
+            walk_conjunction(setting, &goals, facts, start, marks, bound, written, span)
+        }
+        NodeView::Parallel(goals) => {
+            let goals = members(setting.alloc, goals)?;
+            walk_parallel(setting, &goals, facts, start, marks, bound, written, span)
+        }
+        NodeView::Disjunction(arms) => {
+            let arms = members(setting.alloc, arms)?;
+            walk_disjunction(setting, &arms, facts, start, marks, bound, written, span)
+        }
+        NodeView::Conditional(_, _, _) => {
+            walk_chain(setting, goal, facts, start, marks, bound, written)
+        }
+        NodeView::Negation(inner) => {
+            walk_negation(setting, &inner, facts, start, marks, bound, written, span)
+        }
+        NodeView::Quantified(own, inner) => {
+            walk_quantified(
+                setting, own, &inner, facts, start, marks, bound, written, span,
+            )
+        }
+    }
+}
+
+// The same of a goal that holds no others.
+fn walk_simple(
+    setting: &Setting<'_>,
+    goal: &SimpleGoal,
+    facts: &[Facts],
+    start: usize,
+    bound: &BoundSet,
+    written: &mut Written,
+    span: Span,
+) -> Result<(), Fault>
+    requires known { length facts.now ≡ 1 }
+    requires seen { written.old.seen ≡ [] }
+    ensures orders { Orders setting.now.predicates.now (Simple goal.now span) facts.now setting.now.all.now start bound.now written.old written.new result }
+    ensures adds { OnOk result (AddsOne written.old written.new) }
+{
+    let own = &facts[0];
+    let outputs = outputs_of(
+        setting.alloc,
+        setting.all,
+        own,
+        start,
+        bound,
+        &mut written.seen,
+    )?;
+    order_simple(
+        setting.alloc,
+        setting.predicates,
+        goal,
+        outputs,
+        span,
+        bound,
+        written,
+    )
+}
+
+// The same of a negation.
+#[cycle(walking)]
+fn walk_negation(
+    setting: &Setting<'_>,
+    inner: &NodeRef<'_>,
+    facts: &[Facts],
+    start: usize,
+    marks: &mut [bool],
+    bound: &mut BoundSet,
+    written: &mut Written,
+    span: Span,
+) -> Result<(), Fault>
+    requires known { length facts.now ≡ length (parts_of inner.now) + 1 }
+    requires marked { length marks.old ≡ length (parts_of inner.now) + 1 }
+    requires seen { written.old.seen ≡ [] }
+    ensures same { OnOk result (bound.new ≡ bound.old) }
+    ensures orders { Orders setting.now.predicates.now (Negation inner.now span) facts.now setting.now.all.now start bound.old written.old written.new result }
+    ensures adds { OnOk result (AddsOne written.old written.new) }
+{
+    let own = inner.part_count();
+    walk(
+        setting,
+        inner,
+        &facts[..own],
+        start,
+        &mut marks[..own],
+        bound,
+        written,
+    )?;
+    let found = &facts[own];
+    if !bound.are_bound(found.owed.as_slice()) {
+        return Err(fault_at(Rule::BindsOuter, span));
+    }
+    written.nodes.negate(Vars::new(setting.alloc), span)?;
+    Ok(())
+}
+
+// The same of a goal with variables of its own.
+#[cycle(walking)]
+fn walk_quantified(
+    setting: &Setting<'_>,
+    own: &Vars,
+    inner: &NodeRef<'_>,
+    facts: &[Facts],
+    start: usize,
+    marks: &mut [bool],
+    bound: &mut BoundSet,
+    written: &mut Written,
+    span: Span,
+) -> Result<(), Fault>
+    requires known { length facts.now ≡ length (parts_of inner.now) + 1 }
+    requires marked { length marks.old ≡ length (parts_of inner.now) + 1 }
+    requires seen { written.old.seen ≡ [] }
+    ensures same { OnOk result (bound.new ≡ bound.old) }
+    ensures orders { Orders setting.now.predicates.now (Quantified own.now inner.now span) facts.now setting.now.all.now start bound.old written.old written.new result }
+    ensures adds { OnOk result (AddsOne written.old written.new) }
+{
+    let last = inner.part_count();
+    walk(
+        setting,
+        inner,
+        &facts[..last],
+        start,
+        &mut marks[..last],
+        bound,
+        written,
+    )?;
+    let outputs = outputs_of(
+        setting.alloc,
+        setting.all,
+        &facts[last],
+        start,
+        bound,
+        &mut written.seen,
+    )?;
+    let own = copy_of(setting.alloc, own)?;
+    written.nodes.quantify(own, outputs, span)?;
+    Ok(())
+}
+
+/// Sets all marks to false.
+pub(crate) fn clear(marks: &mut [bool])
+    ensures { marks.new ≡ replicate (length marks.old) false }
+{
+    marks.fill(false);
+}
+
+// The same variables once more.
+fn copy_of(alloc: Global, variables: &Vars) -> Result<Vars, NoMemory>
+    ensures { IfOk result (λ copy. copy ≡ variables.now) }
+{
+    Ok(Vars::from_vec(Vec::from_slice(alloc, variables.as_slice())?))
+}

@@ -1,6 +1,0 @@
-use Rattle.std.proofs.Common.{◌≡◌, ◌++◌, drop}
-use Rattle.merc_order.specs.Spelt.{tested_places}
-use Rattle.merc_modes.proofs.testing.tested_places.Given as goal
-
-abbrev pub invariant-loop-index : goal.invariant-loop-index
-invariant-loop-index l = l.all ++ tested_places (drop l.index l.variables) (drop l.index l.tests) ≡ tested_places l.variables l.tests
