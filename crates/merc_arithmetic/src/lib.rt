@@ -11,8 +11,27 @@ use merc_goal_tree::{Comparison, Operation};
 /// The result of an operation on two integers, wrapped round at 64 bits, or `None` where the divisor is 0.
 /// `Quotient` truncates, and `Rem` is what it leaves; `Div` rounds down, and `Mod` is what it leaves.
 #[inline(always)]
-#[tactic(auto, using(crate::proofs::Wrapping::multiply_is))]
 pub fn compute(operation: Operation, left: i64, right: i64) -> Option<i64>
+    ensures { arithmetic operation left right ≡ result_of result }
+{
+    // Most operations are one of these two, which are told from each other without a table of jumps.
+    if matches!(operation, Operation::Add | Operation::Subtract) {
+        let sum = left.wrapping_add(right);
+        let difference = left.wrapping_sub(right);
+        Some(if matches!(operation, Operation::Add) {
+            sum
+        } else {
+            difference
+        })
+    } else {
+        compute_other(operation, left, right)
+    }
+}
+
+// The result of any operation.
+#[inline(always)]
+#[tactic(auto, using(crate::proofs::Wrapping::multiply_is))]
+fn compute_other(operation: Operation, left: i64, right: i64) -> Option<i64>
     ensures { arithmetic operation left right ≡ result_of result }
 {
     match operation {
@@ -32,14 +51,13 @@ pub fn compute(operation: Operation, left: i64, right: i64) -> Option<i64>
 pub fn holds(test: Comparison, left: i64, right: i64) -> bool
     ensures { result ≡ comparison test left right }
 {
-    // chosen in two steps, for which no table of jumps is needed
-    let (one, other) = match test {
-        Comparison::Less | Comparison::AtMost => (left, right),
-        Comparison::Greater | Comparison::AtLeast => (right, left),
-    };
-    match test {
-        Comparison::Less | Comparison::Greater => one < other,
-        Comparison::AtMost | Comparison::AtLeast => one <= other,
+    // The integers are compared first and the comparison is looked at behind that, for which no table of jumps is needed.
+    if left < right {
+        matches!(test, Comparison::Less | Comparison::AtMost)
+    } else if left == right {
+        matches!(test, Comparison::AtMost | Comparison::AtLeast)
+    } else {
+        matches!(test, Comparison::Greater | Comparison::AtLeast)
     }
 }
 
