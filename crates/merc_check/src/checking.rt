@@ -5,6 +5,7 @@ ghost use Rattle.merc_terms.specs.Items.{IsRefusal};
 ghost use Rattle.merc_goal_tree.specs.Nodes.{Node};
 ghost use Rattle.merc_graded_tree.specs.Nodes.{Node as OrderedNode};
 ghost use Rattle.merc_type_check.specs.Checked.{Tells, head_of};
+ghost use Rattle.merc_type_matching.specs.Kept.{AreKept};
 ghost use Rattle.merc_type_check.specs.TypeNumbers.{AreDeclared};
 ghost use Rattle.merc_bodies.specs.Bodies.{asked_body, body_of, numbered, own_variables};
 ghost use Rattle.merc_order.specs.Bound.{nothing};
@@ -28,6 +29,7 @@ use merc_modes::{order, order_query};
 use merc_scopes::Occurrence;
 use merc_tree::{Clause, Shape, TermRef};
 use merc_type_check::{DeclaredTypes, is_typed};
+use merc_type_matching::Matchings;
 use std::alloc::Global;
 
 /// The trees of a module's procedures: the goals of each predicate in each of its modes, in the order in which they run,
@@ -128,7 +130,8 @@ pub(crate) fn check_goal(
         None => unreachable!(),
     };
     let declared = DeclaredTypes::of(alloc, known)?;
-    if !is_typed(alloc, known, &declared, None, &form)? {
+    let mut matchings = Matchings::new(alloc);
+    if !is_typed(alloc, known, &declared, &mut matchings, None, &form)? {
         return Err(Fault::Refused(type_mismatch(goal.span())));
     }
     let ordered = check_query_order(alloc, known, &form, query.answers.as_slice())?;
@@ -234,12 +237,13 @@ fn first_untyped(
     requires count { length forms.now ≡ length known.now.clauses }
     ensures { IfOk result (λ found. (form : Clause → Node) → forms.now ≡ map form known.now.clauses → FindsUntyped known.now form found) }
 {
+    let mut matchings = Matchings::new(alloc);
     for (index, clause) in known.module().clauses.as_slice().iter().enumerate() {
         let form = match forms.get(index) {
             Some(form) => form,
             None => unreachable!(),
         };
-        if !is_typed_clause(alloc, known, declared, clause, &form)? {
+        if !is_typed_clause(alloc, known, declared, &mut matchings, clause, &form)? {
             return Ok(Some(clause.span));
         }
     }
@@ -251,14 +255,17 @@ fn is_typed_clause(
     alloc: Global,
     known: &Known<'_>,
     declared: &DeclaredTypes,
+    matchings: &mut Matchings,
     clause: &Clause,
     form: &NodeRef<'_>,
 ) -> Result<bool, NoMemory>
-    requires { AreDeclared known.now declared.now }
-    ensures { IfOk result (λ typed. Tells typed known.now (declared_arguments known.now clause.now.head) form.now) }
+    requires declared { AreDeclared known.now declared.now }
+    requires kept { AreKept declared.now.table matchings.old }
+    ensures typed { IfOk result (λ typed. Tells typed known.now (declared_arguments known.now clause.now.head) form.now) }
+    ensures kept { AreKept declared.now.table matchings.new }
 {
     let predicate = predicate_of(known, &clause.head.as_ref());
-    is_typed(alloc, known, declared, predicate, form)
+    is_typed(alloc, known, declared, matchings, predicate, form)
 }
 
 // The predicate whose head this is, None where there is none.

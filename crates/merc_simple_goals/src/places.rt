@@ -45,8 +45,8 @@ impl Places {
         })
     }
 
-    /// The variables in the order in which they occur.
-    pub fn occurrences(&self) -> &Occurrences
+    // The variables in the order in which they occur.
+    pub(crate) fn occurrences(&self) -> &Occurrences
         ensures { result.now ≡ self.now }
     {
         &self.occurrences

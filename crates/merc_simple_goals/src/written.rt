@@ -5,6 +5,7 @@ use merc_graded_tree::Nodes;
 /// Goals that were written out in their order.
 #[derive(Drop)]
 pub struct Written {
+    /// The goals, in the order in which they run.
     pub nodes: Nodes,
     /// The number of the next fresh variable.
     pub fresh: usize,

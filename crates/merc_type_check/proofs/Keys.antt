@@ -1,10 +1,9 @@
 -- Keys of maps that compare as equal are the same.
 use Rattle.std.proofs.Common.{◌≡◌, ℕ, true, ap, ◌∙◌}
 use Rattle.std.specs.Ordering.{nat_cmp, is_eq}
-use Rattle.merc_type_matching.specs.declared.matching.NumberPair.{NumberPair}
 use Rattle.merc_type_matching.proofs.Maps.{number-equal, number-same, then_equal, then_same}
 use Rattle.merc_type_check.specs.declared.checker.UsedVariable.{UsedVariable}
-use Rattle.merc_type_check.specs.Progress.{compare_numbers, compare_variables}
+use Rattle.merc_type_check.specs.Progress.{compare_variables}
 
 pub variable-equal : (a b : UsedVariable) → is_eq (compare_variables a b) ≡ true → a ≡ b
 variable-equal a b same =
@@ -15,10 +14,3 @@ variable-equal a b same =
 
 pub variable-same : (a : UsedVariable) → is_eq (compare_variables a a) ≡ true
 variable-same a = then_same (nat_cmp a.user a.user) (nat_cmp a.name a.name) (number-same a.user) (number-same a.name)
-
-pub numbers-equal : (a b : NumberPair) → is_eq (compare_numbers a b) ≡ true → a ≡ b
-numbers-equal a b same =
-    let both = then_equal (nat_cmp a.one b.one) (nat_cmp a.other b.other) same in
-    let with_one : ℕ → NumberPair = λ n. record { one = n; other = a.other } in
-    let with_other : ℕ → NumberPair = λ n. record { one = b.one; other = n } in
-    ap with_one (number-equal a.one b.one both.0) ∙ ap with_other (number-equal a.other b.other both.1)

@@ -11,12 +11,11 @@ use Rattle.merc_type_graph.specs.Changes.{AllWithin, Adds, MakesEqual, MakesWhol
 use Rattle.merc_type_check.specs.declared.checker.Checker.{Checker}
 use Rattle.merc_type_check.specs.declared.checker.UsedType.{UsedType}
 use Rattle.merc_type_check.specs.declared.checker.UsedVariable.{UsedVariable}
-use Rattle.merc_type_matching.specs.declared.matching.NamePair.{NamePair}
-use Rattle.merc_type_matching.specs.declared.matching.NumberPair.{NumberPair}
-use Rattle.merc_type_matching.specs.Matched.{AreMatched}
-use Rattle.merc_type_check.specs.Progress.{compare_numbers, compare_variables, used_type, Types, Instances, AgreesWith, AgreesIn, Fits, AreMet, AreThere, AgreeBelow, IsLocal, IsNewIf, IsSound, Keeps, Nothing, Offers, Stands, AllStand, Step, Takes, Places, Waits}
+use Rattle.merc_type_matching.specs.declared.matchings.Matchings.{Matchings}
+use Rattle.merc_type_matching.specs.Kept.{AreKept}
+use Rattle.merc_type_check.specs.Progress.{compare_variables, used_type, Types, Instances, AgreesWith, AgreesIn, Fits, AreMet, AreThere, AgreeBelow, IsLocal, IsNewIf, IsSound, Keeps, Nothing, Offers, Stands, AllStand, Step, Takes, Places, Waits}
 use Rattle.merc_type_matching.proofs.Maps.{Changes, all_before, all_changed, changed_here, number-equal, number-same}
-use Rattle.merc_type_check.proofs.Keys.{numbers-equal, variable-equal, variable-same}
+use Rattle.merc_type_check.proofs.Keys.{variable-equal, variable-same}
 use Rattle.merc_type_check.proofs.Steps.{grow_nothing, eqb-less, eqb-same}
 
 -- types with another one at a place
@@ -116,8 +115,7 @@ sound_more old graph sound local kept longer = record {
   none_waits = sound.none_waits;
   instances = λ variable.
       met_more (get compare_variables old.instances variable) (length old.graph.entries) (length graph.entries) variable.user old.part longer (sound.instances variable);
-  matchings = λ key. subst (λ (t : List TypeExpr). IfSome (get compare_numbers old.matchings key) (λ pairs. AreMatched pairs (type_at t key.one) (type_at t key.other))) (sym kept)
-      (sound.matchings key);
+  matchings = subst (λ (t : List TypeExpr). AreKept t old.matchings) (sym kept) sound.matchings;
   table = sound.table ∙ sym kept;
   listed = sound.listed ∙ sym kept;
 }
@@ -234,18 +232,15 @@ waited old more number used sound new there begun updates = record {
     mode may never = cc
 
 -- pairs of type variables are kept, or given back
-pub matchings_changed : (old : Checker) (new : BTreeMap NumberPair (List NamePair)) (types : NumberPair) (value : Option (List NamePair)) → IsSound old
-    → Changes compare_numbers old.matchings new types value → IfSome value (λ pairs. AreMatched pairs (type_at old.graph.table types.one) (type_at old.graph.table types.other))
-    → Step old (record old { matchings = new }) Nothing
-matchings_changed old new types value sound changes here = record {
+pub matchings_changed : (old : Checker) (new : Matchings) → IsSound old → AreKept old.graph.table new → Step old (record old { matchings = new }) Nothing
+matchings_changed old new sound kept = record {
   sound = record {
     local = sound.local;
     variables = sound.variables;
     waiting = sound.waiting;
     none_waits = sound.none_waits;
     instances = sound.instances;
-    matchings = all_changed compare_numbers numbers-equal (λ key pairs. AreMatched pairs (type_at old.graph.table key.one) (type_at old.graph.table key.other)) old.matchings new types
-        value changes here sound.matchings;
+    matchings = kept;
     table = sound.table;
     listed = sound.listed;
   };

@@ -8,12 +8,10 @@ use Rattle.merc_tree.specs.Types.{TypeExpr, replaced}
 use Rattle.merc_type_table.specs.Table.{type_at}
 use Rattle.merc_type_graph.specs.Solutions.{Entry, Solves}
 use Rattle.merc_type_graph.specs.Changes.{AllWithin, Decides}
-use Rattle.merc_type_matching.specs.Matched.{AreMatched}
+use Rattle.merc_type_matching.specs.Kept.{AreKept}
 use Rattle.merc_type_check.specs.declared.checker.Checker.{Checker}
 use Rattle.merc_type_check.specs.declared.checker.UsedType.{UsedType}
 use Rattle.merc_type_check.specs.declared.checker.UsedVariable.{UsedVariable}
-use Rattle.merc_type_matching.specs.declared.matching.NamePair.{NamePair}
-use Rattle.merc_type_matching.specs.declared.matching.NumberPair.{NumberPair}
 use Rattle.merc_type_check.specs.declared.typings.Typing.{Typing}
 
 -- types by numbers: of places, of variables, or of what type variables stand for
@@ -77,20 +75,13 @@ AgreeBelow count one other = (place : ℕ) → place < count → one place ≡ o
 abbrev pub IsLocal : List Entry → Type 0
 IsLocal graph = (one other : Types) → AgreeBelow (length graph) one other → Solves graph one → Solves graph other
 
-abbrev pub compare_numbers : NumberPair → NumberPair → Ordering
-compare_numbers a b = ordering_then (nat_cmp a.one b.one) (nat_cmp a.other b.other)
-
--- the pairs that are kept are those of the two types
-abbrev pub AllMatched : List TypeExpr → BTreeMap NumberPair (List NamePair) → Type 0
-AllMatched table matchings = (key : NumberPair) → IfSome (get compare_numbers matchings key) (λ pairs. AreMatched pairs (type_at table key.one) (type_at table key.other))
-
 pub record IsSound (checker : Checker) : Type 0 where
   pub local : IsLocal checker.graph.entries
   pub variables : AreThere checker.variables (length checker.graph.entries)
   pub waiting : AllWait checker
   pub none_waits : checker.may_wait ≡ false → (number : ℕ) → get nat_cmp checker.waiting number ≡ None
   pub instances : AreMet checker.instances (length checker.graph.entries) checker.part
-  pub matchings : AllMatched checker.graph.table checker.matchings
+  pub matchings : AreKept checker.graph.table checker.matchings
   pub table : checker.table.now ≡ checker.graph.table
   pub listed : checker.listed.now ≡ checker.graph.table
 

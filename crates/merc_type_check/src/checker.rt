@@ -6,6 +6,7 @@ ghost use Rattle.std.specs.BTreeMap.{get};
 ghost use Rattle.merc_tree.specs.Types.{TypeExpr, IntType, TextType, TypeApplication, replaced, types_of};
 ghost use Rattle.merc_type_table.specs.Table.{is_closed, made, type_at, IsBefore, IsComplete};
 ghost use Rattle.merc_type_graph.specs.Changes.{AllWithin, Decides};
+ghost use Rattle.merc_type_matching.specs.Kept.{AreKept};
 ghost use Rattle.merc_type_matching.specs.Matched.{AreMatched};
 ghost use Rattle.merc_type_check.specs.Progress.{begun, AllStand, Fits, Instances, IsFresh, IsNewIf, IsSound, Keeps, Nothing, Offers, Places, Stands, Step, Takes, Types, Yields};
 
@@ -13,7 +14,7 @@ use crate::typings::Typing;
 use merc_base::{Name, NoMemory, Sequence};
 use merc_goal_tree::Var;
 use merc_type_graph::{Place, TypeGraph};
-use merc_type_matching::{ListedTypes, NamePair, NumberPair, pairs_between};
+use merc_type_matching::{ListedTypes, Matchings, NamePair, NumberPair};
 use merc_type_table::{TypeNode, TypeNumber, TypeTable};
 use std::alloc::Global;
 use std::collections::BTreeMap;
@@ -47,15 +48,21 @@ pub(crate) struct Checker<'a> {
     may_wait: bool,
     // The places of what type variables stand for, where they were needed.
     instances: BTreeMap<UsedVariable, Place>,
-    // Pairs of type variables of two declared types that are alike but for those.
-    matchings: BTreeMap<NumberPair, Sequence<NamePair>>,
+    // What was found where declared types were matched.
+    matchings: Matchings,
     // The number of the part of the goal that is gone through, counted from 1.
     part: usize,
 }
 
 impl<'a> Checker<'a> {
     /// Nothing is known. It takes no memory.
-    pub(crate) fn new(alloc: Global, listed: &'a ListedTypes, may_wait: bool) -> Checker<'a>
+    pub(crate) fn new(
+        alloc: Global,
+        listed: &'a ListedTypes,
+        may_wait: bool,
+        matchings: Matchings,
+    ) -> Checker<'a>
+        requires { AreKept listed.now matchings }
         ensures sound { IsSound result }
         ensures free { (places types : Types) (instance : Instances) → Fits result places types instance }
         ensures table { result.graph.table ≡ listed.now }
@@ -71,7 +78,7 @@ impl<'a> Checker<'a> {
             waiting: BTreeMap::new(alloc),
             may_wait,
             instances: BTreeMap::new(alloc),
-            matchings: BTreeMap::new(alloc),
+            matchings,
             part: 0,
         }
     }
@@ -144,8 +151,9 @@ impl<'a> Checker<'a> {
         self.listed.variables_of(number)
     }
 
-    /// The type variables that stand where the other declared type has one, in pairs, None where the types differ in more
-    /// than those. They are to be given back: then they are at hand the next time.
+    /// Pairs of type variables that stand at one place in two declared types, but for pairs that follow from others. None
+    /// where the types differ in more than type variables. The pairs are to be given back: then they are at hand the next
+    /// time.
     pub(crate) fn take_matching(
         &mut self,
         alloc: Global,
@@ -158,10 +166,8 @@ impl<'a> Checker<'a> {
         ensures same { OnOk result (Step self.old self.new Nothing) }
         ensures matched { IfOk result (λ found. IfSome found (λ pairs. AreMatched pairs (type_at self.old.graph.table one) (type_at self.old.graph.table other))) }
     {
-        match self.matchings.remove(&NumberPair { one, other }) {
-            Some(pairs) => Ok(Some(pairs)),
-            None => pairs_between(alloc, self.table, NumberPair { one, other }),
-        }
+        self.matchings
+            .take(alloc, self.table, NumberPair { one, other })
     }
 
     /// Keeps pairs of type variables of two declared types.
@@ -175,7 +181,7 @@ impl<'a> Checker<'a> {
         requires matched { AreMatched pairs (type_at self.old.graph.table one) (type_at self.old.graph.table other) }
         ensures { OnOk result (Step self.old self.new Nothing) }
     {
-        self.matchings.insert(NumberPair { one, other }, pairs)?;
+        self.matchings.keep(NumberPair { one, other }, pairs)?;
         Ok(())
     }
 
@@ -326,6 +332,13 @@ impl<'a> Checker<'a> {
     {
         let solvable = self.graph.is_solvable(alloc)?;
         Ok(solvable)
+    }
+
+    /// What was found where declared types were matched.
+    pub(crate) fn into_matchings(self) -> Matchings
+        ensures { result ≡ self.entry.matchings }
+    {
+        self.matchings
     }
 
     /// The equations with the places of variables, None where no types solve them.

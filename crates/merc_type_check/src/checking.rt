@@ -2,6 +2,7 @@
 ghost use Rattle.std.specs.Prelude.{◌≡◌, IfOk};
 ghost use Rattle.std.specs.Option.{IfSome, IfNone};
 ghost use Rattle.merc_type_check.specs.Checked.{Tells, head_of};
+ghost use Rattle.merc_type_matching.specs.Kept.{AreKept};
 ghost use Rattle.merc_type_check.specs.TypeNumbers.{AreDeclared, AreNumbers};
 ghost use Rattle.merc_type_check.specs.Typing.{HasTyping, IsTyped};
 ghost use Rattle.merc_type_check.specs.Progress.{Knows};
@@ -15,13 +16,15 @@ use crate::typings::Typing;
 use merc_base::NoMemory;
 use merc_goal_tree::{NodeRef, Predicate};
 use merc_known::Known;
+use merc_type_matching::Matchings;
 use merc_type_table::TypeNumber;
 use std::alloc::Global;
+use std::mem::replace;
 
 /// Whether the variables of a goal have types, as `typing` gives them, in as much time or less: a variable takes no place as
 /// long as it is only an argument, with declared types that are alike but for type variables. Then only these type variables
 /// are counted at each use but the first, in pairs that stand at one place; and none at a call that a variable gives the type
-/// of all its arguments whose types have type variables.
+/// of all its arguments whose types have type variables. The matchings are those of the module, to which others are added.
 ///
 /// # Errors
 ///
@@ -30,14 +33,22 @@ pub fn is_typed(
     alloc: Global,
     known: &Known<'_>,
     declared: &DeclaredTypes,
+    matchings: &mut Matchings,
     predicate: Option<Predicate>,
     goal: &NodeRef<'_>,
 ) -> Result<bool, NoMemory>
-    requires { AreDeclared known.now declared.now }
-    ensures { IfOk result (λ typed. Tells typed known.now (head_of known.now predicate) goal.now) }
+    requires declared { AreDeclared known.now declared.now }
+    requires kept { AreKept declared.now.table matchings.old }
+    ensures typed { IfOk result (λ typed. Tells typed known.now (head_of known.now predicate) goal.now) }
+    ensures kept { AreKept declared.now.table matchings.new }
 {
-    match checked(alloc, known, declared, predicate, goal, true)? {
-        Some(checker) => checker.is_solvable(alloc),
+    let before = replace(matchings, Matchings::new(alloc));
+    match checked(alloc, known, declared, predicate, goal, true, before)? {
+        Some(checker) => {
+            let typed = checker.is_solvable(alloc)?;
+            *matchings = checker.into_matchings();
+            Ok(typed)
+        }
         None => Ok(false),
     }
 }
@@ -67,7 +78,8 @@ pub fn typing<'a>(
     ensures some { IfOk result (λ found. IfSome found (λ typing. IsTypingOf typing known.now (head_of known.now predicate) goal.now)) }
     ensures none { IfOk result (λ found. IfNone found (HasTyping known.now (head_of known.now predicate) goal.now → ⊥)) }
 {
-    match checked(alloc, known, declared, predicate, goal, false)? {
+    let none = Matchings::new(alloc);
+    match checked(alloc, known, declared, predicate, goal, false, none)? {
         Some(checker) => checker.into_typing(alloc),
         None => Ok(None),
     }
@@ -81,13 +93,16 @@ fn checked<'a>(
     predicate: Option<Predicate>,
     goal: &NodeRef<'_>,
     may_wait: bool,
+    matchings: Matchings,
 ) -> Result<Option<Checker<'a>>, NoMemory>
-    requires { AreDeclared known.now declared.now }
+    requires declared { AreDeclared known.now declared.now }
+    requires kept { AreKept declared.now.table matchings }
     ensures some { IfOk result (λ found. IfSome found (λ checker. Knows checker (λ types. IsTyped known.now types (head_of known.now predicate) goal.now))) }
     ensures none { IfOk result (λ found. IfNone found (HasTyping known.now (head_of known.now predicate) goal.now → ⊥)) }
     ensures mode { IfOk result (λ found. IfSome found (λ checker. checker.may_wait ≡ may_wait)) }
+    ensures table { IfOk result (λ found. IfSome found (λ checker. declared.now.table ≡ checker.graph.table)) }
 {
-    let mut checker = Checker::new(alloc, declared.listed(), may_wait);
+    let mut checker = Checker::new(alloc, declared.listed(), may_wait, matchings);
     let done = checker.take_head(alloc, head_numbers(declared, predicate))?;
     if !done {
         return Ok(None);

@@ -4,6 +4,8 @@ use Rattle.std.specs.Option.{IfSome}
 use Rattle.std.specs.Ordering.{nat_cmp, ordering_then, is_eq}
 use Rattle.std.specs.BTreeMap.{BTreeMap, get}
 use Rattle.std.proofs.lemmas.Bool.Decides.{nat_tests}
+use Rattle.merc_type_matching.specs.Kept.{compare_numbers}
+use Rattle.merc_type_matching.specs.declared.matching.NumberPair.{NumberPair}
 
 pub number-equal : (a b : ℕ) → is_eq (nat_cmp a b) ≡ true → a ≡ b
 number-equal a b same = grind (arith, nat_tests)
@@ -20,6 +22,13 @@ pub then_same : (a b : Ordering) → is_eq a ≡ true → is_eq b ≡ true → i
 then_same Less b one other = absurd (cc)
 then_same Equal b one other = other
 then_same Greater b one other = absurd (cc)
+
+pub numbers-equal : (a b : NumberPair) → is_eq (compare_numbers a b) ≡ true → a ≡ b
+numbers-equal a b same =
+    let both = then_equal (nat_cmp a.one b.one) (nat_cmp a.other b.other) same in
+    let with_one : ℕ → NumberPair = λ n. record { one = n; other = a.other } in
+    let with_other : ℕ → NumberPair = λ n. record { one = b.one; other = n } in
+    ap with_one (number-equal a.one b.one both.0) ∙ ap with_other (number-equal a.other b.other both.1)
 
 -- Given are an order of keys, and what is to hold of each key and its value.
 module _ {K X : Type 0} (compare : K → K → Ordering) where

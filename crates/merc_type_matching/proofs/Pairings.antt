@@ -11,7 +11,7 @@ use Rattle.merc_type_matching.specs.Matched.{AgreeOn, AreMatched}
 use Rattle.merc_type_matching.specs.Matching.{left_weight, AddsPair, AreAlike, AreFound, AreThere, IsMet, IsSplitIf, IsVariableIf, Matches, MatchesIf}
 use Rattle.merc_type_matching.specs.declared.matching.NamePair.{NamePair}
 use Rattle.merc_type_matching.specs.declared.matching.NumberPair.{NumberPair}
-use Rattle.merc_type_matching.specs.declared.matching.PairsOnce.{PairsOnce}
+use Rattle.merc_type_matching.specs.declared.matching.IndependentPairs.{IndependentPairs}
 use Rattle.merc_type_matching.proofs.Parts.{replaced_closed, some_weight, split_weight}
 
 -- one more pair
@@ -23,7 +23,7 @@ agree_push one other (first ∷ rest) pair =
       (λ both. (both.0.0, inner.1 (both.0.1, both.1))),
     )
 
-pub pair_added : (old new : PairsOnce) (is_new : Bool) (name name' : ℕ) → IsMet old → Links is_new old.linked new.linked name name'
+pub pair_added : (old new : IndependentPairs) (is_new : Bool) (name name' : ℕ) → IsMet old → Links is_new old.linked new.linked name name'
     → new.pairs ≡ old.pairs ++ record { one = name; other = name' } ∷ [] → AddsPair old new name name'
 pair_added old new is_new name name' met links pairs = record {
   met = record {
@@ -42,7 +42,7 @@ pair_added old new is_new name name' met links pairs = record {
       (λ both. subst (AgreeOn one two) (sym pairs) ((agree_push one two old.pairs (record { one = name; other = name' })).1 both)),
     )
 
-pub pair_follows : (old new : PairsOnce) (is_new : Bool) (name name' : ℕ) → IsMet old → Links is_new old.linked new.linked name name' → is_new ≡ false → new.pairs ≡ old.pairs
+pub pair_follows : (old new : IndependentPairs) (is_new : Bool) (name name' : ℕ) → IsMet old → Links is_new old.linked new.linked name name' → is_new ≡ false → new.pairs ≡ old.pairs
     → AddsPair old new name name'
 pair_follows old new is_new name name' met links known pairs = record {
   met = record {
@@ -108,7 +108,7 @@ module _ (table : List TypeExpr) where
   left_push [] part = omega arith
   left_push (first ∷ rest) part = let inner = left_push rest part in omega arith
 
-  pub found_first : (found : PairsOnce) (parts : List NumberPair) (whole : NumberPair) → found.pairs ≡ [] → IsFalling (get nat_cmp found.linked.lesser)
+  pub found_first : (found : IndependentPairs) (parts : List NumberPair) (whole : NumberPair) → found.pairs ≡ [] → IsFalling (get nat_cmp found.linked.lesser)
       → ((one other : ℕ → TypeExpr) → Agree found.linked one other) → parts ≡ whole ∷ [] → whole.one < length table → whole.other < length table → AreFound table found parts whole
   found_first found parts whole pairs falling free parts_are one_there other_there = record {
     met = record { falling = falling; same = λ one other. ((λ agree. free one other), (λ agree. subst (AgreeOn one other) (sym pairs) tt)) };
@@ -119,12 +119,12 @@ module _ (table : List TypeExpr) where
     );
   }
 
-  pub part_there : (found : PairsOnce) (parts rest : List NumberPair) (part whole : NumberPair) → parts ≡ rest ++ part ∷ [] → AreFound table found parts whole
+  pub part_there : (found : IndependentPairs) (parts rest : List NumberPair) (part whole : NumberPair) → parts ≡ rest ++ part ∷ [] → AreFound table found parts whole
       → (part.one < length table) × (part.other < length table)
   part_there found parts rest part whole parts_are is = (there_pop rest part (subst (AreThere table) parts_are is.there)).1
 
   -- one part is matched
-  pub found_more : (old new : PairsOnce) (parts rest now : List NumberPair) (part whole : NumberPair) → parts ≡ rest ++ part ∷ [] → Matches table part old new rest now
+  pub found_more : (old new : IndependentPairs) (parts rest now : List NumberPair) (part whole : NumberPair) → parts ≡ rest ++ part ∷ [] → Matches table part old new rest now
       → AreFound table old parts whole → AreFound table new now whole
   found_more old new parts rest now part whole parts_are matches before = record {
     met = matches.met;
@@ -140,7 +140,7 @@ module _ (table : List TypeExpr) where
     );
   }
 
-  pub less_left : (old new : PairsOnce) (parts rest now : List NumberPair) (part : NumberPair) → parts ≡ rest ++ part ∷ [] → Matches table part old new rest now
+  pub less_left : (old new : IndependentPairs) (parts rest now : List NumberPair) (part : NumberPair) → parts ≡ rest ++ part ∷ [] → Matches table part old new rest now
       → left_weight table now < left_weight table parts
   less_left old new parts rest now part parts_are matches =
       let whole = ap (left_weight table) parts_are ∙ left_push rest part in
@@ -148,7 +148,7 @@ module _ (table : List TypeExpr) where
       omega arith
 
   -- all parts are matched
-  pub found_all : (found : PairsOnce) (parts : List NumberPair) (whole : NumberPair) → parts ≡ [] → AreFound table found parts whole
+  pub found_all : (found : IndependentPairs) (parts : List NumberPair) (whole : NumberPair) → parts ≡ [] → AreFound table found parts whole
       → AreMatched found.pairs (type_at table whole.one) (type_at table whole.other)
   found_all found parts whole none is = λ one other. (
     (λ agree. (is.alike one other).0 (agree, subst (AreAlike table one other) (sym none) tt)),
@@ -156,7 +156,7 @@ module _ (table : List TypeExpr) where
   )
 
   -- a type without type variables, and itself
-  pub matches_closed : (part : NumberPair) (found : PairsOnce) (parts : List NumberPair) → IsMet found → part.one ≡ part.other → is_closed (type_at table part.one) ≡ true
+  pub matches_closed : (part : NumberPair) (found : IndependentPairs) (parts : List NumberPair) → IsMet found → part.one ≡ part.other → is_closed (type_at table part.one) ≡ true
       → Matches table part found found parts parts
   matches_closed part found parts met same closed = record {
     met = met;
@@ -175,7 +175,7 @@ module _ (table : List TypeExpr) where
   }
 
   -- two type variables
-  pub matches_variables : (part : NumberPair) (old new : PairsOnce) (parts : List NumberPair) (name name' : ℕ) → type_at table part.one ≡ TypeVariable name
+  pub matches_variables : (part : NumberPair) (old new : IndependentPairs) (parts : List NumberPair) (name name' : ℕ) → type_at table part.one ≡ TypeVariable name
       → type_at table part.other ≡ TypeVariable name' → AddsPair old new name name' → Matches table part old new parts parts
   matches_variables part old new parts name name' is is' adds = record {
     met = adds.met;
@@ -190,7 +190,7 @@ module _ (table : List TypeExpr) where
   }
 
   -- two types' names over one more argument
-  pub matches_with : (part : NumberPair) (found : PairsOnce) (parts more now : List NumberPair) (first rest first' rest' : ℕ) → IsMet found
+  pub matches_with : (part : NumberPair) (found : IndependentPairs) (parts more now : List NumberPair) (first rest first' rest' : ℕ) → IsMet found
       → more ≡ parts ++ record { one = rest; other = rest' } ∷ [] → now ≡ more ++ record { one = first; other = first' } ∷ []
       → type_at table part.one ≡ with_first (type_at table first) (type_at table rest) → type_at table part.other ≡ with_first (type_at table first') (type_at table rest')
       → is_application (type_at table rest) ≡ true → is_application (type_at table rest') ≡ true → part.one < length table → part.other < length table
@@ -228,12 +228,12 @@ module _ (table : List TypeExpr) where
       halves one other = first_same one other (type_at table first) (type_at table rest) (type_at table first') (type_at table rest') complete complete'
 
   -- the same of a call's answer
-  pub variable_matched : (same : Bool) (part : NumberPair) (old new : PairsOnce) (parts : List NumberPair) (name : ℕ) → type_at table part.one ≡ TypeVariable name
+  pub variable_matched : (same : Bool) (part : NumberPair) (old new : IndependentPairs) (parts : List NumberPair) (name : ℕ) → type_at table part.one ≡ TypeVariable name
       → IsVariableIf table same name part.other old new → MatchesIf table same part old new parts parts
   variable_matched true part old new parts name is found = matches_variables part old new parts name found.other is found.is found.adds
   variable_matched false part old new parts name is found = tt
 
-  pub arguments_matched : (same : Bool) (part : NumberPair) (found : PairsOnce) (parts now : List NumberPair) (first rest : ℕ) → IsMet found
+  pub arguments_matched : (same : Bool) (part : NumberPair) (found : IndependentPairs) (parts now : List NumberPair) (first rest : ℕ) → IsMet found
       → type_at table part.one ≡ with_first (type_at table first) (type_at table rest) → is_application (type_at table rest) ≡ true → (first < part.one) × (rest < part.one)
       → part.one < length table → part.other < length table → IsSplitIf table same first rest part.other parts now → MatchesIf table same part found found parts now
   arguments_matched true part found parts now first rest met is complete before there there' split =

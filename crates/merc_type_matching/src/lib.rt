@@ -4,6 +4,8 @@
 mod linked;
 mod listed;
 mod matching;
+mod matchings;
 
 pub use listed::ListedTypes;
-pub use matching::{NamePair, NumberPair, pairs_between};
+pub use matching::{NamePair, NumberPair};
+pub use matchings::Matchings;

@@ -28,15 +28,15 @@ pub struct NumberPair {
     pub other: TypeNumber,
 }
 
-// Pairs in the order in which they came, without those that follow from the ones before.
+// Pairs in the order in which they came, none of which follows from the ones before.
 #[derive(Drop)]
-pub(crate) struct PairsOnce {
+pub(crate) struct IndependentPairs {
     pairs: Sequence<NamePair>,
     // The names of each pair.
     linked: LinkedNames,
 }
 
-impl PairsOnce {
+impl IndependentPairs {
     // Puts a pair behind the others if it does not follow from them.
     fn add(&mut self, one: Name, other: Name) -> Result<(), NoMemory>
         requires { IsMet self.old }
@@ -56,7 +56,7 @@ impl PairsOnce {
 /// # Errors
 ///
 /// `NoMemory` where memory was refused.
-pub fn pairs_between(
+pub(crate) fn pairs_between(
     alloc: Global,
     table: &TypeTable,
     whole: NumberPair,
@@ -65,7 +65,7 @@ pub fn pairs_between(
     requires other { whole.other < length table.now }
     ensures { IfOk result (λ found. IfSome found (λ pairs. AreMatched pairs (type_at table.now whole.one) (type_at table.now whole.other))) }
 {
-    let mut found = PairsOnce {
+    let mut found = IndependentPairs {
         pairs: Sequence::new(alloc),
         linked: LinkedNames::new(alloc),
     };
@@ -84,7 +84,7 @@ fn match_part(
     table: &TypeTable,
     one: TypeNumber,
     other: TypeNumber,
-    found: &mut PairsOnce,
+    found: &mut IndependentPairs,
     parts: &mut Vec<NumberPair>,
 ) -> Result<bool, NoMemory>
     requires one { one < length table.now }
@@ -115,7 +115,7 @@ fn match_variable(
     table: &TypeTable,
     name: Name,
     number: TypeNumber,
-    found: &mut PairsOnce,
+    found: &mut IndependentPairs,
 ) -> Result<bool, NoMemory>
     requires there { number < length table.now }
     requires met { IsMet found.old }

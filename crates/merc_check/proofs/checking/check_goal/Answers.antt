@@ -110,14 +110,14 @@ returns-in_err-query-clause-refused c =
 pub returns-then-not-branch-clause-refused : goal.returns-then-not-branch-clause-refused
 returns-then-not-branch-clause-refused c =
     goal_untyped c.args.names.now c.args.known.now c.args.goal.now c.in_ok-query.query.form c.in-Some.form c.in_ok-is_typed.field-0 c.type_mismatch.result
-    c.in_ok-query.ensures.faultless c.in_ok-query.ensures.form c.in-Some.ensures c.in_ok-is_typed.ensures c.if-not-branch.true (c.type_mismatch.ensures ∙ ap type_mismatch c.span.ensures)
+    c.in_ok-query.ensures.faultless c.in_ok-query.ensures.form c.in-Some.ensures c.in_ok-is_typed.ensures.typed c.if-not-branch.true (c.type_mismatch.ensures ∙ ap type_mismatch c.span.ensures)
 
 pub returns-in_err-ordered-clause-refused : goal.returns-in_err-ordered-clause-refused
 returns-in_err-ordered-clause-refused c =
     let p = err_from_is_err_and c.from_residual-in_err-ordered.result c.from_residual-in_err-ordered.ensures.1 in
     rw (p.1, p.2)
     (goal_unordered c.args.names.now c.args.known.now c.args.goal.now c.in_ok-query.query.form c.in-Some.form c.in_ok-is_typed.field-0 c.as_slice.result.now
-    c.in_ok-query.ensures.faultless c.in_ok-query.ensures.form c.in-Some.ensures c.in_ok-is_typed.ensures c.if-not-branch.false (c.as_slice.ensures ∙ c.in_ok-query.ensures.answers)
+    c.in_ok-query.ensures.faultless c.in_ok-query.ensures.form c.in-Some.ensures c.in_ok-is_typed.ensures.typed c.if-not-branch.false (c.as_slice.ensures ∙ c.in_ok-query.ensures.answers)
     c.in_err-ordered.field-0.0 c.in_err-ordered.ensures.told)
 
 pub returns-in_err-trees-clause-refused : goal.returns-in_err-trees-clause-refused
@@ -125,25 +125,25 @@ returns-in_err-trees-clause-refused c =
     let p = err_from_is_err_and c.from_residual-in_err-trees.result c.from_residual-in_err-trees.ensures.1 in
     rw (p.1, p.2)
     (goal_refused c.args.names.now c.args.known.now c.args.goal.now c.in_ok-query.query.form c.in-Some.form c.in_ok-is_typed.field-0 c.as_slice.result.now
-    c.in_ok-query.ensures.faultless c.in_ok-query.ensures.form c.in-Some.ensures c.in_ok-is_typed.ensures c.if-not-branch.false (c.as_slice.ensures ∙ c.in_ok-query.ensures.answers)
+    c.in_ok-query.ensures.faultless c.in_ok-query.ensures.form c.in-Some.ensures c.in_ok-is_typed.ensures.typed c.if-not-branch.false (c.as_slice.ensures ∙ c.in_ok-query.ensures.answers)
     {T = List OrderedNode} (Err c.in_err-trees.field-0.0)
     (has_order c.args.names.now c.args.known.now c.args.goal.now c.in_ok-query.query.form c.in-Some.form c.in_ok-is_typed.field-0 c.as_slice.result.now
-    c.in_ok-query.ensures.faultless c.in_ok-query.ensures.form c.in-Some.ensures c.in_ok-is_typed.ensures c.if-not-branch.false (c.as_slice.ensures ∙ c.in_ok-query.ensures.answers)
+    c.in_ok-query.ensures.faultless c.in_ok-query.ensures.form c.in-Some.ensures c.in_ok-is_typed.ensures.typed c.if-not-branch.false (c.as_slice.ensures ∙ c.in_ok-query.ensures.answers)
     {T = List OrderedNode} c.in_ok-ordered.ordered.trees c.in_ok-ordered.ensures.tree.0 c.in_ok-ordered.ensures.told c.in_ok-ordered.ensures.tree.1 c.in_ok-ordered.ensures.tree.2 (Err c.in_err-trees.field-0.0) c.in_err-trees.ensures.told)
     (is_told c.args.names.now c.args.known.now c.args.goal.now c.in_ok-query.query.form c.in-Some.form c.in_ok-is_typed.field-0 c.as_slice.result.now
-    c.in_ok-query.ensures.faultless c.in_ok-query.ensures.form c.in-Some.ensures c.in_ok-is_typed.ensures c.if-not-branch.false (c.as_slice.ensures ∙ c.in_ok-query.ensures.answers)
+    c.in_ok-query.ensures.faultless c.in_ok-query.ensures.form c.in-Some.ensures c.in_ok-is_typed.ensures.typed c.if-not-branch.false (c.as_slice.ensures ∙ c.in_ok-query.ensures.answers)
     {T = List OrderedNode} c.in_ok-ordered.ordered.trees c.in_ok-ordered.ensures.tree.0 c.in_ok-ordered.ensures.told c.in_ok-ordered.ensures.tree.1 c.in_ok-ordered.ensures.tree.2 (Err c.in_err-trees.field-0.0) c.in_err-trees.ensures.told))
 
 pub returns-clause-accepted : goal.returns-clause-accepted
 returns-clause-accepted c =
     goal_accepted c.args.names.now c.args.known.now c.args.goal.now c.in_ok-query.query.form c.in-Some.form c.in_ok-is_typed.field-0 c.as_slice.result.now
-    c.in_ok-query.ensures.faultless c.in_ok-query.ensures.form c.in-Some.ensures c.in_ok-is_typed.ensures c.if-not-branch.false (c.as_slice.ensures ∙ c.in_ok-query.ensures.answers)
+    c.in_ok-query.ensures.faultless c.in_ok-query.ensures.form c.in-Some.ensures c.in_ok-is_typed.ensures.typed c.if-not-branch.false (c.as_slice.ensures ∙ c.in_ok-query.ensures.answers)
     {T = List OrderedNode} (Ok c.in_ok-trees.trees)
     (has_order c.args.names.now c.args.known.now c.args.goal.now c.in_ok-query.query.form c.in-Some.form c.in_ok-is_typed.field-0 c.as_slice.result.now
-    c.in_ok-query.ensures.faultless c.in_ok-query.ensures.form c.in-Some.ensures c.in_ok-is_typed.ensures c.if-not-branch.false (c.as_slice.ensures ∙ c.in_ok-query.ensures.answers)
+    c.in_ok-query.ensures.faultless c.in_ok-query.ensures.form c.in-Some.ensures c.in_ok-is_typed.ensures.typed c.if-not-branch.false (c.as_slice.ensures ∙ c.in_ok-query.ensures.answers)
     {T = List OrderedNode} c.in_ok-ordered.ordered.trees c.in_ok-ordered.ensures.tree.0 c.in_ok-ordered.ensures.told c.in_ok-ordered.ensures.tree.1 c.in_ok-ordered.ensures.tree.2 (Ok c.in_ok-trees.trees) c.in_ok-trees.ensures.told)
     (is_told c.args.names.now c.args.known.now c.args.goal.now c.in_ok-query.query.form c.in-Some.form c.in_ok-is_typed.field-0 c.as_slice.result.now
-    c.in_ok-query.ensures.faultless c.in_ok-query.ensures.form c.in-Some.ensures c.in_ok-is_typed.ensures c.if-not-branch.false (c.as_slice.ensures ∙ c.in_ok-query.ensures.answers)
+    c.in_ok-query.ensures.faultless c.in_ok-query.ensures.form c.in-Some.ensures c.in_ok-is_typed.ensures.typed c.if-not-branch.false (c.as_slice.ensures ∙ c.in_ok-query.ensures.answers)
     {T = List OrderedNode} c.in_ok-ordered.ordered.trees c.in_ok-ordered.ensures.tree.0 c.in_ok-ordered.ensures.told c.in_ok-ordered.ensures.tree.1 c.in_ok-ordered.ensures.tree.2 (Ok c.in_ok-trees.trees) c.in_ok-trees.ensures.told)
 
 pub returns-clause-graded : goal.returns-clause-graded
@@ -151,13 +151,13 @@ returns-clause-graded c = λ body has.
     c.in_ok-trees.ensures.graded (answers_of c.in-Some.form c.as_slice.result.now) (asked_body c.in-Some.form) c.in_ok-ordered.ensures.tree.0 body
     c.in_ok-ordered.ensures.tree.1 c.in_ok-ordered.ensures.tree.2
     (of_form c.args.names.now c.args.known.now c.args.goal.now c.in_ok-query.query.form c.in-Some.form c.in_ok-is_typed.field-0 c.as_slice.result.now
-    c.in_ok-query.ensures.faultless c.in_ok-query.ensures.form c.in-Some.ensures c.in_ok-is_typed.ensures c.if-not-branch.false (c.as_slice.ensures ∙ c.in_ok-query.ensures.answers)
+    c.in_ok-query.ensures.faultless c.in_ok-query.ensures.form c.in-Some.ensures c.in_ok-is_typed.ensures.typed c.if-not-branch.false (c.as_slice.ensures ∙ c.in_ok-query.ensures.answers)
     (λ (numbers : List ℕ) (goal : Node). IsAskedBody c.args.known.now numbers goal body) has)
 
 pub returns-clause-answers : goal.returns-clause-answers
 returns-clause-answers c =
     of_goal c.args.names.now c.args.known.now c.args.goal.now c.in_ok-query.query.form c.in-Some.form c.in_ok-is_typed.field-0 c.as_slice.result.now
-    c.in_ok-query.ensures.faultless c.in_ok-query.ensures.form c.in-Some.ensures c.in_ok-is_typed.ensures c.if-not-branch.false (c.as_slice.ensures ∙ c.in_ok-query.ensures.answers)
+    c.in_ok-query.ensures.faultless c.in_ok-query.ensures.form c.in-Some.ensures c.in_ok-is_typed.ensures.typed c.if-not-branch.false (c.as_slice.ensures ∙ c.in_ok-query.ensures.answers)
     (λ (numbers : List ℕ) (goal : Node). c.in_ok-ordered.ordered.answers ≡ numbers) c.in_ok-ordered.ensures.answers
 
 pub returns-clause-names : goal.returns-clause-names

@@ -31,10 +31,13 @@ pub returns-then-not-branch : goal.returns-then-not-branch
 returns-then-not-branch c = λ form same.
     wrong_here c.args.known.now form c.args.forms.now same c.loop-index.index c.clause-item.result c.in-Some.form c.in-Some.ensures
     c.as_slice-clause-items.result.now c.in_ok-is_typed_clause.field-0 (c.as_slice-clause-items.ensures ∙ ap (λ (known : Module). known.clauses) c.module.ensures)
-    c.loop-index-test.true c.clause-item.is (c.loop-index.invariant form same) c.in_ok-is_typed_clause.ensures c.if-not-branch.true
+    c.loop-index-test.true c.clause-item.is (c.loop-index.invariant.typed form same) c.in_ok-is_typed_clause.ensures.typed c.if-not-branch.true
 
 pub loop-index-preserved : goal.loop-index-preserved
-loop-index-preserved c = λ form same.
-    typed_here c.args.known.now form c.args.forms.now same c.loop-index.index c.clause-item.result c.in-Some.form c.in-Some.ensures
-    c.as_slice-clause-items.result.now c.in_ok-is_typed_clause.field-0 (c.as_slice-clause-items.ensures ∙ ap (λ (known : Module). known.clauses) c.module.ensures)
-    c.loop-index-test.true c.clause-item.is (c.loop-index.invariant form same) c.in_ok-is_typed_clause.ensures c.if-not-branch.false
+loop-index-preserved c = record {
+  typed = λ form same.
+      typed_here c.args.known.now form c.args.forms.now same c.loop-index.index c.clause-item.result c.in-Some.form c.in-Some.ensures
+      c.as_slice-clause-items.result.now c.in_ok-is_typed_clause.field-0 (c.as_slice-clause-items.ensures ∙ ap (λ (known : Module). known.clauses) c.module.ensures)
+      c.loop-index-test.true c.clause-item.is (c.loop-index.invariant.typed form same) c.in_ok-is_typed_clause.ensures.typed c.if-not-branch.false;
+  kept = c.in_ok-is_typed_clause.ensures.kept;
+}

@@ -3,6 +3,7 @@ use Rattle.merc_goal_tree.specs.Parts.{parts_of}
 use Rattle.merc_tree.specs.Types.{TypeExpr}
 use Rattle.merc_type_table.specs.Table.{type_at}
 use Rattle.merc_type_check.specs.Checked.{head_of}
+use Rattle.merc_type_matching.specs.Kept.{AreKept}
 use Rattle.merc_type_matching.specs.Listed.{AreWithin}
 use Rattle.merc_tree.specs.declared.declarations.Module.{Module}
 use Rattle.merc_type_check.specs.declared.checker.Checker.{Checker}
@@ -19,13 +20,13 @@ use Rattle.merc_type_check.proofs.checking.checked.Goals as goal
 pub take_head-requires-clause-numbers : goal.take_head-requires-clause-numbers
 take_head-requires-clause-numbers c =
     subst (λ (t : List TypeExpr). AreWithin t c.head_numbers.result.now) (sym (c.new-checker.ensures.table ∙ c.listed.ensures))
-    (numbers_within c.args.declared.now.table c.head_numbers.result.now (head_of c.args.known.now c.args.predicate) (c.head_numbers.ensures c.args.known.now c.requires))
+    (numbers_within c.args.declared.now.table c.head_numbers.result.now (head_of c.args.known.now c.args.predicate) (c.head_numbers.ensures c.args.known.now c.requires.declared))
 
 pub returns-then-not-done-clause-none : goal.returns-then-not-done-clause-none
 returns-then-not-done-clause-none c =
     let head : map (type_at c.new-checker.result.graph.table) c.head_numbers.result.now ≡ head_of c.args.known.now c.args.predicate =
     subst (λ (t : List TypeExpr). map (type_at t) c.head_numbers.result.now ≡ head_of c.args.known.now c.args.predicate) (sym (c.new-checker.ensures.table ∙ c.listed.ensures))
-    (numbers_types c.args.declared.now.table c.head_numbers.result.now (head_of c.args.known.now c.args.predicate) (c.head_numbers.ensures c.args.known.now c.requires)) in
+    (numbers_types c.args.declared.now.table c.head_numbers.result.now (head_of c.args.known.now c.args.predicate) (c.head_numbers.ensures c.args.known.now c.requires.declared)) in
     head_untyped c.new-checker.result c.args.known.now (head_of c.args.known.now c.args.predicate) c.args.goal.now c.new-checker.ensures.free
     (refused c.in_ok-done.done c.new-checker.result c.take_head.new.self (λ types instance. AreArguments c.args.known.now types 0 (head_of c.args.known.now c.args.predicate))
     c.if-not-done.true
@@ -36,7 +37,7 @@ pub loop-index-init : goal.loop-index-init
 loop-index-init c =
     let head : map (type_at c.new-checker.result.graph.table) c.head_numbers.result.now ≡ head_of c.args.known.now c.args.predicate =
     subst (λ (t : List TypeExpr). map (type_at t) c.head_numbers.result.now ≡ head_of c.args.known.now c.args.predicate) (sym (c.new-checker.ensures.table ∙ c.listed.ensures))
-    (numbers_types c.args.declared.now.table c.head_numbers.result.now (head_of c.args.known.now c.args.predicate) (c.head_numbers.ensures c.args.known.now c.requires)) in
+    (numbers_types c.args.declared.now.table c.head_numbers.result.now (head_of c.args.known.now c.args.predicate) (c.head_numbers.ensures c.args.known.now c.requires.declared)) in
     let step = taken c.in_ok-done.done c.new-checker.result c.take_head.new.self
     (λ types instance. AreArguments c.args.known.now types 0 (head_of c.args.known.now c.args.predicate)) c.if-not-done.false
     (subst (λ (l : List TypeExpr). Takes c.in_ok-done.done c.new-checker.result c.take_head.new.self (λ types instance. AreArguments c.args.known.now types 0 l)) head
@@ -120,3 +121,9 @@ returns-clause-some c =
     let less = c.loop-index-test.false in
     let same = c.part_count-count.ensures in
     all_known c.loop-index.checker c.args.known.now (head_of c.args.known.now c.args.predicate) c.args.goal.now c.loop-index.index (omega arith) c.loop-index.invariant.knows
+
+pub returns-clause-table : goal.returns-clause-table
+returns-clause-table c = c.loop-index.invariant.table
+
+pub new-checker-requires : goal.new-checker-requires
+new-checker-requires c = subst (λ (t : List TypeExpr). AreKept t c.args.matchings) (sym c.listed.ensures) c.requires.kept

@@ -2,7 +2,7 @@ use Rattle.std.proofs.Common.{◌≡◌, Bool, true, ap, subst, ◌∙◌, ◌-�
 use Rattle.merc_tree.specs.Types.{TypeExpr}
 use Rattle.merc_type_matching.specs.Matching.{Matches, MatchesIf}
 use Rattle.merc_type_matching.specs.declared.matching.NumberPair.{NumberPair}
-use Rattle.merc_type_matching.specs.declared.matching.PairsOnce.{PairsOnce}
+use Rattle.merc_type_matching.specs.declared.matching.IndependentPairs.{IndependentPairs}
 use Rattle.merc_type_matching.proofs.Pairings.{found_all, found_first, found_more, less_left, part_there}
 use Rattle.merc_type_matching.proofs.matching.pairs_between.Goals as goal
 
@@ -20,7 +20,7 @@ match_part-requires-clause-other c = (part_there c.args.table.now c.loop-part.fo
 pub match_part-requires-clause-met : goal.match_part-requires-clause-met
 match_part-requires-clause-met c = c.loop-part.invariant.met
 
-matched : (table : List TypeExpr) (same : Bool) (part : NumberPair) (old new : PairsOnce) (before after : List NumberPair) → same ≡ true
+matched : (table : List TypeExpr) (same : Bool) (part : NumberPair) (old new : IndependentPairs) (before after : List NumberPair) → same ≡ true
     → MatchesIf table same part old new before after → Matches table part old new before after
 matched table same part old new before after e matches = subst (λ (b : Bool). MatchesIf table b part old new before after) e matches
 

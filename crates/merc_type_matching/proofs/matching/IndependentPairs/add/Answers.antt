@@ -1,6 +1,6 @@
 use Rattle.std.proofs.Common.{refl}
 use Rattle.merc_type_matching.proofs.Pairings.{pair_added, pair_follows}
-use Rattle.merc_type_matching.proofs.matching.PairsOnce.add.Goals as goal
+use Rattle.merc_type_matching.proofs.matching.IndependentPairs.add.Goals as goal
 
 pub returns-in_ok-push : goal.returns-in_ok-push
 returns-in_ok-push c =
