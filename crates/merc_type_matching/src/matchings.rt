@@ -12,12 +12,18 @@ use merc_type_table::TypeTable;
 use std::alloc::Global;
 use std::collections::{BTreeMap, BTreeSet};
 
+// So many pairs are kept in all, which take 64 MB. Where each two types with many type variables are matched once, more would be
+// of no use.
+const MOST_KEPT: usize = 4_000_000;
+
 /// What was found where two declared types of a module were matched. It is kept from one goal of the module to the next, so
 /// that types are not matched anew for each.
 #[derive(Drop)]
 pub struct Matchings {
     // Of types that differ in type variables alone, the pairs of these.
     pairs: BTreeMap<NumberPair, Sequence<NamePair>>,
+    // At most so many pairs are kept in all.
+    count: usize,
     // Types that differ in more than type variables.
     apart: BTreeSet<NumberPair>,
 }
@@ -29,6 +35,7 @@ impl Matchings {
     {
         Matchings {
             pairs: BTreeMap::new(alloc),
+            count: 0,
             apart: BTreeSet::new(alloc),
         }
     }
@@ -53,7 +60,10 @@ impl Matchings {
         ensures matched { IfOk result (λ found. IfSome found (λ pairs. AreMatched pairs (type_at table.now types.one) (type_at table.now types.other))) }
     {
         match self.pairs.remove(&types) {
-            Some(pairs) => Ok(Some(pairs)),
+            Some(pairs) => {
+                self.count = self.count.saturating_sub(pairs.as_slice().len());
+                Ok(Some(pairs))
+            }
             None => self.find(alloc, table, types),
         }
     }
@@ -80,7 +90,7 @@ impl Matchings {
         Ok(found)
     }
 
-    /// Keeps the pairs of type variables of two types.
+    /// Keeps the pairs of type variables of two types. Where they would be too many, those that were kept before are forgotten.
     ///
     /// # Errors
     ///
@@ -88,7 +98,21 @@ impl Matchings {
     pub fn keep(&mut self, types: NumberPair, pairs: Sequence<NamePair>) -> Result<(), NoMemory>
         ensures { OnOk result ((table : List TypeExpr) → AreKept table self.old → AreMatched pairs (type_at table types.one) (type_at table types.other) → AreKept table self.new) }
     {
+        self.count_more(pairs.as_slice().len());
         self.pairs.insert(types, pairs)?;
         Ok(())
+    }
+
+    // Makes room for so many pairs.
+    fn count_more(&mut self, count: usize)
+        ensures { (table : List TypeExpr) → AreKept table self.old → AreKept table self.new }
+    {
+        let counted = self.count.saturating_add(count);
+        if counted <= MOST_KEPT {
+            self.count = counted;
+        } else {
+            self.pairs.clear();
+            self.count = count;
+        }
     }
 }

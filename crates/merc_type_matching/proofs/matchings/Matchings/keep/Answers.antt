@@ -9,5 +9,5 @@ use Rattle.merc_type_matching.proofs.matchings.Matchings.keep.Goals as goal
 
 pub returns : goal.returns
 returns c = λ table kept matched.
-    all_changed compare_numbers numbers-equal (λ (key : NumberPair) (pairs : List NamePair). AreMatched pairs (type_at table key.one) (type_at table key.other)) c.args.self.now.pairs
-    c.insert.new.self c.args.types (Some c.args.pairs) c.in_ok-insert.ensures.updates.0 matched kept
+    all_changed compare_numbers numbers-equal (λ (key : NumberPair) (pairs : List NamePair). AreMatched pairs (type_at table key.one) (type_at table key.other)) c.count_more.new.self.pairs
+    c.insert.new.self c.args.types (Some c.args.pairs) c.in_ok-insert.ensures.updates.0 matched (c.count_more.ensures table kept)
