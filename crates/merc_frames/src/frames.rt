@@ -108,15 +108,12 @@ impl Frames {
         self.slots[self.base + number] = slot;
     }
 
-    /// The place where the newest caller goes on; `None` without a caller.
-    pub fn caller_place(&self) -> Option<usize>
-        ensures { result ≡ caller_place self.now.callers }
+    /// The place where the newest caller goes on. There has to be a caller.
+    pub fn caller_place(&self) -> usize
+        requires there { self.now.callers ≡ [] → ⊥ }
+        ensures { caller_place self.now.callers ≡ Some result }
     {
-        if self.height == 0 {
-            None
-        } else {
-            Some(self.saved[self.height - 1].place)
-        }
+        self.saved[self.height - 1].place
     }
 
     /// A call: the current frame is the newest caller's, which goes on at `place`, and the current one is new. It has `size`

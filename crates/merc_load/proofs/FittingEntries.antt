@@ -1,5 +1,5 @@
 -- What the calls of loaded code pass goes to slots of the called procedures' frames.
-use Rattle.std.specs.Prelude.{◌≡◌, ℕ, zero, Bool, true, false, List, ◌∷◌, Option, Some, None, IfSome, slice_get, refl, if◌then◌else◌}
+use Rattle.std.specs.Prelude.{◌≡◌, ℕ, zero, Bool, true, false, List, ◌∷◌, Option, Some, None, slice_get, refl, if◌then◌else◌}
 use Rattle.std.proofs.Common.{inl, inr, subst, sym}
 use Rattle.merc_tree.specs.declared.declarations.Arg.{Arg}
 use Rattle.merc_graded_tree.specs.declared.basic.Procedure.{Procedure}
@@ -20,60 +20,56 @@ use Rattle.merc_load.specs.declared.loaded.Op.TheVariants.{Call as CallOp, LastC
 use Rattle.merc_load.proofs.Passed.{passed_inside}
 use Rattle.merc_load.proofs.StandingOps.{standing_first}
 
-module _ (entries : List Entry) where
-  -- None of these is a call.
+-- None of these is a call.
 
-  superinstruction_received : (ops : List Op) (new : Op) → IsSuperinstruction ops new → FitsEntry entries new
-  superinstruction_received _ _ (decides slot skipped test ops) = tt
-  superinstruction_received _ _ (tries_test skipped test ops is) = tt
-  superinstruction_received _ _ (tries_result skipped operation to one other compared ops apart) = tt
-  superinstruction_received _ _ (decides_with slot skipped comparison one constant number ops apart) = tt
-  superinstruction_received _ _ (operates_with operation to one constant number ops apart) = tt
-  superinstruction_received _ _ (compares_with comparison one constant number ops apart) = tt
-  superinstruction_received _ _ (jumps_back skipped results ops behind there) = tt
-  superinstruction_received _ _ (returns_result operation to one other ops following) = tt
-  superinstruction_received _ _ (returns_built to symbol arguments ops following) = tt
-  superinstruction_received _ _ (returns_copy to from ops following) = tt
-  superinstruction_received _ _ (decides_all slot skipped tests ops) = tt
-  superinstruction_received _ _ (switches whole targets arms ops each) = tt
-  superinstruction_received _ _ (switches_list whole head tail empty_skipped cell_skipped targets arms ops each list) = tt
+superinstruction_received : (ops : List Op) (new : Op) → IsSuperinstruction ops new → FitsEntry new
+superinstruction_received _ _ (decides slot skipped test ops) = tt
+superinstruction_received _ _ (tries_test skipped test ops is) = tt
+superinstruction_received _ _ (tries_result skipped operation to one other compared ops apart) = tt
+superinstruction_received _ _ (decides_with slot skipped comparison one constant number ops apart) = tt
+superinstruction_received _ _ (operates_with operation to one constant number ops apart) = tt
+superinstruction_received _ _ (compares_with comparison one constant number ops apart) = tt
+superinstruction_received _ _ (jumps_back skipped results ops behind there) = tt
+superinstruction_received _ _ (returns_result operation to one other ops following) = tt
+superinstruction_received _ _ (returns_built to symbol arguments ops following) = tt
+superinstruction_received _ _ (returns_copy to from ops following) = tt
+superinstruction_received _ _ (decides_all slot skipped tests ops) = tt
+superinstruction_received _ _ (switches whole targets arms ops each) = tt
+superinstruction_received _ _ (switches_list whole head tail empty_skipped cell_skipped targets arms ops each list) = tt
 
-  leaving_received : (codes : Codes) (own : Option (List Arg)) (code : Code) (new : Op) → LeavesOut codes own code new → FitsEntry entries new
-  leaving_received codes own _ _ (decides_number mark skipped comparison one constant number rest apart unread held failed) = tt
-  leaving_received codes own _ _ (decides_test mark skipped test rest is held failed) = tt
-  leaving_received codes own _ _ (decides_integer mark skipped whole number rest held failed) = tt
-  leaving_received codes own _ _ (decides_result mark skipped operation to one constant number due rest apart unread unread_result held failed) = tt
-  leaving_received codes own _ _ (operates_number operation to one constant number rest apart unread) = tt
+leaving_received : (codes : Codes) (own : Option (List Arg)) (code : Code) (new : Op) → LeavesOut codes own code new → FitsEntry new
+leaving_received codes own _ _ (decides_number mark skipped comparison one constant number rest apart unread held failed) = tt
+leaving_received codes own _ _ (decides_test mark skipped test rest is held failed) = tt
+leaving_received codes own _ _ (decides_integer mark skipped whole number rest held failed) = tt
+leaving_received codes own _ _ (decides_result mark skipped operation to one constant number due rest apart unread unread_result held failed) = tt
+leaving_received codes own _ _ (operates_number operation to one constant number rest apart unread) = tt
 
-  stands_received : (codes : Codes) (own : Option (List Arg)) (instruction : Instruction) (rest : Code) (op : Op) (ops : List Op) (new : Op) → StandsThere codes own instruction rest op ops new → FitsEntry entries op
-      → FitsEntry entries new
-  stands_received codes own instruction rest op ops new (inl same) listed = subst (FitsEntry entries) (sym same) listed
-  stands_received codes own instruction rest op ops new (inr (inl several)) listed = superinstruction_received (op ∷ ops) new several
-  stands_received codes own instruction rest op ops new (inr (inr leaves)) listed = leaving_received codes own (instruction ∷ rest) new leaves
+stands_received : (codes : Codes) (own : Option (List Arg)) (instruction : Instruction) (rest : Code) (op : Op) (ops : List Op) (new : Op) → StandsThere codes own instruction rest op ops new → FitsEntry op
+    → FitsEntry new
+stands_received codes own instruction rest op ops new (inl same) listed = subst FitsEntry (sym same) listed
+stands_received codes own instruction rest op ops new (inr (inl several)) listed = superinstruction_received (op ∷ ops) new several
+stands_received codes own instruction rest op ops new (inr (inr leaves)) listed = leaving_received codes own (instruction ∷ rest) new leaves
 
 -- Given is a loaded program, and of the code that is loaded what it belongs to.
-module _ (program : Loaded) (codes : Codes) (number_of : Procedure → ℕ) (query : Code) (loaded : IsLoaded program codes number_of query) (variables : ℕ) (own : Option (List Arg)) where
+module _ (program : Loaded) (codes : Codes) (entry_of : Procedure → Entry) (query : Code) (loaded : IsLoaded program codes entry_of query) (variables : ℕ) (own : Option (List Arg)) where
   call_received : (procedure : Procedure) (called : Option ProcedureCode) (arguments : List ℕ) (rest : Code) → codes procedure ≡ called
-      → FitsEntry program.entries.items (call_op codes number_of variables own (number_of procedure) called arguments rest)
+      → FitsEntry (call_op codes entry_of variables own (entry_of procedure) called arguments rest)
   call_received procedure None arguments rest is = tt
   call_received procedure (Some code) arguments rest is = by (is_last_of own rest (outputs code.places arguments))
     where
-      received : IfSome (slice_get program.entries.items (number_of procedure)) (λ (entry : Entry). AreReceived entry.size (inputs zero code.places arguments))
-      received =
-          let there = loaded.procedures procedure code is in
-          subst (λ found. IfSome found (λ (entry : Entry). AreReceived entry.size (inputs zero code.places arguments))) (sym there.found)
-          (passed_inside program codes number_of procedure code there arguments)
+      received : AreReceived (entry_of procedure).size (inputs zero code.places arguments)
+      received = passed_inside program codes entry_of procedure code (loaded.procedures procedure code is) arguments
 
-      by : (last : Bool) → FitsEntry program.entries.items (if last then LastCall (number_of procedure) (inputs zero code.places arguments) else CallOp (number_of procedure) (inputs zero code.places arguments) (outputs code.places arguments))
+      by : (last : Bool) → FitsEntry (if last then LastCall (entry_of procedure) (inputs zero code.places arguments) else CallOp (entry_of procedure) (inputs zero code.places arguments) (outputs code.places arguments))
       by true = received
       by false = received
 
-  op_received : (instruction : Instruction) (rest : Code) → FitsEntry program.entries.items (op_of codes number_of variables own instruction rest)
+  op_received : (instruction : Instruction) (rest : Code) → FitsEntry (op_of codes entry_of variables own instruction rest)
   op_received (Call procedure arguments) rest = call_received procedure (codes procedure) arguments rest refl
   op_received instruction rest = tt
 
-  pub standing_received : (place size : ℕ) (instruction : Instruction) (rest : Code) (op : Op) → StandsAt program.ops.items codes number_of place size variables own (instruction ∷ rest)
-      → slice_get program.ops.items place ≡ Some op → FitsEntry program.entries.items op
+  pub standing_received : (place size : ℕ) (instruction : Instruction) (rest : Code) (op : Op) → StandsAt program.ops.items codes entry_of place size variables own (instruction ∷ rest)
+      → slice_get program.ops.items place ≡ Some op → FitsEntry op
   standing_received place size instruction rest op stands found =
-      stands_received program.entries.items codes own instruction rest (op_of codes number_of variables own instruction rest) (ops_of codes number_of variables own rest) op
-      (standing_first program.ops.items codes number_of place size variables own instruction rest op stands found) (op_received instruction rest)
+      stands_received codes own instruction rest (op_of codes entry_of variables own instruction rest) (ops_of codes entry_of variables own rest) op
+      (standing_first program.ops.items codes entry_of place size variables own instruction rest op stands found) (op_received instruction rest)

@@ -11,6 +11,7 @@ use Rattle.merc_code.specs.declared.instruction.Instruction.TheVariants.{Integer
 use Rattle.merc_code.specs.declared.instruction.Target.{Target}
 use Rattle.merc_code.specs.Steps.{Code, Codes, ProcedureCode}
 use Rattle.merc_last_calls.specs.LastCalls.{outputs}
+use Rattle.merc_load.specs.declared.loaded.Entry.{Entry}
 use Rattle.merc_load.specs.Combined.{StandsThere}
 use Rattle.merc_load.specs.Entries.{Each}
 use Rattle.merc_frames.specs.Rooms.{AreSlots}
@@ -37,15 +38,15 @@ module _ (variables slots size : ℕ) (room : variables ≤ size) where
   second one other others below = let e : other < variables = below 1 one (omega arith) in omega (arith, e, room)
 
   pub has_slots : (instruction : Instruction) → FitsInstruction variables slots instruction → HasSlots size instruction
-  has_slots (Integer to number) f = first to [] f.variables_are_there
-  has_slots (Text to text) f = first to [] f.variables_are_there
-  has_slots (Copy to from) f = (first to [] f.variables_are_there, first from [] f.read_variables_are_there)
-  has_slots (Build to symbol arguments) f = (first to [] f.variables_are_there, wider arguments f.read_variables_are_there)
-  has_slots (Split whole symbol arguments) f = (first whole [] f.read_variables_are_there, wider arguments f.variables_are_there)
+  has_slots (Integer to number) f = first to [] f.written_variables_are_there
+  has_slots (Text to text) f = first to [] f.written_variables_are_there
+  has_slots (Copy to from) f = (first to [] f.written_variables_are_there, first from [] f.read_variables_are_there)
+  has_slots (Build to symbol arguments) f = (first to [] f.written_variables_are_there, wider arguments f.read_variables_are_there)
+  has_slots (Split whole symbol arguments) f = (first whole [] f.read_variables_are_there, wider arguments f.written_variables_are_there)
   has_slots (Literal whole symbol) f = first whole [] f.read_variables_are_there
   has_slots (Test one other) f = (first one (other ∷ []) f.read_variables_are_there, second one other [] f.read_variables_are_there)
   has_slots (Arithmetic operation to one other) f =
-      (first to [] f.variables_are_there, first one (other ∷ []) f.read_variables_are_there, second one other [] f.read_variables_are_there)
+      (first to [] f.written_variables_are_there, first one (other ∷ []) f.read_variables_are_there, second one other [] f.read_variables_are_there)
   has_slots (Compare comparison one other) f = (first one (other ∷ []) f.read_variables_are_there, second one other [] f.read_variables_are_there)
   has_slots (Raise text) f = first text [] f.read_variables_are_there
   has_slots (Switch whole targets) f = first whole [] f.read_variables_are_there
@@ -164,35 +165,35 @@ module _ (size : ℕ) where
       (operated.0, operated.1)
 
 -- Given is what the loaded code belongs to. The results of the procedure whose code it is are variables.
-module _ (codes : Codes) (number_of : Procedure → ℕ) (variables size : ℕ) (own : Option (List Arg)) (room : variables ≤ size) (results : All (λ (variable : ℕ). variable < variables) (results_of own)) where
-  call_fits : (number : ℕ) (called : Option ProcedureCode) (arguments : List ℕ) (rest : Code) → AreSlots size arguments → FitsOp size (call_op codes number_of variables own number called arguments rest)
-  call_fits number None arguments rest slots = tt
-  call_fits number (Some procedure) arguments rest slots = by (is_last_of own rest (outputs procedure.places arguments))
+module _ (codes : Codes) (entry_of : Procedure → Entry) (variables size : ℕ) (own : Option (List Arg)) (room : variables ≤ size) (results : All (λ (variable : ℕ). variable < variables) (results_of own)) where
+  call_fits : (entry : Entry) (called : Option ProcedureCode) (arguments : List ℕ) (rest : Code) → AreSlots size arguments → FitsOp size (call_op codes entry_of variables own entry called arguments rest)
+  call_fits entry None arguments rest slots = tt
+  call_fits entry (Some procedure) arguments rest slots = by (is_last_of own rest (outputs procedure.places arguments))
     where
-      by : (last : Bool) → FitsOp size (if last then LastCall number (inputs zero procedure.places arguments) else CallOp number (inputs zero procedure.places arguments) (outputs procedure.places arguments))
+      by : (last : Bool) → FitsOp size (if last then LastCall entry (inputs zero procedure.places arguments) else CallOp entry (inputs zero procedure.places arguments) (outputs procedure.places arguments))
       by true = inputs_from size zero procedure.places arguments slots
       by false = (inputs_from size zero procedure.places arguments slots, outputs_below size procedure.places arguments slots)
 
   mark_fits : (mark : ℕ) → All (λ (mark : ℕ). variables + mark < size) (mark ∷ []) → variables + mark < size
   mark_fits mark marks = All-head (λ (mark : ℕ). variables + mark < size) mark [] marks
 
-  op_fits : (instruction : Instruction) (rest : Code) → FitsInstruction variables size instruction → FitsOp size (op_of codes number_of variables own instruction rest)
+  op_fits : (instruction : Instruction) (rest : Code) → FitsInstruction variables size instruction → FitsOp size (op_of codes entry_of variables own instruction rest)
   op_fits (Jump skipped) rest f = tt
   op_fits (Switch whole targets) rest f = has_slots variables size size room (Switch whole targets) f
   op_fits (Try skipped) rest f = tt
-  op_fits (Mark mark) rest f = mark_fits mark f.marks_are_there
+  op_fits (Mark mark) rest f = mark_fits mark f.set_marks_are_there
   op_fits (Commit mark) rest f = mark_fits mark f.read_marks_are_there
   op_fits (Soften mark) rest f = mark_fits mark f.read_marks_are_there
-  op_fits (Call procedure arguments) rest f = call_fits (number_of procedure) (codes procedure) arguments rest (has_slots variables size size room (Call procedure arguments) f)
+  op_fits (Call procedure arguments) rest f = call_fits (entry_of procedure) (codes procedure) arguments rest (has_slots variables size size room (Call procedure arguments) f)
   op_fits Return rest f = wider variables size size room (results_of own) results
   op_fits Fail rest f = tt
   op_fits (Answer answers) rest f = has_slots variables size size room (Answer answers) f
   op_fits instruction rest f = has_slots variables size size room instruction f
 
-  ops_fit : (code : Code) → FitsCode variables size code → All (FitsOp size) (ops_of codes number_of variables own code)
+  ops_fit : (code : Code) → FitsCode variables size code → All (FitsOp size) (ops_of codes entry_of variables own code)
   ops_fit [] fits = All-nil (FitsOp size)
   ops_fit (instruction ∷ rest) fits =
-      All-cons (FitsOp size) (op_of codes number_of variables own instruction rest) (ops_of codes number_of variables own rest)
+      All-cons (FitsOp size) (op_of codes entry_of variables own instruction rest) (ops_of codes entry_of variables own rest)
       (op_fits instruction rest (All-head (FitsInstruction variables size) instruction rest fits)) (ops_fit rest (All-tail (FitsInstruction variables size) instruction rest fits))
 
   stands_fits : (instruction : Instruction) (rest : Code) (op : Op) (ops : List Op) (new : Op) → StandsThere codes own instruction rest op ops new → All (FitsOp size) (op ∷ ops) → FitsCode variables size (instruction ∷ rest)
@@ -203,8 +204,8 @@ module _ (codes : Codes) (number_of : Procedure → ℕ) (variables size : ℕ) 
       leaving_fits size codes own (instruction ∷ rest) new leaves
       (All-weaker (FitsInstruction variables size) (HasSlots size) (has_slots variables size size room) (instruction ∷ rest) fits)
 
-  pub standing_fits : (ops : List Op) (place : ℕ) (instruction : Instruction) (rest : Code) (op : Op) → StandsAt ops codes number_of place size variables own (instruction ∷ rest) → slice_get ops place ≡ Some op
+  pub standing_fits : (ops : List Op) (place : ℕ) (instruction : Instruction) (rest : Code) (op : Op) → StandsAt ops codes entry_of place size variables own (instruction ∷ rest) → slice_get ops place ≡ Some op
       → FitsOp size op
   standing_fits ops place instruction rest op stands found =
-      stands_fits instruction rest (op_of codes number_of variables own instruction rest) (ops_of codes number_of variables own rest) op
-      (standing_first ops codes number_of place size variables own instruction rest op stands found) (ops_fit (instruction ∷ rest) stands.fits) stands.fits
+      stands_fits instruction rest (op_of codes entry_of variables own instruction rest) (ops_of codes entry_of variables own rest) op
+      (standing_first ops codes entry_of place size variables own instruction rest op stands found) (ops_fit (instruction ∷ rest) stands.fits) stands.fits

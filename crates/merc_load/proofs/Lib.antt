@@ -1,9 +1,9 @@
 pub mod Combined
 pub mod FittingEntries
 pub mod FittingOps
+pub mod KnownProcedures
 pub mod LeavingOut
 pub mod Lists
-pub mod Numbers
 pub mod Ops
 pub mod Passed
 pub mod Returning

@@ -9,6 +9,7 @@ use Rattle.merc_graded_tree.specs.declared.basic.Procedure.{Procedure}
 use Rattle.merc_code.specs.Steps.{Codes, ProcedureCode}
 use Rattle.merc_last_calls.specs.LastCalls.{outputs, own_outputs}
 use Rattle.merc_frames.specs.declared.passing.Pass.{Pass}
+use Rattle.merc_load.specs.declared.loaded.Entry.{Entry}
 use Rattle.merc_load.specs.Loaded.{IsEntry, inputs, results_of}
 use Rattle.merc_load.specs.declared.loaded.Loaded.{Loaded}
 
@@ -50,6 +51,6 @@ module _ (count : ℕ) where
       (outputs_below places arguments (All-tail (λ (variable : ℕ). variable < count) argument arguments below))
 
 -- What is passed to a procedure that is there goes to slots of the frames of its entry.
-pub passed_inside : (program : Loaded) (codes : Codes) (number_of : Procedure → ℕ) (procedure : Procedure) (code : ProcedureCode) (e : IsEntry program codes number_of procedure code) (arguments : List ℕ)
-    → All (λ (pass : Pass). pass.to < e.entry.size) (inputs zero code.places arguments)
-passed_inside program codes number_of procedure code e arguments = inputs_to e.entry.size zero code.places arguments (omega (arith, e.arguments, e.room))
+pub passed_inside : (program : Loaded) (codes : Codes) (entry_of : Procedure → Entry) (procedure : Procedure) (code : ProcedureCode) (e : IsEntry program codes entry_of procedure code) (arguments : List ℕ)
+    → All (λ (pass : Pass). pass.to < (entry_of procedure).size) (inputs zero code.places arguments)
+passed_inside program codes entry_of procedure code e arguments = inputs_to (entry_of procedure).size zero code.places arguments (omega (arith, e.arguments, e.room))

@@ -5,6 +5,7 @@ use Rattle.merc_tree.specs.declared.declarations.Arg.{Arg}
 use Rattle.merc_graded_tree.specs.declared.basic.Procedure.{Procedure}
 use Rattle.merc_code.specs.declared.instruction.Instruction.{Instruction}
 use Rattle.merc_code.specs.Steps.{Code, Codes}
+use Rattle.merc_load.specs.declared.loaded.Entry.{Entry}
 use Rattle.merc_load.specs.Combined.{AreCombined, StandsThere, next, none}
 use Rattle.merc_load.specs.Loaded.{StandsAt, op_of, ops_of}
 use Rattle.merc_load.specs.declared.loaded.Op.{Op}
@@ -25,9 +26,9 @@ module _ (codes : Codes) (own : Option (List Arg)) where
   first_stands _ _ _ behind new none found = tt
   first_stands _ _ _ behind new (next instruction rest op ops first here stands others) found = subst (StandsThere codes own instruction rest op ops) (some_same first new found) stands
 
-pub standing_first : (ops : List Op) (codes : Codes) (number_of : Procedure → ℕ) (place size variables : ℕ) (own : Option (List Arg)) (instruction : Instruction) (rest : Code) (new : Op)
-    → StandsAt ops codes number_of place size variables own (instruction ∷ rest) → slice_get ops place ≡ Some new
-    → StandsThere codes own instruction rest (op_of codes number_of variables own instruction rest) (ops_of codes number_of variables own rest) new
-standing_first ops codes number_of place size variables own instruction rest new stands found =
-    first_stands codes own (instruction ∷ rest) (ops_of codes number_of variables own (instruction ∷ rest)) stands.here stands.behind new stands.combined
+pub standing_first : (ops : List Op) (codes : Codes) (entry_of : Procedure → Entry) (place size variables : ℕ) (own : Option (List Arg)) (instruction : Instruction) (rest : Code) (new : Op)
+    → StandsAt ops codes entry_of place size variables own (instruction ∷ rest) → slice_get ops place ≡ Some new
+    → StandsThere codes own instruction rest (op_of codes entry_of variables own instruction rest) (ops_of codes entry_of variables own rest) new
+standing_first ops codes entry_of place size variables own instruction rest new stands found =
+    first_stands codes own (instruction ∷ rest) (ops_of codes entry_of variables own (instruction ∷ rest)) stands.here stands.behind new stands.combined
     (ap (λ listed. slice_get listed 0) (sym stands.there) ∙ item_behind ops place ∙ found)

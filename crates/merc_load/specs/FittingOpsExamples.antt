@@ -1,5 +1,5 @@
 -- Worked examples of instructions of the machine that fit frames.
-use Rattle.std.specs.Prelude.{ℕ, ◌<◌, List, [], ◌∷◌, None, IfSome}
+use Rattle.std.specs.Prelude.{ℕ, ◌<◌, [], ◌∷◌, None, IfSome}
 use Rattle.std.proofs.Common.{arith}
 use Rattle.std.proofs.lemmas.List.Elements.{All-from_recursion}
 use Rattle.merc_goal_tree.specs.declared.goal.Operation.TheVariants.{Subtract}
@@ -24,11 +24,15 @@ arithmetic-not f = let h : 3 < 3 = f.2 in absurd (omega (arith, h))
 fail-example : FitsOp 0 Fail
 fail-example = tt
 
+-- the entry of a procedure, whose frames have two slots
+abbrev entry : Entry
+entry = record { place = 0; size = 2 }
+
 -- It does not matter what number of slots the called procedure's frame has.
-call-example : FitsOp 3 (Call 0 (record { from = 2; to = 7 } ∷ []) (1 ∷ []))
+call-example : FitsOp 3 (Call entry (record { from = 2; to = 7 } ∷ []) (1 ∷ []))
 call-example = (All-from_recursion (λ (pass : Pass). pass.from < 3) (record { from = 2; to = 7 } ∷ []) (omega arith, tt), All-from_recursion (λ (slot : ℕ). slot < 3) (1 ∷ []) (omega arith, tt))
 
-call-not : FitsOp 3 (Call 0 (record { from = 3; to = 0 } ∷ []) []) → ⊥
+call-not : FitsOp 3 (Call entry (record { from = 3; to = 0 } ∷ []) []) → ⊥
 call-not f = let h : 3 < 3 = f.0 0 (record { from = 3; to = 0 }) (omega arith) in absurd (omega (arith, h))
 
 -- the mark has no slot
@@ -45,14 +49,9 @@ switch-example = (
 switch-not : FitsOp 3 (SwitchFields 0 (cell_arm 1 3 2 ∷ [])) → ⊥
 switch-not f = let h : 3 < 3 = f.1 0 (cell_arm 1 3 2) (omega arith) 1 0 (omega arith) in absurd (omega (arith, h))
 
--- one procedure, whose frames have two slots
-
-abbrev entries : List Entry
-entries = record { place = 0; size = 2 } ∷ []
-
 -- It does not matter from where something is passed.
-entry-example : FitsEntry entries (Call 0 (record { from = 7; to = 1 } ∷ []) (7 ∷ []))
+entry-example : FitsEntry (Call entry (record { from = 7; to = 1 } ∷ []) (7 ∷ []))
 entry-example = All-from_recursion (λ (pass : Pass). pass.to < 2) (record { from = 7; to = 1 } ∷ []) (omega arith, tt)
 
-entry-not : FitsEntry entries (LastCall 0 (record { from = 0; to = 2 } ∷ [])) → ⊥
+entry-not : FitsEntry (LastCall entry (record { from = 0; to = 2 } ∷ [])) → ⊥
 entry-not f = let h : 2 < 2 = f 0 (record { from = 0; to = 2 }) (omega arith) in absurd (omega (arith, h))

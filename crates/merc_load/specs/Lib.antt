@@ -9,6 +9,7 @@ pub mod FramesExamples
 pub mod LeavingOut
 pub mod LeavingOutExamples
 pub mod Linking
+pub mod LinkingExamples
 pub mod Loaded
 pub mod LoadedExamples
 pub mod Sizes

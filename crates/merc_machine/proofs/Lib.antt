@@ -2,6 +2,7 @@ pub mod Advancing
 pub mod Asking
 pub mod Attempts
 pub mod CallSteps
+pub mod Callers
 pub mod ChoicePoints
 pub mod Choosing
 pub mod Combining

@@ -1,5 +1,5 @@
 //! Calls, returns and choice points.
-ghost use Rattle.std.specs.Prelude.{◌≡◌, ◌<◌, [], ◌∷◌, List, length, slice_get, slice_set, OnOk};
+ghost use Rattle.std.specs.Prelude.{◌≡◌, ◌<◌, [], ◌∷◌, List, length, Some, slice_get, slice_set, OnOk};
 ghost use Rattle.merc_frames.specs.Stacks.{Caller, GoesOn, caller_place, oldest, softened};
 ghost use Rattle.merc_frames.specs.declared.slot.Slot.{Slot};
 ghost use Rattle.merc_store.specs.Data.{with_choices, with_current};
@@ -45,9 +45,10 @@ impl Store {
         self.frames.renew(size, inputs)
     }
 
-    /// Where the newest caller goes on; `None` without one.
-    pub fn caller_place(&self) -> Option<usize>
-        ensures { result ≡ caller_place self.now.stacks.callers }
+    /// Where the newest caller goes on. There has to be a caller.
+    pub fn caller_place(&self) -> usize
+        requires there { self.now.stacks.callers ≡ [] → ⊥ }
+        ensures { caller_place self.now.stacks.callers ≡ Some result }
     {
         self.frames.caller_place()
     }
