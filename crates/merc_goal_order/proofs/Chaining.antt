@@ -23,6 +23,7 @@ use Rattle.merc_simple_goals.specs.Writing.{IsWritten, Gives}
 use Rattle.merc_goal_facts.specs.Outside.{IsStretch}
 use Rattle.merc_readiness.specs.Sweeps.{AreKnownFrom}
 use Rattle.merc_simple_goals.specs.declared.written.Written.{Written}
+use Rattle.merc_agenda.proofs.Stretches.{stretch_front, stretch_back, known_next, next_stretch, place_is}
 use Rattle.merc_goal_order.specs.Linked.{ending, Guarded, GuardGives, Chain, outermost, inside, Within, Closing, CloseGives}
 use Rattle.merc_goal_order.specs.Walks.{AreWritten}
 use Rattle.merc_goal_facts.specs.declared.facts.Facts.{Facts}
@@ -30,7 +31,6 @@ use Rattle.merc_goal_order.specs.declared.links.Link.{Link}
 use Rattle.merc_readiness.proofs.Binding.{next_known}
 use Rattle.merc_goal_order.proofs.Emitted.{decision_written, none_written, written_on, written_one, one_written, all_written}
 use Rattle.merc_readiness.proofs.Marking.{known_split, known_length, subgoals_length}
-use Rattle.merc_goal_order.proofs.Walked.{stretch_front, stretch_back, known_next, next_stretch, place_is}
 
 -- the condition and the then part
 

@@ -7,5 +7,4 @@ pub mod Chaining
 pub mod Beside
 pub mod Agreeing
 pub mod Resuming
-pub mod Awaiting
 pub mod Freeing

@@ -25,21 +25,22 @@ use Rattle.merc_readiness.specs.Asking.{flags_of, joined_by, Fits, more, IsMarke
 use Rattle.merc_readiness.specs.Sweeps.{Extends, AreKnownFrom}
 use Rattle.merc_simple_goals.specs.Writing.{Gives}
 use Rattle.merc_simple_goals.specs.declared.written.Written.{Written}
-use Rattle.merc_goal_order.specs.Agenda.{start_at, StandAt, Ascends, inside, awaits, IsTaken, AwaitsAgain}
+use Rattle.merc_agenda.specs.Agenda.{start_at, Ascends, inside, awaits, IsTaken, AwaitsAgain}
+use Rattle.merc_agenda.proofs.Positions.{at_is, head_is, index_within, variables_next, variables_longer, rest_from}
+use Rattle.merc_agenda.proofs.Stretches.{known_next, next_stretch}
 use Rattle.merc_goal_order.specs.Conjuncts.{HasGone, Goes, Stays, GoesIfReady, TellsFirst, Passing, went_at, AskedAreStuck, Amid, AskGives, NextGives}
-use Rattle.merc_goal_order.specs.Positions.{variables_before, IsAt, IsPlaced, IsNext}
+use Rattle.merc_agenda.specs.Positions.{variables_before, IsAt, IsPlaced}
 use Rattle.merc_goal_order.specs.Walks.{GivesAll, behind_them, all_settled}
-use Rattle.merc_goal_order.specs.declared.agenda.Agenda.{Agenda}
-use Rattle.merc_goal_order.specs.declared.agenda.Start.{Start}
+use Rattle.merc_agenda.specs.declared.agenda.Agenda.{Agenda}
+use Rattle.merc_agenda.specs.declared.agenda.Start.{Start}
 use Rattle.merc_readiness.proofs.Binding.{next_known, bound_behind}
 use Rattle.merc_readiness.proofs.Blank.{inner_marks, all_blank, all_blank_fits, all_blank_flags, all_left, left_sound}
 use Rattle.merc_readiness.proofs.Conjunctions.{left_length}
 use Rattle.merc_readiness.proofs.Marking.{marks_length, own_mark, middle, put_middle, parts_length, subgoals_end, all_subgoals_length}
 use Rattle.merc_goal_order.proofs.Agreeing.{from_same}
 use Rattle.merc_goal_order.proofs.Emitted.{none_written, behind_on, written_on}
-use Rattle.merc_goal_order.proofs.Resuming.{at_is, own_is, head_is, index_within, variables_next, variables_longer, known_from, rest_from, agrees, left_before, stuck_before, Apart, apart}
+use Rattle.merc_goal_order.proofs.Resuming.{own_is, agrees, left_before, stuck_before, Apart, apart}
 use Rattle.merc_goal_order.proofs.Settling.{settled_goes, told_fault, told_ready}
-use Rattle.merc_goal_order.proofs.Walked.{known_next, next_stretch, stretch_within}
 use Rattle.merc_goal_order.proofs.Wholes.{known_own}
 
 -- a goal's own mark is set
@@ -74,18 +75,6 @@ pub gone_by : (goal : Node) (flags : List Bool) (index : ℕ) → length flags �
 gone_by goal flags index h own =
     let l = last_of flags index (omega (arith, h, own)) in
     own_by goal flags l.front l.back l.own index l.is l.long (h ∙ sym own) h
-
--- where the goals begin
-
-pub within_goals : (goals : List Node) (starts : List Start) (index asked : ℕ) → StandAt goals starts → index < asked → asked < length starts → index < length goals
-within_goals goals starts index asked stands h room = let long = stands.0 in omega (arith, long, h, room)
-
-pub at_start : (goals : List Node) (starts : List Start) (index asked : ℕ) (here : Start) → StandAt goals starts → index < asked → asked < length starts → here ≡ start_at starts index → IsAt goals index here.at
-at_start goals starts index asked here stands h room is = subst (λ s. IsAt goals index s.at) (sym is) (stands.1 index (omega (arith, h, room)))
-
-pub placed_start : (goals : List Node) (starts : List Start) (start index asked : ℕ) (here : Start) → ((other : ℕ) → other < length starts → IsPlaced start goals other (start_at starts other).place)
-    → index < asked → asked < length starts → here ≡ start_at starts index → IsPlaced start goals index here.place
-placed_start goals starts start index asked here placed h room is = subst (λ s. IsPlaced start goals index s.place) (sym is) (placed index (omega (arith, h, room)))
 
 module _ (total : ℕ → ℕ) (modes : ℕ → List ModeDecl) where
   pub own_of : (goal : Node) (facts : List Facts) (own : ℕ) (found : Facts) → AreKnown total modes (subgoals goal) facts → suc own ≡ length (parts_of goal) → found ≡ slice_index_or facts own found
@@ -196,20 +185,6 @@ module _ (total : ℕ → ℕ) (modes : ℕ → List ModeDecl) where
 
   since_is : (old new : List ℕ) (mark : ℕ) → Extends old new → mark ≡ length old → new ≡ old ++ drop mark new
   since_is old new mark (extra, is) h = is ∙ ap (λ l. old ++ l) (sym (ap (λ l. drop mark l) is ∙ drop_at old extra mark (sym h)))
-
-  -- where the next goal begins
-
-  pub placed_next : (goals rest : List Node) (index at start place next next_place : ℕ) (facts : List Facts) (all : List ℕ) (goal : Node) → drop index goals ≡ goal ∷ rest → next ≡ suc index → IsAt goals index at
-      → AreKnown total modes (all_subgoals (nodes_of goals)) facts → IsStretch total all start (start + length (all_variables (nodes_of goals))) (all_variables (nodes_of goals)) → IsPlaced start goals index place
-      → IsNext goal facts all at place next_place → IsPlaced start goals next next_place
-  placed_next goals rest index at start place next next_place facts all goal there next_is is known stretch placed behind =
-      let few = stretch_within total all place (place + length (variables goal ++ all_variables (nodes_of rest))) (variables goal ++ all_variables (nodes_of rest))
-      (rest_from total all start goals rest index place goal there placed stretch) in
-      let longer : length (variables_before goals next) ≡ length (variables_before goals index) + length (variables goal) =
-      ap (λ n. length (variables_before goals n)) next_is ∙ ap (λ l. length l) (variables_next goals index goal rest there) ∙ length-append (variables_before goals index) (variables goal) in
-      let here : next_place ≡ place + length (variables goal) = behind total modes (nodes_of rest) (known_from total modes goals rest index at facts goal there is known)
-      (omega (arith, few, length-append (variables goal) (all_variables (nodes_of rest)))) in
-      omega (arith, here, placed, longer)
 
   -- the goal of an index is asked
 

@@ -2,7 +2,7 @@
 use Rattle.std.specs.Prelude.{◌≡◌, ◌≤◌, ◌<◌, ◌+◌, ◌-◌, ℕ, true, false, List, [], ◌∷◌, ◌++◌, length, take, drop, None, Ok, Err, if◌then◌else◌}
 use Rattle.std.specs.List.{slice_index_or}
 use Rattle.std.proofs.Common.{◌∙◌, ap, sym, subst, arith}
-use Rattle.std.proofs.lemmas.List.{length-append, take_at, get_or_at, drop_more}
+use Rattle.std.proofs.lemmas.List.{length-append, take_at, get_or_at}
 use Rattle.merc_base.specs.declared.place.Span.{Span}
 use Rattle.merc_base.specs.declared.refusal.Fault.{Fault}
 use Rattle.merc_base.specs.declared.refusal.Fault.TheVariants.{Refused, NoMemory}
@@ -23,13 +23,10 @@ use Rattle.merc_readiness.specs.Sweeps.{Extends}
 use Rattle.merc_simple_goals.specs.Writing.{Gives}
 use Rattle.merc_simple_goals.specs.declared.written.Written.{Written}
 use Rattle.merc_goal_facts.specs.declared.facts.Facts.{Facts}
+use Rattle.merc_agenda.proofs.Positions.{next_item}
 use Rattle.merc_goal_order.specs.Walks.{GivesAll, ordereds_of, all_settled}
 use Rattle.merc_goal_order.proofs.Emitted.{choice_written, sequence_written, beside_written, denial_written, within_written}
-use Rattle.merc_readiness.proofs.Marking.{known_split, known_length, parts_length}
-
--- the next of a list
-pub next_item : {X : Type 0} (items : List X) (index : ℕ) (item : X) → index < length items → item ≡ slice_index_or items index item → drop index items ≡ item ∷ drop (index + 1) items
-next_item items index item room is = drop_more items index item room ∙ ap (λ x. x ∷ drop (index + 1) items) (sym is)
+use Rattle.merc_readiness.proofs.Marking.{known_split, known_length}
 
 module _ (goals : List Node) (index : ℕ) (goal : Node) (at count : ℕ) (room : index < length goals) (is : goal ≡ slice_index_or goals index goal) (counts : count ≡ length (parts_of goal))
     (lies : at + length (all_parts (nodes_of (drop index goals))) ≡ length (all_parts (nodes_of goals))) where
@@ -41,9 +38,6 @@ module _ (goals : List Node) (index : ℕ) (goal : Node) (at count : ℕ) (room 
 
   pub at_behind : at + count + length (all_parts (nodes_of (drop (index + 1) goals))) ≡ length (all_parts (nodes_of goals))
   at_behind = omega (arith, counts, lies_next, length-append (parts_of goal) (all_parts (nodes_of (drop (index + 1) goals))))
-
-pub some_parts : (goal : Node) (count : ℕ) → count ≡ length (parts_of goal) → 1 ≤ count
-some_parts goal count h = omega (arith, h, parts_length goal)
 
 pub undone_is : (old new undone : List ℕ) (mark : ℕ) → Extends old new → mark ≡ length old → undone ≡ take mark new → undone ≡ old
 undone_is old new undone mark (extra, is) h u = u ∙ ap (λ l. take mark l) is ∙ take_at old extra mark (sym h)

@@ -2,10 +2,6 @@ pub mod Walking
 pub mod WalkingExamples
 pub mod Walks
 pub mod WalksExamples
-pub mod Positions
-pub mod PositionsExamples
-pub mod Agenda
-pub mod AgendaExamples
 pub mod Conjuncts
 pub mod ConjunctsExamples
 pub mod Linked

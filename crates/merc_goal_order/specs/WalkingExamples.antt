@@ -4,8 +4,9 @@ use Rattle.merc_base.specs.declared.refusal.Fault.TheVariants.{Refused}
 use Rattle.merc_order.specs.Procedures.{modes_of}
 use Rattle.merc_goal_facts.specs.Facts.{AreFactsOf}
 use Rattle.merc_goal_facts.specs.declared.facts.Facts.{Facts}
+use Rattle.merc_agenda.specs.GoalsExamples.{body, in_body, truth, unready, true_facts, no_stretch}
 use Rattle.merc_goal_order.specs.Walking.{Orders}
-use Rattle.merc_goal_order.specs.WalksExamples.{body, in_body, truth, unready, never, done, true_facts, no_stretch, clean, one}
+use Rattle.merc_goal_order.specs.WalksExamples.{never, done, clean, one}
 
 ordered : Orders [] truth (true_facts ∷ []) body 0 [] clean one (Ok tt)
 ordered total known stretch = (done, refl, record { nodes = refl; fresh = refl; seen = refl })

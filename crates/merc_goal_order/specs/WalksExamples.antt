@@ -1,42 +1,20 @@
 -- Goals that were written one behind the other, over `true` and `X = Y` with X and Y free. No predicate has a mode.
-use Rattle.std.specs.Prelude.{◌≡◌, ℕ, true, List, [], ◌∷◌, Ok, Err, refl}
+use Rattle.std.specs.Prelude.{◌≡◌, true, [], ◌∷◌, Ok, Err, refl}
 use Rattle.std.proofs.Common.{arith}
 use Rattle.merc_base.specs.declared.refusal.Fault.TheVariants.{Refused}
 use Rattle.merc_base.specs.declared.refusal.Refusal.{Refusal}
 use Rattle.merc_tree.specs.Term.{no_span}
-use Rattle.merc_tree.specs.declared.declarations.ModeDecl.{ModeDecl}
-use Rattle.merc_goal_tree.specs.declared.goal.SimpleGoal.TheVariants.{True, Same}
 use Rattle.merc_goal_tree.specs.declared.goal.Symbol.TheVariants.{Constructor}
-use Rattle.merc_goal_tree.specs.Nodes.{Node, Simple, no_nodes, nodes_of}
-use Rattle.merc_goal_tree.specs.Variables.{count}
+use Rattle.merc_goal_tree.specs.Nodes.{no_nodes, nodes_of}
 use Rattle.merc_order.specs.Bound.{nothing}
 use Rattle.merc_order.specs.Faults.{never_ready}
 use Rattle.merc_order.specs.Order.{moves}
 use Rattle.merc_order.specs.Ordered.{Ordered, put, Truth, Split, no_goals, more_goals, AllReady, OneStuck}
 use Rattle.merc_order.specs.Spelt.{spelt}
-use Rattle.merc_goal_facts.specs.Facts.{AreFactsOf}
-use Rattle.merc_goal_facts.specs.Outside.{IsStretch}
 use Rattle.merc_readiness.specs.Sweeps.{AreKnownFrom}
 use Rattle.merc_simple_goals.specs.declared.written.Written.{Written}
-use Rattle.merc_goal_facts.specs.declared.facts.Facts.{Facts}
+use Rattle.merc_agenda.specs.GoalsExamples.{no_modes, body, in_body, truth, unready, true_facts, true_known, no_stretch}
 use Rattle.merc_goal_order.specs.Walks.{ordereds_of, behind_them, twins_in, spelt_list, AreWritten, AddsOne, AddsTwo, Adds, GivesAll, all_settled, OrdersAll, Walked}
-
-abbrev pub no_modes : ℕ → List ModeDecl
-no_modes predicate = []
-
--- the variables of a body, and how often each occurs
-
-abbrev pub body : List ℕ
-body = 1 ∷ 2 ∷ 1 ∷ 2 ∷ []
-
-abbrev pub in_body : ℕ → ℕ
-in_body variable = count variable body
-
-abbrev pub truth : Node
-truth = Simple True no_span
-
-abbrev pub unready : Node
-unready = Simple (Same 1 2) no_span
 
 abbrev pub never : Refusal
 never = never_ready no_span
@@ -47,16 +25,6 @@ done = put Truth [] no_span
 -- a split whose only place is tested
 abbrev pub tested : Ordered
 tested = put (Split 1 (Constructor 200 1) (2 ∷ []) (true ∷ [])) [] no_span
-
-abbrev pub true_facts : Facts
-true_facts = record { reached = true; binds = []; owed = []; owed_by_condition = []; needs = []; occurrences = 0 }
-
-pub true_known : AreFactsOf in_body no_modes truth true_facts
-true_known = record { reached_is = refl; binds_are = λ variable. refl; owed_are = λ bound. refl; owed_by_condition_are = λ bound. refl; needed = λ bound ready. refl; occurrences_are = refl }
-
--- `true` has no variables
-pub no_stretch : IsStretch in_body body 0 0 []
-no_stretch = record { before = []; after = body; whole = refl; start_is = refl; end_is = refl; total_is = λ variable. refl }
 
 -- nothing is written, one goal, two, and one with a fresh variable
 

@@ -2,14 +2,14 @@
 ghost use Rattle.std.specs.Prelude.{◌≡◌, ◌+◌, ◌≤◌, [], length, OnOk};
 ghost use Rattle.merc_goal_tree.specs.Nodes.{Conjunction, nodes_of};
 ghost use Rattle.merc_goal_tree.specs.Parts.{parts_of, all_parts};
-ghost use Rattle.merc_goal_order.specs.Agenda.{IsSound, StandAt};
+ghost use Rattle.merc_agenda.specs.Agenda.{IsSound, StandAt};
 ghost use Rattle.merc_goal_order.specs.Conjuncts.{MayGo, FirstTells, AsksOn, NextOn};
 ghost use Rattle.merc_readiness.specs.Sweeps.{Extends};
 ghost use Rattle.merc_goal_order.specs.Walking.{Orders};
 ghost use Rattle.merc_goal_order.specs.Walks.{AddsOne, Adds, OrdersAll, all_settled};
 
-use crate::agenda::{Agenda, Start};
 use crate::walking::{Setting, clear, walk};
+use merc_agenda::{Agenda, Start};
 use merc_base::{Fault, Span};
 use merc_goal_facts::{BoundSet, Facts};
 use merc_goal_tree::NodeRef;
@@ -88,7 +88,7 @@ fn walk_rounds(
     ensures adds { OnOk result (Adds written.old written.new) }
 {
     clear(marks);
-    let mut agenda = Agenda::of(setting, goals, facts, start)?;
+    let mut agenda = Agenda::of(setting.alloc, setting.all, goals, facts, start)?;
     for _round in 1..goals.len() {
         if !walk_next(setting, goals, facts, &mut agenda, marks, bound, written)? {
             break;

@@ -1,7 +1,6 @@
 //! The order of a goal from what is bound, written out.
 #![tactic(auto)]
 
-mod agenda;
 mod conjuncts;
 mod disjuncts;
 mod links;

@@ -20,22 +20,23 @@ use Rattle.merc_goal_facts.specs.Bounds.{all_behind}
 use Rattle.std.specs.declared.alloc.Global.{Global}
 use Rattle.std.specs.declared.vec.Vec.{Vec}
 use Rattle.merc_simple_goals.specs.declared.written.Written.{Written}
+use Rattle.merc_agenda.proofs.Positions.{parts_within, known_from, stretch_from, within_goals, at_start, placed_start, next_item, some_parts}
+use Rattle.merc_agenda.proofs.Stretches.{stretch_front}
 use Rattle.merc_goal_order.specs.Beside.{all_beside, TellsStuck}
-use Rattle.merc_goal_order.specs.Agenda.{start_at, StandAt, ArePlaced, awaits, AwaitsAgain}
+use Rattle.merc_agenda.specs.Agenda.{start_at, StandAt, ArePlaced, awaits, AwaitsAgain}
 use Rattle.merc_readiness.specs.Sweeps.{Extends}
 use Rattle.merc_goal_order.specs.Conjuncts.{GoesIfReady, Passing, AskGives, NextGives}
-use Rattle.merc_goal_order.specs.Positions.{IsPlaced}
+use Rattle.merc_agenda.specs.Positions.{IsPlaced}
 use Rattle.merc_goal_order.specs.Walking.{Orders}
 use Rattle.merc_goal_order.specs.Walks.{Walked, all_settled}
-use Rattle.merc_goal_order.specs.declared.agenda.Start.{Start}
+use Rattle.merc_agenda.specs.declared.agenda.Start.{Start}
 use Rattle.merc_readiness.proofs.Binding.{extends_same, extends_on, extends_all}
 use Rattle.merc_goal_order.proofs.Beside.{facts_of_first, facts_from, blank_there, beside_goes, beside_stuck, beside_err, walked_tells, never_stuck}
 use Rattle.merc_readiness.proofs.Marking.{subgoals_length, all_subgoals_length, parts_length}
-use Rattle.merc_goal_order.proofs.Resuming.{parts_within, known_from, stretch_from}
 use Rattle.merc_readiness.proofs.Stepping.{facts_of_next}
-use Rattle.merc_goal_order.proofs.Stepped.{if_stays, if_goes, first_tells, passing_on, none_told, within_goals, at_start, placed_start, member_passes, member_marks, member_asked, awaited_on, none_awaited, amid_at, end_told, next_err, rounds_first, fewer_by, rounds_err}
-use Rattle.merc_goal_order.proofs.Walked.{stretch_front, walked_on, walked_end, walked_stuck}
-use Rattle.merc_goal_order.proofs.Wholes.{next_item, end_within, at_behind, some_parts, undone_is, known_parts, known_own, negation_stuck, negation_binds, negation_ready, quantified_stuck, quantified_ready, disjunction_stuck, disjunction_differs, disjunction_ready, conjunction_stuck, conjunction_ready, parallel_stuck, parallel_ready}
+use Rattle.merc_goal_order.proofs.Stepped.{if_stays, if_goes, first_tells, passing_on, none_told, member_passes, member_marks, member_asked, awaited_on, none_awaited, amid_at, end_told, next_err, rounds_first, fewer_by, rounds_err}
+use Rattle.merc_goal_order.proofs.Walked.{walked_on, walked_end, walked_stuck}
+use Rattle.merc_goal_order.proofs.Wholes.{end_within, at_behind, undone_is, known_parts, known_own, negation_stuck, negation_binds, negation_ready, quantified_stuck, quantified_ready, disjunction_stuck, disjunction_differs, disjunction_ready, conjunction_stuck, conjunction_ready, parallel_stuck, parallel_ready}
 use Rattle.merc_goal_order.proofs.+walking.Goals as goal
 use Rattle.merc_goal_order.proofs.+walking.Goals.{conjuncts::walk_rounds-else-loop-round-test, conjuncts::walk_rounds-then-loop-round-test+in_ok-walk_next+then-not-branch}
 use Rattle.merc_goal_order.proofs.+walking.Answers.Links as links_of

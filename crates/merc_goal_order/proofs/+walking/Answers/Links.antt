@@ -14,11 +14,12 @@ use Rattle.merc_goal_facts.specs.Facts.{AreKnown, subgoals}
 use Rattle.merc_goal_facts.specs.Bounds.{all_behind}
 use Rattle.merc_simple_goals.specs.Writing.{Gives}
 use Rattle.merc_readiness.specs.Sweeps.{Extends}
+use Rattle.merc_agenda.proofs.Positions.{some_parts}
+use Rattle.merc_agenda.proofs.Stretches.{stretch_front}
 use Rattle.merc_goal_order.specs.Linked.{Guarded, GuardGives, Within, Closing}
 use Rattle.merc_readiness.proofs.Binding.{extends_all, bound_behind}
 use Rattle.merc_goal_order.proofs.Chaining.{condition_known, condition_own, condition_err, condition_outer, then_known, then_own, then_stretch, then_err, place_behind_is, guarded_by, first_within, pushed, guard_known, own_known, guard_stretch, chain_err, rest_err, rest_ready, conditional_parts}
-use Rattle.merc_goal_order.proofs.Walked.{stretch_front}
-use Rattle.merc_goal_order.proofs.Wholes.{some_parts, undone_is}
+use Rattle.merc_goal_order.proofs.Wholes.{undone_is}
 use Rattle.merc_goal_order.proofs.+walking.Goals as goal
 
 pub links::walk_guard-returns-in_err-walk-clause-guards : goal.links::walk_guard-returns-in_err-walk-clause-guards

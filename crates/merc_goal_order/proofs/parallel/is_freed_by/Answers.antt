@@ -6,10 +6,11 @@ use Rattle.merc_order.specs.Ordered.{is_ready}
 use Rattle.merc_order.specs.Procedures.{modes_of}
 use Rattle.merc_goal_facts.specs.Bounds.{all_behind}
 use Rattle.merc_readiness.specs.Sweeps.{Extends}
+use Rattle.merc_agenda.proofs.Positions.{some_parts}
 use Rattle.merc_goal_order.proofs.Beside.{facts_of_first}
 use Rattle.merc_readiness.proofs.Binding.{extends_all}
 use Rattle.merc_readiness.proofs.Stepping.{facts_of_next, bound_by_next}
-use Rattle.merc_goal_order.proofs.Wholes.{some_parts, undone_is}
+use Rattle.merc_goal_order.proofs.Wholes.{undone_is}
 use Rattle.merc_goal_order.proofs.parallel.is_freed_by.Goals as goal
 
 pub returns-then-not-branch-clause-frees : goal.returns-then-not-branch-clause-frees

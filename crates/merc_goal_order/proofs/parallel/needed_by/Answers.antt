@@ -10,9 +10,9 @@ use Rattle.merc_order.specs.Ordered.{is_ready}
 use Rattle.merc_order.specs.Procedures.{modes_of}
 use Rattle.merc_goal_facts.specs.Facts.{all_subgoals}
 use Rattle.merc_readiness.specs.Sweeps.{AreKnownFrom}
+use Rattle.merc_agenda.proofs.Positions.{next_item, some_parts}
 use Rattle.merc_goal_order.proofs.Beside.{facts_behind, facts_next, facts_of_first, needs_later}
 use Rattle.merc_goal_order.proofs.Freeing.{still_stuck}
-use Rattle.merc_goal_order.proofs.Wholes.{next_item, some_parts}
 use Rattle.merc_goal_order.proofs.parallel.needed_by.Goals as goal
 use Rattle.merc_goal_order.proofs.parallel.needed_by.Goals.{else-can_free-via-then-can_free+in_ok-is_freed_by+else-branch, else-can_free-via-else-can_free}
 

@@ -2,26 +2,28 @@
 ghost use Rattle.std.specs.Prelude.{◌≡◌, ◌+◌, ◌≤◌, ◌<◌, ℕ, suc, true, false, length, IfOk, OnOk, IfSome, IfNone};
 ghost use Rattle.merc_goal_tree.specs.Nodes.{nodes_of};
 ghost use Rattle.merc_goal_tree.specs.Parts.{parts_of, all_parts};
-ghost use Rattle.merc_goal_order.specs.Agenda.{start_at, StandAt, ArePlaced, Holds, awaits, awaited_count, IsSound, IsTaken, AwaitsPlaces, AwaitsAgain};
-ghost use Rattle.merc_goal_order.specs.Positions.{IsNext};
+ghost use Rattle.merc_agenda.specs.Agenda.{start_at, StandAt, ArePlaced, Holds, awaits, awaited_count, IsSound, IsTaken, AwaitsPlaces, AwaitsAgain};
+ghost use Rattle.merc_agenda.specs.Positions.{IsNext};
 
-use crate::walking::Setting;
 use merc_base::NoMemory;
 use merc_goal_facts::Facts;
 use merc_goal_tree::{NodeRef, Var};
 use merc_simple_goals::Places;
+use std::alloc::Global;
 use std::collections::BTreeSet;
 
-/// Where a goal of a conjunction begins: its first part, and the first place of its variables.
+/// Where a goal of a conjunction begins.
 #[derive(Clone, Copy)]
-pub(crate) struct Start {
-    pub(crate) at: usize,
-    pub(crate) place: usize,
+pub struct Start {
+    /// The index of its first part among those of all goals.
+    pub at: usize,
+    /// The first place of its variables among those of the body.
+    pub place: usize,
 }
 
 /// The goals of a conjunction that are to be asked, by their index.
 #[derive(Drop)]
-pub(crate) struct Agenda {
+pub struct Agenda {
     // Where each goal begins, and behind the last where they end.
     starts: Vec<Start>,
     // So many were asked, from the first on.
@@ -31,13 +33,15 @@ pub(crate) struct Agenda {
 }
 
 impl Agenda {
-    /// All goals of a conjunction. Their variables occur from `start` on.
+    /// All goals of a conjunction. `facts` are those of their parts, and `all` are the variables of their body: those of
+    /// the goals occur from `start` on.
     ///
     /// # Errors
     ///
     /// `NoMemory` where memory was refused.
-    pub(crate) fn of(
-        setting: &Setting<'_>,
+    pub fn of(
+        alloc: Global,
+        all: &Places,
         goals: &[NodeRef<'_>],
         facts: &[Facts],
         start: usize,
@@ -45,26 +49,26 @@ impl Agenda {
         requires known { length facts.now ≡ length (all_parts (nodes_of goals.now)) }
         ensures sound { IfOk result (λ agenda. IsSound agenda) }
         ensures stands { IfOk result (λ agenda. StandAt goals.now agenda.starts.items) }
-        ensures placed { IfOk result (λ agenda. ArePlaced start goals.now facts.now setting.now.all.now agenda.starts.items) }
+        ensures placed { IfOk result (λ agenda. ArePlaced start goals.now facts.now all.now agenda.starts.items) }
         ensures fresh { IfOk result (λ agenda. (index : ℕ) → awaits agenda index ≡ true) }
     {
         Ok(Agenda {
-            starts: starts_of(setting, goals, facts, start)?,
+            starts: starts_of(alloc, all, goals, facts, start)?,
             asked: 0,
-            again: BTreeSet::new(setting.alloc),
+            again: BTreeSet::new(alloc),
         })
     }
 
     /// Where a goal begins.
-    pub(crate) fn start(&self, index: usize) -> Start
+    pub fn start(&self, index: usize) -> Start
         requires { index < length self.now.starts.items }
         ensures { result ≡ start_at self.now.starts.items index }
     {
         self.starts[index]
     }
 
-    /// The first goal that is to be asked, which then is not any more.
-    pub(crate) fn take(&mut self) -> Option<usize>
+    /// The first goal that is to be asked, which then is not any more; `None` where there is none.
+    pub fn take(&mut self) -> Option<usize>
         requires sound { IsSound self.old }
         ensures sound { IsSound self.new }
         ensures starts { self.new.starts ≡ self.old.starts }
@@ -89,7 +93,7 @@ impl Agenda {
     /// # Errors
     ///
     /// `NoMemory` where memory was refused.
-    pub(crate) fn await_all(
+    pub fn await_all(
         &mut self,
         all: &Places,
         binding: usize,
@@ -152,39 +156,40 @@ impl Agenda {
 
 // Where the goals begin, and behind the last where they end.
 fn starts_of(
-    setting: &Setting<'_>,
+    alloc: Global,
+    all: &Places,
     goals: &[NodeRef<'_>],
     facts: &[Facts],
     start: usize,
 ) -> Result<Vec<Start>, NoMemory>
     requires known { length facts.now ≡ length (all_parts (nodes_of goals.now)) }
     ensures stands { IfOk result (λ starts. StandAt goals.now starts.items) }
-    ensures placed { IfOk result (λ starts. ArePlaced start goals.now facts.now setting.now.all.now starts.items) }
+    ensures placed { IfOk result (λ starts. ArePlaced start goals.now facts.now all.now starts.items) }
 {
-    let mut starts = Vec::with_capacity(setting.alloc, goals.len() + 1)?;
+    let mut starts = Vec::with_capacity(alloc, goals.len() + 1)?;
     let mut here = Start {
         at: 0,
         place: start,
     };
     for goal in goals {
         starts.push(here)?;
-        here = start_behind(setting, goal, facts, here);
+        here = start_behind(all, goal, facts, here);
     }
     starts.push(here)?;
     Ok(starts)
 }
 
 // Where the goal behind this one begins.
-fn start_behind(setting: &Setting<'_>, goal: &NodeRef<'_>, facts: &[Facts], here: Start) -> Start
+fn start_behind(all: &Places, goal: &NodeRef<'_>, facts: &[Facts], here: Start) -> Start
     requires known { here.at + length (parts_of goal.now) ≤ length facts.now }
     ensures at { result.at ≡ here.at + length (parts_of goal.now) }
-    ensures place { IsNext goal.now facts.now setting.now.all.now here.at here.place result.place }
+    ensures place { IsNext goal.now facts.now all.now here.at here.place result.place }
 {
     let at = here.at + goal.part_count();
     let own = at - 1;
     let found = &facts[own];
     Start {
         at,
-        place: setting.all.place_behind(here.place, found.occurrences),
+        place: all.place_behind(here.place, found.occurrences),
     }
 }

@@ -1,13 +1,11 @@
 use Rattle.std.proofs.Common.{◌≡◌, ◌+◌, ◌<◌, ◌∙◌, ◌++◌, ◌∷◌, ℕ, List, [], suc, length, drop, ap, sym, subst, arith}
 use Rattle.std.proofs.lemmas.List.{length-append}
-use Rattle.merc_goal_order.specs.Agenda.{start_at}
-use Rattle.merc_goal_order.specs.Positions.{IsAt, IsPlaced}
-use Rattle.merc_goal_order.specs.declared.agenda.Start.{Start}
-use Rattle.merc_goal_order.proofs.Awaiting.{pushed}
-use Rattle.merc_goal_order.proofs.Resuming.{at_next, parts_within}
-use Rattle.merc_goal_order.proofs.Stepped.{placed_next}
-use Rattle.merc_goal_order.proofs.Wholes.{next_item}
-use Rattle.merc_goal_order.proofs.agenda.starts_of.Goals as goal
+use Rattle.merc_agenda.specs.Agenda.{start_at}
+use Rattle.merc_agenda.specs.Positions.{IsAt, IsPlaced}
+use Rattle.merc_agenda.specs.declared.agenda.Start.{Start}
+use Rattle.merc_agenda.proofs.Awaiting.{pushed}
+use Rattle.merc_agenda.proofs.Positions.{at_next, parts_within, placed_next, next_item}
+use Rattle.merc_agenda.proofs.agenda.starts_of.Goals as goal
 
 pub loop-goal-preserved : goal.loop-goal-preserved
 loop-goal-preserved c =
@@ -30,7 +28,7 @@ loop-goal-preserved c =
           (pushed (λ other s. IsAt goals other s.at) old here i.each (subst (λ n. IsAt goals n here.at) (sym i.long) i.here));
       placed = λ total modes known stretch.
           let p = i.placed total modes known stretch in (
-            placed_next total modes goals rest index here.at c.args.start here.place (index + 1) c.start_behind-here.result.place c.args.facts.now c.args.setting.now.all.now goal there next i.here known stretch p.0
+            placed_next total modes goals rest index here.at c.args.start here.place (index + 1) c.start_behind-here.result.place c.args.facts.now c.args.all.now goal there next i.here known stretch p.0
                 c.start_behind-here.ensures.place,
             subst (λ (l : List Start). (other : ℕ) → other < length l → IsPlaced c.args.start goals other (start_at l other).place) (sym items)
                 (pushed (λ other s. IsPlaced c.args.start goals other s.place) old here p.1 (subst (λ n. IsPlaced c.args.start goals n here.place) (sym i.long) p.0)),

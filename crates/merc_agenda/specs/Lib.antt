@@ -1,0 +1,5 @@
+pub mod GoalsExamples
+pub mod Positions
+pub mod PositionsExamples
+pub mod Agenda
+pub mod AgendaExamples
