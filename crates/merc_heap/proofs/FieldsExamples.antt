@@ -2,7 +2,7 @@
 use Rattle.std.proofs.Common.{◌≡◌, ℕ, pos, negsuc, refl, ap, arith}
 use Rattle.merc_value.specs.declared.word.Word.{Word}
 use Rattle.merc_value.specs.declared.word.Word.TheVariants.{Int as IntWord, Text as TextWord, Atom as AtomWord, Cell as CellWord}
-use Rattle.merc_heap.specs.Fields.{Field, field_with, word_with}
+use Rattle.merc_heap.specs.Fields.{Field, field_with, kind_of, word_with}
 use Rattle.merc_heap.specs.Slots.{field_of}
 use Rattle.merc_heap.specs.declared.slot.TheConstants.{INT, TEXT, ATOM, CELL}
 use Rattle.merc_heap.specs.declared.slot.Slot.TheInside.{Inside}
@@ -22,6 +22,12 @@ word_with-cell = refl
 
 pub word_with-not : word_with ATOM 7 ≡ CellWord 7 → ⊥
 word_with-not same = cc
+
+pub kind_of-text : kind_of (TextWord 7) ≡ TEXT
+kind_of-text = refl
+
+pub kind_of-not : kind_of (AtomWord 7) ≡ TEXT → ⊥
+kind_of-not same = omega (arith, same)
 
 -- the word is the cell at a place that needs both halves, and the constructor's number is 1
 abbrev far : Inside

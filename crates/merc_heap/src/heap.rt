@@ -223,11 +223,25 @@ fn push_cell(
     if place >= slots.capacity() {
         grow(slots, front.len() + 1)?;
     }
-    for field in front {
-        slots.push_reserved(Slot::ending(INNER, *field));
+    // most cells have two fields, for which no loop is needed
+    match front {
+        [one] => slots.push_reserved(Slot::ending(INNER, *one)),
+        _ => push_inner(slots, front),
     }
     slots.push_reserved(Slot::ending(number, last));
     Ok(place)
+}
+
+// Puts fields behind the others at which no cell ends. There is room for them, and for one more.
+#[inline(always)]
+fn push_inner(slots: &mut Vec<Slot>, fields: &[Word])
+    requires { vec_len slots.old + length fields.now < vec_capacity slots.old }
+    ensures items { slots.new.items ≡ slots.old.items ++ map (field_with inner_number) fields.now }
+    ensures room { vec_len slots.new < vec_capacity slots.new }
+{
+    for field in fields {
+        slots.push_reserved(Slot::ending(INNER, *field));
+    }
 }
 
 // Makes room for so many slots more. It is seldom missing, and what seldom runs is kept out of the callers' code.

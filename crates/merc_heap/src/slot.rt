@@ -1,6 +1,6 @@
 //! Places of the heap.
 ghost use Rattle.std.specs.Prelude.{◌≡◌, ◌≤◌, ◌<◌};
-ghost use Rattle.merc_heap.specs.Fields.{word_with};
+ghost use Rattle.merc_heap.specs.Fields.{kind_of, word_with};
 ghost use Rattle.merc_heap.specs.declared.slot.TheConstants.{HALF, KINDS, MOST};
 
 use merc_base::Name;
@@ -52,12 +52,7 @@ impl Slot {
         requires { number ≤ MOST }
         ensures { result ≡ record { number = number; word = word } }
     {
-        match word {
-            Word::Int(integer) => Slot::of(number, INT, integer.cast_unsigned()),
-            Word::Text(name) => Slot::of(number, TEXT, name.number()),
-            Word::Atom(symbol) => Slot::of(number, ATOM, symbol.number()),
-            Word::Cell(place) => Slot::of(number, CELL, place as u64),
-        }
+        Slot::of(number, kind(&word), bits(&word))
     }
 
     // The slot of a word of this kind with these bits.
@@ -94,5 +89,32 @@ impl Slot {
         ensures { result ≡ self.now.number }
     {
         self.header / KINDS
+    }
+}
+
+// The kind of a word. It is told apart from the bits, so that neither needs a table of jumps.
+#[inline(always)]
+fn kind(word: &Word) -> u32
+    ensures kind { result ≡ kind_of word.now }
+    ensures small { result < KINDS }
+{
+    match *word {
+        Word::Int(_) => INT,
+        Word::Text(_) => TEXT,
+        Word::Atom(_) => ATOM,
+        Word::Cell(_) => CELL,
+    }
+}
+
+// The bits of a word.
+#[inline(always)]
+fn bits(word: &Word) -> u64
+    ensures { word_with (kind_of word.now) result ≡ word.now }
+{
+    match *word {
+        Word::Int(integer) => integer.cast_unsigned(),
+        Word::Text(name) => name.number(),
+        Word::Atom(symbol) => symbol.number(),
+        Word::Cell(place) => place as u64,
     }
 }

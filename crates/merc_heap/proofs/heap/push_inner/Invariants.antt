@@ -3,10 +3,10 @@ use Rattle.std.proofs.Common.{◌≡◌, ◌+◌, ◌<◌, ◌++◌, length, map
 use Rattle.std.specs.Vec.{vec_len, vec_capacity}
 use Rattle.merc_heap.specs.Functors.{inner_number}
 use Rattle.merc_heap.specs.Fields.{field_with}
-use Rattle.merc_heap.proofs.heap.push_cell.Given as goal
+use Rattle.merc_heap.proofs.heap.push_inner.Given as goal
 
 abbrev pub invariant-loop-field : goal.invariant-loop-field
 invariant-loop-field l = record {
-  items : l.slots.items ≡ l.fn.slots.items ++ map (field_with inner_number) (take l.field-index l.front);
-  room : vec_len l.slots + length l.front < vec_capacity l.slots + l.field-index;
+  items : l.slots.items ≡ l.fn.slots.items ++ map (field_with inner_number) (take l.field-index l.fields);
+  room : vec_len l.slots + length l.fields < vec_capacity l.slots + l.field-index;
 }
