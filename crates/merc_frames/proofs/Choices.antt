@@ -1,17 +1,23 @@
 -- Choice points: made, gone back to, taken away, and only failing.
-use Rattle.std.proofs.Common.{◌≡◌, inl, inr, ℕ, ◌+◌, ◌<◌, ◌≤◌, true, false, if◌then◌else◌, List, [], ◌∷◌, ◌++◌, length, take, map, reverse, Some, slice_get, slice_set, slice_index_or, refl, sym, ap, ◌∙◌, subst, arith}
+use Rattle.std.proofs.Common.{◌≡◌, inl, inr, ℕ, ◌+◌, ◌<◌, ◌≤◌, Bool, true, false, if◌then◌else◌, nat_lt, List, [], ◌∷◌, ◌++◌, length, take, map, reverse, Some, None, slice_get, slice_set, slice_index_or, refl, sym, ap, ◌∙◌, subst, arith}
+use Rattle.std.specs.List.{All, cons_option}
 use Rattle.merc_frames.specs.declared.slot.Slot.{Slot}
+use Rattle.merc_frames.specs.Held.{AreKept}
 use Rattle.merc_frames.specs.Stacks.{Dead, GoesOn, Stacks}
-use Rattle.merc_frames.specs.View.{frame_of, callers_of, seen, view_of, Fine, FineChoice}
+use Rattle.merc_frames.specs.View.{frame_of, callers_of, seen, view_of, kept_top, tops_of, Fine, FineChoice}
 use Rattle.merc_frames.specs.declared.kept.Saved.{Saved}
 use Rattle.merc_frames.specs.declared.kept.Kept.{Kept}
-use Rattle.merc_frames.proofs.Lists.{get_take_in, get_left, get_seam, get_more, get_within}
+use Rattle.merc_frames.proofs.HeldLaws.{Holding, kept_below, kept_without}
+use Rattle.merc_frames.proofs.Lists.{get_take_in, get_left, get_seam, get_more, get_within, take_less}
 use Rattle.merc_frames.proofs.Stays.{Stays, frame_same, callers_same, all_seen}
 use Rattle.merc_frames.specs.Stacks.{oldest, softened}
 use Rattle.merc_frames.proofs.Reversed.{reversed_take, softened_reverse, reversed_last}
 use Rattle.merc_frames.proofs.Lists.{get_set}
 use Rattle.merc_frames.proofs.Moving.{stacks_at, below_base, moved_fine, moved_view}
-use Rattle.std.proofs.lemmas.List.{map-set, take-map, set_past, length-map, take_all}
+use Rattle.merc_frames.proofs.TopLaws.{tops_last}
+use Rattle.std.proofs.lemmas.Bool.{ltb-false}
+use Rattle.std.proofs.lemmas.List.{length-take-le, map-set, take-map, set_past, length-map, take_all}
+use Rattle.std.proofs.lemmas.List.Elements.{All-take}
 use Rattle.std.proofs.lemmas.Option.{slice_get_read}
 
 -- a choice point keeps the current frame, which goes on in a copy at its end
@@ -82,6 +88,13 @@ module _ (w w' : List Slot) (saved : List Saved) (cs : List Kept) (base size h :
       (sym (callers_same h (base + size) (length saved) w w' saved saved stays_attempt f.stack))
       (ap (λ x. reverse (map (λ m. seen w' saved m) x)) ec ∙ choices_attempt live)
 
+  pub attempt_held : (MayHold : ℕ → Slot → Type 0) (heap : ℕ) (cs' : List Kept) → cs' ≡ cs ++ k ∷ [] → kept_top k ≡ Some (record { heap = heap; end = base + size }) → All (MayHold heap) w'
+      → AreKept MayHold heap w (tops_of cs) → Holding MayHold heap w' cs'
+  attempt_held MayHold heap cs' ec top each kept =
+      let under = kept_below MayHold (base + size) w w' cs (λ i m e. (let t = (f.kept i m e).top in omega (arith, t))) same heap kept in
+      let tops : tops_of cs' ≡ record { heap = heap; end = base + size } ∷ tops_of cs = ap tops_of ec ∙ tops_last cs k ∙ ap (λ o. cons_option o (tops_of cs)) top in
+      (each, subst (AreKept MayHold heap w') (sym tops) (omega arith, All-take (MayHold heap) (base + size) w' each, under))
+
 -- fewer choice points
 pub fewer_fine : (w : List Slot) (saved : List Saved) (cs cs' : List Kept) (base size h : ℕ) → Fine w saved cs base size h
     → ((i : ℕ) (k : Kept) → slice_get cs' i ≡ Some k → slice_get cs i ≡ Some k) → Fine w saved cs' base size h
@@ -100,6 +113,25 @@ pub commit_none : (w : List Slot) (saved : List Saved) (cs : List Kept) (base si
     → view_of w saved cs base size h ≡ (let r : Stacks = record { current = frame_of w base size; callers = callers_of w saved h; choices = oldest count (reverse (map (λ k. seen w saved k) cs)) } in r)
 commit_none w saved cs base size h count l = ap (λ x. view_of w saved x base size h) (sym (take_all count cs l)) ∙ commit_view w saved cs base size h count
 
+-- a list that is cut at a place, or is as it was
+cut_same : (cut : Bool) (end low : ℕ) (w : List Slot) → low ≤ end → take low w ≡ take low (if cut then take end w else w)
+cut_same true end low w l = sym (take_less end low w l)
+cut_same false end low w l = refl
+
+cut_room : (cut : Bool) (end : ℕ) (w : List Slot) → end ≤ length w → end ≤ length (if cut then take end w else w)
+cut_room true end w l = omega (arith, length-take-le end w l)
+cut_room false end w l = l
+
+-- where it is cut if there are more cells than a mark keeps
+held_cut : (MayHold : ℕ → Slot → Type 0) (heap cells end : ℕ) (w : List Slot) (cut : Bool) → nat_lt heap cells ≡ cut → heap ≤ cells → All (MayHold cells) w → All (MayHold heap) (take end w)
+    → All (MayHold heap) (if cut then take end w else w)
+held_cut MayHold heap cells end w true more under all kept = kept
+held_cut MayHold heap cells end w false same under all kept =
+    let same_count : cells ≡ heap = (let over = ltb-false heap cells same in omega (arith, over, under)) in subst (λ n. All (MayHold n) w) same_count all
+
+cut_held : (MayHold : ℕ → Slot → Type 0) (heap cells end : ℕ) (w : List Slot) → heap ≤ cells → All (MayHold cells) w → All (MayHold heap) (take end w) → All (MayHold heap) (if nat_lt heap cells then take end w else w)
+cut_held MayHold heap cells end w under all kept = held_cut MayHold heap cells end w (nat_lt heap cells) refl under all kept
+
 -- the newest choice point is taken away
 module _ (w : List Slot) (saved : List Saved) (cs front : List Kept) (base size h : ℕ) (k : Kept) (f : Fine w saved cs base size h) (ec : cs ≡ front ++ k ∷ []) where
   at_end : slice_get cs (length front) ≡ Some k
@@ -117,23 +149,51 @@ module _ (w : List Slot) (saved : List Saved) (cs front : List Kept) (base size 
   pub dead_fine : Fine w saved front base size h
   dead_fine = fewer_fine w saved cs front base size h f (λ i m e. (in_front i m e).0)
 
-  pub back_fine : (saved' : List Saved) → saved' ≡ take k.saved saved → Fine w saved' front k.base k.size k.height
-  back_fine saved' es = subst (λ x. Fine w x front k.base k.size k.height) (sym es)
-      (moved_fine w w saved front base size h dead_fine k.base k.size k.height k.saved last.count last.height refl last.below under
-      (let a = f.within in let t = last.top in omega (arith, a, t)))
+  pub end_inside : k.base + k.size ≤ length w
+  end_inside = let a = f.within in let t = last.top in omega (arith, a, t)
 
-  back_moved : view_of w (take k.saved saved) front k.base k.size k.height
-      ≡ (let r : Stacks = record { current = frame_of w k.base k.size; callers = callers_of w saved k.height; choices = reverse (map (λ m. seen w saved m) front) } in r)
-  back_moved = moved_view w w saved front base size h dead_fine k.base k.size k.height k.saved last.count last.height refl last.below under (frame_of w k.base k.size) refl
+  -- what lies above its frame is cut, or all is as it was
+  module _ (cut : Bool) (w' : List Slot) (ew : w' ≡ (if cut then take (k.base + k.size) w else w)) where
+    same_to : (low : ℕ) → low ≤ k.base + k.size → take low w ≡ take low w'
+    same_to low l = cut_same cut (k.base + k.size) low w l ∙ ap (take low) (sym ew)
 
-  pub back_choices : k.live ≡ true → (saved' : List Saved) → saved' ≡ take k.saved saved
-      → reverse (map (λ m. seen w saved m) cs) ≡ GoesOn k.place k.heap (frame_of w k.base k.size) (callers_of w saved' k.height) ∷ reverse (map (λ m. seen w saved' m) front)
-  back_choices live saved' es =
-      ap (λ x. reverse (map (λ m. seen w saved m) x)) ec
-      ∙ reversed_last (λ m. seen w saved m) front k
-      ∙ ap (λ x. (if x then GoesOn k.place k.heap (frame_of w k.base k.size) (callers_of w saved k.height) else Dead) ∷ reverse (map (λ m. seen w saved m) front)) live
-      ∙ ap (λ (x : Stacks). GoesOn k.place k.heap (frame_of w k.base k.size) x.callers ∷ x.choices) (sym back_moved)
-      ∙ ap (λ x. GoesOn k.place k.heap (frame_of w k.base k.size) (callers_of w x k.height) ∷ reverse (map (λ m. seen w x m) front)) (sym es)
+    room : k.base + k.size ≤ length w'
+    room = subst (λ x. k.base + k.size ≤ length x) (sym ew) (cut_room cut (k.base + k.size) w end_inside)
+
+    back_frame : frame_of w' k.base k.size ≡ frame_of w k.base k.size
+    back_frame = sym (frame_same (k.base + k.size) w w' k.base k.size (same_to (k.base + k.size) (omega arith)) (omega arith))
+
+    pub back_fine : (saved' : List Saved) → saved' ≡ take k.saved saved → Fine w' saved' front k.base k.size k.height
+    back_fine saved' es = subst (λ x. Fine w' x front k.base k.size k.height) (sym es)
+        (moved_fine w w' saved front base size h dead_fine k.base k.size k.height k.saved last.count last.height (same_to k.base (omega arith)) last.below under room)
+
+    back_moved : view_of w' (take k.saved saved) front k.base k.size k.height
+        ≡ (let r : Stacks = record { current = frame_of w k.base k.size; callers = callers_of w saved k.height; choices = reverse (map (λ m. seen w saved m) front) } in r)
+    back_moved = moved_view w w' saved front base size h dead_fine k.base k.size k.height k.saved last.count last.height (same_to k.base (omega arith)) last.below under (frame_of w k.base k.size) back_frame
+
+    pub back_choices : k.live ≡ true → (saved' : List Saved) → saved' ≡ take k.saved saved
+        → reverse (map (λ m. seen w saved m) cs) ≡ GoesOn k.place k.heap (frame_of w' k.base k.size) (callers_of w' saved' k.height) ∷ reverse (map (λ m. seen w' saved' m) front)
+    back_choices live saved' es =
+        ap (λ x. reverse (map (λ m. seen w saved m) x)) ec
+        ∙ reversed_last (λ m. seen w saved m) front k
+        ∙ ap (λ x. (if x then GoesOn k.place k.heap (frame_of w k.base k.size) (callers_of w saved k.height) else Dead) ∷ reverse (map (λ m. seen w saved m) front)) live
+        ∙ ap (λ (x : Stacks). GoesOn k.place k.heap x.current x.callers ∷ x.choices) (sym back_moved)
+        ∙ ap (λ x. GoesOn k.place k.heap (frame_of w' k.base k.size) (callers_of w' x k.height) ∷ reverse (map (λ m. seen w' x m) front)) (sym es)
+
+  tops_are : tops_of cs ≡ cons_option (kept_top k) (tops_of front)
+  tops_are = ap tops_of ec ∙ tops_last front k
+
+  pub dead_held : (MayHold : ℕ → Slot → Type 0) (cells : ℕ) → Holding MayHold cells w cs → Holding MayHold cells w front
+  dead_held MayHold cells held = (held.0, kept_without MayHold cells w (kept_top k) (tops_of front) (subst (AreKept MayHold cells w) tops_are held.1))
+
+  -- where the list is cut if there are more cells than the mark keeps
+  pub back_held : (MayHold : ℕ → Slot → Type 0) (cells : ℕ) → k.live ≡ true → (w' : List Slot) → w' ≡ (if nat_lt k.heap cells then take (k.base + k.size) w else w) → Holding MayHold cells w cs → Holding MayHold k.heap w' front
+  back_held MayHold cells live w' ew held =
+      let top : kept_top k ≡ Some (record { heap = k.heap; end = k.base + k.size }) = ap (λ x. if x then Some (record { heap = k.heap; end = k.base + k.size }) else None) live in
+      let kept = subst (AreKept MayHold cells w) (tops_are ∙ ap (λ o. cons_option o (tops_of front)) top) held.1 in (
+        subst (All (MayHold k.heap)) (sym ew) (cut_held MayHold k.heap cells (k.base + k.size) w kept.0 held.0 kept.1),
+        kept_below MayHold k.base w w' front (λ i m e. (under i m e).0) (same_to (nat_lt k.heap cells) w' ew k.base (omega arith)) k.heap kept.2,
+      )
 
 -- a choice point with the same numbers
 record Alike (k m : Kept) : Type 0 where

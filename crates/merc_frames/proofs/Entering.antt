@@ -1,10 +1,11 @@
 -- The calls, on plain lists.
-use Rattle.std.proofs.Common.{◌≡◌, inl, inr, ℕ, suc, ◌+◌, ◌<◌, ◌≤◌, List, [], ◌∷◌, ◌++◌, length, take, map, reverse, Some, slice_get, slice_set, refl, sym, ap, ◌∙◌, subst, arith}
+use Rattle.std.proofs.Common.{◌≡◌, inl, inr, ℕ, suc, ◌+◌, ◌<◌, ◌≤◌, Bool, true, List, [], ◌∷◌, ◌++◌, length, take, map, reverse, Some, slice_get, slice_set, refl, sym, ap, ◌∙◌, subst, arith}
 use Rattle.merc_frames.specs.declared.slot.Slot.{Slot}
 use Rattle.merc_frames.specs.declared.passing.Pass.{Pass}
 use Rattle.merc_frames.specs.Handing.{empty_frame, passed}
+use Rattle.merc_frames.specs.Held.{AreKept}
 use Rattle.merc_frames.specs.Stacks.{Stacks}
-use Rattle.merc_frames.specs.View.{frame_of, linked, chain, callers_of, seen, view_of, Fine, FineChoice, newest, counted, lowered, caller_top}
+use Rattle.merc_frames.specs.View.{frame_of, linked, chain, callers_of, seen, view_of, tops_of, Fine, FineChoice, newest, counted, lowered, caller_top}
 use Rattle.merc_frames.specs.declared.kept.Saved.{Saved}
 use Rattle.merc_frames.specs.declared.kept.Kept.{Kept}
 use Rattle.merc_frames.proofs.Lists.{get_left, get_seam, get_more, get_within}
@@ -13,8 +14,10 @@ use Rattle.merc_frames.specs.Stacks.{Enters, Renews}
 use Rattle.merc_frames.proofs.Built.{Built}
 use Rattle.merc_frames.proofs.FrameLaws.{frame_set}
 use Rattle.merc_frames.proofs.Moving.{below_base, slots_view, above_fine, above_view}
-use Rattle.merc_frames.proofs.Newest.{settled_fine, settled_view}
+use Rattle.merc_frames.proofs.Newest.{settled_fine, settled_kept, settled_view}
+use Rattle.merc_frames.proofs.HeldLaws.{Holding, kept_below}
 use Rattle.std.proofs.lemmas.List.{length-append, take-set-le}
+use Rattle.std.proofs.lemmas.List.Elements.{All-set}
 
 -- a call: the current frame is saved, and another begins at its end
 module _ (w : List Slot) (saved : List Saved) (cs : List Kept) (base size h : ℕ) (s : Saved) (f : Fine w saved cs base size h) (b : s.base ≡ base) (z : s.size ≡ size) (p : s.parent ≡ h) where
@@ -92,16 +95,27 @@ pub set_view : (w : List Slot) (saved : List Saved) (cs : List Kept) (base size 
 set_view w saved cs base size h number v f = slots_view w (slice_set w (base + number) v) saved cs base size h f (sym (take-set-le base w (base + number) v (omega arith))) size _
     (frame_set w base size number v)
 
+pub set_held : (MayHold : ℕ → Slot → Type 0) (cells : ℕ) (w : List Slot) (saved : List Saved) (cs : List Kept) (base size h number : ℕ) (v : Slot) → Fine w saved cs base size h → MayHold cells v
+    → Holding MayHold cells w cs → Holding MayHold cells (slice_set w (base + number) v) cs
+set_held MayHold cells w saved cs base size h number v f may held = (
+  All-set (MayHold cells) w (base + number) v may held.0,
+  kept_below MayHold base w (slice_set w (base + number) v) cs (λ i k e. (f.kept i k e).top) (sym (take-set-le base w (base + number) v (omega arith))) cells held.1,
+)
+
 -- a last call: the new frame begins at or above where all ends that the newest choice point and the callers need
 module _ (w w' : List Slot) (saved saved' : List Saved) (cs : List Kept) (base size h : ℕ) (f : Fine w saved cs base size h) (low size' count : ℕ) (slots : List Slot)
     (b : Built w w' low size' slots) (ec : count ≡ counted (newest cs) h) (el : lowered (newest cs) (caller_top saved h) ≤ low) (es : saved' ≡ take count saved) where
   pub renewed_fine : Fine w' saved' cs low size' h
   renewed_fine = settled_fine w w' saved saved' cs base size h f low size' h count f.stack ec el es b.below b.room
 
-  pub renewed : (inputs : List Pass) → slots ≡ passed inputs (frame_of w base size) (empty_frame size') → Renews (view_of w saved cs base size h) (view_of w' saved' cs low size' h) size' inputs
-  renewed inputs are =
+  pub renewed_kept : (MayHold : ℕ → Slot → Type 0) (cells : ℕ) → AreKept MayHold cells w (tops_of cs) → AreKept MayHold cells w' (tops_of cs)
+  renewed_kept = settled_kept w w' saved saved' cs base size h f low size' h count f.stack ec el es b.below
+
+  pub renewed : (emptied : Bool) (inputs : List Pass) (left : List Slot) → slots ≡ passed inputs (frame_of w base size) left → length left ≡ size' → (emptied ≡ true → left ≡ empty_frame size')
+      → Renews (view_of w saved cs base size h) (view_of w' saved' cs low size' h) size' emptied inputs
+  renewed emptied inputs left are room empty =
       let v = settled_view w w' saved saved' cs base size h f low size' h count f.stack ec el es b.below slots b.frame in
-      record { current = b.frame ∙ are; callers = ap (λ (x : Stacks). x.callers) v; choices = ap (λ (x : Stacks). x.choices) v }
+      record { left = left; room = room; empty = empty; current = b.frame ∙ are; callers = ap (λ (x : Stacks). x.callers) v; choices = ap (λ (x : Stacks). x.choices) v }
 
 -- what a call is seen to have done
 module _ (w w' : List Slot) (saved : List Saved) (cs : List Kept) (base size h : ℕ) (s : Saved) (f : Fine w saved cs base size h) (eb : s.base ≡ base) (ez : s.size ≡ size) (ep : s.parent ≡ h)
@@ -112,10 +126,17 @@ module _ (w w' : List Slot) (saved : List Saved) (cs : List Kept) (base size h :
   pub entered_fine : Fine w' saved' cs (base + size) size' h'
   entered_fine = enter_fine w' saved cs base size h s fine eb ez ep saved' (base + size) size' h' es refl b.room eh
 
-  pub entered : (inputs : List Pass) → slots ≡ passed inputs (frame_of w base size) (empty_frame size') → Enters (view_of w saved cs base size h) (view_of w' saved' cs (base + size) size' h') s.place size' inputs
-  entered inputs are =
+  pub entered_kept : (MayHold : ℕ → Slot → Type 0) (cells : ℕ) → AreKept MayHold cells w (tops_of cs) → AreKept MayHold cells w' (tops_of cs)
+  entered_kept MayHold cells held = kept_below MayHold (base + size) w w' cs (λ i k e. (let top = (f.kept i k e).top in omega (arith, top))) b.below cells held
+
+  pub entered : (emptied : Bool) (inputs : List Pass) (left : List Slot) → slots ≡ passed inputs (frame_of w base size) left → length left ≡ size' → (emptied ≡ true → left ≡ empty_frame size')
+      → Enters (view_of w saved cs base size h) (view_of w' saved' cs (base + size) size' h') s.place size' emptied inputs
+  entered emptied inputs left are room empty =
       let v = above_view w w' saved cs base size h f b.below in
       record {
+        left = left;
+        room = room;
+        empty = empty;
         current = b.frame ∙ are;
         callers = enter_callers w' saved cs base size h s fine eb ez ep saved' h' es eh ∙ ap (λ (x : Stacks). record { place = s.place; slots = x.current } ∷ x.callers) v;
         choices = enter_choices w' saved cs base size h s fine eb ez ep saved' es ∙ ap (λ (x : Stacks). x.choices) v;

@@ -83,10 +83,6 @@ module _ {A : Type 0} where
   take_replicate zero (suc z) x h = absurd (omega (arith, h))
   take_replicate (suc n) (suc z) x h = ap (λ v. x ∷ v) (take_replicate n z x (omega (arith, h)))
 
-  -- where a part is the same throughout, so is each shorter one
-  pub part_replicate : (b n z : ℕ) (w : List A) (x : A) → z ≤ n → take n (drop b w) ≡ replicate n x → take z (drop b w) ≡ replicate z x
-  part_replicate b n z w x h e = sym (take_less n z (drop b w) h) ∙ ap (take z) e ∙ take_replicate n z x h
-
   -- what is the same behind a place is so behind each later one
   drop_nil : (n : ℕ) → [] ≡ drop {A = A} n []
   drop_nil zero = refl

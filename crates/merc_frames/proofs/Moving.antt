@@ -1,10 +1,13 @@
 -- Another current frame, over what nobody else needs.
-use Rattle.std.proofs.Common.{◌≡◌, ℕ, ◌+◌, ◌<◌, ◌≤◌, List, length, take, map, reverse, Some, slice_get, Result, Ok, Err, OnErr, refl, sym, ap, ◌∙◌, arith}
+use Rattle.std.proofs.Common.{◌≡◌, ℕ, ◌+◌, ◌<◌, ◌≤◌, List, length, take, replicate, map, reverse, Some, slice_get, Result, Ok, Err, OnErr, refl, sym, ap, ◌∙◌, arith}
 use Rattle.merc_frames.specs.declared.slot.Slot.{Slot}
+use Rattle.merc_frames.specs.declared.slot.Slot.TheVariants.{Empty}
 use Rattle.merc_frames.specs.Stacks.{Caller, ChoicePoint, Stacks}
 use Rattle.merc_frames.specs.View.{frame_of, callers_of, seen, view_of, Fine, FineChoice, Grows}
 use Rattle.merc_frames.specs.declared.kept.Saved.{Saved}
 use Rattle.merc_frames.specs.declared.kept.Kept.{Kept}
+use Rattle.merc_frames.proofs.AllLaws.{grown_each}
+use Rattle.merc_frames.proofs.HeldLaws.{Holding, kept_below}
 use Rattle.merc_frames.proofs.Lists.{get_take, get_take_in, take_less}
 use Rattle.merc_frames.proofs.Stays.{Stays, frame_same, callers_same, all_seen}
 use Rattle.std.proofs.lemmas.List.{length-append, length-take-le, take-append-le}
@@ -49,16 +52,22 @@ module _ (w w' : List Slot) (saved : List Saved) (cs : List Kept) (base size h :
 -- more slots behind all
 module _ (w w' : List Slot) (saved : List Saved) (cs : List Kept) (base size h : ℕ) (f : Fine w saved cs base size h) (g : Grows w w') where
   pub grown_same : (n : ℕ) → n ≤ length w → take n w ≡ take n w'
-  grown_same n l = sym (ap (take n) g.whole ∙ take-append-le n w g.more l)
+  grown_same n l = sym (ap (take n) g.whole ∙ take-append-le n w (replicate g.count Empty) l)
 
   pub grown_length : length w ≤ length w'
-  grown_length = let e = ap length g.whole in omega (arith, e, length-append w g.more)
+  grown_length = let e = ap length g.whole in omega (arith, e, length-append w (replicate g.count Empty))
 
   pub grown_fine : Fine w' saved cs base size h
   grown_fine = let a = f.within in let b = grown_length in above_fine w w' saved cs base size h f (grown_same (base + size) a) (omega (arith, a, b))
 
   pub grown_view : view_of w' saved cs base size h ≡ view_of w saved cs base size h
   grown_view = above_view w w' saved cs base size h f (grown_same (base + size) f.within)
+
+  pub grown_held : (MayHold : ℕ → Slot → Type 0) (cells : ℕ) → MayHold cells Empty → Holding MayHold cells w cs → Holding MayHold cells w' cs
+  grown_held MayHold cells none held = (
+    grown_each (MayHold cells) none w w' g held.0,
+    kept_below MayHold base w w' cs (λ i k e. (f.kept i k e).top) (let a = f.within in grown_same base (omega (arith, a))) cells held.1,
+  )
 
   -- slots at the end of the current frame, or behind it, were written then
   pub emptied_same : (w'' : List Slot) (n : ℕ) → n ≤ base + size → take n w' ≡ take n w'' → take n w ≡ take n w''

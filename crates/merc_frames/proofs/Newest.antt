@@ -1,13 +1,16 @@
 -- What the newest choice point and the callers need bounds what all others do.
-use Rattle.std.proofs.Common.{◌≡◌, ◌⊎◌, inl, inr, ℕ, zero, suc, ◌+◌, ◌-◌, ◌<◌, ◌≤◌, Bool, true, false, if◌then◌else◌, nat_lt, List, [], ◌∷◌, length, take, map, reverse, Option, Some, None, slice_get, refl, sym, ap, ◌∙◌, subst, arith}
+use Rattle.std.proofs.Common.{◌≡◌, ◌⊎◌, inl, inr, ℕ, zero, suc, ◌+◌, ◌-◌, ◌<◌, ◌≤◌, Bool, true, false, if◌then◌else◌, nat_lt, List, [], ◌∷◌, ◌++◌, length, take, map, reverse, Option, Some, None, slice_get, slice_set, refl, sym, ap, ◌∙◌, subst, arith}
 use Rattle.merc_frames.specs.declared.slot.Slot.{Slot}
+use Rattle.merc_frames.specs.Held.{AreKept}
 use Rattle.merc_frames.specs.Stacks.{Stacks}
-use Rattle.merc_frames.specs.View.{frame_of, callers_of, seen, view_of, Fine, larger, newest, counted, lowered, top_of, caller_top}
+use Rattle.merc_frames.specs.View.{frame_of, callers_of, seen, view_of, tops_of, Fine, Needs, larger, newest, kept_saved, kept_end, counted, lowered, top_of, caller_top}
 use Rattle.merc_frames.specs.declared.kept.Saved.{Saved}
 use Rattle.merc_frames.specs.declared.kept.Kept.{Kept}
-use Rattle.merc_frames.proofs.Lists.{get_within}
+use Rattle.merc_frames.proofs.HeldLaws.{kept_below}
+use Rattle.merc_frames.proofs.Lists.{get_seam, get_within}
 use Rattle.merc_frames.proofs.Moving.{moved_fine, moved_view}
 use Rattle.std.proofs.lemmas.Bool.Decides.{nat_tests}
+use Rattle.std.proofs.lemmas.List.{length-append, length-set}
 
 -- the larger of two
 pub larger_left : (a b : ℕ) → a ≤ larger a b
@@ -27,6 +30,40 @@ pub larger_below : (a b i : ℕ) → i < larger a b → (i < a) ⊎ (i < b)
 larger_below a b i h = larger_on (nat_lt a b) a b i h
 
 -- the newest choice point
+newest_last : (cs : List Kept) (k : Kept) → newest (cs ++ k ∷ []) ≡ Some k
+newest_last cs k = ap (slice_get (cs ++ k ∷ [])) (let last : length (cs ++ k ∷ []) - 1 ≡ length cs = omega (arith, length-append cs (k ∷ [])) in last) ∙ get_seam cs k
+
+pub needs_last : (cs cs' : List Kept) (k : Kept) → cs' ≡ cs ++ k ∷ [] → Needs cs' k.saved (k.base + k.size)
+needs_last cs cs' k e = let is : newest cs' ≡ Some k = ap newest e ∙ newest_last cs k in record { frames = ap kept_saved (sym is); slots = ap kept_end (sym is) }
+
+-- what another one needs as much as the one that it takes the place of
+set_reads : (f : Option Kept → ℕ) (xs : List Kept) (n : ℕ) (k m : Kept) → slice_get xs n ≡ Some k → f (Some m) ≡ f (Some k) → (i : ℕ) → f (slice_get (slice_set xs n m) i) ≡ f (slice_get xs i)
+set_reads f [] zero k m e same i = absurd cc
+set_reads f [] (suc n) k m e same i = absurd cc
+set_reads f (x ∷ xs) zero k m e same zero = same ∙ ap f (sym e)
+set_reads f (x ∷ xs) zero k m e same (suc i) = refl
+set_reads f (x ∷ xs) (suc n) k m e same zero = refl
+set_reads f (x ∷ xs) (suc n) k m e same (suc i) = set_reads f xs n k m e same i
+
+set_newest : (f : Option Kept → ℕ) (cs : List Kept) (n : ℕ) (k m : Kept) → slice_get cs n ≡ Some k → f (Some m) ≡ f (Some k) → f (newest (slice_set cs n m)) ≡ f (newest cs)
+set_newest f cs n k m e same = ap (λ l. f (slice_get (slice_set cs n m) (l - 1))) (length-set cs n m) ∙ set_reads f cs n k m e same (length cs - 1)
+
+pub needs_set : (cs : List Kept) (n : ℕ) (k m : Kept) (saved end : ℕ) → slice_get cs n ≡ Some k → m.base ≡ k.base → m.size ≡ k.size → m.saved ≡ k.saved → Needs cs saved end → Needs (slice_set cs n m) saved end
+needs_set cs n k m saved end e base size count needs = record {
+  frames = needs.frames ∙ sym (set_newest kept_saved cs n k m e count);
+  slots = needs.slots ∙ sym (set_newest kept_end cs n k m e (ap (λ x. x + m.size) base ∙ ap (λ x. k.base + x) size));
+}
+
+-- as the code reads what the newest one needs, and what others need with it
+pub needs_read : (cs a b : List Kept) (saved end : ℕ) → saved ≡ kept_saved (newest a) → a ≡ cs → end ≡ kept_end (newest b) → b ≡ cs → Needs cs saved end
+needs_read cs a b saved end count first top second = record { frames = count ∙ ap (λ x. kept_saved (newest x)) first; slots = top ∙ ap (λ x. kept_end (newest x)) second }
+
+pub count_read : (cs : List Kept) (saved end h count : ℕ) → Needs cs saved end → count ≡ larger h saved → count ≡ counted (newest cs) h
+count_read cs saved end h count needs is = is ∙ ap (larger h) needs.frames
+
+pub low_read : (cs : List Kept) (all read : List Saved) (saved end h top low : ℕ) → Needs cs saved end → read ≡ all → top ≡ caller_top read h → low ≡ larger top end → low ≡ lowered (newest cs) (caller_top all h)
+low_read cs all read saved end h top low needs same caller is = is ∙ ap (λ x. larger x end) (caller ∙ ap (λ x. caller_top x h) same) ∙ ap (larger (caller_top all h)) needs.slots
+
 get_is : {A : Type 0} (xs : List A) (i : ℕ) → i < length xs → (x : A) × (slice_get xs i ≡ Some x)
 get_is [] i l = absurd (omega (arith, l))
 get_is (x ∷ xs) zero l = (x, refl)
@@ -42,30 +79,28 @@ same_one : {A : Type 0} (o : Option A) (x y : A) → o ≡ Some x → o ≡ Some
 same_one o x y e f = cc
 
 pub counted_left : (o : Option Kept) (h : ℕ) → h ≤ counted o h
-counted_left None h = omega arith
-counted_left (Some k) h = larger_left h k.saved
+counted_left o h = larger_left h (kept_saved o)
 
 pub counted_newest : (o : Option Kept) (h : ℕ) (k : Kept) → o ≡ Some k → k.saved ≤ counted o h
 counted_newest o h k e = subst (λ x. k.saved ≤ counted x h) (sym e) (larger_right h k.saved)
 
 counted_under : (o : Option Kept) (h n : ℕ) → h ≤ n → ((k : Kept) → o ≡ Some k → k.saved ≤ n) → counted o h ≤ n
-counted_under None h n l g = l
+counted_under None h n l g = larger_under h 0 n l (omega arith)
 counted_under (Some k) h n l g = larger_under h k.saved n l (g k refl)
 
 counted_below : (o : Option Kept) (h i : ℕ) → i < counted o h → (i < h) ⊎ ((k : Kept) × (o ≡ Some k) × (i < k.saved))
-counted_below None h i l = inl l
+counted_below None h i l = elim (larger_below h 0 i l) as (λ _. (i < h) ⊎ ((m : Kept) × (None ≡ Some m) × (i < m.saved))) [ inl a ↦ inl a | inr a ↦ absurd (omega (arith, a)) ]
 counted_below (Some k) h i l = elim (larger_below h k.saved i l) as (λ _. (i < h) ⊎ ((m : Kept) × (Some k ≡ Some m) × (i < m.saved))) [ inl a ↦ inl a | inr a ↦ inr (k, refl, a) ]
 
 lowered_left : (o : Option Kept) (n : ℕ) → n ≤ lowered o n
-lowered_left None n = omega arith
-lowered_left (Some k) n = larger_left n (k.base + k.size)
+lowered_left o n = larger_left n (kept_end o)
 
 lowered_newest : (o : Option Kept) (n : ℕ) (k : Kept) → o ≡ Some k → k.base + k.size ≤ lowered o n
 lowered_newest o n k e = subst (λ x. k.base + k.size ≤ lowered x n) (sym e) (larger_right n (k.base + k.size))
 
 -- where all of them end below a bound, so does what they need
 pub lowered_under : (o : Option Kept) (low base : ℕ) → low ≤ base → ((k : Kept) → o ≡ Some k → k.base + k.size ≤ base) → lowered o low ≤ base
-lowered_under None low base under each = under
+lowered_under None low base under each = larger_under low 0 base under (omega arith)
 lowered_under (Some k) low base under each = larger_under low (k.base + k.size) base under (each k refl)
 
 top_under : (o : Option Saved) (base : ℕ) → ((s : Saved) → o ≡ Some s → s.base + s.size ≤ base) → top_of o ≤ base
@@ -143,6 +178,9 @@ module _ (w w' : List Slot) (saved saved' : List Saved) (cs : List Kept) (base s
   pub settled_fine : low + size' ≤ length w' → Fine w' saved' cs low size' h
   settled_fine room = subst (λ x. Fine w' x cs low size' h) (sym es) (moved_fine w w' saved cs base size height f low size' h count inside above same tops kept room)
 
+  pub settled_kept : (MayHold : ℕ → Slot → Type 0) (cells : ℕ) → AreKept MayHold cells w (tops_of cs) → AreKept MayHold cells w' (tops_of cs)
+  settled_kept MayHold cells held = kept_below MayHold low w w' cs (λ i k e. (kept i k e).0) same cells held
+
   pub settled_view : (current : List Slot) → frame_of w' low size' ≡ current
       → view_of w' saved' cs low size' h ≡ (let r : Stacks = record { current = current; callers = callers_of w saved h; choices = reverse (map (λ k. seen w saved k) cs) } in r)
   settled_view current e = ap (λ x. view_of w' x cs low size' h) es ∙ moved_view w w' saved cs base size height f low size' h count inside above same tops kept current e
@@ -154,6 +192,9 @@ module _ (w w' : List Slot) (saved saved' : List Saved) (cs : List Kept) (base s
   closed_fine long =
       let a = f.within in let b = low_under w saved cs base size h f h in
       settled_fine w w' saved saved' cs base size h f low size h count f.stack ec (omega (arith, el)) es same (omega (arith, a, b, el, long))
+
+  pub closed_kept : (MayHold : ℕ → Slot → Type 0) (cells : ℕ) → AreKept MayHold cells w (tops_of cs) → AreKept MayHold cells w' (tops_of cs)
+  closed_kept = settled_kept w w' saved saved' cs base size h f low size h count f.stack ec (omega (arith, el)) es same
 
   pub closed_view : frame_of w' low size ≡ frame_of w base size → view_of w' saved' cs low size h ≡ view_of w saved cs base size h
   closed_view copied = settled_view w w' saved saved' cs base size h f low size h count f.stack ec (omega (arith, el)) es same (frame_of w base size) copied

@@ -1,17 +1,19 @@
 -- Going back to a caller.
-use Rattle.std.proofs.Common.{◌≡◌, ℕ, suc, ◌+◌, ◌-◌, ◌<◌, ◌≤◌, List, [], ◌∷◌, length, take, Option, Some, None, slice_get, slice_set, slice_index_or, refl, sym, ap, ◌∙◌, subst, arith}
+use Rattle.std.proofs.Common.{◌≡◌, ℕ, zero, suc, ◌+◌, ◌-◌, ◌<◌, ◌≤◌, List, [], ◌∷◌, length, take, Option, Some, slice_get, slice_set, slice_index_or, refl, sym, ap, ◌∙◌, subst, arith}
 use Rattle.merc_frames.specs.declared.slot.Slot.{Slot}
 use Rattle.merc_frames.specs.Handing.{carried, delivered}
+use Rattle.merc_frames.specs.Held.{AreKept}
 use Rattle.merc_frames.specs.Stacks.{Caller, Stacks, caller_place}
-use Rattle.merc_frames.specs.View.{frame_of, linked, chain, callers_of, view_of, Fine, Grows, newest, counted, lowered, caller_top}
+use Rattle.merc_frames.specs.View.{frame_of, linked, chain, callers_of, view_of, tops_of, Fine, Grows, newest, kept_saved, counted, lowered, caller_top}
 use Rattle.merc_frames.specs.declared.kept.Saved.{Saved}
 use Rattle.merc_frames.specs.declared.kept.Kept.{Kept}
 use Rattle.merc_frames.proofs.Stays.{chain_fuel}
 use Rattle.std.proofs.lemmas.Option.{slice_get_read}
 use Rattle.merc_frames.specs.Stacks.{GivesBack, GivesSlots}
 use Rattle.merc_frames.proofs.Built.{Built}
+use Rattle.merc_frames.proofs.HeldLaws.{kept_below}
 use Rattle.merc_frames.proofs.Moving.{moved_fine, moved_view, grown_length}
-use Rattle.merc_frames.proofs.Newest.{bounded, counted_newest, settled_fine, settled_view}
+use Rattle.merc_frames.proofs.Newest.{bounded, settled_fine, settled_kept, settled_view}
 
 -- the newest caller, and its own callers
 callers_are : (w : List Slot) (saved : List Saved) (cs : List Kept) (base size h n : ℕ) (s : Saved) → Fine w saved cs base size h → slice_get saved n ≡ Some s
@@ -19,6 +21,11 @@ callers_are : (w : List Slot) (saved : List Saved) (cs : List Kept) (base size h
 callers_are w saved cs base size h n s f e =
     ap (λ o. linked w o (λ q. chain n w saved q)) e
     ∙ ap (λ rest. record { place = s.place; slots = frame_of w s.base s.size } ∷ rest) (chain_fuel n s.parent s.parent w saved f.parents (f.parents n s e) (omega arith))
+
+-- where there is one, its frame is saved
+pub caller_saved : (w : List Slot) (saved : List Saved) (h : ℕ) (callers : List Caller) → callers_of w saved h ≡ callers → (callers ≡ [] → ⊥) → 0 < h
+caller_saved w saved zero callers same there = absurd (there (sym same))
+caller_saved w saved (suc h) callers same there = omega arith
 
 -- the frame of the newest caller, as the code reads it
 pub caller_is : (w : List Slot) (saved : List Saved) (cs : List Kept) (base size h : ℕ) (s : Saved) → Fine w saved cs base size h → 0 < h → s ≡ slice_index_or saved (h - 1) s → slice_get saved (h - 1) ≡ Some s
@@ -36,11 +43,10 @@ one_delivered [] to = refl
 one_delivered (out ∷ outs) to = refl
 
 -- A slot is given where nothing was given and then the first output's slot is written.
-pub slot_given : (before between after : Stacks) (outs : List ℕ) (out found : ℕ) (slot : Slot) (place : Option ℕ) (at : ℕ) → place ≡ Some at → 1 ≤ length outs → out ≡ found → found ≡ slice_index_or outs 0 found
-    → GivesBack before between [] [] place → after ≡ record between { current = slice_set between.current out slot } → GivesSlots before after (slot ∷ []) outs place
-slot_given before between after outs out found slot None at is some same first gives set = absurd cc
-slot_given before between after [] out found slot (Some place) at is some same first gives set = absurd (omega (arith, some))
-slot_given before between after (first_out ∷ outs) out found slot (Some place) at is some same first gives set = (
+pub slot_given : (before between after : Stacks) (outs : List ℕ) (out found : ℕ) (slot : Slot) (place : ℕ) → 1 ≤ length outs → out ≡ found → found ≡ slice_index_or outs 0 found
+    → GivesBack before between [] [] (Some place) → after ≡ record between { current = slice_set between.current out slot } → GivesSlots before after (slot ∷ []) outs (Some place)
+slot_given before between after [] out found slot place some same first gives set = absurd (omega (arith, some))
+slot_given before between after (first_out ∷ outs) out found slot place some same first gives set = (
   gives.0,
   gives.1 ∙ ap (λ (x : Stacks). record { place = place; slots = gives.0 } ∷ x.callers) (sym set),
   ap (λ (x : Stacks). x.current) set ∙ ap (λ n. slice_set between.current n slot) (same ∙ first) ∙ ap (λ slots. slice_set slots first_out slot) gives.2 ∙ sym (one_delivered outs (slice_set gives.0 first_out slot)),
@@ -48,9 +54,8 @@ slot_given before between after (first_out ∷ outs) out found slot (Some place)
 )
 
 -- The place that is given is the newest caller's.
-pub given_at_caller : (before after : Stacks) (given : List Slot) (outs : List ℕ) (place : Option ℕ) → GivesSlots before after given outs place → GivesSlots before after given outs (caller_place before.callers)
-given_at_caller before after given outs None gives = subst (λ (place : Option ℕ). GivesSlots before after given outs place) (sym (ap caller_place gives.0)) gives
-given_at_caller before after given outs (Some place) gives = subst (λ (place : Option ℕ). GivesSlots before after given outs place) (sym (ap caller_place gives.1)) gives
+pub given_at_caller : (before after : Stacks) (given : List Slot) (outs : List ℕ) (place : ℕ) → GivesSlots before after given outs (Some place) → GivesSlots before after given outs (caller_place before.callers)
+given_at_caller before after given outs place gives = subst (λ (at : Option ℕ). GivesSlots before after given outs at) (sym (ap caller_place gives.1)) gives
 
 module _ (w : List Slot) (saved : List Saved) (cs : List Kept) (base size h : ℕ) (s : Saved) (f : Fine w saved cs base size h) (l : 0 < h) (e : slice_get saved (h - 1) ≡ Some s) where
   pub return_callers : callers_of w saved h ≡ record { place = s.place; slots = frame_of w s.base s.size } ∷ callers_of w saved s.parent
@@ -68,11 +73,11 @@ module _ (w : List Slot) (saved : List Saved) (cs : List Kept) (base size h : �
     filled = delivered outs (carried own (frame_of w base size)) (frame_of w s.base s.size)
 
     -- in place: no choice point was made since the call
-    module _ (w' : List Slot) (b : Built w w' s.base s.size filled) (free : counted (newest cs) 0 < h) (saved' : List Saved) (es : saved' ≡ take (h - 1) saved) where
+    module _ (w' : List Slot) (b : Built w w' s.base s.size filled) (free : kept_saved (newest cs) < h) (saved' : List Saved) (es : saved' ≡ take (h - 1) saved) where
       late : (i : ℕ) (k : Kept) → slice_get cs i ≡ Some k → k.saved ≤ h - 1
       late i k q =
           let r = bounded w saved cs base size h f 0 (omega arith) i k q in
-          let a = counted_newest (newest cs) 0 r.0 r.1 in let c = r.3 in omega (arith, a, c, free)
+          let a = ap kept_saved (sym r.1) in let c = r.3 in omega (arith, a, c, free)
 
       inside : h - 1 ≤ length saved
       inside = let a = f.stack in omega (arith, a)
@@ -87,6 +92,9 @@ module _ (w : List Slot) (saved : List Saved) (cs : List Kept) (base size h : �
       place_fine = subst (λ x. Fine w' x cs s.base s.size s.parent) (sym es)
           (moved_fine w w' saved cs base size h f s.base s.size s.parent (h - 1) inside (f.parents (h - 1) s e) b.below ordered kept b.room)
 
+      pub place_kept : (MayHold : ℕ → Slot → Type 0) (cells : ℕ) → AreKept MayHold cells w (tops_of cs) → AreKept MayHold cells w' (tops_of cs)
+      place_kept MayHold cells held = kept_below MayHold s.base w w' cs (λ i k q. (kept i k q).0) b.below cells held
+
       pub place_gives : GivesBack (view_of w saved cs base size h) (view_of w' saved' cs s.base s.size s.parent) own outs (Some s.place)
       place_gives = given_back (view_of w saved cs base size h) (view_of w' saved' cs s.base s.size s.parent) own outs s.place (frame_of w s.base s.size) (callers_of w saved s.parent) return_callers
           (ap (λ x. view_of w' x cs s.base s.size s.parent) es
@@ -97,6 +105,9 @@ module _ (w : List Slot) (saved : List Saved) (cs : List Kept) (base size h : �
         (el : lowered (newest cs) (caller_top saved s.parent) ≤ low) (es : saved' ≡ take count saved) where
       pub copy_fine : Fine w' saved' cs low s.size s.parent
       copy_fine = settled_fine w w' saved saved' cs base size h f low s.size s.parent count parent_inside ec el es b.below b.room
+
+      pub copy_kept : (MayHold : ℕ → Slot → Type 0) (cells : ℕ) → AreKept MayHold cells w (tops_of cs) → AreKept MayHold cells w' (tops_of cs)
+      copy_kept = settled_kept w w' saved saved' cs base size h f low s.size s.parent count parent_inside ec el es b.below
 
       pub copy_gives : GivesBack (view_of w saved cs base size h) (view_of w' saved' cs low s.size s.parent) own outs (Some s.place)
       copy_gives = given_back (view_of w saved cs base size h) (view_of w' saved' cs low s.size s.parent) own outs s.place (frame_of w s.base s.size) (callers_of w saved s.parent) return_callers

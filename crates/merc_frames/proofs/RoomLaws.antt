@@ -1,17 +1,13 @@
 -- The frame that is kept of the newest caller has the slots that outputs go to.
-use Rattle.std.proofs.Common.{◌≡◌, ℕ, ◌+◌, ◌-◌, ◌<◌, ◌≤◌, List, length, drop, Some, slice_get, sym, ap, ◌∙◌, subst, arith}
-use Rattle.std.proofs.lemmas.List.{length-drop, length-take-le}
+use Rattle.std.proofs.Common.{◌≡◌, ℕ, ◌-◌, ◌<◌, List, Some, slice_get, sym, ap, ◌∙◌, subst, arith}
 use Rattle.merc_frames.specs.declared.slot.Slot.{Slot}
 use Rattle.merc_frames.specs.declared.kept.Saved.{Saved}
 use Rattle.merc_frames.specs.declared.kept.Kept.{Kept}
 use Rattle.merc_frames.specs.Rooms.{AreCallerSlots, AreSlots}
 use Rattle.merc_frames.specs.Stacks.{Stacks}
-use Rattle.merc_frames.specs.View.{frame_of, view_of, Fine}
+use Rattle.merc_frames.specs.View.{view_of, Fine}
+use Rattle.merc_frames.proofs.FrameLaws.{frame_length}
 use Rattle.merc_frames.proofs.Returning.{return_callers}
-
--- a frame that lies in the list has as many slots as its size says
-frame_length : (w : List Slot) (base size : ℕ) → base + size ≤ length w → length (frame_of w base size) ≡ size
-frame_length w base size room = length-take-le size (drop base w) (omega (arith, room, length-drop base w))
 
 module _ (w : List Slot) (saved : List Saved) (cs : List Kept) (base size h : ℕ) (f : Fine w saved cs base size h) (shown : Stacks) (e : view_of w saved cs base size h ≡ shown) where
   -- its frame has these slots, by the size that is kept of it

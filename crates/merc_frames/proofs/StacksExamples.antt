@@ -1,6 +1,7 @@
 -- What the definitions of frames, callers and choice points say.
-use Rattle.std.proofs.Common.{◌≡◌, ℕ, List, [], ◌∷◌, Some, None, refl, sym, ap, ◌∙◌, arith}
-use Rattle.merc_frames.specs.Handing.{delivered}
+use Rattle.std.proofs.Common.{◌≡◌, ℕ, true, false, List, [], ◌∷◌, length, Some, None, refl, sym, ap, ◌∙◌, arith}
+use Rattle.std.proofs.lemmas.List.{length-set}
+use Rattle.merc_frames.specs.Handing.{delivered, passed}
 use Rattle.merc_frames.specs.declared.passing.Pass.{Pass}
 use Rattle.merc_frames.specs.declared.slot.Slot.{Slot}
 use Rattle.merc_frames.specs.declared.slot.Slot.TheVariants.{Empty, Cell}
@@ -12,6 +13,9 @@ one = Cell 1 ∷ []
 
 abbrev two : List Slot
 two = Cell 1 ∷ Cell 2 ∷ []
+
+abbrev two_twice : List Slot
+two_twice = Cell 2 ∷ Cell 2 ∷ []
 
 abbrev callers : List Caller
 callers = record { place = 9; slots = two } ∷ []
@@ -68,31 +72,45 @@ Opens-counterexample = λ opens. absurd (let none = opens.callers in cc)
 pub Opens-filled : Opens (record { current = one; callers = []; choices = [] }) 1 → ⊥
 Opens-filled = λ opens. absurd (let current = opens.current in cc)
 
--- what is in slot 1 goes to slot 0 of the new frame
+-- what is in slot 1 goes to slot 0 of the new frame, and slot 1 holds what was left there
 abbrev inputs : List Pass
 inputs = record { from = 1; to = 0 } ∷ []
 
 abbrev called : Stacks
 called = record { current = Cell 2 ∷ Empty ∷ []; callers = callers; choices = outer.choices }
 
-pub Enters-example : Enters outer called 9 2 inputs
-Enters-example = record { current = refl; callers = refl; choices = refl }
+abbrev called_over : Stacks
+called_over = record { current = Cell 2 ∷ Cell 8 ∷ []; callers = callers; choices = outer.choices }
+
+pub Enters-example : Enters outer called 9 2 true inputs
+Enters-example = record { left = Empty ∷ Empty ∷ []; room = refl; empty = λ _. refl; current = refl; callers = refl; choices = refl }
+
+pub Enters-over : Enters outer called_over 9 2 false inputs
+Enters-over = record { left = Cell 7 ∷ Cell 8 ∷ []; room = refl; empty = λ emptied. absurd cc; current = refl; callers = refl; choices = refl }
 
 -- another place
-pub Enters-counterexample : Enters outer called 5 2 inputs → ⊥
+pub Enters-counterexample : Enters outer called 5 2 true inputs → ⊥
 Enters-counterexample = λ enters. absurd (let same : 9 ≡ 5 = ap newest_place enters.callers in omega (arith, same))
 
--- nothing is passed, and the slot is not empty
-pub Enters-filled : Enters outer called 9 2 [] → ⊥
-Enters-filled = λ enters. absurd (let current = enters.current in cc)
+-- the frame is emptied, and slot 1 is not
+pub Enters-filled : Enters outer called_over 9 2 true inputs → ⊥
+Enters-filled = λ enters. absurd (let current : called_over.current ≡ Cell 2 ∷ Empty ∷ [] = enters.current ∙ ap (λ left. passed inputs two left) (enters.empty refl) in cc)
+
+-- the frame has another size
+pub Enters-short : Enters outer called 9 3 false inputs → ⊥
+Enters-short = λ enters. absurd (let long : 2 ≡ length enters.left = ap length enters.current ∙ length-set enters.left 0 (Cell 2) in let room = enters.room in omega (arith, long, room))
 
 -- the new frame is larger
-pub Renews-example : Renews outer (record { current = Cell 2 ∷ Empty ∷ Empty ∷ []; callers = []; choices = outer.choices }) 3 inputs
-Renews-example = record { current = refl; callers = refl; choices = refl }
+pub Renews-example : Renews outer (record { current = Cell 2 ∷ Empty ∷ Empty ∷ []; callers = []; choices = outer.choices }) 3 true inputs
+Renews-example = record { left = Empty ∷ Empty ∷ Empty ∷ []; room = refl; empty = λ _. refl; current = refl; callers = refl; choices = refl }
 
 -- a slot of the old frame stays
-pub Renews-counterexample : Renews outer (record { current = Cell 2 ∷ Cell 2 ∷ []; callers = []; choices = outer.choices }) 2 inputs → ⊥
-Renews-counterexample = λ renews. absurd (let current = renews.current in cc)
+pub Renews-over : Renews outer (record { current = Cell 2 ∷ Cell 2 ∷ []; callers = []; choices = outer.choices }) 2 false inputs
+Renews-over = record { left = two; room = refl; empty = λ emptied. absurd cc; current = refl; callers = refl; choices = refl }
+
+-- so it does where the frame is emptied
+pub Renews-counterexample : Renews outer (record { current = Cell 2 ∷ Cell 2 ∷ []; callers = []; choices = outer.choices }) 2 true inputs → ⊥
+Renews-counterexample = λ renews. absurd (let current : two_twice ≡ Cell 2 ∷ Empty ∷ [] = renews.current ∙ ap (λ left. passed inputs two left) (renews.empty refl) in cc)
 
 -- a slot goes to slot 1 of the caller's frame
 pub GivesSlots-example : GivesSlots called (record outer { current = Cell 1 ∷ Cell 7 ∷ [] }) (Cell 7 ∷ []) (1 ∷ []) (Some 9)

@@ -1,4 +1,5 @@
 pub mod Handing
+pub mod Held
 pub mod Rooms
 pub mod Slots
 pub mod Stacks

@@ -1,111 +1,88 @@
 //! Room for frames, and frames emptied and copied within their list.
-ghost use Rattle.std.specs.Prelude.{◌≡◌, ◌+◌, ◌≤◌, true, length, take, drop, replicate, OnOk};
+ghost use Rattle.std.specs.Prelude.{◌≡◌, ◌+◌, ◌≤◌, length, take, drop, replicate, if◌then◌else◌, OnOk, OnErr};
 ghost use Rattle.merc_frames.specs.View.{frame_of, Grows};
-ghost use Rattle.merc_frames.specs.declared.copying.TheConstants.{SPARE};
 
 use crate::Slot;
 use merc_base::NoMemory;
 
-/// So many slots behind a frame may be emptied with it.
-pub(crate) const SPARE: usize = 4;
+// So many slots more than a frame needs are made where the list is too short, so that not each call makes some. They are few,
+// since going back takes them away again.
+const FEW: usize = 8;
 
-/// Whether a frame of this size, and the spare slots behind it, fit into so many slots.
-#[inline(always)]
-pub(crate) fn fits(size: usize, room: usize) -> bool
-    ensures fits { result ≡ true → size + SPARE ≤ room }
-{
-    room >= SPARE && room - SPARE >= size
-}
-
-/// Makes the list long enough for a frame and the spare slots behind it. Where memory is refused, it may have become
-/// longer.
+/// Makes the list long enough for a frame, by empty slots behind it. Where memory is refused, nothing changes.
 #[inline(always)]
 pub(crate) fn make_room(slots: &mut Vec<Slot>, base: usize, size: usize) -> Result<(), NoMemory>
     requires { base ≤ length slots.old.items }
-    ensures ok { OnOk result (base + size + SPARE ≤ length slots.new.items) }
+    ensures ok { OnOk result (base + size ≤ length slots.new.items) }
     ensures grows { Grows slots.old.items slots.new.items }
+    ensures err { OnErr result (slots.new.items ≡ slots.old.items) }
 {
-    if fits(size, slots.len() - base) {
+    if size <= slots.len() - base {
         Ok(())
     } else {
         grow(slots, base, size)
     }
 }
 
-// Makes the list so long. It is seldom too short, and what seldom runs is kept out of the callers' code.
+// Makes a list that is too short for a frame long enough. It seldom is, and what seldom runs is kept out of the callers' code.
 #[cold]
 #[inline(never)]
 fn grow(slots: &mut Vec<Slot>, base: usize, size: usize) -> Result<(), NoMemory>
-    ensures ok { OnOk result (base + size + SPARE ≤ length slots.new.items) }
+    requires { length slots.old.items ≤ base + size }
+    ensures ok { OnOk result (base + size ≤ length slots.new.items) }
     ensures grows { Grows slots.old.items slots.new.items }
+    ensures err { OnErr result (slots.new.items ≡ slots.old.items) }
 {
     let Some(end) = base.checked_add(size) else {
         return Err(NoMemory);
     };
-    let Some(end) = end.checked_add(SPARE) else {
+    let Some(count) = end.checked_add(FEW) else {
         return Err(NoMemory);
     };
-    while slots.len() < end {
-        slots.push(Slot::Empty)?;
-    }
+    slots.resize(count, Slot::Empty)?;
     Ok(())
 }
 
-/// Empties each slot of a frame. What lies below the frame stays, and so does what lies above it, but for the spare
-/// slots.
+/// Makes the list one of so many empty slots. Where memory is refused, nothing changes.
+pub(crate) fn make_empty(slots: &mut Vec<Slot>, size: usize) -> Result<(), NoMemory>
+    ensures ok { OnOk result (slots.new.items ≡ replicate size Slot.Empty) }
+    ensures err { OnErr result (slots.new.items ≡ slots.old.items) }
+{
+    make_room(slots, 0, size)?;
+    slots.truncate(size);
+    slots.fill(Slot::Empty);
+    Ok(())
+}
+
+/// Empties each slot of a frame. No other changes.
 #[inline(always)]
 pub(crate) fn empty_frame(slots: &mut [Slot], base: usize, size: usize)
-    requires { base + size + SPARE ≤ length slots.old }
+    requires { base + size ≤ length slots.old }
     ensures long { length slots.new ≡ length slots.old }
     ensures below { take base slots.old ≡ take base slots.new }
-    ensures above { drop (base + size + SPARE) slots.old ≡ drop (base + size + SPARE) slots.new }
+    ensures above { drop (base + size) slots.old ≡ drop (base + size) slots.new }
     ensures emptied { frame_of slots.new base size ≡ replicate size Slot.Empty }
 {
-    if size <= 4 {
-        empty_slots(slots, base, size, 4);
-    } else if size <= 8 {
-        empty_slots(slots, base, size, 8);
-    } else if size <= 12 {
-        empty_slots(slots, base, size, 12);
-    } else if size <= 16 {
-        empty_slots(slots, base, size, 16);
-    } else {
-        empty_slots(slots, base, size, size);
+    slots[base..base + size].fill(Slot::Empty);
+}
+
+/// Takes all slots above a frame away, where it is told to.
+pub(crate) fn cut_above(slots: &mut Vec<Slot>, base: usize, size: usize, is_cut: bool)
+    requires { base + size ≤ length slots.old.items }
+    ensures { slots.new.items ≡ (if is_cut then take (base + size) slots.old.items else slots.old.items) }
+{
+    if is_cut {
+        slots.truncate(base + size);
     }
 }
 
-// Empties so many slots, those of a frame among them. A number that the compiler knows takes no loop.
-#[inline(always)]
-fn empty_slots(slots: &mut [Slot], base: usize, size: usize, count: usize)
-    requires frame { size ≤ count }
-    requires spare { count ≤ size + SPARE }
-    requires room { base + count ≤ length slots.old }
-    ensures long { length slots.new ≡ length slots.old }
-    ensures below { take base slots.old ≡ take base slots.new }
-    ensures above { drop (base + size + SPARE) slots.old ≡ drop (base + size + SPARE) slots.new }
-    ensures emptied { frame_of slots.new base size ≡ replicate size Slot.Empty }
-{
-    fill_slots(slots, base, count);
-}
-
-// Empties just these slots.
-#[inline(always)]
-fn fill_slots(slots: &mut [Slot], base: usize, count: usize)
-    requires { base + count ≤ length slots.old }
-    ensures long { length slots.new ≡ length slots.old }
-    ensures below { take base slots.old ≡ take base slots.new }
-    ensures above { drop (base + count) slots.old ≡ drop (base + count) slots.new }
-    ensures emptied { frame_of slots.new base count ≡ replicate count Slot.Empty }
-{
-    slots[base..base + count].fill(Slot::Empty);
-}
-
-/// Copies a frame to where another base is. What lies below that stays.
+/// Copies a frame to where another base is. No other slot changes.
 pub(crate) fn copy_frame(slots: &mut Vec<Slot>, from: usize, size: usize, to: usize)
     requires source { from + size ≤ length slots.old.items }
     requires target { to + size ≤ length slots.old.items }
     ensures long { length slots.new.items ≡ length slots.old.items }
     ensures below { take to slots.old.items ≡ take to slots.new.items }
+    ensures above { drop (to + size) slots.old.items ≡ drop (to + size) slots.new.items }
     ensures copied { frame_of slots.new.items to size ≡ frame_of slots.old.items from size }
 {
     if from != to {

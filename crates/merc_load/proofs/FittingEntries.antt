@@ -10,10 +10,10 @@ use Rattle.merc_frames.specs.Rooms.{AreReceived}
 use Rattle.merc_last_calls.specs.LastCalls.{outputs}
 use Rattle.merc_load.specs.Combined.{StandsThere}
 use Rattle.merc_load.specs.FittingOps.{FitsEntry}
-use Rattle.merc_load.specs.LeavingOut.{LeavesOut, decides_number, decides_test, decides_integer, decides_result, operates_number}
-use Rattle.merc_load.specs.Loaded.{IsLoaded, StandsAt, call_op, inputs, is_last_of, op_of, ops_of}
-use Rattle.merc_load.specs.Superinstructions.{IsSuperinstruction, decides, decides_with, operates_with, compares_with, jumps_back, returns_result, returns_built, returns_copy, decides_all, switches, switches_list, tries_result, tries_test}
-use Rattle.merc_load.specs.declared.loaded.Entry.{Entry}
+use Rattle.merc_load.specs.LeavingOut.{LeavesOut, decides_number, decides_test, decides_comparison, decides_integer, decides_result, operates_number, adds_number, subtracts_number}
+use Rattle.merc_load.specs.Loaded.{IsLoaded, StandsAt, call_op, entered_at, inputs, is_last_of, op_of, ops_of}
+use Rattle.merc_load.specs.Superinstructions.{IsSuperinstruction, operates, builds, splits, decides, decides_with, operates_with, compares_with, jumps_back, returns_result, returns_built, returns_copy, decides_all, switches, switches_list, tries_result, tries_test}
+use Rattle.merc_layout.specs.declared.entries.Entry.{Entry}
 use Rattle.merc_load.specs.declared.loaded.Loaded.{Loaded}
 use Rattle.merc_load.specs.declared.loaded.Op.{Op}
 use Rattle.merc_load.specs.declared.loaded.Op.TheVariants.{Call as CallOp, LastCall}
@@ -23,6 +23,9 @@ use Rattle.merc_load.proofs.StandingOps.{standing_first}
 -- None of these is a call.
 
 superinstruction_received : (ops : List Op) (new : Op) → IsSuperinstruction ops new → FitsEntry new
+superinstruction_received _ _ (operates operation to one other ops) = tt
+superinstruction_received _ _ (builds to symbol arguments ops) = tt
+superinstruction_received _ _ (splits whole symbol arguments ops) = tt
 superinstruction_received _ _ (decides slot skipped test ops) = tt
 superinstruction_received _ _ (tries_test skipped test ops is) = tt
 superinstruction_received _ _ (tries_result skipped operation to one other compared ops apart) = tt
@@ -40,9 +43,12 @@ superinstruction_received _ _ (switches_list whole head tail empty_skipped cell_
 leaving_received : (codes : Codes) (own : Option (List Arg)) (code : Code) (new : Op) → LeavesOut codes own code new → FitsEntry new
 leaving_received codes own _ _ (decides_number mark skipped comparison one constant number rest apart unread held failed) = tt
 leaving_received codes own _ _ (decides_test mark skipped test rest is held failed) = tt
+leaving_received codes own _ _ (decides_comparison mark skipped comparison one other rest held failed) = tt
 leaving_received codes own _ _ (decides_integer mark skipped whole number rest held failed) = tt
 leaving_received codes own _ _ (decides_result mark skipped operation to one constant number due rest apart unread unread_result held failed) = tt
 leaving_received codes own _ _ (operates_number operation to one constant number rest apart unread) = tt
+leaving_received codes own _ _ (adds_number to one constant number rest apart unread) = tt
+leaving_received codes own _ _ (subtracts_number to one constant number rest apart unread) = tt
 
 stands_received : (codes : Codes) (own : Option (List Arg)) (instruction : Instruction) (rest : Code) (op : Op) (ops : List Op) (new : Op) → StandsThere codes own instruction rest op ops new → FitsEntry op
     → FitsEntry new
@@ -60,7 +66,8 @@ module _ (program : Loaded) (codes : Codes) (entry_of : Procedure → Entry) (qu
       received : AreReceived (entry_of procedure).size (inputs zero code.places arguments)
       received = passed_inside program codes entry_of procedure code (loaded.procedures procedure code is) arguments
 
-      by : (last : Bool) → FitsEntry (if last then LastCall (entry_of procedure) (inputs zero code.places arguments) else CallOp (entry_of procedure) (inputs zero code.places arguments) (outputs code.places arguments))
+      by : (last : Bool) → FitsEntry (if last then LastCall (entered_at (entry_of procedure) code.places arguments) (inputs zero code.places arguments)
+          else CallOp (entered_at (entry_of procedure) code.places arguments) (inputs zero code.places arguments) (outputs code.places arguments))
       by true = received
       by false = received
 

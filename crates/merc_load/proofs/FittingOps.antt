@@ -5,21 +5,22 @@ use Rattle.std.proofs.Common.{arith, inl, inr, subst, sym}
 use Rattle.std.proofs.lemmas.List.Elements.{All-append, All-cons, All-drop, All-from_recursion, All-head, All-nil, All-tail, All-weaker, recursion_from_All}
 use Rattle.merc_tree.specs.declared.declarations.Arg.{Arg}
 use Rattle.merc_goal_tree.specs.declared.goal.Symbol.TheVariants.{Integer as IntegerSymbol}
+use Rattle.merc_goal_tree.specs.declared.goal.Operation.TheVariants.{Add, Subtract}
 use Rattle.merc_graded_tree.specs.declared.basic.Procedure.{Procedure}
 use Rattle.merc_code.specs.declared.instruction.Instruction.{Instruction}
 use Rattle.merc_code.specs.declared.instruction.Instruction.TheVariants.{Integer, Text, Copy, Build, Split, Literal, Test, Arithmetic, Compare, Raise, Jump, Switch, Try, Mark, Commit, Soften, Call, Return, Fail, Answer}
 use Rattle.merc_code.specs.declared.instruction.Target.{Target}
 use Rattle.merc_code.specs.Steps.{Code, Codes, ProcedureCode}
 use Rattle.merc_last_calls.specs.LastCalls.{outputs}
-use Rattle.merc_load.specs.declared.loaded.Entry.{Entry}
+use Rattle.merc_layout.specs.declared.entries.Entry.{Entry}
 use Rattle.merc_load.specs.Combined.{StandsThere}
-use Rattle.merc_load.specs.Entries.{Each}
+use Rattle.merc_layout.specs.Entries.{Each}
 use Rattle.merc_frames.specs.Rooms.{AreSlots}
 use Rattle.merc_load.specs.FittingOps.{FitsOp, HasSlots}
-use Rattle.merc_load.specs.Frames.{FitsCode, FitsInstruction, written}
-use Rattle.merc_load.specs.LeavingOut.{LeavesOut, decides_number, decides_test, decides_integer, decides_result, operates_number}
-use Rattle.merc_load.specs.Loaded.{StandsAt, call_op, inputs, is_last_of, op_of, ops_of, results_of}
-use Rattle.merc_load.specs.Superinstructions.{AreListArms, IsArm, IsSuperinstruction, SkipsTo, cell_arm, empty_arm, decides, decides_with, operates_with, compares_with, jumps_back, returns_result, returns_built, returns_copy, decides_all, switches, switches_list, tries_result, tries_test}
+use Rattle.merc_layout.specs.Frames.{FitsCode, FitsInstruction, written}
+use Rattle.merc_load.specs.LeavingOut.{LeavesOut, decides_number, decides_test, decides_comparison, decides_integer, decides_result, operates_number, adds_number, subtracts_number}
+use Rattle.merc_load.specs.Loaded.{StandsAt, call_op, entered_at, inputs, is_last_of, op_of, ops_of, results_of}
+use Rattle.merc_load.specs.Superinstructions.{AreListArms, IsArm, IsSuperinstruction, SkipsTo, cell_arm, empty_arm, operates, builds, splits, decides, decides_with, operates_with, compares_with, jumps_back, returns_result, returns_built, returns_copy, decides_all, switches, switches_list, tries_result, tries_test}
 use Rattle.merc_load.specs.declared.loaded.Arm.{Arm}
 use Rattle.merc_load.specs.declared.loaded.Op.{Op}
 use Rattle.merc_load.specs.declared.loaded.Op.TheVariants.{Do, Jump as JumpOp, Switch as SwitchOp, Try as TryOp, Mark as MarkOp, Commit as CommitOp, Call as CallOp, LastCall, Return as ReturnOp}
@@ -116,6 +117,9 @@ module _ (size : ℕ) where
   each_of ops fits = recursion_from_All (FitsOp size) ops fits
 
   superinstruction_fits : (ops : List Op) (new : Op) → IsSuperinstruction ops new → All (FitsOp size) ops → FitsOp size new
+  superinstruction_fits _ _ (operates operation to one other ops) fits = All-head (FitsOp size) (Do (Arithmetic operation to one other)) ops fits
+  superinstruction_fits _ _ (builds to symbol arguments ops) fits = All-head (FitsOp size) (Do (Build to symbol arguments)) ops fits
+  superinstruction_fits _ _ (splits whole symbol arguments ops) fits = All-head (FitsOp size) (Do (Split whole symbol arguments)) ops fits
   superinstruction_fits _ _ (decides slot skipped test ops) fits = let each = each_of (MarkOp slot ∷ TryOp skipped ∷ Do test ∷ CommitOp slot ∷ ops) fits in (each.1.1.0, each.0)
   superinstruction_fits _ _ (tries_test skipped test ops is) fits = let each = each_of (TryOp skipped ∷ Do test ∷ ops) fits in each.1.0
   superinstruction_fits _ _ (tries_result skipped operation to one other compared ops apart) fits =
@@ -153,6 +157,8 @@ module _ (size : ℕ) where
       compared.0
   leaving_fits codes own _ _ (decides_test mark skipped test rest is held failed) slots =
       let each = recursion_from_All (HasSlots size) (Mark mark ∷ Try skipped ∷ test ∷ Commit mark ∷ rest) slots in each.1.1.0
+  leaving_fits codes own _ _ (decides_comparison mark skipped comparison one other rest held failed) slots =
+      let each = recursion_from_All (HasSlots size) (Mark mark ∷ Try skipped ∷ Compare comparison one other ∷ Commit mark ∷ rest) slots in each.1.1.0
   leaving_fits codes own _ _ (decides_integer mark skipped whole number rest held failed) slots =
       let each = recursion_from_All (HasSlots size) (Mark mark ∷ Try skipped ∷ Literal whole (IntegerSymbol number) ∷ Commit mark ∷ rest) slots in each.1.1.0
   leaving_fits codes own _ _ (decides_result mark skipped operation to one constant number due rest apart unread unread_result held failed) slots =
@@ -163,6 +169,14 @@ module _ (size : ℕ) where
       let each = recursion_from_All (HasSlots size) (Integer constant number ∷ Arithmetic operation to one constant ∷ rest) slots in
       let operated = each.1.0 in
       (operated.0, operated.1)
+  leaving_fits codes own _ _ (adds_number to one constant number rest apart unread) slots =
+      let each = recursion_from_All (HasSlots size) (Integer constant number ∷ Arithmetic Add to one constant ∷ rest) slots in
+      let added = each.1.0 in
+      (added.0, added.1)
+  leaving_fits codes own _ _ (subtracts_number to one constant number rest apart unread) slots =
+      let each = recursion_from_All (HasSlots size) (Integer constant number ∷ Arithmetic Subtract to one constant ∷ rest) slots in
+      let subtracted = each.1.0 in
+      (subtracted.0, subtracted.1)
 
 -- Given is what the loaded code belongs to. The results of the procedure whose code it is are variables.
 module _ (codes : Codes) (entry_of : Procedure → Entry) (variables size : ℕ) (own : Option (List Arg)) (room : variables ≤ size) (results : All (λ (variable : ℕ). variable < variables) (results_of own)) where
@@ -170,7 +184,8 @@ module _ (codes : Codes) (entry_of : Procedure → Entry) (variables size : ℕ)
   call_fits entry None arguments rest slots = tt
   call_fits entry (Some procedure) arguments rest slots = by (is_last_of own rest (outputs procedure.places arguments))
     where
-      by : (last : Bool) → FitsOp size (if last then LastCall entry (inputs zero procedure.places arguments) else CallOp entry (inputs zero procedure.places arguments) (outputs procedure.places arguments))
+      by : (last : Bool) → FitsOp size (if last then LastCall (entered_at entry procedure.places arguments) (inputs zero procedure.places arguments)
+          else CallOp (entered_at entry procedure.places arguments) (inputs zero procedure.places arguments) (outputs procedure.places arguments))
       by true = inputs_from size zero procedure.places arguments slots
       by false = (inputs_from size zero procedure.places arguments slots, outputs_below size procedure.places arguments slots)
 

@@ -1,13 +1,10 @@
 pub mod Combined
 pub mod FittingEntries
 pub mod FittingOps
-pub mod KnownProcedures
 pub mod LeavingOut
-pub mod Lists
 pub mod Ops
 pub mod Passed
 pub mod Returning
-pub mod Rooms
 pub mod StandingOps
 pub mod Steps
 pub mod Theorem

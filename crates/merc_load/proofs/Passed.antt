@@ -1,5 +1,5 @@
--- What is passed to a procedure, and what it gives back.
-use Rattle.std.specs.Prelude.{ℕ, zero, suc, ◌+◌, ◌<◌, ◌≤◌, List, [], ◌∷◌, length, Some}
+-- What is passed to a procedure, and where its outputs go.
+use Rattle.std.specs.Prelude.{ℕ, zero, suc, ◌+◌, ◌<◌, ◌≤◌, List, [], ◌∷◌, length}
 use Rattle.std.specs.List.{All}
 use Rattle.std.proofs.Common.{arith}
 use Rattle.std.proofs.lemmas.List.Elements.{All-cons, All-head, All-nil, All-tail}
@@ -7,23 +7,13 @@ use Rattle.merc_tree.specs.declared.declarations.Arg.{Arg}
 use Rattle.merc_tree.specs.declared.declarations.Arg.TheVariants.{Input, Output}
 use Rattle.merc_graded_tree.specs.declared.basic.Procedure.{Procedure}
 use Rattle.merc_code.specs.Steps.{Codes, ProcedureCode}
-use Rattle.merc_last_calls.specs.LastCalls.{outputs, own_outputs}
+use Rattle.merc_last_calls.specs.LastCalls.{outputs}
 use Rattle.merc_frames.specs.declared.passing.Pass.{Pass}
-use Rattle.merc_load.specs.declared.loaded.Entry.{Entry}
-use Rattle.merc_load.specs.Loaded.{IsEntry, inputs, results_of}
+use Rattle.merc_layout.specs.declared.entries.Entry.{Entry}
+use Rattle.merc_load.specs.Loaded.{IsEntry, inputs}
 use Rattle.merc_load.specs.declared.loaded.Loaded.{Loaded}
 
 module _ (count : ℕ) where
-  -- a procedure's outputs are variables of its frame, of which the arguments are the first
-  own_outputs_below : (first : ℕ) (places : List Arg) → first + length places ≤ count → All (λ (variable : ℕ). variable < count) (own_outputs first places)
-  own_outputs_below first [] room = All-nil (λ (variable : ℕ). variable < count)
-  own_outputs_below first (Input ∷ places) room = own_outputs_below (suc first) places (omega (arith, room))
-  own_outputs_below first (Output ∷ places) room =
-      All-cons (λ (variable : ℕ). variable < count) first (own_outputs (suc first) places) (omega (arith, room)) (own_outputs_below (suc first) places (omega (arith, room)))
-
-  pub results_below : (places : List Arg) → length places ≤ count → All (λ (variable : ℕ). variable < count) (results_of (Some places))
-  results_below places room = own_outputs_below zero places (omega (arith, room))
-
   -- what a call passes goes to variables of the called procedure's frame
   inputs_to : (first : ℕ) (places : List Arg) (arguments : List ℕ) → first + length places ≤ count → All (λ (pass : Pass). pass.to < count) (inputs first places arguments)
   inputs_to first [] arguments room = All-nil (λ (pass : Pass). pass.to < count)

@@ -5,11 +5,11 @@ use Rattle.merc_tree.specs.declared.declarations.Arg.{Arg}
 use Rattle.merc_graded_tree.specs.declared.basic.Procedure.{Procedure}
 use Rattle.merc_code.specs.declared.instruction.Instruction.{Instruction}
 use Rattle.merc_code.specs.Steps.{Code, Codes}
-use Rattle.merc_load.specs.declared.loaded.Entry.{Entry}
+use Rattle.merc_layout.specs.declared.entries.Entry.{Entry}
 use Rattle.merc_load.specs.Combined.{AreCombined, StandsThere, next, none}
 use Rattle.merc_load.specs.Loaded.{StandsAt, op_of, ops_of}
 use Rattle.merc_load.specs.declared.loaded.Op.{Op}
-use Rattle.merc_load.proofs.Lists.{some_same}
+use Rattle.merc_layout.proofs.Lists.{some_same}
 
 item_behind : (ops : List Op) (place : ℕ) → slice_get (drop place ops) 0 ≡ slice_get ops place
 item_behind ops zero = refl

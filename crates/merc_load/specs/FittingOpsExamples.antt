@@ -1,16 +1,18 @@
 -- Worked examples of instructions of the machine that fit frames.
-use Rattle.std.specs.Prelude.{ℕ, ◌<◌, [], ◌∷◌, None, IfSome}
+use Rattle.std.specs.Prelude.{ℕ, ◌<◌, pos, false, [], ◌∷◌, None, IfSome}
 use Rattle.std.proofs.Common.{arith}
 use Rattle.std.proofs.lemmas.List.Elements.{All-from_recursion}
 use Rattle.merc_goal_tree.specs.declared.goal.Operation.TheVariants.{Subtract}
+use Rattle.merc_goal_tree.specs.declared.goal.Comparison.TheVariants.{Less}
+use Rattle.merc_goal_tree.specs.declared.goal.Symbol.TheVariants.{Constructor}
 use Rattle.merc_code.specs.declared.instruction.Instruction.TheVariants.{Arithmetic, Test}
 use Rattle.merc_frames.specs.declared.passing.Pass.{Pass}
 use Rattle.merc_frames.specs.Rooms.{AreSlots}
 use Rattle.merc_load.specs.FittingOps.{FitsEntry, FitsOp}
 use Rattle.merc_load.specs.Superinstructions.{cell_arm, empty_arm}
 use Rattle.merc_load.specs.declared.loaded.Arm.{Arm}
-use Rattle.merc_load.specs.declared.loaded.Entry.{Entry}
-use Rattle.merc_load.specs.declared.loaded.Op.TheVariants.{Do, Call, LastCall, If, SwitchFields, Fail}
+use Rattle.merc_layout.specs.declared.entries.Entry.{Entry}
+use Rattle.merc_load.specs.declared.loaded.Op.TheVariants.{Do, Call, LastCall, If, IfCompareVariables, SumNumber, SwitchFields, Fail, Arithmetic as ArithmeticOp, Build as BuildOp, Split as SplitOp}
 
 -- a frame of three slots
 
@@ -21,12 +23,46 @@ arithmetic-example = (omega arith, omega arith, omega arith)
 arithmetic-not : FitsOp 3 (Do (Arithmetic Subtract 2 0 3)) → ⊥
 arithmetic-not f = let h : 3 < 3 = f.2 in absurd (omega (arith, h))
 
+-- The same of the machine's own instructions.
+
+own_arithmetic-example : FitsOp 3 (ArithmeticOp Subtract 2 0 1)
+own_arithmetic-example = (omega arith, omega arith, omega arith)
+
+own_arithmetic-not : FitsOp 3 (ArithmeticOp Subtract 2 0 3) → ⊥
+own_arithmetic-not f = let h : 3 < 3 = f.2 in absurd (omega (arith, h))
+
+build-example : FitsOp 3 (BuildOp 2 (Constructor 7 1) (0 ∷ []))
+build-example = (omega arith, All-from_recursion (λ (slot : ℕ). slot < 3) (0 ∷ []) (omega arith, tt))
+
+build-not : FitsOp 3 (BuildOp 3 (Constructor 7 1) (0 ∷ [])) → ⊥
+build-not f = let h : 3 < 3 = f.0 in absurd (omega (arith, h))
+
+split-example : FitsOp 3 (SplitOp 0 (Constructor 7 1) (2 ∷ []))
+split-example = (omega arith, All-from_recursion (λ (slot : ℕ). slot < 3) (2 ∷ []) (omega arith, tt))
+
+-- a field is given to the fourth slot
+split-not : FitsOp 3 (SplitOp 0 (Constructor 7 1) (3 ∷ [])) → ⊥
+split-not f = let h : 3 < 3 = f.1 0 3 (omega arith) in absurd (omega (arith, h))
+
+-- The number is no slot.
+sum-example : FitsOp 3 (SumNumber 2 0 (pos 10))
+sum-example = (omega arith, omega arith)
+
+sum-not : FitsOp 3 (SumNumber 3 0 (pos 1)) → ⊥
+sum-not f = let h : 3 < 3 = f.0 in absurd (omega (arith, h))
+
+comparison-example : FitsOp 3 (IfCompareVariables Less 0 2 9)
+comparison-example = (omega arith, omega arith)
+
+comparison-not : FitsOp 3 (IfCompareVariables Less 0 3 1) → ⊥
+comparison-not f = let h : 3 < 3 = f.1 in absurd (omega (arith, h))
+
 fail-example : FitsOp 0 Fail
 fail-example = tt
 
 -- the entry of a procedure, whose frames have two slots
 abbrev entry : Entry
-entry = record { place = 0; size = 2 }
+entry = record { place = 0; size = 2; is_clean = false }
 
 -- It does not matter what number of slots the called procedure's frame has.
 call-example : FitsOp 3 (Call entry (record { from = 2; to = 7 } ∷ []) (1 ∷ []))

@@ -1,17 +1,12 @@
 pub mod Combined
 pub mod CombinedExamples
-pub mod Entries
-pub mod EntriesExamples
 pub mod FittingOps
 pub mod FittingOpsExamples
-pub mod Frames
-pub mod FramesExamples
 pub mod LeavingOut
 pub mod LeavingOutExamples
 pub mod Linking
 pub mod LinkingExamples
 pub mod Loaded
 pub mod LoadedExamples
-pub mod Sizes
 pub mod Superinstructions
 pub mod SuperinstructionsExamples

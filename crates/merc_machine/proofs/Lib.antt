@@ -16,13 +16,14 @@ pub mod Fitting
 pub mod Going
 pub mod GoingBack
 pub mod Growing
-pub mod Handed
 pub mod Handing
 pub mod Inverses
 pub mod JumpingBack
 pub mod LastCalling
 pub mod Leaving
+pub mod LeftOver
 pub mod Linking
+pub mod LookedAt
 pub mod Marking
 pub mod Passing
 pub mod Performing
@@ -32,6 +33,7 @@ pub mod Resulting
 pub mod Returning
 pub mod ReturningResults
 pub mod Runs
+pub mod Separate
 pub mod Shown
 pub mod Silent
 pub mod Slots

@@ -1,5 +1,5 @@
 -- Worked examples of callers to which an instruction returns.
-use Rattle.std.specs.Prelude.{◌≡◌, ℕ, zero, suc, ◌<◌, List, [], ◌∷◌, length, Some, pos, slice_get, refl}
+use Rattle.std.specs.Prelude.{◌≡◌, ℕ, zero, suc, ◌<◌, false, List, [], ◌∷◌, length, Some, pos, slice_get, refl}
 use Rattle.std.proofs.Common.{ap, sym, ◌∙◌, subst, arith}
 use Rattle.std.proofs.lemmas.List.Elements.{All-from_recursion}
 use Rattle.merc_frames.specs.declared.passing.Pass.{Pass}
@@ -7,13 +7,13 @@ use Rattle.merc_frames.specs.declared.slot.Slot.{Slot}
 use Rattle.merc_frames.specs.declared.slot.Slot.TheVariants.{Int as IntSlot}
 use Rattle.merc_frames.specs.Rooms.{AreSlots}
 use Rattle.merc_frames.specs.Stacks.{Caller}
-use Rattle.merc_load.specs.declared.loaded.Entry.{Entry}
+use Rattle.merc_layout.specs.declared.entries.Entry.{Entry}
 use Rattle.merc_load.specs.declared.loaded.Op.{Op}
 use Rattle.merc_load.specs.declared.loaded.Op.TheVariants.{Call as CallOp, Fail as FailOp, Return as ReturnOp}
 use Rattle.merc_machine.specs.Outputs.{FitsCallers, FollowsCall, HasCaller}
 
 abbrev called : Entry
-called = record { place = 2; size = 1 }
+called = record { place = 2; size = 1; is_clean = false }
 
 -- behind the call, which gives an output to the second slot, a caller goes on at place 1
 abbrev ops : List Op

@@ -1,6 +1,7 @@
 pub mod CarryingLaws
 pub mod SoundLaws
-pub mod StepLaws
+pub mod HeldLaws
+pub mod Stores
 pub mod FrameLemmas
 pub mod SoundLemmas
 pub mod DoingLemmas

@@ -14,8 +14,8 @@ use Rattle.merc_meaning.specs.Arithmetic.{comparison_of}
 use Rattle.merc_code.specs.declared.instruction.Instruction.{Instruction}
 use Rattle.merc_code.specs.declared.instruction.Instruction.TheVariants.{Integer, Arithmetic, Compare}
 use Rattle.merc_code.specs.Steps.{Effect, Fails, Raises, compares, operates}
-use Rattle.merc_load.specs.Frames.{FitsInstruction}
-use Rattle.merc_load.specs.FramesExamples.{fits}
+use Rattle.merc_layout.specs.Frames.{FitsInstruction}
+use Rattle.merc_layout.specs.FramesExamples.{fits}
 use Rattle.merc_frames.specs.Stacks.{GoesOn}
 use Rattle.merc_frames.specs.declared.slot.Slot.TheVariants.{Empty, Int as IntSlot, Text as TextSlot, Cell as CellSlot, Mark}
 use Rattle.merc_store.specs.Data.{StoreData, with_current}
@@ -83,7 +83,7 @@ raised_over variables (first ∷ second ∷ env) marks effect is found =
 
 -- 7 div 0 raises an exception, and the constant is given no value
 does_both-example : DoesBoth store store (Integer 1 (pos 0)) (Arithmetic Div 1 0 1) (Raised division_by_zero_name)
-does_both-example = record { performs = λ variables env marks effect fits within within' found. raised_over variables env marks effect (fits.values 0) found }
+does_both-example = record { performs = λ variables env marks effect fits within within' found. raised_over variables env marks effect (fits.values 0 (within'.read_variables_are_there 0 0 (omega arith))) found }
 
 integer_fits : FitsInstruction 2 3 (Integer 1 (pos 9))
 integer_fits = fits 2 3 (Integer 1 (pos 9)) (omega arith, tt) tt tt tt
@@ -95,7 +95,7 @@ compare_fits = fits 2 3 (Compare Less 0 1) tt tt (omega arith, (omega arith, tt)
 does_both-not : DoesBoth store store (Integer 1 (pos 9)) (Compare Less 0 1) Bound → ⊥
 does_both-not does =
     let done = does.performs 2 (Some (Int (pos 7)) ∷ []) (3 ∷ []) _ frame-example integer_fits compare_fits refl in
-    let same : Some (Int (pos 9)) ≡ None = done.1.values 1 in
+    let same : Some (Int (pos 9)) ≡ None = done.1.values 1 (omega arith) in
     absurd (cc)
 
 pub store-grows : Grows store store
@@ -125,17 +125,18 @@ tested-holds = refl
 tested-fails : tested false ≡ Failed
 tested-fails = refl
 
-passed_over : (variables : ℕ) (env : Env) (marks : List ℕ) → FitsFrame store.cells variables store.stacks.current env marks → Performs store store variables marks (compares_number Less 0 (pos 9) env) Bound
-passed_over variables env marks fits =
-    subst (λ v. Performs store store variables marks (compares env (comparison_of Less) v (Some (Int (pos 9)))) Bound) (sym (fits.values 0)) (store-grows, fits)
+passed_over : (variables : ℕ) (env : Env) (marks : List ℕ) → FitsFrame store.cells variables store.stacks.current env marks → 0 < variables
+    → Performs store store variables marks (compares_number Less 0 (pos 9) env) Bound
+passed_over variables env marks fits within =
+    subst (λ v. Performs store store variables marks (compares env (comparison_of Less) v (Some (Int (pos 9)))) Bound) (sym (fits.values 0 within)) (store-grows, fits)
 
 -- 7 < 9 holds, and nothing is given a value
-does_effect-example : DoesEffect store store [] (compares_number Less 0 (pos 9)) Bound
-does_effect-example = record { performs = λ variables env marks fits within. passed_over variables env marks fits }
+does_effect-example : DoesEffect store store (0 ∷ []) (compares_number Less 0 (pos 9)) Bound
+does_effect-example = record { performs = λ variables env marks fits within. passed_over variables env marks fits (within 0 0 (omega arith)) }
 
 -- it does not fail
-does_effect-not : DoesEffect store store [] (compares_number Less 0 (pos 9)) Failed → ⊥
-does_effect-not does = does.performs 2 (Some (Int (pos 7)) ∷ []) (3 ∷ []) frame-example (All-nil (λ (variable : ℕ). variable < 2))
+does_effect-not : DoesEffect store store (0 ∷ []) (compares_number Less 0 (pos 9)) Failed → ⊥
+does_effect-not does = does.performs 2 (Some (Int (pos 7)) ∷ []) (3 ∷ []) frame-example (All-cons (λ (variable : ℕ). variable < 2) 0 [] (omega arith) (All-nil (λ (variable : ℕ). variable < 2)))
 
 pub store-fits : FitsFrame store.cells 2 store.stacks.current (Some (Int (pos 7)) ∷ []) (3 ∷ [])
 store-fits = frame-example
@@ -159,7 +160,10 @@ failed_over variables (first ∷ second ∷ env) marks effect fits is found =
 
 -- The variable that the first instruction gives a value has none again.
 does_all-example : DoesAll store store tests (1 ∷ []) Failed
-does_all-example = record { performs = λ variables env marks effect fits within are found. failed_over variables env marks effect fits (fits.values 0) found }
+does_all-example = record {
+  performs = λ variables env marks effect fits within are found. failed_over variables env marks effect fits
+      (fits.values 0 (let there = (within 0 (Integer 1 (pos 9)) (omega arith)).written_variables_are_there 0 0 (omega arith) in omega (arith, there))) found;
+}
 
 compare_back_fits : FitsInstruction 2 3 (Compare Less 1 0)
 compare_back_fits = fits 2 3 (Compare Less 1 0) tt tt (omega arith, (omega arith, tt)) tt
@@ -171,5 +175,5 @@ tests_fit = All-cons (FitsInstruction 2 3) (Integer 1 (pos 9)) (Compare Less 1 0
 does_all-not : DoesAll store (with_current store (IntSlot (pos 7) ∷ IntSlot (pos 9) ∷ Mark 3 ∷ [])) tests (1 ∷ []) Failed → ⊥
 does_all-not does =
     let done = does.performs 2 (Some (Int (pos 7)) ∷ []) (3 ∷ []) Fails frame-example tests_fit refl refl in
-    let same : None ≡ Some (Int (pos 9)) = done.1.values 1 in
+    let same : None ≡ Some (Int (pos 9)) = done.1.values 1 (omega arith) in
     absurd (cc)

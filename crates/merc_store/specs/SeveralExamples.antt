@@ -4,7 +4,7 @@ use Rattle.std.proofs.lemmas.List.Elements.{All-nil}
 use Rattle.merc_value.specs.Value.{Int}
 use Rattle.merc_meaning.specs.Trace.{Env}
 use Rattle.merc_code.specs.Steps.{Effect, Binds, Fails, Raises}
-use Rattle.merc_load.specs.Frames.{FitsInstruction}
+use Rattle.merc_layout.specs.Frames.{FitsInstruction}
 use Rattle.merc_store.specs.Several.{IsOther, KeepsOthers, PerformsEach, DoesEach}
 use Rattle.merc_store.specs.PerformingExamples.{store, store-grows, store-fits}
 use Rattle.merc_store.specs.declared.store.Done.TheVariants.{Bound, Failed, Raised}

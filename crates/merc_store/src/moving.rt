@@ -25,24 +25,35 @@ impl Store {
     }
 
     /// A call: the current frame is the newest caller's, which goes on at `place`. The new one has `size` slots, with what
-    /// is passed and nothing else.
+    /// is passed over what is left there, which is nothing where it is emptied.
     #[inline(always)]
-    pub fn call(&mut self, place: usize, size: usize, inputs: &[Pass]) -> Result<(), NoMemory>
+    pub fn call(
+        &mut self,
+        place: usize,
+        size: usize,
+        is_emptied: bool,
+        inputs: &[Pass],
+    ) -> Result<(), NoMemory>
         requires taken { AreTaken (length self.old.stacks.current) inputs.now }
         requires received { AreReceived size inputs.now }
-        ensures { OnOk result (Calls self.old self.new place size inputs.now) }
+        ensures { OnOk result (Calls self.old self.new place size is_emptied inputs.now) }
     {
-        self.frames.enter(place, size, inputs)
+        self.frames.enter(place, size, is_emptied, inputs)
     }
 
-    /// A call that takes the place of the current frame.
+    /// A call whose new frame, which is as by `call`, takes the place of the current one.
     #[inline(always)]
-    pub fn call_last(&mut self, size: usize, inputs: &[Pass]) -> Result<(), NoMemory>
+    pub fn call_last(
+        &mut self,
+        size: usize,
+        is_emptied: bool,
+        inputs: &[Pass],
+    ) -> Result<(), NoMemory>
         requires taken { AreTaken (length self.old.stacks.current) inputs.now }
         requires received { AreReceived size inputs.now }
-        ensures { OnOk result (CallsLast self.old self.new size inputs.now) }
+        ensures { OnOk result (CallsLast self.old self.new size is_emptied inputs.now) }
     {
-        self.frames.renew(size, inputs)
+        self.frames.renew(size, is_emptied, inputs)
     }
 
     /// Where the newest caller goes on. There has to be a caller.
@@ -53,10 +64,10 @@ impl Store {
         self.frames.caller_place()
     }
 
-    /// Goes back to the newest caller. What these own slots hold is put into its slots, one for one. Without a caller
-    /// nothing changes.
+    /// Goes back to the newest caller. There has to be one. What these own slots hold is put into its slots, one for one.
     #[inline(always)]
     pub fn give_back(&mut self, own: &[Var], outs: &[Var]) -> Result<(), NoMemory>
+        requires there { self.old.stacks.callers ≡ [] → ⊥ }
         requires own { AreSlots (length self.old.stacks.current) own.now }
         requires outs { AreCallerSlots self.old.stacks.callers outs.now }
         ensures { OnOk result ((newest : Caller) (callers : List Caller) → self.old.stacks.callers ≡ newest ∷ callers → Returns self.old self.new own.now outs.now) }
@@ -104,7 +115,9 @@ impl Store {
     pub fn back(&mut self) -> Backed
         ensures { GoesBack self.old self.new result }
     {
-        match self.frames.back() {
+        // the mark of a choice point is not above the end of the heap
+        self.sound();
+        match self.frames.back(self.heap.mark().number()) {
             merc_frames::Backed::End => Backed::End,
             merc_frames::Backed::Dead => Backed::Dead,
             merc_frames::Backed::On(place, heap) => {

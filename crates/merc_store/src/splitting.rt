@@ -1,5 +1,6 @@
 //! Values split into their arguments.
 ghost use Rattle.std.specs.Prelude.{◌≡◌, ◌<◌, ℕ, List, Some, length, map, slice_set};
+ghost use Rattle.std.specs.List.{All};
 ghost use Rattle.std.specs.Option.{is_some, IfSome, IfNone};
 ghost use Rattle.merc_value.specs.Value.{Value};
 ghost use Rattle.merc_value.specs.Block.{AreLower, IsBelow, value_of};
@@ -7,9 +8,11 @@ ghost use Rattle.merc_meaning.specs.Values.{fields};
 ghost use Rattle.merc_meaning.specs.Trace.{Env};
 ghost use Rattle.merc_meaning.specs.Steps.{value_at};
 ghost use Rattle.merc_code.specs.Steps.{target_of, target_at};
+ghost use Rattle.merc_frames.specs.Held.{AreHeld};
 ghost use Rattle.merc_frames.specs.Rooms.{AreSlots};
 ghost use Rattle.merc_frames.specs.Slots.{holding};
 ghost use Rattle.merc_heap.specs.Heap.{arguments_in, word_of};
+ghost use Rattle.merc_store.specs.Data.{IsSlotBelow};
 ghost use Rattle.merc_store.specs.Fitting.{FitsFrame};
 ghost use Rattle.merc_store.specs.Performing.{Does, head_of, stored, word_at, tested};
 
@@ -28,7 +31,7 @@ impl Store {
     pub fn target(&self, whole: Var, targets: &[Target]) -> Option<usize>
         requires whole { whole < length self.now.stacks.current }
         ensures { (variables : ℕ) (env : Env) (marks : List ℕ) → FitsFrame self.now.cells variables self.now.stacks.current env marks
-            → result ≡ target_at (value_at env whole) targets.now }
+            → whole < variables → result ≡ target_at (value_at env whole) targets.now }
     {
         match self.word(whole) {
             Some(word) => first_target(&self.head(&word), targets),
@@ -36,8 +39,12 @@ impl Store {
         }
     }
 
+    /// Gives variables the fields of the value of `whole`, one for one, where the value is of this symbol. Fails at every other
+    /// value, and nothing changes.
+    ///
+    /// The cost is the number of the fields.
     #[inline(always)]
-    pub(crate) fn split(&mut self, whole: Var, symbol: &Symbol, variables: &[Var]) -> Done
+    pub fn split(&mut self, whole: Var, symbol: &Symbol, variables: &[Var]) -> Done
         requires { (whole < length self.old.stacks.current) × AreSlots (length self.old.stacks.current) variables.now }
         ensures { Does self.old self.new (Instruction.Split whole symbol.now variables.now) result }
     {
@@ -174,8 +181,9 @@ pub(crate) fn is_head(symbol: Symbol, head: &Symbol) -> bool
 // Gives variables the values of fields, one for one. Few of them are given without a loop.
 #[inline(always)]
 pub(crate) fn fill(frames: &mut Frames, variables: &[Var], fields: &[slot::Slot])
-    requires { AreSlots (length frames.old.current) variables.now }
-    ensures { frames.new ≡ record frames.old { current = stored variables.now (map word_of fields.now) frames.old.current } }
+    requires { AreSlots (length frames.old.stacks.current) variables.now }
+    ensures stacks { frames.new.stacks ≡ record frames.old.stacks { current = stored variables.now (map word_of fields.now) frames.old.stacks.current } }
+    ensures held { (cells : ℕ) → All (IsBelow cells) (map word_of fields.now) → AreHeld IsSlotBelow cells frames.old → AreHeld IsSlotBelow cells frames.new }
 {
     match (variables, fields) {
         ([one, two], [first, second]) => {
@@ -195,8 +203,9 @@ pub(crate) fn fill(frames: &mut Frames, variables: &[Var], fields: &[slot::Slot]
 // The same of more. It is not put into what calls it, which would become too large.
 #[inline(never)]
 fn fill_more(frames: &mut Frames, variables: &[Var], fields: &[slot::Slot])
-    requires { AreSlots (length frames.old.current) variables.now }
-    ensures { frames.new ≡ record frames.old { current = stored variables.now (map word_of fields.now) frames.old.current } }
+    requires { AreSlots (length frames.old.stacks.current) variables.now }
+    ensures stacks { frames.new.stacks ≡ record frames.old.stacks { current = stored variables.now (map word_of fields.now) frames.old.stacks.current } }
+    ensures held { (cells : ℕ) → All (IsBelow cells) (map word_of fields.now) → AreHeld IsSlotBelow cells frames.old → AreHeld IsSlotBelow cells frames.new }
 {
     match (variables, fields) {
         ([one, two, three, four], [first, second, third, fourth]) => {
@@ -210,8 +219,9 @@ fn fill_more(frames: &mut Frames, variables: &[Var], fields: &[slot::Slot])
 }
 
 fn fill_each(frames: &mut Frames, variables: &[Var], fields: &[slot::Slot])
-    requires { AreSlots (length frames.old.current) variables.now }
-    ensures { frames.new ≡ record frames.old { current = stored variables.now (map word_of fields.now) frames.old.current } }
+    requires { AreSlots (length frames.old.stacks.current) variables.now }
+    ensures stacks { frames.new.stacks ≡ record frames.old.stacks { current = stored variables.now (map word_of fields.now) frames.old.stacks.current } }
+    ensures held { (cells : ℕ) → All (IsBelow cells) (map word_of fields.now) → AreHeld IsSlotBelow cells frames.old → AreHeld IsSlotBelow cells frames.new }
 {
     for (variable, field) in variables.iter().zip(fields) {
         put(frames, *variable, field);
@@ -221,8 +231,9 @@ fn fill_each(frames: &mut Frames, variables: &[Var], fields: &[slot::Slot])
 // Gives a variable the value of a field.
 #[inline(always)]
 pub(crate) fn put(frames: &mut Frames, variable: Var, field: &slot::Slot)
-    requires { variable < length frames.old.current }
-    ensures { frames.new ≡ record frames.old { current = slice_set frames.old.current variable (holding (word_of field.now)) } }
+    requires { variable < length frames.old.stacks.current }
+    ensures stacks { frames.new.stacks ≡ record frames.old.stacks { current = slice_set frames.old.stacks.current variable (holding (word_of field.now)) } }
+    ensures held { (cells : ℕ) → IsBelow cells (word_of field.now) → AreHeld IsSlotBelow cells frames.old → AreHeld IsSlotBelow cells frames.new }
 {
     frames.set(variable.number(), Slot::holding(field.word()));
 }

@@ -31,6 +31,7 @@ pub enum Backed {
 }
 
 /// The heap and the frames of a run. Contracts see the heap's cells and the frames.
+/// What is left in slots that no frame has leads to cells that are there too, since a new frame may have it.
 #[derive(Drop)]
 pub struct Store {
     pub(crate) heap: Heap,
@@ -42,13 +43,15 @@ pub struct Store {
 }
 
 impl Model for Store {
-    ghost use Rattle.merc_store.specs.Data.{StoreData, IsSound};
+    ghost use Rattle.std.specs.Prelude.{length};
+    ghost use Rattle.merc_frames.specs.Held.{AreHeld};
+    ghost use Rattle.merc_store.specs.Data.{StoreData, IsSlotBelow};
 
     ghost Value = { StoreData };
 
-    ghost view = { λ s. record { cells = s.heap; stacks = s.frames } };
+    ghost view = { λ s. record { cells = s.heap; stacks = s.frames.stacks } };
 
-    ghost invariant = { λ s. IsSound s.heap s.frames };
+    ghost invariant = { λ s. AreHeld IsSlotBelow (length s.heap) s.frames };
 }
 
 impl Store {
@@ -66,9 +69,10 @@ impl Store {
 
     /// Each word of the frames leads to a cell that is there. It does nothing, and tells this to the proofs of those that
     /// see a store's value alone.
+    #[inline(always)]
     pub fn sound(&self)
         ensures { IsSound self.now.cells self.now.stacks }
     {
-        let _ = &self.heap;
+        self.frames.held();
     }
 }

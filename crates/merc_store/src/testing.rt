@@ -28,8 +28,10 @@ impl Store {
         }
     }
 
+    /// Computes from two variables' integers the value of `to`. Where one of them is no integer, and where the operation raises
+    /// an exception, nothing changes.
     #[inline(always)]
-    pub(crate) fn operate(&mut self, operation: Operation, to: Var, one: Var, other: Var) -> Done
+    pub fn operate(&mut self, operation: Operation, to: Var, one: Var, other: Var) -> Done
         requires { (to < length self.old.stacks.current) × (one < length self.old.stacks.current) × (other < length self.old.stacks.current) }
         ensures { Does self.old self.new (Instruction.Arithmetic operation to one other) result }
     {
@@ -50,17 +52,22 @@ impl Store {
         requires { (one < length self.now.stacks.current) × (other < length self.now.stacks.current) }
         ensures { Does self.now self.now (Instruction.Compare comparison one other) result }
     {
+        tested(self.compare_variables(comparison, one, other))
+    }
+
+    /// Whether a comparison of two variables' integers holds. It does not where one of them is no integer.
+    #[inline(always)]
+    pub fn compare_variables(&self, comparison: Comparison, one: Var, other: Var) -> bool
+        requires slots { (one < length self.now.stacks.current) × (other < length self.now.stacks.current) }
+        ensures { Does self.now self.now (Instruction.Compare comparison one other) (tested result) }
+    {
         let Some(left) = self.integer(one) else {
-            return Done::Failed;
+            return false;
         };
         let Some(right) = self.integer(other) else {
-            return Done::Failed;
+            return false;
         };
-        if holds(comparison, left, right) {
-            Done::Bound
-        } else {
-            Done::Failed
-        }
+        holds(comparison, left, right)
     }
 }
 

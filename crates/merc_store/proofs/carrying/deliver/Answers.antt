@@ -1,5 +1,6 @@
 -- Each turn writes into the first variable that is left. The `zip` ends where no variable or no slot is left, so that nothing more is written.
-use Rattle.std.proofs.Common.{◌<◌, ℕ, ◌∷◌, ◌∙◌, length, slice_set, sym, ap, subst}
+use Rattle.std.proofs.Common.{◌<◌, ℕ, ◌∷◌, ◌∙◌, length, slice_set, refl, sym, ap, subst}
+use Rattle.std.specs.List.{All}
 use Rattle.std.specs.Iterator.Adapters.{zip_first, zip_second}
 use Rattle.std.specs.Slice.Iter.{iter_rest}
 use Rattle.std.proofs.lemmas.List.{length-set}
@@ -8,17 +9,22 @@ use Rattle.std.proofs.lemmas.Slice.Zip.{Zip-more, either_empty_from_Zip}
 use Rattle.merc_frames.specs.Handing.{delivered}
 use Rattle.merc_frames.specs.Rooms.{AreSlots}
 use Rattle.merc_frames.specs.Stacks.{Stacks}
+use Rattle.merc_store.specs.Data.{IsSlotBelow}
 use Rattle.merc_store.proofs.CarryingLaws.{with_slots, delivered_end}
+use Rattle.merc_store.proofs.HeldLaws.{is_slot_below, slot_passes, step_held}
 use Rattle.merc_store.proofs.carrying.deliver.Goals as goal
 
-pub returns : goal.returns
-returns c =
-    ap (with_slots c.loop-variable.frames) (sym (delivered_end _ _ c.loop-variable.frames.current (either_empty_from_Zip c.loop-variable.variable-iterator c.next.new.self _ c.in-None.is c.next.ensures.steps)))
+pub returns-clause-stacks : goal.returns-clause-stacks
+returns-clause-stacks c =
+    ap (with_slots c.loop-variable.frames.stacks) (sym (delivered_end _ _ c.loop-variable.frames.stacks.current (either_empty_from_Zip c.loop-variable.variable-iterator c.next.new.self _ c.in-None.is c.next.ensures.steps)))
     ∙ c.loop-variable.invariant.same
+
+pub returns-clause-held : goal.returns-clause-held
+returns-clause-held c cells below = (c.loop-variable.invariant.held cells below).1
 
 pub set-requires : goal.set-requires
 set-requires c =
-    let size = length c.loop-variable.frames.current in
+    let size = length c.loop-variable.frames.stacks.current in
     let left = (Zip-more c.loop-variable.variable-iterator c.next.new.self c.next.result (c.in-Some.variable, c.in-Some.slot) c.in-Some.is c.next.ensures.steps).0 in
     record {
       there = subst (λ n. n < size) (sym c.number.ensures)
@@ -27,16 +33,24 @@ set-requires c =
 
 pub loop-variable-preserved : goal.loop-variable-preserved
 loop-variable-preserved c =
-    let frames = c.loop-variable.frames in
+    let frames = c.loop-variable.frames.stacks in
     let size = length frames.current in
     let variables = iter_rest (zip_first c.next.new.self) in
     let slots = iter_rest (zip_second c.next.new.self) in
     let turn = Zip-more c.loop-variable.variable-iterator c.next.new.self c.next.result (c.in-Some.variable, c.in-Some.slot) c.in-Some.is c.next.ensures.steps in
     record {
-      there = subst (λ n. AreSlots n variables) (sym (ap (λ (s : Stacks). length s.current) c.set.ensures ∙ length-set frames.current c.number.result c.in-Some.slot.now))
+      there = subst (λ n. AreSlots n variables) (sym (ap (λ (s : Stacks). length s.current) c.set.ensures.stacks ∙ length-set frames.current c.number.result c.in-Some.slot.now))
           (All-tail (λ (slot : ℕ). slot < size) c.in-Some.variable.now variables (subst (AreSlots size) turn.0 c.loop-variable.invariant.there));
-      same = ap (λ (s : Stacks). with_slots s (delivered variables slots s.current)) c.set.ensures
+      same = ap (λ (s : Stacks). with_slots s (delivered variables slots s.current)) c.set.ensures.stacks
           ∙ ap (λ n. with_slots frames (delivered variables slots (slice_set frames.current n c.in-Some.slot.now))) c.number.ensures
           ∙ sym (ap (λ those. with_slots frames (delivered those (c.in-Some.slot.now ∷ slots) frames.current)) turn.0)
           ∙ sym (ap (λ those. with_slots frames (delivered (iter_rest (zip_first c.loop-variable.variable-iterator)) those frames.current)) turn.1) ∙ c.loop-variable.invariant.same;
+      held = λ cells below.
+          let held = c.loop-variable.invariant.held cells below in
+          let slot = c.in-Some.slot.now in
+          let left : All (IsSlotBelow cells) (slot ∷ slots) = subst (All (IsSlotBelow cells)) turn.1 held.0 in
+          let passes = slot_passes cells slot (All-head (IsSlotBelow cells) slot slots left) in (
+            All-tail (IsSlotBelow cells) slot slots left,
+            λ before. step_held cells cells c.loop-variable.frames c.set.new.self (c.set.ensures.held is_slot_below cells refl passes) (held.1 before),
+          );
     }

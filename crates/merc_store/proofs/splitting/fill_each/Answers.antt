@@ -1,10 +1,12 @@
 -- Each turn writes into the first variable that is left. The `zip` ends where no variable or no field is left, so that nothing more is written.
 use Rattle.std.proofs.Common.{◌<◌, ℕ, ◌∷◌, ◌∙◌, length, map, sym, ap, subst}
+use Rattle.std.specs.List.{All}
 use Rattle.std.specs.Iterator.Adapters.{zip_first, zip_second}
 use Rattle.std.specs.Slice.Iter.{iter_rest}
 use Rattle.std.proofs.lemmas.List.{length-set}
 use Rattle.std.proofs.lemmas.List.Elements.{All-head, All-tail}
 use Rattle.std.proofs.lemmas.Slice.Zip.{Zip-more, either_empty_from_Zip}
+use Rattle.merc_value.specs.Block.{IsBelow}
 use Rattle.merc_frames.specs.Rooms.{AreSlots}
 use Rattle.merc_frames.specs.Slots.{holding}
 use Rattle.merc_frames.specs.Stacks.{Stacks}
@@ -14,29 +16,40 @@ use Rattle.merc_store.proofs.CarryingLaws.{with_slots}
 use Rattle.merc_store.proofs.FillLemmas.{filled_end}
 use Rattle.merc_store.proofs.splitting.fill_each.Goals as goal
 
-pub returns : goal.returns
-returns c =
-    ap (with_slots c.loop-variable.frames) (sym (filled_end _ _ c.loop-variable.frames.current (either_empty_from_Zip c.loop-variable.variable-iterator c.next.new.self _ c.in-None.is c.next.ensures.steps)))
+pub returns-clause-stacks : goal.returns-clause-stacks
+returns-clause-stacks c =
+    ap (with_slots c.loop-variable.frames.stacks) (sym (filled_end _ _ c.loop-variable.frames.stacks.current (either_empty_from_Zip c.loop-variable.variable-iterator c.next.new.self _ c.in-None.is c.next.ensures.steps)))
     ∙ c.loop-variable.invariant.same
+
+pub returns-clause-held : goal.returns-clause-held
+returns-clause-held c cells below = (c.loop-variable.invariant.held cells below).1
 
 pub put-requires : goal.put-requires
 put-requires c =
-    let size = length c.loop-variable.frames.current in
+    let size = length c.loop-variable.frames.stacks.current in
     let left = (Zip-more c.loop-variable.variable-iterator c.next.new.self c.next.result (c.in-Some.variable, c.in-Some.field) c.in-Some.is c.next.ensures.steps).0 in
     All-head (λ (slot : ℕ). slot < size) c.in-Some.variable.now (iter_rest (zip_first c.next.new.self)) (subst (AreSlots size) left c.loop-variable.invariant.there)
 
 pub loop-variable-preserved : goal.loop-variable-preserved
 loop-variable-preserved c =
-    let frames = c.loop-variable.frames in
+    let frames = c.loop-variable.frames.stacks in
     let size = length frames.current in
     let variables = iter_rest (zip_first c.next.new.self) in
     let fields = iter_rest (zip_second c.next.new.self) in
     let slot = holding (word_of c.in-Some.field.now) in
     let turn = Zip-more c.loop-variable.variable-iterator c.next.new.self c.next.result (c.in-Some.variable, c.in-Some.field) c.in-Some.is c.next.ensures.steps in
     record {
-      there = subst (λ n. AreSlots n variables) (sym (ap (λ (s : Stacks). length s.current) c.put.ensures ∙ length-set frames.current c.in-Some.variable.now slot))
+      there = subst (λ n. AreSlots n variables) (sym (ap (λ (s : Stacks). length s.current) c.put.ensures.stacks ∙ length-set frames.current c.in-Some.variable.now slot))
           (All-tail (λ (slot : ℕ). slot < size) c.in-Some.variable.now variables (subst (AreSlots size) turn.0 c.loop-variable.invariant.there));
-      same = ap (λ (s : Stacks). with_slots s (stored variables (map word_of fields) s.current)) c.put.ensures
+      same = ap (λ (s : Stacks). with_slots s (stored variables (map word_of fields) s.current)) c.put.ensures.stacks
           ∙ sym (ap (λ those. with_slots frames (stored those (word_of c.in-Some.field.now ∷ map word_of fields) frames.current)) turn.0)
           ∙ sym (ap (λ those. with_slots frames (stored (iter_rest (zip_first c.loop-variable.variable-iterator)) (map word_of those) frames.current)) turn.1) ∙ c.loop-variable.invariant.same;
+      held = λ cells below.
+          let held = c.loop-variable.invariant.held cells below in
+          let word = word_of c.in-Some.field.now in
+          let words = map word_of fields in
+          let left : All (IsBelow cells) (word ∷ words) = subst (λ those. All (IsBelow cells) (map word_of those)) turn.1 held.0 in (
+            All-tail (IsBelow cells) word words left,
+            λ before. c.put.ensures.held cells (All-head (IsBelow cells) word words left) (held.1 before),
+          );
     }

@@ -1,10 +1,8 @@
-use Rattle.std.proofs.Common.{sym, subst}
-use Rattle.merc_store.specs.Data.{IsSound}
-use Rattle.merc_store.proofs.StepLaws.{either_way, call_sound}
+use Rattle.std.proofs.Common.{refl, length}
+use Rattle.merc_store.proofs.HeldLaws.{is_slot_below, step_held}
 use Rattle.merc_store.proofs.store.Store.call.Goals as goal
 
 pub invariant_of-self : goal.invariant_of-self
 invariant_of-self c =
-    either_way c.enter.result _ _ _
-    (call_sound c.self.inside.heap c.self.inside.frames c.self.invariant c.enter.new.self c.args.size c.args.inputs.now c.args.place)
-    (λ same. subst (IsSound c.self.inside.heap) (sym same) c.self.invariant) c.enter.ensures.ok c.enter.ensures.err
+    let cells = length c.self.inside.heap in
+    step_held cells cells c.self.inside.frames c.enter.new.self (c.enter.ensures.held is_slot_below cells refl) c.self.invariant

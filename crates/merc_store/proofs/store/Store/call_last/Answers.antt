@@ -1,10 +1,8 @@
-use Rattle.std.proofs.Common.{sym, subst}
-use Rattle.merc_store.specs.Data.{IsSound}
-use Rattle.merc_store.proofs.StepLaws.{either_way, last_sound}
+use Rattle.std.proofs.Common.{refl, length}
+use Rattle.merc_store.proofs.HeldLaws.{is_slot_below, step_held}
 use Rattle.merc_store.proofs.store.Store.call_last.Goals as goal
 
 pub invariant_of-self : goal.invariant_of-self
 invariant_of-self c =
-    either_way c.renew.result _ _ _
-    (last_sound c.self.inside.heap c.self.inside.frames c.self.invariant c.renew.new.self c.args.size c.args.inputs.now)
-    (λ same. subst (IsSound c.self.inside.heap) (sym same) c.self.invariant) c.renew.ensures.ok c.renew.ensures.err
+    let cells = length c.self.inside.heap in
+    step_held cells cells c.self.inside.frames c.renew.new.self (c.renew.ensures.held is_slot_below cells refl) c.self.invariant

@@ -1,7 +1,8 @@
-use Rattle.std.proofs.Common.{sym, subst}
-use Rattle.merc_store.specs.Data.{IsSound}
-use Rattle.merc_store.proofs.StepLaws.{commit_sound}
+use Rattle.std.proofs.Common.{length}
+use Rattle.merc_store.proofs.HeldLaws.{is_slot_below, step_held}
 use Rattle.merc_store.proofs.store.Store.commit.Goals as goal
 
 pub invariant_of-self : goal.invariant_of-self
-invariant_of-self c = subst (IsSound c.self.inside.heap) (sym c.commit.ensures) (commit_sound c.self.inside.heap c.self.inside.frames c.self.invariant c.mark-mark.result)
+invariant_of-self c =
+    let cells = length c.self.inside.heap in
+    step_held cells cells c.self.inside.frames c.commit.new.self (c.commit.ensures.held is_slot_below cells) c.self.invariant

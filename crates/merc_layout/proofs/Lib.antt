@@ -1,0 +1,6 @@
+pub mod KnownProcedures
+pub mod Lists
+pub mod Places
+pub mod Reading
+pub mod Results
+pub mod Rooms

@@ -1,0 +1,11 @@
+pub mod Clean
+pub mod CleanExamples
+pub mod Entries
+pub mod EntriesExamples
+pub mod Frames
+pub mod FramesExamples
+pub mod KnownProcedures
+pub mod KnownProceduresExamples
+pub mod Sizes
+pub mod StartsClean
+pub mod StartsCleanExamples
