@@ -46,7 +46,7 @@ module _ (codes : Codes) where
   gives_back_clean = record { variables = gives_back_reads; marks = gives_back_reads_no_mark }
 
   -- an output that is returned and was not given
-  starts_clean-not_given : StartsClean codes both (Return ∷ []) → ⊥
+  pub starts_clean-not_given : StartsClean codes both (Return ∷ []) → ⊥
   starts_clean-not_given clean = let e : false ≡ true = clean.variables 1 (here _ _ refl) in absurd cc
 
   -- a mark that was not set
