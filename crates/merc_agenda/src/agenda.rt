@@ -88,7 +88,8 @@ impl Agenda {
         None
     }
 
-    /// Has those goals asked again in which one of these variables occurs, but not the one that bound them.
+    /// Has those goals asked again in which one of these variables occurs, but not the one that bound them, the goal with the
+    /// number `binding`.
     ///
     /// # Errors
     ///

@@ -253,7 +253,7 @@ impl Frames {
         }
     }
 
-    // The same, in either way.
+    // The same, whether the newest choice point keeps the frame or not.
     #[inline(always)]
     fn put_slot(&mut self, slot: Slot, outs: &[Var]) -> Result<(), NoMemory>
         requires there { self.old.stacks.callers ≡ [] → ⊥ }

@@ -17,6 +17,7 @@ field_with number word = record { number = number; word = word }
 abbrev pub word_with : ℕ → ℕ → Word
 word_with kind bits = if kind == INT then IntWord (cast_signed w64 bits) else if kind == TEXT then TextWord bits else if kind == ATOM then AtomWord bits else CellWord bits
 
+-- the kind of a word
 abbrev pub kind_of : Word → ℕ
 kind_of (IntWord number) = INT
 kind_of (TextWord name) = TEXT

@@ -28,8 +28,8 @@ impl Store {
         }
     }
 
-    /// Computes from two variables' integers the value of `to`. Where one of them is no integer, and where the operation raises
-    /// an exception, nothing changes.
+    /// Computes from two variables' integers the value of `to`. Fails where one of them is no integer, and raises an exception
+    /// where the operation divides by zero; then nothing changes.
     #[inline(always)]
     pub fn operate(&mut self, operation: Operation, to: Var, one: Var, other: Var) -> Done
         requires { (to < length self.old.stacks.current) × (one < length self.old.stacks.current) × (other < length self.old.stacks.current) }
