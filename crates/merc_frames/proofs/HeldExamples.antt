@@ -68,6 +68,14 @@ AreChoicesHeld-example = (omega arith, AreFramesHeld-example, tt)
 pub AreChoicesHeld-counterexample : AreChoicesHeld (Passes is_there) 0 stacks.choices → ⊥
 AreChoicesHeld-counterexample = λ held. absurd (let mark = held.0 in omega (arith, mark))
 
+-- an older choice point's frame holds a cell that its mark does not reach
+pub AreChoicesHeld-older : AreChoicesHeld (Passes is_there) 3 (GoesOn 30 2 [] [] ∷ GoesOn 20 1 (Cell 1 ∷ []) [] ∷ []) → ⊥
+AreChoicesHeld-older = λ held. absurd (let slots : All (Passes is_there 1) (Cell 1 ∷ []) = held.2.1.newest in let slot : false ≡ true = slots 0 Empty (omega arith) in cc)
+
+-- and its mark is no greater than that of the newer one
+pub AreChoicesHeld-order : AreChoicesHeld (Passes is_there) 3 (GoesOn 30 1 [] [] ∷ GoesOn 20 2 [] [] ∷ []) → ⊥
+AreChoicesHeld-order = λ held. absurd (let mark = held.2.0 in omega (arith, mark))
+
 pub AreStacksHeld-example : AreStacksHeld (Passes is_there) 3 stacks
 AreStacksHeld-example = record {
   frames = record { newest = All-from_recursion (Passes is_there 3) (Cell 2 ∷ []) (refl, tt); others = All-nil (λ (caller : Caller). All (Passes is_there 3) caller.slots) };
