@@ -2,12 +2,12 @@
 use Rattle.std.proofs.Common.{◌≡◌, ◌≢◌, ◌∙◌, ◌↔◌, ℕ, List, [], sym, refl, subst, inl, inr}
 use Rattle.std.specs.Prelude.{Option, Some, None, IfSome}
 use Rattle.merc_base.specs.Outside.{Files}
-use Rattle.merc_top.specs.Statuses.{accepted_status, solved_status, unsolved_status, raised_status, limit_status, module_status, goal_status, usage_status, too_long_status, no_memory_status}
+use Rattle.merc_transfer.specs.Statuses.{accepted_status, solved_status, unsolved_status, raised_status, limit_status, module_status, goal_status, usage_status, too_long_status, no_memory_status}
 use Rattle.merc_top.specs.Words.{IsNoRequest}
-use Rattle.merc_top.specs.Writing.{PutsFront}
-use Rattle.merc_top.specs.Output.{IsOutput, text_of}
+use Rattle.merc_transfer.specs.Writing.{PutsFront, text_of}
+use Rattle.merc_top.specs.Output.{IsOutput}
 use Rattle.merc_top.specs.Answer.{Answers, AreFiles, WroteFront}
-use Rattle.merc_top.proofs.WritingLemmas.{appended-empty}
+use Rattle.merc_transfer.proofs.WritingLemmas.{appended-empty}
 use Rattle.merc_top.proofs.OutputLaws.{IsOutput-unique}
 use Rattle.merc_top.proofs.Causes.{NamesChecked, IsCheckedModule, RunsTo, Succeeds, IsUnsolved, IsRaised, IsCutAtLimit, BreaksModule, BreaksGoal, NamesTooLong, solved-exactly, checked-exactly, unsolved-exactly, raised-exactly, limit-exactly, module_refused-exactly, goal_refused-exactly, usage-exactly, too_long-exactly}
 

@@ -6,20 +6,21 @@ use Rattle.std.proofs.lemmas.Option.{same_Some}
 use Rattle.merc_base.specs.Outside.{Files, appended, file_named}
 use Rattle.merc_meaning.specs.Trace.{Run}
 use Rattle.merc_machine.specs.Running.{counted}
-use Rattle.merc_top.specs.declared.writing.Cut.{Cut}
-use Rattle.merc_top.specs.declared.writing.Cut.TheVariants.{Unwritten, NoMemory}
-use Rattle.merc_top.specs.Writing.{PutsFront, Writes}
-use Rattle.merc_top.specs.Runs.{steps_made}
-use Rattle.merc_top.specs.Output.{IsAskedRun, IsOutput, FileOutput, run_lines, run_status, text_of}
-use Rattle.merc_top.specs.Statuses.{limit_status, unread_status, unwritten_status, no_memory_status, status_told}
+use Rattle.merc_transfer.specs.declared.writing.Cut.{Cut}
+use Rattle.merc_transfer.specs.declared.writing.Cut.TheVariants.{Unwritten, NoMemory}
+use Rattle.merc_transfer.specs.Writing.{PutsFront, Writes, text_of}
+use Rattle.merc_solving.specs.Runs.{steps_made}
+use Rattle.merc_solving.specs.RunLines.{run_lines, run_status}
+use Rattle.merc_top.specs.Output.{IsAskedRun, IsOutput, FileOutput}
+use Rattle.merc_transfer.specs.Statuses.{limit_status, unread_status, unwritten_status, no_memory_status, status_told}
 use Rattle.merc_top.specs.Answer.{Answers, AreFiles, IsStatusDue, NamesAbsent}
 use Rattle.merc_top.specs.Counting.{AsksRun, Counts}
-use Rattle.merc_top.specs.Solving.{Solves}
+use Rattle.merc_solving.specs.Solving.{Solves}
 use Rattle.merc_top.proofs.Requests.{solve-unique}
 use Rattle.merc_top.proofs.OutputLaws.{IsAskedRun-unique}
 use Rattle.merc_top.proofs.Dues.{IsDueStatus, IsDueOver, run_status-small}
 use Rattle.merc_top.proofs.Causes.{absent-exactly, asked_output, status-exactly}
-use Rattle.merc_top.proofs.WritingLemmas.{appended-empty}
+use Rattle.merc_transfer.proofs.WritingLemmas.{appended-empty}
 
 all_put : (text : List ℕ) (old new : Option (List ℕ)) → new ≡ appended old text → PutsFront text old new
 all_put text old new same = record { front = text; rest = []; whole = append-nil text; written = same }

@@ -18,13 +18,13 @@ use Rattle.merc_machine.specs.Running.{counted}
 use Rattle.merc_top.specs.declared.words.Request.{Request}
 use Rattle.merc_top.specs.declared.words.Request.TheVariants.{Solve, Check}
 use Rattle.merc_top.specs.Words.{IsSolve, IsCheck, IsRequest, default_steps, file_of, usage_line}
-use Rattle.merc_top.specs.Loading.{file_limit}
-use Rattle.merc_top.specs.Writing.{PutsFront}
-use Rattle.merc_top.specs.Output.{IsAskedRun, IsOutput, text_of}
-use Rattle.merc_top.specs.Statuses.{accepted_status, solved_status, module_status, goal_status, usage_status, unread_status, unwritten_status, no_memory_status, too_long_status}
+use Rattle.merc_transfer.specs.Loading.{file_limit}
+use Rattle.merc_transfer.specs.Writing.{PutsFront, text_of}
+use Rattle.merc_top.specs.Output.{IsAskedRun, IsOutput}
+use Rattle.merc_transfer.specs.Statuses.{accepted_status, solved_status, module_status, goal_status, usage_status, unread_status, unwritten_status, no_memory_status, too_long_status}
 use Rattle.merc_top.specs.Answer.{AreFiles, NamesAbsent, IsStatusDue, WroteFront, Answers}
 use Rattle.merc_top.specs.Counting.{AsksRun, Counts}
-use Rattle.merc_top.specs.Runs.{steps_made}
+use Rattle.merc_solving.specs.Runs.{steps_made}
 use Rattle.merc_top.proofs.Causes.{NamesTooLong, Names, NamesChecked, BreaksModule, BreaksGoal, IsCheckedModule, RunsTo, IsSolved, Succeeds}
 use Rattle.merc_top.proofs.Causes.BreaksModule.{module_rule, checked_rule}
 use Rattle.merc_top.proofs.AnswerLaws.{Answers-front, Answers-checked, Answers-goal_refused}

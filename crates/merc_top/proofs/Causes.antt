@@ -10,18 +10,20 @@ use Rattle.merc_graded_tree.specs.Nodes.{Node}
 use Rattle.merc_check.specs.Accepted.{AreGraded}
 use Rattle.merc_check.specs.Checked.{IsAccepted, Refuses, RefusesQuery}
 use Rattle.merc_meaning.specs.Trace.{Run, RunEnd, RunDone, RunRaised, LimitPassed}
-use Rattle.merc_top.specs.Loading.{file_limit}
-use Rattle.merc_top.specs.Statuses.{accepted_status, solved_status, unsolved_status, raised_status, limit_status, module_status, goal_status, usage_status, unread_status, too_long_status}
+use Rattle.merc_transfer.specs.Loading.{file_limit}
+use Rattle.merc_transfer.specs.Statuses.{accepted_status, solved_status, unsolved_status, raised_status, limit_status, module_status, goal_status, usage_status, unread_status, too_long_status}
 use Rattle.merc_top.specs.declared.words.Request.{Request}
 use Rattle.merc_top.specs.declared.words.Request.TheVariants.{Solve, Check}
 use Rattle.merc_top.specs.Words.{IsRequest, IsSolve, IsCheck, IsNoRequest, file_of, usage_line}
 use Rattle.merc_top.specs.Checking.{check_lines}
-use Rattle.merc_top.specs.Runs.{answers_of, end_of, is_stopped}
-use Rattle.merc_top.specs.Output.{IsDue, IsCheckDue, IsRequestDue, IsOutput, FileOutput, end_status, run_lines, run_status, refusal_line, too_long_line}
+use Rattle.merc_solving.specs.Runs.{answers_of, end_of, is_stopped}
+use Rattle.merc_solving.specs.RunLines.{end_status, run_lines, run_status}
+use Rattle.merc_top.specs.Output.{IsDue, IsCheckDue, IsRequestDue, IsOutput, FileOutput, refusal_line, too_long_line}
 use Rattle.merc_top.specs.Output.IsDue.{module_refused as due_module_refused, goal_refused as due_goal_refused, runs as due_runs}
 use Rattle.merc_top.specs.Output.IsCheckDue.{check_refused as due_check_refused, check_accepted as due_check_accepted}
 use Rattle.merc_top.specs.Answer.{IsStatusDue, NamesAbsent}
 use Rattle.merc_top.specs.Counting.{AsksRun}
+use Rattle.merc_solving.proofs.RunLemmas.{end_status-limit, end_status-raised}
 use Rattle.merc_top.proofs.Requests.{shown, solve-no_check}
 use Rattle.merc_top.proofs.OutputLaws.{IsOutput-unique}
 
@@ -197,14 +199,6 @@ end_status-three zero (RunRaised text) is = absurd (omega (arith, is))
 end_status-three (suc count) (RunRaised text) is = absurd (omega (arith, is))
 end_status-three zero LimitPassed is = refl
 end_status-three (suc count) LimitPassed is = refl
-
-pub end_status-raised : (count text : ℕ) → end_status count (RunRaised text) ≡ raised_status
-end_status-raised zero text = refl
-end_status-raised (suc count) text = refl
-
-pub end_status-limit : (count : ℕ) → end_status count LimitPassed ≡ limit_status
-end_status-limit zero = refl
-end_status-limit (suc count) = refl
 
 end_status-low : (count : ℕ) (end : RunEnd) → end_status count end < module_status
 end_status-low zero RunDone = lit< tt

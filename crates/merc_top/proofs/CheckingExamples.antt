@@ -16,7 +16,7 @@ use Rattle.merc_graded_tree.specs.Nodes.{Node, node, Basic}
 use Rattle.merc_graded_tree.specs.declared.basic.BasicGoal.TheVariants.{True}
 use Rattle.merc_grading.specs.Faults.{Procedure}
 use Rattle.merc_top.specs.Checking.{place_text, places_text, procedure_line, procedure_lines, own_procedures, check_lines}
-use Rattle.merc_top.specs.Output.{text_of}
+use Rattle.merc_transfer.specs.Writing.{text_of}
 use Rattle.merc_top.proofs.Options.{differ}
 
 abbrev at : ℕ → Span

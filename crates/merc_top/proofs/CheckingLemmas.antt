@@ -12,9 +12,9 @@ use Rattle.merc_tree.specs.declared.declarations.Module.{Module}
 use Rattle.merc_tree.specs.declared.declarations.PredDecl.{PredDecl}
 use Rattle.merc_graded_tree.specs.Nodes.{Node}
 use Rattle.merc_grading.specs.Faults.{Procedure, with_modes, procedures_of}
-use Rattle.merc_top.specs.Lines.{line, behind_commas}
+use Rattle.merc_solving.specs.Lines.{line, behind_commas}
 use Rattle.merc_top.specs.Checking.{place_text, procedure_line, procedure_lines, own_procedures, check_lines}
-use Rattle.merc_top.proofs.LineLemmas.{behind_commas-snoc}
+use Rattle.merc_solving.proofs.LineLemmas.{behind_commas-snoc}
 
 -- ---- lines of procedures
 

@@ -38,9 +38,11 @@ use Rattle.merc_base.proofs.NameExamples.{HoldsFixed-fixed}
 use Rattle.merc_check.proofs.CheckedLaws.{Refuses-excludes}
 use Rattle.merc_meaning.specs.Trace.{Run}
 use Rattle.merc_top.specs.declared.words.Request.TheVariants.{Solve, Check}
-use Rattle.merc_top.specs.Statuses.{accepted_status, solved_status, module_status, goal_status}
+use Rattle.merc_transfer.specs.Statuses.{accepted_status, solved_status, module_status, goal_status}
 use Rattle.merc_top.specs.Checking.{check_lines}
-use Rattle.merc_top.specs.Output.{IsAskedRun, IsDue, IsCheckDue, IsRequestDue, text_of, refusal_line, run_lines}
+use Rattle.merc_transfer.specs.Writing.{text_of}
+use Rattle.merc_solving.specs.RunLines.{run_lines}
+use Rattle.merc_top.specs.Output.{IsAskedRun, IsDue, IsCheckDue, IsRequestDue, refusal_line}
 use Rattle.merc_top.specs.Output.IsDue.{module_refused, goal_refused, runs}
 use Rattle.merc_top.specs.Output.IsCheckDue.{check_refused, check_accepted}
 use Rattle.merc_top.proofs.OutputLaws.{IsDue-unique, IsCheckDue-unique}

@@ -6,6 +6,8 @@ use Rattle.std.proofs.lemmas.Slice.Eq.{bytes_eq-Decides}
 use Rattle.merc_base.specs.Outside.{Files, file_named}
 use Rattle.merc_base.specs.Names.{fixed_names}
 use Rattle.merc_base.specs.declared.refusal.Refusal.{Refusal}
+use Rattle.merc_base.specs.declared.refusal.Fault.{Fault}
+use Rattle.merc_base.specs.declared.refusal.Fault.TheVariants.{Refused, NoMemory}
 use Rattle.merc_tree.specs.Term.{Term}
 use Rattle.merc_tree.specs.declared.declarations.Module.{Module}
 use Rattle.merc_graded_tree.specs.Nodes.{Node}
@@ -13,25 +15,27 @@ use Rattle.merc_meaning.specs.Programs.{program_with}
 use Rattle.merc_meaning.specs.Runs.{run}
 use Rattle.merc_code.specs.Meaning.{shown}
 use Rattle.merc_check.specs.Accepted.{AreGraded, IsGradedGoal, query_answers, query_names}
-use Rattle.merc_check.specs.Checked.{IsAccepted, IsGoal}
+use Rattle.merc_terms.specs.Items.{IsRefusal}
+use Rattle.merc_check.specs.Checked.{IsAccepted, IsGoal, Refuses}
 use Rattle.merc_check.proofs.CheckedLaws.{IsGradedGoal-one}
 use Rattle.merc_meaning.specs.Trace.{Run, RunEnd, RunDone, RunRaised, LimitPassed}
 use Rattle.merc_top.specs.declared.words.Request.{Request}
 use Rattle.merc_top.specs.declared.words.Request.TheVariants.{Solve, Check}
 use Rattle.merc_top.specs.Words.{IsRequest, IsNoRequest, file_of, usage_line}
-use Rattle.merc_top.specs.Statuses.{limit_status, solved_status, usage_status, unread_status, too_long_status}
-use Rattle.merc_top.specs.Loading.{file_limit, IsTooLong}
-use Rattle.merc_top.specs.Output.{IsOutput, IsDue, IsCheckDue, IsRequestDue, FileOutput, end_status, refusal_line, run_status, too_long_line}
+use Rattle.merc_transfer.specs.Statuses.{limit_status, module_status, solved_status, usage_status, unread_status, too_long_status}
+use Rattle.merc_transfer.specs.Loading.{file_limit, IsTooLong}
+use Rattle.merc_solving.specs.RunLines.{end_status, run_status}
+use Rattle.merc_top.specs.Output.{IsOutput, IsDue, IsCheckDue, IsRequestDue, FileOutput, refusal_line, too_long_line}
 use Rattle.merc_top.specs.Output.IsDue.{module_refused, goal_refused, runs}
 use Rattle.merc_top.specs.Output.IsCheckDue.{check_refused, check_accepted}
-use Rattle.merc_top.specs.Runs.{answers_of, end_of, is_stopped}
+use Rattle.merc_solving.specs.Runs.{answers_of, end_of, is_stopped}
 use Rattle.merc_top.specs.Answer.{AreFiles}
-use Rattle.merc_top.specs.declared.answering.Due.{Due}
+use Rattle.merc_transfer.specs.declared.due.Due.{Due}
 use Rattle.merc_top.specs.declared.answering.Found.{Found}
 use Rattle.merc_top.specs.declared.answering.Found.TheVariants.{Lines, Run as Runs}
-use Rattle.merc_top.specs.declared.solving.Ready.{Ready}
-use Rattle.merc_top.specs.Ready.{IsReady}
-use Rattle.merc_top.specs.Due.{Finds, IsRefused, IsRequestFound, IsSolveFound}
+use Rattle.merc_solving.specs.declared.solving.Ready.{Ready}
+use Rattle.merc_solving.specs.Ready.{IsReady}
+use Rattle.merc_top.specs.Due.{Finds, IsFaultDue, IsRequestFound, IsSolveFound}
 use Rattle.merc_top.proofs.Requests.{solve-no_check}
 use Rattle.merc_top.proofs.OutputLaws.{module-distinct}
 
@@ -66,10 +70,6 @@ due_status-small name file goal steps most _ _ (runs _ _ asked _) = run_status-s
 check_status-small : (name file : List ℕ) (lines : List (List ℕ)) (status : ℕ) → IsCheckDue name file lines status → status < unread_status
 check_status-small name file _ _ (check_refused _ _) = lit< tt
 check_status-small name file _ _ (check_accepted _ _ _ _ _ _) = lit< tt
-
--- the one line of a refusal, by its parts
-pub line_by : (name name' : List ℕ) (refusal refusal' : Refusal) (line : List ℕ) → line ≡ refusal_line name refusal → name ≡ name' → refusal ≡ refusal' → line ∷ [] ≡ refusal_line name' refusal' ∷ []
-line_by name name' refusal refusal' line is same same' = rw (is, same, same') refl
 
 -- what is due, by its lines and its status
 due_by : (name file goal : List ℕ) (steps : ℕ) (most : Option ℕ) (lines lines' : List (List ℕ)) (status status' : ℕ) → lines ≡ lines' → status ≡ status' → IsDue name file goal steps most lines' status'
@@ -222,8 +222,17 @@ refused-found : (name text goal : List ℕ) (steps : ℕ) (most : Option ℕ) (d
 refused-found name text goal steps most due lines status same same' above is =
     (subst (λ (n : ℕ). limit_status < n) (sym same') above, due_by name text goal steps most due.lines lines due.status status same same' is)
 
-pub refused-goal : (name text goal said line : List ℕ) (steps : ℕ) (most : Option ℕ) (refusal : Refusal) (status : ℕ) (found : Found) → said ≡ line → limit_status < status
-    → IsDue name text goal steps most (refusal_line line refusal ∷ []) status → IsRefused status said refusal found → IsSolveFound name text goal steps most found
-refused-goal name text goal said line steps most refusal status (Lines due) same above is (lines, told) =
-    refused-found name text goal steps most due (refusal_line line refusal ∷ []) status (lines ∙ ap (λ (some : List ℕ). refusal_line some refusal ∷ []) same) told above is
-refused-goal name text goal said line steps most refusal status (Runs ready) same above is other = absurd other
+pub fault-goal : (name text goal said line : List ℕ) (steps : ℕ) (most : Option ℕ) (status : ℕ) (fault : Fault) (due : Due) (Breaks : Refusal → Type 0) → said ≡ line → limit_status < status
+    → ((refusal : Refusal) → Breaks refusal → IsDue name text goal steps most (refusal_line line refusal ∷ []) status) → IsRefusal Breaks fault → IsFaultDue status said fault due
+    → IsSolveFound name text goal steps most (Lines due)
+fault-goal name text goal said line steps most status (Refused refusal) due Breaks same above told breaks (lines, is) =
+    refused-found name text goal steps most due (refusal_line line refusal ∷ []) status (lines ∙ ap (λ (some : List ℕ). refusal_line some refusal ∷ []) same) is above (told refusal breaks)
+fault-goal name text goal said line steps most status NoMemory due Breaks same above told breaks other = absurd other
+
+-- the same of the check of a file
+pub fault-check : (name text said : List ℕ) (fault : Fault) (due : Due) (Breaks : Refusal → Type 0) → said ≡ name
+    → ((refusal : Refusal) → Breaks refusal → Refuses fixed_names text refusal) → IsRefusal Breaks fault → IsFaultDue module_status said fault due → IsCheckDue name text due.lines due.status
+fault-check name text said (Refused refusal) due Breaks same told breaks (lines, is) =
+    check_due_by name text due.lines (refusal_line name refusal ∷ []) due.status module_status (lines ∙ ap (λ (some : List ℕ). refusal_line some refusal ∷ []) same) is
+    (check_refused refusal (told refusal breaks))
+fault-check name text said NoMemory due Breaks same told breaks other = absurd other

@@ -1,8 +1,4 @@
-pub mod LoadingLemmas
-pub mod WritingLemmas
-pub mod LineLemmas
 pub mod CheckingLemmas
-pub mod RunLemmas
 pub mod ReadyLemmas
 pub mod Dues
 pub mod Digits
@@ -12,11 +8,8 @@ pub mod OutputLaws
 pub mod Causes
 pub mod CallEnds
 pub mod AnswerLaws
-pub mod StatusExamples
 pub mod WordsExamples
 pub mod OptionsExamples
-pub mod LoadingExamples
-pub mod WritingExamples
 pub mod CheckingExamples
 pub mod OutputExamples
 pub mod DueExamples

@@ -18,12 +18,13 @@ use Rattle.merc_meaning.specs.Trace.{Run}
 use Rattle.merc_meaning.specs.Programs.{program_with}
 use Rattle.merc_meaning.specs.Runs.{run}
 use Rattle.merc_code.specs.Meaning.{shown}
-use Rattle.merc_top.specs.Statuses.{module_status, goal_status}
+use Rattle.merc_transfer.specs.Statuses.{module_status, goal_status}
 use Rattle.merc_top.specs.declared.words.Request.{Request}
 use Rattle.merc_top.specs.declared.words.Request.TheVariants.{Solve, Check}
 use Rattle.merc_top.specs.Words.{IsRequest, file_of}
 use Rattle.merc_top.specs.Checking.{check_lines}
-use Rattle.merc_top.specs.Output.{IsAskedRun, IsDue, IsCheckDue, IsRequestDue, IsOutput, FileOutput, refusal_line, run_lines, run_status, too_long_line}
+use Rattle.merc_solving.specs.RunLines.{run_lines, run_status}
+use Rattle.merc_top.specs.Output.{IsAskedRun, IsDue, IsCheckDue, IsRequestDue, IsOutput, FileOutput, refusal_line, too_long_line}
 use Rattle.merc_top.specs.Output.IsDue.{module_refused, goal_refused, runs}
 use Rattle.merc_top.specs.Output.IsCheckDue.{check_refused, check_accepted}
 use Rattle.merc_top.proofs.Requests.{solve-unique, check-unique, solve-no_check, request_file-unique}

@@ -1,11 +1,11 @@
 -- What one call of `answer` has done: what it wrote, and why it ends with its status.
 use Rattle.std.specs.Prelude.{◌≡◌, ◌≢◌, ◌<◌, ◌⊎◌, ◌↔◌, ℕ, List, Option, Some, None}
 use Rattle.merc_base.specs.Outside.{Files, file_named, appended}
-use Rattle.merc_top.specs.Statuses.{unread_status, unwritten_status, no_memory_status}
+use Rattle.merc_transfer.specs.Statuses.{unread_status, unwritten_status, no_memory_status}
 use Rattle.merc_top.specs.declared.words.Request.{Request}
 use Rattle.merc_top.specs.Words.{IsRequest, file_of}
-use Rattle.merc_top.specs.Writing.{PutsFront}
-use Rattle.merc_top.specs.Output.{IsOutput, text_of}
+use Rattle.merc_transfer.specs.Writing.{PutsFront, text_of}
+use Rattle.merc_top.specs.Output.{IsOutput}
 
 -- the files that a shelf tells; where it tells none, any
 abbrev pub AreFiles : Option Files → Files → Type 0

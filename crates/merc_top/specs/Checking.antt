@@ -9,7 +9,7 @@ use Rattle.merc_value.specs.Text.{name_text, text_at}
 use Rattle.merc_graded_tree.specs.Nodes.{Node}
 use Rattle.merc_grading.specs.Faults.{Procedure, procedures_of}
 use Rattle.merc_grading.specs.Grading.{category_at}
-use Rattle.merc_top.specs.Lines.{line, comma_list}
+use Rattle.merc_solving.specs.Lines.{line, comma_list}
 
 abbrev pub place_text : Arg → List ℕ
 place_text Input = codes "in"

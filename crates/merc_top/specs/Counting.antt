@@ -3,10 +3,10 @@ use Rattle.std.specs.Prelude.{◌≡◌, ◌≤◌, ℕ, List, length, Option, S
 use Rattle.merc_base.specs.Outside.{Files, file_named}
 use Rattle.merc_meaning.specs.Trace.{Run}
 use Rattle.merc_machine.specs.Running.{counted}
-use Rattle.merc_top.specs.Statuses.{limit_status}
+use Rattle.merc_transfer.specs.Statuses.{limit_status}
 use Rattle.merc_top.specs.Words.{IsSolve}
-use Rattle.merc_top.specs.Loading.{file_limit}
-use Rattle.merc_top.specs.Runs.{steps_made}
+use Rattle.merc_transfer.specs.Loading.{file_limit}
+use Rattle.merc_solving.specs.Runs.{steps_made}
 use Rattle.merc_top.specs.Output.{IsAskedRun}
 use Rattle.merc_top.specs.Answer.{AreFiles}
 

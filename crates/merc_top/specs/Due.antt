@@ -1,24 +1,26 @@
 -- What is found to be due before anything is written.
 use Rattle.std.specs.Prelude.{◌≡◌, ◌<◌, ◌⊎◌, ℕ, List, [], ◌∷◌, Option, Result, Ok, Err}
 use Rattle.merc_base.specs.Outside.{Files}
-use Rattle.merc_base.specs.declared.refusal.Refusal.{Refusal}
+use Rattle.merc_base.specs.declared.refusal.Fault.{Fault}
+use Rattle.merc_base.specs.declared.refusal.Fault.TheVariants.{Refused, NoMemory}
 use Rattle.merc_meaning.specs.Trace.{Run}
 use Rattle.merc_top.specs.declared.words.Request.{Request}
 use Rattle.merc_top.specs.declared.words.Request.TheVariants.{Solve, Check}
+use Rattle.merc_transfer.specs.declared.due.Due.{Due}
 use Rattle.merc_top.specs.declared.answering.Found.{Found}
 use Rattle.merc_top.specs.declared.answering.Found.TheVariants.{Lines, Run as Runs}
 use Rattle.merc_top.specs.declared.answering.Trouble.{Trouble}
-use Rattle.merc_top.specs.declared.answering.Trouble.TheVariants.{Unread, NoMemory}
-use Rattle.merc_top.specs.Statuses.{limit_status, unread_status, too_long_status}
+use Rattle.merc_top.specs.declared.answering.Trouble.TheVariants.{Unread, NoMemory as NoMemoryLeft}
+use Rattle.merc_transfer.specs.Statuses.{limit_status, unread_status, too_long_status}
 use Rattle.merc_top.specs.Output.{IsAskedRun, IsCheckDue, IsDue, IsOutput, refusal_line}
 use Rattle.merc_top.specs.Answer.{AreFiles, NamesAbsent}
 use Rattle.merc_top.specs.Counting.{AsksRun}
-use Rattle.merc_top.specs.Ready.{IsReady}
+use Rattle.merc_solving.specs.Ready.{IsReady}
 
--- the one line of a refusal, and this status
-abbrev pub IsRefused : ℕ → List ℕ → Refusal → Found → Type 0
-IsRefused status name refusal (Lines due) = (due.lines ≡ refusal_line name refusal ∷ []) × (due.status ≡ status)
-IsRefused status name refusal (Runs ready) = ⊥
+-- The one line of a refusal, and this status. Where memory was refused, nothing is due.
+abbrev pub IsFaultDue : ℕ → List ℕ → Fault → Due → Type 0
+IsFaultDue status name (Refused refusal) due = (due.lines ≡ refusal_line name refusal ∷ []) × (due.status ≡ status)
+IsFaultDue status name NoMemory due = ⊥
 
 -- the lines and the status that are due for a file of this name and text, and a goal, which say that one of both is refused; or what makes the run that is due
 abbrev pub IsSolveFound : List ℕ → List ℕ → List ℕ → ℕ → Option ℕ → Found → Type 0
@@ -45,4 +47,4 @@ Finds words told before now (Ok (Runs ready)) =
     (now ≡ before)
     × ((files : Files) × AreFiles told files × (names : List (List ℕ)) × (variables : List ℕ) × (most : Option ℕ) × (asked : Run) × AsksRun words files names variables most asked × IsReady names variables most asked ready)
 Finds words told before now (Err Unread) = (before < now) ⊎ ((now ≡ before) × NamesAbsent words told)
-Finds words told before now (Err NoMemory) = now ≡ before
+Finds words told before now (Err NoMemoryLeft) = now ≡ before

@@ -1,13 +1,6 @@
-pub mod Statuses
 pub mod Words
-pub mod Loading
-pub mod Writing
-pub mod Lines
 pub mod Checking
-pub mod Runs
 pub mod Output
 pub mod Answer
 pub mod Counting
-pub mod Ready
-pub mod Solving
 pub mod Due

@@ -1,37 +1,31 @@
 //! The top call.
-ghost use Rattle.std.specs.Prelude.{◌≡◌, ◌<◌, ◌≤◌, All, ℕ, IfOk, false, [], ◌∷◌, length};
-ghost use Rattle.merc_top.specs.Loading.{file_limit};
-ghost use Rattle.merc_top.specs.Output.{IsCheckDue, refusal_line, text_of, too_long_line};
-ghost use Rattle.merc_top.specs.Statuses.{status_told, too_long_status, usage_status};
+ghost use Rattle.std.specs.Prelude.{◌≡◌, ◌<◌, ◌≤◌, All, ℕ, List, IfOk, false, [], ◌∷◌, length};
+ghost use Rattle.merc_base.specs.Names.{fixed_names};
+ghost use Rattle.merc_check.specs.Accepted.{AreGraded};
+ghost use Rattle.merc_check.specs.Checked.{IsAccepted};
+ghost use Rattle.merc_transfer.specs.Loading.{file_limit};
+ghost use Rattle.merc_top.specs.Output.{IsCheckDue, too_long_line};
+ghost use Rattle.merc_transfer.specs.Statuses.{too_long_status, usage_status};
 ghost use Rattle.merc_top.specs.Words.{usage_line};
 ghost use Rattle.merc_top.specs.Counting.{Counts};
-ghost use Rattle.merc_top.specs.Due.{Finds, IsRefused, IsRequestFound, IsSolveFound};
+ghost use Rattle.merc_top.specs.Due.{Finds, IsFaultDue, IsRequestFound, IsSolveFound};
 ghost use Rattle.merc_top.specs.Answer.{Answers};
-ghost use Rattle.merc_top.specs.Writing.{Writes};
 
 use crate::checking::check_lines;
 use crate::lines::{refusal_line, too_long_line};
-use crate::loading::{LoadFault, load};
-use crate::solving::{Ready, prepare, run};
-use crate::statuses;
+use crate::preparing::prepare;
 use crate::words::{Request, read_words};
-use crate::writing::{Cut, WriteFault, put_lines};
-use merc_base::{Fault, Gate, Names, NoMemory, Refusal, Sequence, Shelf, Sink, Tap, Text};
-use merc_check::{check, check_query};
+use merc_base::{Fault, Gate, Names, NoMemory, Sequence, Shelf, Sink, Tap, Text};
+use merc_check::{Checked, check, check_query};
 use merc_machine::Ticks;
+use merc_solving::{Ready, run};
+use merc_transfer::{Due, LoadFault, load, put_due, status_told, statuses};
 use std::alloc::Global;
 use std::sync::Wait;
 use std::thread::Threads;
 
 const USAGE: &[u8] =
     b"usage: merc solve FILE GOAL [--workers N] [--steps N] [--max N] | check FILE | code FILE | grow N [--workers N]\n";
-
-/// What is to be written, line by line, and the status to end with then.
-#[derive(Drop)]
-pub struct Due {
-    pub status: u8,
-    pub lines: Sequence<Text>,
-}
 
 /// What is due: lines, or a run.
 #[derive(Drop)]
@@ -48,23 +42,14 @@ fn one_line(alloc: Global, status: u8, line: Text) -> Result<Due, NoMemory>
     Ok(Due { status, lines })
 }
 
-// The line of a refusal.
-fn refused(alloc: Global, status: u8, name: &[u8], refusal: &Refusal) -> Result<Due, NoMemory>
-    ensures { IfOk result (λ due. (due.lines ≡ refusal_line name.now refusal.now ∷ []) × (due.status ≡ status)) }
+// What is due where a fault of a file of this name, or of a goal, was found.
+fn fault_due(alloc: Global, status: u8, name: &[u8], fault: Fault) -> Result<Due, NoMemory>
+    ensures { IfOk result (IsFaultDue status name.now fault) }
 {
-    one_line(alloc, status, refusal_line(alloc, name, refusal)?)
-}
-
-// The same, as what is due for a goal.
-fn refused_goal(
-    alloc: Global,
-    status: u8,
-    name: &[u8],
-    refusal: &Refusal,
-) -> Result<Found, NoMemory>
-    ensures { IfOk result (IsRefused status name.now refusal.now) }
-{
-    Ok(Found::Lines(refused(alloc, status, name, refusal)?))
+    match fault {
+        Fault::Refused(refusal) => one_line(alloc, status, refusal_line(alloc, name, &refusal)?),
+        Fault::NoMemory => Err(NoMemory),
+    }
 }
 
 // What is due for words that ask for nothing that there is.
@@ -95,21 +80,37 @@ fn find_run(
     ensures { IfOk result (λ found. IsSolveFound name.now text.now goal.now steps most.now found) }
 {
     let mut names = Names::new(alloc);
-    let checked = match check(alloc, text, &mut names) {
-        Ok(checked) => checked,
-        Err(Fault::Refused(refusal)) => {
-            return refused_goal(alloc, statuses::MODULE_REFUSED, name.bytes(), &refusal);
+    match check(alloc, text, &mut names) {
+        Ok(checked) => find_goal(alloc, names, &checked, goal, steps, *most),
+        Err(fault) => {
+            let due = fault_due(alloc, statuses::MODULE_REFUSED, name.bytes(), fault)?;
+            Ok(Found::Lines(due))
         }
-        Err(Fault::NoMemory) => return Err(NoMemory),
-    };
-    let query = match check_query(alloc, &checked, goal, &mut names) {
-        Ok(query) => query,
-        Err(Fault::Refused(refusal)) => {
-            return refused_goal(alloc, statuses::GOAL_REFUSED, b"goal", &refusal);
+    }
+}
+
+// The same for a goal over a file that is accepted.
+fn find_goal(
+    alloc: Global,
+    mut names: Names,
+    checked: &Checked,
+    goal: &Text,
+    steps: u64,
+    most: Option<u64>,
+) -> Result<Found, NoMemory>
+    requires { (text : List ℕ) × IsAccepted fixed_names names text checked.now.items checked.now.module }
+    ensures { (name text : List ℕ) → IsAccepted fixed_names names text checked.now.items checked.now.module → AreGraded names checked.now.module checked.now.trees → IfOk result (λ found. IsSolveFound name text goal.now steps most found) }
+{
+    match check_query(alloc, checked, goal, &mut names) {
+        Ok(query) => {
+            let ready = prepare(alloc, names, checked, query, steps, most)?;
+            Ok(Found::Run(ready))
         }
-        Err(Fault::NoMemory) => return Err(NoMemory),
-    };
-    Ok(Found::Run(prepare(alloc, names, &checked, query, steps, *most)?))
+        Err(fault) => {
+            let due = fault_due(alloc, statuses::GOAL_REFUSED, b"goal", fault)?;
+            Ok(Found::Lines(due))
+        }
+    }
 }
 
 // Why nothing can be said of what is due.
@@ -143,10 +144,7 @@ fn check_due(alloc: Global, name: &Text, text: &Text) -> Result<Due, NoMemory>
             status: statuses::ACCEPTED,
             lines: check_lines(alloc, &names, checked.module(), checked.trees())?,
         }),
-        Err(Fault::Refused(refusal)) => {
-            refused(alloc, statuses::MODULE_REFUSED, name.bytes(), &refusal)
-        }
-        Err(Fault::NoMemory) => Err(NoMemory),
+        Err(fault) => fault_due(alloc, statuses::MODULE_REFUSED, name.bytes(), fault),
     }
 }
 
@@ -182,29 +180,6 @@ fn find_due<S: Shelf>(alloc: Global, words: &[Text], shelf: &mut S) -> Result<Fo
         Err(LoadFault::TooLong) => Ok(Found::Lines(too_long_due(alloc, file.bytes())?)),
         Err(LoadFault::Unread) => Err(Trouble::Unread),
         Err(LoadFault::NoMemory) => Err(Trouble::NoMemory),
-    }
-}
-
-// Writes lines that are due.
-fn put_due<K: Sink>(sink: &mut K, due: &Due) -> Result<u8, Cut>
-    requires { K.write_faults sink.old < 18446744073709551615 }
-    ensures writes { Writes (text_of due.now.lines) (K.written sink.old) (K.written sink.new) (K.write_faults sink.old) (K.write_faults sink.new) result }
-    ensures status { IfOk result (λ status. status ≡ due.now.status) }
-{
-    match put_lines(sink, due.lines.as_slice()) {
-        Ok(()) => Ok(due.status),
-        Err(WriteFault) => Err(Cut::Unwritten),
-    }
-}
-
-// The status to end with, where lines were written so.
-fn status_told(written: Result<u8, Cut>) -> u8
-    ensures { result ≡ status_told written }
-{
-    match written {
-        Ok(status) => status,
-        Err(Cut::Unwritten) => statuses::UNWRITTEN,
-        Err(Cut::NoMemory) => statuses::NO_MEMORY,
     }
 }
 

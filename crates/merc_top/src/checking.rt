@@ -5,7 +5,7 @@ ghost use Rattle.merc_value.specs.Text.{name_text, text_at};
 ghost use Rattle.merc_grading.specs.Faults.{with_modes, procedures_of};
 ghost use Rattle.merc_grading.specs.Grading.{category_at};
 ghost use Rattle.merc_top.specs.Checking.{check_lines, place_text, places_text, procedure_line, procedure_lines};
-ghost use Rattle.merc_top.specs.Lines.{line};
+ghost use Rattle.merc_solving.specs.Lines.{line};
 
 use merc_base::{Category, Name, Names, NoMemory, Sequence, Text};
 use merc_graded_tree::{NodeRef, Nodes};

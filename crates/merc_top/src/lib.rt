@@ -4,10 +4,8 @@
 mod answering;
 mod checking;
 mod lines;
-mod loading;
-mod solving;
-pub mod statuses;
+mod preparing;
 mod words;
-mod writing;
 
 pub use answering::answer;
+pub use merc_transfer::statuses;

@@ -1,7 +1,7 @@
 use Rattle.std.proofs.Common.{ℕ, List, refl, subst}
 use Rattle.std.specs.Prelude.{Option, Ok, Err}
 use Rattle.merc_top.specs.Due.{Finds}
-use Rattle.merc_top.specs.Solving.{Solves}
+use Rattle.merc_solving.specs.Solving.{Solves}
 use Rattle.merc_top.proofs.CallEnds.{answers-run, answers-told, answers-unread, counts-lines, counts-run}
 use Rattle.merc_top.proofs.answering.answer.Goals as goal
 

@@ -1,24 +1,21 @@
 -- A file that breaks a rule is refused by that rule; else its procedures have the lines.
-use Rattle.std.proofs.Common.{◌≡◌, ◌≤◌, ◌∙◌, arith, subst, sym, [], ◌∷◌, refl, List, ℕ, length}
+use Rattle.std.proofs.Common.{◌≡◌, ◌≤◌, arith, subst, sym, refl, List, ℕ, length}
 use Rattle.std.specs.List.{IsDistinct}
 use Rattle.std.specs.Str.{bytes_eq}
 use Rattle.std.proofs.lemmas.Result.{IfOk-weaker}
 use Rattle.merc_base.specs.Names.{HoldsFixed, fixed_names}
-use Rattle.merc_base.specs.declared.refusal.Fault.{Fault}
 use Rattle.merc_base.proofs.NameLaws.{fixed_names-distinct}
 use Rattle.merc_tree.specs.declared.declarations.Module.{Module}
 use Rattle.merc_graded_tree.specs.Nodes.{Node}
 use Rattle.merc_grading.specs.Faults.{procedures_of}
-use Rattle.merc_terms.specs.Items.{IsRefusal}
 use Rattle.merc_check.specs.Checked.{IsAccepted, Refuses}
 use Rattle.merc_base.proofs.NameExamples.{HoldsFixed-fixed}
 use Rattle.merc_check.proofs.CheckedLaws.{AreGraded-count}
-use Rattle.merc_top.specs.Loading.{file_limit}
-use Rattle.merc_top.specs.Statuses.{accepted_status, module_status}
+use Rattle.merc_transfer.specs.Loading.{file_limit}
+use Rattle.merc_transfer.specs.Statuses.{accepted_status}
 use Rattle.merc_top.specs.Checking.{check_lines}
-use Rattle.merc_top.specs.Output.{refusal_line}
-use Rattle.merc_top.specs.Output.IsCheckDue.{check_refused, check_accepted}
-use Rattle.merc_top.proofs.Dues.{check_due_by, line_by}
+use Rattle.merc_top.specs.Output.IsCheckDue.{check_accepted}
+use Rattle.merc_top.proofs.Dues.{check_due_by, fault-check}
 use Rattle.merc_top.proofs.answering.check_due.Goals as goal
 
 pub check-requires-clause-length : goal.check-requires-clause-length
@@ -31,16 +28,12 @@ check-requires-clause-fixed c = subst (λ (names : List (List ℕ)). HoldsFixed 
 pub check-requires-clause-distinct : goal.check-requires-clause-distinct
 check-requires-clause-distinct c = subst (λ (names : List (List ℕ)). IsDistinct bytes_eq names) (sym c.new-names.ensures) fixed_names-distinct
 
-pub returns-in-Err-Refused : goal.returns-in-Err-Refused
-returns-in-Err-Refused c =
-    let refuses =
-    subst (λ (fault : Fault). IsRefusal (Refuses c.new-names.result c.args.text.now) fault) c.in-Err-Refused.field-0-is c.in-Err-Refused.ensures.refused in
-    let line = line_by c.bytes.result.now c.args.name.now c.in-Err-Refused.refusal c.in-Err-Refused.refusal _ refl c.bytes.ensures refl in
-    IfOk-weaker c.refused.result _ _
-    (λ due is.
-    check_due_by c.args.name.now c.args.text.now due.lines (refusal_line c.args.name.now c.in-Err-Refused.refusal ∷ []) due.status module_status (is.0 ∙ line) is.1
-    (check_refused c.in-Err-Refused.refusal (subst (λ (names : List (List ℕ)). Refuses names c.args.text.now c.in-Err-Refused.refusal) c.new-names.ensures refuses)))
-    c.refused.ensures
+pub returns : goal.returns
+returns c =
+    IfOk-weaker c.fault_due.result _ _
+    (λ due is. fault-check c.args.name.now c.args.text.now c.bytes.result.now c.in-Err.fault due (Refuses c.new-names.result c.args.text.now) c.bytes.ensures
+    (λ refusal refuses. subst (λ (names : List (List ℕ)). Refuses names c.args.text.now refusal) c.new-names.ensures refuses) c.in-Err.ensures.refused is)
+    c.fault_due.ensures
 
 pub returns-in-Ok : goal.returns-in-Ok
 returns-in-Ok c =

@@ -1,7 +1,7 @@
 use Rattle.std.proofs.Common.{◌∙◌, ap, subst, ℕ, List, [], ◌∷◌}
 use Rattle.std.specs.Prelude.{Ok, Err}
-use Rattle.merc_top.specs.declared.loading.LoadFault.TheVariants.{TooLong}
-use Rattle.merc_top.specs.Loading.{Loads}
+use Rattle.merc_transfer.specs.declared.loading.LoadFault.TheVariants.{TooLong}
+use Rattle.merc_transfer.specs.Loading.{Loads}
 use Rattle.merc_top.specs.Output.{too_long_line}
 use Rattle.merc_top.proofs.Dues.{usage-found, file-found, too_long-found}
 use Rattle.merc_top.proofs.answering.find_due.Goals as goal

@@ -1,7 +1,7 @@
 use Rattle.std.proofs.Common.{◌≡◌, ◌∙◌, ◌<◌, ◌≤◌, ap, subst, take, length, get_or, List, arith, codes, ◌++◌}
 use Rattle.std.specs.Fmt.{decimal}
 use Rattle.merc_tree.specs.declared.declarations.PredDecl.{PredDecl}
-use Rattle.merc_top.specs.Lines.{line}
+use Rattle.merc_solving.specs.Lines.{line}
 use Rattle.merc_top.proofs.CheckingLemmas.{own-fit, pred_lines-fit, pred_lines-step, check_lines-whole}
 use Rattle.merc_top.proofs.checking.check_lines.Goals as goal
 

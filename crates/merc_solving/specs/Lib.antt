@@ -1,0 +1,5 @@
+pub mod Lines
+pub mod Runs
+pub mod RunLines
+pub mod Ready
+pub mod Solving

@@ -1,0 +1,5 @@
+pub mod LoadingLemmas
+pub mod WritingLemmas
+pub mod StatusExamples
+pub mod LoadingExamples
+pub mod WritingExamples

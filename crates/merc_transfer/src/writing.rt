@@ -1,0 +1,69 @@
+//! Writes whole texts to a sink that may take less than it is given.
+ghost use Rattle.std.specs.Prelude.{◌<◌, ℕ};
+ghost use Rattle.std.specs.List.{flat_map};
+ghost use Rattle.merc_transfer.specs.Writing.{Puts, Writes};
+
+use merc_base::{NoMemory, Sink, Text, Wrote};
+
+/// A write failed. What was written before it stays.
+#[derive(Clone, Copy, Debug, PartialEq, Eq)]
+pub struct WriteFault;
+
+/// Why a text was not written to its end. A front of it was.
+#[derive(Clone, Copy, Debug, PartialEq, Eq)]
+pub enum Cut {
+    /// A write failed.
+    Unwritten,
+    /// Memory was refused.
+    NoMemory,
+}
+
+impl From<NoMemory> for Cut {
+    ghost use Rattle.std.specs.Prelude.{◌≡◌};
+    ghost use Rattle.merc_transfer.specs.declared.writing.Cut.TheVariants.{NoMemory};
+
+    ghost from_gives = { λ _ e. e ≡ NoMemory };
+
+    fn from(_: NoMemory) -> Self {
+        Cut::NoMemory
+    }
+}
+
+/// Writes a text, and the rest of it again where less was taken. No write follows one that failed.
+pub fn put<K: Sink>(sink: &mut K, bytes: &[u8]) -> Result<(), WriteFault>
+    requires { K.write_faults sink.old < 18446744073709551615 }
+    ensures { Puts bytes.now (K.written sink.old) (K.written sink.new) (K.write_faults sink.old) (K.write_faults sink.new) result }
+{
+    let mut rest = bytes;
+    while !rest.is_empty() {
+        match sink.write(rest) {
+            Wrote::Took(count) => rest = &rest[count..],
+            Wrote::Failed => return Err(WriteFault),
+        }
+    }
+    Ok(())
+}
+
+/// Writes lines in order, each as a piece of its own.
+pub fn put_lines<K: Sink>(sink: &mut K, lines: &[Text]) -> Result<(), WriteFault>
+    requires { K.write_faults sink.old < 18446744073709551615 }
+    ensures { Puts (flat_map (λ line. line) lines.now) (K.written sink.old) (K.written sink.new) (K.write_faults sink.old) (K.write_faults sink.new) result }
+{
+    for line in lines {
+        if let Err(fault) = put(sink, line.bytes()) {
+            return Err(fault);
+        }
+    }
+    Ok(())
+}
+
+/// Writes a line.
+pub fn put_line<K: Sink>(sink: &mut K, line: &Text) -> Result<(), Cut>
+    requires { K.write_faults sink.old < 18446744073709551615 }
+    ensures { Writes line.now (K.written sink.old) (K.written sink.new) (K.write_faults sink.old) (K.write_faults sink.new) result }
+{
+    match put(sink, line.bytes()) {
+        Ok(()) => Ok(()),
+        Err(WriteFault) => Err(Cut::Unwritten),
+    }
+}
