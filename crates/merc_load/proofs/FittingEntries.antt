@@ -1,6 +1,8 @@
 -- What the calls of loaded code pass goes to slots of the called procedures' frames.
-use Rattle.std.specs.Prelude.{◌≡◌, ℕ, zero, Bool, true, false, List, ◌∷◌, Option, Some, None, slice_get, refl, if◌then◌else◌}
+use Rattle.std.specs.Prelude.{◌≡◌, ℕ, zero, Bool, true, false, List, [], ◌∷◌, Option, Some, None, slice_get, refl, if◌then◌else◌}
+use Rattle.std.specs.List.{All}
 use Rattle.std.proofs.Common.{inl, inr, subst, sym}
+use Rattle.std.proofs.lemmas.List.Elements.{All-cons, All-head, All-nil}
 use Rattle.merc_tree.specs.declared.declarations.Arg.{Arg}
 use Rattle.merc_graded_tree.specs.declared.basic.Procedure.{Procedure}
 use Rattle.merc_code.specs.declared.instruction.Instruction.{Instruction}
@@ -17,6 +19,7 @@ use Rattle.merc_layout.specs.declared.entries.Entry.{Entry}
 use Rattle.merc_load.specs.declared.loaded.Loaded.{Loaded}
 use Rattle.merc_load.specs.declared.loaded.Op.{Op}
 use Rattle.merc_load.specs.declared.loaded.Op.TheVariants.{Call as CallOp, LastCall}
+use Rattle.merc_load.proofs.FittingSums.{passing_received}
 use Rattle.merc_load.proofs.Passed.{passed_inside}
 use Rattle.merc_load.proofs.StandingOps.{standing_first}
 
@@ -50,11 +53,12 @@ leaving_received codes own _ _ (operates_number operation to one constant number
 leaving_received codes own _ _ (adds_number to one constant number rest apart unread) = tt
 leaving_received codes own _ _ (subtracts_number to one constant number rest apart unread) = tt
 
-stands_received : (codes : Codes) (own : Option (List Arg)) (instruction : Instruction) (rest : Code) (op : Op) (ops : List Op) (new : Op) → StandsThere codes own instruction rest op ops new → FitsEntry op
+stands_received : (codes : Codes) (own : Option (List Arg)) (instruction : Instruction) (rest : Code) (op : Op) (ops : List Op) (new : Op) → StandsThere codes own instruction rest op ops new → All FitsEntry (op ∷ ops)
     → FitsEntry new
-stands_received codes own instruction rest op ops new (inl same) listed = subst FitsEntry (sym same) listed
+stands_received codes own instruction rest op ops new (inl same) listed = subst FitsEntry (sym same) (All-head FitsEntry op ops listed)
 stands_received codes own instruction rest op ops new (inr (inl several)) listed = superinstruction_received (op ∷ ops) new several
-stands_received codes own instruction rest op ops new (inr (inr leaves)) listed = leaving_received codes own (instruction ∷ rest) new leaves
+stands_received codes own instruction rest op ops new (inr (inr (inl leaves))) listed = leaving_received codes own (instruction ∷ rest) new leaves
+stands_received codes own instruction rest op ops new (inr (inr (inr passes))) listed = passing_received codes own (instruction ∷ rest) (op ∷ ops) new passes listed
 
 -- Given is a loaded program, and of the code that is loaded what it belongs to.
 module _ (program : Loaded) (codes : Codes) (entry_of : Procedure → Entry) (query : Code) (loaded : IsLoaded program codes entry_of query) (variables : ℕ) (own : Option (List Arg)) where
@@ -75,8 +79,13 @@ module _ (program : Loaded) (codes : Codes) (entry_of : Procedure → Entry) (qu
   op_received (Call procedure arguments) rest = call_received procedure (codes procedure) arguments rest refl
   op_received instruction rest = tt
 
+  ops_received : (code : Code) → All FitsEntry (ops_of codes entry_of variables own code)
+  ops_received [] = All-nil FitsEntry
+  ops_received (instruction ∷ rest) =
+      All-cons FitsEntry (op_of codes entry_of variables own instruction rest) (ops_of codes entry_of variables own rest) (op_received instruction rest) (ops_received rest)
+
   pub standing_received : (place size : ℕ) (instruction : Instruction) (rest : Code) (op : Op) → StandsAt program.ops.items codes entry_of place size variables own (instruction ∷ rest)
       → slice_get program.ops.items place ≡ Some op → FitsEntry op
   standing_received place size instruction rest op stands found =
       stands_received codes own instruction rest (op_of codes entry_of variables own instruction rest) (ops_of codes entry_of variables own rest) op
-      (standing_first program.ops.items codes entry_of place size variables own instruction rest op stands found) (op_received instruction rest)
+      (standing_first program.ops.items codes entry_of place size variables own instruction rest op stands found) (ops_received (instruction ∷ rest))

@@ -15,15 +15,18 @@ use Rattle.merc_last_calls.specs.LastCalls.{outputs}
 use Rattle.merc_layout.specs.declared.entries.Entry.{Entry}
 use Rattle.merc_load.specs.Combined.{StandsThere}
 use Rattle.merc_layout.specs.Entries.{Each}
+use Rattle.merc_frames.specs.declared.passing.Pass.{Pass}
 use Rattle.merc_frames.specs.Rooms.{AreSlots}
 use Rattle.merc_load.specs.FittingOps.{FitsOp, HasSlots}
 use Rattle.merc_layout.specs.Frames.{FitsCode, FitsInstruction, written}
 use Rattle.merc_load.specs.LeavingOut.{LeavesOut, decides_number, decides_test, decides_comparison, decides_integer, decides_result, operates_number, adds_number, subtracts_number}
 use Rattle.merc_load.specs.Loaded.{StandsAt, call_op, entered_at, inputs, is_last_of, op_of, ops_of, results_of}
+use Rattle.merc_load.specs.PassingSum.{PassesSum, calls, calls_last}
 use Rattle.merc_load.specs.Superinstructions.{AreListArms, IsArm, IsSuperinstruction, SkipsTo, cell_arm, empty_arm, operates, builds, splits, decides, decides_with, operates_with, compares_with, jumps_back, returns_result, returns_built, returns_copy, decides_all, switches, switches_list, tries_result, tries_test}
 use Rattle.merc_load.specs.declared.loaded.Arm.{Arm}
 use Rattle.merc_load.specs.declared.loaded.Op.{Op}
-use Rattle.merc_load.specs.declared.loaded.Op.TheVariants.{Do, Jump as JumpOp, Switch as SwitchOp, Try as TryOp, Mark as MarkOp, Commit as CommitOp, Call as CallOp, LastCall, Return as ReturnOp}
+use Rattle.merc_load.specs.declared.loaded.Op.TheVariants.{Do, Jump as JumpOp, Switch as SwitchOp, Try as TryOp, Mark as MarkOp, Commit as CommitOp, Call as CallOp, LastCall, Return as ReturnOp, SumNumber}
+use Rattle.merc_load.proofs.FittingSums.{left_has, third_has}
 use Rattle.merc_load.proofs.Passed.{inputs_from, outputs_below}
 use Rattle.merc_load.proofs.StandingOps.{standing_first}
 
@@ -178,6 +181,16 @@ module _ (size : ℕ) where
       let subtracted = each.1.0 in
       (subtracted.0, subtracted.1)
 
+  passing_fits : (codes : Codes) (own : Option (List Arg)) (code : Code) (ops : List Op) (new : Op) → PassesSum codes own code ops new → All (FitsOp size) ops → All (HasSlots size) code → FitsOp size new
+  passing_fits codes own _ _ _ (calls constant operation call rest one other ops entry passed left outs sum leaves unread taken) fits slots =
+      let called = third_has (FitsOp size) one other (CallOp entry passed outs) ops fits in
+      let summed = leaving_fits codes own (constant ∷ operation ∷ call ∷ rest) (SumNumber sum.variable sum.from sum.number) leaves slots in
+      (left_has (λ (pass : Pass). pass.from < size) sum.variable sum.to passed left taken called.0, summed.0, summed.1)
+  passing_fits codes own _ _ _ (calls_last constant operation call rest one other ops entry passed left sum leaves unread taken) fits slots =
+      let called = third_has (FitsOp size) one other (LastCall entry passed) ops fits in
+      let summed = leaving_fits codes own (constant ∷ operation ∷ call ∷ rest) (SumNumber sum.variable sum.from sum.number) leaves slots in
+      (left_has (λ (pass : Pass). pass.from < size) sum.variable sum.to passed left taken called, summed.0, summed.1)
+
 -- Given is what the loaded code belongs to. The results of the procedure whose code it is are variables.
 module _ (codes : Codes) (entry_of : Procedure → Entry) (variables size : ℕ) (own : Option (List Arg)) (room : variables ≤ size) (results : All (λ (variable : ℕ). variable < variables) (results_of own)) where
   call_fits : (entry : Entry) (called : Option ProcedureCode) (arguments : List ℕ) (rest : Code) → AreSlots size arguments → FitsOp size (call_op codes entry_of variables own entry called arguments rest)
@@ -211,13 +224,15 @@ module _ (codes : Codes) (entry_of : Procedure → Entry) (variables size : ℕ)
       All-cons (FitsOp size) (op_of codes entry_of variables own instruction rest) (ops_of codes entry_of variables own rest)
       (op_fits instruction rest (All-head (FitsInstruction variables size) instruction rest fits)) (ops_fit rest (All-tail (FitsInstruction variables size) instruction rest fits))
 
+  slots_of : (code : Code) → FitsCode variables size code → All (HasSlots size) code
+  slots_of code fits = All-weaker (FitsInstruction variables size) (HasSlots size) (has_slots variables size size room) code fits
+
   stands_fits : (instruction : Instruction) (rest : Code) (op : Op) (ops : List Op) (new : Op) → StandsThere codes own instruction rest op ops new → All (FitsOp size) (op ∷ ops) → FitsCode variables size (instruction ∷ rest)
       → FitsOp size new
   stands_fits instruction rest op ops new (inl same) listed fits = subst (FitsOp size) (sym same) (All-head (FitsOp size) op ops listed)
   stands_fits instruction rest op ops new (inr (inl several)) listed fits = superinstruction_fits size (op ∷ ops) new several listed
-  stands_fits instruction rest op ops new (inr (inr leaves)) listed fits =
-      leaving_fits size codes own (instruction ∷ rest) new leaves
-      (All-weaker (FitsInstruction variables size) (HasSlots size) (has_slots variables size size room) (instruction ∷ rest) fits)
+  stands_fits instruction rest op ops new (inr (inr (inl leaves))) listed fits = leaving_fits size codes own (instruction ∷ rest) new leaves (slots_of (instruction ∷ rest) fits)
+  stands_fits instruction rest op ops new (inr (inr (inr passes))) listed fits = passing_fits size codes own (instruction ∷ rest) (op ∷ ops) new passes listed (slots_of (instruction ∷ rest) fits)
 
   pub standing_fits : (ops : List Op) (place : ℕ) (instruction : Instruction) (rest : Code) (op : Op) → StandsAt ops codes entry_of place size variables own (instruction ∷ rest) → slice_get ops place ≡ Some op
       → FitsOp size op

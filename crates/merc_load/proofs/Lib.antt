@@ -1,11 +1,14 @@
 pub mod Combined
 pub mod FittingEntries
 pub mod FittingOps
+pub mod FittingSums
+pub mod Found
 pub mod LeavingOut
 pub mod Ops
 pub mod Passed
 pub mod Returning
 pub mod StandingOps
 pub mod Steps
+pub mod TakenOut
 pub mod Theorem
 pub mod Walks

@@ -11,8 +11,9 @@ use Rattle.merc_frames.specs.Rooms.{AreSlots}
 use Rattle.merc_load.specs.FittingOps.{FitsEntry, FitsOp}
 use Rattle.merc_load.specs.Superinstructions.{cell_arm, empty_arm}
 use Rattle.merc_load.specs.declared.loaded.Arm.{Arm}
+use Rattle.merc_load.specs.declared.loaded.Sum.{Sum}
 use Rattle.merc_layout.specs.declared.entries.Entry.{Entry}
-use Rattle.merc_load.specs.declared.loaded.Op.TheVariants.{Do, Call, LastCall, If, IfCompareVariables, SumNumber, SwitchFields, Fail, Arithmetic as ArithmeticOp, Build as BuildOp, Split as SplitOp}
+use Rattle.merc_load.specs.declared.loaded.Op.TheVariants.{Do, Call, LastCall, CallSum, LastCallSum, If, IfCompareVariables, SumNumber, SwitchFields, Fail, Arithmetic as ArithmeticOp, Build as BuildOp, Split as SplitOp}
 
 -- a frame of three slots
 
@@ -71,6 +72,29 @@ call-example = (All-from_recursion (λ (pass : Pass). pass.from < 3) (record { f
 call-not : FitsOp 3 (Call entry (record { from = 3; to = 0 } ∷ []) []) → ⊥
 call-not f = let h : 3 < 3 = f.0 0 (record { from = 3; to = 0 }) (omega arith) in absurd (omega (arith, h))
 
+-- The sum of a slot's integer and a number: the slot is in the frame, and so is the variable that would be given it. It does not matter how great the number is, or where the sum goes.
+
+abbrev sum : ℕ → ℕ → ℕ → Sum
+sum variable from to = record { variable = variable; from = from; number = pos 9; to = to }
+
+call_sum-example : FitsOp 3 (CallSum entry (record { from = 2; to = 7 } ∷ []) (sum 1 0 8))
+call_sum-example = (All-from_recursion (λ (pass : Pass). pass.from < 3) (record { from = 2; to = 7 } ∷ []) (omega arith, tt), omega arith, omega arith)
+
+last_call_sum-example : FitsOp 3 (LastCallSum entry (record { from = 2; to = 7 } ∷ []) (sum 1 0 8))
+last_call_sum-example = (All-from_recursion (λ (pass : Pass). pass.from < 3) (record { from = 2; to = 7 } ∷ []) (omega arith, tt), omega arith, omega arith)
+
+-- the fourth slot is passed besides
+call_sum-passes-not : FitsOp 3 (CallSum entry (record { from = 3; to = 0 } ∷ []) (sum 1 0 1)) → ⊥
+call_sum-passes-not f = let h : 3 < 3 = f.0 0 (record { from = 3; to = 0 }) (omega arith) in absurd (omega (arith, h))
+
+-- the fourth variable would be given the sum
+call_sum-variable-not : FitsOp 3 (CallSum entry [] (sum 3 0 0)) → ⊥
+call_sum-variable-not f = let h : 3 < 3 = f.1 in absurd (omega (arith, h))
+
+-- the sum is of the fourth slot
+last_call_sum-not : FitsOp 3 (LastCallSum entry [] (sum 1 3 0)) → ⊥
+last_call_sum-not f = let h : 3 < 3 = f.2 in absurd (omega (arith, h))
+
 -- the mark has no slot
 condition-not : FitsOp 3 (If (Test 0 1) 3 4) → ⊥
 condition-not f = let h : 3 < 3 = f.1 in absurd (omega (arith, h))
@@ -91,3 +115,17 @@ entry-example = All-from_recursion (λ (pass : Pass). pass.to < 2) (record { fro
 
 entry-not : FitsEntry (LastCall entry (record { from = 0; to = 2 } ∷ [])) → ⊥
 entry-not f = let h : 2 < 2 = f 0 (record { from = 0; to = 2 }) (omega arith) in absurd (omega (arith, h))
+
+call_sum_entry-example : FitsEntry (CallSum entry (record { from = 7; to = 1 } ∷ []) (sum 9 8 0))
+call_sum_entry-example = (All-from_recursion (λ (pass : Pass). pass.to < 2) (record { from = 7; to = 1 } ∷ []) (omega arith, tt), omega arith)
+
+last_call_sum_entry-example : FitsEntry (LastCallSum entry (record { from = 7; to = 1 } ∷ []) (sum 9 8 0))
+last_call_sum_entry-example = (All-from_recursion (λ (pass : Pass). pass.to < 2) (record { from = 7; to = 1 } ∷ []) (omega arith, tt), omega arith)
+
+-- the sum goes to the third slot of two ..
+call_sum_entry-not : FitsEntry (CallSum entry [] (sum 1 0 2)) → ⊥
+call_sum_entry-not f = let h : 2 < 2 = f.1 in absurd (omega (arith, h))
+
+-- .. or something else that is passed does
+last_call_sum_entry-not : FitsEntry (LastCallSum entry (record { from = 0; to = 2 } ∷ []) (sum 1 0 0)) → ⊥
+last_call_sum_entry-not f = let h : 2 < 2 = f.0 0 (record { from = 0; to = 2 }) (omega arith) in absurd (omega (arith, h))

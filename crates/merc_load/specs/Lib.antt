@@ -8,5 +8,7 @@ pub mod Linking
 pub mod LinkingExamples
 pub mod Loaded
 pub mod LoadedExamples
+pub mod PassingSum
+pub mod PassingSumExamples
 pub mod Superinstructions
 pub mod SuperinstructionsExamples

@@ -2,12 +2,14 @@
 #![tactic(auto)]
 
 mod combining;
+mod finding;
 pub mod laws;
 mod leaving;
 mod linking;
 pub mod loaded;
 mod loading;
 mod passing;
+mod taking;
 
-pub use loaded::{Arm, Loaded, Op};
+pub use loaded::{Arm, Loaded, Op, Sum};
 pub use loading::load;

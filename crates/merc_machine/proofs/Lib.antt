@@ -3,6 +3,7 @@ pub mod Asking
 pub mod Attempts
 pub mod CallSteps
 pub mod Callers
+pub mod CallingWithSum
 pub mod ChoicePoints
 pub mod Choosing
 pub mod Combining
@@ -17,6 +18,7 @@ pub mod Going
 pub mod GoingBack
 pub mod Growing
 pub mod Handing
+pub mod HandingSum
 pub mod Inverses
 pub mod JumpingBack
 pub mod LastCalling
@@ -28,6 +30,7 @@ pub mod Marking
 pub mod Passing
 pub mod Performing
 pub mod Places
+pub mod PlacesOfCalls
 pub mod Reading
 pub mod Resulting
 pub mod Returning

@@ -1,15 +1,15 @@
 -- What the functions do that an instruction is made of.
 use Rattle.std.specs.List.{All}
-use Rattle.std.proofs.Common.{◌≡◌, ℕ, ◌<◌, List, [], ◌∷◌, pos, Some, None, true, false, refl, sym, ap, subst, ◌∙◌, arith}
+use Rattle.std.proofs.Common.{◌≡◌, ℕ, zero, suc, ◌+◌, ◌<◌, List, [], ◌∷◌, pos, Some, None, true, false, slice_get, slice_set, refl, sym, ap, subst, ◌∙◌, arith}
 use Rattle.std.proofs.lemmas.List.Elements.{All-nil, All-cons}
 use Rattle.merc_base.specs.Names.{division_by_zero_name}
 use Rattle.merc_value.specs.Value.{Int, Con, none, more}
 use Rattle.merc_value.specs.declared.word.Word.TheVariants.{Int as IntWord, Text as TextWord, Cell as CellWord}
 use Rattle.merc_goal_tree.specs.declared.goal.Symbol.TheVariants.{Constructor, Integer as IntegerSymbol}
-use Rattle.merc_goal_tree.specs.declared.goal.Operation.TheVariants.{Div}
+use Rattle.merc_goal_tree.specs.declared.goal.Operation.TheVariants.{Add, Div}
 use Rattle.merc_goal_tree.specs.declared.goal.Comparison.TheVariants.{Less}
 use Rattle.merc_meaning.specs.Trace.{Env}
-use Rattle.merc_meaning.specs.Steps.{value_at}
+use Rattle.merc_meaning.specs.Steps.{bound, value_at}
 use Rattle.merc_meaning.specs.Arithmetic.{comparison_of}
 use Rattle.merc_code.specs.declared.instruction.Instruction.{Instruction}
 use Rattle.merc_code.specs.declared.instruction.Instruction.TheVariants.{Integer, Arithmetic, Compare}
@@ -17,12 +17,13 @@ use Rattle.merc_code.specs.Steps.{Effect, Fails, Raises, compares, operates}
 use Rattle.merc_layout.specs.Frames.{FitsInstruction}
 use Rattle.merc_layout.specs.FramesExamples.{fits}
 use Rattle.merc_frames.specs.Stacks.{GoesOn}
+use Rattle.merc_frames.specs.declared.slot.Slot.{Slot}
 use Rattle.merc_frames.specs.declared.slot.Slot.TheVariants.{Empty, Int as IntSlot, Text as TextSlot, Cell as CellSlot, Mark}
 use Rattle.merc_store.specs.Data.{StoreData, with_current}
-use Rattle.merc_store.specs.Fitting.{FitsFrame}
+use Rattle.merc_store.specs.Fitting.{FitsFrame, slot_mark, slot_value}
 use Rattle.merc_store.specs.FittingExamples.{frame, frame-example}
-use Rattle.merc_store.specs.Effects.{compares_number, effect_of_both, Performs, effect_of_all, Grows, PerformsAll}
-use Rattle.merc_store.specs.Performing.{word_at, words_at, integer_at, text_in, head_of, stored, tested, tried, TriesBoth, DoesBoth, DoesEffect, DoesAll}
+use Rattle.merc_store.specs.Effects.{compares_number, operates_number, effect_of_both, Performs, effect_of_all, Grows, PerformsAll}
+use Rattle.merc_store.specs.Performing.{word_at, words_at, integer_at, text_in, head_of, stored, tested, tried, TriesBoth, DoesBoth, DoesEffect, DoesAll, TellsSum}
 use Rattle.merc_store.specs.declared.store.Done.TheVariants.{Bound, Raised, Failed}
 
 word_at-example : word_at (Empty ∷ CellSlot 3 ∷ []) 1 ≡ Some (CellWord 3)
@@ -137,6 +138,66 @@ does_effect-example = record { performs = λ variables env marks fits within. pa
 -- it does not fail
 does_effect-not : DoesEffect store store (0 ∷ []) (compares_number Less 0 (pos 9)) Failed → ⊥
 does_effect-not does = does.performs 2 (Some (Int (pos 7)) ∷ []) (3 ∷ []) frame-example (All-cons (λ (variable : ℕ). variable < 2) 0 [] (omega arith) (All-nil (λ (variable : ℕ). variable < 2)))
+
+-- the frame with the second variable's value too
+abbrev frame_with_sum : List Slot
+frame_with_sum = slice_set frame 1 (IntSlot (pos 9))
+
+value_kept : (env : Env) (variable : ℕ) → (variable ≡ 1 → ⊥) → value_at (bound env 1 (Int (pos 9))) variable ≡ value_at env variable
+value_kept [] zero apart = refl
+value_kept [] (suc zero) apart = absurd (apart refl)
+value_kept [] (suc (suc variable)) apart = refl
+value_kept (first ∷ env) zero apart = refl
+value_kept (first ∷ env) (suc zero) apart = absurd (apart refl)
+value_kept (first ∷ []) (suc (suc variable)) apart = refl
+value_kept (first ∷ second ∷ env) (suc (suc variable)) apart = refl
+
+sum_bound : (env : Env) → value_at (bound env 1 (Int (pos 9))) 1 ≡ Some (Int (pos 9))
+sum_bound [] = refl
+sum_bound (first ∷ []) = refl
+sum_bound (first ∷ second ∷ env) = refl
+
+sum_values : (variables : ℕ) (env : Env) (marks : List ℕ) → FitsFrame [] variables frame env marks → (variable : ℕ) → variable < variables
+    → value_at (bound env 1 (Int (pos 9))) variable ≡ slot_value [] (slice_get frame_with_sum variable)
+sum_values variables env marks fits zero within = value_kept env zero (λ same. absurd (omega (arith, same))) ∙ fits.values zero within
+sum_values variables env marks fits (suc zero) within = sum_bound env
+sum_values variables env marks fits (suc (suc variable)) within = value_kept env (suc (suc variable)) (λ same. absurd (omega (arith, same))) ∙ fits.values (suc (suc variable)) within
+
+mark_kept : (place : ℕ) → 1 < place → slot_mark (slice_get frame place) ≡ slot_mark (slice_get frame_with_sum place)
+mark_kept zero past = absurd (omega (arith, past))
+mark_kept (suc zero) past = absurd (omega (arith, past))
+mark_kept (suc (suc place)) past = refl
+
+summed_over : (variables : ℕ) (env : Env) (marks : List ℕ) → FitsFrame [] variables frame env marks → 1 < variables
+    → Performs store (with_current store frame_with_sum) variables marks (operates_number Add 1 0 (pos 2) env) Bound
+summed_over variables env marks fits within =
+    let new : FitsFrame [] variables frame_with_sum (bound env 1 (Int (pos 9))) marks = record {
+      room = fits.room;
+      values = sum_values variables env marks fits;
+      others = λ variable past. value_kept env variable (λ same. absurd (omega (arith, same, past, within))) ∙ fits.others variable past;
+      numbers = λ mark. fits.numbers mark ∙ mark_kept (variables + mark) (omega (arith, within));
+    } in
+    subst (λ v. Performs store (with_current store frame_with_sum) variables marks (operates env Add 1 v (Some (Int (pos 2)))) Bound) (sym (fits.values 0 (omega (arith, within))))
+    (record { room = refl; callers = refl; choices = refl; cells = ([], refl) }, new)
+
+-- 7 + 2
+tells_sum-example : TellsSum store 1 0 (pos 2) (Some (pos 9))
+tells_sum-example = record { performs = λ variables env marks fits within. summed_over variables env marks fits (within 0 1 (omega arith)) }
+
+-- it is no other integer
+tells_sum-not : TellsSum store 1 0 (pos 2) (Some (pos 8)) → ⊥
+tells_sum-not tells =
+    let there : All (λ (variable : ℕ). variable < 2) (1 ∷ 0 ∷ []) = All-cons (λ (variable : ℕ). variable < 2) 1 (0 ∷ []) (omega arith) (All-cons (λ (variable : ℕ). variable < 2) 0 [] (omega arith) (All-nil (λ (variable : ℕ). variable < 2))) in
+    let done = tells.performs 2 (Some (Int (pos 7)) ∷ []) (3 ∷ []) frame-example there in
+    let same : Some (Int (pos 9)) ≡ Some (Int (pos 8)) = done.1.values 1 (omega arith) in
+    absurd (cc)
+
+lacks_over : (variables : ℕ) (env : Env) (marks : List ℕ) → FitsFrame [] variables frame env marks → 1 < variables → Performs store store variables marks (operates_number Add 0 1 (pos 2) env) Failed
+lacks_over variables env marks fits within = subst (λ v. Performs store store variables marks (operates env Add 0 v (Some (Int (pos 2)))) Failed) (sym (fits.values 1 within)) refl
+
+-- The second variable has no value, and then there is no sum.
+tells_sum-none : TellsSum store 0 1 (pos 2) None
+tells_sum-none = record { performs = λ variables env marks fits within. lacks_over variables env marks fits (within 1 1 (omega arith)) }
 
 pub store-fits : FitsFrame store.cells 2 store.stacks.current (Some (Int (pos 7)) ∷ []) (3 ∷ [])
 store-fits = frame-example
