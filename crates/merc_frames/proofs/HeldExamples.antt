@@ -72,7 +72,7 @@ AreChoicesHeld-counterexample = λ held. absurd (let mark = held.0 in omega (ari
 pub AreChoicesHeld-older : AreChoicesHeld (Passes is_there) 3 (GoesOn 30 2 [] [] ∷ GoesOn 20 1 (Cell 1 ∷ []) [] ∷ []) → ⊥
 AreChoicesHeld-older = λ held. absurd (let slots : All (Passes is_there 1) (Cell 1 ∷ []) = held.2.1.newest in let slot : false ≡ true = slots 0 Empty (omega arith) in cc)
 
--- and its mark is no greater than that of the newer one
+-- or its mark is greater than that of the newer one
 pub AreChoicesHeld-order : AreChoicesHeld (Passes is_there) 3 (GoesOn 30 1 [] [] ∷ GoesOn 20 2 [] [] ∷ []) → ⊥
 AreChoicesHeld-order = λ held. absurd (let mark = held.2.0 in omega (arith, mark))
 
