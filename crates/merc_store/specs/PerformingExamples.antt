@@ -184,13 +184,19 @@ summed_over variables env marks fits within =
 tells_sum-example : TellsSum store 1 0 (pos 2) (Some (pos 9))
 tells_sum-example = record { performs = λ variables env marks fits within. summed_over variables env marks fits (within 0 1 (omega arith)) }
 
+are_there : (one other : ℕ) → one < 2 → other < 2 → All (λ (variable : ℕ). variable < 2) (one ∷ other ∷ [])
+are_there one other within within' = All-cons (λ (variable : ℕ). variable < 2) one (other ∷ []) within (All-cons (λ (variable : ℕ). variable < 2) other [] within' (All-nil (λ (variable : ℕ). variable < 2)))
+
 -- it is no other integer
 tells_sum-not : TellsSum store 1 0 (pos 2) (Some (pos 8)) → ⊥
 tells_sum-not tells =
-    let there : All (λ (variable : ℕ). variable < 2) (1 ∷ 0 ∷ []) = All-cons (λ (variable : ℕ). variable < 2) 1 (0 ∷ []) (omega arith) (All-cons (λ (variable : ℕ). variable < 2) 0 [] (omega arith) (All-nil (λ (variable : ℕ). variable < 2))) in
-    let done = tells.performs 2 (Some (Int (pos 7)) ∷ []) (3 ∷ []) frame-example there in
+    let done = tells.performs 2 (Some (Int (pos 7)) ∷ []) (3 ∷ []) frame-example (are_there 1 0 (omega arith) (omega arith)) in
     let same : Some (Int (pos 9)) ≡ Some (Int (pos 8)) = done.1.values 1 (omega arith) in
     absurd (cc)
+
+-- The first variable has an integer, and then there is a sum.
+tells_sum-missing : TellsSum store 1 0 (pos 2) None → ⊥
+tells_sum-missing tells = tells.performs 2 (Some (Int (pos 7)) ∷ []) (3 ∷ []) frame-example (are_there 1 0 (omega arith) (omega arith))
 
 lacks_over : (variables : ℕ) (env : Env) (marks : List ℕ) → FitsFrame [] variables frame env marks → 1 < variables → Performs store store variables marks (operates_number Add 0 1 (pos 2) env) Failed
 lacks_over variables env marks fits within = subst (λ v. Performs store store variables marks (operates env Add 0 v (Some (Int (pos 2)))) Failed) (sym (fits.values 1 within)) refl
@@ -198,6 +204,10 @@ lacks_over variables env marks fits within = subst (λ v. Performs store store v
 -- The second variable has no value, and then there is no sum.
 tells_sum-none : TellsSum store 0 1 (pos 2) None
 tells_sum-none = record { performs = λ variables env marks fits within. lacks_over variables env marks fits (within 1 1 (omega arith)) }
+
+-- It does not count as nought.
+tells_sum-none-not : TellsSum store 0 1 (pos 2) (Some (pos 2)) → ⊥
+tells_sum-none-not tells = tells.performs 2 (Some (Int (pos 7)) ∷ []) (3 ∷ []) frame-example (are_there 0 1 (omega arith) (omega arith))
 
 pub store-fits : FitsFrame store.cells 2 store.stacks.current (Some (Int (pos 7)) ∷ []) (3 ∷ [])
 store-fits = frame-example
