@@ -14,7 +14,7 @@ use Rattle.merc_frames.specs.declared.passing.Pass.{Pass}
 use Rattle.merc_layout.specs.declared.entries.Entry.{Entry}
 use Rattle.merc_live.specs.Reads.{MayReadVariable, here, later, there}
 use Rattle.merc_load.specs.LeavingOut.{LeavesOut, subtracts_number}
-use Rattle.merc_load.specs.LeavingOutExamples.{begins_code-is}
+use Rattle.merc_load.specs.LeavingOutExamples.{agrees, agrees-is as left_out-agrees, begins_code-is}
 use Rattle.merc_load.specs.PassingSum.{AreFound, IsFound, IsTakenOut, IsUnreadBehind, PassesSum, calls, calls_last}
 use Rattle.merc_load.specs.SuperinstructionsExamples.{next_not}
 use Rattle.merc_load.specs.declared.finding.Found.{Found}
@@ -166,6 +166,37 @@ passes_twice_last-not code passes is = passed_twice-not 0 passes (agrees-is _ _ 
 -- A call that comes back is no last one.
 comes_back-not : (code : Code) (inputs passes : List Pass) (outputs : List ℕ) → PassesSum two None code (listed (CallOp entry_of_p inputs outputs)) (LastCallSum entry_of_p passes difference) → ⊥
 comes_back-not code inputs passes outputs is = agrees-is _ _ _ is
+
+-- It passes the sum that the code computes, with the same number and of the same variable.
+
+abbrev Sums : Op → Code → Type 0
+Sums (CallSum called passes sum) code = agrees (SumNumber sum.variable sum.from sum.number) code
+Sums (LastCallSum called passes sum) code = agrees (SumNumber sum.variable sum.from sum.number) code
+Sums op code = Unit {0}
+
+sums-is : (code : Code) (ops : List Op) (op : Op) → PassesSum two None code ops op → Sums op code
+sums-is _ _ _ (calls _ _ _ _ _ _ _ _ _ _ _ _ leaves unread taken) = left_out-agrees _ _ leaves
+sums-is _ _ _ (calls_last _ _ _ _ _ _ _ _ _ _ _ leaves unread taken) = left_out-agrees _ _ leaves
+
+-- not that with the number which is taken away
+abbrev other_number : Sum
+other_number = record { variable = 2; from = 0; number = pos 1; to = 0 }
+
+other_number-not : (ops : List Op) (passes : List Pass) → PassesSum two None (calls_p (Fail ∷ [])) ops (CallSum entry_of_p passes other_number) → ⊥
+other_number-not ops passes is = let e : pos 1 ≡ negsuc 0 = (sums-is _ _ _ is).0 refl in absurd cc
+
+other_number_last-not : (ops : List Op) (passes : List Pass) → PassesSum two None (calls_p (Fail ∷ [])) ops (LastCallSum entry_of_p passes other_number) → ⊥
+other_number_last-not ops passes is = let e : pos 1 ≡ negsuc 0 = (sums-is _ _ _ is).0 refl in absurd cc
+
+-- not that of another variable
+abbrev other_operand : Sum
+other_operand = record { variable = 2; from = 3; number = negsuc 0; to = 0 }
+
+other_operand-not : (ops : List Op) (passes : List Pass) → PassesSum two None (calls_p (Fail ∷ [])) ops (CallSum entry_of_p passes other_operand) → ⊥
+other_operand-not ops passes is = let e : 3 ≡ 0 = (sums-is _ _ _ is).2 in absurd (omega (arith, e))
+
+other_operand_last-not : (ops : List Op) (passes : List Pass) → PassesSum two None (calls_p (Fail ∷ [])) ops (LastCallSum entry_of_p passes other_operand) → ⊥
+other_operand_last-not ops passes is = let e : 3 ≡ 0 = (sums-is _ _ _ is).2 in absurd (omega (arith, e))
 
 unread_behind-example : IsUnreadBehind two None (calls_p (Fail ∷ [])) 2
 unread_behind-example = record {
