@@ -43,6 +43,15 @@ module _ (w w1 : List Slot) (saved : List Saved) (cs : List Kept) (base size h :
       } in
       subst (λ x. Built w x to size' (passed inputs (frame_of w base size) left)) (sym (written_back w1 v n (long ∙ ap length is) en)) r
 
+  -- a copy of a frame below, which may lie over the current one
+  pub built_copied : (w2 : List Slot) (b : ℕ) → b + size' ≤ base → length w2 ≡ length w1 → to + size' ≤ length w1 → take to w1 ≡ take to w2 → frame_of w2 to size' ≡ frame_of w1 b size'
+      → Built w w2 to size' (frame_of w b size')
+  built_copied w2 b lower long room below copied = record {
+    below = made_same w2 below;
+    room = omega (arith, room, long);
+    frame = copied ∙ sym (frame_same base w w1 b size' (let a = f.within in grown_same w w1 saved cs base size h f g base (omega (arith, a))) lower);
+  }
+
   -- a copy of a frame below, at the end of the current one
   pub built_delivered : (w2 d v : List Slot) (n : ℕ) (own outs : List ℕ) (b : ℕ) → base + size ≤ to → b + size' ≤ base → length w2 ≡ length w1 → take to w1 ≡ take to w2 → frame_of w2 to size' ≡ frame_of w1 b size'
       → d ≡ w2 → length v ≡ length d → n ≡ length w2 → to + size' ≤ length w1 → take to d ≡ take to v

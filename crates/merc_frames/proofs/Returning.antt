@@ -1,5 +1,5 @@
 -- Going back to a caller.
-use Rattle.std.proofs.Common.{◌≡◌, ℕ, zero, suc, ◌+◌, ◌-◌, ◌<◌, ◌≤◌, List, [], ◌∷◌, length, take, Option, Some, slice_get, slice_set, slice_index_or, refl, sym, ap, ◌∙◌, subst, arith}
+use Rattle.std.proofs.Common.{◌≡◌, ℕ, zero, suc, ◌+◌, ◌-◌, ◌<◌, ◌≤◌, List, [], ◌∷◌, length, take, Option, Some, None, slice_get, slice_set, slice_index_or, refl, sym, ap, ◌∙◌, subst, arith}
 use Rattle.merc_frames.specs.declared.slot.Slot.{Slot}
 use Rattle.merc_frames.specs.Handing.{carried, delivered}
 use Rattle.merc_frames.specs.Held.{AreKept}
@@ -56,6 +56,20 @@ slot_given before between after (first_out ∷ outs) out found slot place some s
 -- The place that is given is the newest caller's.
 pub given_at_caller : (before after : Stacks) (given : List Slot) (outs : List ℕ) (place : ℕ) → GivesSlots before after given outs (Some place) → GivesSlots before after given outs (caller_place before.callers)
 given_at_caller before after given outs place gives = subst (λ (at : Option ℕ). GivesSlots before after given outs at) (sym (ap caller_place gives.1)) gives
+
+-- Where there is a caller, a place was given.
+given_somewhere : (before after : Stacks) (given : List Slot) (outs : List ℕ) (at : Option ℕ) → (before.callers ≡ [] → ⊥) → GivesSlots before after given outs at
+    → (place : ℕ) × GivesSlots before after given outs (Some place)
+given_somewhere before after given outs None there gives = absurd (there gives.0)
+given_somewhere before after given outs (Some place) there gives = (place, gives)
+
+-- A slot is given at the newest caller's place where nothing was given there before.
+pub slot_given_there : (before between after : Stacks) (outs : List ℕ) (out found : ℕ) (slot : Slot) → (before.callers ≡ [] → ⊥) → 1 ≤ length outs → out ≡ found → found ≡ slice_index_or outs 0 found
+    → GivesBack before between [] [] (caller_place before.callers) → after ≡ record between { current = slice_set between.current out slot }
+    → GivesSlots before after (slot ∷ []) outs (caller_place before.callers)
+slot_given_there before between after outs out found slot there some same first gives set =
+    let r = given_somewhere before between [] [] (caller_place before.callers) there gives in
+    given_at_caller before after (slot ∷ []) outs r.0 (slot_given before between after outs out found slot r.0 some same first r.1 set)
 
 module _ (w : List Slot) (saved : List Saved) (cs : List Kept) (base size h : ℕ) (s : Saved) (f : Fine w saved cs base size h) (l : 0 < h) (e : slice_get saved (h - 1) ≡ Some s) where
   pub return_callers : callers_of w saved h ≡ record { place = s.place; slots = frame_of w s.base s.size } ∷ callers_of w saved s.parent

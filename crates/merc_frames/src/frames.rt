@@ -279,7 +279,35 @@ impl Frames {
         ensures err { OnErr result (self.new ≡ self.old) }
         ensures held { (may_hold : ℕ → Slot → Bool) (cells : ℕ) → Passes may_hold cells Slot.Empty → Passes may_hold cells slot → AreHeld (Passes may_hold) cells self.old → AreHeld (Passes may_hold) cells self.new }
     {
-        self.put_slot(slot, outs)
+        self.return_kept()?;
+        if let [out, ..] = outs {
+            self.set(out.number(), slot);
+        }
+        Ok(())
+    }
+
+    // Goes back to the newest caller, to which nothing is given, in a copy of its frame, which the newest choice point keeps. The
+    // current frame is not read, so that the copy may lie over it.
+    #[inline(always)]
+    fn return_kept(&mut self) -> Result<(), NoMemory>
+        requires there { self.old.stacks.callers ≡ [] → ⊥ }
+        ensures ok { OnOk result (GivesBack self.old.stacks self.new.stacks [] [] (caller_place self.old.stacks.callers)) }
+        ensures err { OnErr result (self.new ≡ self.old) }
+        ensures held { (may_hold : ℕ → Slot → Bool) (cells : ℕ) → Passes may_hold cells Slot.Empty → AreHeld (Passes may_hold) cells self.old → AreHeld (Passes may_hold) cells self.new }
+    {
+        let caller = self.saved[self.height - 1];
+        let count = larger_of(caller.parent, self.kept_saved);
+        let low = larger_of(
+            caller_end(&self.saved, caller.parent, self.base),
+            self.kept_end,
+        );
+        make_room(&mut self.slots, low, caller.size)?;
+        copy_frame(&mut self.slots, caller.base, caller.size, low);
+        self.saved.truncate(count);
+        self.base = low;
+        self.size = caller.size;
+        self.height = caller.parent;
+        Ok(())
     }
 
     // Goes back to the newest caller in a copy of its frame, which the newest choice point keeps.
