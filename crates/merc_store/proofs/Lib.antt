@@ -16,6 +16,7 @@ pub mod NumberLemmas
 pub mod ReturningLemmas
 pub mod ResultsExamples
 pub mod TryingLemmas
+pub mod DifferingLemmas
 pub mod SeveralLemmas
 pub mod RestoringLemmas
 pub mod StayingLemmas

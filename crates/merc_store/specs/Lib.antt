@@ -8,6 +8,8 @@ pub mod FittingExamples
 pub mod Moves
 pub mod MovesExamples
 pub mod DataExamples
+pub mod Differing
+pub mod DifferingExamples
 pub mod Performing
 pub mod PerformingExamples
 pub mod Results
