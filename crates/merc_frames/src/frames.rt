@@ -38,15 +38,16 @@ pub enum Backed {
 /// heap.
 #[derive(Drop)]
 pub struct Frames {
+    // what calls and returns use stands first: the first fields have the shortest addresses
     slots: Vec<Slot>,
     saved: Vec<Saved>,
-    choices: Vec<Kept>,
     base: usize,
     size: usize,
     height: usize,
     // how many saved frames the newest choice point needs, and where the slots end that it needs; 0 without one
     kept_saved: usize,
     kept_end: usize,
+    choices: Vec<Kept>,
 }
 
 impl Model for Frames {

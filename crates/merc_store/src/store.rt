@@ -34,8 +34,9 @@ pub enum Backed {
 /// What is left in slots that no frame has leads to cells that are there too, since a new frame may have it.
 #[derive(Drop)]
 pub struct Store {
-    pub(crate) heap: Heap,
+    // the frames first: most instructions read them, and the first fields have the shortest addresses
     pub(crate) frames: Frames,
+    pub(crate) heap: Heap,
     // what slots held before several instructions, which have it again where one of them fails
     pub(crate) carried: Vec<Slot>,
     // the words of the arguments of what is built
