@@ -2,6 +2,8 @@
 #![tactic(auto)]
 
 mod combining;
+mod constants;
+mod copying;
 mod finding;
 pub mod laws;
 mod leaving;
