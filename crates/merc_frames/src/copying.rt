@@ -85,7 +85,24 @@ pub(crate) fn copy_frame(slots: &mut Vec<Slot>, from: usize, size: usize, to: us
     ensures above { drop (to + size) slots.old.items ≡ drop (to + size) slots.new.items }
     ensures copied { frame_of slots.new.items to size ≡ frame_of slots.old.items from size }
 {
-    if from != to {
+    // Going back to a frame that a choice point keeps copies it above itself, which is one move of memory.
+    if from + size <= to {
+        copy_up(slots, from, size, to);
+    } else if from != to {
         slots.copy_within(from..from + size, to);
     }
+}
+
+/// Copies a frame to where another base is, above it. No other slot changes.
+pub(crate) fn copy_up(slots: &mut Vec<Slot>, from: usize, size: usize, to: usize)
+    requires source { from + size ≤ to }
+    requires target { to + size ≤ length slots.old.items }
+    ensures long { length slots.new.items ≡ length slots.old.items }
+    ensures below { take to slots.old.items ≡ take to slots.new.items }
+    ensures above { drop (to + size) slots.old.items ≡ drop (to + size) slots.new.items }
+    ensures copied { frame_of slots.new.items to size ≡ frame_of slots.old.items from size }
+{
+    let (low, high) = slots.split_at_mut(to);
+    let source: &[Slot] = low;
+    high[..size].copy_from_slice(&source[from..from + size]);
 }

@@ -8,7 +8,7 @@ ghost use Rattle.merc_frames.specs.declared.slot.Slot.{Slot};
 ghost use Rattle.merc_frames.specs.declared.kept.Kept.{Kept};
 ghost use Rattle.merc_frames.specs.declared.kept.Saved.{Saved};
 
-use crate::copying::{copy_frame, cut_above, make_empty, make_room};
+use crate::copying::{copy_frame, copy_up, cut_above, make_empty, make_room};
 use crate::handing::{Frame, deliver, make_frame};
 use crate::kept::{Kept, Saved};
 use crate::{Pass, Slot};
@@ -373,7 +373,7 @@ impl Frames {
             height: self.height,
             saved,
         })?;
-        copy_frame(&mut self.slots, self.base, self.size, copy);
+        copy_up(&mut self.slots, self.base, self.size, copy);
         self.base = copy;
         self.kept_saved = saved;
         self.kept_end = copy;

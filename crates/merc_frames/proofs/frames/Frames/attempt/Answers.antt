@@ -27,19 +27,19 @@ abbrev pub invariant_of-self-2 : goal.invariant_of-self-2
 invariant_of-self-2 c =
     let f = grown_fine _ _ _ _ _ _ _ c.self.invariant.0 c.in_ok-make_room.ensures.grows in
     let room = c.in_ok-make_room.ensures.ok in
-    let long = c.copy_frame.ensures.long in
-    (attempt_fine _ _ _ _ _ _ _ _ f refl refl refl (c.len-saved.ensures ∙ c.self.inside.saved.ok.0) c.copy_frame.ensures.below _ _ c.in_ok-push.ensures.items refl (omega (arith, room, long)), needs_last _ _ _ c.in_ok-push.ensures.items)
+    let long = c.copy_up.ensures.long in
+    (attempt_fine _ _ _ _ _ _ _ _ f refl refl refl (c.len-saved.ensures ∙ c.self.inside.saved.ok.0) c.copy_up.ensures.below _ _ c.in_ok-push.ensures.items refl (omega (arith, room, long)), needs_last _ _ _ c.in_ok-push.ensures.items)
 
 abbrev pub returns-clause-ok : goal.returns-clause-ok
 returns-clause-ok c =
     let f = grown_fine _ _ _ _ _ _ _ c.self.invariant.0 c.in_ok-make_room.ensures.grows in
     rw (← (grown_view _ _ _ _ _ _ _ c.self.invariant.0 c.in_ok-make_room.ensures.grows ∙ ap (λ (f : FramesData). f.stacks) c.self.view_is))
-    (attempt_view _ _ _ _ _ _ _ _ f refl refl refl (c.len-saved.ensures ∙ c.self.inside.saved.ok.0) c.copy_frame.ensures.below refl _ _ c.in_ok-push.ensures.items refl c.copy_frame.ensures.copied)
+    (attempt_view _ _ _ _ _ _ _ _ f refl refl refl (c.len-saved.ensures ∙ c.self.inside.saved.ok.0) c.copy_up.ensures.below refl _ _ c.in_ok-push.ensures.items refl c.copy_up.ensures.copied)
 
 abbrev pub returns-clause-held : goal.returns-clause-held
 returns-clause-held c =
     let f = grown_fine _ _ _ _ _ _ _ c.self.invariant.0 c.in_ok-make_room.ensures.grows in
     rw (← c.self.view_is) (λ may_hold none held.
     (let grown = grown_held _ _ _ _ _ _ _ c.self.invariant.0 c.in_ok-make_room.ensures.grows (Passes may_hold) c.args.heap none held in
-    attempt_held _ _ _ _ _ _ _ _ f refl refl refl (c.len-saved.ensures ∙ c.self.inside.saved.ok.0) c.copy_frame.ensures.below (Passes may_hold) c.args.heap _ c.in_ok-push.ensures.items refl
-    (copied_each (Passes may_hold c.args.heap) _ _ _ _ _ grown.0 c.copy_frame.ensures.below c.copy_frame.ensures.above c.copy_frame.ensures.copied) grown.1))
+    attempt_held _ _ _ _ _ _ _ _ f refl refl refl (c.len-saved.ensures ∙ c.self.inside.saved.ok.0) c.copy_up.ensures.below (Passes may_hold) c.args.heap _ c.in_ok-push.ensures.items refl
+    (copied_each (Passes may_hold c.args.heap) _ _ _ _ _ grown.0 c.copy_up.ensures.below c.copy_up.ensures.above c.copy_up.ensures.copied) grown.1))
