@@ -21,6 +21,7 @@ pub mod Handing
 pub mod HandingSum
 pub mod Inverses
 pub mod JumpingBack
+pub mod Keeping
 pub mod LastCalling
 pub mod Leaving
 pub mod LeftOver
@@ -28,6 +29,7 @@ pub mod Linking
 pub mod LookedAt
 pub mod Marking
 pub mod Passing
+pub mod Pausing
 pub mod Performing
 pub mod Places
 pub mod PlacesOfCalls
