@@ -85,7 +85,8 @@ pub(crate) fn copy_frame(slots: &mut Vec<Slot>, from: usize, size: usize, to: us
     ensures above { drop (to + size) slots.old.items ≡ drop (to + size) slots.new.items }
     ensures copied { frame_of slots.new.items to size ≡ frame_of slots.old.items from size }
 {
-    // Going back to a frame that a choice point keeps copies it above itself, which is one move of memory.
+    // Most copies go up past the frame itself, as where a choice point keeps it: these are one piece of memory, where
+    // `copy_within` goes slot by slot.
     if from + size <= to {
         copy_up(slots, from, size, to);
     } else if from != to {

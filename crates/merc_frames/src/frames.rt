@@ -38,7 +38,7 @@ pub enum Backed {
 /// heap.
 #[derive(Drop)]
 pub struct Frames {
-    // what calls and returns use stands first: the first fields have the shortest addresses
+    // what calls and returns use stands first: fields are laid out in order, and near ones have short offsets
     slots: Vec<Slot>,
     saved: Vec<Saved>,
     base: usize,
@@ -70,12 +70,12 @@ impl Frames {
         Frames {
             slots: Vec::new(alloc),
             saved: Vec::new(alloc),
-            choices: Vec::new(alloc),
             base: 0,
             size: 0,
             height: 0,
             kept_saved: 0,
             kept_end: 0,
+            choices: Vec::new(alloc),
         }
     }
 
@@ -254,7 +254,7 @@ impl Frames {
         }
     }
 
-    // The same, whether the newest choice point keeps the frame or not.
+    // The same, by `give_back`.
     #[inline(always)]
     fn put_slot(&mut self, slot: Slot, outs: &[Var]) -> Result<(), NoMemory>
         requires there { self.old.stacks.callers ≡ [] → ⊥ }
