@@ -24,12 +24,16 @@ integers_differ-same : integers_differ slots 0 0 ≡ true → ⊥
 integers_differ-same told = cc
 
 -- a text, and a variable without a value
-integers_differ-none : (integers_differ slots 0 3 ≡ false) × (integers_differ slots 4 0 ≡ false)
+integers_differ-none : (integers_differ slots 1 3 ≡ false) × (integers_differ slots 4 0 ≡ false)
 integers_differ-none = (refl, refl)
 
 -- 7 - 2 and 2 - 7
 sum_or_difference-example : (sum_or_difference Subtract (pos 7) (pos 2) ≡ Some (pos 5)) × (sum_or_difference Subtract (pos 2) (pos 7) ≡ Some (negsuc 4))
 sum_or_difference-example = (refl, refl)
+
+-- the greatest integer and 1 are the least one, and the least one less 1 is the greatest
+sum_or_difference-wraps : (sum_or_difference Add (pos 9223372036854775807) (pos 1) ≡ Some (negsuc 9223372036854775807)) × (sum_or_difference Subtract (negsuc 9223372036854775807) (pos 1) ≡ Some (pos 9223372036854775807))
+sum_or_difference-wraps = (refl, refl)
 
 sum_or_difference-none : sum_or_difference Multiply (pos 7) (pos 2) ≡ None
 sum_or_difference-none = refl
@@ -44,10 +48,14 @@ sum_of_both-none = (refl, refl)
 sum_differs-example : sum_differs slots Subtract 0 1 2 ≡ true
 sum_differs-example = refl
 
+-- 7 + 2 is not 7
+sum_differs-added : sum_differs slots Add 0 1 0 ≡ true
+sum_differs-added = refl
+
 -- 7 + 2 is 9, and so is 9 - 2 the 7
 sum_differs-same : (sum_differs slots Add 0 1 2 ≡ false) × (sum_differs slots Subtract 2 1 0 ≡ false)
 sum_differs-same = (refl, refl)
 
 -- a text as one of the three, and another operation
-sum_differs-none : (sum_differs slots Add 3 1 2 ≡ false) × (sum_differs slots Add 0 3 2 ≡ false) × (sum_differs slots Add 0 1 3 ≡ false) × (sum_differs slots Multiply 0 1 2 ≡ false)
+sum_differs-none : (sum_differs slots Add 3 0 2 ≡ false) × (sum_differs slots Add 0 3 2 ≡ false) × (sum_differs slots Add 0 1 3 ≡ false) × (sum_differs slots Multiply 0 1 2 ≡ false)
 sum_differs-none = (refl, refl, refl, refl)

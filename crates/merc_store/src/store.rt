@@ -34,7 +34,7 @@ pub enum Backed {
 /// What is left in slots that no frame has leads to cells that are there too, since a new frame may have it.
 #[derive(Drop)]
 pub struct Store {
-    // the frames first: most instructions read them, and the first fields have the shortest addresses
+    // the frames, which most instructions read, stand first: fields are laid out in order, and near ones have short offsets
     pub(crate) frames: Frames,
     pub(crate) heap: Heap,
     // what slots held before several instructions, which have it again where one of them fails
