@@ -8,6 +8,7 @@ pub mod ChoicePoints
 pub mod Choosing
 pub mod Combining
 pub mod ComingBack
+pub mod ComingBackAtOnce
 pub mod Continuing
 pub mod Counting
 pub mod Deciding

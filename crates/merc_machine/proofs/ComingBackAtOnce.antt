@@ -1,0 +1,234 @@
+-- A call that passes a sum and comes back at once: the called procedure begins with a test of the sum that holds, behind which it returns a value that was passed.
+use Rattle.std.proofs.Common.{◌≡◌, ℕ, suc, ◌+◌, ◌<◌, ℤ, true, List, [], ◌∷◌, ◌++◌, length, drop, Some, slice_get, slice_set, refl, sym, ap, ◌∙◌, subst, arith}
+use Rattle.std.specs.List.{All}
+use Rattle.std.specs.Ordering.{int_eq}
+use Rattle.std.proofs.lemmas.List.Elements.{All-head, All-tail, All-cons, All-set, All-replicate}
+use Rattle.merc_goal_tree.specs.declared.goal.Comparison.{Comparison}
+use Rattle.merc_value.specs.declared.word.Word.{Word}
+use Rattle.merc_value.specs.declared.word.Word.TheVariants.{Int as IntWord, Text as TextWord, Atom as AtomWord, Cell as CellWord}
+use Rattle.merc_meaning.specs.Arithmetic.{comparison}
+use Rattle.merc_code.specs.declared.instruction.Instruction.TheVariants.{Copy}
+use Rattle.merc_frames.specs.declared.passing.Pass.{Pass}
+use Rattle.merc_frames.specs.declared.slot.Slot.{Slot}
+use Rattle.merc_frames.specs.declared.slot.Slot.TheVariants.{Empty, Int as IntSlot, Text as TextSlot, Atom as AtomSlot, Cell as CellSlot, Mark as MarkSlot}
+use Rattle.merc_frames.specs.Handing.{delivered, empty_frame, passed, slot_or_empty}
+use Rattle.merc_frames.specs.Rooms.{AreReceived}
+use Rattle.merc_frames.specs.Slots.{holding, word_in}
+use Rattle.merc_frames.specs.Stacks.{Caller}
+use Rattle.merc_frames.proofs.AllLaws.{passed_each}
+use Rattle.merc_layout.specs.declared.entries.Entry.{Entry}
+use Rattle.merc_load.specs.declared.loaded.Op.{Op}
+use Rattle.merc_load.specs.declared.loaded.Op.TheVariants.{CallSum, IfCompareNumber, IfCompareVariables, IfInteger, ReturnCopy}
+use Rattle.merc_load.specs.declared.loaded.Sum.{Sum}
+use Rattle.merc_store.specs.Data.{StoreData, IsSlotBelow, IsSound, with_current}
+use Rattle.merc_store.specs.Performing.{TellsSum, integer_at, integer_of, word_at}
+use Rattle.merc_store.proofs.FrameLemmas.{get_set_same, get_set_other}
+use Rattle.merc_store.proofs.KindLemmas.{compare_tells, copy_does, integer_tells}
+use Rattle.merc_store.proofs.NumberLemmas.{compare_number_tells}
+use Rattle.merc_store.proofs.ReturningLemmas.{gives_result}
+use Rattle.merc_store.specs.declared.store.Done.TheVariants.{Bound}
+use Rattle.merc_machine.specs.declared.machine.Machine.{Machine}
+use Rattle.merc_machine.specs.declared.machine.Phase.TheVariants.{Running}
+use Rattle.merc_machine.specs.Coming.{ComesBackAtOnce, Proceeds}
+use Rattle.merc_machine.specs.Event.{Move, Tick}
+use Rattle.merc_machine.specs.Outputs.{FollowsCall}
+use Rattle.merc_machine.proofs.Asking.{condition_holds, integer_asked, number_asked, variables_asked}
+use Rattle.merc_machine.proofs.Callers.{outputs_are}
+use Rattle.merc_machine.proofs.CallingWithSum.{calls_proceed}
+use Rattle.merc_machine.proofs.ComingBack.{returned_copy}
+use Rattle.merc_machine.proofs.HandingSum.{passed_there}
+use Rattle.merc_machine.proofs.Passing.{passed_length}
+use Rattle.merc_machine.proofs.ReturningResults.{result_proceeds}
+use Rattle.merc_machine.proofs.Slots.{empty_length}
+use Rattle.merc_machine.proofs.Standings.{running_at}
+
+-- The call passes what the variable holds to this slot, and nothing to it behind that.
+pub record IsPassed (passes : List Pass) (from to : ℕ) : Type 0 where
+  pub before : List Pass
+  pub behind : List Pass
+  pub whole : passes ≡ before ++ record { from = from; to = to } ∷ behind
+  pub last : All (λ (pass : Pass). pass.to ≡ to → ⊥) behind
+
+module _ (P : Pass → Type 0) where
+  -- what holds of each holds of one of them
+  of_one : (before : List Pass) (pass : Pass) (behind : List Pass) → All P (before ++ pass ∷ behind) → P pass
+  of_one [] pass behind each = All-head P pass behind each
+  of_one (first ∷ before) pass behind each = of_one before pass behind (All-tail P first (before ++ pass ∷ behind) each)
+
+-- The slot that holds a word is the one that is made of it.
+pub slot_held : (slot : Slot) (word : Word) → word_in slot ≡ Some word → holding word ≡ slot
+slot_held Empty word holds = absurd cc
+slot_held (IntSlot number) word holds = let is : word ≡ IntWord number = cc in ap holding is
+slot_held (TextSlot name) word holds = let is : word ≡ TextWord name = cc in ap holding is
+slot_held (AtomSlot symbol) word holds = let is : word ≡ AtomWord symbol = cc in ap holding is
+slot_held (CellSlot place) word holds = let is : word ≡ CellWord place = cc in ap holding is
+slot_held (MarkSlot count) word holds = absurd cc
+
+-- the frame with a slot given to the first of these variables, if there is one
+abbrev pub given_first : List ℕ → Slot → List Slot → List Slot
+given_first [] slot slots = slots
+given_first (out ∷ outs) slot slots = slice_set slots out slot
+
+none_delivered : (outs : List ℕ) (slots : List Slot) → delivered outs [] slots ≡ slots
+none_delivered [] slots = refl
+none_delivered (out ∷ outs) slots = refl
+
+first_delivered : (outs : List ℕ) (slot : Slot) (slots : List Slot) → delivered outs (slot ∷ []) slots ≡ given_first outs slot slots
+first_delivered [] slot slots = refl
+first_delivered (out ∷ outs) slot slots = none_delivered outs (slice_set slots out slot)
+
+-- Given is a machine, the call of a procedure with this entry, which passes a sum to it, which integer the sum is, and how many steps are left behind the call.
+module _ (machine : Machine) (place : ℕ) (entry : Entry) (passes : List Pass) (sum : Sum) (integer : ℤ) (left : ℕ) where
+  abbrev ops : List Op
+  ops = machine.program.now.ops.items
+
+  abbrev slots : List Slot
+  slots = machine.store.stacks.current
+
+  -- the frame of the called procedure
+
+  abbrev given : List Slot
+  given = passed passes slots (empty_frame entry.size)
+
+  abbrev frame : List Slot
+  frame = slice_set given sum.to (IntSlot integer)
+
+  -- the store with that frame, which no store of a machine needs to be
+  abbrev entered_store : StoreData
+  entered_store = record {
+    cells = machine.store.cells;
+    stacks = record { current = frame; callers = record { place = place + 3; slots = slots } ∷ machine.store.stacks.callers; choices = machine.store.stacks.choices };
+  }
+
+  -- the machine that entered the procedure, at this place of its code
+  abbrev entered_at : ℕ → Machine
+  entered_at there = record machine { store = entered_store; phase = Running there; left = left }
+
+  -- The call comes to the procedure's entry ..
+  calls : slice_get ops place ≡ Some (CallSum entry passes sum) → TellsSum machine.store sum.variable sum.from sum.number (Some integer) → machine.left ≡ suc left
+      → Proceeds (running_at machine place) Tick (entered_at entry.place)
+  calls found told some_left =
+      let store : StoreData = with_current entered_store given in
+      calls_proceed (running_at machine place) place refl entry passes sum found integer told store left (place + 3) refl
+      (record { left = empty_frame entry.size; room = empty_length entry.size; empty = λ emptied. refl; current = refl; callers = refl; choices = refl; cells = refl })
+      some_left entered_store refl
+
+  module _ (received : AreReceived entry.size passes) (slot_there : sum.to < entry.size) where
+    given_length : length given ≡ entry.size
+    given_length = passed_length passes slots (empty_frame entry.size) ∙ empty_length entry.size
+
+    sum_stands : word_at frame sum.to ≡ Some (IntWord integer)
+    sum_stands =
+        let same = given_length in
+        ap (λ slot. word_in (slot_or_empty slot)) (get_set_same given sum.to (IntSlot integer) (omega (arith, slot_there, same)))
+
+    passed_stands : (from to : ℕ) → IsPassed passes from to → (to ≡ sum.to → ⊥) → word_at frame to ≡ word_at slots from
+    passed_stands from to is apart =
+        let whole : List Pass = is.before ++ record { from = from; to = to } ∷ is.behind in
+        let there : to < entry.size = of_one (λ (pass : Pass). pass.to < entry.size) is.before (record { from = from; to = to }) is.behind (subst (AreReceived entry.size) is.whole received) in
+        let size = empty_length entry.size in
+        let handed = passed_there is.before is.behind slots (empty_frame entry.size) from to (omega (arith, there, size)) is.last in
+        let stands = subst (λ those. slice_get (passed those slots (empty_frame entry.size)) to ≡ Some (slot_or_empty (slice_get slots from))) (sym is.whole) handed in
+        ap (λ slot. word_in (slot_or_empty slot)) (get_set_other given sum.to to (IntSlot integer) apart ∙ stands)
+
+    -- .. where a condition of it holds ..
+
+    sum_is : integer_of (word_at frame sum.to) ≡ Some integer
+    sum_is = ap integer_of sum_stands
+
+    holds_integer : (number : ℤ) (skipped : ℕ) → slice_get ops entry.place ≡ Some (IfInteger sum.to number skipped) → int_eq number integer ≡ true
+        → Proceeds (entered_at entry.place) Move (entered_at (entry.place + 4))
+    holds_integer number skipped found holds =
+        condition_holds (entered_at entry.place) entry.place refl (IfInteger sum.to number skipped) found skipped 3 (entry.place + 4) (ap (λ n. drop n ops) (let e : entry.place + 4 ≡ suc (entry.place + 3) = omega arith in e))
+        (integer_asked (entered_at entry.place) entry.place refl Bound sum.to number skipped found (integer_tells entered_store sum.to number integer true sum_is holds))
+
+    holds_number : (test : Comparison) (number : ℤ) (skipped : ℕ) → slice_get ops entry.place ≡ Some (IfCompareNumber test sum.to number skipped) → comparison test integer number ≡ true
+        → Proceeds (entered_at entry.place) Move (entered_at (entry.place + 5))
+    holds_number test number skipped found holds =
+        condition_holds (entered_at entry.place) entry.place refl (IfCompareNumber test sum.to number skipped) found skipped 4 (entry.place + 5)
+        (ap (λ n. drop n ops) (let e : entry.place + 5 ≡ suc (entry.place + 4) = omega arith in e))
+        (number_asked (entered_at entry.place) entry.place refl Bound test sum.to number skipped found (compare_number_tells entered_store sum.to number test integer true sum_is holds))
+
+    holds_variable : (test : Comparison) (from other : ℕ) (right : ℤ) (skipped : ℕ) → slice_get ops entry.place ≡ Some (IfCompareVariables test sum.to other skipped)
+        → IsPassed passes from other → (other ≡ sum.to → ⊥) → integer_at slots from ≡ Some right → comparison test integer right ≡ true
+        → Proceeds (entered_at entry.place) Move (entered_at (entry.place + 4))
+    holds_variable test from other right skipped found is apart value holds =
+        condition_holds (entered_at entry.place) entry.place refl (IfCompareVariables test sum.to other skipped) found skipped 3 (entry.place + 4)
+        (ap (λ n. drop n ops) (let e : entry.place + 4 ≡ suc (entry.place + 3) = omega arith in e))
+        (variables_asked (entered_at entry.place) entry.place refl Bound test sum.to other skipped found
+        (compare_tells entered_store test sum.to other integer right true sum_is (ap integer_of (passed_stands from other is apart) ∙ value) holds))
+
+    -- .. and behind it comes a return of a value that stands in the frame.
+    module _ (sound : IsSound machine.store.cells machine.store.stacks) where
+      abbrev IsBelow : Slot → Type 0
+      IsBelow slot = IsSlotBelow (length machine.store.cells) slot
+
+      entered_sound : IsSound machine.store.cells entered_store.stacks
+      entered_sound =
+          let held = sound.frames in
+          let below : All IsBelow given = passed_each IsBelow tt passes slots (empty_frame entry.size) held.newest (All-replicate IsBelow entry.size Empty tt) in
+          record {
+            frames = record {
+              newest = All-set IsBelow given sum.to (IntSlot integer) tt below;
+              others = All-cons (λ (caller : Caller). All IsBelow caller.slots) (record { place = place + 3; slots = slots }) machine.store.stacks.callers held.newest held.others;
+            };
+            choices = sound.choices;
+          }
+
+      -- the machine behind the call, with this store
+      abbrev behind_call : StoreData → Machine
+      behind_call after = record machine { store = after; phase = Running (place + 3); left = left }
+
+      returns : (there to from : ℕ) (word : Word) (outs : List ℕ) → slice_get ops there ≡ Some (ReturnCopy to from) → word_at frame from ≡ Some word
+          → ((behind : FollowsCall ops (place + 3)) → outs ≡ behind.outs) → (after : StoreData) → after ≡ with_current machine.store (given_first outs (holding word) slots)
+          → Proceeds (entered_at there) Move (behind_call after)
+      returns there to from word outs found value given_to after after_is =
+          let behind : StoreData = with_current machine.store (delivered outs (holding word ∷ []) slots) in
+          let is : after ≡ behind = after_is ∙ ap (with_current machine.store) (sym (first_delivered outs (holding word) slots)) in
+          subst (λ store. Proceeds (entered_at there) Move (behind_call store)) (sym is)
+          (result_proceeds (entered_at there) there refl (ReturnCopy to from) found (Copy to from) to refl (λ listed. listed) tt
+          (λ codes entry_of variables own. returned_copy codes entry_of variables own to from) entered_sound (place + 3) refl outs (outputs_are ops (place + 3) outs given_to) behind Bound
+          (gives_result entered_store behind to (holding word) outs entered_store (Copy to from) (copy_does entered_store to from word value)
+          (λ newest callers are. record { place = place + 3; slots = slots; callers = refl; current = refl; choices = refl; cells = refl })))
+
+  -- The code of the procedure begins with a condition that holds, behind which it goes on at a place.
+  pub data HoldsFirst : ℕ → Type 0 where
+    is_integer : (number : ℤ) (skipped : ℕ) → slice_get ops entry.place ≡ Some (IfInteger sum.to number skipped) → int_eq number integer ≡ true → HoldsFirst (entry.place + 4)
+    compares_number : (test : Comparison) (number : ℤ) (skipped : ℕ) → slice_get ops entry.place ≡ Some (IfCompareNumber test sum.to number skipped) → comparison test integer number ≡ true
+        → HoldsFirst (entry.place + 5)
+    compares_variable : (test : Comparison) (from other : ℕ) (right : ℤ) (skipped : ℕ) → slice_get ops entry.place ≡ Some (IfCompareVariables test sum.to other skipped)
+        → IsPassed passes from other → (other ≡ sum.to → ⊥) → integer_at slots from ≡ Some right → comparison test integer right ≡ true → HoldsFirst (entry.place + 4)
+
+  -- There it returns the sum, or what was passed of a variable that has a value.
+  pub data GivesBack (there : ℕ) : Slot → Type 0 where
+    gives_sum : (to : ℕ) → slice_get ops there ≡ Some (ReturnCopy to sum.to) → GivesBack there (IntSlot integer)
+    gives_variable : (to from variable : ℕ) (word : Word) → slice_get ops there ≡ Some (ReturnCopy to from) → IsPassed passes variable from → (from ≡ sum.to → ⊥) → word_at slots variable ≡ Some word
+        → GivesBack there (slot_or_empty (slice_get slots variable))
+
+  -- The call comes back at once.
+  module _ (received : AreReceived entry.size passes) (slot_there : sum.to < entry.size) (sound : IsSound machine.store.cells machine.store.stacks) where
+    decides : (there : ℕ) → HoldsFirst there → Proceeds (entered_at entry.place) Move (entered_at there)
+    decides _ (is_integer number skipped found holds) = holds_integer received slot_there number skipped found holds
+    decides _ (compares_number test number skipped found holds) = holds_number received slot_there test number skipped found holds
+    decides _ (compares_variable test from other right skipped found is apart value holds) = holds_variable received slot_there test from other right skipped found is apart value holds
+
+    gives_back : (there : ℕ) (slot : Slot) → GivesBack there slot → (outs : List ℕ) → ((behind : FollowsCall ops (place + 3)) → outs ≡ behind.outs)
+        → (after : StoreData) → after ≡ with_current machine.store (given_first outs slot slots) → Proceeds (entered_at there) Move (record machine { store = after; phase = Running (place + 3); left = left })
+    gives_back there _ (gives_sum to found) outs given_to after after_is =
+        returns received slot_there sound there to sum.to (IntWord integer) outs found (sum_stands received slot_there) given_to after after_is
+    gives_back there _ (gives_variable to from variable word found is apart value) outs given_to after after_is =
+        let slot : Slot = slot_or_empty (slice_get slots variable) in
+        returns received slot_there sound there to from word outs found (passed_stands received slot_there variable from is apart ∙ value) given_to after
+        (after_is ∙ ap (λ held. with_current machine.store (given_first outs held slots)) (sym (slot_held slot word value)))
+
+    pub comes_back_at_once : slice_get ops place ≡ Some (CallSum entry passes sum) → TellsSum machine.store sum.variable sum.from sum.number (Some integer) → machine.left ≡ suc left
+        → (there : ℕ) → HoldsFirst there → (slot : Slot) → GivesBack there slot → (outs : List ℕ) → ((behind : FollowsCall ops (place + 3)) → outs ≡ behind.outs)
+        → (after : StoreData) → after ≡ with_current machine.store (given_first outs slot slots)
+        → ComesBackAtOnce machine place (record machine { store = after; phase = Running (place + 3); left = left })
+    comes_back_at_once found told some_left there holds slot gives outs given_to after after_is = record {
+      entered = entered_at entry.place;
+      decided = entered_at there;
+      calls = calls found told some_left;
+      decides = decides there holds;
+      returns = gives_back there slot gives outs given_to after after_is;
+    }
