@@ -9,6 +9,7 @@ pub mod Choosing
 pub mod Combining
 pub mod ComingBack
 pub mod ComingBackAtOnce
+pub mod ComingBackAtOnceExamples
 pub mod Continuing
 pub mod Counting
 pub mod Deciding
