@@ -20,6 +20,10 @@ use Rattle.merc_layout.specs.declared.entries.Entry.{Entry}
 use Rattle.merc_load.specs.declared.loaded.Op.{Op}
 use Rattle.merc_load.specs.declared.loaded.Op.TheVariants.{CallSum, IfCompareNumber, IfCompareVariables, IfInteger, ReturnCopy}
 use Rattle.merc_load.specs.declared.loaded.Sum.{Sum}
+use Rattle.merc_base_cases.specs.BaseCases.{GivesBack, IsBaseCase, IsPassed, TestsSum, begins, compares_number, compares_variable, is, passed as passed_to, the_sum}
+use Rattle.merc_base_cases.specs.declared.cases.BaseCase.{BaseCase}
+use Rattle.merc_base_cases.specs.declared.cases.BaseTest.{BaseTest}
+use Rattle.merc_base_cases.specs.declared.cases.Given.{Given}
 use Rattle.merc_store.specs.Data.{StoreData, IsSlotBelow, IsSound, with_current}
 use Rattle.merc_store.specs.Performing.{TellsSum, integer_at, integer_of, word_at}
 use Rattle.merc_store.proofs.FrameLemmas.{get_set_same, get_set_other}
@@ -29,6 +33,7 @@ use Rattle.merc_store.proofs.ReturningLemmas.{gives_result}
 use Rattle.merc_store.specs.declared.store.Done.TheVariants.{Bound}
 use Rattle.merc_machine.specs.declared.machine.Machine.{Machine}
 use Rattle.merc_machine.specs.declared.machine.Phase.TheVariants.{Running}
+use Rattle.merc_machine.specs.BaseCases.{Holds, IsGiven, given_first}
 use Rattle.merc_machine.specs.Coming.{ComesBackAtOnce, Proceeds}
 use Rattle.merc_machine.specs.Event.{Move, Tick}
 use Rattle.merc_machine.specs.Outputs.{FollowsCall}
@@ -42,13 +47,6 @@ use Rattle.merc_machine.proofs.ReturningResults.{result_proceeds}
 use Rattle.merc_machine.proofs.Slots.{empty_length}
 use Rattle.merc_machine.proofs.Standings.{running_at}
 
--- The call passes what the variable holds to this slot, and nothing to it behind that.
-pub record IsPassed (passes : List Pass) (from to : ℕ) : Type 0 where
-  pub before : List Pass
-  pub behind : List Pass
-  pub whole : passes ≡ before ++ record { from = from; to = to } ∷ behind
-  pub last : All (λ (pass : Pass). pass.to ≡ to → ⊥) behind
-
 module _ (P : Pass → Type 0) where
   -- what holds of each holds of one of them
   of_one : (before : List Pass) (pass : Pass) (behind : List Pass) → All P (before ++ pass ∷ behind) → P pass
@@ -58,16 +56,11 @@ module _ (P : Pass → Type 0) where
 -- The slot that holds a word is the one that is made of it.
 pub slot_held : (slot : Slot) (word : Word) → word_in slot ≡ Some word → holding word ≡ slot
 slot_held Empty word holds = absurd cc
-slot_held (IntSlot number) word holds = let is : word ≡ IntWord number = cc in ap holding is
-slot_held (TextSlot name) word holds = let is : word ≡ TextWord name = cc in ap holding is
-slot_held (AtomSlot symbol) word holds = let is : word ≡ AtomWord symbol = cc in ap holding is
-slot_held (CellSlot place) word holds = let is : word ≡ CellWord place = cc in ap holding is
+slot_held (IntSlot number) word holds = let same : word ≡ IntWord number = cc in ap holding same
+slot_held (TextSlot name) word holds = let same : word ≡ TextWord name = cc in ap holding same
+slot_held (AtomSlot symbol) word holds = let same : word ≡ AtomWord symbol = cc in ap holding same
+slot_held (CellSlot place) word holds = let same : word ≡ CellWord place = cc in ap holding same
 slot_held (MarkSlot count) word holds = absurd cc
-
--- the frame with a slot given to the first of these variables, if there is one
-abbrev pub given_first : List ℕ → Slot → List Slot → List Slot
-given_first [] slot slots = slots
-given_first (out ∷ outs) slot slots = slice_set slots out slot
 
 none_delivered : (outs : List ℕ) (slots : List Slot) → delivered outs [] slots ≡ slots
 none_delivered [] slots = refl
@@ -123,12 +116,12 @@ module _ (machine : Machine) (place : ℕ) (entry : Entry) (passes : List Pass) 
         ap (λ slot. word_in (slot_or_empty slot)) (get_set_same given sum.to (IntSlot integer) (omega (arith, slot_there, same)))
 
     passed_stands : (from to : ℕ) → IsPassed passes from to → (to ≡ sum.to → ⊥) → word_at frame to ≡ word_at slots from
-    passed_stands from to is apart =
-        let whole : List Pass = is.before ++ record { from = from; to = to } ∷ is.behind in
-        let there : to < entry.size = of_one (λ (pass : Pass). pass.to < entry.size) is.before (record { from = from; to = to }) is.behind (subst (AreReceived entry.size) is.whole received) in
+    passed_stands from to handed apart =
+        let whole : List Pass = handed.before ++ record { from = from; to = to } ∷ handed.behind in
+        let there : to < entry.size = of_one (λ (pass : Pass). pass.to < entry.size) handed.before (record { from = from; to = to }) handed.behind (subst (AreReceived entry.size) handed.whole received) in
         let size = empty_length entry.size in
-        let handed = passed_there is.before is.behind slots (empty_frame entry.size) from to (omega (arith, there, size)) is.last in
-        let stands = subst (λ those. slice_get (passed those slots (empty_frame entry.size)) to ≡ Some (slot_or_empty (slice_get slots from))) (sym is.whole) handed in
+        let there_is = passed_there handed.before handed.behind slots (empty_frame entry.size) from to (omega (arith, there, size)) handed.last in
+        let stands = subst (λ those. slice_get (passed those slots (empty_frame entry.size)) to ≡ Some (slot_or_empty (slice_get slots from))) (sym handed.whole) there_is in
         ap (λ slot. word_in (slot_or_empty slot)) (get_set_other given sum.to to (IntSlot integer) apart ∙ stands)
 
     -- .. where a condition of it holds ..
@@ -152,11 +145,11 @@ module _ (machine : Machine) (place : ℕ) (entry : Entry) (passes : List Pass) 
     holds_variable : (test : Comparison) (from other : ℕ) (right : ℤ) (skipped : ℕ) → slice_get ops entry.place ≡ Some (IfCompareVariables test sum.to other skipped)
         → IsPassed passes from other → (other ≡ sum.to → ⊥) → integer_at slots from ≡ Some right → comparison test integer right ≡ true
         → Proceeds (entered_at entry.place) Move (entered_at (entry.place + 4))
-    holds_variable test from other right skipped found is apart value holds =
+    holds_variable test from other right skipped found handed apart value holds =
         condition_holds (entered_at entry.place) entry.place refl (IfCompareVariables test sum.to other skipped) found skipped 3 (entry.place + 4)
         (ap (λ n. drop n ops) (let e : entry.place + 4 ≡ suc (entry.place + 3) = omega arith in e))
         (variables_asked (entered_at entry.place) entry.place refl Bound test sum.to other skipped found
-        (compare_tells entered_store test sum.to other integer right true sum_is (ap integer_of (passed_stands from other is apart) ∙ value) holds))
+        (compare_tells entered_store test sum.to other integer right true sum_is (ap integer_of (passed_stands from other handed apart) ∙ value) holds))
 
     -- .. and behind it comes a return of a value that stands in the frame.
     module _ (sound : IsSound machine.store.cells machine.store.stacks) where
@@ -184,51 +177,51 @@ module _ (machine : Machine) (place : ℕ) (entry : Entry) (passes : List Pass) 
           → Proceeds (entered_at there) Move (behind_call after)
       returns there to from word outs found value given_to after after_is =
           let behind : StoreData = with_current machine.store (delivered outs (holding word ∷ []) slots) in
-          let is : after ≡ behind = after_is ∙ ap (with_current machine.store) (sym (first_delivered outs (holding word) slots)) in
-          subst (λ store. Proceeds (entered_at there) Move (behind_call store)) (sym is)
+          let same : after ≡ behind = after_is ∙ ap (with_current machine.store) (sym (first_delivered outs (holding word) slots)) in
+          subst (λ store. Proceeds (entered_at there) Move (behind_call store)) (sym same)
           (result_proceeds (entered_at there) there refl (ReturnCopy to from) found (Copy to from) to refl (λ listed. listed) tt
           (λ codes entry_of variables own. returned_copy codes entry_of variables own to from) entered_sound (place + 3) refl outs (outputs_are ops (place + 3) outs given_to) behind Bound
           (gives_result entered_store behind to (holding word) outs entered_store (Copy to from) (copy_does entered_store to from word value)
           (λ newest callers are. record { place = place + 3; slots = slots; callers = refl; current = refl; choices = refl; cells = refl })))
 
-  -- The code of the procedure begins with a condition that holds, behind which it goes on at a place.
-  pub data HoldsFirst : ℕ → Type 0 where
-    is_integer : (number : ℤ) (skipped : ℕ) → slice_get ops entry.place ≡ Some (IfInteger sum.to number skipped) → int_eq number integer ≡ true → HoldsFirst (entry.place + 4)
-    compares_number : (test : Comparison) (number : ℤ) (skipped : ℕ) → slice_get ops entry.place ≡ Some (IfCompareNumber test sum.to number skipped) → comparison test integer number ≡ true
-        → HoldsFirst (entry.place + 5)
-    compares_variable : (test : Comparison) (from other : ℕ) (right : ℤ) (skipped : ℕ) → slice_get ops entry.place ≡ Some (IfCompareVariables test sum.to other skipped)
-        → IsPassed passes from other → (other ≡ sum.to → ⊥) → integer_at slots from ≡ Some right → comparison test integer right ≡ true → HoldsFirst (entry.place + 4)
-
-  -- There it returns the sum, or what was passed of a variable that has a value.
-  pub data GivesBack (there : ℕ) : Slot → Type 0 where
-    gives_sum : (to : ℕ) → slice_get ops there ≡ Some (ReturnCopy to sum.to) → GivesBack there (IntSlot integer)
-    gives_variable : (to from variable : ℕ) (word : Word) → slice_get ops there ≡ Some (ReturnCopy to from) → IsPassed passes variable from → (from ≡ sum.to → ⊥) → word_at slots variable ≡ Some word
-        → GivesBack there (slot_or_empty (slice_get slots variable))
-
   -- The call comes back at once.
   module _ (received : AreReceived entry.size passes) (slot_there : sum.to < entry.size) (sound : IsSound machine.store.cells machine.store.stacks) where
-    decides : (there : ℕ) → HoldsFirst there → Proceeds (entered_at entry.place) Move (entered_at there)
-    decides _ (is_integer number skipped found holds) = holds_integer received slot_there number skipped found holds
-    decides _ (compares_number test number skipped found holds) = holds_number received slot_there test number skipped found holds
-    decides _ (compares_variable test from other right skipped found is apart value holds) = holds_variable received slot_there test from other right skipped found is apart value holds
+    decides : (test : BaseTest) (there : ℕ) → TestsSum entry passes sum ops test there → Holds integer slots test → Proceeds (entered_at entry.place) Move (entered_at there)
+    decides _ _ (is number skipped found) holds = holds_integer received slot_there number skipped found holds
+    decides _ _ (compares_number test number skipped found) holds = holds_number received slot_there test number skipped found holds
+    decides _ _ (compares_variable test from other skipped found apart handed) holds =
+        holds_variable received slot_there test from other holds.0 skipped found handed apart holds.1 holds.2
 
-    gives_back : (there : ℕ) (slot : Slot) → GivesBack there slot → (outs : List ℕ) → ((behind : FollowsCall ops (place + 3)) → outs ≡ behind.outs)
+    gives_back : (there : ℕ) (given : Given) (slot : Slot) → GivesBack passes sum ops there given → IsGiven integer slots given slot → (outs : List ℕ) → ((behind : FollowsCall ops (place + 3)) → outs ≡ behind.outs)
         → (after : StoreData) → after ≡ with_current machine.store (given_first outs slot slots) → Proceeds (entered_at there) Move (record machine { store = after; phase = Running (place + 3); left = left })
-    gives_back there _ (gives_sum to found) outs given_to after after_is =
-        returns received slot_there sound there to sum.to (IntWord integer) outs found (sum_stands received slot_there) given_to after after_is
-    gives_back there _ (gives_variable to from variable word found is apart value) outs given_to after after_is =
-        let slot : Slot = slot_or_empty (slice_get slots variable) in
-        returns received slot_there sound there to from word outs found (passed_stands received slot_there variable from is apart ∙ value) given_to after
-        (after_is ∙ ap (λ held. with_current machine.store (given_first outs held slots)) (sym (slot_held slot word value)))
+    gives_back there _ slot (the_sum to found) given_is outs given_to after after_is =
+        returns received slot_there sound there to sum.to (IntWord integer) outs found (sum_stands received slot_there) given_to after
+        (after_is ∙ ap (λ held. with_current machine.store (given_first outs held slots)) given_is)
+    gives_back there _ slot (passed_to to from variable found apart handed) given_is outs given_to after after_is =
+        returns received slot_there sound there to from given_is.0 outs found (passed_stands received slot_there variable from handed apart ∙ given_is.1) given_to after
+        (after_is ∙ ap (λ held. with_current machine.store (given_first outs held slots)) (given_is.2 ∙ sym (slot_held (slot_or_empty (slice_get slots variable)) given_is.0 given_is.1)))
+
+    -- the parts of the base case
+    begins_so : (op : Op) (base : BaseCase) → IsBaseCase ops op base → op ≡ CallSum entry passes sum → (there : ℕ) × TestsSum entry passes sum ops base.test there × GivesBack passes sum ops there base.given
+    begins_so _ _ (begins entry' passes' sum' base there tests gives) same =
+        let same_entry : entry' ≡ entry = cc in
+        let same_passes : passes' ≡ passes = cc in
+        let same_sum : sum' ≡ sum = cc in (
+          there,
+          subst (λ s. TestsSum entry passes s ops base.test there) same_sum
+              (subst (λ p. TestsSum entry p sum' ops base.test there) same_passes (subst (λ e. TestsSum e passes' sum' ops base.test there) same_entry tests)),
+          subst (λ s. GivesBack passes s ops there base.given) same_sum (subst (λ p. GivesBack p sum' ops there base.given) same_passes gives),
+        )
 
     pub comes_back_at_once : slice_get ops place ≡ Some (CallSum entry passes sum) → TellsSum machine.store sum.variable sum.from sum.number (Some integer) → machine.left ≡ suc left
-        → (there : ℕ) → HoldsFirst there → (slot : Slot) → GivesBack there slot → (outs : List ℕ) → ((behind : FollowsCall ops (place + 3)) → outs ≡ behind.outs)
-        → (after : StoreData) → after ≡ with_current machine.store (given_first outs slot slots)
+        → (base : BaseCase) → IsBaseCase ops (CallSum entry passes sum) base → Holds integer slots base.test → (slot : Slot) → IsGiven integer slots base.given slot
+        → (outs : List ℕ) → ((behind : FollowsCall ops (place + 3)) → outs ≡ behind.outs) → (after : StoreData) → after ≡ with_current machine.store (given_first outs slot slots)
         → ComesBackAtOnce machine place (record machine { store = after; phase = Running (place + 3); left = left })
-    comes_back_at_once found told some_left there holds slot gives outs given_to after after_is = record {
-      entered = entered_at entry.place;
-      decided = entered_at there;
-      calls = calls found told some_left;
-      decides = decides there holds;
-      returns = gives_back there slot gives outs given_to after after_is;
-    }
+    comes_back_at_once found told some_left base case holds slot given_is outs given_to after after_is =
+        let b = begins_so (CallSum entry passes sum) base case refl in record {
+          entered = entered_at entry.place;
+          decided = entered_at b.0;
+          calls = calls found told some_left;
+          decides = decides base.test b.0 b.1 holds;
+          returns = gives_back b.0 base.given slot b.2 given_is outs given_to after after_is;
+        }

@@ -1,6 +1,6 @@
 -- Worked examples of calls that come back at once.
 use Rattle.std.specs.Prelude.{negsuc, pos, true}
-use Rattle.std.proofs.Common.{◌≡◌, ℕ, zero, ◌<◌, List, [], ◌∷◌, Some, slice_get, refl, sym, ap, ◌∙◌, arith}
+use Rattle.std.proofs.Common.{◌≡◌, ℕ, zero, suc, ◌<◌, List, [], ◌∷◌, Some, slice_get, refl, sym, ap, ◌∙◌, arith}
 use Rattle.std.specs.List.{All}
 use Rattle.std.proofs.lemmas.List.Elements.{All-from_recursion}
 use Rattle.merc_graded_tree.specs.declared.basic.Procedure.{Procedure}
@@ -22,6 +22,10 @@ use Rattle.merc_load.specs.declared.loaded.Op.{Op}
 use Rattle.merc_load.specs.declared.loaded.Op.TheVariants.{Call as CallOp, CallSum, Fail as FailOp, IfCompareNumber, IfCompareVariables, ReturnCopy}
 use Rattle.merc_load.specs.declared.loaded.Sum.{Sum}
 use Rattle.merc_load.specs.Loaded.{IsLoaded}
+use Rattle.merc_base_cases.specs.BaseCases.{IsPassed, begins, compares_number, compares_variable, passed, the_sum}
+use Rattle.merc_base_cases.specs.declared.cases.BaseCase.{BaseCase}
+use Rattle.merc_base_cases.specs.declared.cases.BaseTest.TheVariants.{Number, Variable}
+use Rattle.merc_base_cases.specs.declared.cases.Given.TheVariants.{Sum as TheSum, Variable as TheVariable}
 use Rattle.merc_store.specs.Data.{StoreData, IsSlotBelow, IsSound}
 use Rattle.merc_store.specs.Performing.{TellsSum}
 use Rattle.merc_store.proofs.NumberLemmas.{operate_number_does}
@@ -29,7 +33,7 @@ use Rattle.merc_machine.specs.declared.machine.Machine.{Machine}
 use Rattle.merc_machine.specs.declared.machine.Phase.TheVariants.{Running}
 use Rattle.merc_machine.specs.Coming.{ComesBackAtOnce, IsStanding}
 use Rattle.merc_machine.specs.Outputs.{FollowsCall}
-use Rattle.merc_machine.proofs.ComingBackAtOnce.{IsPassed, comes_back_at_once, compares_number, compares_variable, gives_sum, gives_variable}
+use Rattle.merc_machine.proofs.ComingBackAtOnce.{comes_back_at_once}
 
 -- The code at place 4 is entered with a sum that is one less than the caller's first variable, and with its second variable.
 abbrev base : Entry
@@ -64,6 +68,10 @@ received = All-from_recursion (λ (pass : Pass). pass.to < 3) second (omega arit
 passed_second : IsPassed second 1 1
 passed_second = record { before = []; behind = []; whole = refl; last = All-from_recursion (λ (pass : Pass). pass.to ≡ 1 → ⊥) [] tt }
 
+-- the slots are two
+other_slot : suc zero ≡ zero → ⊥
+other_slot e = absurd (omega (arith, e))
+
 outputs_of : (test fifth sixth : Op) (ops : List Op) → ops ≡ code test fifth sixth → (behind : FollowsCall ops 3) → 3 ∷ [] ≡ behind.outs
 outputs_of test fifth sixth ops same behind =
     let next = behind.next in
@@ -91,8 +99,9 @@ module _ (machine : Machine) where
   sum-comes_back same =
       let test : Op = IfCompareNumber Less 0 (pos 2) 9 in
       let last : Op = ReturnCopy 2 0 in
+      let case : BaseCase = record { test = Number Less (pos 2); given = TheSum } in
       comes_back_at_once before 0 base second less (pos 1) 6 received (omega arith) (sound Empty tt) (there test FailOp last same 0 (CallSum base second less) refl) one_less refl
-      9 (compares_number Less (pos 2) 9 (there test FailOp last same 4 test refl) refl) (IntSlot (pos 1)) (gives_sum 2 (there test FailOp last same 9 last refl)) (3 ∷ [])
+      case (begins base second less case 9 (compares_number Less (pos 2) 9 (there test FailOp last same 4 test refl)) (the_sum 2 (there test FailOp last same 9 last refl))) refl (IntSlot (pos 1)) refl (3 ∷ [])
       (outputs_of test FailOp last machine.program.now.ops.items same) (store_of (IntSlot (pos 1))) refl
 
   -- As 1 is at most 6, the second variable's value is.
@@ -100,10 +109,10 @@ module _ (machine : Machine) where
   variable-comes_back same =
       let test : Op = IfCompareVariables AtMost 0 1 9 in
       let last : Op = ReturnCopy 2 1 in
+      let case : BaseCase = record { test = Variable AtMost 1; given = TheVariable 1 } in
       comes_back_at_once before 0 base second less (pos 1) 6 received (omega arith) (sound Empty tt) (there test last FailOp same 0 (CallSum base second less) refl) one_less refl
-      8 (compares_variable AtMost 1 1 (pos 6) 9 (there test last FailOp same 4 test refl) passed_second (λ e. absurd (omega (arith, e))) refl refl) (IntSlot (pos 6))
-      (gives_variable 2 1 1 (IntWord (pos 6)) (there test last FailOp same 8 last refl) passed_second (λ e. absurd (omega (arith, e))) refl) (3 ∷ [])
-      (outputs_of test last FailOp machine.program.now.ops.items same) (store_of (IntSlot (pos 6))) refl
+      case (begins base second less case 8 (compares_variable AtMost 1 1 9 (there test last FailOp same 4 test refl) other_slot passed_second) (passed 2 1 1 (there test last FailOp same 8 last refl) other_slot passed_second))
+      (pos 6, refl, refl) (IntSlot (pos 6)) (IntWord (pos 6), refl, refl) (3 ∷ []) (outputs_of test last FailOp machine.program.now.ops.items same) (store_of (IntSlot (pos 6))) refl
 
 -- Code that answers comes by moves to no other state ..
 

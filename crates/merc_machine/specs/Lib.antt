@@ -1,3 +1,5 @@
+pub mod BaseCases
+pub mod BaseCasesExamples
 pub mod Coming
 pub mod ComingExamples
 pub mod Event
