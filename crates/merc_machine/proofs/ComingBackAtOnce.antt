@@ -5,12 +5,12 @@ use Rattle.std.specs.Ordering.{int_eq}
 use Rattle.std.proofs.lemmas.List.Elements.{All-head, All-tail, All-cons, All-set, All-replicate}
 use Rattle.merc_goal_tree.specs.declared.goal.Comparison.{Comparison}
 use Rattle.merc_value.specs.declared.word.Word.{Word}
-use Rattle.merc_value.specs.declared.word.Word.TheVariants.{Int as IntWord, Text as TextWord, Atom as AtomWord, Cell as CellWord}
+use Rattle.merc_value.specs.declared.word.Word.TheVariants.{Int as IntWord}
 use Rattle.merc_meaning.specs.Arithmetic.{comparison}
 use Rattle.merc_code.specs.declared.instruction.Instruction.TheVariants.{Copy}
 use Rattle.merc_frames.specs.declared.passing.Pass.{Pass}
 use Rattle.merc_frames.specs.declared.slot.Slot.{Slot}
-use Rattle.merc_frames.specs.declared.slot.Slot.TheVariants.{Empty, Int as IntSlot, Text as TextSlot, Atom as AtomSlot, Cell as CellSlot, Mark as MarkSlot}
+use Rattle.merc_frames.specs.declared.slot.Slot.TheVariants.{Empty, Int as IntSlot}
 use Rattle.merc_frames.specs.Handing.{delivered, empty_frame, passed, slot_or_empty}
 use Rattle.merc_frames.specs.Rooms.{AreReceived}
 use Rattle.merc_frames.specs.Slots.{holding, word_in}
@@ -49,18 +49,9 @@ use Rattle.merc_machine.proofs.Standings.{running_at}
 
 module _ (P : Pass → Type 0) where
   -- what holds of each holds of one of them
-  of_one : (before : List Pass) (pass : Pass) (behind : List Pass) → All P (before ++ pass ∷ behind) → P pass
+  pub of_one : (before : List Pass) (pass : Pass) (behind : List Pass) → All P (before ++ pass ∷ behind) → P pass
   of_one [] pass behind each = All-head P pass behind each
   of_one (first ∷ before) pass behind each = of_one before pass behind (All-tail P first (before ++ pass ∷ behind) each)
-
--- The slot that holds a word is the one that is made of it.
-pub slot_held : (slot : Slot) (word : Word) → word_in slot ≡ Some word → holding word ≡ slot
-slot_held Empty word holds = absurd cc
-slot_held (IntSlot number) word holds = let same : word ≡ IntWord number = cc in ap holding same
-slot_held (TextSlot name) word holds = let same : word ≡ TextWord name = cc in ap holding same
-slot_held (AtomSlot symbol) word holds = let same : word ≡ AtomWord symbol = cc in ap holding same
-slot_held (CellSlot place) word holds = let same : word ≡ CellWord place = cc in ap holding same
-slot_held (MarkSlot count) word holds = absurd cc
 
 none_delivered : (outs : List ℕ) (slots : List Slot) → delivered outs [] slots ≡ slots
 none_delivered [] slots = refl
@@ -192,14 +183,13 @@ module _ (machine : Machine) (place : ℕ) (entry : Entry) (passes : List Pass) 
     decides _ _ (compares_variable test from other skipped found apart handed) holds =
         holds_variable received slot_there test from other holds.0 skipped found handed apart holds.1 holds.2
 
-    gives_back : (there : ℕ) (given : Given) (slot : Slot) → GivesBack passes sum ops there given → IsGiven integer slots given slot → (outs : List ℕ) → ((behind : FollowsCall ops (place + 3)) → outs ≡ behind.outs)
-        → (after : StoreData) → after ≡ with_current machine.store (given_first outs slot slots) → Proceeds (entered_at there) Move (record machine { store = after; phase = Running (place + 3); left = left })
-    gives_back there _ slot (the_sum to found) given_is outs given_to after after_is =
+    gives_back : (there : ℕ) (given : Given) (word : Word) → GivesBack passes sum ops there given → IsGiven integer slots given word → (outs : List ℕ) → ((behind : FollowsCall ops (place + 3)) → outs ≡ behind.outs)
+        → (after : StoreData) → after ≡ with_current machine.store (given_first outs (holding word) slots) → Proceeds (entered_at there) Move (record machine { store = after; phase = Running (place + 3); left = left })
+    gives_back there _ word (the_sum to found) given_is outs given_to after after_is =
         returns received slot_there sound there to sum.to (IntWord integer) outs found (sum_stands received slot_there) given_to after
-        (after_is ∙ ap (λ held. with_current machine.store (given_first outs held slots)) given_is)
-    gives_back there _ slot (passed_to to from variable found apart handed) given_is outs given_to after after_is =
-        returns received slot_there sound there to from given_is.0 outs found (passed_stands received slot_there variable from handed apart ∙ given_is.1) given_to after
-        (after_is ∙ ap (λ held. with_current machine.store (given_first outs held slots)) (given_is.2 ∙ sym (slot_held (slot_or_empty (slice_get slots variable)) given_is.0 given_is.1)))
+        (after_is ∙ ap (λ held. with_current machine.store (given_first outs (holding held) slots)) given_is)
+    gives_back there _ word (passed_to to from variable found apart handed) given_is outs given_to after after_is =
+        returns received slot_there sound there to from word outs found (passed_stands received slot_there variable from handed apart ∙ given_is) given_to after after_is
 
     -- the parts of the base case
     begins_so : (op : Op) (base : BaseCase) → IsBaseCase ops op base → op ≡ CallSum entry passes sum → (there : ℕ) × TestsSum entry passes sum ops base.test there × GivesBack passes sum ops there base.given
@@ -214,14 +204,14 @@ module _ (machine : Machine) (place : ℕ) (entry : Entry) (passes : List Pass) 
         )
 
     pub comes_back_at_once : slice_get ops place ≡ Some (CallSum entry passes sum) → TellsSum machine.store sum.variable sum.from sum.number (Some integer) → machine.left ≡ suc left
-        → (base : BaseCase) → IsBaseCase ops (CallSum entry passes sum) base → Holds integer slots base.test → (slot : Slot) → IsGiven integer slots base.given slot
-        → (outs : List ℕ) → ((behind : FollowsCall ops (place + 3)) → outs ≡ behind.outs) → (after : StoreData) → after ≡ with_current machine.store (given_first outs slot slots)
+        → (base : BaseCase) → IsBaseCase ops (CallSum entry passes sum) base → Holds integer slots base.test → (word : Word) → IsGiven integer slots base.given word
+        → (outs : List ℕ) → ((behind : FollowsCall ops (place + 3)) → outs ≡ behind.outs) → (after : StoreData) → after ≡ with_current machine.store (given_first outs (holding word) slots)
         → ComesBackAtOnce machine place (record machine { store = after; phase = Running (place + 3); left = left })
-    comes_back_at_once found told some_left base case holds slot given_is outs given_to after after_is =
+    comes_back_at_once found told some_left base case holds word given_is outs given_to after after_is =
         let b = begins_so (CallSum entry passes sum) base case refl in record {
           entered = entered_at entry.place;
           decided = entered_at b.0;
           calls = calls found told some_left;
           decides = decides base.test b.0 b.1 holds;
-          returns = gives_back b.0 base.given slot b.2 given_is outs given_to after after_is;
+          returns = gives_back b.0 base.given word b.2 given_is outs given_to after after_is;
         }

@@ -1,6 +1,6 @@
 -- Worked examples of calls that come back at once.
 use Rattle.std.specs.Prelude.{negsuc, pos, true}
-use Rattle.std.proofs.Common.{◌≡◌, ℕ, zero, suc, ◌<◌, List, [], ◌∷◌, Some, slice_get, refl, sym, ap, ◌∙◌, arith}
+use Rattle.std.proofs.Common.{◌≡◌, inl, inr, ◌+◌, ℕ, zero, suc, ◌<◌, List, [], ◌∷◌, Some, slice_get, refl, sym, ap, ◌∙◌, arith}
 use Rattle.std.specs.List.{All}
 use Rattle.std.proofs.lemmas.List.Elements.{All-from_recursion}
 use Rattle.merc_graded_tree.specs.declared.basic.Procedure.{Procedure}
@@ -31,7 +31,9 @@ use Rattle.merc_store.specs.Performing.{TellsSum}
 use Rattle.merc_store.proofs.NumberLemmas.{operate_number_does}
 use Rattle.merc_machine.specs.declared.machine.Machine.{Machine}
 use Rattle.merc_machine.specs.declared.machine.Phase.TheVariants.{Running}
-use Rattle.merc_machine.specs.Coming.{ComesBackAtOnce, IsStanding}
+use Rattle.merc_machine.specs.Coming.{Acts, ComesBackAtOnce, IsStanding, Proceeds}
+use Rattle.merc_machine.specs.Event.{Tick}
+use Rattle.merc_machine.specs.declared.machine.Next.TheVariants.{Tick as TickNext}
 use Rattle.merc_machine.specs.Outputs.{FollowsCall}
 use Rattle.merc_machine.proofs.ComingBackAtOnce.{comes_back_at_once}
 
@@ -101,7 +103,7 @@ module _ (machine : Machine) where
       let last : Op = ReturnCopy 2 0 in
       let case : BaseCase = record { test = Number Less (pos 2); given = TheSum } in
       comes_back_at_once before 0 base second less (pos 1) 6 received (omega arith) (sound Empty tt) (there test FailOp last same 0 (CallSum base second less) refl) one_less refl
-      case (begins base second less case 9 (compares_number Less (pos 2) 9 (there test FailOp last same 4 test refl)) (the_sum 2 (there test FailOp last same 9 last refl))) refl (IntSlot (pos 1)) refl (3 ∷ [])
+      case (begins base second less case 9 (compares_number Less (pos 2) 9 (there test FailOp last same 4 test refl)) (the_sum 2 (there test FailOp last same 9 last refl))) refl (IntWord (pos 1)) refl (3 ∷ [])
       (outputs_of test FailOp last machine.program.now.ops.items same) (store_of (IntSlot (pos 1))) refl
 
   -- As 1 is at most 6, the second variable's value is.
@@ -112,7 +114,11 @@ module _ (machine : Machine) where
       let case : BaseCase = record { test = Variable AtMost 1; given = TheVariable 1 } in
       comes_back_at_once before 0 base second less (pos 1) 6 received (omega arith) (sound Empty tt) (there test last FailOp same 0 (CallSum base second less) refl) one_less refl
       case (begins base second less case 8 (compares_variable AtMost 1 1 9 (there test last FailOp same 4 test refl) other_slot passed_second) (passed 2 1 1 (there test last FailOp same 8 last refl) other_slot passed_second))
-      (pos 6, refl, refl) (IntSlot (pos 6)) (IntWord (pos 6), refl, refl) (3 ∷ []) (outputs_of test last FailOp machine.program.now.ops.items same) (store_of (IntSlot (pos 6))) refl
+      (pos 6, refl, refl) (IntWord (pos 6)) refl (3 ∷ []) (outputs_of test last FailOp machine.program.now.ops.items same) (store_of (IntSlot (pos 6))) refl
+
+  -- The call comes to the place behind it, as a step that counts.
+  sum-acts : Holds (IfCompareNumber Less 0 (pos 2) 9) FailOp (ReturnCopy 2 0) → Acts before 0 (TickNext 3) (behind (IntSlot (pos 1)))
+  sum-acts same = inr (refl, sum-comes_back same)
 
 -- Code that answers comes by moves to no other state ..
 
@@ -128,13 +134,28 @@ answers_not_ticks codes _ _ values next other (ticks state agreeing a) is made =
 answers_not_ticks codes _ _ values next other (answers given state agreeing a) is made = absurd cc
 answers_not_ticks codes _ _ values next other stuck is made = absurd cc
 
--- .. so that the machine does not come back at once where it stands for such code.
+-- .. so that no step of a machine counts that stands for such code ..
+answers_first : (before after : Machine) (codes : Codes) (entry_of : Procedure → Entry) (query : Code) → IsLoaded before.program.now codes entry_of query
+    → (state : State) → IsStanding codes entry_of before state → (values : Env) (next : State) → step_lean codes state ≡ Answers values next → Proceeds before Tick after → ⊥
+answers_first before after codes entry_of query loaded state stands values next answering proceeds =
+    let here : (last : State) → GoesLean codes zero state last → step_lean codes last ≡ Answers values next
+    = λ last goes. ap (step_lean codes) (sym (stays_there codes zero state last values next answering goes refl)) ∙ answering in
+    let made = proceeds codes entry_of query loaded state stands (λ last goes is. let e = here last goes in absurd cc) in
+    let to = made.1.1 in
+    answers_not_ticks codes made.1.0 (step_lean codes to.before) values next made.1.2.0 to.agrees (here to.before to.goes) made.1.2.1
+
+-- .. and the machine does not come back at once.
 pub answer-not : (machine after : Machine) (place : ℕ) (codes : Codes) (entry_of : Procedure → Entry) (query : Code) → IsLoaded machine.program.now codes entry_of query
     → (state : State) → IsStanding codes entry_of (record machine { phase = Running place }) state → (values : Env) (next : State) → step_lean codes state ≡ Answers values next
     → ComesBackAtOnce machine place after → ⊥
 answer-not machine after place codes entry_of query loaded state stands values next answering comes =
-    let here : (last : State) → GoesLean codes zero state last → step_lean codes last ≡ Answers values next
-    = λ last goes. ap (step_lean codes) (sym (stays_there codes zero state last values next answering goes refl)) ∙ answering in
-    let made = comes.calls codes entry_of query loaded state stands (λ last goes is. let e = here last goes in absurd cc) in
-    let to = made.1.1 in
-    answers_not_ticks codes made.1.0 (step_lean codes to.before) values next made.1.2.0 to.agrees (here to.before to.goes) made.1.2.1
+    answers_first (record machine { phase = Running place }) comes.entered codes entry_of query loaded state stands values next answering comes.calls
+
+-- Its instruction comes to no step that counts, neither by a call nor by one that comes back at once.
+pub acts-not : (machine after : Machine) (place there : ℕ) (codes : Codes) (entry_of : Procedure → Entry) (query : Code) → IsLoaded machine.program.now codes entry_of query
+    → (state : State) → IsStanding codes entry_of (record machine { phase = Running place }) state → (values : Env) (next : State) → step_lean codes state ≡ Answers values next
+    → Acts machine place (TickNext there) after → ⊥
+acts-not machine after place there codes entry_of query loaded state stands values next answering (inl proceeds) =
+    answers_first (record machine { phase = Running place }) (record after { phase = Running there }) codes entry_of query loaded state stands values next answering proceeds
+acts-not machine after place there codes entry_of query loaded state stands values next answering (inr back) =
+    answer-not machine (record after { phase = Running (place + 3) }) place codes entry_of query loaded state stands values next answering back.1

@@ -1,6 +1,7 @@
 pub mod Advancing
 pub mod Asking
 pub mod Attempts
+pub mod BaseSlots
 pub mod CallSteps
 pub mod Callers
 pub mod CallingWithSum
