@@ -9,7 +9,7 @@ ghost use Rattle.merc_frames.specs.declared.kept.Kept.{Kept};
 ghost use Rattle.merc_frames.specs.declared.kept.Saved.{Saved};
 
 use crate::copying::{copy_frame, copy_up, cut_above, make_empty, make_room};
-use crate::handing::{Frame, deliver, make_frame};
+use crate::handing::{FEW_PASSES, Frame, deliver, make_frame, pass_within};
 use crate::kept::{Kept, Saved};
 use crate::{Pass, Slot};
 use merc_base::NoMemory;
@@ -175,6 +175,32 @@ impl Frames {
     /// over what is left there, which is nothing where it is emptied. Where memory is refused, nothing changes.
     #[inline(always)]
     pub fn renew(&mut self, size: usize, is_emptied: bool, inputs: &[Pass]) -> Result<(), NoMemory>
+        requires taken { AreTaken (length self.old.stacks.current) inputs.now }
+        requires received { AreReceived size inputs.now }
+        ensures ok { OnOk result (Renews self.old.stacks self.new.stacks size is_emptied inputs.now) }
+        ensures err { OnErr result (self.new ≡ self.old) }
+        ensures held { (may_hold : ℕ → Slot → Bool) (cells : ℕ) → Passes may_hold cells Slot.Empty → AreHeld (Passes may_hold) cells self.old → AreHeld (Passes may_hold) cells self.new }
+    {
+        if size == self.size
+            && !is_emptied
+            && self.height == self.saved.len()
+            && inputs.len() <= FEW_PASSES
+        {
+            let frame = Frame {
+                base: self.base,
+                size,
+            };
+            pass_within(&mut self.slots, inputs, frame);
+            Ok(())
+        } else {
+            self.renew_apart(size, is_emptied, inputs)
+        }
+    }
+
+    // The same, where the new frame has no slot of the old one. What is saved above the callers that are there is given back
+    // too.
+    #[inline(always)]
+    fn renew_apart(&mut self, size: usize, is_emptied: bool, inputs: &[Pass]) -> Result<(), NoMemory>
         requires taken { AreTaken (length self.old.stacks.current) inputs.now }
         requires received { AreReceived size inputs.now }
         ensures ok { OnOk result (Renews self.old.stacks self.new.stacks size is_emptied inputs.now) }

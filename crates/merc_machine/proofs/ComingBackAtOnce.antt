@@ -34,7 +34,7 @@ use Rattle.merc_store.specs.declared.store.Done.TheVariants.{Bound}
 use Rattle.merc_machine.specs.declared.machine.Machine.{Machine}
 use Rattle.merc_machine.specs.declared.machine.Phase.TheVariants.{Running}
 use Rattle.merc_machine.specs.BaseCases.{Holds, IsGiven, given_first}
-use Rattle.merc_machine.specs.Coming.{ComesBackAtOnce, Proceeds}
+use Rattle.merc_machine.specs.Coming.{ComesAtOnce, Proceeds, moves, ticks}
 use Rattle.merc_machine.specs.Event.{Move, Tick}
 use Rattle.merc_machine.specs.Outputs.{FollowsCall}
 use Rattle.merc_machine.proofs.Asking.{condition_holds, integer_asked, number_asked, variables_asked}
@@ -206,12 +206,9 @@ module _ (machine : Machine) (place : ℕ) (entry : Entry) (passes : List Pass) 
     pub comes_back_at_once : slice_get ops place ≡ Some (CallSum entry passes sum) → TellsSum machine.store sum.variable sum.from sum.number (Some integer) → machine.left ≡ suc left
         → (base : BaseCase) → IsBaseCase ops (CallSum entry passes sum) base → Holds integer slots base.test → (word : Word) → IsGiven integer slots base.given word
         → (outs : List ℕ) → ((behind : FollowsCall ops (place + 3)) → outs ≡ behind.outs) → (after : StoreData) → after ≡ with_current machine.store (given_first outs (holding word) slots)
-        → ComesBackAtOnce machine place (record machine { store = after; phase = Running (place + 3); left = left })
+        → ComesAtOnce (running_at machine place) (record machine { store = after; phase = Running (place + 3); left = left })
     comes_back_at_once found told some_left base case holds word given_is outs given_to after after_is =
-        let b = begins_so (CallSum entry passes sum) base case refl in record {
-          entered = entered_at entry.place;
-          decided = entered_at b.0;
-          calls = calls found told some_left;
-          decides = decides base.test b.0 b.1 holds;
-          returns = gives_back b.0 base.given word b.2 given_is outs given_to after after_is;
-        }
+        let b = begins_so (CallSum entry passes sum) base case refl in
+        let behind : Machine = record machine { store = after; phase = Running (place + 3); left = left } in
+        moves (entered_at b.0) behind (moves (entered_at entry.place) (entered_at b.0) (ticks (entered_at entry.place) (calls found told some_left)) (decides base.test b.0 b.1 holds))
+        (gives_back b.0 base.given word b.2 given_is outs given_to after after_is)

@@ -31,7 +31,7 @@ use Rattle.merc_store.specs.Performing.{TellsSum}
 use Rattle.merc_store.proofs.NumberLemmas.{operate_number_does}
 use Rattle.merc_machine.specs.declared.machine.Machine.{Machine}
 use Rattle.merc_machine.specs.declared.machine.Phase.TheVariants.{Running}
-use Rattle.merc_machine.specs.Coming.{Acts, ComesBackAtOnce, IsStanding, Proceeds}
+use Rattle.merc_machine.specs.Coming.{Acts, ComesAtOnce, IsStanding, Proceeds, ticks as ticks_at_once, moves as moves_at_once}
 use Rattle.merc_machine.specs.Event.{Tick}
 use Rattle.merc_machine.specs.declared.machine.Next.TheVariants.{Tick as TickNext}
 use Rattle.merc_machine.specs.Outputs.{FollowsCall}
@@ -97,7 +97,7 @@ module _ (machine : Machine) where
   there test fifth sixth same place op is = ap (λ (those : List Op). slice_get those place) same ∙ is
 
   -- As 1 is less than 2, the sum is the result.
-  sum-comes_back : Holds (IfCompareNumber Less 0 (pos 2) 9) FailOp (ReturnCopy 2 0) → ComesBackAtOnce before 0 (behind (IntSlot (pos 1)))
+  sum-comes_back : Holds (IfCompareNumber Less 0 (pos 2) 9) FailOp (ReturnCopy 2 0) → ComesAtOnce (record before { phase = Running 0 }) (behind (IntSlot (pos 1)))
   sum-comes_back same =
       let test : Op = IfCompareNumber Less 0 (pos 2) 9 in
       let last : Op = ReturnCopy 2 0 in
@@ -107,7 +107,7 @@ module _ (machine : Machine) where
       (outputs_of test FailOp last machine.program.now.ops.items same) (store_of (IntSlot (pos 1))) refl
 
   -- As 1 is at most 6, the second variable's value is.
-  variable-comes_back : Holds (IfCompareVariables AtMost 0 1 9) (ReturnCopy 2 1) FailOp → ComesBackAtOnce before 0 (behind (IntSlot (pos 6)))
+  variable-comes_back : Holds (IfCompareVariables AtMost 0 1 9) (ReturnCopy 2 1) FailOp → ComesAtOnce (record before { phase = Running 0 }) (behind (IntSlot (pos 6)))
   variable-comes_back same =
       let test : Op = IfCompareVariables AtMost 0 1 9 in
       let last : Op = ReturnCopy 2 1 in
@@ -118,7 +118,7 @@ module _ (machine : Machine) where
 
   -- The call comes to the place behind it, as a step that counts.
   sum-acts : Holds (IfCompareNumber Less 0 (pos 2) 9) FailOp (ReturnCopy 2 0) → Acts before 0 (TickNext 3) (behind (IntSlot (pos 1)))
-  sum-acts same = inr (refl, sum-comes_back same)
+  sum-acts same = inr (3, refl, sum-comes_back same)
 
 -- Code that answers comes by moves to no other state ..
 
@@ -144,18 +144,18 @@ answers_first before after codes entry_of query loaded state stands values next 
     let to = made.1.1 in
     answers_not_ticks codes made.1.0 (step_lean codes to.before) values next made.1.2.0 to.agrees (here to.before to.goes) made.1.2.1
 
--- .. and the machine does not come back at once.
-pub answer-not : (machine after : Machine) (place : ℕ) (codes : Codes) (entry_of : Procedure → Entry) (query : Code) → IsLoaded machine.program.now codes entry_of query
-    → (state : State) → IsStanding codes entry_of (record machine { phase = Running place }) state → (values : Env) (next : State) → step_lean codes state ≡ Answers values next
-    → ComesBackAtOnce machine place after → ⊥
-answer-not machine after place codes entry_of query loaded state stands values next answering comes =
-    answers_first (record machine { phase = Running place }) comes.entered codes entry_of query loaded state stands values next answering comes.calls
+-- .. and the machine does not come at once to where such a step would bring it.
+pub answer-not : (before after : Machine) (codes : Codes) (entry_of : Procedure → Entry) (query : Code) → IsLoaded before.program.now codes entry_of query
+    → (state : State) → IsStanding codes entry_of before state → (values : Env) (next : State) → step_lean codes state ≡ Answers values next → ComesAtOnce before after → ⊥
+answer-not before _ codes entry_of query loaded state stands values next answering (ticks_at_once after calls) = answers_first before after codes entry_of query loaded state stands values next answering calls
+answer-not before _ codes entry_of query loaded state stands values next answering (moves_at_once between after comes proceeds) =
+    answer-not before between codes entry_of query loaded state stands values next answering comes
 
--- Its instruction comes to no step that counts, neither by a call nor by one that comes back at once.
+-- Its instruction comes to no step that counts, neither by itself nor by several at once.
 pub acts-not : (machine after : Machine) (place there : ℕ) (codes : Codes) (entry_of : Procedure → Entry) (query : Code) → IsLoaded machine.program.now codes entry_of query
     → (state : State) → IsStanding codes entry_of (record machine { phase = Running place }) state → (values : Env) (next : State) → step_lean codes state ≡ Answers values next
     → Acts machine place (TickNext there) after → ⊥
 acts-not machine after place there codes entry_of query loaded state stands values next answering (inl proceeds) =
     answers_first (record machine { phase = Running place }) (record after { phase = Running there }) codes entry_of query loaded state stands values next answering proceeds
-acts-not machine after place there codes entry_of query loaded state stands values next answering (inr back) =
-    answer-not machine (record after { phase = Running (place + 3) }) place codes entry_of query loaded state stands values next answering back.1
+acts-not machine after place there codes entry_of query loaded state stands values next answering (inr once) =
+    answer-not (record machine { phase = Running place }) (record after { phase = Running once.0 }) codes entry_of query loaded state stands values next answering once.2

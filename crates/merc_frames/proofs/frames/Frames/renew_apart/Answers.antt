@@ -8,7 +8,7 @@ use Rattle.merc_frames.proofs.HeldLaws.{Holding}
 use Rattle.merc_frames.proofs.Moving.{on_err}
 use Rattle.merc_frames.proofs.Newest.{count_read, low_read, low_under}
 use Rattle.merc_frames.proofs.Entering.{renewed_fine, renewed_kept, renewed}
-use Rattle.merc_frames.proofs.frames.Frames.renew.Goals as goal
+use Rattle.merc_frames.proofs.frames.Frames.renew_apart.Goals as goal
 
 abbrev pub returns-in_err-make_room-clause-err : goal.returns-in_err-make_room-clause-err
 returns-in_err-make_room-clause-err c = on_err c.from_residual.result _ (ap (λ x. data_of x c.self.inside.saved.items c.self.inside.choices.items c.self.inside.base c.self.inside.size c.self.inside.height) c.in_err-make_room.ensures.err ∙ c.self.view_is)
