@@ -81,6 +81,18 @@ built_here w d v base size b size' n own outs is long en room below e =
     } in
     subst (λ x. Built w x b size' (delivered outs (carried own (frame_of w base size)) (frame_of w b size'))) (sym (written_back w v n (long ∙ ap length is) en)) r
 
+-- in place of the current frame, which has what is passed over what it held
+pub built_within : (w d v : List Slot) (base size n : ℕ) (inputs : List Pass) → d ≡ w → length v ≡ length d → n ≡ length w → base + size ≤ length w → take base d ≡ take base v
+    → frame_of v base size ≡ passed inputs (frame_of d base size) (frame_of d base size)
+    → Built w (take n (v ++ drop (length v) w)) base size (passed inputs (frame_of w base size) (frame_of w base size))
+built_within w d v base size n inputs is long en room below e =
+    let r : Built w v base size (passed inputs (frame_of w base size) (frame_of w base size)) = record {
+      below = ap (take base) (sym is) ∙ below;
+      room = let a = ap length is in omega (arith, room, long, a);
+      frame = e ∙ ap (λ x. passed inputs (frame_of x base size) (frame_of x base size)) is;
+    } in
+    subst (λ x. Built w x base size (passed inputs (frame_of w base size) (frame_of w base size))) (sym (written_back w v n (long ∙ ap length is) en)) r
+
 -- moved
 pub built_moved : (w v u : List Slot) (base size low : ℕ) (slots : List Slot) → Built w v base size slots → low ≤ base → length u ≡ length v → take low v ≡ take low u → frame_of u low size ≡ frame_of v base size
     → Built w u low size slots

@@ -1,5 +1,5 @@
 -- The calls, on plain lists.
-use Rattle.std.proofs.Common.{◌≡◌, inl, inr, ℕ, suc, ◌+◌, ◌<◌, ◌≤◌, Bool, true, List, [], ◌∷◌, ◌++◌, length, take, map, reverse, Some, slice_get, slice_set, refl, sym, ap, ◌∙◌, subst, arith}
+use Rattle.std.proofs.Common.{◌≡◌, inl, inr, ℕ, suc, ◌+◌, ◌<◌, ◌≤◌, Bool, true, false, List, [], ◌∷◌, ◌++◌, length, take, map, reverse, Some, slice_get, slice_set, refl, sym, ap, ◌∙◌, subst, arith}
 use Rattle.merc_frames.specs.declared.slot.Slot.{Slot}
 use Rattle.merc_frames.specs.declared.passing.Pass.{Pass}
 use Rattle.merc_frames.specs.Handing.{empty_frame, passed}
@@ -13,7 +13,7 @@ use Rattle.merc_frames.proofs.Stays.{Stays, chain_fuel, callers_same, all_seen}
 use Rattle.merc_frames.specs.Stacks.{Enters, Renews}
 use Rattle.merc_frames.proofs.Built.{Built}
 use Rattle.merc_frames.proofs.FrameLaws.{frame_set}
-use Rattle.merc_frames.proofs.Moving.{below_base, slots_view, above_fine, above_view}
+use Rattle.merc_frames.proofs.Moving.{below_base, slots_fine, slots_view, above_fine, above_view}
 use Rattle.merc_frames.proofs.Newest.{settled_fine, settled_kept, settled_view}
 use Rattle.merc_frames.proofs.HeldLaws.{Holding, kept_below}
 use Rattle.std.proofs.lemmas.List.{length-append, take-set-le}
@@ -116,6 +116,29 @@ module _ (w w' : List Slot) (saved saved' : List Saved) (cs : List Kept) (base s
   renewed emptied inputs left are room empty =
       let v = settled_view w w' saved saved' cs base size h f low size' h count f.stack ec el es b.below slots b.frame in
       record { left = left; room = room; empty = empty; current = b.frame ∙ are; callers = ap (λ (x : Stacks). x.callers) v; choices = ap (λ (x : Stacks). x.choices) v }
+
+-- a last call in place: only slots of the current frame were written
+module _ (w w' : List Slot) (saved : List Saved) (cs : List Kept) (base size h : ℕ) (f : Fine w saved cs base size h) (slots : List Slot) (b : Built w w' base size slots) where
+  pub within_fine : Fine w' saved cs base size h
+  within_fine = slots_fine w w' saved cs base size h f b.below size b.room
+
+  pub within_kept : (MayHold : ℕ → Slot → Type 0) (cells : ℕ) → AreKept MayHold cells w (tops_of cs) → AreKept MayHold cells w' (tops_of cs)
+  within_kept MayHold cells held = kept_below MayHold base w w' cs (λ i k e. (f.kept i k e).top) b.below cells held
+
+  pub within_view : view_of w' saved cs base size h ≡ (let r : Stacks = record { current = slots; callers = callers_of w saved h; choices = reverse (map (λ k. seen w saved k) cs) } in r)
+  within_view = slots_view w w' saved cs base size h f b.below size slots b.frame
+
+-- It is a last call where the new frame is as large as the old one, and is not emptied.
+pub renewed_within : (before after : Stacks) (size : ℕ) (emptied : Bool) (inputs : List Pass) → size ≡ length before.current → emptied ≡ false
+    → after ≡ record before { current = passed inputs before.current before.current } → Renews before after size emptied inputs
+renewed_within before after size emptied inputs room kept is = record {
+  left = before.current;
+  room = sym room;
+  empty = λ empties. (let both : false ≡ true = sym kept ∙ empties in absurd cc);
+  current = ap (λ (x : Stacks). x.current) is;
+  callers = ap (λ (x : Stacks). x.callers) is;
+  choices = ap (λ (x : Stacks). x.choices) is;
+}
 
 -- what a call is seen to have done
 module _ (w w' : List Slot) (saved : List Saved) (cs : List Kept) (base size h : ℕ) (s : Saved) (f : Fine w saved cs base size h) (eb : s.base ≡ base) (ez : s.size ≡ size) (ep : s.parent ≡ h)

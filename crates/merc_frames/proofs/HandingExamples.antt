@@ -22,6 +22,17 @@ passed-past = refl
 pub passed-counterexample : passed inputs frame (empty_frame 3) ≡ Cell 1 ∷ Empty ∷ Cell 2 ∷ [] → ⊥
 passed-counterexample = λ same. absurd cc
 
+-- Within one frame two slots change places: what is passed is what it held.
+abbrev exchange : List Pass
+exchange = record { from = 1; to = 0 } ∷ record { from = 0; to = 1 } ∷ []
+
+pub passed-within : passed exchange frame frame ≡ Cell 2 ∷ Cell 1 ∷ Mark 3 ∷ []
+passed-within = refl
+
+-- read again where it was written
+pub passed-within-counterexample : passed exchange frame frame ≡ Cell 2 ∷ Cell 2 ∷ Mark 3 ∷ [] → ⊥
+passed-within-counterexample = λ same. absurd cc
+
 pub carried-example : carried (1 ∷ 0 ∷ 9 ∷ []) frame ≡ Cell 2 ∷ Cell 1 ∷ Empty ∷ []
 carried-example = refl
 

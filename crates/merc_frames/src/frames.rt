@@ -1,9 +1,11 @@
 //! Frames of slots in one list, with who called and the choice points.
-ghost use Rattle.std.specs.Prelude.{◌≡◌, ◌⊎◌, ◌+◌, ◌-◌, ◌<◌, ◌≤◌, ℕ, Bool, [], ◌∷◌, length, Some, slice_get, slice_set, IfOk, OnOk, OnErr};
+ghost use Rattle.std.specs.Prelude.{◌≡◌, ◌⊎◌, ◌+◌, ◌-◌, ◌<◌, ◌≤◌, ℕ, Bool, true, false, [], ◌∷◌, length, Some, slice_get, slice_set, IfOk, OnOk, OnErr};
+ghost use Rattle.merc_frames.specs.Handing.{passed};
 ghost use Rattle.merc_frames.specs.Held.{AreHeld, AreStacksHeld, Passes, cells_left};
 ghost use Rattle.merc_frames.specs.Stacks.{GoesOn, caller_place, oldest, softened, Opens, Enters, Renews, GivesBack, GivesSlots, GoesBack};
 ghost use Rattle.merc_frames.specs.Rooms.{AreSlots, AreTaken, AreReceived, AreCallerSlots};
 ghost use Rattle.merc_frames.specs.View.{caller_top, kept_end, larger, newest, kept_saved};
+ghost use Rattle.merc_frames.specs.declared.handing.TheConstants.{FEW_PASSES};
 ghost use Rattle.merc_frames.specs.declared.slot.Slot.{Slot};
 ghost use Rattle.merc_frames.specs.declared.kept.Kept.{Kept};
 ghost use Rattle.merc_frames.specs.declared.kept.Saved.{Saved};
@@ -18,7 +20,7 @@ use std::alloc::Global;
 use std::marker::Model;
 
 // The current frame may lie higher than it has to by so many times its size. Conditions in a loop of last calls seldom leave
-// more, and a last call gives it back.
+// more, and a last call that does not stay in its frame gives it back.
 const GAP: usize = 4;
 
 /// What going back finds.
@@ -181,26 +183,53 @@ impl Frames {
         ensures err { OnErr result (self.new ≡ self.old) }
         ensures held { (may_hold : ℕ → Slot → Bool) (cells : ℕ) → Passes may_hold cells Slot.Empty → AreHeld (Passes may_hold) cells self.old → AreHeld (Passes may_hold) cells self.new }
     {
-        if size == self.size
-            && !is_emptied
-            && self.height == self.saved.len()
-            && inputs.len() <= FEW_PASSES
-        {
-            let frame = Frame {
-                base: self.base,
-                size,
-            };
-            pass_within(&mut self.slots, inputs, frame);
+        if self.is_renewed_within(size, is_emptied, inputs) {
+            self.renew_within(inputs);
             Ok(())
         } else {
             self.renew_apart(size, is_emptied, inputs)
         }
     }
 
-    // The same, where the new frame has no slot of the old one. What is saved above the callers that are there is given back
+    // Whether a last call may write what it passes into the current frame: the new one is as large, and what is left there
+    // stays; no saved frame is given back, and few slots are passed.
+    #[inline(always)]
+    fn is_renewed_within(&self, size: usize, is_emptied: bool, inputs: &[Pass]) -> bool
+        ensures size { result ≡ true → size ≡ length self.now.stacks.current }
+        ensures left { result ≡ true → is_emptied ≡ false }
+        ensures few { result ≡ true → length inputs.now ≤ FEW_PASSES }
+    {
+        size == self.size
+            && !is_emptied
+            && self.height == self.saved.len()
+            && inputs.len() <= FEW_PASSES
+    }
+
+    // A last call in place of a frame of the same size, of which only what is passed is written.
+    #[inline(always)]
+    fn renew_within(&mut self, inputs: &[Pass])
+        requires taken { AreTaken (length self.old.stacks.current) inputs.now }
+        requires received { AreReceived (length self.old.stacks.current) inputs.now }
+        requires few { length inputs.now ≤ FEW_PASSES }
+        ensures stacks { self.new.stacks ≡ record self.old.stacks { current = passed inputs.now self.old.stacks.current self.old.stacks.current } }
+        ensures held { (may_hold : ℕ → Slot → Bool) (cells : ℕ) → Passes may_hold cells Slot.Empty → AreHeld (Passes may_hold) cells self.old → AreHeld (Passes may_hold) cells self.new }
+    {
+        let frame = Frame {
+            base: self.base,
+            size: self.size,
+        };
+        pass_within(&mut self.slots, inputs, frame);
+    }
+
+    // A last call where the new frame has no slot of the old one. What is saved above the callers that are there is given back
     // too.
     #[inline(always)]
-    fn renew_apart(&mut self, size: usize, is_emptied: bool, inputs: &[Pass]) -> Result<(), NoMemory>
+    fn renew_apart(
+        &mut self,
+        size: usize,
+        is_emptied: bool,
+        inputs: &[Pass],
+    ) -> Result<(), NoMemory>
         requires taken { AreTaken (length self.old.stacks.current) inputs.now }
         requires received { AreReceived size inputs.now }
         ensures ok { OnOk result (Renews self.old.stacks self.new.stacks size is_emptied inputs.now) }
