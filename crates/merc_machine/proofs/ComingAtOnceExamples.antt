@@ -1,4 +1,4 @@
--- Worked examples of calls that come back at once.
+-- Worked examples of calls that come back at once, or go on behind a test.
 use Rattle.std.specs.Prelude.{negsuc, pos, true}
 use Rattle.std.proofs.Common.{◌≡◌, inl, inr, ◌+◌, ℕ, zero, suc, ◌<◌, List, [], ◌∷◌, Some, slice_get, refl, sym, ap, ◌∙◌, arith}
 use Rattle.std.specs.List.{All}
@@ -35,7 +35,7 @@ use Rattle.merc_machine.specs.Coming.{Acts, ComesAtOnce, IsStanding, Proceeds, t
 use Rattle.merc_machine.specs.Event.{Tick}
 use Rattle.merc_machine.specs.declared.machine.Next.TheVariants.{Tick as TickNext}
 use Rattle.merc_machine.specs.Outputs.{FollowsCall}
-use Rattle.merc_machine.proofs.ComingBackAtOnce.{comes_back_at_once}
+use Rattle.merc_machine.proofs.ComingAtOnce.{comes_back_at_once, enters_at_once}
 
 -- The code at place 4 is entered with a sum that is one less than the caller's first variable, and with its second variable.
 abbrev base : Entry
@@ -101,7 +101,7 @@ module _ (machine : Machine) where
   sum-comes_back same =
       let test : Op = IfCompareNumber Less 0 (pos 2) 9 in
       let last : Op = ReturnCopy 2 0 in
-      let case : BaseCase = record { test = Number Less (pos 2); given = TheSum } in
+      let case : BaseCase = record { test = Number Less (pos 2); given = TheSum; skipped = 9 } in
       comes_back_at_once before 0 base second less (pos 1) 6 received (omega arith) (sound Empty tt) (there test FailOp last same 0 (CallSum base second less) refl) one_less refl
       case (begins base second less case 9 (compares_number Less (pos 2) 9 (there test FailOp last same 4 test refl)) (the_sum 2 (there test FailOp last same 9 last refl))) refl (IntWord (pos 1)) refl (3 ∷ [])
       (outputs_of test FailOp last machine.program.now.ops.items same) (store_of (IntSlot (pos 1))) refl
@@ -111,14 +111,40 @@ module _ (machine : Machine) where
   variable-comes_back same =
       let test : Op = IfCompareVariables AtMost 0 1 9 in
       let last : Op = ReturnCopy 2 1 in
-      let case : BaseCase = record { test = Variable AtMost 1; given = TheVariable 1 } in
+      let case : BaseCase = record { test = Variable AtMost 1; given = TheVariable 1; skipped = 9 } in
       comes_back_at_once before 0 base second less (pos 1) 6 received (omega arith) (sound Empty tt) (there test last FailOp same 0 (CallSum base second less) refl) one_less refl
       case (begins base second less case 8 (compares_variable AtMost 1 1 9 (there test last FailOp same 4 test refl) other_slot passed_second) (passed 2 1 1 (there test last FailOp same 8 last refl) other_slot passed_second))
       (pos 6, refl, refl) (IntWord (pos 6)) refl (3 ∷ []) (outputs_of test last FailOp machine.program.now.ops.items same) (store_of (IntSlot (pos 6))) refl
 
+  -- what was left in the new frame, and the machine that entered it
+  abbrev left_there : List Slot
+  left_there = Empty ∷ IntSlot (pos 9) ∷ IntSlot (pos 8) ∷ []
+
+  abbrev entered_store : StoreData
+  entered_store = record {
+    cells = [];
+    stacks = record { current = IntSlot (pos 1) ∷ IntSlot (pos 6) ∷ IntSlot (pos 8) ∷ []; callers = record { place = 3; slots = (store_of Empty).stacks.current } ∷ []; choices = [] };
+  }
+
+  abbrev entered : Machine
+  entered = record machine { store = entered_store; phase = Running 9; left = 6 }
+
+  -- As 1 is not less than 1, the code goes on three instructions further than behind the mark and the choice point.
+  sum-enters : Holds (IfCompareNumber Less 0 (pos 1) 3) FailOp (ReturnCopy 2 0) → ComesAtOnce (record before { phase = Running 0 }) entered
+  sum-enters same =
+      let test : Op = IfCompareNumber Less 0 (pos 1) 3 in
+      let last : Op = ReturnCopy 2 0 in
+      let case : BaseCase = record { test = Number Less (pos 1); given = TheSum; skipped = 3 } in
+      enters_at_once before 0 base second less (pos 1) 6 left_there refl received (omega arith) (λ emptied. absurd cc) (there test FailOp last same 0 (CallSum base second less) refl) one_less refl
+      case (begins base second less case 9 (compares_number Less (pos 1) 3 (there test FailOp last same 4 test refl)) (the_sum 2 (there test FailOp last same 9 last refl))) refl 9 refl entered_store refl
+
   -- The call comes to the place behind it, as a step that counts.
   sum-acts : Holds (IfCompareNumber Less 0 (pos 2) 9) FailOp (ReturnCopy 2 0) → Acts before 0 (TickNext 3) (behind (IntSlot (pos 1)))
   sum-acts same = inr (3, refl, sum-comes_back same)
+
+  -- The other comes to the place where the code goes on.
+  enters-acts : Holds (IfCompareNumber Less 0 (pos 1) 3) FailOp (ReturnCopy 2 0) → Acts before 0 (TickNext 9) entered
+  enters-acts same = inr (9, refl, sum-enters same)
 
 -- Code that answers comes by moves to no other state ..
 

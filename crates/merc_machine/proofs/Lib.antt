@@ -8,9 +8,9 @@ pub mod CallingWithSum
 pub mod ChoicePoints
 pub mod Choosing
 pub mod Combining
+pub mod ComingAtOnce
+pub mod ComingAtOnceExamples
 pub mod ComingBack
-pub mod ComingBackAtOnce
-pub mod ComingBackAtOnceExamples
 pub mod Continuing
 pub mod Counting
 pub mod Deciding
