@@ -4,7 +4,7 @@ use Rattle.std.proofs.Common.{◌≡◌, inl, inr, ℕ, zero, suc, ◌<◌, List
 use Rattle.std.specs.List.{All}
 use Rattle.std.proofs.lemmas.List.Elements.{All-from_recursion}
 use Rattle.merc_graded_tree.specs.declared.basic.Procedure.{Procedure}
-use Rattle.merc_goal_tree.specs.declared.goal.Comparison.TheVariants.{AtMost, Less}
+use Rattle.merc_goal_tree.specs.declared.goal.Comparison.TheVariants.{AtLeast, AtMost, Less}
 use Rattle.merc_goal_tree.specs.declared.goal.Operation.TheVariants.{Add}
 use Rattle.merc_value.specs.declared.word.Word.TheVariants.{Int as IntWord}
 use Rattle.merc_meaning.specs.Trace.{Env}
@@ -19,12 +19,12 @@ use Rattle.merc_frames.specs.Rooms.{AreReceived}
 use Rattle.merc_frames.specs.Stacks.{Caller}
 use Rattle.merc_layout.specs.declared.entries.Entry.{Entry}
 use Rattle.merc_load.specs.declared.loaded.Op.{Op}
-use Rattle.merc_load.specs.declared.loaded.Op.TheVariants.{Call as CallOp, CallSum, Fail as FailOp, IfCompareNumber, IfCompareVariables, ReturnCopy}
+use Rattle.merc_load.specs.declared.loaded.Op.TheVariants.{Call as CallOp, CallSum, Fail as FailOp, IfCompareNumber, IfCompareVariables, IfInteger, ReturnCopy}
 use Rattle.merc_load.specs.declared.loaded.Sum.{Sum}
 use Rattle.merc_load.specs.Loaded.{IsLoaded}
-use Rattle.merc_base_cases.specs.BaseCases.{IsPassed, begins, compares_number, compares_variable, passed, the_sum}
+use Rattle.merc_base_cases.specs.BaseCases.{IsPassed, begins, compares_number, compares_variable, is as tests_integer, passed, the_sum}
 use Rattle.merc_base_cases.specs.declared.cases.BaseCase.{BaseCase}
-use Rattle.merc_base_cases.specs.declared.cases.BaseTest.TheVariants.{Number, Variable}
+use Rattle.merc_base_cases.specs.declared.cases.BaseTest.TheVariants.{Is, Number, Variable}
 use Rattle.merc_base_cases.specs.declared.cases.Given.TheVariants.{Sum as TheSum, Variable as TheVariable}
 use Rattle.merc_store.specs.Data.{StoreData, IsSlotBelow, IsSound}
 use Rattle.merc_store.specs.Performing.{TellsSum}
@@ -137,6 +137,25 @@ module _ (machine : Machine) where
       let case : BaseCase = record { test = Number Less (pos 1); given = TheSum; skipped = 3 } in
       enters_at_once before 0 base second less (pos 1) 6 left_there refl received (omega arith) (λ emptied. absurd cc) (there test FailOp last same 0 (CallSum base second less) refl) one_less refl
       case (begins base second less case 9 (compares_number Less (pos 1) 3 (there test FailOp last same 4 test refl)) (the_sum 2 (there test FailOp last same 9 last refl))) refl 9 refl entered_store refl
+
+  -- As 1 is not 0, the code goes on there too behind such a test, which stands for one instruction less.
+  integer-enters : Holds (IfInteger 0 (pos 0) 3) (ReturnCopy 2 0) FailOp → ComesAtOnce (record before { phase = Running 0 }) entered
+  integer-enters same =
+      let test : Op = IfInteger 0 (pos 0) 3 in
+      let last : Op = ReturnCopy 2 0 in
+      let case : BaseCase = record { test = Is (pos 0); given = TheSum; skipped = 3 } in
+      enters_at_once before 0 base second less (pos 1) 6 left_there refl received (omega arith) (λ emptied. absurd cc) (there test last FailOp same 0 (CallSum base second less) refl) one_less refl
+      case (begins base second less case 8 (tests_integer (pos 0) 3 (there test last FailOp same 4 test refl)) (the_sum 2 (there test last FailOp same 8 last refl))) refl 9 refl entered_store refl
+
+  -- 1 is not at least 6, the second variable's value.
+  variable-enters : Holds (IfCompareVariables AtLeast 0 1 3) (ReturnCopy 2 1) FailOp → ComesAtOnce (record before { phase = Running 0 }) entered
+  variable-enters same =
+      let test : Op = IfCompareVariables AtLeast 0 1 3 in
+      let last : Op = ReturnCopy 2 1 in
+      let case : BaseCase = record { test = Variable AtLeast 1; given = TheVariable 1; skipped = 3 } in
+      enters_at_once before 0 base second less (pos 1) 6 left_there refl received (omega arith) (λ emptied. absurd cc) (there test last FailOp same 0 (CallSum base second less) refl) one_less refl
+      case (begins base second less case 8 (compares_variable AtLeast 1 1 3 (there test last FailOp same 4 test refl) other_slot passed_second) (passed 2 1 1 (there test last FailOp same 8 last refl) other_slot passed_second))
+      (pos 6, refl, refl) 9 refl entered_store refl
 
   -- The call comes to the place behind it, as a step that counts.
   sum-acts : Holds (IfCompareNumber Less 0 (pos 2) 9) FailOp (ReturnCopy 2 0) → Acts before 0 (TickNext 3) (behind (IntSlot (pos 1)))

@@ -2,10 +2,11 @@
 use Rattle.std.proofs.Common.{ap, arith, subst}
 use Rattle.std.specs.Prelude.{◌≡◌, ◌<◌, ◌+◌, ℤ, suc, true, false, List, [], ◌∷◌, length, drop, Option, Some, None, pos, refl}
 use Rattle.merc_goal_tree.specs.declared.goal.Comparison.TheVariants.{AtMost, Less}
-use Rattle.merc_value.specs.declared.word.Word.TheVariants.{Int as IntWord, Text as TextWord}
+use Rattle.merc_value.specs.Block.{CellData}
+use Rattle.merc_value.specs.declared.word.Word.TheVariants.{Cell as CellWord, Int as IntWord, Text as TextWord}
 use Rattle.merc_meaning.specs.Arithmetic.{comparison}
 use Rattle.merc_frames.specs.declared.slot.Slot.{Slot}
-use Rattle.merc_frames.specs.declared.slot.Slot.TheVariants.{Empty, Int, Text}
+use Rattle.merc_frames.specs.declared.slot.Slot.TheVariants.{Cell, Empty, Int, Text}
 use Rattle.merc_layout.specs.declared.entries.Entry.{Entry}
 use Rattle.merc_load.specs.declared.loaded.Op.{Op}
 use Rattle.merc_load.specs.declared.loaded.Op.TheVariants.{CallSum, Fail, IfCompareNumber, ReturnCopy}
@@ -13,7 +14,7 @@ use Rattle.merc_base_cases.specs.declared.cases.BaseCase.{BaseCase}
 use Rattle.merc_base_cases.specs.declared.cases.BaseTest.TheVariants.{Is, Number, Variable}
 use Rattle.merc_base_cases.specs.declared.cases.Given.TheVariants.{Sum as TheSum, Variable as TheVariable}
 use Rattle.merc_store.specs.Data.{StoreData}
-use Rattle.merc_machine.specs.BaseCases.{Begins, FitsBase, FitsTest, IsGiven, Tells, given_first}
+use Rattle.merc_machine.specs.BaseCases.{Begins, FitsBase, FitsGiven, FitsTest, IsGiven, Tells, given_first}
 use Rattle.merc_machine.specs.declared.coming_back.Begun.TheVariants.{Gives, Enters, Unknown}
 
 -- 7, a text and no value
@@ -48,6 +49,30 @@ tells-variable-not tells =
     let answer : comparison AtMost (pos 7) (pos 7) ≡ false = subst (λ (number : ℤ). comparison AtMost (pos 7) number ≡ false) seven tells.2 in
     absurd cc
 
+-- 1 =< 7, though not 7 =< 1
+
+tells-variable-less : Tells (pos 1) slots (Variable AtMost 0) true
+tells-variable-less = (pos 7, refl, refl)
+
+tells-variable-less-not : Tells (pos 1) slots (Variable AtMost 0) false → ⊥
+tells-variable-less-not tells =
+    let found = tells.1 in
+    let seven : tells.0 ≡ pos 7 = cc in
+    let answer : comparison AtMost (pos 1) (pos 7) ≡ false = subst (λ (number : ℤ). comparison AtMost (pos 1) number ≡ false) seven tells.2 in
+    absurd cc
+
+-- not 8 =< 7, though 7 =< 8
+
+tells-variable-greater : Tells (pos 8) slots (Variable AtMost 0) false
+tells-variable-greater = (pos 7, refl, refl)
+
+tells-variable-greater-not : Tells (pos 8) slots (Variable AtMost 0) true → ⊥
+tells-variable-greater-not tells =
+    let found = tells.1 in
+    let seven : tells.0 ≡ pos 7 = cc in
+    let answer : comparison AtMost (pos 8) (pos 7) ≡ true = subst (λ (number : ℤ). comparison AtMost (pos 8) number ≡ true) seven tells.2 in
+    absurd cc
+
 -- A text is compared with nothing: the test has no answer.
 
 tells-text-not : Tells (pos 7) slots (Variable AtMost 1) true → ⊥
@@ -71,6 +96,17 @@ fits-base = (omega arith, omega arith)
 
 fits-test-not : FitsTest 3 (Variable Less 3) → ⊥
 fits-test-not fits = absurd (omega (arith, fits))
+
+fits-given-not : FitsGiven 3 (TheVariable 3) → ⊥
+fits-given-not fits = absurd (omega (arith, fits))
+
+-- Both variables are slots, that of the test and what is given.
+
+fits-base-test-not : FitsBase 3 (record { test = Variable Less 3; given = TheVariable 2; skipped = 3 }) → ⊥
+fits-base-test-not fits = fits-test-not fits.0
+
+fits-base-given-not : FitsBase 3 (record { test = Variable Less 0; given = TheVariable 3; skipped = 3 }) → ⊥
+fits-base-given-not fits = fits-given-not fits.1
 
 -- A call stands at place 0, and its code at place 1. Where the sum is less than two it is returned, at place 6; where it is not, the code goes on at place 7.
 
@@ -120,6 +156,21 @@ begins-holds-not begins =
     let same : begins.0 ≡ base = cc in
     let tells : Tells (pos 1) slots base.test false = subst (λ (one : BaseCase). Tells (pos 1) slots one.test false) same begins.2 in
     absurd cc
+
+-- What is given may lead to a cell that is there ..
+
+abbrev leading : List CellData → StoreData
+leading cells = record { cells = cells; stacks = record { current = Cell 0 ∷ []; callers = []; choices = [] } }
+
+abbrev cell_base : BaseCase
+cell_base = record { test = Number Less (pos 2); given = TheVariable 0; skipped = 4 }
+
+begins-cell : Begins (pos 1) (leading (record { symbol = 7; arguments = [] } ∷ [])) ops (Some cell_base ∷ []) 0 1 (Gives (CellWord 0))
+begins-cell = (cell_base, refl, refl, refl, omega arith)
+
+-- .. and to no other.
+begins-cell-not : Begins (pos 1) (leading []) ops (Some cell_base ∷ []) 0 1 (Gives (CellWord 0)) → ⊥
+begins-cell-not begins = let below : 0 < 0 = begins.4 in absurd (omega (arith, below))
 
 -- Nothing need be told.
 begins-unknown : Begins (pos 2) store ops cases 0 1 Unknown

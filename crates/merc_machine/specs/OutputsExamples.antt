@@ -97,6 +97,19 @@ with_sum = CallSum called [] less ∷ FailOp ∷ CallOp called [] (1 ∷ []) ∷
 fits_sum-example : FitsSum with_sum 2 0 (CallSum called [] less)
 fits_sum-example entry passes sum is = (record { before = 2; next = refl; entry = called; inputs = []; outs = 1 ∷ []; call = refl }, All-from_recursion (λ (slot : ℕ). slot < 2) (1 ∷ []) (omega arith, tt))
 
+-- A frame of one slot does not have the slot of the output.
+fits_sum-no_room : FitsSum with_sum 1 0 (CallSum called [] less) → ⊥
+fits_sum-no_room fits =
+    let fitting = fits called [] less refl in
+    let behind = fitting.0 in
+    let next = behind.next in
+    let two_before : 2 ≡ behind.before = omega (arith, next) in
+    let same : Some (CallOp called [] (1 ∷ [])) ≡ Some (CallOp behind.entry behind.inputs behind.outs) = ap (slice_get with_sum) two_before ∙ behind.call in
+    let outs : behind.outs ≡ 1 ∷ [] = cc in
+    let room : AreSlots 1 (1 ∷ []) = subst (AreSlots 1) outs fitting.1 in
+    let h : 1 < 1 = room 0 1 (omega arith) in
+    absurd (omega (arith, h))
+
 -- What is no such call fits anywhere.
 fits_sum-other : FitsSum ops 0 0 FailOp
 fits_sum-other entry passes sum is = absurd cc
