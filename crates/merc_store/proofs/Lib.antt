@@ -7,6 +7,9 @@ pub mod SoundLemmas
 pub mod DoingLemmas
 pub mod EffectLemmas
 pub mod KindLemmas
+pub mod AppendingLemmas
+pub mod AppendingExamples
+pub mod AppendingLaws
 pub mod ArmLemmas
 pub mod ReadingLemmas
 pub mod FillLemmas

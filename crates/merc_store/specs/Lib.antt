@@ -1,3 +1,4 @@
+pub mod Appending
 pub mod Arms
 pub mod ArmsExamples
 pub mod Data

@@ -1,6 +1,7 @@
 //! The memory of a run: a heap, and frames whose slots stand for values over it.
 #![tactic(auto)]
 
+pub mod appending;
 pub mod arms;
 mod building;
 mod carrying;
