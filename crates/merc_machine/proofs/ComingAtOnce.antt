@@ -60,7 +60,7 @@ none_delivered : (outs : List ℕ) (slots : List Slot) → delivered outs [] slo
 none_delivered [] slots = refl
 none_delivered (out ∷ outs) slots = refl
 
-first_delivered : (outs : List ℕ) (slot : Slot) (slots : List Slot) → delivered outs (slot ∷ []) slots ≡ given_first outs slot slots
+pub first_delivered : (outs : List ℕ) (slot : Slot) (slots : List Slot) → delivered outs (slot ∷ []) slots ≡ given_first outs slot slots
 first_delivered [] slot slots = refl
 first_delivered (out ∷ outs) slot slots = none_delivered outs (slice_set slots out slot)
 

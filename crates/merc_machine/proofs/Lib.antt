@@ -1,4 +1,6 @@
 pub mod Advancing
+pub mod Appending
+pub mod AppendingCalls
 pub mod Asking
 pub mod Attempts
 pub mod BaseSlots
@@ -11,6 +13,8 @@ pub mod Combining
 pub mod ComingAtOnce
 pub mod ComingAtOnceExamples
 pub mod ComingBack
+pub mod ComingBy
+pub mod ComingByExamples
 pub mod Continuing
 pub mod Counting
 pub mod Deciding
@@ -30,6 +34,7 @@ pub mod Leaving
 pub mod LeftOver
 pub mod Linking
 pub mod LookedAt
+pub mod MakingCalls
 pub mod Marking
 pub mod Passing
 pub mod Pausing
@@ -45,6 +50,7 @@ pub mod Separate
 pub mod Shown
 pub mod Silent
 pub mod Slots
+pub mod SoundSteps
 pub mod Standings
 pub mod Starting
 pub mod Superinstructions
