@@ -1,5 +1,6 @@
 pub mod Advancing
 pub mod Appending
+pub mod AppendingAtOnce
 pub mod AppendingCalls
 pub mod Asking
 pub mod Attempts
