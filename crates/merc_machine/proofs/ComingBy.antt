@@ -1,7 +1,7 @@
 -- Machines that come by several steps to others.
 use Rattle.std.proofs.Common.{◌≡◌, ℕ, zero, suc, ◌+◌, refl, ap, ◌∙◌, subst, arith}
 use Rattle.merc_graded_tree.specs.declared.basic.Procedure.{Procedure}
-use Rattle.merc_meaning.specs.Trace.{Run}
+use Rattle.merc_meaning.specs.Trace.{Run, Tick}
 use Rattle.merc_code.specs.Steps.{Code, Codes, State, Stuck}
 use Rattle.merc_last_calls.specs.LastCalls.{step_lean}
 use Rattle.merc_last_calls.specs.LeanMeaning.{GoesLean}
@@ -12,7 +12,7 @@ use Rattle.merc_machine.specs.Coming.{ComesBy, IsStanding, Kept, counts, kept_by
 use Rattle.merc_machine.specs.Event.{Move, Tick as TickEvent}
 use Rattle.merc_machine.specs.Running.{StandsBefore, behind_steps}
 use Rattle.merc_machine.proofs.Advancing.{keeps_of, step-moves, step-ticks}
-use Rattle.merc_machine.proofs.Runs.{behind-more}
+use Rattle.merc_machine.proofs.Keeping.{kept_with}
 
 -- Two ways, one behind the other, are one.
 pub comes_behind : (before between after : Machine) (count more : ℕ) → ComesBy before count between → ComesBy between more after → ComesBy before (count + more) after
@@ -45,9 +45,15 @@ module _ (before : Machine) (none : StandsForNone before) where
   pub comes_anywhere : (count : ℕ) (after : Machine) → ComesBy before count after
   comes_anywhere count after = moves_on count before after (counts_in_place count) (λ codes entry_of query loaded state stands unstuck. absurd (none codes entry_of query loaded state stands unstuck))
 
--- what a machine keeps, with so many steps left before the pause
-abbrev kept_with : Machine → ℕ → Kept
-kept_with machine left = (machine.program.now, left, machine.later, machine.cases.items)
+-- a run behind so many steps and one, and behind so many and others
+
+behind-more : (made : ℕ) (rest : Run) → behind_steps made (Tick rest) ≡ behind_steps (suc made) rest
+behind-more zero rest = refl
+behind-more (suc made) rest = ap Tick (behind-more made rest)
+
+pub behind-both : (made more : ℕ) (rest : Run) → behind_steps made (behind_steps more rest) ≡ behind_steps (made + more) rest
+behind-both zero more rest = ap (λ n. behind_steps n rest) (let same : more ≡ 0 + more = omega arith in same)
+behind-both (suc made) more rest = ap Tick (behind-both made more rest) ∙ ap (λ n. behind_steps n rest) (let same : suc (made + more) ≡ suc made + more = omega arith in same)
 
 -- What a machine keeps that comes to this one by so many steps that count: they are those that are left before the pause.
 abbrev pub kept_behind : ℕ → Machine → Kept

@@ -1,3 +1,4 @@
+pub mod Acting
 pub mod Advancing
 pub mod Appending
 pub mod AppendingAtOnce
