@@ -49,7 +49,7 @@ module _ (cells : List CellData) where
   rebuilt_below _ _ _ _ _ (item list first tail rest word result number between after is rebuilds adds) below = adds.stands.below
 
   module _ (lower : AreLower cells) where
-    item_value : (list first tail : Word) → IsBelow (length cells) list → IsItem cells list first tail → value_of cells list ≡ Con cons_name (more (value_of cells first) (more (value_of cells tail) none))
+    pub item_value : (list first tail : Word) → IsBelow (length cells) list → IsItem cells list first tail → value_of cells list ≡ Con cons_name (more (value_of cells first) (more (value_of cells tail) none))
     item_value list first tail below is =
         list_value (value_of cells list) _ (fields_whole cells lower (Constructor cons_name 2) list below is.0) ∙ ap (λ words. Con cons_name (word_values (cell_values cells) words)) is.1
 

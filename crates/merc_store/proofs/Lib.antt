@@ -20,6 +20,9 @@ pub mod ReturningLemmas
 pub mod ResultsExamples
 pub mod TryingLemmas
 pub mod DifferingLemmas
+pub mod DividingLemmas
+pub mod DividingExamples
+pub mod DividingLaws
 pub mod SeveralLemmas
 pub mod RestoringLemmas
 pub mod StayingLemmas

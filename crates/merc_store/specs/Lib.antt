@@ -11,6 +11,7 @@ pub mod MovesExamples
 pub mod DataExamples
 pub mod Differing
 pub mod DifferingExamples
+pub mod Dividing
 pub mod Performing
 pub mod PerformingExamples
 pub mod Results

@@ -6,6 +6,7 @@ pub mod arms;
 mod building;
 mod carrying;
 pub mod constants;
+pub mod dividing;
 pub mod moving;
 pub mod performing;
 pub mod returning;
@@ -15,4 +16,5 @@ pub mod store;
 mod testing;
 pub mod trying;
 
+pub use dividing::Divided;
 pub use store::{Backed, Done, Store};
