@@ -61,7 +61,7 @@ kept_behind count machine = kept_with machine (count + machine.left)
 
 -- So many steps more are left before the pause.
 abbrev more_left : ℕ → Kept → Kept
-more_left count kept = (kept.0, count + kept.1, kept.2, kept.3)
+more_left count kept = (kept.0, count + kept.1, kept.2, kept.3, kept.4, kept.5)
 
 -- A machine that comes so to another one has the run before it that the other one has behind those steps.
 pub record CameBy (before after : Machine) (count : ℕ) (run : Run) : Type 0 where

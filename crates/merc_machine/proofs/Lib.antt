@@ -1,8 +1,6 @@
 pub mod Acting
 pub mod Advancing
 pub mod Appending
-pub mod AppendingAtOnce
-pub mod AppendingCalls
 pub mod Asking
 pub mod Attempts
 pub mod BaseSlots
@@ -21,6 +19,10 @@ pub mod Continuing
 pub mod Counting
 pub mod Deciding
 pub mod Delivering
+pub mod Dividing
+pub mod DividingAtOnce
+pub mod DividingExamples
+pub mod DividingSteps
 pub mod Entering
 pub mod Fitting
 pub mod Going
@@ -59,4 +61,6 @@ pub mod Superinstructions
 pub mod Switching
 pub mod SwitchingFields
 pub mod TakingApart
+pub mod WalkingAtOnce
+pub mod WalkingExamples
 pub mod Weighing
