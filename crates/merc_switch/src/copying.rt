@@ -28,12 +28,19 @@ pub(crate) fn put_copy(alloc: Global, goal: &NodeRef<'_>, found: &mut Nodes) -> 
 pub(crate) fn label_with(alloc: Global, goal: &NodeRef<'_>, root: Root) -> Result<Label, NoMemory>
     ensures { IfOk result (λ label. label ≡ record { root = root; outputs = outputs_of goal.now; category = category_of goal.now; span = span_of goal.now }) }
 {
-    Ok(Label {
-        root,
-        outputs: copy_variables(alloc, goal.outputs())?,
-        category: goal.category(),
-        span: goal.span(),
-    })
+    match copy_variables(alloc, goal.outputs()) {
+        Ok(outputs) => Ok(Label {
+            root,
+            outputs,
+            category: goal.category(),
+            span: goal.span(),
+        }),
+        Err(refused) => {
+            // (a call, since it costs much to prove what is dropped here)
+            drop(root);
+            Err(refused)
+        }
+    }
 }
 
 /// The same variables once more.
@@ -46,9 +53,11 @@ pub(crate) fn copy_variables(alloc: Global, variables: &Vars) -> Result<Vars, No
 fn copy_label(alloc: Global, label: &Label) -> Result<Label, NoMemory>
     ensures { IfOk result (λ copy. copy ≡ label.now) }
 {
+    // (the root last, since it costs much to prove what is dropped of it)
+    let outputs = copy_variables(alloc, &label.outputs)?;
     Ok(Label {
         root: copy_root(alloc, &label.root)?,
-        outputs: copy_variables(alloc, &label.outputs)?,
+        outputs,
         category: label.category,
         span: label.span,
     })

@@ -60,7 +60,10 @@ pub(crate) fn outputs_counted(
     // to sort a few takes longer than to look at some times as many
     if counts.len() < outputs.len() / 8 {
         let variables = counts.variables(alloc)?;
-        return whole.outputs_among(alloc, &variables);
+        let kept = whole.outputs_among(alloc, &variables);
+        // (a call, since it costs much to prove what is dropped here)
+        drop(variables);
+        return kept;
     }
     those_counted(alloc, outputs, counts)
 }
@@ -75,7 +78,10 @@ fn add_disjunct(
     ensures { OnOk result ((variable : ℕ) → count_of counts.new variable ≡ count_of counts.old variable + one_if (has_output (outputs_of whole.now) variable disjunct.now)) }
 {
     let outputs = outputs_at(alloc, whole, disjunct)?;
-    counts.add_each(outputs.numbers())
+    let added = counts.add_each(outputs.numbers());
+    // (a call, since it costs much to prove what is dropped here)
+    drop(outputs);
+    added
 }
 
 // Counts the outputs that occur in a disjunct once less.
@@ -88,7 +94,10 @@ fn remove_disjunct(
     ensures { OnOk result ((variable : ℕ) → count_of counts.new variable ≡ count_of counts.old variable - one_if (has_output (outputs_of whole.now) variable disjunct.now)) }
 {
     let outputs = outputs_at(alloc, whole, disjunct)?;
-    counts.remove_each(outputs.numbers())
+    let removed = counts.remove_each(outputs.numbers());
+    // (a call, since it costs much to prove what is dropped here)
+    drop(outputs);
+    removed
 }
 
 // The outputs of the whole that occur in a disjunct, in the order in which they occur.
@@ -96,8 +105,14 @@ fn outputs_at(alloc: Global, whole: &Whole<'_>, disjunct: &Disjunct<'_>) -> Resu
     ensures { IfOk result (λ outputs. (variable : ℕ) → among outputs variable ≡ has_output (outputs_of whole.now) variable disjunct.now) }
 {
     let mut outputs = VarSet::new(alloc);
-    add_outputs(&disjunct.goal(), whole, &mut outputs)?;
-    Ok(outputs)
+    match add_outputs(&disjunct.goal(), whole, &mut outputs) {
+        Ok(()) => Ok(outputs),
+        Err(refused) => {
+            // (a call, since it costs much to prove what is dropped here)
+            drop(outputs);
+            Err(refused)
+        }
+    }
 }
 
 // Those of the outputs whose count is above 0.

@@ -1,5 +1,5 @@
 //! The outputs that occur in goals.
-ghost use Rattle.std.specs.Prelude.{◌≡◌, ℕ, ◌||◌, ◌∷◌, [], filter, IfOk, OnOk};
+ghost use Rattle.std.specs.Prelude.{◌≡◌, ℕ, ◌||◌, ◌∷◌, [], filter, IfOk, IfSome, OnOk};
 ghost use Rattle.std.specs.List.{list_all};
 ghost use Rattle.merc_graded_tree.specs.Nodes.{nodes_of, outputs_of};
 ghost use Rattle.merc_graded_tree.specs.Variables.{in_nodes, variables_of};
@@ -35,14 +35,33 @@ pub(crate) fn outputs_in(
         return outputs_counted(alloc, whole, counts);
     }
     let mut found = VarSet::new(alloc);
-    add_smallest(disjuncts, whole, &mut found)?;
-    if has_all(&found, whole.outputs()) {
-        return whole.outputs_among(alloc, &found);
+    let all = all_in_smallest(alloc, whole, disjuncts, &mut found);
+    // (calls, here and below, since it costs much to prove what is dropped)
+    drop(found);
+    if let Some(outputs) = all? {
+        return Ok(outputs);
     }
     let made = counts_of(alloc, whole, disjuncts)?;
-    let outputs = outputs_counted(alloc, whole, &made)?;
-    *counts = Some(made);
-    Ok(outputs)
+    let outputs = outputs_counted(alloc, whole, &made);
+    drop(counts.replace(made));
+    outputs
+}
+
+// The outputs of the whole if all of them occur in the disjunct of the fewest parts, where none are found yet.
+fn all_in_smallest(
+    alloc: Global,
+    whole: &Whole<'_>,
+    disjuncts: &[Disjunct<'_>],
+    found: &mut VarSet,
+) -> Result<Option<Vars>, NoMemory>
+    requires { found.old ≡ [] }
+    ensures { IfOk result (λ all. IfSome all (λ kept. kept ≡ filter (λ output. in_nodes (nodes_of disjuncts.now) output) (outputs_of whole.now))) }
+{
+    add_smallest(disjuncts, whole, found)?;
+    if has_all(found, whole.outputs()) {
+        return Ok(Some(whole.outputs_among(alloc, found)?));
+    }
+    Ok(None)
 }
 
 // Adds the outputs of the whole that occur in the disjunct of the fewest parts.

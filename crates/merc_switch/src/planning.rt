@@ -102,17 +102,28 @@ fn plan_disjunction<'a>(
 {
     let disjuncts = disjuncts_of(alloc, goals)?;
     let left = split_count(&disjuncts)?;
+    let outputs = copy_variables(alloc, whole.outputs())?;
+    // (the disjuncts last, since it costs much to prove what is dropped of them)
+    let selected = selection_of(alloc, whole, disjuncts)?;
     tasks.push(Task::Judge(Group {
-        selected: Selection::of(
-            Whole::of(alloc, whole.copy())?,
-            Disjuncts::of(alloc, disjuncts)?,
-            None,
-        ),
+        selected,
         used: VarSet::new(alloc),
         left,
-        outputs: copy_variables(alloc, whole.outputs())?,
+        outputs,
         category: whole.category(),
     }))
+}
+
+// These disjuncts of a disjunction.
+fn selection_of<'a>(
+    alloc: Global,
+    whole: &NodeRef<'a>,
+    disjuncts: Vec<Disjunct<'a>>,
+) -> Result<Selection<'a>, NoMemory>
+    ensures { IfOk result (λ selected. selected ≡ record { whole = whole.now; disjuncts = disjuncts.entry.items }) }
+{
+    let whole = Whole::of(alloc, whole.copy())?;
+    Ok(Selection::of(whole, Disjuncts::of(alloc, disjuncts)?, None))
 }
 
 // The disjuncts that goals are, in their order.

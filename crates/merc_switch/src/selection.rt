@@ -85,6 +85,8 @@ impl<'a> Selection<'a> {
     pub(crate) fn into_vec(self) -> Vec<Disjunct<'a>>
         ensures { result.items ≡ self.entry.disjuncts }
     {
+        // (a call, since it costs much to prove what is dropped here)
+        drop(self.counts);
         self.disjuncts.into_vec()
     }
 

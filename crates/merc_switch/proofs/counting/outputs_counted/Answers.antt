@@ -11,8 +11,8 @@ pub returns-then-len-outputs : goal.returns-then-len-outputs
 returns-then-len-outputs c =
     let counts = c.args.counts.now in
     let outputs = outputs_of c.args.whole.now in
-    IfOk-weaker c.outputs_among.result _ _ (λ kept is disjuncts counted. kept_counted outputs counts disjuncts kept counted (kept_among outputs counts c.in_ok-variables.variables kept c.in_ok-variables.ensures is))
-    c.outputs_among.ensures
+    IfOk-weaker c.outputs_among-kept.result _ _ (λ kept is disjuncts counted. kept_counted outputs counts disjuncts kept counted (kept_among outputs counts c.in_ok-variables.variables kept c.in_ok-variables.ensures is))
+    c.outputs_among-kept.ensures
 
 pub returns : goal.returns
 returns c =

@@ -5,4 +5,4 @@ use Rattle.merc_switch.proofs.counting.remove_disjunct.Goals as goal
 
 pub returns : goal.returns
 returns c =
-    on_ok_weaker c.remove_each.result (λ put variable. put variable ∙ ap (λ n. count_of c.args.counts.now variable - n) (c.numbers.ensures.once variable ∙ ap one_if (c.in_ok-outputs.ensures variable))) c.remove_each.ensures
+    on_ok_weaker c.remove_each-removed.result (λ put variable. put variable ∙ ap (λ n. count_of c.args.counts.now variable - n) (c.numbers.ensures.once variable ∙ ap one_if (c.in_ok-outputs.ensures variable))) c.remove_each-removed.ensures
