@@ -1,6 +1,7 @@
 //! Switches are found in a goal.
 ghost use Rattle.std.specs.Prelude.{◌≡◌, ℕ, [], ◌∷◌, ◌++◌, length, IfOk, OnOk};
 ghost use Rattle.merc_tree.specs.Types.{TypeExpr};
+ghost use Rattle.merc_order.specs.Bound.{among};
 ghost use Rattle.merc_order.specs.Procedures.{bound_at};
 ghost use Rattle.merc_grading.specs.Fitting.{Fits};
 ghost use Rattle.merc_grading.specs.Switches.{find};
@@ -35,9 +36,28 @@ pub fn find_switches(
 {
     let mut bound = bound_inputs(alloc, inputs)?;
     let mut tasks = Tasks::new(alloc);
+    let done = find_from(alloc, known, goal, &mut tasks, &mut bound, found);
+    // (calls, since it costs much to prove what is dropped here)
+    drop(tasks);
+    drop(bound);
+    done
+}
+
+// The same from what is bound before the goal, where nothing is to be done yet.
+fn find_from<'a>(
+    alloc: Global,
+    known: &Known<'_>,
+    goal: &NodeRef<'a>,
+    tasks: &mut Tasks<'a>,
+    bound: &mut VarSet,
+    found: &mut Nodes,
+) -> Result<(), NoMemory>
+    requires { tasks.old ≡ [] }
+    ensures { IfOk result (λ done. (types : ℕ → TypeExpr) → Fits known.now.types types goal.now → found.new ≡ found.old ++ find known.now.types types (among bound.old) goal.now ∷ []) }
+{
     tasks.push(Task::Find(goal.copy()))?;
     while let Some(task) = tasks.pop() {
-        perform(alloc, known, task, &mut tasks, &mut bound, found)?;
+        perform(alloc, known, task, tasks, bound, found)?;
     }
     Ok(())
 }

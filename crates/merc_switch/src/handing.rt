@@ -58,7 +58,8 @@ pub(crate) fn take_counts(handed: &mut Option<Handed>, index: usize) -> Option<V
     if kept.index == index {
         return Some(kept.counts);
     }
-    *handed = Some(kept);
+    // (a call, since it costs much to prove what is dropped here)
+    drop(handed.replace(kept));
     None
 }
 

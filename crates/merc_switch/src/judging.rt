@@ -125,6 +125,8 @@ fn step_in<'a>(
 fn plan_disjunction<'a>(group: Group<'a>, tasks: &mut Tasks<'a>) -> Result<(), NoMemory>
     ensures { OnOk result (tasks.new ≡ disjunction_plan group.entry ++ tasks.old) }
 {
+    // (calls, here and below, since it costs much to prove what is dropped)
+    drop(group.used);
     let span = group.selected.span();
     let disjuncts = group.selected.into_vec();
     tasks.push(Task::Close(Label {
@@ -141,7 +143,9 @@ fn push_finds<'a>(disjuncts: Vec<Disjunct<'a>>, tasks: &mut Tasks<'a>) -> Result
 {
     let mut disjuncts = disjuncts;
     while let Some(last) = disjuncts.pop() {
-        tasks.push(Task::Find(last.goal()))?;
+        let goal = last.goal();
+        drop(last);
+        tasks.push(Task::Find(goal))?;
     }
     Ok(())
 }

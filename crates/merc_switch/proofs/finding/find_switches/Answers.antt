@@ -1,17 +1,10 @@
-use Rattle.merc_switch.proofs.FoundTasks.{leads_first, leads_on, enough_now, less_left, leads_last}
+use Rattle.std.proofs.Common.{◌∙◌, ◌∷◌, ◌++◌, [], ap}
+use Rattle.std.proofs.lemmas.Result.{IfOk-weaker}
+use Rattle.merc_order.specs.Bound.{Bound}
+use Rattle.merc_grading.specs.Switches.{find}
 use Rattle.merc_switch.proofs.finding.find_switches.Goals as goal
 
-pub loop-task-init : goal.loop-task-init
-loop-task-init c = leads_first _ _ _ _ _ _ _ _ c.in_ok-bound.ensures c.copy.ensures c.new-tasks.ensures c.in_ok-push.ensures
-
-pub perform-requires : goal.perform-requires
-perform-requires c = enough_now _ _ _ _ c.in-Some.ensures c.loop-task.invariant.enough
-
-pub loop-task-smaller : goal.loop-task-smaller
-loop-task-smaller c = less_left _ _ _ _ _ _ _ _ _ c.in-Some.ensures c.in_ok-perform.ensures
-
-pub loop-task-preserved : goal.loop-task-preserved
-loop-task-preserved c = leads_on _ _ _ _ _ _ _ _ _ _ _ _ c.in-Some.ensures c.in_ok-perform.ensures c.loop-task.invariant
-
 pub returns : goal.returns
-returns c = leads_last _ _ _ _ _ _ _ c.in_default.ensures c.loop-task.invariant
+returns c =
+    IfOk-weaker c.find_from-done.result _ _
+    (λ done is types fits. is types fits ∙ ap (λ (b : Bound). c.args.found.now ++ find c.args.known.now.types types b c.args.goal.now ∷ []) c.in_ok-bound.ensures) c.find_from-done.ensures
