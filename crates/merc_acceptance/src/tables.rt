@@ -114,16 +114,21 @@ fn tell_outcome<R: Print>(
         }
         Outcome::Failed(difference) => {
             tally.count(false);
-            let line = entry.line;
-            let heading = &section.heading;
-            println!(rt; "{path}:{line}: {heading}\n{difference}")
+            print_place(rt, path, entry.line)?;
+            rt.println(section.heading.as_str())?;
+            rt.println(difference.as_str())
         }
     }
 }
 
 fn tell_fault<R: Print>(rt: &R, path: &str, fault: LineFault, tally: &mut Tally) -> io::Result<()> {
     tally.count(false);
-    let line = fault.line;
-    let text = fault.fault.text();
-    println!(rt; "{path}:{line}: {text}")
+    print_place(rt, path, fault.line)?;
+    rt.println(fault.fault.text())
+}
+
+// Begins a line of output with the line of a table that it is about.
+fn print_place<R: Print>(rt: &R, path: &str, line: u32) -> io::Result<()> {
+    print!(rt; "{path}:")?;
+    print!(rt; "{line}: ")
 }
