@@ -69,7 +69,7 @@ fn starve_all(branches: &mut LinkedList<Branch>, list: &mut LinkedList<Branch>)
 }
 
 // What a branch that comes to a cell finds there.
-#[derive(Clone, Copy, Debug)]
+#[derive(Clone, Copy)]
 pub(crate) enum Meeting {
     Full,
     Poisoned,

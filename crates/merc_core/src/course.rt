@@ -1,7 +1,7 @@
 //! The root's items, and how far each script among them goes.
 ghost use Rattle.std.specs.Prelude.{◌≡◌, ◌+◌, ◌<◌, ℕ, length};
 ghost use Rattle.merc_script.specs.Script.{Script};
-ghost use Rattle.merc_core.specs.Forking.{past_script};
+ghost use Rattle.merc_core.specs.Forking.{past_script, past_scripts};
 ghost use Rattle.merc_core.specs.Standing.{IsLeft, IsNext};
 
 use crate::branch::Branch;
@@ -50,5 +50,18 @@ impl Course {
             Some(past) => *past,
             None => place,
         }
+    }
+
+    // The place past so many scripts that stand one after the other from a place on.
+    pub(crate) fn past_scripts(&self, place: usize, scripts: usize) -> usize
+        ensures { result ≡ past_scripts self.now.past.items place scripts }
+    {
+        let mut at = place;
+        let mut left = scripts;
+        while left > 0 {
+            at = self.past_script(at);
+            left -= 1;
+        }
+        at
     }
 }

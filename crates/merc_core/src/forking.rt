@@ -1,40 +1,20 @@
 //! A fork.
-ghost use Rattle.std.specs.Prelude.{◌≡◌, ◌+◌, ◌≤◌, ◌<◌, ◌^◌, ◌∷◌, ◌++◌, [], None, Some, true, length, slice_get};
+ghost use Rattle.std.specs.Prelude.{◌≡◌, ◌+◌, ◌≤◌, ◌<◌, ◌^◌, ◌∷◌, ◌++◌, [], Some, true, length, slice_get};
 ghost use Rattle.merc_core.specs.declared.branch.Branch.{Branch as CoreBranch};
-ghost use Rattle.merc_core.specs.Forking.{born_from, not_stored, past_scripts, rights_wanted};
+ghost use Rattle.merc_core.specs.Forking.{born_from, not_stored, rights_wanted};
 ghost use Rattle.merc_core.specs.Stepping.{parts_of, ForksTo, IsForkNext, IsKept, Keeps, RunsNext};
 ghost use Rattle.merc_core.specs.Rights.{made_by, moved_to, signals_at};
 
 use crate::branch::Branch;
 use crate::course::{Course, Next};
 use crate::join::Join;
-use crate::lists::{move_all, move_first, move_last};
+use crate::lists::{move_all, move_last, put_first, put_last};
 use crate::running::next_of;
 use crate::state::{Spare, State};
 use crate::{Event, NotNow};
 use merc_script::{CellId, Fork, Move, Outcome, ScriptCell};
 use std::alloc::Global;
 use std::collections::LinkedList;
-
-// Puts a cell behind others, in a node that is spare.
-fn put_right(
-    alloc: Global,
-    spare: &mut LinkedList<CellId>,
-    rights: &mut LinkedList<CellId>,
-    cell: CellId,
-)
-    requires some { 0 < length spare.old }
-    requires room { length rights.old + length spare.old < 2 ^ 63 }
-    ensures rights { rights.new ≡ rights.old ++ cell ∷ [] }
-    ensures spare { length spare.new + 1 ≡ length spare.old }
-{
-    let mut node = LinkedList::new(alloc);
-    move_first(spare, &mut node);
-    if let Some(right) = node.front_mut() {
-        *right = cell;
-    }
-    move_all(&mut node, rights);
-}
 
 // Puts the cells that a child produces behind others, in nodes that are spare.
 fn put_made(
@@ -52,7 +32,7 @@ fn put_made(
     let mut rest = cells;
     while let [first, others @ ..] = rest {
         if first.producer() as usize == child {
-            put_right(alloc, spare, rights, first.cell());
+            put_last(alloc, spare, rights, first.cell());
         }
         rest = others;
     }
@@ -74,7 +54,7 @@ fn put_moved(
     let mut rest = moves;
     while let [first, others @ ..] = rest {
         if first.child as usize == child && first.signal {
-            put_right(alloc, spare, rights, first.cell);
+            put_last(alloc, spare, rights, first.cell);
         }
         rest = others;
     }
@@ -98,29 +78,7 @@ fn rights_of(
     rights
 }
 
-// Puts a branch in front of others, in a node that is spare.
-fn put_branch(
-    alloc: Global,
-    spare: &mut LinkedList<Branch>,
-    branches: &mut LinkedList<Branch>,
-    branch: Branch,
-)
-    requires some { 0 < length spare.old }
-    requires room { length branches.old + length spare.old < 2 ^ 63 }
-    ensures branches { branches.new ≡ branch ∷ branches.old }
-    ensures spare { length spare.new + 1 ≡ length spare.old }
-{
-    let mut node = LinkedList::new(alloc);
-    move_first(spare, &mut node);
-    if let Some(first) = node.front_mut() {
-        *first = branch;
-    }
-    move_all(branches, &mut node);
-    *branches = node;
-}
-
-// The children of a fork, the first at the back, with the place past the last. Their scripts stand one after the other
-// from a place on.
+// The children of a fork, the first at the back. Their scripts stand one after the other from a place on.
 fn bear(
     alloc: Global,
     spare: &mut Spare,
@@ -128,13 +86,12 @@ fn bear(
     fork: &Fork,
     join: usize,
     place: usize,
-) -> (LinkedList<Branch>, usize)
+) -> LinkedList<Branch>
     requires branches { fork.now.children ≤ length spare.old.branches }
     requires rights { rights_wanted fork.now.cells fork.now.moves 1 fork.now.children ≤ length spare.old.rights }
     requires few_branches { length spare.old.branches < 2 ^ 63 }
     requires few_rights { length spare.old.rights < 2 ^ 63 }
-    ensures born { result.0 ≡ born_from course.now.past.items join fork.now.cells fork.now.moves 1 place fork.now.children [] }
-    ensures place { result.1 ≡ past_scripts course.now.past.items place fork.now.children }
+    ensures born { result ≡ born_from course.now.past.items join fork.now.cells fork.now.moves 1 place fork.now.children [] }
     ensures branches { length spare.new.branches + fork.now.children ≡ length spare.old.branches }
     ensures rights { rights_wanted fork.now.cells fork.now.moves 1 fork.now.children + length spare.new.rights ≡ length spare.old.rights }
     ensures outcomes { spare.new.outcomes ≡ spare.old.outcomes }
@@ -152,12 +109,12 @@ fn bear(
             steps: 0,
             signals: rights_of(alloc, &mut spare.rights, fork, child),
         };
-        put_branch(alloc, &mut spare.branches, &mut born, branch);
+        put_first(alloc, &mut spare.branches, &mut born, branch);
         at = course.past_script(at);
         child += 1;
         left -= 1;
     }
-    (born, at)
+    born
 }
 
 // Outcomes of so many children, of which none is stored, in nodes that are spare.
@@ -174,30 +131,10 @@ fn take_outcomes(
     let mut outcomes = LinkedList::new(alloc);
     let mut left = children;
     while left > 0 {
-        put_none(alloc, spare, &mut outcomes);
+        put_first(alloc, spare, &mut outcomes, None);
         left -= 1;
     }
     outcomes
-}
-
-// Puts an outcome that is not stored in front of others, in a node that is spare.
-fn put_none(
-    alloc: Global,
-    spare: &mut LinkedList<Option<Outcome>>,
-    outcomes: &mut LinkedList<Option<Outcome>>,
-)
-    requires some { 0 < length spare.old }
-    requires room { length outcomes.old + 1 < 2 ^ 63 }
-    ensures outcomes { outcomes.new ≡ None ∷ outcomes.old }
-    ensures spare { length spare.new + 1 ≡ length spare.old }
-{
-    let mut node = LinkedList::new(alloc);
-    move_first(spare, &mut node);
-    if let Some(first) = node.front_mut() {
-        *first = None;
-    }
-    move_all(outcomes, &mut node);
-    *outcomes = node;
 }
 
 // The first branch goes behind a fork, to a place.
@@ -231,10 +168,10 @@ fn start_children(course: &Course, state: &mut State, worker: usize, fork: &Fork
     let number = state.joins.len();
     let runner = &mut state.workers[worker];
     let place = place_behind(&runner.hand);
-    let (mut born, behind) = bear(state.alloc, &mut state.spare, course, fork, number, place);
+    let mut born = bear(state.alloc, &mut state.spare, course, fork, number, place);
     let mut parent = LinkedList::new(state.alloc);
     move_all(&mut runner.hand, &mut parent);
-    go_behind_fork(&mut parent, behind);
+    go_behind_fork(&mut parent, course.past_scripts(place, fork.children));
     move_last(&mut born, &mut runner.hand);
     move_all(&mut born, &mut runner.list);
     let outcomes = take_outcomes(state.alloc, &mut state.spare.outcomes, fork.children);

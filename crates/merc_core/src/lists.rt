@@ -1,6 +1,7 @@
 //! Lists whose elements go from one to another without taking memory.
-ghost use Rattle.std.specs.Prelude.{◌≡◌, ◌+◌, ◌-◌, ◌<◌, ◌^◌, ◌++◌, [], length, take, drop};
+ghost use Rattle.std.specs.Prelude.{◌≡◌, ◌+◌, ◌-◌, ◌<◌, ◌^◌, ◌++◌, [], ◌∷◌, length, take, drop};
 
+use std::alloc::Global;
 use std::collections::LinkedList;
 use std::mem::swap;
 
@@ -37,4 +38,42 @@ pub(crate) fn move_all<T: Drop>(from: &mut LinkedList<T>, into: &mut LinkedList<
     ensures from { from.new ≡ [] }
 {
     let _ = into.append(from);
+}
+
+// Puts a value behind a list, in a node that is spare.
+pub(crate) fn put_last<T: Drop>(
+    alloc: Global,
+    spare: &mut LinkedList<T>,
+    into: &mut LinkedList<T>,
+    value: T,
+)
+    requires some { 0 < length spare.old }
+    requires room { length into.old + 1 < 2 ^ 63 }
+    ensures into { into.new ≡ into.old ++ value ∷ [] }
+    ensures spare { length spare.new + 1 ≡ length spare.old }
+{
+    let mut node = LinkedList::new(alloc);
+    move_first(spare, &mut node);
+    if let Some(first) = node.front_mut() {
+        *first = value;
+    }
+    move_all(&mut node, into);
+}
+
+// Puts a value in front of a list, in a node that is spare.
+pub(crate) fn put_first<T: Drop>(
+    alloc: Global,
+    spare: &mut LinkedList<T>,
+    into: &mut LinkedList<T>,
+    value: T,
+)
+    requires some { 0 < length spare.old }
+    requires room { length into.old + 1 < 2 ^ 63 }
+    ensures into { into.new ≡ value ∷ into.old }
+    ensures spare { length spare.new + 1 ≡ length spare.old }
+{
+    let mut node = LinkedList::new(alloc);
+    put_last(alloc, spare, &mut node, value);
+    move_all(into, &mut node);
+    swap(into, &mut node);
 }

@@ -2,7 +2,6 @@
 ghost use Rattle.std.specs.Prelude.{◌≡◌, ◌+◌, ◌≤◌, ◌<◌, ◌^◌, Some, length, slice_get, IfOk, OnOk};
 ghost use Rattle.std.specs.Ordering.{nat_cmp};
 ghost use Rattle.std.specs.BTreeMap.{get};
-ghost use Rattle.merc_core.specs.Forking.{past_scripts as past_all};
 ghost use Rattle.merc_core.specs.Mirror.{joins_made, IsCourse, Mirrors};
 ghost use Rattle.merc_core.specs.Starting.{first_workers, made_among, open_cell as empty_cell, past_item as past_from, root_branch as first_branch, worker_with, AreFirst, AreOpen, IsPast, IsSpare};
 ghost use Rattle.merc_core.specs.Stepping.{parts_of};
@@ -67,21 +66,8 @@ fn past_item(course: &Course, place: usize) -> usize
     match &course.items[place] {
         Item::End(_) => behind,
         Item::Tick | Item::Wait(_) | Item::Signal(_) => course.past_script(behind),
-        Item::Fork(fork) => course.past_script(past_scripts(course, behind, fork.children)),
+        Item::Fork(fork) => course.past_script(course.past_scripts(behind, fork.children)),
     }
-}
-
-// The place past so many scripts that stand one after the other from a place on.
-fn past_scripts(course: &Course, place: usize, scripts: usize) -> usize
-    ensures { result ≡ past_all course.now.past.items place scripts }
-{
-    let mut at = place;
-    let mut left = scripts;
-    while left > 0 {
-        at = course.past_script(at);
-        left -= 1;
-    }
-    at
 }
 
 // The state in which the root's branch runs on worker 0.

@@ -14,10 +14,11 @@ pub(crate) fn pop(course: &Course, state: &mut State, worker: usize) -> Result<(
     requires kept { IsKept course.now.items.items course.now.past.items (parts_of state.old) }
     ensures { Keeps course.now.items.items course.now.past.items (Event.Pop worker) state.old result state.new }
 {
-    if !state.workers[worker].hand.is_empty() {
+    let idle = &state.workers[worker];
+    if !idle.hand.is_empty() {
         return Err(NotNow::Busy);
     }
-    if state.workers[worker].list.is_empty() {
+    if idle.list.is_empty() {
         return Err(NotNow::ListEmpty);
     }
     let runner = &mut state.workers[worker];

@@ -61,7 +61,7 @@ move_all-requires-2 c =
     (forks c.args.course.now.items.items (parts_of c.args.state.now) c.requires.kept.world c.requires.kept.mirrors c.requires.kept.fit c.args.worker c.requires.runs.0 c.requires.runs.2 c.args.fork.now c.requires.runs.1 c.requires.runs.3 c.requires.runs.4) in
     let a = ap (λ (w : Worker). length w.list) same in let e = ap length c.move_last.ensures.from in
     let l = length-born c.args.course.now.past.items c.len-number.result c.args.fork.now.cells c.args.fork.now.moves 1 c.place_behind-place.result c.args.fork.now.children in
-    let k = ap length c.bear-born.ensures.born in let t = take-less (length c.bear-born.result.0 - 1) c.bear-born.result.0 in omega (arith, r, a, e, l, k, t)
+    let k = ap length c.bear-born.ensures.born in let t = take-less (length c.bear-born.result - 1) c.bear-born.result in omega (arith, r, a, e, l, k, t)
 
 pub take_outcomes-outcomes-requires-clause-room : goal.take_outcomes-outcomes-requires-clause-room
 take_outcomes-outcomes-requires-clause-room c =
@@ -83,14 +83,14 @@ returns c = λ root w course mirrors fit.
     let hand : c.move_all.new.into ≡ f.c ∷ [] = c.move_all.ensures.into ∙ ap (λ l. l ++ c.index_mut-runner.result.now.hand) c.new-parent.ensures ∙ f.acts.only in
     let wanted = rights-few c.args.fork.now.cells c.args.fork.now.moves 1 c.args.fork.now.children in
     let rights = c.bear-born.ensures.rights in
-    fork-done c.args.course.now.items.items (parts_of c.args.state.now) w mirrors fit c.args.worker c.index_mut-runner.result.now stands c.args.course.now.past.items root course c.args.fork.now f _ refl c.bear-born.result.0
+    fork-done c.args.course.now.items.items (parts_of c.args.state.now) w mirrors fit c.args.worker c.index_mut-runner.result.now stands c.args.course.now.past.items root course c.args.fork.now f _ refl c.bear-born.result
     (c.bear-born.ensures.born ∙ ap (λ p. born_from c.args.course.now.past.items c.len-number.result c.args.fork.now.cells c.args.fork.now.moves 1 p c.args.fork.now.children []) place
     ∙ ap (λ i. born_from c.args.course.now.past.items i c.args.fork.now.cells c.args.fork.now.moves 1 (f.c.at + 1) c.args.fork.now.children []) (omega arith))
-    (c.move_last.ensures.into ∙ ap (λ l. l ++ drop (length c.bear-born.result.0 - 1) c.bear-born.result.0) c.move_all.ensures.from)
+    (c.move_last.ensures.into ∙ ap (λ l. l ++ drop (length c.bear-born.result - 1) c.bear-born.result) c.move_all.ensures.from)
     (c.move_all-2.ensures.into ∙ ap (λ l. c.index_mut-runner.result.now.list ++ l) c.move_last.ensures.from)
     (record { limit = c.args.fork.now.limit; outcomes = c.take_outcomes-outcomes.result; parent = c.go_behind_fork.new.list })
     (c.go_behind_fork.ensures f.c [] hand
-    ∙ ap (λ p. (record f.c { at = p }) ∷ []) (c.bear-born.ensures.place ∙ ap (λ p. past_scripts c.args.course.now.past.items p c.args.fork.now.children) place))
+    ∙ ap (λ p. (record f.c { at = p }) ∷ []) (c.past_scripts.ensures ∙ ap (λ p. past_scripts c.args.course.now.past.items p c.args.fork.now.children) place))
     refl c.take_outcomes-outcomes.ensures.outcomes
     (record {
       workers = set c.args.state.now.workers.items c.args.worker (record { hand = c.move_last.new.into; held = c.index_mut-runner.result.now.held; list = c.move_all-2.new.into });
