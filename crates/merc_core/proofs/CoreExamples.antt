@@ -1,12 +1,7 @@
 -- The core on a root script with one Fork: child 1 makes a step and signals cell 5, child 2 waits for it and makes a step.
-use Rattle.std.proofs.Common.{◌≡◌, ℕ, Bool, List, [], ◌∷◌, Some, None, refl, ap, sym, ◌∙◌, subst, pos, arith}
+use Rattle.std.proofs.Common.{◌≡◌, ℕ, Bool, List, [], ◌∷◌, Some, None, refl, pos, arith}
 use Rattle.std.specs.Prelude.{Option, Ok, Err, filter, map, length}
-use Rattle.merc_value.specs.Value.{Value, Int}
-use Rattle.merc_script.specs.declared.cells.Move.{Move}
-use Rattle.merc_script.specs.declared.items.Item.{Item}
-use Rattle.merc_script.specs.declared.items.Item.TheVariants.{Tick as TickItem, Wait as WaitItem, Signal as SignalItem, Fork as ForkItem, End as EndItem}
-use Rattle.merc_script.specs.Items.{items_of, script_of}
-use Rattle.merc_script.specs.ScriptCode.{script_of-items_of}
+use Rattle.merc_value.specs.Value.{Int}
 use Rattle.merc_script.specs.declared.outcome.Outcome.{Outcome}
 use Rattle.merc_script.specs.declared.outcome.Outcome.TheVariants.{Ok as Fine, Raise, Starved, NoMemory}
 use Rattle.merc_script.specs.Script.{Script, Ends, TickThen, WaitThen, SignalThen, ForkThen, NoChild, Child, Cell}
@@ -76,17 +71,6 @@ root = ForkThen 9 (seven ∷ []) [] (Child maker (Child user NoChild)) (Ends (Fi
 
 pub root-well : WellFormed root
 root-well = record { distinct = Prim.search arith; formed = Prim.search arith }
-
--- a script that lies in memory so is this one
-abbrev items_with : ℕ → List Cell → List Move → List Item
-items_with cell cells moves =
-    ForkItem (record { limit = 9; children = 2; cells = cells; moves = moves }) ∷ TickItem ∷ SignalItem cell ∷ EndItem (Fine 1) ∷ WaitItem cell ∷ TickItem ∷ EndItem (Fine 1) ∷ EndItem (Fine 2) ∷ []
-
-pub lies-so : (script : Script) (items : List Item) (number : ℕ) (cells : List Cell) (moves : List Move) (value : Option Value) → items_of script ≡ items → items ≡ items_with number cells moves
-    → cells ≡ record { cell = number; producer = 1; consumer = 2; value = value } ∷ [] → moves ≡ [] → number ≡ 5 → value ≡ Some (Int (pos 7)) → WellFormed script
-lies-so script items number cells moves value lies is made none five valued =
-    let same : script_of (items_with number cells moves) ≡ root = rw (made, none, five, valued) refl in
-    subst WellFormed (sym (sym (script_of-items_of script) ∙ ap script_of (lies ∙ is) ∙ same)) root-well
 
 abbrev pub whole_run : List Event
 whole_run = Fork 0 ∷ Steal 1 0 ∷ Wait 1 ∷ Tick 0 ∷ Signal 0 ∷ End 0 ∷ Pop 0 ∷ Tick 0 ∷ End 0 ∷ Resume 0 ∷ End 0 ∷ []

@@ -25,6 +25,3 @@ mod worker;
 
 pub use event::{Event, NotNow};
 pub use executing::Core;
-
-#[cfg(test)]
-mod tests;

@@ -19,6 +19,3 @@ pub use mem_sink::MemSink;
 pub use open_gate::OpenGate;
 pub use opening::{Opener, ReadFault, SystemFiles};
 pub use out_sink::{OutSink, SystemOutput};
-
-#[cfg(test)]
-mod tests;

@@ -1,8 +1,8 @@
-use Rattle.std.proofs.Common.{◌≡◌, ◌∙◌, ap, [], ◌∷◌}
+use Rattle.std.proofs.Common.{◌∙◌, ap, [], ◌∷◌}
 use Rattle.std.specs.Prelude.{Some}
 use Rattle.merc_script.specs.Cells.{value_shown}
-use Rattle.merc_core.proofs.CoreExamples.{lies-so}
-use Rattle.merc_core.proofs.tests.handing_over.Goals as goal
+use Rattle.merc_tests.proofs.HandingOver.{lies-so}
+use Rattle.merc_tests.proofs.executing.handing_over.Goals as goal
 
 pub returns-in-Some : goal.returns-in-Some
 returns-in-Some c =

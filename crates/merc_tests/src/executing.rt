@@ -4,8 +4,8 @@ ghost use Rattle.merc_value.specs.Value.{Int};
 ghost use Rattle.merc_script.specs.Cells.{value_shown};
 ghost use Rattle.merc_core.specs.WellFormed.{WellFormed};
 
-use crate::{Core, Event, NotNow};
 use merc_base::{NoMemory, Sequence};
+use merc_core::{Core, Event, NotNow};
 use merc_script::{CellId, Fork, Item, Outcome, Script, ScriptCell};
 use merc_value::{Block, Word};
 use std::alloc::Global;

@@ -1,8 +1,8 @@
 //! What no clause can say: what the files of the system hold, and that a reader may give and a writer take less.
 ghost use Rattle.std.specs.Prelude.{None, Some};
 
-use super::*;
 use merc_base::{Buffer, Fetched, Gate, Shelf, Sink, Text, Wrote};
+use merc_io::{FileShelf, OpenGate, Opener, OutSink, ReadFault};
 use std::io::{ErrorKind, Read, Write};
 use std::os::fd::AsRawFd;
 use std::test::Fail;
