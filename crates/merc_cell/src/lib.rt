@@ -8,8 +8,6 @@ pub mod ends;
 pub mod glance;
 pub mod rule;
 pub mod steps;
-#[cfg(test)]
-mod tests;
 
 pub use answer::CellWait;
 pub use calls::new_cell;

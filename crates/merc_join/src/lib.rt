@@ -9,8 +9,6 @@ pub mod outcomes;
 pub mod rule;
 pub mod steps;
 pub mod stub;
-#[cfg(test)]
-mod tests;
 
 pub use ends::Ticket;
 pub use making::new_join;

@@ -3,6 +3,10 @@
 #![tactic(auto)]
 
 #[cfg(test)]
+mod cells;
+#[cfg(test)]
 mod executing;
+#[cfg(test)]
+mod joins;
 #[cfg(test)]
 mod outside;

@@ -1,17 +1,21 @@
 //! What comes out of many cells at which two threads meet, in whatever order.
 
-use crate::{CellWait, Consumer, Fits, Producer, new_cell};
 use merc_base::NoMemory;
+use merc_cell::{CellWait, Consumer, Fits, Producer, new_cell};
 use std::alloc::Global;
 use std::marker::Brand;
 use std::test::Fail;
 use std::thread;
 
-impl Fits for u64 {
+// A value or a waiter, which fits each cell.
+#[derive(Clone, Copy)]
+struct Number(u64);
+
+impl Fits for Number {
     ghost fits = { λ name number. Unit {0} };
 }
 
-type Ends = (Vec<Producer<u64, u64>>, Vec<Consumer<u64, u64>>);
+type Ends = (Vec<Producer<Number, Number>>, Vec<Consumer<Number, Number>>);
 
 // How many waiters and values came out of some cells, and their sums.
 #[derive(Clone, Copy)]
@@ -59,7 +63,7 @@ fn cells(alloc: Global, count: usize) -> Result<Ends, NoMemory> {
     let mut producers = Vec::new(alloc);
     let mut consumers = Vec::new(alloc);
     for i in 0..count {
-        let (producer, consumer) = new_cell::<u64, u64, Brand>(alloc)?;
+        let (producer, consumer) = new_cell::<Number, Number, Brand>(alloc)?;
         producers.push(producer)?;
         consumers.push(consumer)?;
     }
@@ -67,13 +71,15 @@ fn cells(alloc: Global, count: usize) -> Result<Ends, NoMemory> {
 }
 
 // Waits at each cell, with its number as the waiter.
-fn wait_all(mut consumers: Vec<Consumer<u64, u64>>) -> Counts {
+fn wait_all(mut consumers: Vec<Consumer<Number, Number>>) -> Counts {
     let mut counts = Counts::none();
     for i in 0..consumers.len() {
         if let Some(consumer) = consumers.pop() {
-            match consumer.wait(consumers.len() as u64) {
-                CellWait::Ready(waiter, value) => counts = counts.add(waiter, Some(value)),
-                CellWait::Starved(waiter) => counts = counts.add(waiter, None),
+            match consumer.wait(Number(consumers.len() as u64)) {
+                CellWait::Ready(Number(waiter), Number(value)) => {
+                    counts = counts.add(waiter, Some(value))
+                }
+                CellWait::Starved(Number(waiter)) => counts = counts.add(waiter, None),
                 CellWait::Parked => {}
             }
         }
@@ -82,16 +88,18 @@ fn wait_all(mut consumers: Vec<Consumer<u64, u64>>) -> Counts {
 }
 
 // Signals each cell of an even number, with twice the number as the value, and poisons the others.
-fn end_all(mut producers: Vec<Producer<u64, u64>>) -> Counts {
+fn end_all(mut producers: Vec<Producer<Number, Number>>) -> Counts {
     let mut counts = Counts::none();
     for i in 0..producers.len() {
         if let Some(producer) = producers.pop() {
             let number = producers.len() as u64;
             if number % 2 == 0 {
-                if let Some((waiter, value)) = producer.signal(number.wrapping_mul(2)) {
+                if let Some((Number(waiter), Number(value))) = producer.signal(Number(
+                    number.wrapping_mul(2),
+                )) {
                     counts = counts.add(waiter, Some(value));
                 }
-            } else if let Some(waiter) = producer.poison() {
+            } else if let Some(Number(waiter)) = producer.poison() {
                 counts = counts.add(waiter, None);
             }
         }
@@ -115,11 +123,16 @@ fn each_waiter_comes_out_once(rt: HostRuntime) -> Result<(), Fail> {
         assert_eq!(rt; all.values, 5_000);
         assert_eq!(rt; all.value_sum, 49_990_000);
     }
-    let (producer, consumer) = new_cell::<u64, u64, Brand>(rt.alloc())?;
+    let (producer, consumer) = new_cell::<Number, Number, Brand>(rt.alloc())?;
     assert!(rt; producer.poison().is_none());
-    assert!(rt; matches!(consumer.wait(7), CellWait::Starved(7)));
-    let (producer, consumer) = new_cell::<u64, u64, Brand>(rt.alloc())?;
-    assert!(rt; producer.signal(8).is_none());
-    assert!(rt; matches!(consumer.wait(7), CellWait::Ready(7, 8)));
+    assert!(rt; matches!(consumer.wait(Number(7)), CellWait::Starved(Number(7))));
+    let (producer, consumer) = new_cell::<Number, Number, Brand>(rt.alloc())?;
+    assert!(rt; producer.signal(Number(8)).is_none());
+    assert!(rt;
+        matches!(
+            consumer.wait(Number(7)),
+            CellWait::Ready(Number(7), Number(8))
+        )
+    );
     Ok(())
 }

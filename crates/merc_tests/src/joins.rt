@@ -1,14 +1,18 @@
 //! What comes out of many joins whose tickets are done in four threads, in whatever order.
 
-use crate::{Finished, Forked, Ticket, new_join};
 use merc_base::NoMemory;
+use merc_join::{Finished, Forked, Ticket, new_join};
 use merc_script::Outcome;
 use std::alloc::Global;
 use std::test::Fail;
 use std::thread;
 use std::thread::Threads;
 
-impl Forked for u64 {
+// What forked: its children may end in any way.
+#[derive(Clone, Copy)]
+struct Parent(u64);
+
+impl Forked for Parent {
     ghost ends = { λ parent child outcome. Unit {0} };
 }
 
@@ -17,7 +21,7 @@ const CHILDREN: u32 = 8;
 const JOINS: u64 = 2_000;
 
 // A ticket with the number of steps that its child is to end with.
-type Job = (Ticket<u64>, u64);
+type Job = (Ticket<Parent>, u64);
 
 // What each of four threads is to do.
 #[derive(Drop)]
@@ -59,7 +63,7 @@ fn deal_out(alloc: Global) -> Result<Hands, NoMemory> {
         fourth: Vec::new(alloc),
     };
     for parent in 0..JOINS {
-        let Ok(tickets) = new_join(alloc, CHILDREN, parent) else {
+        let Ok(tickets) = new_join(alloc, CHILDREN, Parent(parent)) else {
             return Err(NoMemory);
         };
         let mut child = 0;
@@ -98,10 +102,11 @@ fn do_all(mut jobs: Vec<Job>) -> Counts {
     for i in 0..jobs.len() {
         if let Some((ticket, steps)) = jobs.pop() {
             if let Some(finished) = ticket.done(Outcome::Ok(steps)) {
+                let Parent(parent) = finished.parent;
                 counts = counts.with(Counts {
                     finished: 1,
-                    parent_sum: finished.parent,
-                    outcomes: count_outcomes(finished.outcomes.as_slice(), finished.parent),
+                    parent_sum: parent,
+                    outcomes: count_outcomes(finished.outcomes.as_slice(), parent),
                 });
             }
         }
@@ -138,8 +143,8 @@ fn each_join_ends_once(rt: HostRuntime) -> Result<(), Fail> {
     Ok(())
 }
 
-fn two_tickets(alloc: Global) -> Result<(Ticket<u64>, Ticket<u64>), NoMemory> {
-    let Ok(mut tickets) = new_join(alloc, 2, 7u64) else {
+fn two_tickets(alloc: Global) -> Result<(Ticket<Parent>, Ticket<Parent>), NoMemory> {
+    let Ok(mut tickets) = new_join(alloc, 2, Parent(7)) else {
         return Err(NoMemory);
     };
     match (tickets.pop(), tickets.pop()) {
@@ -149,10 +154,10 @@ fn two_tickets(alloc: Global) -> Result<(Ticket<u64>, Ticket<u64>), NoMemory> {
 }
 
 // Whether both outcomes came out, in order, with the parent.
-fn has_both(finished: Option<Finished<u64>>) -> bool {
+fn has_both(finished: Option<Finished<Parent>>) -> bool {
     match finished {
         Some(finished) => {
-            finished.parent == 7
+            finished.parent.0 == 7
                 && finished.outcomes.as_slice() == [Outcome::Ok(3), Outcome::Limit].as_slice()
         }
         None => false,
