@@ -4,9 +4,6 @@
 
 ghost use Rattle.std.specs.Prelude.{◌≤◌, length};
 
-#[cfg(test)]
-mod tests;
-
 use merc_base::{Fault, Names};
 use merc_terms::read_items;
 use merc_tokens::tokens;
