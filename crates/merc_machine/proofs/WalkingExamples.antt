@@ -1,12 +1,12 @@
 -- Worked examples of lists that are built again at once.
-use Rattle.std.proofs.Common.{◌≡◌, ℕ, suc, ◌+◌, pos, List, [], ◌∷◌, refl, sym, ap, ◌∙◌, arith}
+use Rattle.std.proofs.Common.{◌≡◌, ℕ, suc, ◌+◌, pos, List, [], ◌∷◌, Some, refl, sym, ap, ◌∙◌, arith}
 use Rattle.merc_base.specs.Names.{nil_name, cons_name}
 use Rattle.merc_value.specs.Block.{CellData, AreLower}
 use Rattle.merc_value.specs.declared.word.Word.{Word}
 use Rattle.merc_value.specs.declared.word.Word.TheVariants.{Int as IntWord, Atom, Cell}
 use Rattle.merc_frames.specs.declared.slot.Slot.{Slot}
 use Rattle.merc_frames.specs.declared.slot.Slot.TheVariants.{Empty, Cell as CellSlot}
-use Rattle.merc_frames.specs.Stacks.{Caller}
+use Rattle.merc_frames.specs.Stacks.{Caller, Stacks, caller_place}
 use Rattle.merc_store.specs.Data.{StoreData, IsSound}
 use Rattle.merc_store.proofs.AppendingExamples.{rebuilds-example}
 use Rattle.merc_machine.specs.declared.machine.Machine.{Machine}
@@ -59,10 +59,11 @@ module _ (machine : Machine) (outputs : (behind : FollowsCall machine.program.no
   -- the caller goes on elsewhere
   walks-elsewhere : WalksOn (record machine { store = started; left = 5 }) (record machine { store = ended; left = 3 }) 0 1 8 → ⊥
   walks-elsewhere walks =
-      let callers = ap (λ (stacks : _). stacks.callers) walks.appends.stacks in
-      let first = sym callers ∙ walks.gives.callers in
-      let place = walks.place in
-      absurd cc
+      let before = ap (λ (stacks : Stacks). caller_place stacks.callers) walks.appends.stacks in
+      let place : Some 9 ≡ Some walks.gives.place = sym before ∙ ap caller_place walks.gives.callers in
+      let same : 9 ≡ walks.gives.place = cc in
+      let other = walks.place in
+      absurd (omega (arith, same, other))
 
   -- the value behind the items is another one
   walks-turned : WalksOn (record machine { store = started; left = 5 }) (record machine { store = ended; left = 3 }) 0 2 9 → ⊥
