@@ -1,17 +1,12 @@
 -- The category of goals that are joined, one by one from the last.
-use Rattle.std.specs.Prelude.{List, ◌||◌, Option, Some, None}
-use Rattle.merc_base.specs.Category.{can_fail_of, most_of}
+use Rattle.std.specs.Prelude.{List, Option, Some, None}
 use Rattle.merc_base.specs.declared.category.Category.{Category}
 use Rattle.merc_base.specs.declared.category.Category.TheVariants.{Nondet}
 use Rattle.merc_graded_tree.specs.Nodes.{Node}
-use Rattle.merc_grading.specs.Categories.{category, greater_most, conjunction_category, disjunction_category, arms_category}
+use Rattle.merc_grading.specs.Categories.{conjunction_category, disjunction_category, arms_category}
 use Rattle.merc_grading.specs.Grading.{category_at}
 use Rattle.merc_det.specs.declared.folding.Joint.{Joint}
 use Rattle.merc_det.specs.declared.folding.Joint.TheVariants.{InTurn, Choice, Arms}
-
--- an arm, and others that are of this category together
-abbrev pub arm_category : Category → Category → Category
-arm_category arm others = category (can_fail_of arm || can_fail_of others) (greater_most (most_of arm) (most_of others))
 
 -- the category of goals that are joined so, from theirs
 abbrev pub joined_category : Joint → List Category → Category

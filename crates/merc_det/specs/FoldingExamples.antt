@@ -3,7 +3,7 @@ use Rattle.std.specs.Prelude.{◌≡◌, [], ◌∷◌, Some, None, refl}
 use Rattle.merc_base.specs.declared.category.Category.TheVariants.{Det, Semidet, Multi, Nondet}
 use Rattle.merc_grading.specs.GradingExamples.{declared, modes, types, c, is_red}
 use Rattle.merc_grading.specs.Grading.{graded}
-use Rattle.merc_det.specs.Folding.{arm_category, joined_category, category_in}
+use Rattle.merc_det.specs.Folding.{joined_category, category_in}
 use Rattle.merc_det.specs.declared.folding.Joint.TheVariants.{InTurn, Choice, Arms}
 
 in_turn : joined_category InTurn (Det ∷ Semidet ∷ []) ≡ Semidet
@@ -17,13 +17,6 @@ choice_is_no_det wrong = cc
 
 arms : joined_category Arms (Det ∷ Semidet ∷ []) ≡ Semidet
 arms = refl
-
--- two arms that answer at most once are no two answers
-arm : arm_category Det Det ≡ Det
-arm = refl
-
-arm_is_no_multi : arm_category Det Det ≡ Multi → ⊥
-arm_is_no_multi wrong = cc
 
 found : category_in (Some (graded declared modes types [] (is_red c))) ≡ Semidet
 found = refl

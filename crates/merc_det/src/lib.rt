@@ -2,7 +2,6 @@
 #![tactic(auto)]
 
 mod basics;
-mod categories;
 mod closing;
 mod copying;
 mod faults;

@@ -60,11 +60,14 @@ abbrev pub disjunction_category : List Category → Category
 disjunction_category [] = Failure
 disjunction_category (first ∷ rest) = or_category first (disjunction_category rest)
 
+-- an arm, and others that are of this category together
+abbrev pub arm_category : Category → Category → Category
+arm_category arm others = category (can_fail_of arm || can_fail_of others) (greater_most (most_of arm) (most_of others))
+
 -- Of the arms of a switch one runs: they can fail if any can, and their maximum is the greatest.
 abbrev pub arms_category : List Category → Category
 arms_category [] = Erroneous
-arms_category (first ∷ rest) =
-    category (can_fail_of first || can_fail_of (arms_category rest)) (greater_most (most_of first) (most_of (arms_category rest)))
+arms_category (first ∷ rest) = arm_category first (arms_category rest)
 
 -- A switch can fail as well if a symbol of the type has no arm.
 abbrev pub switch_category : Bool → List Category → Category

@@ -2,7 +2,7 @@
 use Rattle.std.specs.Prelude.{◌≡◌, true, false, List, [], ◌∷◌, map, refl}
 use Rattle.merc_base.specs.declared.category.Category.{Category}
 use Rattle.merc_base.specs.declared.category.Category.TheVariants.{Det, Semidet, Multi, Nondet, Erroneous, Failure}
-use Rattle.merc_grading.specs.Categories.{conjunction_category, disjunction_category, switch_category, conditional_category, negation_category, once}
+use Rattle.merc_grading.specs.Categories.{arm_category, conjunction_category, disjunction_category, switch_category, conditional_category, negation_category, once}
 
 abbrev pub all : List Category
 all = Det ∷ Semidet ∷ Multi ∷ Nondet ∷ Erroneous ∷ Failure ∷ []
@@ -181,3 +181,10 @@ two_dets_are_no_det wrong = cc
 
 not_of_semidet_is_no_det : negation_category Semidet ≡ Det → ⊥
 not_of_semidet_is_no_det wrong = cc
+
+-- two arms that answer at most once are no two answers
+arm : arm_category Det Det ≡ Det
+arm = refl
+
+arm_is_no_multi : arm_category Det Det ≡ Multi → ⊥
+arm_is_no_multi wrong = cc

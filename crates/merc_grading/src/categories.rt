@@ -1,13 +1,12 @@
 //! The category of a goal that joins others, from theirs.
 ghost use Rattle.std.specs.Prelude.{◌≡◌, List};
 ghost use Rattle.merc_base.specs.declared.category.Category.{Category};
-ghost use Rattle.merc_grading.specs.Categories.{arms_category, both_most, category, conditional_category, decision_most, greater_most, is_many, is_zero, negation_category, once, or_category, sum_most, switch_category, then_category};
-ghost use Rattle.merc_det.specs.Folding.{arm_category};
+ghost use Rattle.merc_grading.specs.Categories.{arm_category, arms_category, both_most, category, conditional_category, decision_most, greater_most, is_many, is_zero, negation_category, once, or_category, sum_most, switch_category, then_category};
 
 use merc_base::{Category, Most};
 
 /// One goal and then another.
-pub(crate) fn then_category(first: Category, next: Category) -> Category
+pub fn then_category(first: Category, next: Category) -> Category
     ensures { result ≡ then_category first next }
 {
     let can_reach = !is_zero(first.most());
@@ -16,7 +15,7 @@ pub(crate) fn then_category(first: Category, next: Category) -> Category
 }
 
 /// One goal or another.
-pub(crate) fn or_category(one: Category, other: Category) -> Category
+pub fn or_category(one: Category, other: Category) -> Category
     ensures { result ≡ or_category one other }
 {
     let can_fail = one.can_fail() && other.can_fail();
@@ -24,7 +23,7 @@ pub(crate) fn or_category(one: Category, other: Category) -> Category
 }
 
 /// One arm of a switch, or one of others that are of this category together.
-pub(crate) fn arm_category(arm: Category, others: Category) -> Category
+pub fn arm_category(arm: Category, others: Category) -> Category
     ensures { result ≡ arm_category arm others }
 {
     let can_fail = arm.can_fail() || others.can_fail();
@@ -32,14 +31,14 @@ pub(crate) fn arm_category(arm: Category, others: Category) -> Category
 }
 
 /// A switch whose arms are of this category together. It is complete if each symbol of the type has an arm.
-pub(crate) fn switch_category(is_complete: bool, arms: Category) -> Category
+pub fn switch_category(is_complete: bool, arms: Category) -> Category
     ensures { (all : List Category) → arms ≡ arms_category all → result ≡ switch_category is_complete all }
 {
     category(!is_complete || arms.can_fail(), arms.most())
 }
 
 /// An if-then-else.
-pub(crate) fn conditional_category(
+pub fn conditional_category(
     condition: Category,
     then_part: Category,
     else_part: Category,
@@ -55,7 +54,7 @@ pub(crate) fn conditional_category(
 }
 
 /// The negation of a goal.
-pub(crate) fn negation_category(inner: Category) -> Category
+pub fn negation_category(inner: Category) -> Category
     ensures { result ≡ negation_category inner }
 {
     match inner {
@@ -67,7 +66,7 @@ pub(crate) fn negation_category(inner: Category) -> Category
 }
 
 /// A goal of which one solution is enough.
-pub(crate) fn once(inner: Category) -> Category
+pub fn once(inner: Category) -> Category
     ensures { result ≡ once inner }
 {
     let most = if is_zero(inner.most()) {
@@ -142,7 +141,8 @@ fn decision_most(condition: Most, then_part: Most, else_part: Most) -> Most
     }
 }
 
-pub(crate) fn is_zero(most: Most) -> bool
+/// Whether a goal has no solution.
+pub fn is_zero(most: Most) -> bool
     ensures { result ≡ is_zero most }
 {
     match most {
@@ -151,7 +151,8 @@ pub(crate) fn is_zero(most: Most) -> bool
     }
 }
 
-pub(crate) fn is_many(most: Most) -> bool
+/// Whether a goal can have more than one solution.
+pub fn is_many(most: Most) -> bool
     ensures { result ≡ is_many most }
 {
     match most {
