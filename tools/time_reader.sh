@@ -1,15 +1,16 @@
 #!/bin/sh
-# Measures whether reading takes time in proportion to the length of a module. It has the tokens and the items of a
-# module of 256 KiB and of one of 1 MiB read 10 times each, five times over, and prints the least processor time of both
-# and their ratio, which is about 4 where the time is linear and about 16 where it is quadratic.
+# Measures whether reading takes time in proportion to the length of a module: tools/time_reader.sh [PROGRAM]
+# It has the built program, bin/merc or the one that is named, check a text of 256 KiB and one of 1 MiB 10 times each, five
+# times over, and prints the least processor time of both and their ratio, which is about 4 where the time is linear and
+# about 16 where it is quadratic. The last item of a text does not end, so that the text is read and refused, and nothing
+# else is done with it.
 # Status 0: the ratio is below 5. Status 1: it is 5 or more. Status 2: nothing was measured.
 cd -- "$(dirname -- "$0")/.." || exit 2
 LC_ALL=C
 export LC_ALL
 
-# The program under test, which is built where it has to be; a file is put behind its words.
-folder=crates/merc_read
-reader=$folder/out/merc_read
+# The program under test.
+program=${1:-bin/merc}
 runs=10
 rounds=5
 
@@ -18,11 +19,13 @@ fail() {
     exit 2
 }
 
-# Writes a module of at most this many bytes, and of nearly as many: pairs of a declaration and its clause.
-write_module() {
+# Writes a text of at most this many bytes, and of nearly as many: pairs of a declaration and its clause, and a clause
+# without an end.
+write_text() {
     awk -v size="$1" '
         BEGIN {
-            written = length(":- module long.\n:- import_module int.\n")
+            last = "p("
+            written = length(":- module long.\n:- import_module int.\n" last)
             printf ":- module long.\n:- import_module int.\n"
             for (n = 1; ; n++) {
                 pair = sprintf(":- pred p%d(int::in, int::out) is det.\np%d(X, Y) :- Y = X + %d.\n", n, n, n)
@@ -30,15 +33,22 @@ write_module() {
                 printf "%s", pair
                 written += length(pair)
             }
+            printf "%s", last
         }'
 }
 
-# Prints the seconds of processor time that a round of runs over a module takes.
+# Has a text read to its end, where it is refused.
+read_text() {
+    "$program" check "$1" >"$work/output"
+    [ "$?" -eq 4 ]
+}
+
+# Prints the seconds of processor time that a round of runs over a text takes.
 round_seconds() {
     (
         run=0
         while [ "$run" -lt "$runs" ]; do
-            "$reader" "$1" >"$work/output" || exit 1
+            read_text "$1" || exit 1
             run=$((run + 1))
         done
         times
@@ -54,15 +64,12 @@ seconds() {
     done | sort -n | head -n 1
 }
 
-work=$(mktemp -d) || fail "no folder for the modules"
+work=$(mktemp -d) || fail "no folder for the texts"
 trap 'rm -rf "$work"' EXIT
 trap 'exit 2' INT TERM HUP
 
-(cd "$folder" && rt run -- data/family.m) >"$work/output" 2>&1 || fail "$reader cannot be built"
-{ write_module 262144 >"$work/short.m" && write_module 1048576 >"$work/long.m"; } ||
-    fail "the modules cannot be written"
-
-{ "$reader" "$work/short.m" && "$reader" "$work/long.m"; } || fail "a module was not read to its end"
+{ write_text 262144 >"$work/short.m" && write_text 1048576 >"$work/long.m"; } || fail "the texts cannot be written"
+{ read_text "$work/short.m" && read_text "$work/long.m"; } || fail "$program did not read a text to its end"
 short=$(seconds "$work/short.m")
 long=$(seconds "$work/long.m")
 awk -v short="$short" -v long="$long" -v runs="$runs" '

@@ -6,8 +6,6 @@ pub mod laws;
 pub mod making;
 pub mod moves;
 pub mod sparks;
-#[cfg(test)]
-mod tests;
 
 pub use history::{Pass, Stolen};
 pub use making::new_sparks;

@@ -45,7 +45,8 @@ impl<T> Sparks<T> {
 }
 
 impl<T> Thief<T> {
-    pub(crate) fn pass(&self) -> Pass<T>
+    /// A pass for one more thief, which has seen nothing yet.
+    pub fn pass(&self) -> Pass<T>
         ensures { IsNew self.now.stealer result }
     {
         self.stealer.pass()

@@ -9,7 +9,6 @@ ghost use Rattle.merc_grading.specs.Grading.{capped, rule};
 ghost use Rattle.merc_det.specs.Closing.{closed, known_behind_root, with_category, FitsRoot};
 
 use crate::basics::{basic_category, learn_from};
-use merc_grading::categories::{conditional_category, negation_category, once, switch_category};
 use crate::copying::{copy_root, copy_variables, label_of};
 use crate::folding::{Joint, category_at, joined_category};
 use crate::seen::SeenSymbols;
@@ -17,6 +16,7 @@ use crate::symbols::is_complete;
 use merc_base::{Category, NoMemory};
 use merc_goal_tree::Vars;
 use merc_graded_tree::{Label, NodeRef, Nodes, Root};
+use merc_grading::categories::{conditional_category, negation_category, once, switch_category};
 use merc_known::Known;
 use std::alloc::Global;
 

@@ -8,11 +8,11 @@ ghost use Rattle.merc_graded_tree.specs.Views.{viewed};
 ghost use Rattle.merc_grading.specs.Faults.{allows, at_most, beside_faults, conjunct_faults, mode_faults, own_faults, parallel_faults, runs_beside};
 ghost use Rattle.merc_det.specs.Looking.{own_goal_faults};
 
-use merc_grading::categories::{is_many, is_zero};
 use crate::folding::given;
 use merc_base::{Category, Detail, Most, Name, NoMemory, Refusal, Rule};
 use merc_goal_tree::Symbol;
 use merc_graded_tree::{NodeRef, NodeView, Parts, Running};
+use merc_grading::categories::{is_many, is_zero};
 use merc_tree::ModeDecl;
 use std::alloc::Global;
 

@@ -4,9 +4,9 @@ ghost use Rattle.merc_base.specs.declared.category.Category.{Category};
 ghost use Rattle.merc_grading.specs.Grading.{categories, given};
 ghost use Rattle.merc_det.specs.Folding.{category_in, joined_category};
 
-use merc_grading::categories::{arm_category, or_category, then_category};
 use merc_base::Category;
 use merc_graded_tree::Nodes;
+use merc_grading::categories::{arm_category, or_category, then_category};
 
 /// How goals are joined.
 #[derive(Clone, Copy)]

@@ -12,3 +12,5 @@ mod executing;
 mod joins;
 #[cfg(test)]
 mod outside;
+#[cfg(test)]
+mod sparks;

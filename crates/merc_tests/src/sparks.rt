@@ -1,7 +1,7 @@
 //! What comes out of one deque that four thieves rob while its worker pushes and pops.
 ghost use Rattle.crossbeam_deque.specs.Handles.{IsPassOf, stealer_deque};
 
-use crate::{Pass, Sparks, Stolen, Thief, new_sparks};
+use merc_deque::{Pass, Sparks, Stolen, Thief, new_sparks};
 use std::sync::Wait;
 use std::sync::atomic::{AtomicU64, Ordering};
 use std::test::Fail;
