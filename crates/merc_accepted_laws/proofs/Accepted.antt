@@ -8,20 +8,20 @@ use Rattle.merc_order.specs.Procedures.{bound_at}
 use Rattle.merc_grading.specs.Faults.{Body, Procedure, all_finished, procedures_of}
 use Rattle.merc_meaning.specs.Runs.{Program, call_trace, run}
 use Rattle.merc_meaning.specs.Programs.{program_with}
-use Rattle.merc_category_laws.specs.Answers.{Each, KeepsTo}
-use Rattle.merc_category_laws.specs.GoodPrograms.{IsGoodProgram, program_of}
-use Rattle.merc_category_laws.specs.Laws.{Leaves}
-use Rattle.merc_category_laws.proofs.Programs.{category_law, type_law}
-use Rattle.merc_found_laws.specs.OrderedBodies.{finished_body}
-use Rattle.merc_found_laws.specs.ProgramBodies.{finished_bodies}
-use Rattle.merc_answer_laws.specs.Laws.{AnswersAreYes, OthersAreNo, AnswersAreWhole, RunAnswersAreYes, RunOthersAreNo}
-use Rattle.merc_answer_laws.proofs.TruthLaw.{answers_law, others_law}
-use Rattle.merc_answer_laws.proofs.RunLaw.{whole_answers_law, run_answers_law, run_others_law}
-use Rattle.merc_module_laws.specs.ProgramLaws.{BecomesGood, BecomesGoodQuery}
-use Rattle.merc_library_laws.proofs.GoodModules.{accepted_becomes_good, accepted_goal_becomes_good}
+use Rattle.merc_truth_laws.specs.Answers.{Each, KeepsTo}
+use Rattle.merc_truth_laws.specs.GoodPrograms.{IsGoodProgram, program_of}
+use Rattle.merc_truth_laws.specs.CategoryLaws.{Leaves}
+use Rattle.merc_truth_laws.proofs.Programs.{category_law, type_law}
+use Rattle.merc_module_laws.specs.OrderedBodies.{finished_body}
+use Rattle.merc_module_laws.specs.ProgramBodies.{finished_bodies}
+use Rattle.merc_truth_laws.specs.AnswerLaws.{AnswersAreYes, OthersAreNo, AnswersAreWhole, RunAnswersAreYes, RunOthersAreNo}
+use Rattle.merc_truth_laws.proofs.CallLaw.{answers_law, others_law}
+use Rattle.merc_truth_laws.proofs.RunLaw.{whole_answers_law, run_answers_law, run_others_law}
+use Rattle.merc_module_laws.specs.ModuleLaws.{BecomesGood, BecomesGoodQuery}
+use Rattle.merc_accepted_laws.proofs.GoodModules.{accepted_becomes_good, accepted_goal_becomes_good}
 use Rattle.merc_check.specs.Accepted.{query_answers}
 use Rattle.merc_check.specs.Checked.{IsGoal}
-use Rattle.merc_accepted_laws.specs.Laws.{CallsAnswerInTypes, CallsAnswerTruly, CallsKeepToCategories, IsChecked, IsGradedGoal, RunsAnswerTruly}
+use Rattle.merc_accepted_laws.specs.AcceptedLaws.{CallsAnswerInTypes, CallsAnswerTruly, CallsKeepToCategories, IsChecked, IsGradedGoal, RunsAnswerTruly}
 
 finished_trees : (known : Module) (procedures : List Procedure) (bodies : List Body)
     → map (λ (body : Body). body.tree) (finished_bodies known procedures bodies) ≡ all_finished known.types known.preds procedures bodies

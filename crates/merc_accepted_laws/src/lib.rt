@@ -1,4 +1,8 @@
-//! Laws of accepted modules and goals.
+//! Laws of accepted modules and goals: which faults are told of those that are not accepted, and what holds of the runs of
+//! those that are.
 #![tactic(auto)]
 
-pub mod laws;
+pub mod clauses;
+pub mod good_programs;
+pub mod runs;
+pub mod units;

@@ -1,7 +1,7 @@
 -- A goal that is asked has a body.
 use Rattle.std.proofs.Common.{[], refl}
 use Rattle.merc_bodies.specs.Bodies.{asked_body}
-use Rattle.merc_body_laws.proofs.JoinedTyping.{asked_typed}
+use Rattle.merc_order_laws.proofs.JoinedTyping.{asked_typed}
 use Rattle.merc_order.specs.Procedures.{first_fresh, modes_of}
 use Rattle.merc_order.specs.Spelt.{spelt}
 use Rattle.merc_order_laws.proofs.Bodies.{query_is_made_from}

@@ -9,7 +9,7 @@ use Rattle.merc_tree.specs.declared.declarations.PredDecl.{PredDecl}
 use Rattle.merc_tree.specs.declared.declarations.Module.{Module}
 use Rattle.merc_goal_tree.specs.Nodes.{Node}
 use Rattle.merc_bodies.specs.Bodies.{body_of, clauses_of, is_head}
-use Rattle.merc_body_laws.proofs.JoinedTyping.{body_typed}
+use Rattle.merc_order_laws.proofs.JoinedTyping.{body_typed}
 use Rattle.merc_known.specs.Known.{callee_in}
 use Rattle.merc_type_check.specs.Typing.{HasTyping}
 use Rattle.merc_fit_laws.specs.Existence.{BodiesAreThere}

@@ -14,10 +14,10 @@ use Rattle.merc_bodies.specs.Renamed.{all_renamed, renamed, renamed_goal}
 use Rattle.merc_flat.specs.Flat.{clause_node, query_node}
 use Rattle.merc_order_laws.specs.WrittenGoals.{all_simple_goals, simple_goals}
 use Rattle.merc_order_laws.proofs.Written.{all_left, all_right}
-use Rattle.merc_category_laws.specs.GoodPrograms.{FitsArguments}
-use Rattle.merc_found_laws.specs.ProgramBodies.{HasWrittenLiterals, WrittenLiteral}
+use Rattle.merc_truth_laws.specs.GoodPrograms.{FitsArguments}
+use Rattle.merc_module_laws.specs.ProgramBodies.{HasWrittenLiterals, WrittenLiteral}
 use Rattle.merc_module_laws.specs.ClauseWords.{ClauseHasWords}
-use Rattle.merc_module_laws.specs.Laws.{BodyHasLiterals, ModuleHasLiterals, QueryHasLiterals}
+use Rattle.merc_module_laws.specs.TextLaws.{BodyHasLiterals, ModuleHasLiterals, QueryHasLiterals}
 use Rattle.merc_module_laws.proofs.FormLiterals.{AreLiteral, joined}
 use Rattle.merc_module_laws.proofs.GoalLiterals.{HaveLiterals, clause_has_literals, goal_has_literals, nodes_literal}
 use Rattle.merc_module_laws.proofs.Lists.{all_implied}

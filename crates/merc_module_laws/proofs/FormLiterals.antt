@@ -17,7 +17,7 @@ use Rattle.merc_known.specs.declared.callee.Callee.TheVariants.{Predicate, Error
 use Rattle.merc_scopes.specs.declared.occurrence.Occurrence.{Occurrence}
 use Rattle.merc_flat_form.specs.FlatForm.{applied, call_of, called, compare, compared, comparison_of, equal, head_goal, head_goals, is_negation, naming, naming_all, operation_of, variable_at, variable_of, variables_at}
 use Rattle.merc_order_laws.proofs.Written.{all_joined}
-use Rattle.merc_found_laws.specs.ProgramBodies.{WrittenLiteral}
+use Rattle.merc_module_laws.specs.ProgramBodies.{WrittenLiteral}
 use Rattle.merc_module_laws.proofs.Lists.{if_holds}
 
 abbrev pub AreLiteral : List SimpleGoal → Type 0

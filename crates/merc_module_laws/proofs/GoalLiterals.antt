@@ -16,9 +16,9 @@ use Rattle.merc_flat_form.specs.FlatForm.{argument_terms, body_goals, called, co
 use Rattle.merc_flat.specs.Flat.{arity_of, query_node}
 use Rattle.merc_order_laws.specs.WrittenGoals.{all_simple_goals, simple_goals}
 use Rattle.merc_order_laws.proofs.Written.{all_joined}
-use Rattle.merc_found_laws.specs.ProgramBodies.{HasWrittenLiterals}
+use Rattle.merc_module_laws.specs.ProgramBodies.{HasWrittenLiterals}
 use Rattle.merc_module_laws.specs.ClauseWords.{BodyHasWords}
-use Rattle.merc_module_laws.specs.Laws.{ClauseHasLiterals}
+use Rattle.merc_module_laws.specs.TextLaws.{ClauseHasLiterals}
 use Rattle.merc_module_laws.proofs.FormLiterals.{AreLiteral, called_literal, compared_sides, equal_literal, head_goals_literal, joined}
 use Rattle.merc_module_laws.proofs.WrittenWords.{GoalHasWords, GoalsHaveWords, written_words}
 

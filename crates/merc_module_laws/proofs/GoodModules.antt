@@ -1,17 +1,17 @@
 -- A module without faults becomes a good program, and a goal that is asked a good one.
 use Rattle.merc_goals.specs.Written.{written}
 use Rattle.merc_bodies.specs.Bodies.{asked_body}
-use Rattle.merc_body_laws.proofs.JoinedTyping.{asked_typed}
+use Rattle.merc_order_laws.proofs.JoinedTyping.{asked_typed}
 use Rattle.merc_flat.specs.Flat.{clause_node, query_node}
 use Rattle.merc_grading.specs.Faults.{Body}
-use Rattle.merc_found_laws.proofs.Bodies.{query_becomes_good}
-use Rattle.merc_found_laws.proofs.OrderedGoals.{query_is_ordered}
-use Rattle.merc_found_laws.proofs.Programs.{program_becomes_good}
+use Rattle.merc_module_laws.proofs.Bodies.{query_becomes_good}
+use Rattle.merc_module_laws.proofs.OrderedGoals.{query_is_ordered}
+use Rattle.merc_module_laws.proofs.Programs.{program_becomes_good}
 use Rattle.merc_fit_laws.proofs.AskedBodies.{asked_body_is_there}
 use Rattle.merc_fit_laws.proofs.ModesFitting.{module_modes_fit}
 use Rattle.merc_fit_laws.proofs.PredicatesApart.{predicates_have_types}
 use Rattle.merc_fit_laws.proofs.ProcedureHeads.{bodies_are_there}
-use Rattle.merc_module_laws.specs.ProgramLaws.{AskedBecomesGood, ModuleBecomesGood}
+use Rattle.merc_module_laws.specs.ModuleLaws.{AskedBecomesGood, ModuleBecomesGood}
 use Rattle.merc_module_laws.proofs.BodyLiterals.{module_has_literals, query_has_literals}
 use Rattle.merc_module_laws.proofs.ModuleTypes.{module_has_good_types}
 use Rattle.merc_module_laws.proofs.OrderedModules.{bodies_typed, ordered_bodies}

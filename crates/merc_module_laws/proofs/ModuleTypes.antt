@@ -16,9 +16,9 @@ use Rattle.merc_declared.specs.UnknownTypes.{has_unknown}
 use Rattle.merc_items.specs.ModuleOf.{type_defs, unit_items}
 use Rattle.merc_items.specs.Phases.{HasNoFault, types_phase, unknown_type}
 use Rattle.merc_order_laws.proofs.Written.{all_joined}
-use Rattle.merc_category_laws.specs.GoodPrograms.{IsScoped}
+use Rattle.merc_truth_laws.specs.GoodPrograms.{IsScoped}
 use Rattle.merc_fit_laws.proofs.TypesApart.{types_are_told_apart}
-use Rattle.merc_module_laws.specs.Laws.{ModuleHasGoodTypes, ModuleIsScoped}
+use Rattle.merc_module_laws.specs.TextLaws.{ModuleHasGoodTypes, ModuleIsScoped}
 use Rattle.merc_module_laws.proofs.EntryFacts.{of_entries, of_own, of_unit_items, own_entry}
 use Rattle.merc_module_laws.proofs.LibraryTypes.{library_scoped}
 use Rattle.merc_module_laws.proofs.Lists.{all_flat, all_implied}

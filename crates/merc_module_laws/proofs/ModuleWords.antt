@@ -13,7 +13,7 @@ use Rattle.merc_entries.specs.Units.{AreUnits}
 use Rattle.merc_items.specs.ModuleOf.{clauses_in, unit_items}
 use Rattle.merc_order_laws.proofs.Written.{all_joined}
 use Rattle.merc_module_laws.specs.ClauseWords.{ClauseHasWords}
-use Rattle.merc_module_laws.specs.Laws.{ModuleHasWords}
+use Rattle.merc_module_laws.specs.TextLaws.{ModuleHasWords}
 use Rattle.merc_module_laws.proofs.EntryFacts.{of_entries, of_own, of_unit_items}
 use Rattle.merc_module_laws.proofs.ItemWords.{ItemHasWords, clauses_words, item_words}
 use Rattle.merc_module_laws.proofs.Lists.{all_flat, all_implied}

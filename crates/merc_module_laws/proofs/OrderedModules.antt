@@ -10,13 +10,13 @@ use Rattle.merc_tree.specs.declared.declarations.Module.{Module}
 use Rattle.merc_tree.specs.declared.declarations.PredDecl.{PredDecl}
 use Rattle.merc_goal_tree.specs.Nodes.{Node}
 use Rattle.merc_bodies.specs.Bodies.{body_of, clauses_of, is_head}
-use Rattle.merc_body_laws.proofs.JoinedTyping.{body_typed}
+use Rattle.merc_order_laws.proofs.JoinedTyping.{body_typed}
 use Rattle.merc_known.specs.Known.{callee_in}
 use Rattle.merc_type_check.specs.Typing.{HasTyping}
 use Rattle.merc_grading.specs.Faults.{Body, Procedure, procedures_of, with_modes}
 use Rattle.merc_order_laws.specs.TypedTree.{ModesFit}
-use Rattle.merc_found_laws.specs.ProgramBodies.{AreOrderedProcedures, HasWrittenLiterals}
-use Rattle.merc_found_laws.proofs.OrderedGoals.{procedure_is_ordered}
+use Rattle.merc_module_laws.specs.ProgramBodies.{AreOrderedProcedures, HasWrittenLiterals}
+use Rattle.merc_module_laws.proofs.OrderedGoals.{procedure_is_ordered}
 use Rattle.merc_fit_laws.specs.HeadTypes.{called_arguments, declared_arguments}
 use Rattle.merc_fit_laws.specs.ProcedureBodies.{AreBodiesOf}
 use Rattle.merc_fit_laws.proofs.PredicatesApart.{HasItsTypes}

@@ -14,7 +14,7 @@ use Rattle.merc_entries.specs.Entries.{Entry}
 use Rattle.merc_declared.specs.UnknownTypes.{has_unknown, is_unbound, is_unknown}
 use Rattle.merc_items.specs.ModuleOf.{constructor_of, declared_type, declared_types, named_type, parameters, type_defs_of, type_variable}
 use Rattle.merc_order.specs.Bound.{among}
-use Rattle.merc_category_laws.specs.GoodPrograms.{AllMentionOnly, IsScoped, MentionsOnly}
+use Rattle.merc_truth_laws.specs.GoodPrograms.{AllMentionOnly, IsScoped, MentionsOnly}
 use Rattle.merc_module_laws.proofs.Lists.{all_mapped, if_holds}
 
 first_not : (a b : Bool) → (a || b) ≡ false → a ≡ false

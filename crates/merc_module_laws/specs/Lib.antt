@@ -1,5 +1,11 @@
+pub mod OrderedBodies
+pub mod OrderedBodiesExamples
+pub mod TreeLaws
+pub mod ProgramBodies
+pub mod ProgramBodiesExamples
+pub mod ProgramLaws
 pub mod ClauseWords
 pub mod ClauseWordsExamples
-pub mod Laws
-pub mod ProgramLaws
-pub mod ProgramLawsExamples
+pub mod TextLaws
+pub mod ModuleLaws
+pub mod ModuleLawsExamples

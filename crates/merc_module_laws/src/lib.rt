@@ -1,4 +1,5 @@
-//! That modules without faults are good programs.
+//! Laws of trees with their switches and categories, and of modules without faults: that they are good programs.
 #![tactic(auto)]
 
-pub mod laws;
+pub mod modules;
+pub mod trees;

@@ -10,3 +10,8 @@ pub mod SpeltWritten
 pub mod Bodies
 pub mod Written
 pub mod TreeTypes
+pub mod Choices
+pub mod JoinedTyping
+pub mod JoinedVariables
+pub mod NewTypes
+pub mod NoGaps

@@ -9,3 +9,6 @@ pub mod GoodTreeExamples
 pub mod Laws
 pub mod TypedTree
 pub mod TypedTreeExamples
+pub mod BodyNumbers
+pub mod BodyNumbersExamples
+pub mod BodyTyping

@@ -1,4 +1,5 @@
-//! Laws of ordered goals: what their parts keep to.
+//! Laws of what the parts of ordered goals keep to, and of the bodies of predicates.
 #![tactic(auto)]
 
-pub mod laws;
+pub mod ordered_goals;
+pub mod predicate_bodies;

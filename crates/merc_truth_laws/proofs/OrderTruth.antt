@@ -26,7 +26,7 @@ use Rattle.merc_order_laws.proofs.Facts.{clash, or_left, or_right, or_cases, eit
 use Rattle.merc_order_laws.proofs.Ordering.{if_ready_is, if_is}
 use Rattle.merc_truth_laws.specs.Plain.{plain}
 use Rattle.merc_truth_laws.specs.Programs.{flat_procedure, flat_program, IsThere, IsOrderedProcedure, IsOrderedProgram}
-use Rattle.merc_truth_laws.specs.Laws.{SameTruth, CallsKeepTruth, BodiesKeepTruth, QueriesKeepTruth}
+use Rattle.merc_truth_laws.specs.TruthLaws.{SameTruth, CallsKeepTruth, BodiesKeepTruth, QueriesKeepTruth}
 use Rattle.merc_truth_laws.proofs.Basics.{first_same, rest_same}
 use Rattle.merc_truth_laws.proofs.Local.{IsByValues}
 use Rattle.merc_truth_laws.proofs.Keeping.{Within, Misses, KeepsAt}

@@ -16,7 +16,7 @@ use Rattle.merc_grading.specs.Switches.{split_variables, bound_behind, as_switch
 use Rattle.merc_meaning.specs.Runs.{Program, ProcedureBody}
 use Rattle.merc_meaning.specs.Truth.{Assignment, Outside, with, is_argument, Judgement, YesBody, NoBody, YesCall, NoCall}
 use Rattle.merc_order_laws.proofs.Facts.{clash, or_left, or_right, or_cases}
-use Rattle.merc_truth_laws.specs.Laws.{SameTruth}
+use Rattle.merc_truth_laws.specs.TruthLaws.{SameTruth}
 use Rattle.merc_truth_laws.specs.Switches.{IsSwitched, AreSwitched, SwitchedCallsKeepTruth, SwitchedGoalsKeepTruth}
 use Rattle.merc_truth_laws.proofs.Local.{IsByValues}
 use Rattle.merc_truth_laws.proofs.Keeping.{Within, Stays, Misses, KeepsAt, LawAll, LawEach, law_conjunction, law_disjunction, law_negation, law_quantified, law_none, law_no_arm, law_each, law_more, law_conditional}

@@ -11,7 +11,7 @@ use Rattle.merc_order_laws.specs.GoodTree.{GoodNode}
 use Rattle.merc_grading.specs.Switches.{find}
 use Rattle.merc_meaning.specs.Runs.{Program, ProcedureBody}
 use Rattle.merc_meaning.specs.Truth.{Assignment, Outside, YesCall, NoCall}
-use Rattle.merc_truth_laws.specs.Laws.{SameTruth}
+use Rattle.merc_truth_laws.specs.TruthLaws.{SameTruth}
 
 -- A procedure and the same with its switches: the body is good, and its variables have some types.
 abbrev pub IsSwitched : List TypeDef → (ℕ → List ModeDecl) → Option ProcedureBody → Option ProcedureBody → Type 0

@@ -1,4 +1,0 @@
-pub mod Instances
-pub mod InstancesExamples
-pub mod Laws
-pub mod LawsExamples

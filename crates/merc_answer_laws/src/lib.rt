@@ -1,4 +1,0 @@
-//! Laws of answers: what they say of truth.
-#![tactic(auto)]
-
-pub mod laws;

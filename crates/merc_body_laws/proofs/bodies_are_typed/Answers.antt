@@ -1,8 +1,0 @@
-use Rattle.merc_body_laws.proofs.JoinedTyping.{body_typed, asked_typed}
-use Rattle.merc_body_laws.proofs.bodies_are_typed.Goals as goal
-
-abbrev pub returns-clause-predicate : goal.returns-clause-predicate
-returns-clause-predicate c = body_typed
-
-abbrev pub returns-clause-asked : goal.returns-clause-asked
-returns-clause-asked c = asked_typed

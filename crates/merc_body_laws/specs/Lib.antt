@@ -1,3 +1,0 @@
-pub mod BodyNumbers
-pub mod BodyNumbersExamples
-pub mod BodyTyping

@@ -1,4 +1,0 @@
-//! Laws of categories: what the traces of a good program keep to.
-#![tactic(auto)]
-
-pub mod laws;

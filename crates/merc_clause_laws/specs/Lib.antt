@@ -1,2 +1,0 @@
-pub mod ClauseFaults
-pub mod UnitClauses

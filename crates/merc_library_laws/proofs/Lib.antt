@@ -1,4 +1,0 @@
-pub mod ListTrees
-pub mod ListCategories
-pub mod Allowed
-pub mod GoodModules

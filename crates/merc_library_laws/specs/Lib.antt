@@ -1,2 +1,0 @@
-pub mod AllowedUnits
-pub mod GoodModules

@@ -1,2 +1,0 @@
-pub mod UnitProcedures
-pub mod UnitCategories
