@@ -2,7 +2,7 @@
 use Rattle.std.proofs.Common.{◌≡◌, ℕ, true, ap, ◌∙◌}
 use Rattle.std.specs.Ordering.{nat_cmp, is_eq}
 use Rattle.merc_type_matching.proofs.Maps.{number-equal, number-same, then_equal, then_same}
-use Rattle.merc_type_check.specs.declared.checker.UsedVariable.{UsedVariable}
+use Rattle.merc_type_matching.specs.declared.used.UsedVariable.{UsedVariable}
 use Rattle.merc_type_check.specs.Progress.{compare_variables}
 
 pub variable-equal : (a b : UsedVariable) → is_eq (compare_variables a b) ≡ true → a ≡ b

@@ -10,7 +10,7 @@ use Rattle.merc_type_graph.specs.Solutions.{Entry, Graph, Unknown, WholeEntry, A
 use Rattle.merc_type_graph.specs.Changes.{AllWithin, Adds, MakesEqual, MakesWhole}
 use Rattle.merc_type_check.specs.declared.checker.Checker.{Checker}
 use Rattle.merc_type_check.specs.declared.checker.UsedType.{UsedType}
-use Rattle.merc_type_check.specs.declared.checker.UsedVariable.{UsedVariable}
+use Rattle.merc_type_matching.specs.declared.used.UsedVariable.{UsedVariable}
 use Rattle.merc_type_matching.specs.declared.matchings.Matchings.{Matchings}
 use Rattle.merc_type_matching.specs.Kept.{AreKept}
 use Rattle.merc_type_check.specs.Progress.{compare_variables, used_type, Types, Instances, AgreesWith, AgreesIn, Fits, AreMet, AreThere, AgreeBelow, IsLocal, IsNewIf, IsSound, Keeps, Nothing, Offers, Stands, AllStand, Step, Takes, Places, Waits}

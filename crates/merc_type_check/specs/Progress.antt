@@ -11,7 +11,7 @@ use Rattle.merc_type_graph.specs.Changes.{AllWithin, Decides}
 use Rattle.merc_type_matching.specs.Kept.{AreKept}
 use Rattle.merc_type_check.specs.declared.checker.Checker.{Checker}
 use Rattle.merc_type_check.specs.declared.checker.UsedType.{UsedType}
-use Rattle.merc_type_check.specs.declared.checker.UsedVariable.{UsedVariable}
+use Rattle.merc_type_matching.specs.declared.used.UsedVariable.{UsedVariable}
 use Rattle.merc_type_check.specs.declared.typings.Typing.{Typing}
 
 -- types by numbers: of places, of variables, or of what type variables stand for

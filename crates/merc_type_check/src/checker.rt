@@ -14,7 +14,7 @@ use crate::typings::Typing;
 use merc_base::{Name, NoMemory, Sequence};
 use merc_goal_tree::Var;
 use merc_type_graph::{Place, TypeGraph};
-use merc_type_matching::{ListedTypes, Matchings, NamePair, NumberPair};
+use merc_type_matching::{ListedTypes, Matchings, NamePair, NumberPair, UsedVariable};
 use merc_type_table::{TypeNode, TypeNumber, TypeTable};
 use std::alloc::Global;
 use std::collections::BTreeMap;
@@ -24,13 +24,6 @@ use std::collections::BTreeMap;
 pub(crate) struct UsedType {
     pub(crate) number: TypeNumber,
     pub(crate) user: usize,
-}
-
-/// A type variable of the declarations that a part of the goal uses.
-#[derive(Clone, Copy, PartialEq, Eq, PartialOrd, Ord)]
-pub(crate) struct UsedVariable {
-    pub(crate) user: usize,
-    pub(crate) name: Name,
 }
 
 /// What is known of types: equations between the types at places, and the places of variables and type variables.
@@ -217,7 +210,7 @@ impl<'a> Checker<'a> {
         ensures placed { IfOk result (λ place. Places self.old self.new place (λ types instance. instance user name)) }
         ensures kept { OnOk result (Keeps self.old self.new) }
     {
-        let variable = UsedVariable { user, name };
+        let variable = UsedVariable::new(user, name);
         match self.instances.get(&variable).copied() {
             Some(place) => Ok(place),
             None => {
@@ -240,7 +233,7 @@ impl<'a> Checker<'a> {
         requires there { place < length self.old.graph.entries }
         ensures { IfOk result (λ done. (Meant : Types → Instances → TypeExpr) → Stands self.old place Meant → Takes done self.old self.new (λ types instance. Meant types instance ≡ instance user name)) }
     {
-        let variable = UsedVariable { user, name };
+        let variable = UsedVariable::new(user, name);
         match self.instances.get(&variable).copied() {
             Some(other) => self.make_equal(place, other),
             None => {
