@@ -1,5 +1,5 @@
 -- What is missing of the symbols of disjuncts is missing of fewer of them too.
-use Rattle.std.specs.Prelude.{◌≡◌, ◌<◌, ℕ, zero, suc, Bool, true, false, ◌||◌, ◌&&◌, ◌==◌, List, [], ◌∷◌, length, map, Option, Some, None, IfSome, refl}
+use Rattle.std.specs.Prelude.{◌≡◌, ◌<◌, ℕ, zero, suc, Bool, true, false, ◌||◌, ◌&&◌, ◌==◌, List, [], ◌∷◌, length, map, Option, Some, None, IfSome, MatchOption, refl}
 use Rattle.std.specs.List.{AllByRecursion, list_all, slice_index_or}
 use Rattle.std.proofs.Common.{◌∙◌, ap, sym, subst, cond, arith}
 use Rattle.std.proofs.lemmas.Bool.Decides.{Decides-eqb}
@@ -54,6 +54,12 @@ not_all_if false symbols first rest s same is none others = ap (λ b. has_symbol
 pub not_all : (symbols all : List Symbol) (s : Symbol) → has_symbol all s ≡ true → has_symbol symbols s ≡ false → list_all (λ symbol. has_symbol symbols symbol) all ≡ false
 not_all symbols [] s is none = absurd (cc)
 not_all symbols (first ∷ rest) s is none = not_all_if (same_symbol s first) symbols first rest s refl is none (λ h. not_all symbols rest s h none)
+
+pub found_some : {X : Type 0} (A : Type 0) (B : X → Type 0) (found : Option X) (one : X) → MatchOption found A B → found ≡ Some one → B one
+found_some A B found one told is = subst (λ o. MatchOption o A B) is told
+
+pub found_none : {X : Type 0} (A : Type 0) (B : X → Type 0) (found : Option X) → MatchOption found A B → found ≡ None → A
+found_none A B found told is = subst (λ o. MatchOption o A B) is told
 
 pub none_of_all : (disjuncts : List Node) (v : ℕ) (set : List Symbol) (s : Symbol) → set ≡ all_symbols [] (symbols_in disjuncts v) → has_symbol set s ≡ false → has_symbol (symbols_in disjuncts v) s ≡ false
 none_of_all disjuncts v set s collected none = sym (ap (λ l. has_symbol l s) collected ∙ has-all [] (symbols_in disjuncts v) s) ∙ none

@@ -1,13 +1,15 @@
 //! Disjuncts by the symbols of a variable.
-ghost use Rattle.std.specs.Prelude.{◌≡◌, ◌<◌, ◌==◌, ◌++◌, ◌∷◌, [], true, length, if◌then◌else◌, IfOk, OnOk};
+ghost use Rattle.std.specs.Prelude.{◌≡◌, ◌<◌, ◌==◌, ◌++◌, ◌∷◌, List, [], true, length, if◌then◌else◌, IfOk, OnOk};
 ghost use Rattle.std.specs.List.{list_all, slice_index_or, slice_set, position_or_len};
 ghost use Rattle.merc_grading.specs.Known.{same_symbol};
-ghost use Rattle.merc_grading.specs.Switches.{symbol_at, is_there, grouped};
+ghost use Rattle.merc_grading.specs.Switches.{Group, symbol_at, is_there, grouped};
 ghost use Rattle.merc_switch_choice.specs.Arms.{AreArms};
+ghost use Rattle.merc_switch_choice.specs.Summaries.{DescribesAll};
 ghost use Rattle.merc_switch_choice.specs.Symbols.{with_symbol};
 
 use crate::counted::{Disjuncts, counted_each};
 use crate::disjuncts::Disjunct;
+use crate::summary::Summary;
 use crate::symbols::SymbolSet;
 use merc_base::{NoMemory, Sequence};
 use merc_goal_tree::{Symbol, Var};
@@ -42,11 +44,31 @@ pub fn arms_of<'a>(
     ensures { IfOk result (λ arms. AreArms arms.symbols.items arms.groups.items (grouped variable disjuncts.entry)) }
 {
     let (items, summary) = disjuncts.into_parts();
-    let parts = parts_of(alloc, variable, items)?;
-    Ok(Arms {
-        symbols: parts.symbols,
-        groups: counted_each(alloc, parts.groups, summary)?,
-    })
+    match parts_of(alloc, variable, items) {
+        Ok(parts) => counted_arms(alloc, parts, summary),
+        Err(refused) => {
+            // (calls, here and below, since it costs much to prove what is dropped)
+            drop(summary);
+            Err(refused)
+        }
+    }
+}
+
+// The arms with their disjuncts counted. Given is what is known of all together.
+fn counted_arms<'a>(alloc: Global, parts: Parts<'a>, summary: Summary) -> Result<Arms<'a>, NoMemory>
+    requires { DescribesAll summary parts.groups.items }
+    ensures { IfOk result (λ arms. (groups : List Group) → AreArms parts.entry.symbols.items parts.entry.groups.items groups → AreArms arms.symbols.items arms.groups.items groups) }
+{
+    match counted_each(alloc, parts.groups, summary) {
+        Ok(groups) => Ok(Arms {
+            symbols: parts.symbols,
+            groups,
+        }),
+        Err(refused) => {
+            drop(parts.symbols);
+            Err(refused)
+        }
+    }
 }
 
 // Disjuncts by their symbols.
@@ -60,13 +82,39 @@ fn parts_of<'a>(
     let mut places = SymbolSet::new(alloc);
     let mut symbols = Vec::new(alloc);
     let mut groups = Vec::new(alloc);
+    let done = put_all(
+        alloc,
+        variable,
+        disjuncts,
+        &mut places,
+        &mut symbols,
+        &mut groups,
+    );
+    drop(places);
+    done.and(Ok(Parts { symbols, groups }))
+}
+
+// Puts disjuncts to the arms of their symbols, where there are no arms yet.
+fn put_all<'a>(
+    alloc: Global,
+    variable: Var,
+    disjuncts: Vec<Disjunct<'a>>,
+    places: &mut SymbolSet,
+    symbols: &mut Vec<Symbol>,
+    groups: &mut Vec<Sequence<Disjunct<'a>>>,
+) -> Result<(), NoMemory>
+    requires places { places.old ≡ [] }
+    requires symbols { symbols.old.items ≡ [] }
+    requires groups { groups.old.items ≡ [] }
+    ensures { OnOk result (AreArms symbols.new.items groups.new.items (grouped variable disjuncts.entry.items)) }
+{
     for disjunct in disjuncts {
         if let Some(symbol) = disjunct.symbol(variable) {
-            let place = open_arm(alloc, &symbol, &mut places, &mut symbols, &mut groups)?;
-            push_at(&mut groups, place, disjunct)?;
+            let place = open_arm(alloc, &symbol, places, symbols, groups)?;
+            push_at(groups, place, disjunct)?;
         }
     }
-    Ok(Parts { symbols, groups })
+    Ok(())
 }
 
 // The place of a symbol's arm. A new symbol has an arm without disjuncts behind the others.

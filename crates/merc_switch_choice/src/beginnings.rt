@@ -1,5 +1,5 @@
 //! What goals begin with.
-ghost use Rattle.std.specs.Prelude.{◌≡◌, ◌++◌, reverse, IfOk, OnOk};
+ghost use Rattle.std.specs.Prelude.{◌≡◌, ◌++◌, [], reverse, IfOk, OnOk};
 ghost use Rattle.merc_grading.specs.Switches.{beginning, basic_beginning};
 ghost use Rattle.merc_switch_choice.specs.Beginnings.{Begins, left_with};
 
@@ -18,11 +18,27 @@ pub(crate) fn splits_of(alloc: Global, goal: &NodeRef<'_>) -> Result<Vec<(Var, S
 {
     let mut splits = Vec::new(alloc);
     let mut rest = Vec::new(alloc);
+    let done = put_splits(goal, &mut rest, &mut splits);
+    // (a call, since it costs much to prove what is dropped here)
+    drop(rest);
+    done.and(Ok(splits))
+}
+
+// Puts the splits with which a goal begins to none, where there is no rest.
+fn put_splits<'a>(
+    goal: &NodeRef<'a>,
+    rest: &mut Vec<NodeRef<'a>>,
+    splits: &mut Vec<(Var, Symbol)>,
+) -> Result<(), NoMemory>
+    requires rest { rest.old.items ≡ [] }
+    requires splits { splits.old.items ≡ [] }
+    ensures { OnOk result (splits.new.items ≡ (beginning goal.now).splits) }
+{
     rest.push(goal.copy())?;
     while let Some(next) = rest.pop() {
-        begin(&next, &mut rest, &mut splits)?;
+        begin(&next, rest, splits)?;
     }
-    Ok(splits)
+    Ok(())
 }
 
 // Goes on with the next goal: puts its split behind the others, or its goals before the rest, of which the last comes

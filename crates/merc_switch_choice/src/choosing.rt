@@ -1,5 +1,5 @@
 //! The variables on which disjuncts can be a switch.
-ghost use Rattle.std.specs.Prelude.{◌≡◌, ℕ, ◌&&◌, [], List, IfOk};
+ghost use Rattle.std.specs.Prelude.{◌≡◌, ℕ, ◌&&◌, [], List, IfOk, OnOk};
 ghost use Rattle.merc_tree.specs.declared.declarations.TypeDef.{TypeDef};
 ghost use Rattle.merc_order.specs.Bound.{among};
 ghost use Rattle.merc_switch_choice.specs.Choosing.{is_open, AreLeft, Takes};
@@ -79,13 +79,27 @@ fn open_among(
     ensures { IfOk result (λ opened. (variable : ℕ) → among opened variable ≡ (is_open (among bound.now) used.now disjuncts.now variable && among numbers.now variable)) }
 {
     let mut opened = OrderedVars::new(alloc);
+    add_open(bound, used, disjuncts, numbers, &mut opened).and(Ok(opened))
+}
+
+// Adds those of the variables of these numbers on which disjuncts can be a switch to none.
+fn add_open(
+    bound: &VarSet,
+    used: &VarSet,
+    disjuncts: &Disjuncts<'_>,
+    numbers: &[usize],
+    opened: &mut OrderedVars,
+) -> Result<(), NoMemory>
+    requires { opened.old ≡ [] }
+    ensures { OnOk result ((variable : ℕ) → among opened.new variable ≡ (is_open (among bound.now) used.now disjuncts.now variable && among numbers.now variable)) }
+{
     for number in numbers {
         let variable = Var::new(*number);
         if is_open(bound, used, disjuncts, variable) {
             opened.add(variable)?;
         }
     }
-    Ok(opened)
+    Ok(())
 }
 
 // Whether disjuncts can be a switch on the variable.

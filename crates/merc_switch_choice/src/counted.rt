@@ -1,5 +1,5 @@
 //! Several disjuncts together, of which it is known how many split each variable.
-ghost use Rattle.std.specs.Prelude.{◌≡◌, ◌<◌, ◌-◌, ℕ, length, IfOk, IfSome, OnOk};
+ghost use Rattle.std.specs.Prelude.{◌≡◌, ◌<◌, ◌≤◌, ◌-◌, ℕ, [], insert, length, IfOk, IfSome, OnOk};
 ghost use Rattle.std.specs.List.{list_all, AllByRecursion};
 ghost use Rattle.merc_grading.specs.Switches.{symbol_at, is_there};
 ghost use Rattle.merc_switch_choice.specs.Counting.{splitting, count_of, all_splitting};
@@ -49,8 +49,14 @@ impl<'a> Disjuncts<'a> {
     pub fn of(alloc: Global, items: Vec<Disjunct<'a>>) -> Result<Disjuncts<'a>, NoMemory>
         ensures { IfOk result (λ disjuncts. disjuncts ≡ items.entry.items) }
     {
-        let summary = Summary::of(alloc, &items)?;
-        Ok(Disjuncts { items, summary })
+        match Summary::of(alloc, &items) {
+            Ok(summary) => Ok(Disjuncts { items, summary }),
+            Err(refused) => {
+                // (a call, since it costs much to prove what is dropped here)
+                drop(items);
+                Err(refused)
+            }
+        }
     }
 
     // These disjuncts, of which this is known.
@@ -80,6 +86,8 @@ impl<'a> Disjuncts<'a> {
     pub fn into_vec(self) -> Vec<Disjunct<'a>>
         ensures { result.items ≡ self.entry }
     {
+        // (a call, since it costs much to prove what is dropped here)
+        drop(self.summary);
         self.items
     }
 
@@ -145,18 +153,66 @@ pub(crate) fn counted_each<'a>(
     ensures { IfOk result (λ counted. counted.items ≡ groups.entry.items) }
 {
     if groups.is_empty() {
+        // (calls, here and below, since it costs much to prove what is dropped)
+        drop(groups);
+        drop(summary);
         return Ok(Vec::new(alloc));
     }
+    counted_by_largest(alloc, groups, summary)
+}
+
+// The same where there is a group.
+fn counted_by_largest<'a>(
+    alloc: Global,
+    groups: Vec<Sequence<Disjunct<'a>>>,
+    summary: Summary,
+) -> Result<Vec<Disjuncts<'a>>, NoMemory>
+    requires some { 0 < length groups.items }
+    requires known { DescribesAll summary groups.items }
+    ensures { IfOk result (λ counted. counted.items ≡ groups.entry.items) }
+{
     let mut groups = groups;
     let mut summary = summary;
     let largest = largest_of(&groups);
     let largest_group = groups.remove(largest);
-    let mut counted = counted_anew(alloc, groups, &mut summary.counts)?;
-    counted.insert(
-        largest,
-        Disjuncts::with_summary(largest_group.into_vec(), summary),
-    )?;
-    Ok(counted)
+    match counted_anew(alloc, groups, &mut summary.counts) {
+        Ok(others) => with_group(
+            others,
+            largest,
+            Disjuncts::with_summary(largest_group.into_vec(), summary),
+        ),
+        Err(refused) => {
+            drop(largest_group);
+            drop(summary);
+            Err(refused)
+        }
+    }
+}
+
+// Groups and one more at an index.
+fn with_group<'a>(
+    others: Vec<Disjuncts<'a>>,
+    index: usize,
+    group: Disjuncts<'a>,
+) -> Result<Vec<Disjuncts<'a>>, NoMemory>
+    requires { index ≤ length others.items }
+    ensures { IfOk result (λ groups. groups.items ≡ insert others.entry.items index group.entry) }
+{
+    let mut groups = others;
+    put_group(&mut groups, index, group).and(Ok(groups))
+}
+
+// Puts a group at an index before the others.
+fn put_group<'a>(
+    groups: &mut Vec<Disjuncts<'a>>,
+    index: usize,
+    group: Disjuncts<'a>,
+) -> Result<(), NoMemory>
+    requires { index ≤ length groups.old.items }
+    ensures { OnOk result (groups.new.items ≡ insert groups.old.items index group.entry) }
+{
+    groups.insert(index, group)?;
+    Ok(())
 }
 
 // The index of the group that has the most disjuncts.
@@ -183,12 +239,40 @@ fn counted_anew<'a>(
 {
     let mut groups = groups;
     let mut counted = Vec::new(alloc);
+    let done = count_anew(alloc, &mut groups, counts, &mut counted);
+    drop(groups);
+    done.and(Ok(counted))
+}
+
+// Takes out the groups, and puts each to none, counted anew and taken out of the counts.
+fn count_anew<'a>(
+    alloc: Global,
+    groups: &mut Vec<Sequence<Disjunct<'a>>>,
+    counts: &mut VarCounts,
+    counted: &mut Vec<Disjuncts<'a>>,
+) -> Result<(), NoMemory>
+    requires { counted.old.items ≡ [] }
+    ensures groups { OnOk result (counted.new.items ≡ groups.old.items) }
+    ensures counts { OnOk result ((variable : ℕ) → count_of counts.new variable ≡ count_of counts.old variable - all_splitting groups.old.items variable) }
+{
     while let Some(last) = groups.pop() {
-        remove_splits(last.as_slice(), counts)?;
-        counted.push(Disjuncts::of(alloc, last.into_vec())?)?;
+        counted.push(group_anew(alloc, last, counts)?)?;
     }
     counted.reverse();
-    Ok(counted)
+    Ok(())
+}
+
+// A group of disjuncts, counted anew, and taken out of the counts.
+fn group_anew<'a>(
+    alloc: Global,
+    group: Sequence<Disjunct<'a>>,
+    counts: &mut VarCounts,
+) -> Result<Disjuncts<'a>, NoMemory>
+    ensures group { IfOk result (λ counted. counted ≡ group.entry) }
+    ensures counts { OnOk result ((variable : ℕ) → count_of counts.new variable ≡ count_of counts.old variable - splitting group.entry variable) }
+{
+    let counted = Disjuncts::of(alloc, group.into_vec())?;
+    remove_splits(counted.as_slice(), counts).and(Ok(counted))
 }
 
 // Takes the splits of disjuncts out of the counts.

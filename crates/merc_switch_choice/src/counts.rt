@@ -1,5 +1,5 @@
 //! A count for each variable.
-ghost use Rattle.std.specs.Prelude.{◌≡◌, ◌==◌, ◌<◌, ◌+◌, ◌-◌, ℕ, nat_lt, if◌then◌else◌, IfOk, OnOk};
+ghost use Rattle.std.specs.Prelude.{◌≡◌, ◌==◌, ◌<◌, ◌+◌, ◌-◌, ℕ, [], nat_lt, if◌then◌else◌, IfOk, OnOk};
 ghost use Rattle.indexmap.specs.IndexMap.{index_map_len};
 ghost use Rattle.merc_order.specs.Bound.{among};
 ghost use Rattle.merc_switch_choice.specs.Counting.{occurrences, count_of};
@@ -51,13 +51,21 @@ impl VarCounts {
         ensures { IfOk result (λ variables. (variable : ℕ) → among variables variable ≡ nat_lt 0 (count_of self.now variable)) }
     {
         let mut variables = VarSet::new(alloc);
+        self.add_counted(&mut variables).and(Ok(variables))
+    }
+
+    // Adds the variables whose count is above 0 to none.
+    fn add_counted(&self, variables: &mut VarSet) -> Result<(), NoMemory>
+        requires { variables.old ≡ [] }
+        ensures { OnOk result ((variable : ℕ) → among variables.new variable ≡ nat_lt 0 (count_of self.now variable)) }
+    {
         for number in self.by_number.keys().as_slice() {
             let variable = Var::new(*number);
             if self.of(variable) > 0 {
                 variables.add(variable)?;
             }
         }
-        Ok(variables)
+        Ok(())
     }
 
     /// Counts each variable of these numbers once more.

@@ -1,5 +1,5 @@
 //! Whether the symbols of disjuncts are all of a type.
-ghost use Rattle.std.specs.Prelude.{◌≡◌, [], true, false, map, IfOk, MatchOption};
+ghost use Rattle.std.specs.Prelude.{◌≡◌, [], true, false, map, IfOk, MatchOption, OnOk};
 ghost use Rattle.std.specs.List.{list_all};
 ghost use Rattle.std.specs.Option.{option_map};
 ghost use Rattle.merc_grading.specs.Known.{has_symbol, symbol_of};
@@ -40,8 +40,7 @@ pub(crate) fn is_covered(
     if has_gap(disjuncts, variable, constructors) {
         return Ok(false);
     }
-    let symbols = symbols_in(alloc, disjuncts.as_slice(), variable)?;
-    match first_missing(&symbols, constructors) {
+    match missing_among(alloc, disjuncts.as_slice(), variable, constructors)? {
         Some(gap) => {
             disjuncts.keep_gap(variable, gap)?;
             Ok(false)
@@ -60,6 +59,22 @@ fn has_gap(disjuncts: &Disjuncts<'_>, variable: Var, constructors: &[Constructor
     }
 }
 
+// The first of the constructors by which none of the disjuncts splits a variable.
+fn missing_among(
+    alloc: Global,
+    disjuncts: &[Disjunct<'_>],
+    variable: Var,
+    constructors: &[Constructor],
+) -> Result<Option<Gap>, NoMemory>
+    ensures { IfOk result (λ missing. MatchOption missing (list_all (λ symbol. has_symbol (all_symbols [] (symbols_in disjuncts.now variable)) symbol) (map symbol_of constructors.now) ≡ true) (λ gap. IsMissing (all_symbols [] (symbols_in disjuncts.now variable)) (map symbol_of constructors.now) (symbol_of_gap gap))) }
+{
+    let symbols = symbols_in(alloc, disjuncts, variable)?;
+    let missing = first_missing(&symbols, constructors);
+    // (a call, since it costs much to prove what is dropped here)
+    drop(symbols);
+    Ok(missing)
+}
+
 // The symbols by which disjuncts split a variable.
 fn symbols_in(
     alloc: Global,
@@ -69,12 +84,23 @@ fn symbols_in(
     ensures { IfOk result (λ symbols. symbols ≡ all_symbols [] (symbols_in disjuncts.now variable)) }
 {
     let mut symbols = SymbolSet::new(alloc);
+    add_symbols(disjuncts, variable, &mut symbols).and(Ok(symbols))
+}
+
+// Adds the symbols by which disjuncts split a variable.
+fn add_symbols(
+    disjuncts: &[Disjunct<'_>],
+    variable: Var,
+    symbols: &mut SymbolSet,
+) -> Result<(), NoMemory>
+    ensures { OnOk result (symbols.new ≡ all_symbols symbols.old (symbols_in disjuncts.now variable)) }
+{
     for disjunct in disjuncts {
         if let Some(symbol) = disjunct.symbol(variable) {
             symbols.add(symbol)?;
         }
     }
-    Ok(symbols)
+    Ok(())
 }
 
 // The constructors of the type to which the first symbol belongs by which disjuncts split a variable, None where its

@@ -1,5 +1,5 @@
 //! Disjuncts with the symbols by which they split variables at their beginnings.
-ghost use Rattle.std.specs.Prelude.{◌≡◌, ℕ, nat_eq, length, IfOk};
+ghost use Rattle.std.specs.Prelude.{◌≡◌, ℕ, nat_eq, length, None, IfOk, OnOk};
 ghost use Rattle.indexmap.specs.IndexMap.{get};
 ghost use Rattle.merc_order.specs.Bound.{among};
 ghost use Rattle.merc_grading.specs.Switches.{beginning, symbol_in, symbol_at, is_there};
@@ -49,11 +49,14 @@ impl<'a> Disjunct<'a> {
         ensures { IfOk result (λ disjunct. disjunct ≡ goal.entry) }
     {
         let splits = splits_of(alloc, &goal)?;
-        let symbols = first_symbols(alloc, &splits)?;
+        let split_count = splits.len();
+        let symbols = first_symbols(alloc, &splits);
+        // (a call, since it costs much to prove what is dropped here)
+        drop(splits);
         Ok(Disjunct {
             goal,
-            split_count: splits.len(),
-            symbols,
+            split_count,
+            symbols: symbols?,
         })
     }
 
@@ -96,11 +99,22 @@ fn first_symbols(
     ensures { IfOk result (λ symbols. (variable : ℕ) → get nat_eq symbols variable ≡ symbol_in splits.now variable) }
 {
     let mut symbols = IndexMap::new(alloc);
+    put_symbols(splits, &mut symbols).and(Ok(symbols))
+}
+
+// Puts the first symbol of each variable where there is none.
+fn put_symbols(
+    splits: &[(Var, Symbol)],
+    symbols: &mut IndexMap<usize, Symbol>,
+) -> Result<(), NoMemory>
+    requires { (variable : ℕ) → get nat_eq symbols.old variable ≡ None }
+    ensures { OnOk result ((variable : ℕ) → get nat_eq symbols.new variable ≡ symbol_in splits.now variable) }
+{
     let mut index = splits.len();
     while index > 0 {
         index -= 1;
         let (variable, symbol) = splits[index];
         symbols.insert(variable.number(), symbol)?;
     }
-    Ok(symbols)
+    Ok(())
 }

@@ -1,6 +1,6 @@
 //! What is known of several disjuncts together.
-ghost use Rattle.std.specs.Prelude.{IfOk};
-ghost use Rattle.merc_switch_choice.specs.Counting.{Counts};
+ghost use Rattle.std.specs.Prelude.{◌≡◌, ℕ, IfOk, OnOk};
+ghost use Rattle.merc_switch_choice.specs.Counting.{Counts, count_of};
 ghost use Rattle.merc_switch_choice.specs.Summaries.{Describes};
 
 use crate::counts::VarCounts;
@@ -38,8 +38,16 @@ fn counts_of(alloc: Global, disjuncts: &[Disjunct<'_>]) -> Result<VarCounts, NoM
     ensures { IfOk result (λ counts. Counts counts disjuncts.now) }
 {
     let mut counts = VarCounts::new(alloc);
+    add_splits(disjuncts, &mut counts).and(Ok(counts))
+}
+
+// Counts the splits of disjuncts where nothing is counted yet.
+fn add_splits(disjuncts: &[Disjunct<'_>], counts: &mut VarCounts) -> Result<(), NoMemory>
+    requires { (variable : ℕ) → count_of counts.old variable ≡ 0 }
+    ensures { OnOk result (Counts counts.new disjuncts.now) }
+{
     for disjunct in disjuncts {
         counts.add_each(disjunct.variables())?;
     }
-    Ok(counts)
+    Ok(())
 }

@@ -103,11 +103,17 @@ impl VarSet {
         ensures { IfOk result (λ more. more ≡ behind (all_behind [] self.now) variable) }
     {
         let mut more = VarSet::new(alloc);
-        for number in self.numbers() {
-            more.add(Var::new(*number))?;
+        more.add_both(self, variable).and(Ok(more))
+    }
+
+    // Puts those of a set and the variable behind these, unless they are some of them.
+    fn add_both(&mut self, others: &VarSet, variable: Var) -> Result<(), NoMemory>
+        ensures { OnOk result (self.new ≡ behind (all_behind self.old others.now) variable) }
+    {
+        for number in others.numbers() {
+            self.add(Var::new(*number))?;
         }
-        more.add(variable)?;
-        Ok(more)
+        self.add(variable)
     }
 }
 
@@ -120,11 +126,19 @@ pub fn bound_inputs(alloc: Global, inputs: &[Arg]) -> Result<VarSet, NoMemory>
     ensures { IfOk result (λ bound. among bound ≡ bound_at inputs.now) }
 {
     let mut bound = VarSet::new(alloc);
+    add_inputs(inputs, &mut bound).and(Ok(bound))
+}
+
+// Adds the arguments that a mode has bound before to none.
+fn add_inputs(inputs: &[Arg], bound: &mut VarSet) -> Result<(), NoMemory>
+    requires { bound.old ≡ [] }
+    ensures { OnOk result ((variable : ℕ) → among bound.new variable ≡ bound_at inputs.now variable) }
+{
     for (index, place) in inputs.iter().enumerate() {
         match place {
             Arg::Input => bound.add(Var::new(index))?,
             Arg::Output => {}
         }
     }
-    Ok(bound)
+    Ok(())
 }

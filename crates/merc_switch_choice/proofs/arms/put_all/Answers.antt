@@ -3,7 +3,7 @@ use Rattle.std.specs.List.{slice_index_or, slice_set}
 use Rattle.merc_grading.specs.Switches.{grouped}
 use Rattle.merc_switch_choice.specs.Arms.{AreArms, joined_in}
 use Rattle.merc_switch_choice.proofs.ArmLaws.{Adds, has_room, arms_added, places_added, grouped_some, grouped_none, written_back}
-use Rattle.merc_switch_choice.proofs.arms.parts_of.Goals as goal
+use Rattle.merc_switch_choice.proofs.arms.put_all.Goals as goal
 
 pub push_at-requires : goal.push_at-requires
 push_at-requires c =

@@ -1,7 +1,7 @@
 use Rattle.std.proofs.Common.{◌≡◌, ◌≤◌, ℕ, nat_eq, drop, length}
 use Rattle.indexmap.specs.IndexMap.{get}
 use Rattle.merc_grading.specs.Switches.{symbol_in}
-use Rattle.merc_switch_choice.proofs.disjuncts.first_symbols.Given as goal
+use Rattle.merc_switch_choice.proofs.disjuncts.put_symbols.Given as goal
 
 abbrev pub invariant-loop-index : goal.invariant-loop-index
 invariant-loop-index l = record {

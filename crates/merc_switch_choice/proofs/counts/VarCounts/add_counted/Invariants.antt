@@ -2,7 +2,7 @@ use Rattle.std.proofs.Common.{◌≡◌, ◌||◌, ◌&&◌, ℕ, drop}
 use Rattle.std.specs.Prelude.{nat_lt}
 use Rattle.merc_order.specs.Bound.{among}
 use Rattle.merc_switch_choice.specs.Counting.{count_of}
-use Rattle.merc_switch_choice.proofs.counts.VarCounts.variables.Given as goal
+use Rattle.merc_switch_choice.proofs.counts.VarCounts.add_counted.Given as goal
 
 abbrev pub invariant-loop-number : goal.invariant-loop-number
 invariant-loop-number l =

@@ -1,7 +1,7 @@
 use Rattle.std.proofs.Common.{◌≡◌, ◌&&◌, ◌||◌, ℕ, drop}
 use Rattle.merc_order.specs.Bound.{among}
 use Rattle.merc_switch_choice.specs.Choosing.{is_open}
-use Rattle.merc_switch_choice.proofs.choosing.open_among.Given as goal
+use Rattle.merc_switch_choice.proofs.choosing.add_open.Given as goal
 
 abbrev pub invariant-loop-number : goal.invariant-loop-number
 invariant-loop-number l =

@@ -1,7 +1,7 @@
 use Rattle.std.proofs.Common.{◌≡◌, ◌-◌, ◌++◌, ℕ, length}
 use Rattle.std.specs.Prelude.{reverse}
 use Rattle.merc_switch_choice.specs.Counting.{count_of, all_splitting}
-use Rattle.merc_switch_choice.proofs.counted.counted_anew.Given as goal
+use Rattle.merc_switch_choice.proofs.counted.count_anew.Given as goal
 
 abbrev pub invariant-loop-last : goal.invariant-loop-last
 invariant-loop-last l = record {

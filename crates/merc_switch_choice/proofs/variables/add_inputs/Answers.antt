@@ -1,7 +1,7 @@
 use Rattle.std.proofs.Common.{◌∙◌}
 use Rattle.merc_switch_choice.proofs.Inputs.{input_bound, output_unbound}
-use Rattle.merc_switch_choice.proofs.variables.bound_inputs.Goals as goal
-use Rattle.merc_switch_choice.proofs.variables.bound_inputs.Goals.{in-Input+in_ok-add-in-Input, in-Output}
+use Rattle.merc_switch_choice.proofs.variables.add_inputs.Goals as goal
+use Rattle.merc_switch_choice.proofs.variables.add_inputs.Goals.{in-Input+in_ok-add-in-Input, in-Output}
 
 pub loop-index-preserved : goal.loop-index-preserved
 loop-index-preserved c = λ variable.

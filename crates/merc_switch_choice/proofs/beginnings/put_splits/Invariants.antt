@@ -2,7 +2,7 @@ use Rattle.std.proofs.Common.{◌≡◌, length}
 use Rattle.merc_graded_tree.specs.Labels.{all_labels}
 use Rattle.merc_grading.specs.Switches.{beginning}
 use Rattle.merc_switch_choice.specs.Beginnings.{splits_with}
-use Rattle.merc_switch_choice.proofs.beginnings.splits_of.Given as goal
+use Rattle.merc_switch_choice.proofs.beginnings.put_splits.Given as goal
 
 abbrev pub invariant-loop-next : goal.invariant-loop-next
 invariant-loop-next l = splits_with l.splits.items l.rest.items ≡ (beginning l.goal).splits
