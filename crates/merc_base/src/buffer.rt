@@ -13,7 +13,7 @@ use std::marker::Model;
 pub const PIECE_LIMIT: usize = 65536;
 
 /// Room for one piece of a file, taken when it is made. It is seen as the bytes that it holds.
-#[derive(Debug, Drop)]
+#[derive(Drop)]
 pub struct Buffer {
     room: Vec<u8>,
     count: usize,

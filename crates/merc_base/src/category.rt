@@ -5,7 +5,7 @@ ghost use Rattle.merc_base.specs.Category.{can_fail_of, most_of, category_name};
 use std::fmt;
 
 /// A determinism category.
-#[derive(Clone, Copy, Debug, PartialEq, Eq)]
+#[derive(Clone, Copy)]
 pub enum Category {
     /// Exactly one solution.
     Det,
@@ -22,7 +22,7 @@ pub enum Category {
 }
 
 /// The most solutions that a category allows.
-#[derive(Clone, Copy, Debug, PartialEq, Eq, PartialOrd, Ord)]
+#[derive(Clone, Copy, PartialEq, Eq, PartialOrd, Ord)]
 pub enum Most {
     Zero,
     One,

@@ -11,7 +11,7 @@ use std::alloc::Global;
 use std::marker::Model;
 
 /// A name: the number of its text in a table of names. Names of one table are equal where their texts are.
-#[derive(Clone, Copy, Debug, PartialEq, Eq, PartialOrd, Ord, Hash)]
+#[derive(Clone, Copy, PartialEq, Eq, PartialOrd, Ord, Hash)]
 pub struct Name(u64);
 
 impl Model for Name {
@@ -349,7 +349,7 @@ const FIXED: [(u64, &[u8]); 98] = [
 ];
 
 /// Texts by number, each of them once. It is seen as the list of the texts.
-#[derive(Debug, Drop)]
+#[derive(Drop)]
 pub struct Names {
     added: TextTable,
 }

@@ -6,7 +6,7 @@ ghost use Rattle.merc_base.specs.Outside.{Files, AnswersFetch, AnswersWrite, Ans
 use crate::{Buffer, Text};
 
 /// What a shelf answers to a fetch.
-#[derive(Clone, Copy, Debug, PartialEq, Eq)]
+#[derive(Clone, Copy, PartialEq, Eq)]
 pub enum Fetched {
     /// This many bytes, 1 to 65,536, stand in the buffer.
     Got(usize),
@@ -36,7 +36,7 @@ pub trait Shelf {
 }
 
 /// What a sink answers to a write.
-#[derive(Clone, Copy, Debug, PartialEq, Eq)]
+#[derive(Clone, Copy, PartialEq, Eq)]
 pub enum Wrote {
     /// It took this many bytes from the front, at least one of a piece that is not empty.
     Took(usize),
@@ -65,7 +65,7 @@ pub trait Gate {
 }
 
 /// What a tap hears.
-#[derive(Debug, Drop)]
+#[derive(Drop)]
 pub enum TapEvent {
     /// A solution's line was wholly written: its number from 1, and the line without its line end.
     Answer { number: u64, line: Text },
@@ -74,7 +74,7 @@ pub enum TapEvent {
 }
 
 /// What a tap answers to an event. At any answer but `Keep` it is over.
-#[derive(Clone, Copy, Debug, PartialEq, Eq)]
+#[derive(Clone, Copy)]
 pub enum TapAnswer {
     Keep,
     Done,

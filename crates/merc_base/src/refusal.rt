@@ -7,10 +7,9 @@ ghost use Rattle.merc_base.specs.Refusal.{rule_number, rule_text, construct_word
 use crate::{Category, NoMemory, Place};
 use std::alloc::{AllocError, AllocFailed};
 use std::fmt;
-use thiserror::Error;
 
 /// The rules that a program and a goal must keep, by number from 1.
-#[derive(Clone, Copy, Debug, PartialEq, Eq, PartialOrd, Ord)]
+#[derive(Clone, Copy, PartialEq, Eq, PartialOrd, Ord)]
 pub enum Rule {
     /// 1: each token is well formed.
     BadToken = 1,
@@ -80,7 +79,7 @@ impl Rule {
 }
 
 /// What stands outside the supported part of the language.
-#[derive(Clone, Copy, Debug, PartialEq, Eq, PartialOrd, Ord)]
+#[derive(Clone, Copy, PartialEq, Eq, PartialOrd, Ord)]
 pub enum Construct {
     Character,
     Float,
@@ -117,7 +116,7 @@ impl Construct {
 }
 
 /// What the compiler limits.
-#[derive(Clone, Copy, Debug, PartialEq, Eq, PartialOrd, Ord)]
+#[derive(Clone, Copy, PartialEq, Eq, PartialOrd, Ord)]
 pub enum LimitName {
     /// The bytes of the goal's text.
     GoalText,
@@ -156,7 +155,7 @@ impl LimitName {
 }
 
 /// What a refusal says beside its rule.
-#[derive(Clone, Copy, Debug, PartialEq, Eq)]
+#[derive(Clone, Copy)]
 pub enum Detail {
     /// Nothing.
     Plain,
@@ -173,7 +172,7 @@ pub enum Detail {
 }
 
 /// A rule that a text breaks, and where.
-#[derive(Clone, Copy, Debug, PartialEq, Eq)]
+#[derive(Clone, Copy)]
 pub struct Refusal {
     pub rule: Rule,
     pub place: Place,
@@ -226,13 +225,11 @@ fn write_detail<W: fmt::Write>(rule: Rule, detail: Detail, f: &mut fmt::Formatte
 }
 
 /// Why a text gave nothing.
-#[derive(Clone, Copy, Debug, PartialEq, Eq, Error)]
+#[derive(Clone, Copy)]
 pub enum Fault {
     /// The text breaks a rule.
-    #[error("{0}")]
     Refused(Refusal),
     /// Memory was refused.
-    #[error("out of memory")]
     NoMemory,
 }
 

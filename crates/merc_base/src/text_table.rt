@@ -11,7 +11,7 @@ use std::marker::Model;
 
 /// Texts of which no two are equal, numbered from 0 in the order in which they came. Contracts see the list of the
 /// texts by number.
-#[derive(Debug, Drop)]
+#[derive(Drop)]
 pub struct TextTable {
     texts: IndexSet<Vec<u8>>,
 }

@@ -7,7 +7,7 @@ use merc_graded_tree::Procedure;
 use std::marker::Model;
 
 /// A mark of a frame, by its number from 0: a place that holds a number of choice points.
-#[derive(Clone, Copy, Debug, PartialEq, Eq)]
+#[derive(Clone, Copy, PartialEq, Eq)]
 pub struct Mark {
     number: usize,
 }
@@ -39,7 +39,7 @@ impl Mark {
 }
 
 /// Where a switch goes on for a symbol: behind so many of the instructions that follow it.
-#[derive(Clone, Copy, Debug, PartialEq, Eq)]
+#[derive(Clone, Copy)]
 pub struct Target {
     pub symbol: Symbol,
     pub skipped: usize,

@@ -3,7 +3,7 @@ ghost use Rattle.std.specs.Prelude.{◌≡◌};
 ghost use Rattle.merc_core.specs.Events.{worker_of};
 
 /// A step of one of the workers. The first number is the worker, numbered from 0.
-#[derive(Clone, Copy, Debug, PartialEq, Eq)]
+#[derive(Clone, Copy, PartialEq, Eq)]
 pub enum Event {
     /// The branch that the worker runs goes past a Tick.
     Tick(u32),
@@ -45,7 +45,7 @@ impl Event {
 }
 
 /// The first condition of an event that fails.
-#[derive(Clone, Copy, Debug, PartialEq, Eq)]
+#[derive(Clone, Copy, PartialEq, Eq)]
 pub enum NotNow {
     /// There is no such worker.
     NoWorker,

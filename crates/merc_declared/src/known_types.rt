@@ -70,7 +70,7 @@ fn first_unknown(
 }
 
 // A type of a unit.
-#[derive(Clone, Copy, Debug, PartialEq, Eq, PartialOrd, Ord)]
+#[derive(Clone, Copy, PartialEq, Eq, PartialOrd, Ord)]
 struct UnitKey {
     unit: Name,
     key: Key,

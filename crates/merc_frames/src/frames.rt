@@ -24,7 +24,7 @@ use std::marker::Model;
 const GAP: usize = 4;
 
 /// What going back finds.
-#[derive(Clone, Copy, Debug, PartialEq, Eq)]
+#[derive(Clone, Copy)]
 pub enum Backed {
     /// No choice point.
     End,

@@ -8,7 +8,7 @@ use merc_value::Word;
 
 /// What a slot of a frame holds. Nothing comes first, so that a frame is emptied by zeros, and last the words in the order of
 /// `Word`, so that one comparison tells whether there is one.
-#[derive(Clone, Copy, Debug, PartialEq, Eq, Drop)]
+#[derive(Clone, Copy, Drop)]
 pub enum Slot {
     /// Nothing.
     Empty,

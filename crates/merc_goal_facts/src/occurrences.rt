@@ -81,19 +81,6 @@ impl Occurrences {
         Some(variable)
     }
 
-    /// The first place from `start` on at which the variable of this place occurs, if it occurs from there on before this
-    /// place; else this place.
-    pub fn first_place(&self, start: usize, place: usize) -> usize
-        ensures within { result ≤ place }
-        ensures first { (variable : ℕ) → slice_get self.now place ≡ Some variable → among (drop start (take result self.now)) variable ≡ false }
-    {
-        let mut first = place;
-        while start < earlier_at(&self.earlier, first) {
-            first = earlier_at(&self.earlier, first) - 1;
-        }
-        first
-    }
-
     /// The number behind those of all variables that occur.
     ///
     /// # Errors

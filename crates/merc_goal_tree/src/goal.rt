@@ -6,7 +6,7 @@ use std::marker::Model;
 
 /// A variable of a predicate or of a goal, by its number. The arguments of a predicate have the numbers from 0; those
 /// behind them rise in the order of the text.
-#[derive(Clone, Copy, Debug, PartialEq, Eq, PartialOrd, Ord)]
+#[derive(Clone, Copy, PartialEq, Eq, PartialOrd, Ord)]
 pub struct Var {
     number: usize,
 }
@@ -41,7 +41,7 @@ impl Var {
 pub type Vars = Sequence<Var>;
 
 /// A predicate of the module, by its number from 0 in the order of declaration.
-#[derive(Clone, Copy, Debug, PartialEq, Eq)]
+#[derive(Clone, Copy)]
 pub struct Predicate {
     number: usize,
 }
@@ -73,7 +73,7 @@ impl Predicate {
 }
 
 /// What a unification with a symbol builds or splits.
-#[derive(Clone, Copy, Debug, PartialEq, Eq)]
+#[derive(Clone, Copy, PartialEq, Eq)]
 pub enum Symbol {
     /// A constructor with so many arguments.
     Constructor(Name, usize),
@@ -82,7 +82,7 @@ pub enum Symbol {
 }
 
 /// An arithmetic operation: `+`, `-`, `*`, `//`, `div`, `mod` or `rem`.
-#[derive(Clone, Copy, Debug, PartialEq, Eq)]
+#[derive(Clone, Copy)]
 pub enum Operation {
     Add,
     Subtract,
@@ -94,7 +94,7 @@ pub enum Operation {
 }
 
 /// A comparison of integers: `<`, `>`, `=<` or `>=`.
-#[derive(Clone, Copy, Debug, PartialEq, Eq)]
+#[derive(Clone, Copy)]
 pub enum Comparison {
     Less,
     Greater,

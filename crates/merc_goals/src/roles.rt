@@ -5,7 +5,7 @@ ghost use Rattle.merc_goals.specs.Roles.{role_of, literal_role_of};
 use merc_base::Name;
 
 // What a name with two arguments is in a goal.
-#[derive(Clone, Copy, Debug, PartialEq, Eq)]
+#[derive(Clone, Copy)]
 pub(crate) enum Role {
     // `,`
     Conjunction,
@@ -34,7 +34,7 @@ pub(crate) enum Role {
 }
 
 // A chain of one operator, which is one list however it is put in parentheses.
-#[derive(Clone, Copy, Debug, PartialEq, Eq)]
+#[derive(Clone, Copy)]
 pub(crate) enum ChainKind {
     // `,`
     Conjuncts,

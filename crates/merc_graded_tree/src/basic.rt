@@ -3,14 +3,14 @@
 use merc_goal_tree::{Comparison, Operation, Predicate, Symbol, Var, Vars};
 
 /// A predicate with one of its modes, by its number from 0 in the order of declaration.
-#[derive(Clone, Copy, Debug, PartialEq, Eq)]
+#[derive(Clone, Copy)]
 pub struct Procedure {
     pub predicate: Predicate,
     pub mode: usize,
 }
 
 /// A place in a program at which conjuncts are forked, by its number.
-#[derive(Clone, Copy, Debug, PartialEq, Eq)]
+#[derive(Clone, Copy)]
 pub struct Site {
     pub number: usize,
 }

@@ -8,7 +8,7 @@ use merc_base::{Category, Sequence, Span};
 use merc_goal_tree::{Symbol, Var, Vars};
 
 /// How the goals of a conjunction run.
-#[derive(Clone, Copy, Debug, PartialEq, Eq)]
+#[derive(Clone, Copy)]
 pub enum Running {
     /// One after the other.
     Sequential,

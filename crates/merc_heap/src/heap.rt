@@ -18,7 +18,7 @@ use std::alloc::Global;
 use std::marker::Model;
 
 /// How far a heap went at some time, as its number of places.
-#[derive(Clone, Copy, Debug, PartialEq, Eq)]
+#[derive(Clone, Copy, PartialEq, Eq)]
 pub struct Mark(usize);
 
 impl Model for Mark {

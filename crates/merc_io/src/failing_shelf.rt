@@ -10,7 +10,7 @@ use merc_base::{Buffer, Fetched, Shelf, Text};
 use std::marker::Model;
 
 /// Files in memory, of which the calls with given numbers fail, and no others.
-#[derive(Debug, Drop)]
+#[derive(Drop)]
 pub struct FailingShelf {
     shelf: MemShelf,
     fail: Vec<u64>,

@@ -10,7 +10,7 @@ use std::alloc::Global;
 use std::marker::Model;
 
 /// Bytes in memory, where the writes with given numbers fail, and those for which there is no room.
-#[derive(Debug, Drop)]
+#[derive(Drop)]
 pub struct FailingSink {
     sink: MemSink,
     fail: Vec<u64>,

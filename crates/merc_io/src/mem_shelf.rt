@@ -8,7 +8,7 @@ use merc_base::{Buffer, Fetched, Shelf, Text};
 use std::marker::Model;
 
 /// Files in memory, seen as the list of their names and contents.
-#[derive(Debug, Drop)]
+#[derive(Drop)]
 pub struct MemShelf {
     files: Vec<(Text, Text)>,
 }

@@ -11,7 +11,7 @@ use std::rt::Files;
 use std::{fs, io};
 
 /// Why a file was not opened or not read.
-#[derive(Clone, Copy, Debug, PartialEq, Eq)]
+#[derive(Clone, Copy)]
 pub enum ReadFault {
     /// No such file is there.
     Absent,

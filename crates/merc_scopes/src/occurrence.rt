@@ -3,7 +3,7 @@
 use merc_base::Name;
 
 /// A variable where it stands in the text of a clause or a goal.
-#[derive(Clone, Copy, Debug, PartialEq, Eq)]
+#[derive(Clone, Copy)]
 pub struct Occurrence {
     /// The variable's name.
     pub name: Name,

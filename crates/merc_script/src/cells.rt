@@ -6,7 +6,7 @@ use merc_value::Block;
 use std::marker::Model;
 
 /// A cell, by a number that no other cell of the root script has.
-#[derive(Clone, Copy, Debug, PartialEq, Eq, PartialOrd, Ord)]
+#[derive(Clone, Copy, PartialEq, Eq, PartialOrd, Ord)]
 pub struct CellId {
     number: u64,
 }
@@ -92,7 +92,7 @@ impl ScriptCell {
 }
 
 /// A right that a fork moves from the parent into a child.
-#[derive(Clone, Copy, Debug, PartialEq, Eq)]
+#[derive(Clone, Copy, PartialEq, Eq)]
 pub struct Move {
     pub cell: CellId,
     /// The child, numbered from 1.

@@ -3,7 +3,7 @@
 use merc_base::Name;
 
 /// How a script ends. The numbers count the steps that were made, those of children among them.
-#[derive(Clone, Copy, Debug, PartialEq, Eq)]
+#[derive(Clone, Copy, PartialEq, Eq)]
 pub enum Outcome {
     /// It came to its end, after so many steps.
     Ok(u64),

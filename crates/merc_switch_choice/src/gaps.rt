@@ -12,7 +12,7 @@ use merc_tree::Constructor;
 use std::alloc::Global;
 
 /// A constructor of a type by which none of several disjuncts splits a variable.
-#[derive(Clone, Copy, Debug, PartialEq, Eq)]
+#[derive(Clone, Copy)]
 pub(crate) struct Gap {
     name: Name,
     arity: usize,

@@ -12,7 +12,7 @@ use std::alloc::Global;
 use std::marker::Model;
 
 // A symbol as it is looked up.
-#[derive(Clone, Copy, Debug, PartialEq, Eq, Hash)]
+#[derive(Clone, Copy, PartialEq, Eq, Hash)]
 enum Key {
     Constructor(Name, usize),
     Integer(i64),

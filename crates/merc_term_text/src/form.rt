@@ -8,7 +8,7 @@ use merc_terms::{Operator, infix, prefix};
 use merc_tree::{Shape, TermRef};
 
 /// How a term is written.
-#[derive(Clone, Copy, Debug, PartialEq, Eq)]
+#[derive(Clone, Copy)]
 pub(crate) enum Form {
     /// A list cell, as a list in brackets.
     List,

@@ -10,14 +10,14 @@ use std::marker::Model;
 
 /// How far a term is read: up to which priority, and whether commas are operators or end it, as in arguments and list
 /// items.
-#[derive(Clone, Copy, Debug, PartialEq, Eq)]
+#[derive(Clone, Copy)]
 pub(crate) struct Bound {
     pub(crate) max: u32,
     pub(crate) commas: bool,
 }
 
 /// What a term that is being read is to be.
-#[derive(Clone, Copy, Debug, PartialEq, Eq)]
+#[derive(Clone, Copy)]
 pub(crate) enum Role {
     /// The term in parentheses, the first of which has this span.
     Enclosed(Span),
@@ -38,14 +38,14 @@ pub(crate) enum Role {
 }
 
 /// An open term: the role of the part that is being read, and how far the whole is read.
-#[derive(Clone, Copy, Debug, PartialEq, Eq)]
+#[derive(Clone, Copy)]
 pub(crate) struct Frame {
     pub(crate) role: Role,
     pub(crate) bound: Bound,
 }
 
 /// What stands behind a part of an open term.
-#[derive(Clone, Copy, Debug, PartialEq, Eq)]
+#[derive(Clone, Copy)]
 pub(crate) enum Delimiter {
     Comma,
     Bar,

@@ -18,7 +18,7 @@ use merc_base::{Name, NoMemory, Span};
 use merc_tokens::Token;
 
 /// Where a move leads.
-#[derive(Clone, Copy, Debug, PartialEq, Eq)]
+#[derive(Clone, Copy)]
 pub(crate) enum Move {
     /// A term was read, with this span and this priority.
     Have(Span, u32),

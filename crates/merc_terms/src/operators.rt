@@ -8,7 +8,7 @@ use merc_base::Name;
 
 /// How an operator takes its operands: `x` stands for a term below the operator's priority, `y` for one of at most
 /// that priority.
-#[derive(Clone, Copy, Debug, PartialEq, Eq)]
+#[derive(Clone, Copy)]
 pub enum Fixity {
     /// Infix, both operands below.
     Xfx,
@@ -25,7 +25,7 @@ pub enum Fixity {
 }
 
 /// A row of the operator table. A lower priority binds tighter.
-#[derive(Clone, Copy, Debug, PartialEq, Eq)]
+#[derive(Clone, Copy)]
 pub struct Operator {
     pub name: Name,
     /// 1 to 1200.

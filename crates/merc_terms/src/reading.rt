@@ -17,7 +17,7 @@ use merc_tree::Terms;
 use std::alloc::Global;
 
 /// What the reader is at.
-#[derive(Clone, Copy, Debug, PartialEq, Eq)]
+#[derive(Clone, Copy)]
 enum State {
     /// A term must begin.
     Need,

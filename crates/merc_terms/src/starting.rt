@@ -10,7 +10,7 @@ use merc_base::{Name, Span};
 use merc_tokens::{Token, TokenKind};
 
 /// What stands where a term must begin.
-#[derive(Clone, Copy, Debug, PartialEq, Eq)]
+#[derive(Clone, Copy)]
 pub(crate) enum Start {
     Variable(Name, Span),
     /// An integer by its magnitude, negative where it has the sign.

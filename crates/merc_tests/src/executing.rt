@@ -66,11 +66,11 @@ fn hands_a_value_over(rt: HostRuntime) -> Result<(), Fail> {
         Event::End(0),
     ];
     for event in &events {
-        assert_eq!(rt; core.outcome(), None);
-        assert_eq!(rt; core.step(*event), Ok(()));
+        assert!(rt; core.outcome() == None);
+        assert!(rt; core.step(*event) == Ok(()));
     }
-    assert_eq!(rt; core.outcome(), Some(Outcome::Ok(2)));
-    assert_eq!(rt; core.ready_event(), None);
+    assert!(rt; core.outcome() == Some(Outcome::Ok(2)));
+    assert!(rt; core.ready_event() == None);
     Ok(())
 }
 
@@ -80,12 +80,12 @@ fn refuses_and_changes_nothing(rt: HostRuntime) -> Result<(), Fail> {
     let mut core = Core::new(alloc, handing_over(alloc)?, 2)?;
     let accepted = [Event::Fork(0), Event::Steal(1, 0), Event::Wait(1)];
     for event in &accepted {
-        assert_eq!(rt; core.step(*event), Ok(()));
+        assert!(rt; core.step(*event) == Ok(()));
     }
-    assert_eq!(rt; core.step(Event::Pop(1)), Err(NotNow::ListEmpty));
-    assert_eq!(rt; core.step(Event::Tick(1)), Err(NotNow::Idle));
-    assert_eq!(rt; core.step(Event::Steal(1, 1)), Err(NotNow::SameWorker));
-    assert_eq!(rt; core.events(), accepted.as_slice());
-    assert_eq!(rt; core.step(Event::Tick(0)), Ok(()));
+    assert!(rt; core.step(Event::Pop(1)) == Err(NotNow::ListEmpty));
+    assert!(rt; core.step(Event::Tick(1)) == Err(NotNow::Idle));
+    assert!(rt; core.step(Event::Steal(1, 1)) == Err(NotNow::SameWorker));
+    assert!(rt; core.events() == accepted.as_slice());
+    assert!(rt; core.step(Event::Tick(0)) == Ok(()));
     Ok(())
 }

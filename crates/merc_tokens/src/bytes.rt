@@ -7,7 +7,7 @@ ghost use Rattle.merc_tokens.specs.Bytes.{is_word, is_letter, is_graphic, digit_
 const GRAPHIC: &[u8] = b"+-*/\\^<>=~:.?@#&$";
 
 /// What a piece of text may begin with.
-#[derive(Clone, Copy, Debug, PartialEq, Eq)]
+#[derive(Clone, Copy)]
 pub enum Start {
     Blank,
     Percent,

@@ -2,7 +2,7 @@
 use merc_base::{Name, Sequence, Span};
 
 /// A token: what it is and where it stands.
-#[derive(Clone, Copy, Debug, PartialEq, Eq)]
+#[derive(Clone, Copy)]
 pub struct Token {
     pub kind: TokenKind,
     /// From its first byte to behind its last, with its quotes.
@@ -10,7 +10,7 @@ pub struct Token {
 }
 
 /// What a token is. Names and texts stand for themselves, without quotes and with each escape replaced.
-#[derive(Clone, Copy, Debug, PartialEq, Eq)]
+#[derive(Clone, Copy, PartialEq, Eq)]
 pub enum TokenKind {
     /// A name that is not quoted.
     Name(Name),

@@ -114,7 +114,7 @@ fn find_goal(
 }
 
 // Why nothing can be said of what is due.
-#[derive(Clone, Copy, Debug, PartialEq, Eq)]
+#[derive(Clone, Copy)]
 pub enum Trouble {
     /// A read failed, or the named file is not there.
     Unread,

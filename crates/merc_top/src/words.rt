@@ -13,7 +13,7 @@ const GREATEST: u64 = 1_000_000_000;
 const DIGIT_LIMIT: usize = 10;
 
 /// An option that is set to a number.
-#[derive(Clone, Copy, Debug, PartialEq, Eq)]
+#[derive(Clone, Copy)]
 pub enum Setting {
     /// The steps that a run may take, 0 to 1,000,000,000.
     Steps,
@@ -22,7 +22,7 @@ pub enum Setting {
 }
 
 /// What the options are set to. An option that is not given sets nothing.
-#[derive(Clone, Copy, Debug, PartialEq, Eq)]
+#[derive(Clone, Copy, PartialEq, Eq)]
 pub struct Settings {
     /// The steps that a run may take, 0 to 1,000,000,000.
     pub steps: Option<u64>,
@@ -31,7 +31,7 @@ pub struct Settings {
 }
 
 /// What the words ask for.
-#[derive(Clone, Copy, Debug)]
+#[derive(Clone, Copy)]
 pub enum Request<'a> {
     /// To answer a goal, of which this is the text, over the module of a file of this name, in at most so many steps, and
     /// to stop behind so many answers where a number of them is given.
@@ -48,7 +48,7 @@ pub enum Request<'a> {
 }
 
 /// What a word behind the command is, where no `--` stands before it.
-#[derive(Clone, Copy, Debug)]
+#[derive(Clone, Copy)]
 pub enum WordKind<'a> {
     /// A file's name or a goal.
     Plain,
@@ -63,7 +63,7 @@ pub enum WordKind<'a> {
 }
 
 /// The words behind the command that are no options.
-#[derive(Clone, Copy, Debug)]
+#[derive(Clone, Copy)]
 pub enum Plains<'a> {
     Nothing,
     One(&'a Text),

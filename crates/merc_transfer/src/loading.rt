@@ -9,7 +9,7 @@ use std::alloc::{AllocError, Global};
 pub const FILE_LIMIT: usize = 1_048_576;
 
 /// Why a file was not read.
-#[derive(Clone, Copy, Debug, PartialEq, Eq)]
+#[derive(Clone, Copy)]
 pub enum LoadFault {
     /// It has more bytes than the limit.
     TooLong,

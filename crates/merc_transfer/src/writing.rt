@@ -6,11 +6,11 @@ ghost use Rattle.merc_transfer.specs.Writing.{Puts, Writes};
 use merc_base::{NoMemory, Sink, Text, Wrote};
 
 /// A write failed. What was written before it stays.
-#[derive(Clone, Copy, Debug, PartialEq, Eq)]
+#[derive(Clone, Copy)]
 pub struct WriteFault;
 
 /// Why a text was not written to its end. A front of it was.
-#[derive(Clone, Copy, Debug, PartialEq, Eq)]
+#[derive(Clone, Copy)]
 pub enum Cut {
     /// A write failed.
     Unwritten,

@@ -29,7 +29,7 @@ pub struct TypeDef {
 pub type TypeDefs = Sequence<TypeDef>;
 
 /// How a mode has an argument: ground before and after, or free before and ground after.
-#[derive(Clone, Copy, Debug, PartialEq, Eq)]
+#[derive(Clone, Copy)]
 pub enum Arg {
     Input,
     Output,

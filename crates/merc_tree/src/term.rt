@@ -15,7 +15,7 @@ use std::alloc::Global;
 use std::marker::Model;
 
 /// What a term is at its root.
-#[derive(Clone, Copy, Debug, PartialEq, Eq)]
+#[derive(Clone, Copy, PartialEq, Eq)]
 pub enum Shape {
     Variable(Name),
     Integer(i64),
@@ -29,7 +29,7 @@ pub enum Shape {
 }
 
 // The root of a term, which stands behind the nodes of its arguments. `size` counts the nodes of the whole term.
-#[derive(Clone, Copy, Debug)]
+#[derive(Clone, Copy)]
 struct Node {
     shape: Shape,
     span: Span,

@@ -16,7 +16,7 @@ const NO_SPAN: Span = Span {
 };
 
 /// What a type is at its root.
-#[derive(Clone, Copy, Debug, PartialEq, Eq)]
+#[derive(Clone, Copy, PartialEq, Eq)]
 pub enum TypeShape {
     /// A type variable.
     Variable(Name),

@@ -3,7 +3,7 @@
 use merc_base::Name;
 
 /// A word of a block, which stands for one value.
-#[derive(Clone, Copy, Debug, PartialEq, Eq)]
+#[derive(Clone, Copy, PartialEq, Eq)]
 pub enum Word {
     /// An integer.
     Int(i64),

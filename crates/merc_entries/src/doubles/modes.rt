@@ -16,7 +16,7 @@ use merc_tree::TermRef;
 use std::alloc::Global;
 
 /// A mode of a predicate.
-#[derive(Debug, PartialEq, Eq, PartialOrd, Ord, Drop)]
+#[derive(PartialEq, Eq, PartialOrd, Ord, Drop)]
 pub(crate) struct Mode {
     pub(crate) predicate: Key,
     /// Which of the arguments are outputs.

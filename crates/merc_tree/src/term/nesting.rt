@@ -9,7 +9,7 @@ use merc_base::{Name, NoMemory};
 use std::alloc::Global;
 
 // What the nesting of a term that holds this one asks of it.
-#[derive(Clone, Copy, Debug)]
+#[derive(Clone, Copy)]
 struct Part {
     nesting: usize,
     // the name whose chain the term is, if it is one
