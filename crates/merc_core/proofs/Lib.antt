@@ -27,7 +27,6 @@ pub mod CoreExamples
 mod WellFormedExamples
 mod HistoryExamples
 mod ForkExamples
-pub mod CoreLists
 pub mod StandingLaws
 pub mod Filters
 pub mod PoolShows
@@ -44,7 +43,6 @@ pub mod TakingUp
 pub mod WaitingAt
 pub mod Waking
 pub mod SignalledAt
-pub mod StoredOutcomes
 pub mod ResumedAt
 pub mod Spoiling
 pub mod Poisoning

@@ -8,10 +8,11 @@ use Rattle.merc_script.specs.declared.outcome.Outcome.TheVariants.{Ok as Fine, R
 use Rattle.merc_script.specs.declared.cells.Move.{Move}
 use Rattle.merc_script.specs.Script.{Script, Ends, TickThen, WaitThen, SignalThen, ForkThen, Children, NoChild, Child, Cell, end_of, ends, size, sizes}
 use Rattle.merc_script.specs.Joining.{joined, walk, lacks_memory, later}
+use Rattle.merc_queues.specs.Outcomes.{with_first}
 use Rattle.merc_core.specs.Rights.{has, has_in}
 use Rattle.merc_core.specs.declared.event.Event.{Event}
 use Rattle.merc_core.specs.declared.event.Event.TheVariants.{Tick, Fork, Pop, Steal, Signal, Wait, End, Resume, Lost}
-use Rattle.merc_core.specs.World.{Branch, Location, Listed, Runs, Holds, AtCell, AtJoin, Spot, spot, Join, Parent, Stored, World, outermost, stored_at, with_first, gathered, outcomes_of}
+use Rattle.merc_core.specs.World.{Branch, Location, Listed, Runs, Holds, AtCell, AtJoin, Spot, spot, Join, Parent, Stored, World, outermost, stored_at, gathered, outcomes_of}
 use Rattle.merc_core.specs.Events.{parked, parked_at, past_tick, past_signal, past_wait, ended, go_behind, spawned, listed_backwards, placed, parent_behind, woken, wake, unchanged, poison, hold_one, hold_if, forked, signalled, finished, stored_with}
 use Rattle.merc_core.specs.WellFormed.{Formed, FormedAll, Follows, gain}
 use Rattle.merc_core.specs.Laws.{IsCutEnd}

@@ -6,13 +6,11 @@ pub mod Ready
 pub mod Laws
 pub mod History
 pub mod Given
-pub mod Queues
 pub mod Standing
 pub mod Forking
 pub mod Starting
 pub mod Mirror
 pub mod Stepping
-pub mod Outcomes
 pub mod Roomy
 pub mod Execution
 pub mod Replaying

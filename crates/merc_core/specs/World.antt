@@ -3,6 +3,7 @@ use Rattle.std.specs.Prelude.{ℕ, suc, ◌&&◌, List, [], ◌∷◌, Option, S
 use Rattle.merc_script.specs.declared.outcome.Outcome.{Outcome}
 use Rattle.merc_script.specs.Places.{Name}
 use Rattle.merc_script.specs.Script.{Script, Children, NoChild, Child, size}
+use Rattle.merc_queues.specs.Outcomes.{with_first}
 
 -- A branch is on its way through one script, that of a child of a join. `name` leads to this script from the root's: for each Fork on the way the number of
 -- items before it, and the child. `passed` counts the items that the branch has passed, `steps` its steps so far. `at` counts the items and ends that come
@@ -86,11 +87,6 @@ start root workers = record {
 abbrev pub stored_at : ℕ → ℕ → List Stored → Option Outcome
 stored_at join child [] = None
 stored_at join child (first ∷ rest) = if (nat_eq first.join join && nat_eq first.child child) then Some first.outcome else stored_at join child rest
-
-abbrev pub with_first : Option Outcome → Option (List Outcome) → Option (List Outcome)
-with_first None others = None
-with_first (Some first) None = None
-with_first (Some first) (Some others) = Some (first ∷ others)
 
 -- the outcomes of a join's children from this one on, if all are stored
 abbrev pub gathered : List Stored → ℕ → ℕ → Children → Option (List Outcome)

@@ -1,17 +1,16 @@
 //! A fork.
 ghost use Rattle.std.specs.Prelude.{◌≡◌, ◌+◌, ◌≤◌, ◌<◌, ◌^◌, ◌∷◌, ◌++◌, [], Some, true, length, slice_get};
-ghost use Rattle.merc_core.specs.declared.branch.Branch.{Branch as CoreBranch};
+ghost use Rattle.merc_queues.specs.declared.branch.Branch.{Branch as CoreBranch};
 ghost use Rattle.merc_core.specs.Forking.{born_from, not_stored, rights_wanted};
 ghost use Rattle.merc_core.specs.Stepping.{parts_of, ForksTo, IsForkNext, IsKept, Keeps, RunsNext};
 ghost use Rattle.merc_core.specs.Rights.{made_by, moved_to, signals_at};
 
-use crate::branch::Branch;
 use crate::course::{Course, Next};
-use crate::join::Join;
-use crate::lists::{move_all, move_last, put_first, put_last};
 use crate::running::next_of;
 use crate::state::{Spare, State};
 use crate::{Event, NotNow};
+use merc_queues::lists::{move_all, put_first, put_last};
+use merc_queues::{Branch, Join};
 use merc_script::{CellId, Fork, Move, Outcome, ScriptCell};
 use std::alloc::Global;
 use std::collections::LinkedList;
@@ -168,12 +167,11 @@ fn start_children(course: &Course, state: &mut State, worker: usize, fork: &Fork
     let number = state.joins.len();
     let runner = &mut state.workers[worker];
     let place = place_behind(&runner.hand);
-    let mut born = bear(state.alloc, &mut state.spare, course, fork, number, place);
+    let born = bear(state.alloc, &mut state.spare, course, fork, number, place);
     let mut parent = LinkedList::new(state.alloc);
     move_all(&mut runner.hand, &mut parent);
     go_behind_fork(&mut parent, course.past_scripts(place, fork.children));
-    move_last(&mut born, &mut runner.hand);
-    move_all(&mut born, &mut runner.list);
+    runner.take_children(born);
     let outcomes = take_outcomes(state.alloc, &mut state.spare.outcomes, fork.children);
     state.joins.push_reserved(Join {
         limit: fork.limit,

@@ -1,9 +1,9 @@
--- Lists of the core: their lengths, and what is moved from one to another.
-use Rattle.std.proofs.Common.{◌≡◌, ℕ, suc, ◌+◌, ◌<◌, ◌==◌, false, List, [], ◌∷◌, ◌++◌, length, take, drop, refl, ap, ◌∙◌, arith, append_assoc, length-append}
+-- Lists of branches: their lengths, and what is moved from one to another.
+use Rattle.std.proofs.Common.{◌≡◌, ℕ, zero, suc, ◌+◌, ◌≤◌, ◌<◌, ◌==◌, false, List, [], ◌∷◌, ◌++◌, length, take, drop, refl, ap, ◌∙◌, arith, append_assoc, length-append}
 use Rattle.std.specs.Prelude.{map}
 use Rattle.std.proofs.lemmas.Bool.Decides.{nat_tests}
-use Rattle.merc_core.specs.declared.branch.Branch.{Branch}
-use Rattle.merc_core.specs.Queues.{starved}
+use Rattle.merc_queues.specs.declared.branch.Branch.{Branch}
+use Rattle.merc_queues.specs.Queues.{starved}
 
 pub length-map : {A B : Type 0} (f : A → B) (xs : List A) → length (map f xs) ≡ length xs
 length-map f [] = refl
@@ -42,3 +42,9 @@ starve-room list old list_at old_at same =
 -- a list that was found not to be empty
 pub not-empty : (n : ℕ) → false ≡ (n == 0) → 0 < n
 not-empty n test = grind (arith, nat_tests)
+
+-- what is taken of a list is not longer than the list
+pub take-less : {A : Type 0} (n : ℕ) (xs : List A) → length (take n xs) ≤ length xs
+take-less zero xs = omega arith
+take-less (suc n) [] = omega arith
+take-less (suc n) (x ∷ xs) = let a = take-less n xs in omega (arith, a)

@@ -1,29 +1,29 @@
-//! Branches as the core keeps them.
+//! Branches, and what becomes of the first of a list.
 ghost use Rattle.std.specs.Prelude.{◌≡◌, ◌+◌, ◌-◌, ◌<◌, ◌^◌, [], ◌∷◌, Some};
-ghost use Rattle.merc_core.specs.declared.branch.Branch.{Branch as CoreBranch};
+ghost use Rattle.merc_queues.specs.declared.branch.Branch.{Branch as CoreBranch};
 
 use merc_script::{CellId, Outcome};
 use std::collections::LinkedList;
 
-// A branch, in one of the lists of the core.
+/// A branch, in one of the lists of the core.
 #[derive(Drop)]
-pub(crate) struct Branch {
-    // the join whose child it is
-    pub(crate) join: usize,
-    // the child's number, from 1
-    pub(crate) child: usize,
-    // the place of its next item
-    pub(crate) at: usize,
-    // the outcome that it ends with in place of what its script says
-    pub(crate) ended: Option<Outcome>,
-    pub(crate) steps: u64,
-    // The cells that it had to signal at first. None is taken out: those that it signals are full when it ends, and those
-    // that it passes on to a child are full or poisoned.
-    pub(crate) signals: LinkedList<CellId>,
+pub struct Branch {
+    /// the join whose child it is
+    pub join: usize,
+    /// the child's number, from 1
+    pub child: usize,
+    /// the place of its next item
+    pub at: usize,
+    /// the outcome that it ends with in place of what its script says
+    pub ended: Option<Outcome>,
+    pub steps: u64,
+    /// The cells that it had to signal at first. None is taken out: those that it signals are full when it ends, and those
+    /// that it passes on to a child are full or poisoned.
+    pub signals: LinkedList<CellId>,
 }
 
-// The first branch goes past a tick.
-pub(crate) fn pass_tick(hand: &mut LinkedList<Branch>)
+/// The first branch goes past a tick.
+pub fn pass_tick(hand: &mut LinkedList<Branch>)
     requires { (b : CoreBranch) × (hand.old ≡ b ∷ []) × (b.at < 2 ^ 63) × (b.steps < 2 ^ 64 - 1) }
     ensures { (b : CoreBranch) → hand.old ≡ b ∷ [] → hand.new ≡ (record b { at = b.at + 1; steps = b.steps + 1 }) ∷ [] }
 {
@@ -33,8 +33,8 @@ pub(crate) fn pass_tick(hand: &mut LinkedList<Branch>)
     }
 }
 
-// The first branch goes past an item.
-pub(crate) fn pass_item(hand: &mut LinkedList<Branch>)
+/// The first branch goes past an item.
+pub fn pass_item(hand: &mut LinkedList<Branch>)
     requires { (b : CoreBranch) × (hand.old ≡ b ∷ []) × (b.at < 2 ^ 63) }
     ensures { (b : CoreBranch) → hand.old ≡ b ∷ [] → hand.new ≡ (record b { at = b.at + 1 }) ∷ [] }
 {
@@ -43,8 +43,8 @@ pub(crate) fn pass_item(hand: &mut LinkedList<Branch>)
     }
 }
 
-// The first branch ends here.
-pub(crate) fn end_first(list: &mut LinkedList<Branch>, outcome: Outcome)
+/// The first branch ends here.
+pub fn end_first(list: &mut LinkedList<Branch>, outcome: Outcome)
     ensures { (b : CoreBranch) (bs : _) → list.old ≡ b ∷ bs → list.new ≡ (record b { ended = Some outcome }) ∷ bs }
 {
     if let Some(branch) = list.front_mut() {

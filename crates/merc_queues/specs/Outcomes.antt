@@ -2,8 +2,13 @@
 use Rattle.std.specs.Prelude.{ℕ, List, [], ◌∷◌, Option, Some, None}
 use Rattle.merc_script.specs.declared.outcome.Outcome.{Outcome}
 use Rattle.merc_script.specs.Joining.{joined, joined_with}
-use Rattle.merc_core.specs.declared.join.Join.{Join}
-use Rattle.merc_core.specs.World.{with_first}
+use Rattle.merc_queues.specs.declared.join.Join.{Join}
+
+-- an outcome in front of others, if both are there
+abbrev pub with_first : Option Outcome → Option (List Outcome) → Option (List Outcome)
+with_first None others = None
+with_first (Some first) None = None
+with_first (Some first) (Some others) = Some (first ∷ others)
 
 -- the outcomes, if all are stored
 abbrev pub all_stored : List (Option Outcome) → Option (List Outcome)

@@ -1,24 +1,24 @@
-//! Cells as the core keeps them.
+//! Cells, each with the branches that wait for it.
 ghost use Rattle.std.specs.Prelude.{◌≡◌, ◌+◌, ◌<◌, ◌^◌, ◌++◌, ℕ, [], map, length, if◌then◌else◌, nat_eq, IsSome};
 ghost use Rattle.std.specs.Ordering.{nat_cmp};
 ghost use Rattle.std.specs.BTreeMap.{get};
-ghost use Rattle.merc_core.specs.Queues.{filled, meeting_of, parked_at, spoiled, starved as starved_branch, waiting_of};
+ghost use Rattle.merc_queues.specs.Queues.{filled, meeting_of, parked_at, spoiled, starved as starved_branch, waiting_of};
 
 use crate::branch::{Branch, end_first};
 use crate::lists::{move_all, move_first};
 use merc_script::{CellId, Outcome};
 use std::collections::{BTreeMap, LinkedList};
 
-// A cell for which some branch waits in its script.
+/// A cell for which some branch waits in its script.
 #[derive(Drop)]
-pub(crate) struct Cell {
-    pub(crate) is_full: bool,
-    pub(crate) is_poisoned: bool,
-    pub(crate) waiting: LinkedList<Branch>,
+pub struct Cell {
+    pub is_full: bool,
+    pub is_poisoned: bool,
+    pub waiting: LinkedList<Branch>,
 }
 
-// Fills a cell. Those that wait for it go behind a list.
-pub(crate) fn fill(cells: &mut BTreeMap<CellId, Cell>, cell: CellId, list: &mut LinkedList<Branch>)
+/// Fills a cell. Those that wait for it go behind a list.
+pub fn fill(cells: &mut BTreeMap<CellId, Cell>, cell: CellId, list: &mut LinkedList<Branch>)
     requires { length list.old + length (waiting_of (get nat_cmp cells.old cell)) < 2 ^ 63 }
     ensures cells { (other : ℕ) → get nat_cmp cells.new other ≡ (if nat_eq cell other then filled (get nat_cmp cells.old cell) else get nat_cmp cells.old other) }
     ensures list { list.new ≡ list.old ++ waiting_of (get nat_cmp cells.old cell) }
@@ -29,12 +29,8 @@ pub(crate) fn fill(cells: &mut BTreeMap<CellId, Cell>, cell: CellId, list: &mut 
     }
 }
 
-// Parks branches at a cell.
-pub(crate) fn park(
-    cells: &mut BTreeMap<CellId, Cell>,
-    cell: CellId,
-    branches: &mut LinkedList<Branch>,
-)
+/// Parks branches at a cell.
+pub fn park(cells: &mut BTreeMap<CellId, Cell>, cell: CellId, branches: &mut LinkedList<Branch>)
     requires { length (waiting_of (get nat_cmp cells.old cell)) + length branches.old < 2 ^ 63 }
     ensures cells { (other : ℕ) → get nat_cmp cells.new other ≡ (if nat_eq cell other then parked_at branches.old (get nat_cmp cells.old cell) else get nat_cmp cells.old other) }
     ensures branches { IsSome (get nat_cmp cells.old cell) → branches.new ≡ [] }
@@ -44,8 +40,8 @@ pub(crate) fn park(
     }
 }
 
-// Spoils a cell. Those that wait for it end as starved, and go behind a list.
-pub(crate) fn spoil(cells: &mut BTreeMap<CellId, Cell>, cell: CellId, list: &mut LinkedList<Branch>)
+/// Spoils a cell. Those that wait for it end as starved, and go behind a list.
+pub fn spoil(cells: &mut BTreeMap<CellId, Cell>, cell: CellId, list: &mut LinkedList<Branch>)
     requires { length list.old + length (waiting_of (get nat_cmp cells.old cell)) < 2 ^ 63 }
     ensures cells { (other : ℕ) → get nat_cmp cells.new other ≡ (if nat_eq cell other then spoiled (get nat_cmp cells.old cell) else get nat_cmp cells.old other) }
     ensures list { list.new ≡ list.old ++ map starved_branch (waiting_of (get nat_cmp cells.old cell)) }
@@ -68,16 +64,16 @@ fn starve_all(branches: &mut LinkedList<Branch>, list: &mut LinkedList<Branch>)
     }
 }
 
-// What a branch that comes to a cell finds there.
+/// What a branch that comes to a cell finds there.
 #[derive(Clone, Copy)]
-pub(crate) enum Meeting {
+pub enum Meeting {
     Full,
     Poisoned,
     Open,
 }
 
-// What a branch that comes to a cell finds there.
-pub(crate) fn find_cell(cells: &BTreeMap<CellId, Cell>, cell: CellId) -> Meeting
+/// What a branch that comes to a cell finds there.
+pub fn find_cell(cells: &BTreeMap<CellId, Cell>, cell: CellId) -> Meeting
     ensures { result ≡ meeting_of (get nat_cmp cells.now cell) }
 {
     match cells.get(&cell) {

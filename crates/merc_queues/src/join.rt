@@ -1,22 +1,22 @@
-//! Joins as the core keeps them.
+//! Joins, each with its parent.
 ghost use Rattle.std.specs.Prelude.{◌≡◌};
-ghost use Rattle.merc_core.specs.Outcomes.{joined_at, outermost_outcome};
+ghost use Rattle.merc_queues.specs.Outcomes.{joined_at, outermost_outcome};
 
 use crate::branch::Branch;
 use merc_script::{Outcome, join_next};
 use std::collections::LinkedList;
 
-// A join, with what is stored for each child, and the parent that is parked there.
+/// A join, with what is stored for each child, and the parent that is parked there.
 #[derive(Drop)]
-pub(crate) struct Join {
-    pub(crate) limit: u64,
-    pub(crate) outcomes: LinkedList<Option<Outcome>>,
-    pub(crate) parent: LinkedList<Branch>,
+pub struct Join {
+    pub limit: u64,
+    pub outcomes: LinkedList<Option<Outcome>>,
+    pub parent: LinkedList<Branch>,
 }
 
 impl Join {
-    // The outcome of the fork, once those of all children are stored.
-    pub(crate) fn joined(&self) -> Option<Outcome>
+    /// The outcome of the fork, once those of all children are stored.
+    pub fn joined(&self) -> Option<Outcome>
         ensures { result ≡ joined_at self.now }
     {
         let mut before = Outcome::Ok(0);
@@ -30,8 +30,8 @@ impl Join {
     }
 }
 
-// What is stored for the child of the outermost join.
-pub(crate) fn outermost_outcome(joins: &[Join]) -> Option<Outcome>
+/// What is stored for the child of the outermost join.
+pub fn outermost_outcome(joins: &[Join]) -> Option<Outcome>
     ensures { result ≡ outermost_outcome joins.now }
 {
     match joins.first() {

@@ -5,8 +5,8 @@ use std::alloc::Global;
 use std::collections::LinkedList;
 use std::mem::swap;
 
-// Puts the first of a list behind another list.
-pub(crate) fn move_first<T: Drop>(from: &mut LinkedList<T>, into: &mut LinkedList<T>)
+/// Puts the first of a list behind another list.
+pub fn move_first<T: Drop>(from: &mut LinkedList<T>, into: &mut LinkedList<T>)
     requires some { 0 < length from.old }
     requires room { length into.old + 1 < 2 ^ 63 }
     ensures into { into.new ≡ into.old ++ take 1 from.old }
@@ -18,8 +18,8 @@ pub(crate) fn move_first<T: Drop>(from: &mut LinkedList<T>, into: &mut LinkedLis
     }
 }
 
-// Puts the last of a list behind another list.
-pub(crate) fn move_last<T: Drop>(from: &mut LinkedList<T>, into: &mut LinkedList<T>)
+/// Puts the last of a list behind another list.
+pub fn move_last<T: Drop>(from: &mut LinkedList<T>, into: &mut LinkedList<T>)
     requires some { 0 < length from.old }
     requires room { length into.old + 1 < 2 ^ 63 }
     ensures into { into.new ≡ into.old ++ drop (length from.old - 1) from.old }
@@ -31,8 +31,8 @@ pub(crate) fn move_last<T: Drop>(from: &mut LinkedList<T>, into: &mut LinkedList
     }
 }
 
-// Puts all of a list behind another list.
-pub(crate) fn move_all<T: Drop>(from: &mut LinkedList<T>, into: &mut LinkedList<T>)
+/// Puts all of a list behind another list.
+pub fn move_all<T: Drop>(from: &mut LinkedList<T>, into: &mut LinkedList<T>)
     requires { length into.old + length from.old < 2 ^ 63 }
     ensures into { into.new ≡ into.old ++ from.old }
     ensures from { from.new ≡ [] }
@@ -40,8 +40,8 @@ pub(crate) fn move_all<T: Drop>(from: &mut LinkedList<T>, into: &mut LinkedList<
     let _ = into.append(from);
 }
 
-// Puts a value behind a list, in a node that is spare.
-pub(crate) fn put_last<T: Drop>(
+/// Puts a value behind a list, in a node that is spare.
+pub fn put_last<T: Drop>(
     alloc: Global,
     spare: &mut LinkedList<T>,
     into: &mut LinkedList<T>,
@@ -60,8 +60,8 @@ pub(crate) fn put_last<T: Drop>(
     move_all(&mut node, into);
 }
 
-// Puts a value in front of a list, in a node that is spare.
-pub(crate) fn put_first<T: Drop>(
+/// Puts a value in front of a list, in a node that is spare.
+pub fn put_first<T: Drop>(
     alloc: Global,
     spare: &mut LinkedList<T>,
     into: &mut LinkedList<T>,
