@@ -5,17 +5,18 @@ ghost use Rattle.merc_queues.specs.declared.branch.Branch.{Branch as CoreBranch}
 use merc_script::{CellId, Outcome};
 use std::collections::LinkedList;
 
-/// A branch, in one of the lists of the core.
+/// A branch: where it stands in the root's script, and what it carries.
 #[derive(Drop)]
 pub struct Branch {
     /// the join whose child it is
     pub join: usize,
     /// the child's number, from 1
     pub child: usize,
-    /// the place of its next item
+    /// the place of its next item, among those of the root's script
     pub at: usize,
     /// the outcome that it ends with in place of what its script says
     pub ended: Option<Outcome>,
+    /// the steps that were made so far, those of children among them
     pub steps: u64,
     /// The cells that it had to signal at first. None is taken out: those that it signals are full when it ends, and those
     /// that it passes on to a child are full or poisoned.

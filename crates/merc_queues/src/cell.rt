@@ -12,12 +12,15 @@ use std::collections::{BTreeMap, LinkedList};
 /// A cell for which some branch waits in its script.
 #[derive(Drop)]
 pub struct Cell {
+    /// whether it was signalled
     pub is_full: bool,
+    /// whether a branch that had to signal it has ended; it counts only where the cell is not full
     pub is_poisoned: bool,
+    /// the branches that are parked there, the newest last
     pub waiting: LinkedList<Branch>,
 }
 
-/// Fills a cell. Those that wait for it go behind a list.
+/// Fills a cell, if it is there. Those that wait for it go behind a list.
 pub fn fill(cells: &mut BTreeMap<CellId, Cell>, cell: CellId, list: &mut LinkedList<Branch>)
     requires { length list.old + length (waiting_of (get nat_cmp cells.old cell)) < 2 ^ 63 }
     ensures cells { (other : ℕ) → get nat_cmp cells.new other ≡ (if nat_eq cell other then filled (get nat_cmp cells.old cell) else get nat_cmp cells.old other) }
@@ -29,7 +32,7 @@ pub fn fill(cells: &mut BTreeMap<CellId, Cell>, cell: CellId, list: &mut LinkedL
     }
 }
 
-/// Parks branches at a cell.
+/// Parks branches at a cell, if it is there.
 pub fn park(cells: &mut BTreeMap<CellId, Cell>, cell: CellId, branches: &mut LinkedList<Branch>)
     requires { length (waiting_of (get nat_cmp cells.old cell)) + length branches.old < 2 ^ 63 }
     ensures cells { (other : ℕ) → get nat_cmp cells.new other ≡ (if nat_eq cell other then parked_at branches.old (get nat_cmp cells.old cell) else get nat_cmp cells.old other) }
@@ -40,7 +43,7 @@ pub fn park(cells: &mut BTreeMap<CellId, Cell>, cell: CellId, branches: &mut Lin
     }
 }
 
-/// Spoils a cell. Those that wait for it end as starved, and go behind a list.
+/// Spoils a cell, if it is there. Those that wait for it end as starved, and go behind a list.
 pub fn spoil(cells: &mut BTreeMap<CellId, Cell>, cell: CellId, list: &mut LinkedList<Branch>)
     requires { length list.old + length (waiting_of (get nat_cmp cells.old cell)) < 2 ^ 63 }
     ensures cells { (other : ℕ) → get nat_cmp cells.new other ≡ (if nat_eq cell other then spoiled (get nat_cmp cells.old cell) else get nat_cmp cells.old other) }
@@ -67,12 +70,15 @@ fn starve_all(branches: &mut LinkedList<Branch>, list: &mut LinkedList<Branch>)
 /// What a branch that comes to a cell finds there.
 #[derive(Clone, Copy)]
 pub enum Meeting {
+    /// It is full, so the branch goes on.
     Full,
+    /// It is poisoned and not full, so the branch ends as starved.
     Poisoned,
+    /// It is neither, so the branch waits.
     Open,
 }
 
-/// What a branch that comes to a cell finds there.
+/// What a branch that comes to a cell finds there: `Open` where there is no such cell.
 pub fn find_cell(cells: &BTreeMap<CellId, Cell>, cell: CellId) -> Meeting
     ensures { result ≡ meeting_of (get nat_cmp cells.now cell) }
 {

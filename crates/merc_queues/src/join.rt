@@ -6,16 +6,19 @@ use crate::branch::Branch;
 use merc_script::{Outcome, join_next};
 use std::collections::LinkedList;
 
-/// A join, with what is stored for each child, and the parent that is parked there.
+/// A join of a fork's children.
 #[derive(Drop)]
 pub struct Join {
+    /// the most steps that the children make together
     pub limit: u64,
+    /// what is stored for each child, in order; `None` where it has not ended
     pub outcomes: LinkedList<Option<Outcome>>,
+    /// the parent, where it is parked there
     pub parent: LinkedList<Branch>,
 }
 
 impl Join {
-    /// The outcome of the fork, once those of all children are stored.
+    /// The outcome of the fork, once those of all children are stored; `None` before.
     pub fn joined(&self) -> Option<Outcome>
         ensures { result ≡ joined_at self.now }
     {
@@ -30,7 +33,7 @@ impl Join {
     }
 }
 
-/// What is stored for the child of the outermost join.
+/// What is stored for the child of the outermost join, the first of these; `None` where there is nothing.
 pub fn outermost_outcome(joins: &[Join]) -> Option<Outcome>
     ensures { result ≡ outermost_outcome joins.now }
 {
