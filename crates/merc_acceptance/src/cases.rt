@@ -1,5 +1,5 @@
 //! A case with its texts written out.
-use crate::escapes::{Filling, expand};
+use crate::escapes::{Filling, expand, push_all};
 use crate::fault::TableFault;
 use crate::settings::Settings;
 use merc_base::Text;
@@ -26,25 +26,44 @@ impl Case {
         text: &str,
         line: Option<u32>,
     ) -> Result<Case, TableFault> {
+        let mut case = Case {
+            files: Vec::new(alloc),
+            words: Vec::new(alloc),
+            status: 0,
+            text: Text::new(alloc),
+        };
+        case.fill(alloc, settings, text, line)?;
+        Ok(case)
+    }
+
+    fn fill(
+        &mut self,
+        alloc: Global,
+        settings: &Settings,
+        text: &str,
+        line: Option<u32>,
+    ) -> Result<(), TableFault> {
         let own = own_text(alloc, text)?;
         let number = line.unwrap_or(0).to_string(alloc)?;
         let mut filling = Filling::new(alloc, own.bytes(), number.as_bytes());
+        self.take_settings(alloc, settings, &mut filling)?;
+        check_used(&filling, line.is_some())
+    }
+
+    // Takes what the settings say, with what the case puts in.
+    fn take_settings(
+        &mut self,
+        alloc: Global,
+        settings: &Settings,
+        filling: &mut Filling<'_>,
+    ) -> Result<(), TableFault> {
         let Some((status, due)) = &settings.due else {
             return Err(TableFault::NothingDue);
         };
-        let case = Case {
-            files: files(alloc, settings, &mut filling)?,
-            words: words(alloc, settings, &mut filling)?,
-            status: *status,
-            text: expand(due.as_str(), &mut filling)?,
-        };
-        if filling.has_line != line.is_some() {
-            return Err(TableFault::WrongLine);
-        }
-        if !filling.has_text && !own.bytes().is_empty() {
-            return Err(TableFault::UnusedText);
-        }
-        Ok(case)
+        self.status = *status;
+        add_files(alloc, &settings.files, filling, &mut self.files)?;
+        add_words(&settings.words, filling, &mut self.words)?;
+        push_all(due.as_bytes(), filling, &mut self.text)
     }
 }
 
@@ -58,27 +77,37 @@ fn own_text(alloc: Global, text: &str) -> Result<Text, TableFault> {
     Ok(own)
 }
 
-fn files(
-    alloc: Global,
-    settings: &Settings,
-    filling: &mut Filling<'_>,
-) -> Result<Vec<(Text, Text)>, TableFault> {
-    let mut files = Vec::new(alloc);
-    for (name, content) in &settings.files {
-        let name = Text::of(alloc, name.as_str().as_bytes())?;
-        files.push((name, expand(content.as_str(), filling)?))?;
+// Whether what the case puts in stands somewhere, and its line just where one is said.
+fn check_used(filling: &Filling<'_>, is_line_said: bool) -> Result<(), TableFault> {
+    if filling.has_line != is_line_said {
+        return Err(TableFault::WrongLine);
     }
-    Ok(files)
+    if !filling.has_text && !filling.text.is_empty() {
+        return Err(TableFault::UnusedText);
+    }
+    Ok(())
 }
 
-fn words(
+fn add_files(
     alloc: Global,
-    settings: &Settings,
+    written: &[(String, String)],
     filling: &mut Filling<'_>,
-) -> Result<Vec<Text>, TableFault> {
-    let mut words = Vec::new(alloc);
-    for word in &settings.words {
-        words.push(expand(word.as_str(), filling)?)?;
+    files: &mut Vec<(Text, Text)>,
+) -> Result<(), TableFault> {
+    for (name, content) in written {
+        let name = Text::of(alloc, name.as_bytes())?;
+        files.push((name, expand(content, filling)?))?;
     }
-    Ok(words)
+    Ok(())
+}
+
+fn add_words(
+    written: &[String],
+    filling: &mut Filling<'_>,
+    words: &mut Vec<Text>,
+) -> Result<(), TableFault> {
+    for word in written {
+        words.push(expand(word, filling)?)?;
+    }
+    Ok(())
 }

@@ -35,18 +35,35 @@ impl<'a> Filling<'a> {
 /// The text that is written so.
 pub(crate) fn expand(written: &str, filling: &mut Filling<'_>) -> Result<Text, TableFault> {
     let mut text = Text::new(filling.alloc);
-    let mut rest = written.as_bytes();
+    push_all(written.as_bytes(), filling, &mut text)?;
+    Ok(text)
+}
+
+/// Adds the text that is written so.
+pub(crate) fn push_all(
+    written: &[u8],
+    filling: &mut Filling<'_>,
+    text: &mut Text,
+) -> Result<(), TableFault> {
+    let mut rest = written;
     // Each time takes one byte at least.
     for _ in 0..written.len() {
-        let [first, after @ ..] = rest else {
-            break;
-        };
-        rest = match (*first, after) {
-            (b'\\', [b'*', repeat @ ..]) => push_repeat(repeat, filling, &mut text)?,
-            (first, after) => push_one(first, after, 0, filling, &mut text)?,
-        };
+        rest = push_next(rest, filling, text)?;
     }
-    Ok(text)
+    Ok(())
+}
+
+// Adds a byte, or what an escape or a repeat stands for, and gives what follows. Behind the last byte nothing follows.
+fn push_next<'a>(
+    written: &'a [u8],
+    filling: &mut Filling<'_>,
+    text: &mut Text,
+) -> Result<&'a [u8], TableFault> {
+    match written {
+        [b'\\', b'*', repeat @ ..] => push_repeat(repeat, filling, text),
+        [first, after @ ..] => push_one(*first, after, 0, filling, text),
+        [] => Ok(written),
+    }
 }
 
 // Adds a byte, or what an escape stands for, in this part of a repeat, and gives what follows.

@@ -22,17 +22,30 @@ pub struct LineFault {
     pub fault: TableFault,
 }
 
-/// The entries of a table, in order.
-pub(crate) fn entries(alloc: Global, text: &str) -> Result<Vec<Entry>, LineFault> {
-    let mut entries = Vec::new(alloc);
+impl Entry {
+    fn new(alloc: Global, line: u32, key: &str, value: &str) -> Result<Entry, TableFault> {
+        Ok(Entry {
+            line,
+            key: String::from_str(alloc, key)?,
+            value: String::from_str(alloc, value)?,
+        })
+    }
+}
+
+/// Adds the entries of a table, in order.
+pub(crate) fn read_entries(
+    alloc: Global,
+    text: &str,
+    entries: &mut Vec<Entry>,
+) -> Result<(), LineFault> {
     let mut line = 0u32;
     for written in text.lines() {
         line = line.saturating_add(1);
-        if let Err(fault) = add_line(alloc, &mut entries, line, written) {
+        if let Err(fault) = add_line(alloc, entries, line, written) {
             return Err(LineFault { line, fault });
         }
     }
-    Ok(entries)
+    Ok(())
 }
 
 // Adds a line: an entry, a part of the last one, or nothing where it is empty or a comment.
@@ -48,29 +61,33 @@ fn add_line(
     if let Some(more) = written.strip_prefix("|") {
         return go_on(entries, more);
     }
-    let (key, value) = match written.strip_prefix("==") {
-        Some(heading) => ("==", heading),
-        None => match written.split_once(':') {
-            Some(parts) => parts,
-            None => return Err(TableFault::UnknownLine),
-        },
-    };
-    entries.push(Entry {
-        line,
-        key: String::from_str(alloc, key.trim())?,
-        value: String::from_str(alloc, value.trim())?,
-    })?;
+    let (key, value) = key_and_value(written)?;
+    entries.push(Entry::new(alloc, line, key.trim(), value.trim())?)?;
     Ok(())
 }
 
-// Adds a line and its end to the last entry.
+// What stands before the colon and what behind; of a heading `==` and the rest.
+fn key_and_value(written: &str) -> Result<(&str, &str), TableFault> {
+    if let Some(heading) = written.strip_prefix("==") {
+        return Ok(("==", heading));
+    }
+    match written.split_once(':') {
+        Some(parts) => Ok(parts),
+        None => Err(TableFault::UnknownLine),
+    }
+}
+
+// Adds a line to the last entry.
 fn go_on(entries: &mut Vec<Entry>, more: &str) -> Result<(), TableFault> {
-    let Some(entry) = entries.last_mut() else {
-        return Err(TableFault::NothingToContinue);
-    };
-    entry
-        .value
-        .push_str(more.strip_prefix(" ").unwrap_or(more))?;
-    entry.value.push_str("\\n")?;
+    match entries.last_mut() {
+        Some(entry) => push_line(more.strip_prefix(" ").unwrap_or(more), &mut entry.value),
+        None => Err(TableFault::NothingToContinue),
+    }
+}
+
+// Adds a line and its end.
+fn push_line(line: &str, value: &mut String) -> Result<(), TableFault> {
+    value.push_str(line)?;
+    value.push_str("\\n")?;
     Ok(())
 }

@@ -8,7 +8,7 @@ use merc_base::{Tap, Text};
 use merc_io::{FailingShelf, FailingSink, OpenGate};
 use merc_machine::Ticks;
 use merc_top::answer;
-use std::alloc::Global;
+use std::alloc::{AllocError, Global};
 use std::sync::Wait;
 use std::thread::Threads;
 
@@ -18,29 +18,49 @@ pub(crate) fn difference<R: Threads + Wait + AllocGlobal>(
     settings: &Settings,
     case: Case,
 ) -> Result<Option<String>, TableFault> {
-    let alloc = rt.alloc();
-    let piece = settings.read_piece.clamp(1, 65_536);
-    let mut shelf = FailingShelf::new(case.files, settings.failing_reads.clone()?, piece);
-    let mut sink = sink_of(alloc, settings)?;
-    let mut taps: Vec<Box<dyn Tap>> = Vec::new(alloc);
-    let mut ticks = Ticks::new();
-    let status = answer(
-        rt,
-        alloc,
-        &case.words,
-        &mut shelf,
-        &mut sink,
-        &mut taps,
-        &OpenGate,
-        &mut ticks,
-    );
-    if status == case.status && sink.bytes() == case.text.bytes() {
+    let mut sink = sink_of(rt.alloc(), settings)?;
+    let status = run(rt, settings, case.files, &case.words, &mut sink)?;
+    let came = sink.bytes();
+    let due = case.text.bytes();
+    if status == case.status && came == due {
         return Ok(None);
     }
-    let due = shown(alloc, case.text.bytes())?;
-    let came = shown(alloc, sink.bytes())?;
-    let wanted = case.status;
-    Ok(Some(format!(in alloc; "  due:  {wanted} {due}\n  came: {status} {came}")?))
+    let both = both_shown(rt.alloc(), case.status, due, status, came)?;
+    Ok(Some(both))
+}
+
+// The status that the program's one call gives for words, over these files and with the faults that are said.
+fn run<R: Threads + Wait + AllocGlobal>(
+    rt: &R,
+    settings: &Settings,
+    files: Vec<(Text, Text)>,
+    words: &[Text],
+    sink: &mut FailingSink,
+) -> Result<u8, TableFault>
+    requires { sink.old.sink.faults ≡ 0 }
+{
+    let fail = settings.failing_reads.clone()?;
+    let piece = settings.read_piece.clamp(1, 65_536);
+    let mut shelf = FailingShelf::new(files, fail, piece);
+    Ok(status(rt, words, &mut shelf, sink))
+}
+
+// The status that the program's one call gives for words.
+fn status<R: Threads + Wait + AllocGlobal>(
+    rt: &R,
+    words: &[Text],
+    shelf: &mut FailingShelf,
+    sink: &mut FailingSink,
+) -> u8
+    requires shelf { shelf.old.faults ≡ 0 }
+    requires sink { sink.old.sink.faults ≡ 0 }
+{
+    let alloc = rt.alloc();
+    let mut taps: Vec<Box<dyn Tap>> = Vec::new(alloc);
+    let mut ticks = Ticks::new();
+    answer(
+        rt, alloc, words, shelf, sink, &mut taps, &OpenGate, &mut ticks,
+    )
 }
 
 // An empty sink that takes and fails as is said.
@@ -48,23 +68,44 @@ fn sink_of(alloc: Global, settings: &Settings) -> Result<FailingSink, TableFault
     ensures { IfOk result (λ sink. sink.sink.faults ≡ 0) }
 {
     let fail = settings.failing_writes.clone()?;
+    let room = settings.room;
     let sink = match settings.write_piece {
-        Some(piece) => FailingSink::taking(alloc, settings.room, fail, piece.max(1))?,
-        None => FailingSink::with_room(alloc, settings.room, fail)?,
+        Some(piece) => FailingSink::taking(alloc, room, fail, piece.max(1)),
+        None => FailingSink::with_room(alloc, room, fail),
     };
-    Ok(sink)
+    Ok(sink?)
 }
 
-// A text as a table has it.
-fn shown(alloc: Global, bytes: &[u8]) -> Result<String, TableFault> {
-    let mut text = String::new(alloc);
+// The status and the text that are due, and those that came.
+fn both_shown(
+    alloc: Global,
+    wanted: u8,
+    due: &[u8],
+    status: u8,
+    came: &[u8],
+) -> Result<String, TableFault> {
+    let mut shown = String::new(alloc);
+    push_shown("  due:  ", wanted, due, &mut shown)?;
+    push_shown("\n  came: ", status, came, &mut shown)?;
+    Ok(shown)
+}
+
+// Adds these words, a status, and a text as a table has it.
+fn push_shown(words: &str, status: u8, bytes: &[u8], shown: &mut String) -> Result<(), TableFault> {
+    shown.push_str(words)?;
+    write!(shown, "{status} ")?;
     for byte in bytes {
-        match *byte {
-            b'\n' => text.push_str("\\n")?,
-            b'\\' => text.push_str("\\\\")?,
-            b' '..=b'~' => text.push(char::from(*byte))?,
-            _ => write!(text, "\\x{:02x}", *byte)?,
-        }
+        push_byte(*byte, shown)?;
     }
-    Ok(text)
+    Ok(())
+}
+
+// Adds a byte as a table has it.
+fn push_byte(byte: u8, shown: &mut String) -> Result<(), AllocError> {
+    match byte {
+        b'\n' => shown.push_str("\\n"),
+        b'\\' => shown.push_str("\\\\"),
+        b' '..=b'~' => shown.push(char::from(byte)),
+        _ => write!(shown, "\\x{byte:02x}"),
+    }
 }

@@ -55,26 +55,11 @@ impl Settings {
             "module" => self.set_file(alloc, "m.m", value),
             "goal" => self.set_goal(alloc, value),
             "words" => self.set_words(alloc, value),
-            "failing reads" => {
-                self.failing_reads = numbers(alloc, value)?;
-                Ok(())
-            }
-            "failing writes" => {
-                self.failing_writes = numbers(alloc, value)?;
-                Ok(())
-            }
-            "read piece" => {
-                self.read_piece = number(value, READ_PIECE)?;
-                Ok(())
-            }
-            "write piece" => {
-                self.write_piece = Some(number(value, READ_PIECE)?);
-                Ok(())
-            }
-            "room" => {
-                self.room = number(value, READ_PIECE)?;
-                Ok(())
-            }
+            "failing reads" => set_numbers(value, &mut self.failing_reads),
+            "failing writes" => set_numbers(value, &mut self.failing_writes),
+            "read piece" => set_number(value, &mut self.read_piece),
+            "write piece" => self.set_write_piece(value),
+            "room" => set_number(value, &mut self.room),
             _ => self.set_named(alloc, key, value),
         }
     }
@@ -83,22 +68,26 @@ impl Settings {
     fn set_named(&mut self, alloc: Global, key: &str, value: &str) -> Result<(), TableFault> {
         match key.split_once(' ') {
             Some(("file", name)) => self.set_file(alloc, name, value),
-            Some(("due", status)) => {
-                let Ok(status) = status.parse() else {
-                    return Err(TableFault::WrongNumber);
-                };
-                self.due = Some((status, String::from_str(alloc, value)?));
-                Ok(())
-            }
+            Some(("due", status)) => self.set_due(alloc, status, value),
             _ => Err(TableFault::UnknownLine),
         }
     }
 
+    fn set_due(&mut self, alloc: Global, status: &str, text: &str) -> Result<(), TableFault> {
+        let Ok(status) = status.parse() else {
+            return Err(TableFault::WrongNumber);
+        };
+        self.due = Some((status, String::from_str(alloc, text)?));
+        Ok(())
+    }
+
+    fn set_write_piece(&mut self, value: &str) -> Result<(), TableFault> {
+        self.write_piece = Some(number(value, READ_PIECE)?);
+        Ok(())
+    }
+
     fn set_file(&mut self, alloc: Global, name: &str, value: &str) -> Result<(), TableFault> {
-        let file = (
-            String::from_str(alloc, name)?,
-            String::from_str(alloc, value)?,
-        );
+        let file = file_of(alloc, name, value)?;
         self.files.retain(|other| other.0.as_str() != name);
         self.files.push(file)?;
         Ok(())
@@ -106,18 +95,29 @@ impl Settings {
 
     fn set_goal(&mut self, alloc: Global, goal: &str) -> Result<(), TableFault> {
         self.set_words(alloc, "solve m.m")?;
-        self.words.push(String::from_str(alloc, goal)?)?;
-        Ok(())
+        self.add_word(alloc, goal)
     }
 
     // The words stand between blanks.
     fn set_words(&mut self, alloc: Global, value: &str) -> Result<(), TableFault> {
         self.words.clear();
         for word in value.split_whitespace() {
-            self.words.push(String::from_str(alloc, word)?)?;
+            self.add_word(alloc, word)?;
         }
         Ok(())
     }
+
+    fn add_word(&mut self, alloc: Global, word: &str) -> Result<(), TableFault> {
+        self.words.push(String::from_str(alloc, word)?)?;
+        Ok(())
+    }
+}
+
+fn file_of(alloc: Global, name: &str, text: &str) -> Result<(String, String), TableFault> {
+    Ok((
+        String::from_str(alloc, name)?,
+        String::from_str(alloc, text)?,
+    ))
 }
 
 // A number from 1 to this one.
@@ -130,14 +130,19 @@ fn number(value: &str, most: usize) -> Result<usize, TableFault>
     }
 }
 
-// Numbers between blanks.
-fn numbers(alloc: Global, value: &str) -> Result<Vec<u64>, TableFault> {
-    let mut numbers = Vec::new(alloc);
+fn set_number(value: &str, setting: &mut usize) -> Result<(), TableFault> {
+    *setting = number(value, READ_PIECE)?;
+    Ok(())
+}
+
+// Takes numbers between blanks.
+fn set_numbers(value: &str, setting: &mut Vec<u64>) -> Result<(), TableFault> {
+    setting.clear();
     for word in value.split_whitespace() {
-        let Ok(number) = word.parse() else {
-            return Err(TableFault::WrongNumber);
-        };
-        numbers.push(number)?;
+        match word.parse() {
+            Ok(number) => setting.push(number)?,
+            Err(_) => return Err(TableFault::WrongNumber),
+        }
     }
-    Ok(numbers)
+    Ok(())
 }

@@ -1,7 +1,7 @@
 //! Tables: headings, settings and cases.
 use crate::cases::Case;
 use crate::fault::TableFault;
-use crate::lines::{Entry, LineFault, entries};
+use crate::lines::{Entry, LineFault, read_entries};
 use crate::running::difference;
 use crate::settings::Settings;
 use crate::tally::Tally;
@@ -17,20 +17,21 @@ struct Section {
     settings: Settings,
 }
 
-// What comes of an entry.
-#[derive(Drop)]
-enum Outcome {
-    NoCase,
-    Passed,
-    Failed(String),
-}
-
 impl Section {
     fn new(alloc: Global, heading: &str) -> Result<Section, TableFault> {
         Ok(Section {
             heading: String::from_str(alloc, heading)?,
             settings: Settings::new(alloc)?,
         })
+    }
+
+    // Takes a heading or a setting.
+    fn set(&mut self, alloc: Global, key: &str, value: &str) -> Result<(), TableFault> {
+        if key != "==" {
+            return self.settings.set(alloc, key, value);
+        }
+        *self = Section::new(alloc, value)?;
+        Ok(())
     }
 }
 
@@ -41,47 +42,63 @@ pub(crate) fn run_table<R: Print + Threads + Wait + AllocGlobal>(
     text: &str,
     tally: &mut Tally,
 ) -> io::Result<()> {
-    let entries = match entries(rt.alloc(), text) {
-        Ok(entries) => entries,
-        Err(fault) => return tell_fault(rt, path, fault, tally),
-    };
-    let mut section = match Section::new(rt.alloc(), "") {
-        Ok(section) => section,
-        Err(fault) => return tell_fault(rt, path, LineFault { line: 1, fault }, tally),
-    };
-    for entry in &entries {
+    let mut entries = Vec::new(rt.alloc());
+    match read_entries(rt.alloc(), text, &mut entries) {
+        Ok(()) => run_entries(rt, path, &entries, tally),
+        Err(fault) => tell_fault(rt, path, fault, tally),
+    }
+}
+
+fn run_entries<R: Print + Threads + Wait + AllocGlobal>(
+    rt: &R,
+    path: &str,
+    entries: &[Entry],
+    tally: &mut Tally,
+) -> io::Result<()> {
+    match Section::new(rt.alloc(), "") {
+        Ok(mut section) => run_each(rt, path, entries, &mut section, tally),
+        Err(fault) => tell_fault(rt, path, LineFault { line: 1, fault }, tally),
+    }
+}
+
+// Runs entries up to the first fault.
+fn run_each<R: Print + Threads + Wait + AllocGlobal>(
+    rt: &R,
+    path: &str,
+    entries: &[Entry],
+    section: &mut Section,
+    tally: &mut Tally,
+) -> io::Result<()> {
+    for entry in entries {
         let line = entry.line;
-        match run_entry(rt, &mut section, entry) {
-            Ok(outcome) => tell_outcome(rt, path, entry, &section, outcome, tally)?,
+        match run_entry(rt, section, entry, tally) {
+            Ok(None) => {}
+            Ok(Some(difference)) => tell_difference(rt, path, line, &section.heading, difference)?,
             Err(fault) => return tell_fault(rt, path, LineFault { line, fault }, tally),
         }
     }
     Ok(())
 }
 
+// Takes an entry, and counts it where it is a case. Where something else came than was due, says both.
 fn run_entry<R: Threads + Wait + AllocGlobal>(
     rt: &R,
     section: &mut Section,
     entry: &Entry,
-) -> Result<Outcome, TableFault> {
-    let alloc = rt.alloc();
+    tally: &mut Tally,
+) -> Result<Option<String>, TableFault> {
+    let key = entry.key.as_str();
     let value = entry.value.as_str();
-    match entry.key.as_str() {
-        "==" => {
-            *section = Section::new(alloc, value)?;
-            Ok(Outcome::NoCase)
-        }
-        "case" => run_case(rt, &section.settings, value, None),
-        key => match key.strip_prefix("line ") {
-            Some(line) => match line.parse() {
-                Ok(line) => run_case(rt, &section.settings, value, Some(line)),
-                Err(_) => Err(TableFault::WrongNumber),
-            },
-            None => {
-                section.settings.set(alloc, key, value)?;
-                Ok(Outcome::NoCase)
-            }
-        },
+    if key == "case" {
+        return run_case(rt, &section.settings, value, None, tally);
+    }
+    let Some(line) = key.strip_prefix("line ") else {
+        section.set(rt.alloc(), key, value)?;
+        return Ok(None);
+    };
+    match line.parse() {
+        Ok(line) => run_case(rt, &section.settings, value, Some(line), tally),
+        Err(_) => Err(TableFault::WrongNumber),
     }
 }
 
@@ -90,35 +107,24 @@ fn run_case<R: Threads + Wait + AllocGlobal>(
     settings: &Settings,
     text: &str,
     line: Option<u32>,
-) -> Result<Outcome, TableFault> {
+    tally: &mut Tally,
+) -> Result<Option<String>, TableFault> {
     let case = Case::of(rt.alloc(), settings, text, line)?;
-    match difference(rt, settings, case)? {
-        Some(difference) => Ok(Outcome::Failed(difference)),
-        None => Ok(Outcome::Passed),
-    }
+    let difference = difference(rt, settings, case)?;
+    tally.count(difference.is_none());
+    Ok(difference)
 }
 
-fn tell_outcome<R: Print>(
+fn tell_difference<R: Print>(
     rt: &R,
     path: &str,
-    entry: &Entry,
-    section: &Section,
-    outcome: Outcome,
-    tally: &mut Tally,
+    line: u32,
+    heading: &str,
+    difference: String,
 ) -> io::Result<()> {
-    match outcome {
-        Outcome::NoCase => Ok(()),
-        Outcome::Passed => {
-            tally.count(true);
-            Ok(())
-        }
-        Outcome::Failed(difference) => {
-            tally.count(false);
-            print_place(rt, path, entry.line)?;
-            rt.println(section.heading.as_str())?;
-            rt.println(difference.as_str())
-        }
-    }
+    print_place(rt, path, line)?;
+    rt.println(heading)?;
+    rt.println(difference.as_str())
 }
 
 fn tell_fault<R: Print>(rt: &R, path: &str, fault: LineFault, tally: &mut Tally) -> io::Result<()> {
