@@ -53,42 +53,59 @@ pub(crate) fn push_all(
     Ok(())
 }
 
-// Adds a byte, or what an escape or a repeat stands for, and gives what follows. Behind the last byte nothing follows.
+// Adds a byte, or what an escape or a repeat stands for, and gives what follows.
 fn push_next<'a>(
     written: &'a [u8],
     filling: &mut Filling<'_>,
     text: &mut Text,
 ) -> Result<&'a [u8], TableFault> {
-    match written {
-        [b'\\', b'*', repeat @ ..] => push_repeat(repeat, filling, text),
-        [first, after @ ..] => push_one(*first, after, 0, filling, text),
-        [] => Ok(written),
+    match written.strip_prefix(b"\\*") {
+        Some(repeat) => push_repeat(repeat, filling, text),
+        None => push_one(written, 0, filling, text),
     }
 }
 
-// Adds a byte, or what an escape stands for, in this part of a repeat, and gives what follows.
+// Adds a byte, or what an escape stands for, in this part of a repeat, and gives what follows; behind the end nothing.
 fn push_one<'a>(
-    first: u8,
-    after: &'a [u8],
+    written: &'a [u8],
     part: usize,
     filling: &mut Filling<'_>,
     text: &mut Text,
 ) -> Result<&'a [u8], TableFault> {
-    if first != b'\\' {
-        text.push(&[first])?;
-        return Ok(after);
-    }
-    match after {
-        [b'x', high, low, rest @ ..] => {
-            text.push(&[byte_of(*high, *low)?])?;
+    match written.split_first() {
+        Some((b'\\', escape)) => push_escape(escape, part, filling, text),
+        Some((byte, rest)) => {
+            text.push(&[*byte])?;
             Ok(rest)
         }
-        [letter, rest @ ..] => {
+        None => Ok(written),
+    }
+}
+
+// Adds what stands for the escape behind a backslash, and gives what follows.
+fn push_escape<'a>(
+    escape: &'a [u8],
+    part: usize,
+    filling: &mut Filling<'_>,
+    text: &mut Text,
+) -> Result<&'a [u8], TableFault> {
+    match escape.split_first() {
+        Some((b'x', digits)) => push_hexadecimal(digits, text),
+        Some((letter, rest)) => {
             push_named(*letter, part, filling, text)?;
             Ok(rest)
         }
-        [] => Err(TableFault::WrongEscape),
+        None => Err(TableFault::WrongEscape),
     }
+}
+
+// Adds the byte with the two digits that come first, and gives what follows.
+fn push_hexadecimal<'a>(digits: &'a [u8], text: &mut Text) -> Result<&'a [u8], TableFault> {
+    let [high, low, rest @ ..] = digits else {
+        return Err(TableFault::WrongEscape);
+    };
+    text.push(&[byte_of(*high, *low)?])?;
+    Ok(rest)
 }
 
 // Adds what stands for this letter behind a backslash.
@@ -99,23 +116,32 @@ fn push_named(
     text: &mut Text,
 ) -> Result<(), TableFault> {
     match letter {
-        b'n' => text.push(b"\n")?,
-        b'r' => text.push(b"\r")?,
-        b't' => text.push(b"\t")?,
-        b'\\' => text.push(b"\\")?,
-        b'i' => push_number(filling.alloc, part, text)?,
-        b'j' => push_number(filling.alloc, part.saturating_add(1), text)?,
+        b'i' => push_number(filling.alloc, part, text),
+        b'j' => push_number(filling.alloc, part.saturating_add(1), text),
+        _ => {
+            text.push(named(letter, filling)?)?;
+            Ok(())
+        }
+    }
+}
+
+// What stands for this letter, which is the same in each part of a repeat.
+fn named<'a>(letter: u8, filling: &mut Filling<'a>) -> Result<&'a [u8], TableFault> {
+    match letter {
+        b'n' => Ok(b"\n"),
+        b'r' => Ok(b"\r"),
+        b't' => Ok(b"\t"),
+        b'\\' => Ok(b"\\"),
         b'_' => {
             filling.has_text = true;
-            text.push(filling.text)?;
+            Ok(filling.text)
         }
         b'#' => {
             filling.has_line = true;
-            text.push(filling.line)?;
+            Ok(filling.line)
         }
-        _ => return Err(TableFault::WrongEscape),
+        _ => Err(TableFault::WrongEscape),
     }
-    Ok(())
 }
 
 fn push_number(alloc: Global, number: usize, text: &mut Text) -> Result<(), TableFault> {
@@ -159,10 +185,7 @@ fn push_part(
 ) -> Result<(), TableFault> {
     let mut rest = part;
     for _ in 0..part.len() {
-        let [first, after @ ..] = rest else {
-            break;
-        };
-        rest = push_one(*first, after, number, filling, text)?;
+        rest = push_one(rest, number, filling, text)?;
     }
     Ok(())
 }

@@ -9,40 +9,22 @@ use merc_io::{FailingShelf, FailingSink, OpenGate};
 use merc_machine::Ticks;
 use merc_top::answer;
 use std::alloc::{AllocError, Global};
+use std::mem;
 use std::sync::Wait;
 use std::thread::Threads;
 
-/// Runs a case. Where something else came than was due, says both.
+/// Runs a case, which gives its files away. Where something else came than was due, says both.
 pub(crate) fn difference<R: Threads + Wait + AllocGlobal>(
     rt: &R,
     settings: &Settings,
-    case: Case,
+    case: &mut Case,
 ) -> Result<Option<String>, TableFault> {
-    let mut sink = sink_of(rt.alloc(), settings)?;
-    let status = run(rt, settings, case.files, &case.words, &mut sink)?;
-    let came = sink.bytes();
-    let due = case.text.bytes();
-    if status == case.status && came == due {
-        return Ok(None);
-    }
-    let both = both_shown(rt.alloc(), case.status, due, status, came)?;
-    Ok(Some(both))
-}
-
-// The status that the program's one call gives for words, over these files and with the faults that are said.
-fn run<R: Threads + Wait + AllocGlobal>(
-    rt: &R,
-    settings: &Settings,
-    files: Vec<(Text, Text)>,
-    words: &[Text],
-    sink: &mut FailingSink,
-) -> Result<u8, TableFault>
-    requires { sink.old.sink.faults ≡ 0 }
-{
-    let fail = settings.failing_reads.clone()?;
-    let piece = settings.read_piece.clamp(1, 65_536);
-    let mut shelf = FailingShelf::new(files, fail, piece);
-    Ok(status(rt, words, &mut shelf, sink))
+    let alloc = rt.alloc();
+    let files = mem::replace(&mut case.files, Vec::new(alloc));
+    let mut shelf = shelf_of(settings, files)?;
+    let mut sink = sink_of(alloc, settings)?;
+    let status = status(rt, &case.words, &mut shelf, &mut sink);
+    compared(alloc, case.status, case.text.bytes(), status, sink.bytes())
 }
 
 // The status that the program's one call gives for words.
@@ -63,6 +45,15 @@ fn status<R: Threads + Wait + AllocGlobal>(
     )
 }
 
+// These files, of which each read gives as much as is said, and fails where it is said.
+fn shelf_of(settings: &Settings, files: Vec<(Text, Text)>) -> Result<FailingShelf, TableFault>
+    ensures { IfOk result (λ shelf. shelf.faults ≡ 0) }
+{
+    let fail = settings.failing_reads.clone()?;
+    let piece = settings.read_piece.clamp(1, 65_536);
+    Ok(FailingShelf::new(files, fail, piece))
+}
+
 // An empty sink that takes and fails as is said.
 fn sink_of(alloc: Global, settings: &Settings) -> Result<FailingSink, TableFault>
     ensures { IfOk result (λ sink. sink.sink.faults ≡ 0) }
@@ -76,18 +67,21 @@ fn sink_of(alloc: Global, settings: &Settings) -> Result<FailingSink, TableFault
     Ok(sink?)
 }
 
-// The status and the text that are due, and those that came.
-fn both_shown(
+// The status and the text that are due, and those that came, where they are not the same.
+fn compared(
     alloc: Global,
     wanted: u8,
     due: &[u8],
     status: u8,
     came: &[u8],
-) -> Result<String, TableFault> {
-    let mut shown = String::new(alloc);
-    push_shown("  due:  ", wanted, due, &mut shown)?;
-    push_shown("\n  came: ", status, came, &mut shown)?;
-    Ok(shown)
+) -> Result<Option<String>, TableFault> {
+    if status == wanted && came == due {
+        return Ok(None);
+    }
+    let mut both = String::new(alloc);
+    push_shown("  due:  ", wanted, due, &mut both)?;
+    push_shown("\n  came: ", status, came, &mut both)?;
+    Ok(Some(both))
 }
 
 // Adds these words, a status, and a text as a table has it.

@@ -109,8 +109,10 @@ fn run_case<R: Threads + Wait + AllocGlobal>(
     line: Option<u32>,
     tally: &mut Tally,
 ) -> Result<Option<String>, TableFault> {
-    let case = Case::of(rt.alloc(), settings, text, line)?;
-    let difference = difference(rt, settings, case)?;
+    let mut case = Case::of(rt.alloc(), settings, text, line)?;
+    let difference = difference(rt, settings, &mut case);
+    drop(case);
+    let difference = difference?;
     tally.count(difference.is_none());
     Ok(difference)
 }
