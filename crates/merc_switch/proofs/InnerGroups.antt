@@ -1,6 +1,6 @@
 -- Disjuncts that all go to one arm of a switch are looked at again at once.
-use Rattle.std.specs.Prelude.{◌≡◌, ◌≤◌, ◌<◌, ℕ, zero, suc, ◌-◌, ◌||◌, ◌==◌, not, List, [], ◌∷◌, ◌++◌, length, map, Option, Some, None, if◌then◌else◌, false, refl}
-use Rattle.std.specs.List.{AllByRecursion, filter}
+use Rattle.std.specs.Prelude.{◌≡◌, ◌≤◌, ◌<◌, ℕ, zero, suc, ◌-◌, ◌||◌, ◌==◌, not, List, [], ◌∷◌, ◌++◌, length, map, Option, Some, None, IfSome, if◌then◌else◌, true, false, refl}
+use Rattle.std.specs.List.{AllByRecursion, filter, list_all}
 use Rattle.std.proofs.Common.{◌∙◌, ap, sym, subst, arith}
 use Rattle.std.proofs.lemmas.Bool.Decides.{nat_tests}
 use mathlib.Core.Path.{fun_ext}
@@ -11,7 +11,7 @@ use Rattle.merc_graded_tree.specs.declared.entries.Root.TheVariants.{Switch as S
 use Rattle.merc_graded_tree.specs.Nodes.{Node, node, nodes_of, outputs_of, span_of}
 use Rattle.merc_graded_tree.specs.Variables.{in_nodes}
 use Rattle.merc_order.specs.Bound.{among}
-use Rattle.merc_grading.specs.Switches.{Group as Arm, symbol_at, with_disjunct, grouped}
+use Rattle.merc_grading.specs.Switches.{Group as Arm, symbol_at, is_there, with_disjunct, grouped}
 use Rattle.merc_switch.specs.declared.tasks.Group.{Group}
 use Rattle.merc_switch.specs.declared.tasks.Task.{Task}
 use Rattle.merc_switch.specs.declared.tasks.Task.TheVariants.{Judge, Close}
@@ -20,8 +20,9 @@ use Rattle.merc_switch_choice.specs.Variables.{behind, all_behind}
 use Rattle.merc_switch_choice.specs.Choosing.{chosen, AreLeft, Takes}
 use Rattle.merc_switch.specs.Selections.{Selection}
 use Rattle.merc_switch.specs.Tasks.{HaveEnough, total, found_in, done, FitsTask, Performs}
-use Rattle.merc_switch.specs.Plans.{disjunction_plan, arm_plan, switch_plan, group_plan, choice_left, inner_group, outer_label, AreNarrowed, HaveSymbol}
+use Rattle.merc_switch.specs.Plans.{arm_plan, switch_plan, group_plan, choice_left, inner_group, outer_label, AreNarrowed, HaveSymbol}
 use Rattle.merc_switch_choice.proofs.Members.{among-behind, among-all_behind}
+use Rattle.merc_switch_choice.proofs.ChoiceLaws.{chosen_split}
 use Rattle.merc_switch_choice.proofs.SameSymbols.{symbol_self}
 use Rattle.merc_switch.proofs.JudgedGroups.{judges, regrouped_used, several_arm, or_turned}
 use Rattle.merc_switch_choice.proofs.LeftLaws.{left_same}
@@ -160,21 +161,37 @@ used_up : (left : ℕ) (choice : Option ℕ) → (left ≡ 0) → choice_left le
 used_up zero choice none = refl
 used_up (suc left) choice none = absurd (omega (arith, none))
 
-pub ends_used_up : (declared : List TypeDef) (group : Group) (rest tasks : List Task) (goals : List Node) (bound : List ℕ) → group.left ≡ 0 → tasks ≡ disjunction_plan group ++ rest
-    → Performs declared (Judge group ∷ rest) goals bound tasks goals bound
-ends_used_up declared group rest tasks goals bound none planned =
-    judges declared group rest tasks goals bound (planned ∙ ap (λ o. group_plan o group ++ rest) (sym (used_up group.left (chosen declared (among bound) group.used group.selected.disjuncts) none)))
-
 without_choice : (left : ℕ) → choice_left left None ≡ None
 without_choice zero = refl
 without_choice (suc left) = refl
 
-pub ends_open : (declared : List TypeDef) (group : Group) (rest tasks : List Task) (goals : List Node) (bound : List ℕ) → None ≡ chosen declared (among bound) group.used group.selected.disjuncts
-    → tasks ≡ disjunction_plan group ++ rest → Performs declared (Judge group ∷ rest) goals bound tasks goals bound
-ends_open declared group rest tasks goals bound none planned =
-    judges declared group rest tasks goals bound (planned ∙ ap (λ o. group_plan o group ++ rest) (sym (without_choice group.left) ∙ ap (choice_left group.left) none))
+-- What is chosen of a group whose disjuncts were looked at.
+module _ (declared : List TypeDef) (bound : List ℕ) (group : Group) (selected : Selection) (same : selected ≡ group.selected) where
+  left_same_choice : choice_left group.left (chosen declared (among bound) group.used group.selected.disjuncts) ≡ choice_left group.left (chosen declared (among bound) group.used selected.disjuncts)
+  left_same_choice = ap (λ (s : Selection). choice_left group.left (chosen declared (among bound) group.used s.disjuncts)) (sym same)
 
-pub ends_parted : (declared : List TypeDef) (variable : ℕ) (group : Group) (rest tasks : List Task) (goals : List Node) (bound : List ℕ) → 0 < group.left
-    → Some variable ≡ chosen declared (among bound) group.used group.selected.disjuncts → tasks ≡ switch_plan variable group ++ rest → Performs declared (Judge group ∷ rest) goals bound tasks goals bound
-ends_parted declared variable group rest tasks goals bound some is planned =
-    judges declared group rest tasks goals bound (planned ∙ ap (λ o. group_plan o group ++ rest) (sym (still_left group.left variable some) ∙ ap (choice_left group.left) is))
+  pub none_chosen : None ≡ chosen declared (among bound) group.used group.selected.disjuncts → None ≡ choice_left group.left (chosen declared (among bound) group.used selected.disjuncts)
+  none_chosen none = sym (without_choice group.left) ∙ ap (choice_left group.left) none ∙ left_same_choice
+
+  pub one_chosen : (variable : ℕ) → 0 < group.left → Some variable ≡ chosen declared (among bound) group.used group.selected.disjuncts
+      → Some variable ≡ choice_left group.left (chosen declared (among bound) group.used selected.disjuncts)
+  one_chosen variable some is = sym (still_left group.left variable some) ∙ ap (choice_left group.left) is ∙ left_same_choice
+
+  pub performs_same : (start rest after : List Task) (goals : List Node) → Reaches declared start (Judge group ∷ rest) goals bound → Performs declared (Judge (with_selected group selected) ∷ rest) goals bound after goals bound
+      → Performs declared start goals bound after goals bound
+  performs_same start rest after goals reaches performs =
+      reaches_end declared start (Judge group ∷ rest) after goals bound reaches (subst (λ s. Performs declared (Judge (with_selected group s) ∷ rest) goals bound after goals bound) same performs)
+
+pub none_left : (left : ℕ) (choice : Option ℕ) → left ≡ 0 → None ≡ choice_left left choice
+none_left left choice none = sym (used_up left choice none)
+
+still_chosen : (left variable : ℕ) (choice : Option ℕ) → Some variable ≡ choice_left left choice → Some variable ≡ choice
+still_chosen zero variable choice is = absurd (cc)
+still_chosen (suc left) variable choice is = is
+
+-- all disjuncts split the variable that is chosen
+pub choice_split : (declared : List TypeDef) (bound : List ℕ) (group : Group) (choice : Option ℕ) → choice ≡ choice_left group.left (chosen declared (among bound) group.used group.selected.disjuncts)
+    → IfSome choice (λ variable. list_all (λ disjunct. is_there (symbol_at variable disjunct)) group.selected.disjuncts ≡ true)
+choice_split declared bound group None is = tt
+choice_split declared bound group (Some variable) is =
+    chosen_split declared (among bound) group.used group.selected.disjuncts variable (still_chosen group.left variable (chosen declared (among bound) group.used group.selected.disjuncts) is)

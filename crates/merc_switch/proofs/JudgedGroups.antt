@@ -334,7 +334,7 @@ map_seconds : (f : List Node → Task) (arms : List Arm) → map f (map (λ arm.
 map_seconds f [] = refl
 map_seconds f (arm ∷ arms) = ap (λ l. f arm.1 ∷ l) (map_seconds f arms)
 
-abbrev switch_label : ℕ → Group → List Symbol → Span → Label
+abbrev pub switch_label : ℕ → Group → List Symbol → Span → Label
 switch_label variable group symbols span = record { root = SwitchRoot variable symbols; outputs = group.outputs; category = group.category; span = span }
 
 pub plans_switch : (variable : ℕ) (group : Group) (symbols symbols' : List Symbol) (arms : List (List Node)) (span : Span) (rest closed tasks : List Task) → AreArms symbols arms (grouped variable group.selected.disjuncts)
@@ -378,3 +378,11 @@ judged_arm selected used left variable selected' used' left' outputs' several pa
     ∙ ap (λ l. Judge (group selected (behind (all_behind [] used) variable) l outputs')) parts.left_is
     ∙ ap (λ o. Judge (group selected (behind (all_behind [] used) variable) (left - 1) o)) parts.outputs_are
     ∙ several_arm selected.whole used left variable selected.disjuncts several
+
+-- the task of a group by its parts
+pub judges_parts : (selected selected' : Selection) (used used' : List ℕ) (left left' : ℕ) (outputs outputs' : List ℕ) → selected' ≡ selected → used' ≡ used → left' ≡ left → outputs' ≡ outputs
+    → Judge (record { selected = selected'; used = used'; left = left'; outputs = outputs'; category = None }) ≡ Judge (record { selected = selected; used = used; left = left; outputs = outputs; category = None })
+judges_parts selected selected' used used' left left' outputs outputs' selected_is used_are left_is outputs_are =
+    let group : Selection → List ℕ → ℕ → List ℕ → Group = λ s u l o. record { selected = s; used = u; left = l; outputs = o; category = None } in
+    ap (λ s. Judge (group s used' left' outputs')) selected_is ∙ ap (λ u. Judge (group selected u left' outputs')) used_are ∙ ap (λ l. Judge (group selected used l outputs')) left_is
+    ∙ ap (λ o. Judge (group selected used left o)) outputs_are

@@ -1,9 +1,9 @@
 //! Counts are handed on to parts of the disjuncts.
-ghost use Rattle.std.specs.Prelude.{◌≡◌, ◌<◌, ◌-◌, ℕ, List, [], length, IfOk, IfSome, OnOk};
+ghost use Rattle.std.specs.Prelude.{◌≡◌, ◌<◌, ◌-◌, ℕ, List, [], length, Some, IfOk, IfSome, OnOk};
 ghost use Rattle.std.specs.List.{slice_index_or};
 ghost use Rattle.merc_graded_tree.specs.Nodes.{Node, outputs_of};
 ghost use Rattle.merc_switch_choice.specs.Counting.{count_of, all_counting};
-ghost use Rattle.merc_switch.specs.Selections.{has_output, MayCount, MayCountAll};
+ghost use Rattle.merc_switch.specs.Selections.{has_output, CountsOutputs, MayCount, MayCountAll};
 ghost use Rattle.merc_switch.specs.Handing.{IsHanded};
 
 use crate::counting::remove_disjuncts;
@@ -39,12 +39,19 @@ pub(crate) fn hand_on(
         return Ok(None);
     };
     let Some(index) = largest_of(groups) else {
+        // (a call, since it costs much to prove what is dropped here)
+        drop(counts);
         return Ok(None);
     };
     let mut counts = counts;
-    remove_groups(alloc, whole, &groups[..index], &mut counts)?;
-    remove_groups(alloc, whole, &groups[index + 1..], &mut counts)?;
-    Ok(Some(Handed { counts, index }))
+    match remove_others(alloc, whole, groups, index, &mut counts) {
+        Ok(()) => Ok(Some(Handed { counts, index })),
+        Err(refused) => {
+            // (a call, as above)
+            drop(counts);
+            Err(refused)
+        }
+    }
 }
 
 /// Takes the counts if they are those of the group at an index.
@@ -77,6 +84,22 @@ fn largest_of(groups: &[Disjuncts<'_>]) -> Option<usize>
         }
     }
     largest
+}
+
+// Takes all groups but the one at an index out of the counts, which leaves its own.
+fn remove_others(
+    alloc: Global,
+    whole: &Whole<'_>,
+    groups: &[Disjuncts<'_>],
+    index: usize,
+    counts: &mut VarCounts,
+) -> Result<(), NoMemory>
+    requires within { index < length groups.now }
+    requires counts { MayCountAll whole.now (Some counts.old) groups.now }
+    ensures { OnOk result (CountsOutputs (outputs_of whole.now) counts.new (slice_index_or groups.now index [])) }
+{
+    remove_groups(alloc, whole, &groups[..index], counts)?;
+    remove_groups(alloc, whole, &groups[index + 1..], counts)
 }
 
 // Takes groups of disjuncts out of the counts.

@@ -1,13 +1,18 @@
 //! How disjuncts are taken apart into tasks.
-ghost use Rattle.std.specs.Prelude.{◌≡◌, ◌∷◌, ◌++◌, ◌≤◌, [], true, List, map, Some, IfOk, IfSome, OnOk};
+ghost use Rattle.std.specs.Prelude.{◌≡◌, ◌∷◌, ◌++◌, ◌-◌, ◌≤◌, [], true, List, map, filter, Some, None, IfOk, IfSome, OnOk};
 ghost use Rattle.std.specs.List.{list_all, AllByRecursion};
-ghost use Rattle.merc_graded_tree.specs.Nodes.{Node};
+ghost use Rattle.merc_graded_tree.specs.Nodes.{Node, nodes_of, outputs_of};
+ghost use Rattle.merc_graded_tree.specs.Variables.{in_nodes};
+ghost use Rattle.merc_order.specs.Bound.{among};
 ghost use Rattle.merc_grading.specs.Switches.{symbol_at, is_there};
+ghost use Rattle.merc_switch_choice.specs.Choosing.{chosen, AreLeft};
+ghost use Rattle.merc_switch_choice.specs.Variables.{behind, all_behind};
+ghost use Rattle.merc_switch.specs.declared.tasks.Task.{Task};
 ghost use Rattle.merc_switch.specs.declared.tasks.Task.TheVariants.{Judge, Close};
 ghost use Rattle.merc_switch.specs.Handing.{IsHanded};
 ghost use Rattle.merc_switch.specs.Selections.{MayCount};
 ghost use Rattle.merc_switch.specs.Tasks.{Performs};
-ghost use Rattle.merc_switch.specs.Plans.{disjunction_plan, switch_plan, finds, arm_plan, inner_group, outer_label, AreNarrowed, HaveSymbol};
+ghost use Rattle.merc_switch.specs.Plans.{disjunction_plan, switch_plan, group_plan, finds, arm_plan, inner_group, outer_label, choice_left, AreNarrowed, HaveSymbol};
 
 use crate::copying::copy_variables;
 use crate::handing::{Handed, take_counts};
@@ -15,11 +20,12 @@ use crate::selection::Selection;
 use crate::tasks::{Group, Task, Tasks};
 use crate::whole::Whole;
 use merc_base::{NoMemory, Sequence};
-use merc_goal_tree::{Symbol, Var};
+use merc_goal_tree::{Symbol, Var, Vars};
 use merc_graded_tree::{Label, Root};
 use merc_known::Known;
 use merc_switch_choice::{Candidates, Disjunct, Disjuncts, VarCounts, VarSet};
 use std::alloc::Global;
+use std::mem;
 
 /// Plans what disjuncts become: a switch, or else a disjunction. Where all of them go to one arm of the switch they are
 /// looked at again at once, with the variables that are left.
@@ -37,20 +43,60 @@ pub(crate) fn judge<'a>(
     ensures { OnOk result ((goals : List Node) → Performs known.now.types (Judge group.entry ∷ tasks.old) goals bound.now tasks.new goals bound.now) }
 {
     let mut group = group;
+    match enter_arms(alloc, known, bound, &mut group, tasks) {
+        Ok(choice) => plan_group(alloc, choice, group, tasks),
+        Err(refused) => {
+            // (a call, here and below, since it costs much to prove what is dropped)
+            drop(group);
+            Err(refused)
+        }
+    }
+}
+
+// Goes into the arm of a switch as long as all disjuncts go to one. Gives the variable on which those are a switch that it
+// ends with, none where they are none.
+fn enter_arms<'a>(
+    alloc: Global,
+    known: &Known<'_>,
+    bound: &VarSet,
+    group: &mut Group<'a>,
+    tasks: &mut Tasks<'a>,
+) -> Result<Option<Var>, NoMemory>
+    ensures planned { OnOk result ((goals : List Node) (after : List Task) → Performs known.now.types (Judge group.new ∷ tasks.new) goals bound.now after goals bound.now → Performs known.now.types (Judge group.old ∷ tasks.old) goals bound.now after goals bound.now) }
+    ensures choice { IfOk result (λ choice. choice ≡ choice_left group.new.left (chosen known.now.types (among bound.now) group.new.used group.new.selected.disjuncts)) }
+{
     let mut candidates = Candidates::of(alloc, bound, &group.used, group.selected.disjuncts())?;
+    let choice = enter_those(alloc, known, bound, group, &mut candidates, tasks);
+    drop(candidates);
+    choice
+}
+
+// The same with the candidates of the disjuncts.
+fn enter_those<'a>(
+    alloc: Global,
+    known: &Known<'_>,
+    bound: &VarSet,
+    group: &mut Group<'a>,
+    candidates: &mut Candidates,
+    tasks: &mut Tasks<'a>,
+) -> Result<Option<Var>, NoMemory>
+    requires { AreLeft known.now.types (among bound.now) group.old.used group.old.selected.disjuncts candidates.old.untried candidates.old.uncovered }
+    ensures planned { OnOk result ((goals : List Node) (after : List Task) → Performs known.now.types (Judge group.new ∷ tasks.new) goals bound.now after goals bound.now → Performs known.now.types (Judge group.old ∷ tasks.old) goals bound.now after goals bound.now) }
+    ensures choice { IfOk result (λ choice. choice ≡ choice_left group.new.left (chosen known.now.types (among bound.now) group.new.used group.new.selected.disjuncts)) }
+{
     let mut narrowed = false;
     while group.left > 0 {
-        let Some(variable) = group.selected.choose(alloc, known, &mut candidates)? else {
-            return plan_disjunction(group, tasks);
+        let Some(variable) = group.selected.choose(alloc, known, candidates)? else {
+            return Ok(None);
         };
         let disjuncts = group.selected.disjuncts().as_slice();
         let Some(symbol) = common_symbol(disjuncts, variable) else {
-            return plan_switch(alloc, variable, group, tasks);
+            return Ok(Some(variable));
         };
-        group = step_in(alloc, variable, symbol, group, narrowed, tasks)?;
+        step_in(alloc, variable, symbol, group, narrowed, tasks)?;
         narrowed = true;
     }
-    plan_disjunction(group, tasks)
+    Ok(None)
 }
 
 // The symbol by which several disjuncts split a variable, none where they do not all do so by one symbol.
@@ -81,51 +127,74 @@ fn all_have(disjuncts: &[Disjunct<'_>], variable: Var, symbol: &Symbol) -> bool
     true
 }
 
-// The disjuncts of the one arm that a switch on a variable has. Their outputs are known where they have been narrowed
-// already to those that occur in them.
+// Goes into the one arm that a switch on a variable has. The outputs in it are known where they have been narrowed already
+// to those that occur in the disjuncts.
 fn step_in<'a>(
     alloc: Global,
     variable: Var,
     symbol: Symbol,
-    group: Group<'a>,
+    group: &mut Group<'a>,
     narrowed: bool,
     tasks: &mut Tasks<'a>,
-) -> Result<Group<'a>, NoMemory>
-    requires { narrowed ≡ true → AreNarrowed group }
-    ensures group { IfOk result (λ inner. inner ≡ inner_group variable group.entry) }
-    ensures tasks { OnOk result (tasks.new ≡ Close (outer_label variable symbol group.entry) ∷ tasks.old) }
+) -> Result<(), NoMemory>
+    requires { narrowed ≡ true → AreNarrowed group.old }
+    ensures group { OnOk result (group.new ≡ inner_group variable group.old) }
+    ensures tasks { OnOk result (tasks.new ≡ Close (outer_label variable symbol group.old) ∷ tasks.old) }
 {
-    let mut selected = group.selected;
-    let span = selected.span();
-    let outputs = if narrowed {
-        copy_variables(alloc, &group.outputs)?
-    } else {
-        selected.outputs(alloc)?
-    };
+    let span = group.selected.span();
     let mut symbols = Vec::new(alloc);
     symbols.push(symbol)?;
+    let inner = inner_outputs(alloc, &mut group.selected, &group.outputs, narrowed)?;
+    let outputs = mem::replace(&mut group.outputs, inner);
     tasks.push(Task::Close(Label {
         root: Root::Switch(variable, Sequence::from_vec(symbols)),
-        outputs: group.outputs,
+        outputs,
         category: group.category,
         span,
     }))?;
-    let mut used = group.used;
-    used.add(variable)?;
-    Ok(Group {
-        selected,
-        used,
-        left: group.left.saturating_sub(1),
-        outputs,
-        category: None,
-    })
+    group.used.add(variable)?;
+    group.left = group.left.saturating_sub(1);
+    group.category = None;
+    Ok(())
+}
+
+// The outputs of the whole that occur in the disjuncts, which may be known to be these.
+fn inner_outputs(
+    alloc: Global,
+    selected: &mut Selection<'_>,
+    outputs: &Vars,
+    narrowed: bool,
+) -> Result<Vars, NoMemory>
+    requires { narrowed ≡ true → outputs.now ≡ filter (λ output. in_nodes (nodes_of selected.old.disjuncts) output) (outputs_of selected.old.whole) }
+    ensures outputs { IfOk result (λ inner. inner ≡ filter (λ output. in_nodes (nodes_of selected.old.disjuncts) output) (outputs_of selected.old.whole)) }
+    ensures selection { selected.new ≡ selected.old }
+{
+    if narrowed {
+        return copy_variables(alloc, outputs);
+    }
+    selected.outputs(alloc)
+}
+
+// Disjuncts as a switch on this variable, or else as a disjunction.
+fn plan_group<'a>(
+    alloc: Global,
+    choice: Option<Var>,
+    group: Group<'a>,
+    tasks: &mut Tasks<'a>,
+) -> Result<(), NoMemory>
+    requires { IfSome choice (λ variable. list_all (λ disjunct. is_there (symbol_at variable disjunct)) group.selected.disjuncts ≡ true) }
+    ensures { OnOk result (tasks.new ≡ group_plan choice group.entry ++ tasks.old) }
+{
+    match choice {
+        Some(variable) => plan_switch(alloc, variable, group, tasks),
+        None => plan_disjunction(group, tasks),
+    }
 }
 
 // Disjuncts as a disjunction.
 fn plan_disjunction<'a>(group: Group<'a>, tasks: &mut Tasks<'a>) -> Result<(), NoMemory>
     ensures { OnOk result (tasks.new ≡ disjunction_plan group.entry ++ tasks.old) }
 {
-    // (calls, here and below, since it costs much to prove what is dropped)
     drop(group.used);
     let span = group.selected.span();
     let disjuncts = group.selected.into_vec();
@@ -170,37 +239,66 @@ fn plan_switch<'a>(
     ensures { OnOk result (tasks.new ≡ switch_plan variable group.entry ++ tasks.old) }
 {
     let span = group.selected.span();
-    let arms = group.selected.into_arms(alloc, variable)?;
-    tasks.push(Task::Close(Label {
-        root: Root::Switch(variable, Sequence::from_vec(arms.symbols)),
-        outputs: group.outputs,
-        category: group.category,
-        span,
-    }))?;
-    let outer = Outer {
-        whole: arms.whole,
-        used: group.used,
-        left: group.left,
-        variable,
-    };
-    push_arms(alloc, &outer, arms.groups, arms.handed, tasks)
+    match group.selected.into_arms(alloc, variable) {
+        Ok(arms) => {
+            let label = Label {
+                root: Root::Switch(variable, Sequence::from_vec(arms.symbols)),
+                outputs: group.outputs,
+                category: group.category,
+                span,
+            };
+            let outer = Outer {
+                whole: arms.whole,
+                used: group.used,
+                left: group.left,
+                variable,
+            };
+            push_switch(alloc, label, outer, arms.groups, arms.handed, tasks)
+        }
+        Err(refused) => {
+            drop(group.used);
+            drop(group.outputs);
+            Err(refused)
+        }
+    }
 }
 
-// The arms of a switch, each of which has these disjuncts. Given are the counts of one of them.
-fn push_arms<'a>(
+// A switch that has this label and these arms. Given are the counts of one of them.
+fn push_switch<'a>(
     alloc: Global,
-    outer: &Outer<'a>,
+    label: Label,
+    outer: Outer<'a>,
     arms: Vec<Disjuncts<'a>>,
     handed: Option<Handed>,
     tasks: &mut Tasks<'a>,
 ) -> Result<(), NoMemory>
-    requires { IsHanded outer.now.whole handed arms.items }
-    ensures { OnOk result (tasks.new ≡ map (λ disjuncts. arm_plan outer.now.whole outer.now.used outer.now.left outer.now.variable disjuncts) arms.entry.items ++ tasks.old) }
+    requires { IsHanded outer.whole handed arms.items }
+    ensures { OnOk result (tasks.new ≡ map (λ disjuncts. arm_plan outer.entry.whole outer.entry.used outer.entry.left outer.entry.variable disjuncts) arms.entry.items ++ Close label ∷ tasks.old) }
 {
     let mut arms = arms;
     let mut handed = handed;
+    let pushed = push_arms(alloc, label, &outer, &mut arms, &mut handed, tasks);
+    drop(outer);
+    drop(arms);
+    drop(handed);
+    pushed
+}
+
+// The same, where what is not pushed stays.
+fn push_arms<'a>(
+    alloc: Global,
+    label: Label,
+    outer: &Outer<'a>,
+    arms: &mut Vec<Disjuncts<'a>>,
+    handed: &mut Option<Handed>,
+    tasks: &mut Tasks<'a>,
+) -> Result<(), NoMemory>
+    requires { IsHanded outer.now.whole handed.old arms.old.items }
+    ensures { OnOk result (tasks.new ≡ map (λ disjuncts. arm_plan outer.now.whole outer.now.used outer.now.left outer.now.variable disjuncts) arms.old.items ++ Close label ∷ tasks.old) }
+{
+    tasks.push(Task::Close(label))?;
     while let Some(last) = arms.pop() {
-        let counts = take_counts(&mut handed, arms.len());
+        let counts = take_counts(handed, arms.len());
         tasks.push(arm_task(alloc, outer, last, counts)?)?;
     }
     Ok(())
@@ -217,15 +315,55 @@ fn arm_task<'a>(
     ensures { IfOk result (λ task. task ≡ arm_plan outer.now.whole outer.now.used outer.now.left outer.now.variable disjuncts.entry) }
 {
     if let [only] = disjuncts.as_slice() {
-        return Ok(Task::Find(only.goal()));
+        let goal = only.goal();
+        drop(disjuncts);
+        drop(counts);
+        return Ok(Task::Find(goal));
     }
-    let mut selected = Selection::of(outer.whole.copy()?, disjuncts, counts);
+    match outer.whole.copy() {
+        Ok(whole) => group_task(alloc, outer, Selection::of(whole, disjuncts, counts)),
+        Err(refused) => {
+            drop(disjuncts);
+            drop(counts);
+            Err(refused)
+        }
+    }
+}
+
+// The arm of several disjuncts.
+fn group_task<'a>(
+    alloc: Global,
+    outer: &Outer<'a>,
+    selected: Selection<'a>,
+) -> Result<Task<'a>, NoMemory>
+    ensures { IfOk result (λ task. task ≡ Judge (record { selected = selected.entry; used = behind (all_behind [] outer.now.used) outer.now.variable; left = outer.now.left - 1; outputs = filter (λ output. in_nodes (nodes_of selected.entry.disjuncts) output) (outputs_of selected.entry.whole); category = None })) }
+{
+    let mut selected = selected;
+    match arm_variables(alloc, outer, &mut selected) {
+        Ok((used, outputs)) => Ok(Task::Judge(Group {
+            selected,
+            used,
+            left: outer.left.saturating_sub(1),
+            outputs,
+            category: None,
+        })),
+        Err(refused) => {
+            drop(selected);
+            Err(refused)
+        }
+    }
+}
+
+// The variables by which the disjuncts of an arm came together, and its outputs.
+fn arm_variables(
+    alloc: Global,
+    outer: &Outer<'_>,
+    selected: &mut Selection<'_>,
+) -> Result<(VarSet, Vars), NoMemory>
+    ensures used { IfOk result (λ made. made.0 ≡ behind (all_behind [] outer.now.used) outer.now.variable) }
+    ensures outputs { IfOk result (λ made. made.1 ≡ filter (λ output. in_nodes (nodes_of selected.old.disjuncts) output) (outputs_of selected.old.whole)) }
+    ensures selection { selected.new ≡ selected.old }
+{
     let outputs = selected.outputs(alloc)?;
-    Ok(Task::Judge(Group {
-        selected,
-        used: outer.used.with(alloc, outer.variable)?,
-        left: outer.left.saturating_sub(1),
-        outputs,
-        category: None,
-    }))
+    Ok((outer.used.with(alloc, outer.variable)?, outputs))
 }

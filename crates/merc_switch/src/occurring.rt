@@ -135,21 +135,15 @@ fn add_basic(goal: &BasicGoal, whole: &Whole<'_>, found: &mut VarSet) -> Result<
     match goal {
         BasicGoal::True | BasicGoal::Fail => Ok(()),
         BasicGoal::Assign(one, other) | BasicGoal::Test(one, other) => {
-            add_one(*one, whole, found)?;
-            add_one(*other, whole, found)
+            add_each(&[*one, *other], whole, found)
         }
-        BasicGoal::Compare(_, one, other) => {
-            add_one(*one, whole, found)?;
-            add_one(*other, whole, found)
-        }
+        BasicGoal::Compare(_, one, other) => add_each(&[*one, *other], whole, found),
         BasicGoal::Build(value, _, arguments) | BasicGoal::Split(value, _, arguments) => {
             add_one(*value, whole, found)?;
             add_each(arguments.as_slice(), whole, found)
         }
         BasicGoal::Arithmetic(_, result, left, right) => {
-            add_one(*result, whole, found)?;
-            add_one(*left, whole, found)?;
-            add_one(*right, whole, found)
+            add_each(&[*result, *left, *right], whole, found)
         }
         BasicGoal::Raise(variable) => add_one(*variable, whole, found),
         BasicGoal::Wait(variable, _) | BasicGoal::Signal(variable, _) => {

@@ -1,12 +1,12 @@
 //! Some disjuncts of a disjunction.
-ghost use Rattle.std.specs.Prelude.{◌≡◌, true, filter, IfOk};
+ghost use Rattle.std.specs.Prelude.{◌≡◌, true, List, filter, IfOk};
 ghost use Rattle.std.specs.List.{list_all};
 ghost use Rattle.merc_graded_tree.specs.Nodes.{nodes_of, outputs_of, span_of};
 ghost use Rattle.merc_graded_tree.specs.Variables.{in_nodes};
-ghost use Rattle.merc_grading.specs.Switches.{symbol_at, is_there, grouped};
+ghost use Rattle.merc_grading.specs.Switches.{Group, symbol_at, is_there, grouped};
 ghost use Rattle.merc_switch_choice.specs.Arms.{AreArms};
 ghost use Rattle.merc_switch_choice.specs.Choosing.{Takes};
-ghost use Rattle.merc_switch.specs.Selections.{MayCount};
+ghost use Rattle.merc_switch.specs.Selections.{MayCount, MayCountAll};
 ghost use Rattle.merc_switch.specs.Handing.{IsHanded};
 
 use crate::handing::{Handed, hand_on};
@@ -128,14 +128,43 @@ impl<'a> Selection<'a> {
         ensures arms { IfOk result (λ arms. AreArms arms.symbols.items arms.groups.items (grouped variable self.entry.disjuncts)) }
         ensures handed { IfOk result (λ arms. IsHanded arms.whole arms.handed arms.groups.items) }
     {
-        let counts = self.counts;
-        let arms = arms_of(alloc, variable, self.disjuncts)?;
-        let handed = hand_on(alloc, &self.whole, &arms.groups, counts)?;
-        Ok(Arms {
-            whole: self.whole,
-            symbols: arms.symbols,
-            groups: arms.groups,
+        match arms_of(alloc, variable, self.disjuncts) {
+            Ok(arms) => with_counts(alloc, self.whole, arms.symbols, arms.groups, self.counts),
+            Err(refused) => {
+                // (calls, here and below, since it costs much to prove what is dropped)
+                drop(self.whole);
+                drop(self.counts);
+                Err(refused)
+            }
+        }
+    }
+}
+
+// The arms of these symbols and disjuncts, with the counts of one of them if there are counts of all together.
+fn with_counts<'a>(
+    alloc: Global,
+    whole: Whole<'a>,
+    symbols: Vec<Symbol>,
+    groups: Vec<Disjuncts<'a>>,
+    counts: Option<VarCounts>,
+) -> Result<Arms<'a>, NoMemory>
+    requires { MayCountAll whole counts groups.items }
+    ensures whole { IfOk result (λ arms. arms.whole ≡ whole.entry) }
+    ensures arms { IfOk result (λ arms. (those : List Group) → AreArms symbols.items groups.entry.items those → AreArms arms.symbols.items arms.groups.items those) }
+    ensures handed { IfOk result (λ arms. IsHanded arms.whole arms.handed arms.groups.items) }
+{
+    match hand_on(alloc, &whole, &groups, counts) {
+        Ok(handed) => Ok(Arms {
+            whole,
+            symbols,
+            groups,
             handed,
-        })
+        }),
+        Err(refused) => {
+            drop(whole);
+            drop(symbols);
+            drop(groups);
+            Err(refused)
+        }
     }
 }

@@ -1,7 +1,8 @@
 //! A disjunction that is taken apart, with its outputs.
-ghost use Rattle.std.specs.Prelude.{◌≡◌, filter, IfOk};
+ghost use Rattle.std.specs.Prelude.{◌≡◌, [], filter, IfOk};
 ghost use Rattle.merc_graded_tree.specs.Nodes.{outputs_of, span_of};
 ghost use Rattle.merc_order.specs.Bound.{among};
+ghost use Rattle.merc_switch_choice.specs.Variables.{all_behind};
 
 use crate::ordering::{in_order, those_among};
 use merc_base::{NoMemory, Span};
@@ -44,9 +45,7 @@ impl<'a> Whole<'a> {
     pub(crate) fn of(alloc: Global, goal: NodeRef<'a>) -> Result<Whole<'a>, NoMemory>
         ensures { IfOk result (λ whole. whole ≡ goal.entry) }
     {
-        let mut outputs = VarSet::new(alloc);
-        outputs.add_all(goal.outputs().as_slice())?;
-        let outputs = Rc::new(alloc, outputs)?;
+        let outputs = Rc::new(alloc, each_once(alloc, goal.outputs())?)?;
         Ok(Whole { goal, outputs })
     }
 
@@ -91,5 +90,20 @@ impl<'a> Whole<'a> {
             return in_order(alloc, variables, once);
         }
         those_among(alloc, outputs, variables)
+    }
+}
+
+// The variables, each once.
+fn each_once(alloc: Global, variables: &Vars) -> Result<VarSet, NoMemory>
+    ensures { IfOk result (λ set. set ≡ all_behind [] variables.now) }
+{
+    let mut set = VarSet::new(alloc);
+    match set.add_all(variables.as_slice()) {
+        Ok(()) => Ok(set),
+        Err(refused) => {
+            // (a call, since it costs much to prove what is dropped here)
+            drop(set);
+            Err(refused)
+        }
     }
 }

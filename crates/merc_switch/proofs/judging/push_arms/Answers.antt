@@ -26,7 +26,7 @@ loop-last-preserved c =
     let outer = c.args.outer.now in
     let is : before ≡ rest ++ last ∷ [] = search rules in
     record {
-      planned = planned_on (λ disjuncts. arm_plan outer.whole outer.used outer.left outer.variable disjuncts) rest before last c.in_ok-arm_task.field-0 c.push.new.self c.loop-last.tasks _ is c.in_ok-arm_task.ensures
-          c.in_ok-push.ensures c.loop-last.invariant.planned;
+      planned = planned_on (λ disjuncts. arm_plan outer.whole outer.used outer.left outer.variable disjuncts) rest before last c.in_ok-arm_task.field-0 c.push-in-Some.new.self c.loop-last.tasks _ is c.in_ok-arm_task.ensures
+          c.in_ok-push-2.ensures c.loop-last.invariant.planned;
       handed = handed_on outer.whole c.take_counts-counts.new.handed rest before last is (c.take_counts-counts.ensures.handed outer.whole before c.loop-last.invariant.handed);
     }

@@ -5,7 +5,7 @@ use Rattle.merc_switch.specs.declared.tasks.Task.TheVariants.{Judge}
 use Rattle.merc_switch_choice.specs.Choosing.{AreLeft}
 use Rattle.merc_switch.specs.Plans.{AreNarrowed}
 use Rattle.merc_switch.proofs.InnerGroups.{Reaches}
-use Rattle.merc_switch.proofs.judging.judge.Given as goal
+use Rattle.merc_switch.proofs.judging.enter_those.Given as goal
 
 abbrev pub invariant-loop-group : goal.invariant-loop-group
 invariant-loop-group l = record {
