@@ -1,10 +1,10 @@
-use Rattle.std.proofs.Common.{refl, ap, ◌∙◌, arith}
+use Rattle.std.proofs.Common.{inl, refl, sym, ap, ◌∙◌, subst, arith}
 use Rattle.merc_frames.specs.Held.{FramesData, Passes}
-use Rattle.merc_frames.specs.View.{view_of}
+use Rattle.merc_frames.specs.View.{view_of, Fine}
 use Rattle.merc_frames.proofs.AllLaws.{grown_each}
 use Rattle.merc_frames.proofs.Built.{built_passed, built_passed_each}
 use Rattle.merc_frames.proofs.FrameLaws.{left_empty, left_length}
-use Rattle.merc_frames.proofs.Moving.{grown_held, grown_view, on_err}
+use Rattle.merc_frames.proofs.Moving.{grown_fine, grown_held, grown_view, on_err}
 use Rattle.merc_frames.proofs.Entering.{entered_fine, entered_kept, entered}
 use Rattle.merc_frames.proofs.frames.Frames.enter.Goals as goal
 
@@ -45,3 +45,13 @@ returns-clause-held c =
           c.deref_mut.ensures.value c.make_frame.ensures.long c.make_room.new.slots.ok.0 c.make_frame.ensures.below c.make_frame.ensures.above c.make_frame.ensures.made,
       entered_kept _ _ _ _ _ _ _ _ c.self.invariant.0 refl refl refl _ _ _ _ built c.in_ok-push.ensures.items (c.len-self-inside.ensures ∙ c.push.new.self.ok.0) (Passes may_hold) cells held.1,
     ))
+
+abbrev pub make_frame-requires-clause-apart : goal.make_frame-requires-clause-apart
+make_frame-requires-clause-apart c = inl (omega arith)
+
+abbrev pub invariant_of-self-in_err-push : goal.invariant_of-self-in_err-push
+invariant_of-self-in_err-push c = (
+  subst (λ x. Fine c.make_room.new.slots.items x c.self.inside.choices.items c.self.inside.base c.self.inside.size c.self.inside.height) (sym c.in_err-push.ensures.items)
+      (grown_fine _ _ _ _ _ _ _ c.self.invariant.0 c.in_ok-make_room.ensures.grows),
+  c.self.invariant.1,
+)

@@ -1,10 +1,31 @@
-use Rattle.std.proofs.Common.{ap, ◌-◌, ◌<◌, arith}
+use Rattle.std.proofs.Common.{inr, ap, ◌-◌, ◌<◌, length, arith}
 use Rattle.merc_frames.specs.Held.{FramesData, Passes}
 use Rattle.merc_frames.specs.View.{newest, kept_saved}
 use Rattle.merc_frames.proofs.Built.{built_given_each, built_here}
 use Rattle.merc_frames.proofs.Returning.{caller_is, place_fine, place_kept, place_gives}
 use Rattle.merc_frames.proofs.RoomLaws.{caller_slots}
 use Rattle.merc_frames.proofs.frames.Frames.give_back.Goals as goal
+
+abbrev pub deliver-requires-clause-target : goal.deliver-requires-clause-target
+deliver-requires-clause-target c =
+    let count_is = c.self.invariant.1.frames in
+    let above = c.if-self.true in
+    let free : kept_saved (newest c.self.inside.choices.items) < c.self.inside.height = omega (arith, count_is, above) in
+    let used : 0 < c.self.inside.height = omega (arith, free) in
+    let frame = caller_is _ _ _ _ _ _ _ c.self.invariant.0 used c.index-caller.ensures in
+    let within = c.self.invariant.0.within in
+    let top = c.self.invariant.0.tops (c.self.inside.height - 1) _ frame in
+    let long = ap length c.deref_mut.ensures.value in
+    omega (arith, within, top, long)
+
+abbrev pub deliver-requires-clause-apart : goal.deliver-requires-clause-apart
+deliver-requires-clause-apart c =
+    let count_is = c.self.invariant.1.frames in
+    let above = c.if-self.true in
+    let free : kept_saved (newest c.self.inside.choices.items) < c.self.inside.height = omega (arith, count_is, above) in
+    let used : 0 < c.self.inside.height = omega (arith, free) in
+    let frame = caller_is _ _ _ _ _ _ _ c.self.invariant.0 used c.index-caller.ensures in
+    inr (c.self.invariant.0.tops (c.self.inside.height - 1) _ frame)
 
 abbrev pub deliver-requires-clause-outs : goal.deliver-requires-clause-outs
 deliver-requires-clause-outs c =

@@ -1,4 +1,4 @@
-use Rattle.std.proofs.Common.{◌-◌, ◌≤◌, length, sym, ap, ◌∙◌, subst, arith}
+use Rattle.std.proofs.Common.{inl, ◌-◌, ◌≤◌, length, sym, ap, ◌∙◌, subst, arith}
 use Rattle.merc_frames.specs.Held.{FramesData, Passes}
 use Rattle.merc_frames.specs.View.{data_of}
 use Rattle.merc_frames.proofs.AllLaws.{grown_each}
@@ -21,6 +21,9 @@ copy_frame-requires-clause-source c =
     let used = caller_saved c.self.inside.slots.items c.self.inside.saved.items c.self.inside.height _ (ap (λ (f : FramesData). f.stacks.callers) c.self.view_is) c.requires.there in
     let frame = caller_is _ _ _ _ _ _ _ c.self.invariant.0 used c.index-caller.ensures in
     source_inside _ _ _ _ _ _ _ c.self.invariant.0 used frame _ c.in_ok-make_room.ensures.grows
+
+abbrev pub deliver-requires-clause-apart : goal.deliver-requires-clause-apart
+deliver-requires-clause-apart c = inl (omega arith)
 
 abbrev pub deliver-requires-clause-outs : goal.deliver-requires-clause-outs
 deliver-requires-clause-outs c =
