@@ -46,7 +46,7 @@ pub(crate) fn push_all(
     text: &mut Text,
 ) -> Result<(), TableFault> {
     let mut rest = written;
-    // Each time takes one byte at least.
+    // Each time takes one byte at least, until none is left.
     for _ in 0..written.len() {
         rest = push_next(rest, filling, text)?;
     }
