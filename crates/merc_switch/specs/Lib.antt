@@ -6,7 +6,6 @@ pub mod Selections
 pub mod SelectionsExamples
 pub mod Handing
 pub mod HandingExamples
-pub mod Labels
 pub mod Tasks
 pub mod Plans
 pub mod TasksExamples

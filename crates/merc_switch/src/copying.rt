@@ -1,6 +1,6 @@
 //! Copies of what goals have besides the goals that they join.
 ghost use Rattle.std.specs.Prelude.{◌≡◌, [], ◌∷◌, ◌++◌, IfOk, OnOk};
-ghost use Rattle.merc_switch.specs.Labels.{with_root};
+ghost use Rattle.merc_graded_tree.specs.Nodes.{outputs_of, category_of, span_of};
 
 use merc_base::{NoMemory, Sequence};
 use merc_goal_tree::{Symbol, Vars};
@@ -26,7 +26,7 @@ pub(crate) fn put_copy(alloc: Global, goal: &NodeRef<'_>, found: &mut Nodes) -> 
 
 /// What a goal has besides the goals that it joins, with this root.
 pub(crate) fn label_with(alloc: Global, goal: &NodeRef<'_>, root: Root) -> Result<Label, NoMemory>
-    ensures { IfOk result (λ label. label ≡ with_root goal.now root) }
+    ensures { IfOk result (λ label. label ≡ record { root = root; outputs = outputs_of goal.now; category = category_of goal.now; span = span_of goal.now }) }
 {
     match copy_variables(alloc, goal.outputs()) {
         Ok(outputs) => Ok(Label {

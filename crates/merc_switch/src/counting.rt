@@ -26,14 +26,10 @@ pub(crate) fn counts_of(
     ensures { IfOk result (λ counts. CountsOutputs (outputs_of whole.now) counts disjuncts.now) }
 {
     let mut counts = VarCounts::new(alloc);
-    match add_disjuncts(alloc, whole, disjuncts, &mut counts) {
-        Ok(()) => Ok(counts),
-        Err(refused) => {
-            // (a call, since it costs much to prove what is dropped here)
-            drop(counts);
-            Err(refused)
-        }
+    for disjunct in disjuncts {
+        add_disjunct(alloc, whole, disjunct, &mut counts)?;
     }
+    Ok(counts)
 }
 
 /// Takes disjuncts out of the counts.
@@ -70,21 +66,6 @@ pub(crate) fn outputs_counted(
         return kept;
     }
     those_counted(alloc, outputs, counts)
-}
-
-// Adds disjuncts to the counts.
-fn add_disjuncts(
-    alloc: Global,
-    whole: &Whole<'_>,
-    disjuncts: &[Disjunct<'_>],
-    counts: &mut VarCounts,
-) -> Result<(), NoMemory>
-    ensures { OnOk result ((variable : ℕ) → count_of counts.new variable ≡ count_of counts.old variable + counting (has_output (outputs_of whole.now) variable) disjuncts.now) }
-{
-    for disjunct in disjuncts {
-        add_disjunct(alloc, whole, disjunct, counts)?;
-    }
-    Ok(())
 }
 
 // Counts the outputs that occur in a disjunct once more.

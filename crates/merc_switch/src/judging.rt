@@ -299,29 +299,30 @@ fn push_arms<'a>(
     tasks.push(Task::Close(label))?;
     while let Some(last) = arms.pop() {
         let counts = take_counts(handed, arms.len());
-        tasks.push(arm_task(alloc, outer, last, counts)?)?;
+        push_arm(alloc, outer, last, counts, tasks)?;
     }
     Ok(())
 }
 
 // The arm of these disjuncts, with their counts if there are any.
-fn arm_task<'a>(
+fn push_arm<'a>(
     alloc: Global,
     outer: &Outer<'a>,
     disjuncts: Disjuncts<'a>,
     counts: Option<VarCounts>,
-) -> Result<Task<'a>, NoMemory>
+    tasks: &mut Tasks<'a>,
+) -> Result<(), NoMemory>
     requires { MayCount outer.now.whole counts disjuncts }
-    ensures { IfOk result (λ task. task ≡ arm_plan outer.now.whole outer.now.used outer.now.left outer.now.variable disjuncts.entry) }
+    ensures { OnOk result (tasks.new ≡ arm_plan outer.now.whole outer.now.used outer.now.left outer.now.variable disjuncts.entry ∷ tasks.old) }
 {
     if let [only] = disjuncts.as_slice() {
         let goal = only.goal();
         drop(disjuncts);
         drop(counts);
-        return Ok(Task::Find(goal));
+        return tasks.push(Task::Find(goal));
     }
     match outer.whole.copy() {
-        Ok(whole) => group_task(alloc, outer, Selection::of(whole, disjuncts, counts)),
+        Ok(whole) => push_group(alloc, outer, Selection::of(whole, disjuncts, counts), tasks),
         Err(refused) => {
             drop(disjuncts);
             drop(counts);
@@ -331,16 +332,17 @@ fn arm_task<'a>(
 }
 
 // The arm of several disjuncts.
-fn group_task<'a>(
+fn push_group<'a>(
     alloc: Global,
     outer: &Outer<'a>,
     selected: Selection<'a>,
-) -> Result<Task<'a>, NoMemory>
-    ensures { IfOk result (λ task. task ≡ Judge (record { selected = selected.entry; used = behind (all_behind [] outer.now.used) outer.now.variable; left = outer.now.left - 1; outputs = filter (λ output. in_nodes (nodes_of selected.entry.disjuncts) output) (outputs_of selected.entry.whole); category = None })) }
+    tasks: &mut Tasks<'a>,
+) -> Result<(), NoMemory>
+    ensures { OnOk result (tasks.new ≡ Judge (record { selected = selected.entry; used = behind (all_behind [] outer.now.used) outer.now.variable; left = outer.now.left - 1; outputs = filter (λ output. in_nodes (nodes_of selected.entry.disjuncts) output) (outputs_of selected.entry.whole); category = None }) ∷ tasks.old) }
 {
     let mut selected = selected;
     match arm_variables(alloc, outer, &mut selected) {
-        Ok((used, outputs)) => Ok(Task::Judge(Group {
+        Ok((used, outputs)) => tasks.push(Task::Judge(Group {
             selected,
             used,
             left: outer.left.saturating_sub(1),

@@ -1,8 +1,6 @@
 //! How a goal is taken apart into tasks.
-ghost use Rattle.std.specs.Prelude.{◌≡◌, ◌∷◌, ◌++◌, length, reverse, IfOk, OnOk};
-ghost use Rattle.merc_graded_tree.specs.declared.entries.Root.TheVariants.{Conjunction as ConjunctionRoot, Conditional as ConditionalRoot};
+ghost use Rattle.std.specs.Prelude.{◌≡◌, ◌∷◌, ◌++◌, length, IfOk, OnOk};
 ghost use Rattle.merc_grading.specs.Switches.{split_variables};
-ghost use Rattle.merc_switch.specs.Labels.{with_root};
 ghost use Rattle.merc_switch.specs.Plans.{plan, in_turn, disjoined, decided};
 
 use crate::copying::{copy_variables, label_with};
@@ -10,7 +8,7 @@ use crate::selection::Selection;
 use crate::tasks::{Group, Task, Tasks};
 use crate::whole::Whole;
 use merc_base::NoMemory;
-use merc_graded_tree::{NodeRef, NodeView, Parts, Root, Running};
+use merc_graded_tree::{Label, NodeRef, NodeView, Parts, Root};
 use merc_switch_choice::{Disjunct, Disjuncts, VarSet};
 use std::alloc::Global;
 
@@ -31,46 +29,26 @@ pub(crate) fn plan_goal<'a>(
         NodeView::Basic(_) => tasks.push(Task::Keep(goal.copy())),
         NodeView::Switch(_, _, _) => tasks.push(Task::Keep(goal.copy())),
         NodeView::Conjunction(running, goals) => {
-            plan_conjunction(alloc, goal, running, goals, mark, tasks)
+            let root = Root::Conjunction(running, goals.len());
+            let label = label_with(alloc, goal, root)?;
+            tasks.push(Task::Close(label))?;
+            plan_conjuncts(goals, mark, tasks)
         }
         NodeView::Disjunction(goals) => plan_disjunction(alloc, goal, goals, tasks),
         NodeView::Conditional(condition, then_part, else_part) => {
-            plan_decision(alloc, goal, condition, then_part, else_part, mark, tasks)
+            let label = label_with(alloc, goal, Root::Conditional)?;
+            plan_decision(label, condition, then_part, else_part, mark, tasks)
         }
-        NodeView::Negation(inner) => plan_one(alloc, goal, Root::Negation, inner, tasks),
+        NodeView::Negation(inner) => {
+            let label = label_with(alloc, goal, Root::Negation)?;
+            plan_one(label, inner, tasks)
+        }
         NodeView::Quantified(own, inner) => {
             let own = copy_variables(alloc, own)?;
-            plan_one(alloc, goal, Root::Quantified(own), inner, tasks)
+            let label = label_with(alloc, goal, Root::Quantified(own))?;
+            plan_one(label, inner, tasks)
         }
     }
-}
-
-// The end of a goal, with this root.
-fn push_close(
-    alloc: Global,
-    whole: &NodeRef<'_>,
-    root: Root,
-    tasks: &mut Tasks<'_>,
-) -> Result<(), NoMemory>
-    ensures { OnOk result (tasks.new ≡ Task.Close (with_root whole.now root) ∷ tasks.old) }
-{
-    tasks.push(Task::Close(label_with(alloc, whole, root)?))
-}
-
-// Goals one after the other, of a conjunction that runs so.
-fn plan_conjunction<'a>(
-    alloc: Global,
-    whole: &NodeRef<'a>,
-    running: Running,
-    goals: Parts<'a>,
-    mark: usize,
-    tasks: &mut Tasks<'a>,
-) -> Result<(), NoMemory>
-    ensures { OnOk result (tasks.new ≡ in_turn mark goals.entry ++ Task.Close (with_root whole.now (ConjunctionRoot running (length goals.entry))) ∷ tasks.old) }
-{
-    let root = Root::Conjunction(running, goals.len());
-    push_close(alloc, whole, root, tasks)?;
-    plan_conjuncts(goals, mark, tasks)
 }
 
 // Goals one after the other.
@@ -80,49 +58,36 @@ fn plan_conjuncts<'a>(goals: Parts<'a>, mark: usize, tasks: &mut Tasks<'a>) -> R
     let mut goals = goals;
     tasks.push(Task::Unbind(mark))?;
     while let Some(last) = goals.take_last() {
-        plan_conjunct(last, tasks)?;
+        tasks.push(Task::Bind(last.copy()))?;
+        tasks.push(Task::Find(last))?;
     }
     Ok(())
 }
 
-// A goal whose outputs are bound behind it.
-fn plan_conjunct<'a>(goal: NodeRef<'a>, tasks: &mut Tasks<'a>) -> Result<(), NoMemory>
-    ensures { OnOk result (tasks.new ≡ Task.Find goal.entry ∷ Task.Bind goal.entry ∷ tasks.old) }
-{
-    tasks.push(Task::Bind(goal.copy()))?;
-    tasks.push(Task::Find(goal))
-}
-
-// A goal that joins three.
+// A goal that joins three, and has this label.
 fn plan_decision<'a>(
-    alloc: Global,
-    whole: &NodeRef<'a>,
+    label: Label,
     condition: NodeRef<'a>,
     then_part: NodeRef<'a>,
     else_part: NodeRef<'a>,
     mark: usize,
     tasks: &mut Tasks<'a>,
 ) -> Result<(), NoMemory>
-    ensures { OnOk result (tasks.new ≡ decided mark (with_root whole.now ConditionalRoot) condition.entry then_part.entry else_part.entry ++ tasks.old) }
+    ensures { OnOk result (tasks.new ≡ decided mark label condition.entry then_part.entry else_part.entry ++ tasks.old) }
 {
-    push_close(alloc, whole, Root::Conditional, tasks)?;
+    tasks.push(Task::Close(label))?;
     tasks.push(Task::Find(else_part))?;
     tasks.push(Task::Unbind(mark))?;
     tasks.push(Task::Find(then_part))?;
-    plan_conjunct(condition, tasks)
+    tasks.push(Task::Bind(condition.copy()))?;
+    tasks.push(Task::Find(condition))
 }
 
-// A goal that joins one.
-fn plan_one<'a>(
-    alloc: Global,
-    whole: &NodeRef<'a>,
-    root: Root,
-    goal: NodeRef<'a>,
-    tasks: &mut Tasks<'a>,
-) -> Result<(), NoMemory>
-    ensures { OnOk result (tasks.new ≡ Task.Find goal.entry ∷ Task.Close (with_root whole.now root) ∷ tasks.old) }
+// A goal that joins one, and has this label.
+fn plan_one<'a>(label: Label, goal: NodeRef<'a>, tasks: &mut Tasks<'a>) -> Result<(), NoMemory>
+    ensures { OnOk result (tasks.new ≡ Task.Find goal.entry ∷ Task.Close label ∷ tasks.old) }
 {
-    push_close(alloc, whole, root, tasks)?;
+    tasks.push(Task::Close(label))?;
     tasks.push(Task::Find(goal))
 }
 
@@ -136,41 +101,17 @@ fn plan_disjunction<'a>(
     ensures { OnOk result (tasks.new ≡ disjoined whole.now goals.entry ∷ tasks.old) }
 {
     let disjuncts = disjuncts_of(alloc, goals)?;
-    match split_count(&disjuncts) {
-        Ok(left) => plan_disjuncts(alloc, whole, disjuncts, left, tasks),
-        Err(refused) => {
-            // (a call, here and below, since it costs much to prove what is dropped)
-            drop(disjuncts);
-            Err(refused)
-        }
-    }
-}
-
-// A disjunction of these disjuncts, which can come together by so many variables.
-fn plan_disjuncts<'a>(
-    alloc: Global,
-    whole: &NodeRef<'a>,
-    disjuncts: Vec<Disjunct<'a>>,
-    left: usize,
-    tasks: &mut Tasks<'a>,
-) -> Result<(), NoMemory>
-    requires { left ≡ length (split_variables disjuncts.items) }
-    ensures { OnOk result (tasks.new ≡ disjoined whole.now disjuncts.entry.items ∷ tasks.old) }
-{
+    let left = split_count(&disjuncts)?;
+    let outputs = copy_variables(alloc, whole.outputs())?;
+    // (the disjuncts last, since it costs much to prove what is dropped of them)
     let selected = selection_of(alloc, whole, disjuncts)?;
-    match copy_variables(alloc, whole.outputs()) {
-        Ok(outputs) => tasks.push(Task::Judge(Group {
-            selected,
-            used: VarSet::new(alloc),
-            left,
-            outputs,
-            category: whole.category(),
-        })),
-        Err(refused) => {
-            drop(selected);
-            Err(refused)
-        }
-    }
+    tasks.push(Task::Judge(Group {
+        selected,
+        used: VarSet::new(alloc),
+        left,
+        outputs,
+        category: whole.category(),
+    }))
 }
 
 // These disjuncts of a disjunction.
@@ -185,6 +126,7 @@ fn selection_of<'a>(
     match Whole::of(alloc, whole.copy()) {
         Ok(whole) => Ok(Selection::of(whole, disjuncts, None)),
         Err(refused) => {
+            // (a call, since it costs much to prove what is dropped here)
             drop(disjuncts);
             Err(refused)
         }
@@ -195,32 +137,13 @@ fn selection_of<'a>(
 fn disjuncts_of<'a>(alloc: Global, goals: Parts<'a>) -> Result<Vec<Disjunct<'a>>, NoMemory>
     ensures { IfOk result (λ disjuncts. disjuncts.items ≡ goals.entry) }
 {
-    let mut disjuncts = Vec::new(alloc);
-    match push_reversed(alloc, goals, &mut disjuncts) {
-        Ok(()) => {
-            disjuncts.reverse();
-            Ok(disjuncts)
-        }
-        Err(refused) => {
-            drop(disjuncts);
-            Err(refused)
-        }
-    }
-}
-
-// The disjuncts that goals are, the last first.
-fn push_reversed<'a>(
-    alloc: Global,
-    goals: Parts<'a>,
-    disjuncts: &mut Vec<Disjunct<'a>>,
-) -> Result<(), NoMemory>
-    ensures { OnOk result (disjuncts.new.items ≡ disjuncts.old.items ++ reverse goals.entry) }
-{
     let mut goals = goals;
+    let mut disjuncts = Vec::new(alloc);
     while let Some(last) = goals.take_last() {
         disjuncts.push(Disjunct::of(alloc, last)?)?;
     }
-    Ok(())
+    disjuncts.reverse();
+    Ok(disjuncts)
 }
 
 // How many splits there are at the beginnings of disjuncts. `NoMemory` where they pass the greatest `usize`; those of no

@@ -1,12 +1,12 @@
-use Rattle.std.proofs.Common.{◌≡◌, ◌<◌, ◌∙◌, ◌∷◌, ◌++◌, [], ap, subst, length, arith, rules}
+use Rattle.std.proofs.Common.{◌≡◌, ◌<◌, ◌∙◌, ◌∷◌, ◌++◌, [], ap, subst, length, arith, refl, rules}
 use Rattle.std.specs.List.{slice_index_or}
 use Rattle.merc_switch.specs.Plans.{arm_plan}
 use Rattle.merc_switch.specs.Selections.{MayCount}
 use Rattle.merc_switch.proofs.OutputCounts.{at_last, handed_on, one_more, planned_on}
 use Rattle.merc_switch.proofs.judging.push_arms.Goals as goal
 
-pub arm_task-requires : goal.arm_task-requires
-arm_task-requires c =
+pub push_arm-requires : goal.push_arm-requires
+push_arm-requires c =
     let whole = c.args.outer.now.whole in
     let before = c.loop-last.arms.items in
     let rest = c.pop.new.self.items in
@@ -26,7 +26,7 @@ loop-last-preserved c =
     let outer = c.args.outer.now in
     let is : before ≡ rest ++ last ∷ [] = search rules in
     record {
-      planned = planned_on (λ disjuncts. arm_plan outer.whole outer.used outer.left outer.variable disjuncts) rest before last c.in_ok-arm_task.field-0 c.push-in-Some.new.self c.loop-last.tasks _ is c.in_ok-arm_task.ensures
-          c.in_ok-push-2.ensures c.loop-last.invariant.planned;
+      planned = planned_on (λ disjuncts. arm_plan outer.whole outer.used outer.left outer.variable disjuncts) rest before last _ c.push_arm.new.tasks c.loop-last.tasks _ is refl
+          c.in_ok-push_arm.ensures c.loop-last.invariant.planned;
       handed = handed_on outer.whole c.take_counts-counts.new.handed rest before last is (c.take_counts-counts.ensures.handed outer.whole before c.loop-last.invariant.handed);
     }

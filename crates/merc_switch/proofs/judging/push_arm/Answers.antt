@@ -1,13 +1,13 @@
-use Rattle.std.proofs.Common.{◌≡◌, ◌==◌, ◌-◌, ◌∙◌, [], ap, length, false, refl, rules}
+use Rattle.std.proofs.Common.{◌≡◌, ◌==◌, ◌-◌, ◌∙◌, [], ◌∷◌, ap, length, false, refl, rules}
 use Rattle.std.specs.List.{filter}
-use Rattle.std.proofs.lemmas.Result.{IfOk-weaker}
+use Rattle.std.proofs.lemmas.Result.{on_ok_weaker}
 use Rattle.merc_graded_tree.specs.Nodes.{nodes_of, outputs_of}
 use Rattle.merc_graded_tree.specs.Variables.{in_nodes}
 use Rattle.merc_switch_choice.specs.Variables.{behind, all_behind}
 use Rattle.merc_switch.specs.Selections.{Selection}
 use Rattle.merc_switch.proofs.JudgedGroups.{AreParts, judged_arm}
-use Rattle.merc_switch.proofs.judging.arm_task.Goals.{then-as_slice-lt1, else-as_slice-lt1+else-this-lt2}
-use Rattle.merc_switch.proofs.judging.arm_task.Goals as goal
+use Rattle.merc_switch.proofs.judging.push_arm.Goals.{then-as_slice-lt1, else-as_slice-lt1+else-this-lt2}
+use Rattle.merc_switch.proofs.judging.push_arm.Goals as goal
 
 pub returns-in-Ok : goal.returns-in-Ok
 returns-in-Ok c =
@@ -23,4 +23,5 @@ returns-in-Ok c =
       left_is = refl;
       outputs_are = ap (λ (s : Selection). filter (λ output. in_nodes (nodes_of s.disjuncts) output) (outputs_of s.whole)) made;
     } in
-    IfOk-weaker c.group_task.result _ _ (λ task is. is ∙ judged_arm selected outer.used outer.left outer.variable c.of.result used (outer.left - 1) _ several parts) c.group_task.ensures
+    on_ok_weaker c.push_group.result
+    (λ put. put ∙ ap (λ t. t ∷ c.args.tasks.now) (judged_arm selected outer.used outer.left outer.variable c.of.result used (outer.left - 1) _ several parts)) c.push_group.ensures
