@@ -6,6 +6,7 @@ use Rattle.merc_frames.proofs.Built.{built_passed, built_passed_each}
 use Rattle.merc_frames.proofs.FrameLaws.{left_empty, left_length}
 use Rattle.merc_frames.proofs.Moving.{grown_fine, grown_held, grown_view, on_err}
 use Rattle.merc_frames.proofs.Entering.{entered_fine, entered_kept, entered}
+use Rattle.merc_frames.proofs.RoomLaws.{own_passes}
 use Rattle.merc_frames.proofs.frames.Frames.enter.Goals as goal
 
 abbrev pub returns-in_err-make_room-clause-err : goal.returns-in_err-make_room-clause-err
@@ -55,3 +56,6 @@ invariant_of-self-in_err-push c = (
       (grown_fine _ _ _ _ _ _ _ c.self.invariant.0 c.in_ok-make_room.ensures.grows),
   c.self.invariant.1,
 )
+
+abbrev pub make_frame-requires-clause-taken : goal.make_frame-requires-clause-taken
+make_frame-requires-clause-taken c = own_passes _ _ _ _ _ _ c.self.invariant.0 _ (ap (λ (f : FramesData). f.stacks) c.self.view_is) c.args.inputs.now c.requires.taken

@@ -3,8 +3,11 @@ use Rattle.merc_frames.specs.Held.{FramesData, Passes}
 use Rattle.merc_frames.specs.View.{newest, kept_saved}
 use Rattle.merc_frames.proofs.Built.{built_given_each, built_here}
 use Rattle.merc_frames.proofs.Returning.{caller_is, place_fine, place_kept, place_gives}
-use Rattle.merc_frames.proofs.RoomLaws.{caller_slots}
+use Rattle.merc_frames.proofs.RoomLaws.{caller_slots, own_slots}
 use Rattle.merc_frames.proofs.frames.Frames.give_back.Goals as goal
+
+abbrev pub deliver-requires-clause-own : goal.deliver-requires-clause-own
+deliver-requires-clause-own c = own_slots _ _ _ _ _ _ c.self.invariant.0 _ (ap (λ (f : FramesData). f.stacks) c.self.view_is) c.args.own.now c.requires.own
 
 abbrev pub deliver-requires-clause-target : goal.deliver-requires-clause-target
 deliver-requires-clause-target c =

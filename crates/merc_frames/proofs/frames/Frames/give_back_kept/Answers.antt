@@ -7,7 +7,7 @@ use Rattle.merc_frames.proofs.HeldLaws.{Holding}
 use Rattle.merc_frames.proofs.Moving.{on_err}
 use Rattle.merc_frames.proofs.Newest.{count_read, low_read, low_under}
 use Rattle.merc_frames.proofs.Returning.{caller_is, caller_saved, parent_inside, source_inside, copy_fine, copy_kept, copy_gives}
-use Rattle.merc_frames.proofs.RoomLaws.{caller_slots}
+use Rattle.merc_frames.proofs.RoomLaws.{caller_slots, own_slots}
 use Rattle.merc_frames.proofs.frames.Frames.give_back_kept.Goals as goal
 
 abbrev pub returns-in_err-make_room-clause-err : goal.returns-in_err-make_room-clause-err
@@ -21,6 +21,9 @@ copy_frame-requires-clause-source c =
     let used = caller_saved c.self.inside.slots.items c.self.inside.saved.items c.self.inside.height _ (ap (λ (f : FramesData). f.stacks.callers) c.self.view_is) c.requires.there in
     let frame = caller_is _ _ _ _ _ _ _ c.self.invariant.0 used c.index-caller.ensures in
     source_inside _ _ _ _ _ _ _ c.self.invariant.0 used frame _ c.in_ok-make_room.ensures.grows
+
+abbrev pub deliver-requires-clause-own : goal.deliver-requires-clause-own
+deliver-requires-clause-own c = own_slots _ _ _ _ _ _ c.self.invariant.0 _ (ap (λ (f : FramesData). f.stacks) c.self.view_is) c.args.own.now c.requires.own
 
 abbrev pub deliver-requires-clause-apart : goal.deliver-requires-clause-apart
 deliver-requires-clause-apart c = inl (omega arith)

@@ -1,5 +1,5 @@
 use Rattle.std.proofs.Common.{refl, sym, ap, ◌∙◌, subst, arith}
-use Rattle.merc_frames.specs.Held.{Passes}
+use Rattle.merc_frames.specs.Held.{FramesData, Passes}
 use Rattle.merc_frames.specs.View.{data_of}
 use Rattle.merc_frames.proofs.AllLaws.{grown_each}
 use Rattle.merc_frames.proofs.Built.{built_passed, built_passed_each}
@@ -8,6 +8,7 @@ use Rattle.merc_frames.proofs.HeldLaws.{Holding}
 use Rattle.merc_frames.proofs.Moving.{on_err}
 use Rattle.merc_frames.proofs.Newest.{count_read, low_read, low_under}
 use Rattle.merc_frames.proofs.Entering.{renewed_fine, renewed_kept, renewed}
+use Rattle.merc_frames.proofs.RoomLaws.{own_passes}
 use Rattle.merc_frames.proofs.frames.Frames.renew_apart.Goals as goal
 
 abbrev pub returns-in_err-make_room-clause-err : goal.returns-in_err-make_room-clause-err
@@ -53,3 +54,6 @@ returns-clause-held c =
           c.deref_mut.ensures.value c.make_frame.ensures.long c.make_room.new.slots.ok.0 c.make_frame.ensures.below c.make_frame.ensures.above c.make_frame.ensures.made,
       renewed_kept _ _ _ _ _ _ _ _ c.self.invariant.0 _ _ _ _ built count_is (omega (arith, low_is, above)) c.truncate.ensures.items (Passes may_hold) cells held.1,
     ))
+
+abbrev pub make_frame-requires-clause-taken : goal.make_frame-requires-clause-taken
+make_frame-requires-clause-taken c = own_passes _ _ _ _ _ _ c.self.invariant.0 _ (ap (λ (f : FramesData). f.stacks) c.self.view_is) c.args.inputs.now c.requires.taken
