@@ -108,10 +108,7 @@ fn the_system_is_read(rt: HostRuntime) -> Result<(), Fail> {
     assert!(rt; shelf.fetch(&name, 5, &mut buffer) == Fetched::End);
     fs::remove_file(&rt, path.as_str())?;
     assert!(rt; shelf.fetch(&name, 0, &mut buffer) == Fetched::Absent);
-    assert_eq!(rt;
-        shelf.fetch(&Text::of(alloc, b"/")?, 0, &mut buffer),
-        Fetched::Failed
-    );
+    assert!(rt; shelf.fetch(&Text::of(alloc, b"/")?, 0, &mut buffer) == Fetched::Failed);
     Ok(())
 }
 
