@@ -77,18 +77,23 @@ with_step q name found before whole entries rest reading updating is =
     ∙ ap (λ (l : List ℕ). before || list_any (is_at (nat_cmp q)) l) (sym reading)
     ∙ is
 
-without_bools : (t b l : Bool) → (cond t false b && not l) ≡ (b && not (t || l))
-without_bools true true l = refl
-without_bools true false l = refl
-without_bools false b l = refl
+hide_bools : (t m b l : Bool) → (t ≡ true → m ≡ true) → (cond t false b && not (l && m)) ≡ (b && not (cond t true l && m))
+hide_bools true true true l has = refl
+hide_bools true true false l has = refl
+hide_bools true false true l has = has refl
+hide_bools true false false l has = refl
+hide_bools false m b l has = refl
 
-pub without_step : (q name : ℕ) (found before whole : Bool) (entries rest : List ℕ)
-    → entries ≡ name ∷ rest → found ≡ cond (is_eq (nat_cmp name q)) false before
-    → (before && not (list_any (is_at (nat_cmp q)) entries)) ≡ whole → (found && not (list_any (is_at (nat_cmp q)) rest)) ≡ whole
-without_step q name found before whole entries rest reading updating is =
-    ap (λ (b : Bool). b && not (list_any (is_at (nat_cmp q)) rest)) (updating ∙ ap (λ (t : Bool). cond t false before) (tie-flipped name q))
-    ∙ without_bools (is_eq (nat_cmp q name)) before (list_any (is_at (nat_cmp q)) rest)
-    ∙ ap (λ (l : List ℕ). before && not (list_any (is_at (nat_cmp q)) l)) (sym reading)
+-- one entry more of the fewer, whose name the others have and which is taken out
+pub hide_step : (q name place : ℕ) (many : ℕ → Option ℕ) (found before whole : Bool) (entries rest : List (ℕ × ℕ))
+    → entries ≡ (name, place) ∷ rest → is_some (many name) ≡ true → found ≡ cond (is_eq (nat_cmp name q)) false before
+    → (before && not (is_some (lookup (is_at (nat_cmp q)) entries) && is_some (many q))) ≡ whole
+    → (found && not (is_some (lookup (is_at (nat_cmp q)) rest) && is_some (many q))) ≡ whole
+hide_step q name place many found before whole entries rest reading has updating is =
+    ap (λ (b : Bool). b && not (is_some (lookup (is_at (nat_cmp q)) rest) && is_some (many q))) (updating ∙ ap (λ (t : Bool). cond t false before) (tie-flipped name q))
+    ∙ hide_bools (is_eq (nat_cmp q name)) (is_some (many q)) before (is_some (lookup (is_at (nat_cmp q)) rest)) (λ t. ap (λ (k : ℕ). is_some (many k)) (tied q name t) ∙ has)
+    ∙ ap (λ (l : Bool). before && not (l && is_some (many q))) (sym (is_some-cond (is_eq (nat_cmp q name)) place (lookup (is_at (nat_cmp q)) rest)))
+    ∙ ap (λ (l : List (ℕ × ℕ)). before && not (is_some (lookup (is_at (nat_cmp q)) l) && is_some (many q))) (sym reading)
     ∙ is
 
 -- all entries of one map put over another

@@ -5,7 +5,7 @@ ghost use Rattle.merc_goals.specs.Written.{Written, Conjunction, Parallel, Disju
 ghost use Rattle.merc_goals.specs.Entries.{goals_of, with_form, conditional_of, negated, quantified_by};
 ghost use Rattle.merc_scopes.specs.Scopes.{free, is_blank};
 ghost use Rattle.merc_answer_variables.specs.AnswerVariables.{begins_with_underscore, answer_variables};
-ghost use Rattle.merc_answer_variables.specs.Statuses.{plain_status};
+ghost use Rattle.merc_answer_variables.specs.Statuses.{plain_status, unseen};
 ghost use Rattle.merc_answer_variables.specs.Reading.{status, chosen, is_chosen, HoldEach, IsRead, AreTaken, IsPlain, IsBeside};
 ghost use Rattle.merc_value.specs.Text.{text_at};
 
@@ -60,7 +60,7 @@ impl Reader {
             Form::Conjunction(count) => self.join(alloc, *count),
             Form::Parallel(count) => self.join(alloc, *count),
             Form::Disjunction(count) => self.join(alloc, *count),
-            Form::Conditional => self.decide(alloc),
+            Form::Conditional => self.decide(),
             Form::Negated => self.negate(),
             Form::Quantified(variables) => self.bind(variables.as_slice()),
             Form::Truth | Form::Failure | Form::WrongForm | Form::OutsideProfile => {
@@ -73,37 +73,39 @@ impl Reader {
     fn put(&mut self, alloc: Global, found: Vec<Occurrence>) -> Result<(), NoMemory>
         ensures { OnOk result ((blank : ℕ → Bool) (goals : List Written) (goal : Written) → IsPlain blank goal → found.items ≡ free blank goal → IsRead blank goals self.old → IsRead blank (goal ∷ goals) self.new) }
     {
-        let variables = trailed(alloc, &mut self.trail, found)?;
-        self.goals.push(variables)?;
-        Ok(())
+        let mut all = Variables::new(alloc);
+        let answer = put_all(&mut self.trail, found, &mut all);
+        push(&mut self.goals, all)?;
+        answer
     }
 
     // Makes one goal of the first goals, so many.
     fn join(&mut self, alloc: Global, count: usize) -> Result<(), NoMemory>
         ensures { OnOk result ((blank : ℕ → Bool) (goals : List Written) (goal : Written) → IsBeside blank (goals_of (take count goals)) goal → IsRead blank goals self.old → IsRead blank (goal ∷ drop count goals) self.new) }
     {
-        let all = taken(alloc, &mut self.goals, count)?;
-        self.goals.push(all)?;
-        Ok(())
+        let mut all = Variables::new(alloc);
+        let answer = take_all(&mut self.goals, count, &mut all);
+        push(&mut self.goals, all)?;
+        answer
     }
 
     // Makes an if-then-else of the first three goals. Where there are not so many, no goal is left.
-    fn decide(&mut self, alloc: Global) -> Result<(), NoMemory>
+    fn decide(&mut self) -> Result<(), NoMemory>
         ensures { OnOk result ((blank : ℕ → Bool) (goals : List Written) (span : span_record) → IsRead blank goals self.old → IsRead blank (conditional_of span goals) self.new) }
     {
         match first_three(&mut self.goals) {
             Some(parts) => {
-                let whole = parts
-                    .condition
-                    .decided(alloc, parts.then_part, parts.else_part)?;
-                self.goals.push(whole)?;
+                let mut whole = parts.condition;
+                let answer = whole.decide(parts.then_part, parts.else_part);
+                push(&mut self.goals, whole)?;
+                answer
             }
             None => {
                 self.goals.clear();
                 self.trail.clear();
+                Ok(())
             }
         }
-        Ok(())
     }
 
     // Makes a negation of the first goal.
@@ -165,37 +167,45 @@ fn first_three(goals: &mut Vec<Variables>) -> Option<Parts>
     })
 }
 
-// The variables of the first goals, so many, beside each other. They are taken away.
-fn taken(alloc: Global, goals: &mut Vec<Variables>, count: usize) -> Result<Variables, NoMemory>
-    ensures { IfOk result (λ all. (blank : ℕ → Bool) (written : List Written) → HoldEach blank written (reverse goals.old.items) → AreTaken blank count written goals.new.items all) }
+// Adds the variables of the first goals, so many, in order. They are taken away.
+fn take_all(goals: &mut Vec<Variables>, count: usize, all: &mut Variables) -> Result<(), NoMemory>
+    requires { (name : ℕ) → status all.old name ≡ unseen }
+    ensures { OnOk result ((blank : ℕ → Bool) (written : List Written) → HoldEach blank written (reverse goals.old.items) → AreTaken blank count written goals.new.items all.new) }
 {
-    let mut all = Variables::new(alloc);
     let mut left = count;
     while left > 0 {
         match goals.pop() {
-            Some(next) => all = all.joined(alloc, next)?,
-            None => return Ok(all),
+            Some(next) => all.join(next)?,
+            None => return Ok(()),
         }
         left -= 1;
     }
-    Ok(all)
+    Ok(())
 }
 
-// Puts occurrences before those that stand there, and gives them as the variables of a goal.
-fn trailed(
-    alloc: Global,
+// Puts occurrences before those that stand there, and adds them to no variables.
+fn put_all(
     trail: &mut Vec<Occurrence>,
     mut found: Vec<Occurrence>,
-) -> Result<Variables, NoMemory>
+    all: &mut Variables,
+) -> Result<(), NoMemory>
+    requires { (name : ℕ) → status all.old name ≡ unseen }
     ensures trail { OnOk result (reverse trail.new.items ≡ found.items ++ reverse trail.old.items) }
-    ensures variables { IfOk result (λ all. (name : ℕ) → status all name ≡ plain_status name found.items (reverse trail.old.items)) }
+    ensures variables { OnOk result ((name : ℕ) → status all.new name ≡ plain_status name found.items (reverse trail.old.items)) }
 {
-    let mut all = Variables::new(alloc);
     while let Some(last) = found.pop() {
         all.put(last.name, trail.len())?;
         trail.push(last)?;
     }
-    Ok(all)
+    Ok(())
+}
+
+// Puts the variables of a goal before the other goals.
+fn push(goals: &mut Vec<Variables>, variables: Variables) -> Result<(), NoMemory>
+    ensures { OnOk result (goals.new.items ≡ goals.old.items ++ variables ∷ []) }
+{
+    goals.push(variables)?;
+    Ok(())
 }
 
 // The answers among occurrences, the last of which is the first.

@@ -1,5 +1,5 @@
 //! The variables of a goal while it is read.
-ghost use Rattle.std.specs.Prelude.{◌≡◌, ◌==◌, ◌&&◌, ◌||◌, ℕ, not, Some, is_some, IfOk, OnOk, if◌then◌else◌};
+ghost use Rattle.std.specs.Prelude.{◌≡◌, ◌==◌, ◌&&◌, ◌||◌, ℕ, not, Some, is_some, OnOk, if◌then◌else◌};
 ghost use Rattle.std.specs.Ordering.{nat_cmp};
 ghost use Rattle.std.specs.Option.{option_or};
 ghost use Rattle.std.specs.BTreeMap.{get};
@@ -10,6 +10,7 @@ ghost use Rattle.merc_answer_variables.specs.Reading.{status};
 use merc_base::{Name, NoMemory};
 use std::alloc::Global;
 use std::collections::{BTreeMap, BTreeSet};
+use std::mem::swap;
 
 /// The variables that occur in a goal outside every quantifier over them.
 #[derive(Drop)]
@@ -55,35 +56,51 @@ impl Variables {
         self.shown.contains(&name)
     }
 
-    /// The variables of two goals beside each other, of which this one stands first.
-    pub(crate) fn joined(self, alloc: Global, second: Variables) -> Result<Variables, NoMemory>
-        ensures { IfOk result (λ both. (name : ℕ) → status both name ≡ joined (status self name) (status second name)) }
+    /// Adds the variables of a goal that stands behind this one, beside it.
+    pub(crate) fn join(&mut self, second: Variables) -> Result<(), NoMemory>
+        ensures { OnOk result ((name : ℕ) → status self.new name ≡ joined (status self.old name) (status second name)) }
     {
-        let shared = common(alloc, &self.places, &second.places)?;
-        let shown = either(self.shown, second.shown)?;
-        Ok(Variables {
-            places: before(self.places, second.places)?,
-            shown: either(shown, shared)?,
-        })
+        let mut second = second;
+        self.take_in(&mut second)
     }
 
-    /// The variables of an if-then-else, of which this is the condition.
-    pub(crate) fn decided(
-        self,
-        alloc: Global,
+    // Moves the variables of a goal behind this one here. What is left of them is not said.
+    fn take_in(&mut self, second: &mut Variables) -> Result<(), NoMemory>
+        ensures { OnOk result ((name : ℕ) → status self.new name ≡ joined (status self.old name) (status second.old name)) }
+    {
+        add(&mut self.shown, &mut second.shown)?;
+        show_common(&self.places, &second.places, &mut self.shown)?;
+        put_behind(&mut self.places, &mut second.places)
+    }
+
+    /// Makes the variables of a condition those of its if-then-else.
+    pub(crate) fn decide(
+        &mut self,
         then_part: Variables,
         else_part: Variables,
-    ) -> Result<Variables, NoMemory>
-        ensures { IfOk result (λ whole. (name : ℕ) → status whole name ≡ decided (status self name) (status then_part name) (status else_part name)) }
+    ) -> Result<(), NoMemory>
+        ensures { OnOk result ((name : ℕ) → status self.new name ≡ decided (status self.old name) (status then_part name) (status else_part name)) }
     {
-        let shared = common(alloc, &self.places, &else_part.places)?;
-        let rest = then_part.joined(alloc, else_part)?;
-        let hidden = common(alloc, &self.places, &rest.places)?;
-        let shown = without(rest.shown, &hidden);
-        Ok(Variables {
-            places: before(self.places, rest.places)?,
-            shown: either(shown, shared)?,
-        })
+        let mut then_part = then_part;
+        let mut else_part = else_part;
+        self.decide_over(&mut then_part, &mut else_part)
+    }
+
+    // Moves the variables of the other parts here. What is left of them is not said.
+    fn decide_over(
+        &mut self,
+        then_part: &mut Variables,
+        else_part: &mut Variables,
+    ) -> Result<(), NoMemory>
+        ensures { OnOk result ((name : ℕ) → status self.new name ≡ decided (status self.old name) (status then_part.old name) (status else_part.old name)) }
+    {
+        self.shown.clear();
+        show_common(&self.places, &else_part.places, &mut self.shown)?;
+        then_part.take_in(else_part)?;
+        hide_common(&self.places, &then_part.places, &mut then_part.shown);
+        add(&mut then_part.shown, &mut self.shown)?;
+        swap(&mut self.shown, &mut then_part.shown);
+        put_behind(&mut self.places, &mut then_part.places)
     }
 
     /// Makes none of the variables an answer variable.
@@ -104,110 +121,120 @@ impl Variables {
     }
 }
 
-// The names that both have. Only the fewer of them are gone through.
-fn common(
-    alloc: Global,
+// Adds the names that both have. Only the fewer of them are gone through.
+fn show_common(
     one: &BTreeMap<Name, usize>,
     other: &BTreeMap<Name, usize>,
-) -> Result<BTreeSet<Name>, NoMemory>
-    ensures { IfOk result (λ names. (name : ℕ) → contains nat_cmp names name ≡ (is_some (get nat_cmp one.now name) && is_some (get nat_cmp other.now name))) }
+    shown: &mut BTreeSet<Name>,
+) -> Result<(), NoMemory>
+    ensures { OnOk result ((name : ℕ) → contains nat_cmp shown.new name ≡ (contains nat_cmp shown.old name || (is_some (get nat_cmp one.now name) && is_some (get nat_cmp other.now name)))) }
 {
     if one.len() < other.len() {
-        among(alloc, one, other)
+        show_among(one, other, shown)
     } else {
-        among(alloc, other, one)
+        show_among(other, one, shown)
     }
 }
 
-// The names of the first that the second has too.
-fn among(
-    alloc: Global,
+// Adds the names of the first that the second has too.
+fn show_among(
     few: &BTreeMap<Name, usize>,
     many: &BTreeMap<Name, usize>,
-) -> Result<BTreeSet<Name>, NoMemory>
-    ensures { IfOk result (λ names. (name : ℕ) → contains nat_cmp names name ≡ (is_some (get nat_cmp few.now name) && is_some (get nat_cmp many.now name))) }
+    shown: &mut BTreeSet<Name>,
+) -> Result<(), NoMemory>
+    ensures { OnOk result ((name : ℕ) → contains nat_cmp shown.new name ≡ (contains nat_cmp shown.old name || (is_some (get nat_cmp few.now name) && is_some (get nat_cmp many.now name)))) }
 {
-    let mut names = BTreeSet::new(alloc);
     for (name, _) in few {
         if many.contains_key(name) {
-            names.insert(*name)?;
+            shown.insert(*name)?;
         }
     }
-    Ok(names)
+    Ok(())
 }
 
-// The names that one of the two has.
-fn either(one: BTreeSet<Name>, other: BTreeSet<Name>) -> Result<BTreeSet<Name>, NoMemory>
-    ensures { IfOk result (λ names. (name : ℕ) → contains nat_cmp names name ≡ (contains nat_cmp one name || contains nat_cmp other name)) }
+// Takes out the names that both have. Only the fewer of them are gone through.
+fn hide_common(
+    one: &BTreeMap<Name, usize>,
+    other: &BTreeMap<Name, usize>,
+    shown: &mut BTreeSet<Name>,
+)
+    ensures { (name : ℕ) → contains nat_cmp shown.new name ≡ (contains nat_cmp shown.old name && not (is_some (get nat_cmp one.now name) && is_some (get nat_cmp other.now name))) }
 {
     if one.len() < other.len() {
-        with(other, &one)
+        hide_among(one, other, shown);
     } else {
-        with(one, &other)
+        hide_among(other, one, shown);
     }
 }
 
-// The names of the first, and of the second.
-fn with(many: BTreeSet<Name>, few: &BTreeSet<Name>) -> Result<BTreeSet<Name>, NoMemory>
-    ensures { IfOk result (λ names. (name : ℕ) → contains nat_cmp names name ≡ (contains nat_cmp many name || contains nat_cmp few.now name)) }
+// Takes out the names of the first that the second has too.
+fn hide_among(few: &BTreeMap<Name, usize>, many: &BTreeMap<Name, usize>, shown: &mut BTreeSet<Name>)
+    ensures { (name : ℕ) → contains nat_cmp shown.new name ≡ (contains nat_cmp shown.old name && not (is_some (get nat_cmp few.now name) && is_some (get nat_cmp many.now name))) }
 {
-    let mut names = many;
-    for name in few {
-        names.insert(*name)?;
-    }
-    Ok(names)
-}
-
-// The names of the first that the second does not have.
-fn without(names: BTreeSet<Name>, others: &BTreeSet<Name>) -> BTreeSet<Name>
-    ensures { (name : ℕ) → contains nat_cmp result name ≡ (contains nat_cmp names name && not (contains nat_cmp others.now name)) }
-{
-    let mut left = names;
-    for name in others {
-        left.remove(name);
-    }
-    left
-}
-
-// The places of both, where those of the first count. The fewer of them are moved.
-fn before(
-    first: BTreeMap<Name, usize>,
-    second: BTreeMap<Name, usize>,
-) -> Result<BTreeMap<Name, usize>, NoMemory>
-    ensures { IfOk result (λ places. (name : ℕ) → get nat_cmp places name ≡ option_or (get nat_cmp first name) (get nat_cmp second name)) }
-{
-    if first.len() < second.len() {
-        over(first, second)
-    } else {
-        under(first, &second)
-    }
-}
-
-// The second with the first put over it.
-fn over(
-    first: BTreeMap<Name, usize>,
-    second: BTreeMap<Name, usize>,
-) -> Result<BTreeMap<Name, usize>, NoMemory>
-    ensures { IfOk result (λ places. (name : ℕ) → get nat_cmp places name ≡ option_or (get nat_cmp first name) (get nat_cmp second name)) }
-{
-    let mut moved = first;
-    let mut places = second;
-    places.append(&mut moved)?;
-    Ok(places)
-}
-
-// The first with what it lacks of the second.
-fn under(
-    first: BTreeMap<Name, usize>,
-    second: &BTreeMap<Name, usize>,
-) -> Result<BTreeMap<Name, usize>, NoMemory>
-    ensures { IfOk result (λ places. (name : ℕ) → get nat_cmp places name ≡ option_or (get nat_cmp first name) (get nat_cmp second.now name)) }
-{
-    let mut places = first;
-    for (name, place) in second {
-        if !places.contains_key(name) {
-            places.insert(*name, *place)?;
+    for (name, _) in few {
+        if many.contains_key(name) {
+            shown.remove(name);
         }
     }
-    Ok(places)
+}
+
+// Adds other names. The fewer of both are added to the others.
+fn add(names: &mut BTreeSet<Name>, others: &mut BTreeSet<Name>) -> Result<(), NoMemory>
+    ensures { OnOk result ((name : ℕ) → contains nat_cmp names.new name ≡ (contains nat_cmp names.old name || contains nat_cmp others.old name)) }
+{
+    if names.len() < others.len() {
+        swap(names, others);
+    }
+    add_each(names, others)
+}
+
+// Adds each of some other names.
+fn add_each(many: &mut BTreeSet<Name>, few: &BTreeSet<Name>) -> Result<(), NoMemory>
+    ensures { OnOk result ((name : ℕ) → contains nat_cmp many.new name ≡ (contains nat_cmp many.old name || contains nat_cmp few.now name)) }
+{
+    for name in few {
+        many.insert(*name)?;
+    }
+    Ok(())
+}
+
+// Adds places of names that have none. The fewer of both are moved.
+fn put_behind(
+    first: &mut BTreeMap<Name, usize>,
+    second: &mut BTreeMap<Name, usize>,
+) -> Result<(), NoMemory>
+    ensures { OnOk result ((name : ℕ) → get nat_cmp first.new name ≡ option_or (get nat_cmp first.old name) (get nat_cmp second.old name)) }
+{
+    if first.len() < second.len() {
+        put_over(first, second)
+    } else {
+        put_under(first, second)
+    }
+}
+
+// Moves the first into the second, whose places count no more, and makes them the first.
+fn put_over(
+    first: &mut BTreeMap<Name, usize>,
+    second: &mut BTreeMap<Name, usize>,
+) -> Result<(), NoMemory>
+    ensures { OnOk result ((name : ℕ) → get nat_cmp first.new name ≡ option_or (get nat_cmp first.old name) (get nat_cmp second.old name)) }
+{
+    second.append(first)?;
+    swap(first, second);
+    Ok(())
+}
+
+// Adds to the first what it lacks of the second.
+fn put_under(
+    first: &mut BTreeMap<Name, usize>,
+    second: &BTreeMap<Name, usize>,
+) -> Result<(), NoMemory>
+    ensures { OnOk result ((name : ℕ) → get nat_cmp first.new name ≡ option_or (get nat_cmp first.old name) (get nat_cmp second.now name)) }
+{
+    for (name, place) in second {
+        if !first.contains_key(name) {
+            first.insert(*name, *place)?;
+        }
+    }
+    Ok(())
 }

@@ -4,7 +4,7 @@ use Rattle.std.specs.Map.Iter.{deref_pair}
 use Rattle.std.proofs.Common.{ℕ, sym, ◌∙◌}
 use Rattle.std.proofs.lemmas.Map.Iter.{rest_more}
 use Rattle.merc_answer_variables.proofs.MapLaws.{among_step}
-use Rattle.merc_answer_variables.proofs.variables.among.Goals as goal
+use Rattle.merc_answer_variables.proofs.variables.show_among.Goals as goal
 
 pub loop-name-preserved-in_ok-insert : goal.loop-name-preserved-in_ok-insert
 loop-name-preserved-in_ok-insert c = λ q.

@@ -1,6 +1,6 @@
 use Rattle.std.proofs.Common.{◌≡◌, length}
 use Rattle.merc_answer_variables.proofs.TrailLaws.{trail_step, place_step, shown_step}
-use Rattle.merc_answer_variables.proofs.reader.trailed.Goals as goal
+use Rattle.merc_answer_variables.proofs.reader.put_all.Goals as goal
 
 pub loop-last-preserved : goal.loop-last-preserved
 loop-last-preserved c = record {

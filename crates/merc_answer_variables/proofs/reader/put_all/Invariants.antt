@@ -2,7 +2,7 @@ use Rattle.std.proofs.Common.{◌≡◌, ◌||◌, ◌++◌, ℕ, is_some, rever
 use Rattle.std.specs.Option.{option_or}
 use Rattle.merc_answer_variables.specs.Statuses.{place_among}
 use Rattle.merc_answer_variables.specs.Reading.{status}
-use Rattle.merc_answer_variables.proofs.reader.trailed.Given as goal
+use Rattle.merc_answer_variables.proofs.reader.put_all.Given as goal
 
 abbrev pub invariant-loop-last : goal.invariant-loop-last
 invariant-loop-last l = record {
