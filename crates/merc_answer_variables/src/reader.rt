@@ -183,7 +183,7 @@ fn take_all(goals: &mut Vec<Variables>, count: usize, all: &mut Variables) -> Re
     Ok(())
 }
 
-// Puts occurrences before those that stand there, and adds them to no variables.
+// Puts occurrences before those that stand there, and makes them the variables of a goal that has none yet.
 fn put_all(
     trail: &mut Vec<Occurrence>,
     mut found: Vec<Occurrence>,
