@@ -1,12 +1,16 @@
 //! The module that items are.
-ghost use Rattle.std.specs.Prelude.{◌≡◌, [], ◌∷◌, ◌++◌, map, IfOk, OnOk};
+ghost use Rattle.std.specs.Prelude.{◌≡◌, List, [], ◌∷◌, ◌++◌, map, IfOk, OnOk};
 ghost use Rattle.std.specs.List.{flat_map};
 ghost use Rattle.merc_base.specs.Names.{semicolon_name};
-ghost use Rattle.merc_entries.specs.Entries.{with_units, units_of};
+ghost use Rattle.merc_entries.specs.Entries.{imports, with_units, units_of};
 ghost use Rattle.merc_entries.specs.EntryValue.{entry_values};
 ghost use Rattle.merc_operands.specs.Members.{chain};
-ghost use Rattle.merc_item_forms.specs.Items.{TypeItem};
-ghost use Rattle.merc_items.specs.ModuleOf.{constructor_of, clauses_in, head_name, module_of, parameters, pred_decls, type_defs, type_defs_of};
+ghost use Rattle.merc_tree.specs.Term.{Term};
+ghost use Rattle.merc_tree.specs.Shape.{arguments_of};
+ghost use Rattle.merc_item_forms.specs.Forms.{argument_type};
+ghost use Rattle.merc_item_forms.specs.Items.{TypeItem, item_of};
+ghost use Rattle.merc_item_forms.specs.FormFaults.{own_name};
+ghost use Rattle.merc_items.specs.ModuleOf.{constructor_of, clauses_in, declared_type, head_name, module_of, parameters, pred_decls, type_defs, type_defs_of};
 ghost use Rattle.merc_items.specs.Assembling.{clause_of, pred_decl_of, preds_by};
 ghost use Rattle.merc_items.specs.Parting.{kept, part_of};
 
@@ -18,8 +22,8 @@ use merc_entries::{DistinctNames, Entry, imports};
 use merc_item_forms::{Item, item_of, own_name};
 use merc_operands::{arguments, members};
 use merc_tree::{
-    Clause, Clauses, Constructor, Constructors, Module, NameList, PredDecl, PredDecls, Shape,
-    TermRef, Terms, TypeDef, TypeDefs,
+    Clause, Clauses, Constructor, Constructors, Module, NameList, PredDecl, PredDecls, Shape, Term,
+    TermRef, Terms, TypeDef, TypeDefs, TypeExprs,
 };
 use std::alloc::Global;
 
@@ -34,24 +38,44 @@ pub(crate) fn module_of(
     ensures { IfOk result (λ found. found ≡ module_of names.now terms.now (entry_values entries.now)) }
 {
     let units = units_of(alloc, terms)?;
-    let mut types = TypeDefs::new(alloc);
-    push_types(alloc, names, Part::File, entries, &mut types)?;
-    push_types(alloc, names, Part::Units, entries, &mut types)?;
-    let mut preds = PredDecls::new(alloc);
-    push_predicates(alloc, names, Part::File, entries, &mut preds)?;
-    let own = preds.as_slice().len();
-    push_predicates(alloc, names, Part::Units, entries, &mut preds)?;
-    let mut clauses = Clauses::new(alloc);
-    push_clauses(alloc, Part::File, entries, &mut clauses)?;
-    push_clauses(alloc, Part::Units, entries, &mut clauses)?;
-    Ok(Module {
+    let mut found = Module {
         name: own_name(terms),
         units,
-        types,
-        preds,
-        own,
-        clauses,
-    })
+        types: TypeDefs::new(alloc),
+        preds: PredDecls::new(alloc),
+        own: 0,
+        clauses: Clauses::new(alloc),
+    };
+    match fill(alloc, names, entries, &mut found) {
+        Ok(()) => Ok(found),
+        Err(refused) => {
+            // (a call, here and below, since it costs much to prove what is dropped)
+            drop(found);
+            Err(refused)
+        }
+    }
+}
+
+// Puts types, predicates and clauses into a module that has none yet.
+fn fill(
+    alloc: Global,
+    names: &Names,
+    entries: &[Entry<'_>],
+    found: &mut Module,
+) -> Result<(), NoMemory>
+    requires types { found.old.types ≡ [] }
+    requires preds { found.old.preds ≡ [] }
+    requires clauses { found.old.clauses ≡ [] }
+    ensures { OnOk result ((terms : List Term) → found.old.name ≡ own_name terms → found.old.units ≡ units_of terms → found.new ≡ module_of names.now terms (entry_values entries.now)) }
+{
+    push_types(alloc, names, Part::File, entries, &mut found.types)?;
+    push_types(alloc, names, Part::Units, entries, &mut found.types)?;
+    push_predicates(alloc, names, Part::File, entries, &mut found.preds)?;
+    found.own = found.preds.as_slice().len();
+    push_predicates(alloc, names, Part::Units, entries, &mut found.preds)?;
+    push_clauses(alloc, Part::File, entries, &mut found.clauses)?;
+    push_clauses(alloc, Part::Units, entries, &mut found.clauses)?;
+    Ok(())
 }
 
 // What stands where a name is missing.
@@ -62,12 +86,25 @@ fn units_of(alloc: Global, terms: &Terms) -> Result<NameList, NoMemory>
     ensures { IfOk result (λ units. units ≡ units_of terms.now) }
 {
     let mut units = DistinctNames::new(alloc);
-    for index in 0..terms.len() {
-        if let Some(term) = terms.get(index) {
-            insert_all(&mut units, &imports(alloc, &item_of(&term))?)?;
+    match insert_imports(alloc, terms, &mut units) {
+        Ok(()) => Ok(NameList::from_vec(units.into_vec())),
+        Err(refused) => {
+            drop(units);
+            Err(refused)
         }
     }
-    Ok(NameList::from_vec(units.into_vec()))
+}
+
+// Adds the units that the items of a file import.
+fn insert_imports(alloc: Global, terms: &Terms, units: &mut DistinctNames) -> Result<(), NoMemory>
+    ensures { OnOk result (units.new ≡ with_units units.old (flat_map (λ term. imports (item_of term)) terms.now)) }
+{
+    for index in 0..terms.len() {
+        if let Some(term) = terms.get(index) {
+            insert_all(units, &imports(alloc, &item_of(&term))?)?;
+        }
+    }
+    Ok(())
 }
 
 fn insert_all(units: &mut DistinctNames, names: &[Name]) -> Result<(), NoMemory>
@@ -109,12 +146,19 @@ fn type_def(
 ) -> Result<TypeDef, NoMemory>
     ensures { IfOk result (λ type_def. type_def ∷ [] ≡ type_defs_of names.now unit (TypeItem head.now (chain semicolon_name root.now))) }
 {
-    Ok(TypeDef {
-        name: head_name(head),
-        params: parameters(alloc, names, &arguments(alloc, head)?)?,
-        constructors: constructors(alloc, names, &members(alloc, root, Name::SEMICOLON)?)?,
-        unit,
-    })
+    let params = type_parameters(alloc, names, head)?;
+    match constructors(alloc, names, root) {
+        Ok(constructors) => Ok(TypeDef {
+            name: head_name(head),
+            params,
+            constructors,
+            unit,
+        }),
+        Err(refused) => {
+            drop(params);
+            Err(refused)
+        }
+    }
 }
 
 fn head_name(head: &TermRef<'_>) -> Name
@@ -127,6 +171,16 @@ fn head_name(head: &TermRef<'_>) -> Name
 }
 
 // The type variables among the arguments of a type's head.
+fn type_parameters(alloc: Global, names: &Names, head: &TermRef<'_>) -> Result<NameList, NoMemory>
+    ensures { IfOk result (λ variables. variables ≡ parameters names.now (arguments_of head.now)) }
+{
+    let terms = arguments(alloc, head)?;
+    let variables = parameters(alloc, names, &terms);
+    drop(terms);
+    variables
+}
+
+// The type variables among terms.
 fn parameters(alloc: Global, names: &Names, terms: &[TermRef<'_>]) -> Result<NameList, NoMemory>
     ensures { IfOk result (λ variables. variables ≡ parameters names.now terms.now) }
 {
@@ -139,18 +193,34 @@ fn parameters(alloc: Global, names: &Names, terms: &[TermRef<'_>]) -> Result<Nam
     Ok(variables)
 }
 
-fn constructors(
+fn constructors(alloc: Global, names: &Names, root: &TermRef<'_>) -> Result<Constructors, NoMemory>
+    ensures { IfOk result (λ constructors. constructors ≡ map (constructor_of names.now) (chain semicolon_name root.now)) }
+{
+    let terms = members(alloc, root, Name::SEMICOLON)?;
+    let mut constructors = Constructors::new(alloc);
+    let pushed = push_constructors(alloc, names, &terms, &mut constructors);
+    drop(terms);
+    match pushed {
+        Ok(()) => Ok(constructors),
+        Err(refused) => {
+            drop(constructors);
+            Err(refused)
+        }
+    }
+}
+
+fn push_constructors(
     alloc: Global,
     names: &Names,
     terms: &[TermRef<'_>],
-) -> Result<Constructors, NoMemory>
-    ensures { IfOk result (λ constructors. constructors ≡ map (constructor_of names.now) terms.now) }
+    constructors: &mut Constructors,
+) -> Result<(), NoMemory>
+    ensures { OnOk result (constructors.new ≡ constructors.old ++ map (constructor_of names.now) terms.now) }
 {
-    let mut constructors = Constructors::new(alloc);
     for term in terms {
         constructors.push(constructor(alloc, names, term)?)?;
     }
-    Ok(constructors)
+    Ok(())
 }
 
 fn constructor(alloc: Global, names: &Names, term: &TermRef<'_>) -> Result<Constructor, NoMemory>
@@ -173,7 +243,9 @@ fn push_predicates(
     ensures { OnOk result (preds.new ≡ preds.old ++ flat_map (pred_decls names.now (part_of part (entry_values entries.now))) (part_of part (entry_values entries.now))) }
 {
     let table = ModeTable::of(alloc, part, entries)?;
-    push_with_modes(alloc, names, &table, part, entries, preds)
+    let pushed = push_with_modes(alloc, names, &table, part, entries, preds);
+    drop(table);
+    pushed
 }
 
 // The same with the modes of a table.
@@ -197,6 +269,16 @@ fn push_with_modes(
     Ok(())
 }
 
+// The types of a predicate's arguments.
+fn predicate_types(alloc: Global, names: &Names, head: &TermRef<'_>) -> Result<TypeExprs, NoMemory>
+    ensures { IfOk result (λ types. types ≡ map (λ argument. declared_type names.now (argument_type argument)) (arguments_of head.now)) }
+{
+    let terms = arguments(alloc, head)?;
+    let types = argument_types(alloc, names, &terms);
+    drop(terms);
+    types
+}
+
 fn predicate(
     alloc: Global,
     names: &Names,
@@ -207,13 +289,20 @@ fn predicate(
 ) -> Result<PredDecl, NoMemory>
     ensures { IfOk result (λ predicate. predicate ≡ pred_decl_of names.now table.now unit span head.now) }
 {
-    Ok(PredDecl {
-        name: head_name(head),
-        args: argument_types(alloc, names, &arguments(alloc, head)?)?,
-        modes: table.modes(alloc, head)?,
-        span,
-        unit,
-    })
+    let args = predicate_types(alloc, names, head)?;
+    match table.modes(alloc, head) {
+        Ok(modes) => Ok(PredDecl {
+            name: head_name(head),
+            args,
+            modes,
+            span,
+            unit,
+        }),
+        Err(refused) => {
+            drop(args);
+            Err(refused)
+        }
+    }
 }
 
 // Puts the clauses of a part of the module behind the others.
@@ -243,10 +332,21 @@ fn clause(
 ) -> Result<Clause, NoMemory>
     ensures { IfOk result (λ clause. clause ≡ clause_of span head.now body.now) }
 {
-    let head = head.to_term(alloc)?;
-    let body = match body {
-        Some(body) => Some(body.to_term(alloc)?),
-        None => None,
-    };
-    Ok(Clause { head, body, span })
+    let body = body_term(alloc, body)?;
+    match head.to_term(alloc) {
+        Ok(head) => Ok(Clause { head, body, span }),
+        Err(refused) => {
+            drop(body);
+            Err(refused)
+        }
+    }
+}
+
+fn body_term(alloc: Global, body: &Option<TermRef<'_>>) -> Result<Option<Term>, NoMemory>
+    ensures { IfOk result (λ copy. copy ≡ body.now) }
+{
+    match body {
+        Some(body) => Ok(Some(body.to_term(alloc)?)),
+        None => Ok(None),
+    }
 }

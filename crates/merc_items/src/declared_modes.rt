@@ -14,7 +14,7 @@ ghost use Rattle.merc_items.specs.DeclaredModes.{entry_modes, kept_modes, moded_
 ghost use Rattle.merc_items.specs.Parting.{kept};
 
 use crate::parting::Part;
-use merc_base::{Category, Key, Name, NoMemory};
+use merc_base::{Category, Key, Name, NoMemory, Span};
 use merc_entries::{Entry, has_mode, key_of};
 use merc_item_forms::{Item, argument_mode, category_named};
 use merc_operands::{arguments, plain_name};
@@ -40,12 +40,26 @@ impl ModeTable {
         let mut table = ModeTable {
             by_key: BTreeMap::new(alloc),
         };
-        for entry in entries {
-            if part.has(entry) {
-                table.add(alloc, moded_predicate(&entry.item), entry)?;
+        match table.add_all(alloc, part, entries) {
+            Ok(()) => Ok(table),
+            Err(refused) => {
+                // (a call, here and below, since it costs much to prove what is dropped)
+                drop(table);
+                Err(refused)
             }
         }
-        Ok(table)
+    }
+
+    // Puts the modes that the entries of a part of the module declare behind the others of their predicates.
+    fn add_all(&mut self, alloc: Global, part: Part, entries: &[Entry<'_>]) -> Result<(), NoMemory>
+        ensures { OnOk result ((predicate : List key_record) → kept_modes self.new predicate ≡ kept_modes self.old predicate ++ flat_map (kept part (modes_in predicate)) (entry_values entries.now)) }
+    {
+        for entry in entries {
+            if part.has(entry) {
+                self.add(alloc, moded_predicate(&entry.item), entry)?;
+            }
+        }
+        Ok(())
     }
 
     // Puts the mode that an entry declares behind the others of its predicate, where there is one.
@@ -120,16 +134,25 @@ fn moded_predicate(item: &Item<'_>) -> Option<Key>
 fn push_mode(alloc: Global, entry: &Entry<'_>, modes: &mut ModeDecls) -> Result<(), NoMemory>
     ensures { OnOk result (modes.new ≡ modes.old ++ entry_modes (entry_value entry.now)) }
 {
-    let (args, category) = match &entry.item {
-        Item::Predicate(head, category) => (args_with_types(alloc, head)?, category),
-        Item::Mode(head, category) => (args_alone(alloc, head)?, category),
-        _ => return Ok(()),
-    };
-    modes.push(ModeDecl {
+    match &entry.item {
+        Item::Predicate(head, category) => {
+            modes.push(mode_decl(args_with_types(alloc, head)?, category, entry.span))
+        }
+        Item::Mode(head, category) => {
+            modes.push(mode_decl(args_alone(alloc, head)?, category, entry.span))
+        }
+        _ => Ok(()),
+    }
+}
+
+fn mode_decl(args: Args, category: &Option<TermRef<'_>>, span: Span) -> ModeDecl
+    ensures { result ≡ record { args = args; category = declared_category category.now; span = span } }
+{
+    ModeDecl {
         args,
         category: declared_category(category),
-        span: entry.span,
-    })
+        span,
+    }
 }
 
 // The arguments of a mode that a predicate's declaration has with it.

@@ -2,13 +2,19 @@
 ghost use Rattle.std.specs.Prelude.{◌≡◌, ◌≤◌, ◌++◌, ℕ, List, length, IfOk, IfErr};
 ghost use Rattle.merc_tree.specs.Term.{Term};
 ghost use Rattle.merc_terms.specs.Items.{IsRefusal};
+ghost use Rattle.merc_base.specs.FirstFault.{IsFirstOf};
 ghost use Rattle.merc_item_forms.specs.FormFaults.{Rises};
+ghost use Rattle.merc_entries.specs.Entries.{entries};
+ghost use Rattle.merc_entries.specs.EntryValue.{entry_values, AreInOrder};
+ghost use Rattle.merc_entries.specs.Units.{items_of};
+ghost use Rattle.merc_items.specs.ModuleOf.{module_of};
+ghost use Rattle.merc_items.specs.Phases.{HasFault, HasNoFault};
 ghost use Rattle.merc_items.specs.ReadModule.{IsModule, IsModuleOf, RefusesItemsOf, RefusesModule};
 
 use crate::assembling::module_of;
 use crate::phases::check_items;
 use merc_base::{Fault, Names, Text};
-use merc_entries::{join, read_units};
+use merc_entries::{Entry, Units, join, read_units};
 use merc_terms::read_text;
 use merc_tree::{Module, Terms};
 use std::alloc::Global;
@@ -33,7 +39,10 @@ pub fn read_module(alloc: Global, text: &Text, names: &mut Names) -> Result<Modu
     ensures grows { (more : List (List ℕ)) × (names.new ≡ names.old ++ more) }
 {
     let terms = read_text(alloc, text.bytes(), names)?;
-    module_of_items(alloc, &terms, names)
+    let found = module_of_items(alloc, &terms, names);
+    // (a call, here and below, since it costs much to prove what is dropped)
+    drop(terms);
+    found
 }
 
 /// The module that the items of a file are, which stand in it one behind the other, with the items of the library units
@@ -60,7 +69,35 @@ pub fn module_of_items(alloc: Global, terms: &Terms, names: &mut Names) -> Resul
     ensures grows { (more : List (List ℕ)) × (names.new ≡ names.old ++ more) }
 {
     let units = read_units(alloc, names)?;
-    let entries = join(alloc, terms, &units)?;
-    check_items(alloc, terms, &entries, names)?;
-    Ok(module_of(alloc, names, terms, &entries)?)
+    let found = module_with(alloc, terms, &units, names);
+    drop(units);
+    found
+}
+
+// The module that the items of a file are, with those of these units.
+fn module_with(alloc: Global, terms: &Terms, units: &Units, names: &Names) -> Result<Module, Fault>
+    requires { Rises terms.now }
+    ensures found { IfOk result (λ found. HasNoFault names.now terms.now (entries (items_of units.now) terms.now) × (found ≡ module_of names.now terms.now (entries (items_of units.now) terms.now))) }
+    ensures refused { IfErr result (λ fault. IsRefusal (IsFirstOf (HasFault names.now terms.now (entries (items_of units.now) terms.now))) fault) }
+{
+    let entries = join(alloc, terms, units)?;
+    let found = module_of_entries(alloc, terms, &entries, names);
+    drop(entries);
+    found
+}
+
+// The same by the entries of the file and the units.
+fn module_of_entries(
+    alloc: Global,
+    terms: &Terms,
+    entries: &[Entry<'_>],
+    names: &Names,
+) -> Result<Module, Fault>
+    requires terms { Rises terms.now }
+    requires entries { AreInOrder (entry_values entries.now) }
+    ensures found { IfOk result (λ found. HasNoFault names.now terms.now (entry_values entries.now) × (found ≡ module_of names.now terms.now (entry_values entries.now))) }
+    ensures refused { IfErr result (λ fault. IsRefusal (IsFirstOf (HasFault names.now terms.now (entry_values entries.now))) fault) }
+{
+    check_items(alloc, terms, entries, names)?;
+    Ok(module_of(alloc, names, terms, entries)?)
 }

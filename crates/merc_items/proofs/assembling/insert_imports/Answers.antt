@@ -1,8 +1,8 @@
 use Rattle.std.proofs.Common.{ap, sym, ◌∙◌}
 use Rattle.merc_entries.specs.Entries.{imports, with_units}
 use Rattle.merc_items.proofs.Assembled.{units_step, units_past}
-use Rattle.merc_items.proofs.assembling.units_of.Goals as goal
-use Rattle.merc_items.proofs.assembling.units_of.Goals.{in-Some+in_ok-imports+in_ok-insert_all, in_default}
+use Rattle.merc_items.proofs.assembling.insert_imports.Goals as goal
+use Rattle.merc_items.proofs.assembling.insert_imports.Goals.{in-Some+in_ok-imports+in_ok-insert_all, in_default}
 
 pub loop-index-preserved : goal.loop-index-preserved
 loop-index-preserved c =

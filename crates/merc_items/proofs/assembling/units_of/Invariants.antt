@@ -1,8 +1,0 @@
-use Rattle.std.proofs.Common.{◌≡◌, drop}
-use Rattle.std.specs.List.{flat_map}
-use Rattle.merc_item_forms.specs.Items.{item_of}
-use Rattle.merc_entries.specs.Entries.{imports, units_of, with_units}
-use Rattle.merc_items.proofs.assembling.units_of.Given as goal
-
-abbrev pub invariant-loop-index : goal.invariant-loop-index
-invariant-loop-index l = with_units l.units (flat_map (λ term. imports (item_of term)) (drop l.index l.terms)) ≡ units_of l.terms
