@@ -4,8 +4,10 @@ ghost use Rattle.merc_base.specs.Names.{fixed_names};
 ghost use Rattle.merc_check.specs.Accepted.{AreGraded};
 ghost use Rattle.merc_check.specs.Checked.{IsAccepted};
 ghost use Rattle.merc_transfer.specs.Loading.{file_limit};
+ghost use Rattle.merc_grading.specs.Faults.{procedures_of};
+ghost use Rattle.merc_top.specs.Checking.{check_lines};
 ghost use Rattle.merc_top.specs.Output.{IsCheckDue, too_long_line};
-ghost use Rattle.merc_transfer.specs.Statuses.{too_long_status, usage_status};
+ghost use Rattle.merc_transfer.specs.Statuses.{accepted_status, too_long_status, usage_status};
 ghost use Rattle.merc_top.specs.Words.{usage_line};
 ghost use Rattle.merc_top.specs.Counting.{Counts};
 ghost use Rattle.merc_top.specs.Due.{Finds, IsFaultDue, IsRequestFound, IsSolveFound};
@@ -81,8 +83,13 @@ fn find_run(
 {
     let mut names = Names::new(alloc);
     match check(alloc, text, &mut names) {
-        Ok(checked) => find_goal(alloc, names, &checked, goal, steps, *most),
+        Ok(checked) => {
+            let found = find_goal(alloc, names, &checked, goal, steps, *most);
+            drop(checked);
+            found
+        }
         Err(fault) => {
+            drop(names);
             let due = fault_due(alloc, statuses::MODULE_REFUSED, name.bytes(), fault)?;
             Ok(Found::Lines(due))
         }
@@ -107,6 +114,7 @@ fn find_goal(
             Ok(Found::Run(ready))
         }
         Err(fault) => {
+            drop(names);
             let due = fault_due(alloc, statuses::GOAL_REFUSED, b"goal", fault)?;
             Ok(Found::Lines(due))
         }
@@ -140,12 +148,27 @@ fn check_due(alloc: Global, name: &Text, text: &Text) -> Result<Due, NoMemory>
 {
     let mut names = Names::new(alloc);
     match check(alloc, text, &mut names) {
-        Ok(checked) => Ok(Due {
-            status: statuses::ACCEPTED,
-            lines: check_lines(alloc, &names, checked.module(), checked.trees())?,
-        }),
-        Err(fault) => fault_due(alloc, statuses::MODULE_REFUSED, name.bytes(), fault),
+        Ok(checked) => {
+            let due = accepted_due(alloc, &names, &checked);
+            drop(checked);
+            drop(names);
+            due
+        }
+        Err(fault) => {
+            drop(names);
+            fault_due(alloc, statuses::MODULE_REFUSED, name.bytes(), fault)
+        }
     }
+}
+
+// What is due for the check of a file that is accepted.
+fn accepted_due(alloc: Global, names: &Names, checked: &Checked) -> Result<Due, NoMemory>
+    ensures { IfOk result (λ due. (length (procedures_of checked.now.module.preds) ≤ length checked.now.trees → due.lines ≡ check_lines names.now checked.now.module checked.now.trees) × (due.status ≡ accepted_status)) }
+{
+    Ok(Due {
+        status: statuses::ACCEPTED,
+        lines: check_lines(alloc, names, checked.module(), checked.trees())?,
+    })
 }
 
 // What is due for a request whose file has this text.
@@ -225,8 +248,16 @@ pub fn answer<R: Threads + Wait, S: Shelf, K: Sink, G: Gate + Sync>(
     ensures counts { Counts words.now (S.files shelf.old) (S.read_faults shelf.old) (S.read_faults shelf.new) (K.write_faults sink.old) (K.write_faults sink.new) result ticks.new }
 {
     match find_due(alloc, words, shelf) {
-        Ok(Found::Lines(due)) => status_told(put_due(sink, &due)),
-        Ok(Found::Run(ready)) => status_told(run(alloc, &ready, sink, ticks)),
+        Ok(Found::Lines(due)) => {
+            let told = put_due(sink, &due);
+            drop(due);
+            status_told(told)
+        }
+        Ok(Found::Run(ready)) => {
+            let told = run(alloc, &ready, sink, ticks);
+            drop(ready);
+            status_told(told)
+        }
         Err(Trouble::Unread) => statuses::UNREAD,
         Err(Trouble::NoMemory) => statuses::NO_MEMORY,
     }

@@ -7,6 +7,7 @@ ghost use Rattle.merc_grading.specs.Grading.{category_at};
 ghost use Rattle.merc_top.specs.Checking.{check_lines, place_text, places_text, procedure_line, procedure_lines};
 ghost use Rattle.merc_solving.specs.Lines.{line};
 
+use crate::lines::push_number;
 use merc_base::{Category, Name, Names, NoMemory, Sequence, Text};
 use merc_graded_tree::{NodeRef, Nodes};
 use merc_tree::{Arg, ModeDecl, Module, PredDecl};
@@ -38,7 +39,7 @@ fn procedures_line(alloc: Global, count: usize) -> Result<Text, NoMemory>
     ensures { IfOk result (λ text. text ≡ line (codes "procedures " ++ decimal count)) }
 {
     let mut text = Text::of(alloc, b"procedures ")?;
-    text.push(count.to_string(alloc)?.as_bytes())?;
+    push_number(alloc, count as u64, &mut text)?;
     text.push(b"\n")?;
     Ok(text)
 }

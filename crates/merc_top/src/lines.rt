@@ -1,5 +1,7 @@
 //! The lines of refusals, each with its line end.
-ghost use Rattle.std.specs.Prelude.{◌≡◌, IfOk};
+ghost use Rattle.std.specs.Prelude.{◌≡◌, ◌++◌, IfOk, OnOk};
+ghost use Rattle.std.specs.Fmt.{decimal};
+ghost use Rattle.merc_base.specs.Refusal.{refusal_text};
 ghost use Rattle.merc_top.specs.Output.{refusal_line, too_long_line};
 
 use merc_base::{NoMemory, Refusal, Text};
@@ -10,12 +12,38 @@ pub fn refusal_line(alloc: Global, name: &[u8], refusal: &Refusal) -> Result<Tex
     ensures { IfOk result (λ line. line ≡ refusal_line name.now refusal.now) }
 {
     let mut line = Text::of(alloc, name)?;
+    match push_refusal(alloc, refusal, &mut line) {
+        Ok(()) => Ok(line),
+        Err(refused) => {
+            drop(line);
+            Err(refused)
+        }
+    }
+}
+
+// Puts what the line of a refusal has behind the name.
+fn push_refusal(alloc: Global, refusal: &Refusal, line: &mut Text) -> Result<(), NoMemory>
+    ensures { OnOk result (line.new ≡ refusal_line line.old refusal.now) }
+{
     line.push(b":")?;
-    line.push(refusal.place.line.to_string(alloc)?.as_bytes())?;
+    push_number(alloc, u64::from(refusal.place.line), line)?;
     line.push(b": ")?;
-    line.push(refusal.to_string(alloc)?.as_bytes())?;
-    line.push(b"\n")?;
-    Ok(line)
+    push_rule(alloc, refusal, line)?;
+    line.push(b"\n")
+}
+
+// Puts the rule that is broken behind a text.
+fn push_rule(alloc: Global, refusal: &Refusal, line: &mut Text) -> Result<(), NoMemory>
+    ensures { OnOk result (line.new ≡ line.old ++ refusal_text refusal.now) }
+{
+    line.push(refusal.to_string(alloc)?.as_bytes())
+}
+
+/// Puts a number behind a text.
+pub fn push_number(alloc: Global, number: u64, line: &mut Text) -> Result<(), NoMemory>
+    ensures { OnOk result (line.new ≡ line.old ++ decimal number) }
+{
+    line.push(number.to_string(alloc)?.as_bytes())
 }
 
 /// The line for a file of more bytes than the limit.

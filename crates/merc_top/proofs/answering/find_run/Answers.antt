@@ -11,15 +11,15 @@ pub check-requires-clause-length : goal.check-requires-clause-length
 unfolding file_limit
 check-requires-clause-length c = let within : length c.args.text.now ≤ 1048576 = c.requires in omega (arith, within)
 
-pub find_goal-requires : goal.find_goal-requires
-find_goal-requires c = (
+pub find_goal-found-requires : goal.find_goal-found-requires
+find_goal-found-requires c = (
   c.args.text.now,
   subst (λ (names : List (List ℕ)). IsAccepted names c.check.new.names c.args.text.now c.in-Ok.checked.items c.in-Ok.checked.module) c.new-names.ensures c.in-Ok.ensures.accepted,
 )
 
 pub returns-in-Ok : goal.returns-in-Ok
 returns-in-Ok c =
-    c.find_goal.ensures c.args.name.now c.args.text.now
+    c.find_goal-found.ensures c.args.name.now c.args.text.now
     (subst (λ (names : List (List ℕ)). IsAccepted names c.check.new.names c.args.text.now c.in-Ok.checked.items c.in-Ok.checked.module) c.new-names.ensures c.in-Ok.ensures.accepted)
     c.in-Ok.ensures.graded
 

@@ -1,21 +1,18 @@
--- The code that is loaded is that of the module and of the goal.
-use Rattle.std.proofs.Common.{◌∙◌, ap, refl}
-use Rattle.merc_tree.specs.declared.declarations.Module.{Module}
-use Rattle.merc_code.specs.ProgramCode.{codes_in}
-use Rattle.merc_top.proofs.ReadyLemmas.{yields-asked}
+-- The code that is loaded makes the run.
+use Rattle.std.proofs.Common.{refl}
 use Rattle.merc_top.proofs.preparing.prepare.Goals as goal
 
-pub returns : goal.returns
-returns c = λ tree one. record {
-  names_are = c.names.view_is;
-  variables_are = c.variables.view_is;
-  most_is = refl;
-  makes = record {
-    codes = codes_in c.in_ok-code.code;
-    query = c.in_ok-code.code.query;
-    program = c.in_ok-load.ensures;
-    yields =
-        yields-asked c.args.steps c.as_slice-preds.result.now c.args.checked.now.module.preds c.trees.result.now c.args.checked.now.trees c.in-Some.goal tree c.args.query.trees c.args.query.answers c.in_ok-code.code
-        (c.as_slice-preds.ensures ∙ ap (λ (found : Module). found.preds) c.module.ensures) c.trees.ensures c.in-Some.ensures one c.in_ok-code.ensures.procedures c.in_ok-code.ensures.query;
-  };
-}
+pub returns-in-Ok : goal.returns-in-Ok
+returns-in-Ok c = λ tree one.
+    let made = c.in-Ok.ensures tree one c.args.steps in
+    record {
+      names_are = refl;
+      variables_are = refl;
+      most_is = refl;
+      makes = record {
+        codes = made.0;
+        query = made.1;
+        program = made.2;
+        yields = made.3;
+      };
+    }
