@@ -4,6 +4,7 @@
 # times over, and prints the least processor time of both and their ratio, which is about 4 where the time is linear and
 # about 16 where it is quadratic. The last item of a text does not end, so that the text is read and refused, and nothing
 # else is done with it.
+# PROGRAM is looked for from the top of the repository. bin/merc is what its sources give where tools/program --check says so.
 # Status 0: the ratio is below 5. Status 1: it is 5 or more. Status 2: nothing was measured.
 cd -- "$(dirname -- "$0")/.." || exit 2
 LC_ALL=C
@@ -43,6 +44,12 @@ read_text() {
     [ "$?" -eq 4 ]
 }
 
+# Whether what was told last is a refusal in the last line of a text.
+is_read_whole() {
+    last=$(($(wc -l <"$1") + 1))
+    grep -q "^$1:$last: " "$work/output"
+}
+
 # Prints the seconds of processor time that a round of runs over a text takes.
 round_seconds() {
     (
@@ -69,7 +76,9 @@ trap 'rm -rf "$work"' EXIT
 trap 'exit 2' INT TERM HUP
 
 { write_text 262144 >"$work/short.m" && write_text 1048576 >"$work/long.m"; } || fail "the texts cannot be written"
-{ read_text "$work/short.m" && read_text "$work/long.m"; } || fail "$program did not read a text to its end"
+for text in "$work/short.m" "$work/long.m"; do
+    { read_text "$text" && is_read_whole "$text"; } || fail "$program did not read a text to its end"
+done
 short=$(seconds "$work/short.m")
 long=$(seconds "$work/long.m")
 awk -v short="$short" -v long="$long" -v runs="$runs" '
