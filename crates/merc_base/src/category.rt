@@ -22,7 +22,7 @@ pub enum Category {
 }
 
 /// The most solutions that a category allows.
-#[derive(Clone, Copy, PartialEq, Eq, PartialOrd, Ord)]
+#[derive(Clone, Copy)]
 pub enum Most {
     Zero,
     One,

@@ -3,7 +3,7 @@ ghost use Rattle.std.specs.Prelude.{◌≡◌};
 ghost use Rattle.merc_base.specs.Places.{place_of};
 
 /// Bytes of a text that stand side by side.
-#[derive(Clone, Copy, PartialEq, Eq, PartialOrd, Ord)]
+#[derive(Clone, Copy)]
 pub struct Span {
     /// The index of the first byte, from 0.
     pub first: u32,
@@ -14,7 +14,7 @@ pub struct Span {
 }
 
 /// A place in a text.
-#[derive(Clone, Copy, PartialEq, Eq, PartialOrd, Ord)]
+#[derive(Clone, Copy)]
 pub struct Place {
     /// The index of a byte, from 0.
     pub byte: u32,

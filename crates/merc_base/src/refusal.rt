@@ -9,7 +9,7 @@ use std::alloc::{AllocError, AllocFailed};
 use std::fmt;
 
 /// The rules that a program and a goal must keep, by number from 1.
-#[derive(Clone, Copy, PartialEq, Eq, PartialOrd, Ord)]
+#[derive(Clone, Copy)]
 pub enum Rule {
     /// 1: each token is well formed.
     BadToken = 1,
@@ -79,7 +79,7 @@ impl Rule {
 }
 
 /// What stands outside the supported part of the language.
-#[derive(Clone, Copy, PartialEq, Eq, PartialOrd, Ord)]
+#[derive(Clone, Copy)]
 pub enum Construct {
     Character,
     Float,
@@ -116,7 +116,7 @@ impl Construct {
 }
 
 /// What the compiler limits.
-#[derive(Clone, Copy, PartialEq, Eq, PartialOrd, Ord)]
+#[derive(Clone, Copy)]
 pub enum LimitName {
     /// The bytes of the goal's text.
     GoalText,

@@ -5,7 +5,7 @@ ghost use Rattle.merc_grading.specs.Categories.{arm_category, arms_category, bot
 
 use merc_base::{Category, Most};
 
-/// One goal and then another.
+/// The category of one goal and then another.
 pub fn then_category(first: Category, next: Category) -> Category
     ensures { result ≡ then_category first next }
 {
@@ -14,7 +14,7 @@ pub fn then_category(first: Category, next: Category) -> Category
     category(can_fail, both_most(first.most(), next.most()))
 }
 
-/// One goal or another.
+/// The category of one goal or another.
 pub fn or_category(one: Category, other: Category) -> Category
     ensures { result ≡ or_category one other }
 {
@@ -22,7 +22,7 @@ pub fn or_category(one: Category, other: Category) -> Category
     category(can_fail, sum_most(one.most(), other.most()))
 }
 
-/// One arm of a switch, or one of others that are of this category together.
+/// The category of arms of a switch together: of one arm, and of others whose category together is `others`.
 pub fn arm_category(arm: Category, others: Category) -> Category
     ensures { result ≡ arm_category arm others }
 {
@@ -30,14 +30,14 @@ pub fn arm_category(arm: Category, others: Category) -> Category
     category(can_fail, greater_most(arm.most(), others.most()))
 }
 
-/// A switch whose arms are of this category together. It is complete if each symbol of the type has an arm.
+/// The category of a switch whose arms are of this category together. It is complete if each symbol of the type has an arm.
 pub fn switch_category(is_complete: bool, arms: Category) -> Category
     ensures { (all : List Category) → arms ≡ arms_category all → result ≡ switch_category is_complete all }
 {
     category(!is_complete || arms.can_fail(), arms.most())
 }
 
-/// An if-then-else.
+/// The category of an if-then-else.
 pub fn conditional_category(
     condition: Category,
     then_part: Category,
@@ -53,7 +53,7 @@ pub fn conditional_category(
     category(can_fail, most)
 }
 
-/// The negation of a goal.
+/// The category of the negation of a goal.
 pub fn negation_category(inner: Category) -> Category
     ensures { result ≡ negation_category inner }
 {
@@ -65,7 +65,7 @@ pub fn negation_category(inner: Category) -> Category
     }
 }
 
-/// A goal of which one solution is enough.
+/// The category of a goal of which one solution is enough.
 pub fn once(inner: Category) -> Category
     ensures { result ≡ once inner }
 {
@@ -141,7 +141,7 @@ fn decision_most(condition: Most, then_part: Most, else_part: Most) -> Most
     }
 }
 
-/// Whether a goal has no solution.
+/// Whether a goal that has at most so many solutions has none.
 pub fn is_zero(most: Most) -> bool
     ensures { result ≡ is_zero most }
 {
@@ -151,7 +151,7 @@ pub fn is_zero(most: Most) -> bool
     }
 }
 
-/// Whether a goal can have more than one solution.
+/// Whether a goal that has at most so many solutions can have more than one.
 pub fn is_many(most: Most) -> bool
     ensures { result ≡ is_many most }
 {

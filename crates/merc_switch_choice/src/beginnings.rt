@@ -24,7 +24,7 @@ pub(crate) fn splits_of(alloc: Global, goal: &NodeRef<'_>) -> Result<Vec<(Var, S
     done.and(Ok(splits))
 }
 
-// Puts the splits with which a goal begins to none, where there is no rest.
+// Puts the splits with which a goal begins into an empty list. `rest` is room to work in, empty before and after.
 fn put_splits<'a>(
     goal: &NodeRef<'a>,
     rest: &mut Vec<NodeRef<'a>>,

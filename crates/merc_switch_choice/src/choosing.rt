@@ -82,7 +82,7 @@ fn open_among(
     add_open(bound, used, disjuncts, numbers, &mut opened).and(Ok(opened))
 }
 
-// Adds those of the variables of these numbers on which disjuncts can be a switch to none.
+// Adds to an empty list those of the variables of these numbers on which disjuncts can be a switch.
 fn add_open(
     bound: &VarSet,
     used: &VarSet,

@@ -244,7 +244,7 @@ fn counted_anew<'a>(
     done.and(Ok(counted))
 }
 
-// Takes out the groups, and puts each to none, counted anew and taken out of the counts.
+// Moves the groups to an empty list, in their order: each counted anew, and taken out of the counts.
 fn count_anew<'a>(
     alloc: Global,
     groups: &mut Vec<Sequence<Disjunct<'a>>>,

@@ -54,7 +54,7 @@ impl VarCounts {
         self.add_counted(&mut variables).and(Ok(variables))
     }
 
-    // Adds the variables whose count is above 0 to none.
+    // Adds the variables whose count is above 0 to an empty set.
     fn add_counted(&self, variables: &mut VarSet) -> Result<(), NoMemory>
         requires { variables.old ≡ [] }
         ensures { OnOk result ((variable : ℕ) → among variables.new variable ≡ nat_lt 0 (count_of self.now variable)) }

@@ -129,7 +129,7 @@ pub fn bound_inputs(alloc: Global, inputs: &[Arg]) -> Result<VarSet, NoMemory>
     add_inputs(inputs, &mut bound).and(Ok(bound))
 }
 
-// Adds the arguments that a mode has bound before to none.
+// Adds the arguments that a mode has bound before the call to an empty set.
 fn add_inputs(inputs: &[Arg], bound: &mut VarSet) -> Result<(), NoMemory>
     requires { bound.old ≡ [] }
     ensures { OnOk result ((variable : ℕ) → among bound.new variable ≡ bound_at inputs.now variable) }
