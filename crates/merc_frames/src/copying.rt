@@ -5,8 +5,8 @@ ghost use Rattle.merc_frames.specs.View.{frame_of, Grows};
 use crate::Slot;
 use merc_base::NoMemory;
 
-// So many slots more than a frame needs are made where the list is too short, so that not each call makes some. They are few,
-// since going back takes them away again.
+// A list that is too short is made longer by so many slots more than the frame needs, so that the next calls find room. More
+// would be in vain: going back takes them away.
 const FEW: usize = 8;
 
 /// Makes the list long enough for a frame, by empty slots behind it. Where memory is refused, nothing changes.

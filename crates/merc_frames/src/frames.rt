@@ -474,8 +474,7 @@ impl Frames {
         }
     }
 
-    /// What all slots hold, those of each frame hold. It does nothing, and tells this to the proofs of those that see only
-    /// the value of frames.
+    /// A law for proofs, which does nothing at run time: what is true of all slots is true of those of each frame.
     #[inline(always)]
     pub fn held(&self)
         ensures { (may_hold : ℕ → Slot → Bool) (cells : ℕ) → AreHeld (Passes may_hold) cells self.now → AreStacksHeld (Passes may_hold) cells self.now.stacks }

@@ -1,7 +1,7 @@
 //! What is kept of frames that are not the current one.
 
-// A caller's frame: its slots, where the caller goes on, and how many saved frames stood when it was saved below
-// which the frame of its own caller is.
+// A caller's frame: where its slots begin, how many they are, and the place at which the caller goes on. The last of the
+// first `parent` saved frames is the frame of its own caller; there is none where `parent` is 0.
 #[derive(Clone, Copy, Drop)]
 pub(crate) struct Saved {
     pub(crate) base: usize,

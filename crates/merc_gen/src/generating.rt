@@ -81,14 +81,14 @@ fn next_number(mark: usize) -> Result<usize, NoMemory>
     }
 }
 
-// A choice point that goes on at a place.
+// Puts a choice point in front that goes on at a place.
 fn put_branch(behind: usize, code: &mut Suffix) -> Result<(), NoMemory>
     ensures { OnOk result (code.new ≡ Instruction.Try (length code.old - behind) ∷ code.old) }
 {
     code.put_first(Instruction::Try(code.len().saturating_sub(behind)))
 }
 
-// A jump to a place.
+// Puts a jump to a place in front.
 fn put_jump(behind: usize, code: &mut Suffix) -> Result<(), NoMemory>
     ensures { OnOk result (code.new ≡ Instruction.Jump (length code.old - behind) ∷ code.old) }
 {
@@ -186,7 +186,7 @@ fn start_disjunction<'a>(
     }
 }
 
-// The last of disjuncts before others.
+// Puts the code of the last disjunct that is left in front of the others' code.
 fn emit_disjunct<'a>(
     goals: Parts<'a>,
     mark: usize,
@@ -228,7 +228,7 @@ fn emit_condition<'a>(
     put_jump(behind, code)
 }
 
-// What stands behind a condition.
+// The instruction behind a condition: a commit where it answers at most once, else one that softens its choice point.
 fn leaving(once: bool, mark: usize) -> Instruction
     ensures { result ≡ leaving once mark }
 {
@@ -283,7 +283,7 @@ fn start_switch<'a>(
     Ok(())
 }
 
-// The last of the arms before those whose code is there, or the switch.
+// Puts the code of the last arm that is left in front; the switch itself where none is left.
 fn emit_arm<'a>(
     alloc: Global,
     arms: Arms<'a>,

@@ -144,7 +144,7 @@ fn push_all<'a>(goals: Parts<'a>, left: &mut Vec<NodeRef<'a>>) -> Result<(), NoM
     Ok(())
 }
 
-// Those of arms that have symbols.
+// Leaves the arms of a switch to be looked at, each that has a symbol.
 fn push_arms<'a>(
     symbols: &[Symbol],
     arms: Parts<'a>,

@@ -63,6 +63,10 @@ fn next_root(root: u32) -> Result<u32, NoMemory>
 
 /// The line of an answer: `V = value` for each of these variables, by their names, with the roots of the block as their
 /// values in order, joined by a comma and a blank; `true` where there is none.
+///
+/// # Errors
+///
+/// `NoMemory` where memory was refused.
 pub fn solution_line(
     alloc: Global,
     names: &Names,
@@ -81,6 +85,10 @@ pub fn solution_line(
 }
 
 /// The end line of a run that has so many solutions and no further one.
+///
+/// # Errors
+///
+/// `NoMemory` where memory was refused.
 pub fn solutions_line(alloc: Global, count: u64) -> Result<Text, NoMemory>
     ensures { (names : List (List ℕ)) → IfOk result (λ line. line ≡ end_line names count RunDone) }
 {
@@ -91,6 +99,10 @@ pub fn solutions_line(alloc: Global, count: u64) -> Result<Text, NoMemory>
 }
 
 /// The end line of a run that is stopped behind so many solutions.
+///
+/// # Errors
+///
+/// `NoMemory` where memory was refused.
 pub fn stopped_line(alloc: Global, count: u64) -> Result<Text, NoMemory>
     ensures { (names : List (List ℕ)) → IfOk result (λ line. line ≡ stopped_line names count) }
 {
@@ -101,6 +113,10 @@ pub fn stopped_line(alloc: Global, count: u64) -> Result<Text, NoMemory>
 }
 
 /// The end line of a run with an exception of this text.
+///
+/// # Errors
+///
+/// `NoMemory` where memory was refused.
 pub fn exception_line(alloc: Global, names: &Names, text: Name) -> Result<Text, NoMemory>
     ensures { (count : ℕ) → IfOk result (λ line. line ≡ end_line names.now count (RunRaised text)) }
 {
@@ -111,6 +127,10 @@ pub fn exception_line(alloc: Global, names: &Names, text: Name) -> Result<Text, 
 }
 
 /// The end line of a run that passed its step limit.
+///
+/// # Errors
+///
+/// `NoMemory` where memory was refused.
 pub fn step_limit_line(alloc: Global) -> Result<Text, NoMemory>
     ensures { (names : List (List ℕ)) (count : ℕ) → IfOk result (λ line. line ≡ end_line names count LimitPassed) }
 {

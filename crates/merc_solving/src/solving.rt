@@ -33,7 +33,11 @@ pub struct Ready {
 }
 
 /// Runs a goal, and writes the line of each answer as it comes, and the end line last. Behind the last answer that is wanted
-/// nothing further is looked for. Answers the status of the run.
+/// nothing further is looked for. Answers the status of the run. The sink's count of faults can still rise.
+///
+/// # Errors
+///
+/// Why the lines were not all written: a write failed, or memory was refused. A front of the text was written.
 pub fn run<K: Sink>(
     alloc: Global,
     ready: &Ready,

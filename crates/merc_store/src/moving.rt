@@ -16,6 +16,10 @@ use merc_heap::Mark;
 
 impl Store {
     /// Begins anew: no cells, a current frame of so many empty slots, no callers and no choice points.
+    ///
+    /// # Errors
+    ///
+    /// `NoMemory` where memory was refused.
     pub fn open(&mut self, size: usize) -> Result<(), NoMemory>
         ensures { OnOk result (self.new ≡ record { cells = []; stacks = record { current = empty_frame size; callers = []; choices = [] } }) }
     {
@@ -26,6 +30,10 @@ impl Store {
 
     /// A call: the current frame is the newest caller's, which goes on at `place`. The new one has `size` slots, with what
     /// is passed over what is left there, which is nothing where it is emptied.
+    ///
+    /// # Errors
+    ///
+    /// `NoMemory` where memory was refused.
     #[inline(always)]
     pub fn call(
         &mut self,
@@ -42,6 +50,10 @@ impl Store {
     }
 
     /// A call whose new frame, which is as by `call`, takes the place of the current one.
+    ///
+    /// # Errors
+    ///
+    /// `NoMemory` where memory was refused.
     #[inline(always)]
     pub fn call_last(
         &mut self,
@@ -72,6 +84,10 @@ impl Store {
     }
 
     /// Goes back to the newest caller. There has to be one. What these own slots hold is put into its slots, one for one.
+    ///
+    /// # Errors
+    ///
+    /// `NoMemory` where memory was refused.
     #[inline(always)]
     pub fn give_back(&mut self, own: &[Var], outs: &[Var]) -> Result<(), NoMemory>
         requires there { self.old.stacks.callers ≡ [] → ⊥ }
@@ -111,6 +127,10 @@ impl Store {
     }
 
     /// Makes a choice point of the frame and its callers, which goes on at `place` over the cells that there are.
+    ///
+    /// # Errors
+    ///
+    /// `NoMemory` where memory was refused.
     pub fn attempt(&mut self, place: usize) -> Result<(), NoMemory>
         ensures { OnOk result (self.new ≡ with_choices self.old (GoesOn place (length self.old.cells) self.old.stacks.current self.old.stacks.callers ∷ self.old.stacks.choices)) }
     {

@@ -85,7 +85,7 @@ impl Store {
         }
     }
 
-    // Of any literal. It is not put into what calls it, which would become too large.
+    // Tests a variable's value against any literal. Not inlined: its callers would become too large.
     #[inline(never)]
     fn literal_apart(&self, whole: Var, symbol: &Symbol) -> Done
         requires { whole < length self.now.stacks.current }
@@ -200,7 +200,7 @@ pub(crate) fn fill(frames: &mut Frames, variables: &[Var], fields: &[slot::Slot]
     }
 }
 
-// The same of more. It is not put into what calls it, which would become too large.
+// Gives the fields to any number of variables. Not inlined: its callers would become too large.
 #[inline(never)]
 fn fill_more(frames: &mut Frames, variables: &[Var], fields: &[slot::Slot])
     requires { AreSlots (length frames.old.stacks.current) variables.now }

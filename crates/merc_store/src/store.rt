@@ -72,8 +72,7 @@ impl Store {
         }
     }
 
-    /// Each word of the frames leads to a cell that is there. It does nothing, and tells this to the proofs of those that
-    /// see a store's value alone.
+    /// A law for proofs, which does nothing at run time: each word of the frames leads to a cell that is there.
     #[inline(always)]
     pub fn sound(&self)
         ensures { IsSound self.now.cells self.now.stacks }
@@ -81,7 +80,7 @@ impl Store {
         self.frames.held();
     }
 
-    /// Each cell leads to lower ones alone. It does nothing, and tells this to the proofs, as `sound` does.
+    /// A law for proofs, which does nothing at run time: each cell leads to lower ones alone.
     #[inline(always)]
     pub fn lower(&self)
         ensures { AreLower self.now.cells }

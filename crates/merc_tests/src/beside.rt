@@ -1,11 +1,16 @@
-//! Calls that stand beside the program, each once with ample memory. Their clauses would be met by bodies that always
-//! answer that memory was refused, and no run of the program reaches them.
+//! Calls of which no run of the program shows that they succeed, each once with ample memory: bodies that always answer that
+//! memory was refused would meet their clauses. And `write_text`, of a value with shared parts.
 
 use merc_base::{Name, Names, Span, Text};
 use merc_goal_tree::{Nodes, Predicate, SimpleGoal, Vars};
+use merc_heap::Heap;
+use merc_items::read_module;
+use merc_known::Known;
+use merc_segments::thaw;
 use merc_term_text::write_term;
 use merc_terms::read_goal_text;
-use merc_tree::{TypeExpr, TypeExprs, TypeShape};
+use merc_tree::{Module, TypeExpr, TypeExprs, TypeShape};
+use merc_type_check::{DeclaredTypes, typing};
 use merc_type_expr::{Subst, unify};
 use merc_value::{Block, Word, equal, write_text};
 use std::alloc::Global;
@@ -102,5 +107,54 @@ fn joins_goals(rt: HostRuntime) -> Result<(), Fail> {
     }
     let only = nodes.into_only().expect(&rt, "one goal");
     assert_eq!(rt; only.as_ref().part_count(), 4);
+    Ok(())
+}
+
+#[test]
+fn thaws_a_block(rt: HostRuntime) -> Result<(), Fail> {
+    let alloc = rt.alloc();
+    let mut block = Block::new(alloc);
+    block.cell(Name::MAYBE, &[Word::Int(1)])?;
+    block.cell(Name::COMMA, &[Word::Cell(0), Word::Cell(0)])?;
+    block.add_root(Word::Cell(1))?;
+    block.add_root(Word::Int(2))?;
+    let mut heap = Heap::new(alloc);
+    let words = thaw(&block, &mut heap)?;
+    assert_eq!(rt; words.len(), 2);
+    Ok(())
+}
+
+// A module with one predicate of its own.
+fn small_module(alloc: Global) -> Result<Module, Fail> {
+    let mut names = Names::new(alloc);
+    let text = Text::of(alloc, b":- module m.\n:- pred p is det.\np.\n")?;
+    match read_module(alloc, &text, &mut names) {
+        Ok(module) => Ok(module),
+        Err(_) => Err(Fail::new("no module")),
+    }
+}
+
+#[test]
+fn reads_a_module(rt: HostRuntime) -> Result<(), Fail> {
+    let module = small_module(rt.alloc())?;
+    assert_eq!(rt; module.own, 1);
+    Ok(())
+}
+
+#[test]
+fn finds_types(rt: HostRuntime) -> Result<(), Fail> {
+    let alloc = rt.alloc();
+    let module = small_module(alloc)?;
+    let known = Known::of(alloc, &module)?;
+    let declared = DeclaredTypes::of(alloc, &known)?;
+    let span = Span {
+        first: 0,
+        past: 1,
+        line: 1,
+    };
+    let mut nodes = Nodes::new(alloc);
+    nodes.push(SimpleGoal::True, span)?;
+    let goal = nodes.into_only().expect(&rt, "one goal");
+    assert!(rt; typing(alloc, &known, &declared, None, &goal.as_ref())?.is_some());
     Ok(())
 }

@@ -121,7 +121,7 @@ fn find_goal(
     }
 }
 
-// Why nothing can be said of what is due.
+/// Why nothing can be said of what is due.
 #[derive(Clone, Copy)]
 pub enum Trouble {
     /// A read failed, or the named file is not there.
@@ -226,8 +226,8 @@ fn find_due<S: Shelf>(alloc: Global, words: &[Text], shelf: &mut S) -> Result<Fo
 /// The counter, which is at 0 before, counts the steps of the run: where no read and no write failed and the status is
 /// that of a run, all of them up to its last answer that is told where it is stopped there, which specs/Counting.antt says.
 ///
-/// The taps get no event yet, and no conjunct enters the gate. The runtime is for the threads of later stages, under
-/// whose bounds the call need not return.
+/// The taps get no event yet, and no conjunct enters the gate. The runtime is for runs with several workers. Under its bounds
+/// the call need not return.
 pub fn answer<R: Threads + Wait, S: Shelf, K: Sink, G: Gate + Sync>(
     rt: &R,
     alloc: Global,

@@ -17,6 +17,10 @@ use std::alloc::Global;
 /// The lines of an accepted module whose procedures have these trees: each procedure of the file, in order, with its
 /// declared category and the one that its tree has, and last how many there are. The form of a line stands in
 /// docs/COMMANDS.md.
+///
+/// # Errors
+///
+/// `NoMemory` where memory was refused.
 pub fn check_lines(
     alloc: Global,
     names: &Names,

@@ -8,6 +8,10 @@ use merc_base::{NoMemory, Refusal, Text};
 use std::alloc::Global;
 
 /// The line of a refusal. The name is the file's, or `goal`.
+///
+/// # Errors
+///
+/// `NoMemory` where memory was refused.
 pub fn refusal_line(alloc: Global, name: &[u8], refusal: &Refusal) -> Result<Text, NoMemory>
     ensures { IfOk result (λ line. line ≡ refusal_line name.now refusal.now) }
 {
@@ -40,6 +44,10 @@ fn push_rule(alloc: Global, refusal: &Refusal, line: &mut Text) -> Result<(), No
 }
 
 /// Puts a number behind a text.
+///
+/// # Errors
+///
+/// `NoMemory` where memory was refused.
 pub fn push_number(alloc: Global, number: u64, line: &mut Text) -> Result<(), NoMemory>
     ensures { OnOk result (line.new ≡ line.old ++ decimal number) }
 {
@@ -47,6 +55,10 @@ pub fn push_number(alloc: Global, number: u64, line: &mut Text) -> Result<(), No
 }
 
 /// The line for a file of more bytes than the limit.
+///
+/// # Errors
+///
+/// `NoMemory` where memory was refused.
 pub fn too_long_line(alloc: Global, name: &[u8]) -> Result<Text, NoMemory>
     ensures { IfOk result (λ line. line ≡ too_long_line name.now) }
 {

@@ -19,6 +19,10 @@ use merc_solving::Ready;
 use std::alloc::Global;
 
 /// Makes ready the run of an accepted goal over an accepted module, in at most so many steps and with so many answers at most.
+///
+/// # Errors
+///
+/// `NoMemory` where memory was refused.
 pub fn prepare(
     alloc: Global,
     names: Names,

@@ -14,7 +14,11 @@ pub struct Due {
     pub lines: Sequence<Text>,
 }
 
-/// Writes lines that are due, and answers their status.
+/// Writes lines that are due, and answers their status. The count of faults of the sink can still rise.
+///
+/// # Errors
+///
+/// `Unwritten` where a write failed. A front of the lines was written.
 pub fn put_due<K: Sink>(sink: &mut K, due: &Due) -> Result<u8, Cut>
     requires { K.write_faults sink.old < 18446744073709551615 }
     ensures writes { Writes (text_of due.now.lines) (K.written sink.old) (K.written sink.new) (K.write_faults sink.old) (K.write_faults sink.new) result }

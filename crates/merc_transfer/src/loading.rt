@@ -31,7 +31,13 @@ impl From<NoMemory> for LoadFault {
 }
 
 /// The text of the file of this name. It is fetched from place 0 on, each piece behind the one before, until the
-/// shelf answers that nothing follows or until more bytes than the limit have come.
+/// shelf answers that nothing follows or until more bytes than the limit have come. The count of faults of the shelf can still
+/// rise.
+///
+/// # Errors
+///
+/// `TooLong` where the file has more than 1,048,576 bytes; `Unread` where a read failed or no such file is there; `NoMemory`
+/// where memory was refused.
 pub fn load<S: Shelf>(alloc: Global, shelf: &mut S, name: &Text) -> Result<Text, LoadFault>
     requires { S.read_faults shelf.old < 18446744073709551615 }
     ensures same { S.files shelf.new ≡ S.files shelf.old }

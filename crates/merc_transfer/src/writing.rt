@@ -29,7 +29,12 @@ impl From<NoMemory> for Cut {
     }
 }
 
-/// Writes a text, and the rest of it again where less was taken. No write follows one that failed.
+/// Writes a text, and the rest of it again where less was taken. No write follows one that failed. The count of faults of the
+/// sink can still rise.
+///
+/// # Errors
+///
+/// A write failed. A front of the text was written.
 pub fn put<K: Sink>(sink: &mut K, bytes: &[u8]) -> Result<(), WriteFault>
     requires { K.write_faults sink.old < 18446744073709551615 }
     ensures { Puts bytes.now (K.written sink.old) (K.written sink.new) (K.write_faults sink.old) (K.write_faults sink.new) result }
@@ -44,7 +49,11 @@ pub fn put<K: Sink>(sink: &mut K, bytes: &[u8]) -> Result<(), WriteFault>
     Ok(())
 }
 
-/// Writes lines in order, each as a piece of its own.
+/// Writes lines in order, each as a piece of its own. The count of faults of the sink can still rise.
+///
+/// # Errors
+///
+/// A write failed. A front of the text was written.
 pub fn put_lines<K: Sink>(sink: &mut K, lines: &[Text]) -> Result<(), WriteFault>
     requires { K.write_faults sink.old < 18446744073709551615 }
     ensures { Puts (flat_map (λ line. line) lines.now) (K.written sink.old) (K.written sink.new) (K.write_faults sink.old) (K.write_faults sink.new) result }
@@ -57,7 +66,11 @@ pub fn put_lines<K: Sink>(sink: &mut K, lines: &[Text]) -> Result<(), WriteFault
     Ok(())
 }
 
-/// Writes a line.
+/// Writes a line. The count of faults of the sink can still rise.
+///
+/// # Errors
+///
+/// `Unwritten` where a write failed. A front of the line was written.
 pub fn put_line<K: Sink>(sink: &mut K, line: &Text) -> Result<(), Cut>
     requires { K.write_faults sink.old < 18446744073709551615 }
     ensures { Writes line.now (K.written sink.old) (K.written sink.new) (K.write_faults sink.old) (K.write_faults sink.new) result }
