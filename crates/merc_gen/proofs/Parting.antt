@@ -13,7 +13,7 @@ use Rattle.merc_gen.specs.Turns.{node_turns, goal_turns, list_turns, joined_turn
 use Rattle.merc_gen.specs.declared.tasks.Task.{Task}
 use Rattle.merc_gen.specs.declared.tasks.Task.TheVariants.{Emit, Bare, Put, Branch, InTurn, Choose, Decide}
 use Rattle.merc_gen.proofs.Fronts.{front-then, node-front, condition-front, negated-front, disjuncts-front}
-use Rattle.merc_gen.proofs.Performing.{one_more, performs, skipped_is}
+use Rattle.merc_gen.proofs.Performing.{two_more, performs, skipped_is}
 use Rattle.merc_gen.proofs.Quieting.{turns-joined}
 use Rattle.merc_gen.proofs.Quieting as quieting
 
@@ -41,11 +41,10 @@ module _ (single : Procedure → Bool) where
       performs single (all_code single (nodes_of goals) mark) (suc (joined_turns (nodes_of goals))) tasks later (InTurn goals mark ∷ []) code code e
       (in_turn_is goals mark code) (omega (arith, turns-joined goals))
 
-  pub in_turn_step : (goals left : List Node) (last : Node) (mark : ℕ) (tasks between later : List Task) (code : Code) → goals ≡ left ++ last ∷ [] → between ≡ tasks ++ InTurn left mark ∷ []
-      → later ≡ between ++ Emit last mark ∷ [] → Performs single (in_turn_code single mark goals) (list_turns goals) tasks code later code
-  in_turn_step goals left last mark tasks between later code g e f =
-      performs single (in_turn_code single mark goals) (list_turns goals) tasks later (InTurn left mark ∷ Emit last mark ∷ []) code code
-      (one_more tasks between later (InTurn left mark ∷ []) (Emit last mark) e f)
+  pub in_turn_step : (goals left : List Node) (last : Node) (mark : ℕ) (tasks later : List Task) (code : Code) → goals ≡ left ++ last ∷ []
+      → later ≡ tasks ++ InTurn left mark ∷ Emit last mark ∷ [] → Performs single (in_turn_code single mark goals) (list_turns goals) tasks code later code
+  in_turn_step goals left last mark tasks later code g e =
+      performs single (in_turn_code single mark goals) (list_turns goals) tasks later (InTurn left mark ∷ Emit last mark ∷ []) code code e
       (sym (in_turn-last left last mark code) ∙ ap (λ l. in_turn_code single mark l code) (sym g)) (omega (arith, turns-last goals left last g))
 
   -- disjuncts
@@ -78,22 +77,21 @@ module _ (single : Procedure → Bool) where
       ∙ disjunct_is first mark (any_code single others mark []) code (any_code single others mark code) (disjuncts-front single others mark code)
       ∙ ap (disjunct_code single mark (length code) first) (any_is rest last mark code)
 
-  pub disjuncts_start : (goals left : List Node) (last : Node) (mark place : ℕ) (tasks between later : List Task) (code : Code) → goals ≡ left ++ last ∷ [] → place ≡ length code
-      → between ≡ tasks ++ Choose left mark place ∷ [] → later ≡ between ++ Emit last mark ∷ []
+  pub disjuncts_start : (goals left : List Node) (last : Node) (mark place : ℕ) (tasks later : List Task) (code : Code) → goals ≡ left ++ last ∷ [] → place ≡ length code
+      → later ≡ tasks ++ Choose left mark place ∷ Emit last mark ∷ []
       → Performs single (goal_code single (Disjunction (nodes_of goals)) mark) (joined_turns (nodes_of goals)) tasks code later code
-  disjuncts_start goals left last mark place tasks between later code g p e f =
-      performs single (any_code single (nodes_of goals) mark) (joined_turns (nodes_of goals)) tasks later (Choose left mark place ∷ Emit last mark ∷ []) code code
-      (one_more tasks between later (Choose left mark place ∷ []) (Emit last mark) e f)
+  disjuncts_start goals left last mark place tasks later code g p e =
+      performs single (any_code single (nodes_of goals) mark) (joined_turns (nodes_of goals)) tasks later (Choose left mark place ∷ Emit last mark ∷ []) code code e
       (ap (λ n. disjuncts_code single mark n left (node_code single last mark code)) p ∙ sym (any_is left last mark code) ∙ ap (λ l. any_code single (nodes_of l) mark code) (sym g))
       (omega (arith, turns-joined goals, turns-last goals left last g))
 
-  pub disjunct_step : (goals left : List Node) (last : Node) (mark behind place : ℕ) (tasks one two later : List Task) (code now : Code) → goals ≡ left ++ last ∷ [] → place ≡ length code
-      → one ≡ tasks ++ Choose left mark behind ∷ [] → two ≡ one ++ Branch place ∷ [] → later ≡ two ++ Emit last mark ∷ [] → now ≡ Jump (length code - behind) ∷ code
+  pub disjunct_step : (goals left : List Node) (last : Node) (mark behind place : ℕ) (tasks between later : List Task) (code now : Code) → goals ≡ left ++ last ∷ [] → place ≡ length code
+      → between ≡ tasks ++ Choose left mark behind ∷ [] → later ≡ between ++ Branch place ∷ Emit last mark ∷ [] → now ≡ Jump (length code - behind) ∷ code
       → Performs single (disjuncts_code single mark behind goals) (list_turns goals) tasks code later now
-  disjunct_step goals left last mark behind place tasks one two later code now g p e1 e2 e3 n =
+  disjunct_step goals left last mark behind place tasks between later code now g p e f n =
       let own = node_code single last mark in
       performs single (disjuncts_code single mark behind goals) (list_turns goals) tasks later (Choose left mark behind ∷ Branch place ∷ Emit last mark ∷ []) code now
-      (one_more tasks two later (Choose left mark behind ∷ Branch place ∷ []) (Emit last mark) (one_more tasks one two (Choose left mark behind ∷ []) (Branch place) e1 e2) e3)
+      (two_more tasks between later (Choose left mark behind ∷ []) (Branch place) (Emit last mark) e f)
       (ap (λ k. disjuncts_code single mark behind left (Try (length (own k) - place) ∷ own k)) n
       ∙ ap (λ m. disjuncts_code single mark behind left (Try (length (arm_code single mark behind last code) - m) ∷ arm_code single mark behind last code)) p
       ∙ sym (disjuncts-last left last mark behind code) ∙ ap (λ l. disjuncts_code single mark behind l code) (sym g))
@@ -114,35 +112,33 @@ module _ (single : Procedure → Bool) where
       ap (λ n. let own = inside (then_code (Jump n ∷ others)) in Mark mark ∷ Try (length own - length others) ∷ own) (skipped_is others front code e)
       ∙ ap (λ n. Mark mark ∷ Try n ∷ chosen others) (skipped_is (chosen others) (chosen []) others parts)
 
-  pub conditional_start : (condition then_part else_part : Node) (mark place : ℕ) (tasks between later : List Task) (code : Code) → place ≡ length code
-      → between ≡ tasks ++ Decide condition then_part mark place ∷ [] → later ≡ between ++ Emit else_part mark ∷ []
+  pub conditional_start : (condition then_part else_part : Node) (mark place : ℕ) (tasks later : List Task) (code : Code) → place ≡ length code
+      → later ≡ tasks ++ Decide condition then_part mark place ∷ Emit else_part mark ∷ []
       → Performs single (goal_code single (Conditional condition then_part else_part) mark) (goal_turns (Conditional condition then_part else_part)) tasks code later code
-  conditional_start condition then_part else_part mark place tasks between later code p e f =
+  conditional_start condition then_part else_part mark place tasks later code p e =
       let others = node_code single else_part mark code in
       performs single (goal_code single (Conditional condition then_part else_part) mark) (goal_turns (Conditional condition then_part else_part)) tasks later
-      (Decide condition then_part mark place ∷ Emit else_part mark ∷ []) code code
-      (one_more tasks between later (Decide condition then_part mark place ∷ []) (Emit else_part mark) e f)
+      (Decide condition then_part mark place ∷ Emit else_part mark ∷ []) code code e
       (ap (λ n. decided_code single condition then_part mark n others) p
       ∙ decided_is condition then_part mark (node_code single else_part mark []) code others (node-front single else_part mark code))
       (omega arith)
 
   -- a negation
 
-  negated_is : (goal : Node) (mark inner : ℕ) (code : Code) → inner ≡ suc mark → goal_code single (goal_of goal) inner (Commit mark ∷ Fail ∷ code) ≡ negated_code single goal mark code
-  negated_is (node goal outputs category span) mark inner code i = ap (λ m. goal_code single goal m (Commit mark ∷ Fail ∷ code)) i
+  negated_is : (goal : Node) (mark : ℕ) (code : Code) → goal_code single (goal_of goal) (suc mark) (Commit mark ∷ Fail ∷ code) ≡ negated_code single goal mark code
+  negated_is (node goal outputs category span) mark code = refl
 
   bare_turns : (goal : Node) → suc (suc (goal_turns (goal_of goal))) ≡ node_turns goal
   bare_turns (node goal outputs category span) = refl
 
-  pub emit_negated : (goal : Node) (mark inner place : ℕ) (tasks one two later : List Task) (code between now : Code) → inner ≡ suc mark → place ≡ length code
-      → one ≡ tasks ++ Put (Mark mark) ∷ [] → two ≡ one ++ Branch place ∷ [] → later ≡ two ++ Bare goal inner ∷ [] → between ≡ Fail ∷ code → now ≡ Commit mark ∷ between
+  pub emit_negated : (goal : Node) (mark place : ℕ) (tasks later : List Task) (code between now : Code) → place ≡ length code
+      → later ≡ tasks ++ Put (Mark mark) ∷ Branch place ∷ Bare goal (suc mark) ∷ [] → between ≡ Fail ∷ code → now ≡ Commit mark ∷ between
       → Performs single (goal_code single (Negation goal) mark) (suc (node_turns goal)) tasks code later now
-  emit_negated goal mark inner place tasks one two later code between now i p e1 e2 e3 b n =
+  emit_negated goal mark place tasks later code between now p e b n =
       let whole = negated_code single goal mark code in
-      let bare = goal_code single (goal_of goal) inner in
-      performs single (goal_code single (Negation goal) mark) (suc (node_turns goal)) tasks later (Put (Mark mark) ∷ Branch place ∷ Bare goal inner ∷ []) code now
-      (one_more tasks two later (Put (Mark mark) ∷ Branch place ∷ []) (Bare goal inner) (one_more tasks one two (Put (Mark mark) ∷ []) (Branch place) e1 e2) e3)
-      (ap (λ own. Mark mark ∷ Try (length own - place) ∷ own) (ap bare (n ∙ ap (λ k. Commit mark ∷ k) b) ∙ negated_is goal mark inner code i)
+      let bare = goal_code single (goal_of goal) (suc mark) in
+      performs single (goal_code single (Negation goal) mark) (suc (node_turns goal)) tasks later (Put (Mark mark) ∷ Branch place ∷ Bare goal (suc mark) ∷ []) code now e
+      (ap (λ own. Mark mark ∷ Try (length own - place) ∷ own) (ap bare (n ∙ ap (λ k. Commit mark ∷ k) b) ∙ negated_is goal mark code)
       ∙ ap (λ m. Mark mark ∷ Try (length whole - m) ∷ whole) p
       ∙ ap (λ m. Mark mark ∷ Try m ∷ whole) (skipped_is whole (negated_code single goal mark []) code (negated-front single goal mark code)))
       (omega (arith, bare_turns goal))

@@ -17,6 +17,11 @@ use Rattle.merc_gen.specs.declared.tasks.Task.TheVariants.{Emit, Bare, Put, Bran
 pub one_more : {X : Type 0} (tasks between later : List X) (pushed : List X) (last : X) → between ≡ tasks ++ pushed → later ≡ between ++ last ∷ [] → later ≡ tasks ++ (pushed ++ last ∷ [])
 one_more tasks between later pushed last e f = f ∙ ap (λ l. l ++ last ∷ []) e ∙ append_assoc tasks pushed (last ∷ [])
 
+-- two more
+pub two_more : {X : Type 0} (tasks between later : List X) (pushed : List X) (next last : X) → between ≡ tasks ++ pushed → later ≡ between ++ next ∷ last ∷ []
+    → later ≡ tasks ++ (pushed ++ next ∷ last ∷ [])
+two_more tasks between later pushed next last e f = f ∙ ap (λ l. l ++ next ∷ last ∷ []) e ∙ append_assoc tasks pushed (next ∷ last ∷ [])
+
 pub turns-append : (front back : List Task) → all_turns (front ++ back) ≡ all_turns front + all_turns back
 turns-append [] back = omega arith
 turns-append (first ∷ rest) back = let h = turns-append rest back in omega (arith, h)
@@ -79,28 +84,25 @@ module _ (single : Procedure → Bool) where
 
   -- a condition
 
-  condition_is : (condition : Node) (mark inner : ℕ) (once : Bool) (rest : Code) → inner ≡ suc mark → once ≡ is_once condition
-      → goal_code single (goal_of condition) inner (leaving once mark ∷ rest) ≡ condition_code single condition mark rest
-  condition_is (node goal outputs category span) mark inner once rest i o =
-      ap (λ m. goal_code single goal m (leaving once mark ∷ rest)) i ∙ ap (λ b. goal_code single goal (suc mark) (leaving b mark ∷ rest)) o
+  condition_is : (condition : Node) (mark : ℕ) (once : Bool) (rest : Code) → once ≡ is_once condition
+      → goal_code single (goal_of condition) (suc mark) (leaving once mark ∷ rest) ≡ condition_code single condition mark rest
+  condition_is (node goal outputs category span) mark once rest o = ap (λ b. goal_code single goal (suc mark) (leaving b mark ∷ rest)) o
 
   bare_turns : (goal : Node) → suc (suc (goal_turns (goal_of goal))) ≡ node_turns goal
   bare_turns (node goal outputs category span) = refl
 
-  pub emit_decided : (condition then_part : Node) (mark behind inner place : ℕ) (once : Bool) (left : Instruction) (tasks one two three four later : List Task) (code now : Code)
-      → inner ≡ suc mark → once ≡ is_once condition → left ≡ leaving once mark → place ≡ length code → now ≡ Jump (length code - behind) ∷ code → one ≡ tasks ++ Put (Mark mark) ∷ []
-      → two ≡ one ++ Branch place ∷ [] → three ≡ two ++ Bare condition inner ∷ [] → four ≡ three ++ Put left ∷ [] → later ≡ four ++ Emit then_part mark ∷ []
+  pub emit_decided : (condition then_part : Node) (mark behind place : ℕ) (once : Bool) (left : Instruction) (tasks between later : List Task) (code now : Code)
+      → once ≡ is_once condition → left ≡ leaving once mark → place ≡ length code → now ≡ Jump (length code - behind) ∷ code
+      → between ≡ tasks ++ Put (Mark mark) ∷ Branch place ∷ Bare condition (suc mark) ∷ [] → later ≡ between ++ Put left ∷ Emit then_part mark ∷ []
       → Performs single (decided_code single condition then_part mark behind) (suc (suc (suc (node_turns condition + node_turns then_part)))) tasks code later now
-  emit_decided condition then_part mark behind inner place once left tasks one two three four later code now i o l p n e1 e2 e3 e4 e5 =
-      let pushed = Put (Mark mark) ∷ Branch place ∷ Bare condition inner ∷ Put left ∷ Emit then_part mark ∷ [] in
-      let third = one_more tasks two three (Put (Mark mark) ∷ Branch place ∷ []) (Bare condition inner) (one_more tasks one two (Put (Mark mark) ∷ []) (Branch place) e1 e2) e3 in
-      let fourth = one_more tasks three four (Put (Mark mark) ∷ Branch place ∷ Bare condition inner ∷ []) (Put left) third e4 in
-      let inside = goal_code single (goal_of condition) inner in
+  emit_decided condition then_part mark behind place once left tasks between later code now o l p n e f =
+      let pushed = Put (Mark mark) ∷ Branch place ∷ Bare condition (suc mark) ∷ Put left ∷ Emit then_part mark ∷ [] in
+      let inside = goal_code single (goal_of condition) (suc mark) in
       let then_code = node_code single then_part mark in
       let whole = λ (own : Code). Mark mark ∷ Try (length own - length code) ∷ own in
       let same = ap (λ k. inside (left ∷ then_code k)) n ∙ ap (λ x. inside (x ∷ arm_code single mark behind then_part code)) l
-      ∙ condition_is condition mark inner once (arm_code single mark behind then_part code) i o in
+      ∙ condition_is condition mark once (arm_code single mark behind then_part code) o in
       performs (decided_code single condition then_part mark behind) (suc (suc (suc (node_turns condition + node_turns then_part)))) tasks later pushed code now
-      (one_more tasks four later (Put (Mark mark) ∷ Branch place ∷ Bare condition inner ∷ Put left ∷ []) (Emit then_part mark) fourth e5)
+      (two_more tasks between later (Put (Mark mark) ∷ Branch place ∷ Bare condition (suc mark) ∷ []) (Put left) (Emit then_part mark) e f)
       (ap (λ m. Mark mark ∷ Try (length (inside (left ∷ then_code now)) - m) ∷ inside (left ∷ then_code now)) p ∙ ap whole same)
       (omega (arith, bare_turns condition))

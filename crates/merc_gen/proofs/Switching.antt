@@ -16,7 +16,7 @@ use Rattle.merc_gen.specs.declared.tasks.Task.{Task}
 use Rattle.merc_gen.specs.declared.tasks.Task.TheVariants.{Emit, Switch as SwitchTask}
 use Rattle.merc_gen.proofs.Fronts.{node-front, arms-front}
 use Rattle.merc_gen.proofs.Lists.{length-last, arms_none, bodies_all, reverse-last}
-use Rattle.merc_gen.proofs.Performing.{one_more, performs, done, skipped_is}
+use Rattle.merc_gen.proofs.Performing.{performs, done, skipped_is}
 use Rattle.merc_gen.proofs.Parting.{turns-last}
 use Rattle.merc_gen.proofs.Quieting.{turns-arms}
 
@@ -121,16 +121,15 @@ module _ (single : Procedure → Bool) where
       ∙ ap (λ w. SwitchTo variable (targets_at symbols (starts_before single mark behind (left ++ last ∷ []) code ++ length code ∷ reverse starts) (length w)) ∷ w)
       (sym (arms-last left last mark behind code))
 
-  pub switch_start : (variable : ℕ) (symbols : List Symbol) (arms kept left : List Node) (last : Node) (mark : ℕ) (started : LeftArms) (tasks between later : List Task) (code : Code)
+  pub switch_start : (variable : ℕ) (symbols : List Symbol) (arms kept left : List Node) (last : Node) (mark : ℕ) (started : LeftArms) (tasks later : List Task) (code : Code)
       → length kept ≤ length symbols → arms_of symbols kept ≡ arms_of symbols arms → kept ≡ left ++ last ∷ [] → started.variable ≡ variable → started.symbols.now ≡ symbols
-      → started.left ≡ left → started.mark ≡ mark → started.behind ≡ length code → started.starts.items ≡ [] → between ≡ tasks ++ SwitchTask started ∷ []
-      → later ≡ between ++ Emit last mark ∷ []
+      → started.left ≡ left → started.mark ≡ mark → started.behind ≡ length code → started.starts.items ≡ []
+      → later ≡ tasks ++ SwitchTask started ∷ Emit last mark ∷ []
       → Performs single (goal_code single (Switch variable (arms_of symbols arms)) mark) (arms_turns (arms_of symbols arms)) tasks code later code
-  switch_start variable symbols arms kept left last mark started tasks between later code h same k v s l m b t e f =
+  switch_start variable symbols arms kept left last mark started tasks later code h same k v s l m b t e =
       let own = node_code single last mark code in
       let room : suc (length left) ≤ length symbols = omega (arith, h, ap length k, length-last left last) in
-      performs single (goal_code single (Switch variable (arms_of symbols arms)) mark) (arms_turns (arms_of symbols arms)) tasks later (SwitchTask started ∷ Emit last mark ∷ []) code code
-      (one_more tasks between later (SwitchTask started ∷ []) (Emit last mark) e f)
+      performs single (goal_code single (Switch variable (arms_of symbols arms)) mark) (arms_turns (arms_of symbols arms)) tasks later (SwitchTask started ∷ Emit last mark ∷ []) code code e
       (known_arms started variable symbols left mark (length code) [] own v s l m b t ∙ switch_is variable symbols left last mark code room
       ∙ ap (λ g. goal_code single (Switch variable g) mark code) (ap (arms_of symbols) (sym k) ∙ same))
       (omega (arith, ap list_turns l, turns-last kept left last k, turns-some_arms symbols kept h, ap arms_turns same))
@@ -142,14 +141,13 @@ module _ (single : Procedure → Bool) where
       done single (goal_code single (Switch variable (arms_of symbols arms)) mark) (arms_turns (arms_of symbols arms)) tasks code now
       (n ∙ ap (λ g. goal_code single (Switch variable g) mark code) (sym (arms_none symbols) ∙ ap (arms_of symbols) (sym k) ∙ same))
 
-  pub arm_step : (arms started : LeftArms) (left : List Node) (last : Node) (start : ℕ) (tasks between later : List Task) (code now : Code) → arms.left ≡ left ++ last ∷ [] → start ≡ length code
+  pub arm_step : (arms started : LeftArms) (left : List Node) (last : Node) (start : ℕ) (tasks later : List Task) (code now : Code) → arms.left ≡ left ++ last ∷ [] → start ≡ length code
       → started.variable ≡ arms.variable → started.symbols.now ≡ arms.symbols.now → started.left ≡ left → started.mark ≡ arms.mark → started.behind ≡ arms.behind
-      → started.starts.items ≡ arms.starts.items ++ start ∷ [] → now ≡ Jump (length code - arms.behind) ∷ code → between ≡ tasks ++ SwitchTask started ∷ []
-      → later ≡ between ++ Emit last arms.mark ∷ [] → Performs single (switched_code single arms) (list_turns arms.left) tasks code later now
-  arm_step arms started left last start tasks between later code now k p v s l m b t n e f =
+      → started.starts.items ≡ arms.starts.items ++ start ∷ [] → now ≡ Jump (length code - arms.behind) ∷ code
+      → later ≡ tasks ++ SwitchTask started ∷ Emit last arms.mark ∷ [] → Performs single (switched_code single arms) (list_turns arms.left) tasks code later now
+  arm_step arms started left last start tasks later code now k p v s l m b t n e =
       let own = node_code single last arms.mark in
-      performs single (switched_code single arms) (list_turns arms.left) tasks later (SwitchTask started ∷ Emit last arms.mark ∷ []) code now
-      (one_more tasks between later (SwitchTask started ∷ []) (Emit last arms.mark) e f)
+      performs single (switched_code single arms) (list_turns arms.left) tasks later (SwitchTask started ∷ Emit last arms.mark ∷ []) code now e
       (known_arms started arms.variable arms.symbols.now left arms.mark arms.behind (arms.starts.items ++ length code ∷ []) (own now) v s l m b (t ∙ ap (λ x. arms.starts.items ++ x ∷ []) p)
       ∙ ap (λ x. switched arms.variable arms.symbols.now left arms.mark arms.behind (arms.starts.items ++ length code ∷ []) (own x)) n
       ∙ arm_is arms.variable arms.symbols.now left last arms.mark arms.behind arms.starts.items code

@@ -8,6 +8,7 @@ ghost use Rattle.merc_graded_tree.specs.Roots.{arms_of};
 ghost use Rattle.merc_gen.specs.Generated.{goal_code, leaving, node_code};
 ghost use Rattle.merc_gen.specs.Singles.{contained};
 ghost use Rattle.merc_gen.specs.Tasks.{after, decided_code, disjuncts_code, in_turn_code, switched_code, targets_at, task_turns, Performs};
+ghost use Rattle.merc_gen.specs.declared.tasks.Task.{Task};
 ghost use Rattle.merc_gen.specs.Turns.{arms_turns, goal_turns, joined_turns, list_turns, node_turns};
 
 use crate::Singles;
@@ -37,13 +38,32 @@ pub fn generate_goal(
     ensures { IfOk result (λ code. code.items ≡ node_code (contained singles.now) goal.now 0 (last ∷ [])) }
 {
     let mut code = Suffix::new(alloc);
-    code.put_first(last)?;
     let mut tasks = Vec::new(alloc);
-    tasks.push(Task::Emit(goal.copy(), 0))?;
+    let done = perform_all(alloc, singles, goal, last, &mut tasks, &mut code);
+    // (a call, since it costs much to prove what is dropped here)
+    drop(tasks);
+    done.and(Ok(code.into_vec()))
+}
+
+// Puts the goal's code before a last instruction, where nothing is to be done and there is no code.
+fn perform_all<'a>(
+    alloc: Global,
+    singles: &Singles,
+    goal: &NodeRef<'a>,
+    last: Instruction,
+    tasks: &mut Vec<Task<'a>>,
+    code: &mut Suffix,
+) -> Result<(), NoMemory>
+    requires tasks { tasks.old.items ≡ [] }
+    requires code { code.old ≡ [] }
+    ensures { OnOk result (code.new ≡ node_code (contained singles.now) goal.now 0 (last ∷ [])) }
+{
+    code.put_first(last)?;
+    leave(Task::Emit(goal.copy(), 0), tasks)?;
     while let Some(task) = tasks.pop() {
-        perform(alloc, singles, task, &mut tasks, &mut code)?;
+        perform(alloc, singles, task, tasks, code)?;
     }
-    Ok(code.into_vec())
+    Ok(())
 }
 
 // Does one task. It may leave others to be done.
@@ -106,14 +126,12 @@ fn emit<'a>(
     ensures { OnOk result (Performs (contained singles.now) (node_code (contained singles.now) goal.entry mark) (node_turns goal.entry) tasks.old.items code.old tasks.new.items code.new) }
 {
     if !is_cut(alloc, singles, &goal)? {
-        tasks.push(Task::Bare(goal, mark))?;
-        return Ok(());
+        return leave(Task::Bare(goal, mark), tasks);
     }
     let inner = next_number(mark)?;
     code.put_first(Instruction::Commit(Mark::new(mark)))?;
-    tasks.push(Task::Put(Instruction::Mark(Mark::new(mark))))?;
-    tasks.push(Task::Bare(goal, inner))?;
-    Ok(())
+    leave(Task::Put(Instruction::Mark(Mark::new(mark))), tasks)?;
+    leave(Task::Bare(goal, inner), tasks)
 }
 
 fn emit_bare<'a>(
@@ -127,25 +145,55 @@ fn emit_bare<'a>(
 {
     match goal.view() {
         NodeView::Basic(basic) => put_basic(alloc, basic, code),
-        NodeView::Conjunction(_, goals) => {
-            tasks.push(Task::InTurn(goals, mark))?;
-            Ok(())
-        }
+        NodeView::Conjunction(_, goals) => leave(Task::InTurn(goals, mark), tasks),
         NodeView::Disjunction(goals) => start_disjunction(goals, mark, tasks, code),
         NodeView::Switch(variable, symbols, arms) => {
             start_switch(alloc, variable, symbols, arms, mark, tasks, code)
         }
         NodeView::Conditional(condition, then_part, else_part) => {
-            tasks.push(Task::Decide(condition, then_part, mark, code.len()))?;
-            tasks.push(Task::Emit(else_part, mark))?;
-            Ok(())
+            let decided = Task::Decide(condition, then_part, mark, code.len());
+            emit_before(else_part, mark, decided, tasks)
         }
         NodeView::Negation(inner) => emit_negation(inner, mark, tasks, code),
-        NodeView::Quantified(_, inner) => {
-            tasks.push(Task::Emit(inner, mark))?;
-            Ok(())
-        }
+        NodeView::Quantified(_, inner) => leave(Task::Emit(inner, mark), tasks),
     }
+}
+
+// Leaves a task to be done next.
+fn leave<'a>(task: Task<'a>, tasks: &mut Vec<Task<'a>>) -> Result<(), NoMemory>
+    ensures { OnOk result (tasks.new.items ≡ tasks.old.items ++ task.entry ∷ []) }
+{
+    tasks.push(task)?;
+    Ok(())
+}
+
+// The goal's code is to be put next, and then the task is to be done.
+fn emit_before<'a>(
+    goal: NodeRef<'a>,
+    mark: usize,
+    task: Task<'a>,
+    tasks: &mut Vec<Task<'a>>,
+) -> Result<(), NoMemory>
+    ensures { OnOk result (tasks.new.items ≡ tasks.old.items ++ task.entry ∷ Task.Emit goal.entry mark ∷ []) }
+{
+    leave(task, tasks)?;
+    leave(Task::Emit(goal, mark), tasks)
+}
+
+// The goal's code is to be put next, without dropping its choice points, and before it a mark, and a choice point that goes
+// on at a place.
+fn leave_marked<'a>(
+    goal: NodeRef<'a>,
+    mark: usize,
+    place: usize,
+    tasks: &mut Vec<Task<'a>>,
+) -> Result<(), NoMemory>
+    ensures { OnOk result (tasks.new.items ≡ tasks.old.items ++ Task.Put (Instruction.Mark mark) ∷ Task.Branch place ∷ Task.Bare goal.entry (suc mark) ∷ []) }
+{
+    let inner = next_number(mark)?;
+    leave(Task::Put(Instruction::Mark(Mark::new(mark))), tasks)?;
+    leave(Task::Branch(place), tasks)?;
+    leave(Task::Bare(goal, inner), tasks)
 }
 
 fn emit_in_turn<'a>(
@@ -157,11 +205,7 @@ fn emit_in_turn<'a>(
 {
     let mut left = goals;
     match left.take_last() {
-        Some(last) => {
-            tasks.push(Task::InTurn(left, mark))?;
-            tasks.push(Task::Emit(last, mark))?;
-            Ok(())
-        }
+        Some(last) => emit_before(last, mark, Task::InTurn(left, mark), tasks),
         None => Ok(()),
     }
 }
@@ -177,11 +221,7 @@ fn start_disjunction<'a>(
 {
     let mut left = goals;
     match left.take_last() {
-        Some(last) => {
-            tasks.push(Task::Choose(left, mark, code.len()))?;
-            tasks.push(Task::Emit(last, mark))?;
-            Ok(())
-        }
+        Some(last) => emit_before(last, mark, Task::Choose(left, mark, code.len()), tasks),
         None => code.put_first(Instruction::Fail),
     }
 }
@@ -199,9 +239,8 @@ fn emit_disjunct<'a>(
     let mut left = goals;
     match left.take_last() {
         Some(last) => {
-            tasks.push(Task::Choose(left, mark, behind))?;
-            tasks.push(Task::Branch(code.len()))?;
-            tasks.push(Task::Emit(last, mark))?;
+            leave(Task::Choose(left, mark, behind), tasks)?;
+            emit_before(last, mark, Task::Branch(code.len()), tasks)?;
             put_jump(behind, code)
         }
         None => Ok(()),
@@ -218,13 +257,9 @@ fn emit_condition<'a>(
 ) -> Result<(), NoMemory>
     ensures { OnOk result ((single : Procedure → Bool) → Performs single (decided_code single condition.entry then_part.entry mark behind) (suc (suc (suc (node_turns condition.entry + node_turns then_part.entry)))) tasks.old.items code.old tasks.new.items code.new) }
 {
-    let inner = next_number(mark)?;
-    let leaving = leaving(is_once(&condition), mark);
-    tasks.push(Task::Put(Instruction::Mark(Mark::new(mark))))?;
-    tasks.push(Task::Branch(code.len()))?;
-    tasks.push(Task::Bare(condition, inner))?;
-    tasks.push(Task::Put(leaving))?;
-    tasks.push(Task::Emit(then_part, mark))?;
+    let once = is_once(&condition);
+    leave_marked(condition, mark, code.len(), tasks)?;
+    emit_before(then_part, mark, Task::Put(leaving(once, mark)), tasks)?;
     put_jump(behind, code)
 }
 
@@ -247,10 +282,7 @@ fn emit_negation<'a>(
 ) -> Result<(), NoMemory>
     ensures { OnOk result ((single : Procedure → Bool) → Performs single (goal_code single (Negation goal.entry) mark) (suc (node_turns goal.entry)) tasks.old.items code.old tasks.new.items code.new) }
 {
-    let inner = next_number(mark)?;
-    tasks.push(Task::Put(Instruction::Mark(Mark::new(mark))))?;
-    tasks.push(Task::Branch(code.len()))?;
-    tasks.push(Task::Bare(goal, inner))?;
+    leave_marked(goal, mark, code.len(), tasks)?;
     code.put_first(Instruction::Fail)?;
     code.put_first(Instruction::Commit(Mark::new(mark)))
 }
@@ -271,16 +303,15 @@ fn start_switch<'a>(
     let Some(last) = left.take_last() else {
         return code.put_first(Instruction::Switch(variable, Sequence::new(alloc)));
     };
-    tasks.push(Task::Switch(Arms {
+    let others = Task::Switch(Arms {
         variable,
         symbols,
         left,
         mark,
         behind: code.len(),
         starts: Vec::new(alloc),
-    }))?;
-    tasks.push(Task::Emit(last, mark))?;
-    Ok(())
+    });
+    emit_before(last, mark, others, tasks)
 }
 
 // Puts the code of the last arm that is left in front; the switch itself where none is left.
@@ -305,16 +336,15 @@ fn emit_arm<'a>(
     match left.take_last() {
         Some(last) => {
             put_jump(behind, code)?;
-            tasks.push(Task::Switch(Arms {
+            let others = Task::Switch(Arms {
                 variable,
                 symbols,
                 left,
                 mark,
                 behind,
                 starts,
-            }))?;
-            tasks.push(Task::Emit(last, mark))?;
-            Ok(())
+            });
+            emit_before(last, mark, others, tasks)
         }
         None => {
             let targets = targets(alloc, symbols.as_slice(), starts, start)?;
@@ -334,11 +364,27 @@ fn targets(
 {
     let mut starts = starts;
     let mut targets = Sequence::new(alloc);
+    let done = push_targets(symbols, &mut starts, first, &mut targets);
+    // (a call, since it costs much to prove what is dropped here)
+    drop(starts);
+    done.and(Ok(targets))
+}
+
+// Puts the targets into an empty list. The places of the arms are taken.
+fn push_targets(
+    symbols: &[Symbol],
+    starts: &mut Vec<usize>,
+    first: usize,
+    targets: &mut Sequence<Target>,
+) -> Result<(), NoMemory>
+    requires { targets.old ≡ [] }
+    ensures { OnOk result (targets.new ≡ targets_at symbols.now (reverse starts.old.items) first) }
+{
     let mut left = symbols;
     while let [symbol, rest @ ..] = left {
         let start = match starts.pop() {
             Some(start) => start,
-            None => return Ok(targets),
+            None => return Ok(()),
         };
         targets.push(Target {
             symbol: *symbol,
@@ -346,5 +392,5 @@ fn targets(
         })?;
         left = rest;
     }
-    Ok(targets)
+    Ok(())
 }

@@ -1,5 +1,5 @@
 //! The code of whole programs.
-ghost use Rattle.std.specs.Prelude.{◌≡◌, length, drop, map, IfOk};
+ghost use Rattle.std.specs.Prelude.{◌≡◌, [], length, drop, map, IfOk, OnOk};
 ghost use Rattle.merc_graded_tree.specs.declared.basic.Procedure.{Procedure};
 ghost use Rattle.merc_meaning.specs.Programs.{program_with};
 ghost use Rattle.merc_code.specs.ProgramCode.{codes_in};
@@ -46,15 +46,28 @@ fn find_singles(alloc: Global, predicates: &[PredDecl], trees: &Nodes) -> Result
     ensures { IfOk result (λ singles. singles ≡ map answer_once (program_bodies predicates.now trees.now)) }
 {
     let mut singles = Singles::new(alloc);
+    push_singles(alloc, predicates, trees, &mut singles).and(Ok(singles))
+}
+
+// Tells of all predicates where nothing is told yet.
+fn push_singles(
+    alloc: Global,
+    predicates: &[PredDecl],
+    trees: &Nodes,
+    singles: &mut Singles,
+) -> Result<(), NoMemory>
+    requires { singles.old ≡ [] }
+    ensures { OnOk result (singles.new ≡ map answer_once (program_bodies predicates.now trees.now)) }
+{
     let mut left = TreesLeft::new(trees);
     for declared in predicates {
         let modes = single_modes(alloc, declared.modes.as_slice(), &mut left)?;
         singles.push(modes)?;
     }
-    Ok(singles)
+    Ok(())
 }
 
-// The same of one predicate: whether each mode's tree answers once. Its trees are taken.
+// Whether the tree of each mode of a predicate answers once. Its trees are taken.
 fn single_modes(
     alloc: Global,
     modes: &[ModeDecl],
@@ -64,13 +77,26 @@ fn single_modes(
     ensures left { IfOk result (λ flags. left.new ≡ drop (length modes.now) left.old) }
 {
     let mut flags = Sequence::new(alloc);
+    push_flags(modes, left, &mut flags).and(Ok(flags))
+}
+
+// Puts into an empty list whether the tree of each mode answers once. The trees are taken.
+fn push_flags(
+    modes: &[ModeDecl],
+    left: &mut TreesLeft<'_>,
+    flags: &mut Sequence<bool>,
+) -> Result<(), NoMemory>
+    requires { flags.old ≡ [] }
+    ensures flags { OnOk result (flags.new ≡ answer_once (mode_bodies modes.now left.old)) }
+    ensures left { OnOk result (left.new ≡ drop (length modes.now) left.old) }
+{
     for _mode in modes {
         match left.take_first() {
             Some(tree) => flags.push(is_once(&tree))?,
-            None => return Ok(flags),
+            None => return Ok(()),
         }
     }
-    Ok(flags)
+    Ok(())
 }
 
 // The code of all procedures.
@@ -83,12 +109,26 @@ fn generate_procedures(
     ensures { IfOk result (λ procedures. procedures ≡ map (map (procedure_code (contained singles.now))) (program_bodies predicates.now trees.now)) }
 {
     let mut procedures = Sequence::new(alloc);
+    push_procedures(alloc, singles, predicates, trees, &mut procedures).and(Ok(procedures))
+}
+
+// Puts the code of all procedures into an empty list.
+fn push_procedures(
+    alloc: Global,
+    singles: &Singles,
+    predicates: &[PredDecl],
+    trees: &Nodes,
+    procedures: &mut Sequence<Sequence<CompiledProcedure>>,
+) -> Result<(), NoMemory>
+    requires { procedures.old ≡ [] }
+    ensures { OnOk result (procedures.new ≡ map (map (procedure_code (contained singles.now))) (program_bodies predicates.now trees.now)) }
+{
     let mut left = TreesLeft::new(trees);
     for declared in predicates {
         let modes = generate_modes(alloc, singles, declared.modes.as_slice(), &mut left)?;
         procedures.push(modes)?;
     }
-    Ok(procedures)
+    Ok(())
 }
 
 // The code of a predicate in each of its modes. Its trees are taken.
@@ -102,15 +142,30 @@ fn generate_modes(
     ensures left { IfOk result (λ procedures. left.new ≡ drop (length modes.now) left.old) }
 {
     let mut procedures = Sequence::new(alloc);
+    push_modes(alloc, singles, modes, left, &mut procedures).and(Ok(procedures))
+}
+
+// Puts the code of a predicate in each of its modes into an empty list. Its trees are taken.
+fn push_modes(
+    alloc: Global,
+    singles: &Singles,
+    modes: &[ModeDecl],
+    left: &mut TreesLeft<'_>,
+    procedures: &mut Sequence<CompiledProcedure>,
+) -> Result<(), NoMemory>
+    requires { procedures.old ≡ [] }
+    ensures procedures { OnOk result (procedures.new ≡ map (procedure_code (contained singles.now)) (mode_bodies modes.now left.old)) }
+    ensures left { OnOk result (left.new ≡ drop (length modes.now) left.old) }
+{
     for mode in modes {
         match left.take_first() {
             Some(tree) => {
                 procedures.push(generate_procedure(alloc, singles, &mode.args, &tree)?)?
             }
-            None => return Ok(procedures),
+            None => return Ok(()),
         }
     }
-    Ok(procedures)
+    Ok(())
 }
 
 // The code of one procedure.
@@ -122,9 +177,10 @@ fn generate_procedure(
 ) -> Result<CompiledProcedure, NoMemory>
     ensures { IfOk result (λ procedure. procedure ≡ procedure_code (contained singles.now) (record { places = places.now; body = tree.now })) }
 {
+    let places = Vec::from_slice(alloc, places.as_slice())?;
     let code = generate_goal(alloc, singles, tree, Instruction::Return)?;
     Ok(CompiledProcedure {
-        places: Sequence::from_vec(Vec::from_slice(alloc, places.as_slice())?),
+        places: Sequence::from_vec(places),
         code: Sequence::from_vec(code),
     })
 }

@@ -1,7 +1,9 @@
 //! Goals that leave no choice point behind.
-ghost use Rattle.std.specs.Prelude.{◌≡◌, ◌&&◌, ◌++◌, not, reverse, IfOk, OnOk};
-ghost use Rattle.merc_graded_tree.specs.Nodes.{goal_of};
-ghost use Rattle.merc_graded_tree.specs.Roots.{arms_of, bodies_of};
+ghost use Rattle.std.specs.Prelude.{◌≡◌, ◌&&◌, ◌++◌, ℕ, Bool, [], not, reverse, IfOk, OnOk};
+ghost use Rattle.merc_graded_tree.specs.declared.basic.Procedure.{Procedure};
+ghost use Rattle.merc_graded_tree.specs.declared.entries.Running.{Running};
+ghost use Rattle.merc_graded_tree.specs.Nodes.{Conditional, Conjunction, Disjunction, Switch, goal_of, nodes_of};
+ghost use Rattle.merc_graded_tree.specs.Roots.{arms_of};
 ghost use Rattle.merc_graded_tree.specs.Views.{viewed};
 ghost use Rattle.merc_meaning.specs.Runs.{answers_once, is_at_most_one};
 ghost use Rattle.merc_gen.specs.Generated.{basic_quiet, is_once, quiet};
@@ -10,7 +12,7 @@ ghost use Rattle.merc_gen.specs.Waiting.{Looks, Spreads};
 
 use crate::Singles;
 use crate::arms::with_symbols;
-use merc_base::{Category, Most, NoMemory};
+use merc_base::{Category, Most, NoMemory, Sequence};
 use merc_goal_tree::{Symbol, Vars};
 use merc_graded_tree::{BasicGoal, NodeRef, NodeView, Parts};
 use std::alloc::Global;
@@ -61,11 +63,26 @@ fn is_quiet(alloc: Global, singles: &Singles, goal: &NodeRef<'_>) -> Result<bool
     ensures { IfOk result (λ passes. passes ≡ quiet (contained singles.now) (goal_of goal.now)) }
 {
     let mut left = Vec::new(alloc);
-    if !spread(singles, goal.view(), &mut left)? {
+    let passes = all_pass(singles, goal, &mut left);
+    // (a call, since it costs much to prove what is dropped here)
+    drop(left);
+    passes
+}
+
+// Whether nothing speaks against the goal and what it holds, where nothing is left to be looked at.
+fn all_pass<'a>(
+    singles: &Singles,
+    goal: &NodeRef<'a>,
+    left: &mut Vec<NodeRef<'a>>,
+) -> Result<bool, NoMemory>
+    requires { left.old.items ≡ [] }
+    ensures { IfOk result (λ passes. passes ≡ quiet (contained singles.now) (goal_of goal.now)) }
+{
+    if !spread(singles, goal.view(), left)? {
         return Ok(false);
     }
     while let Some(next) = left.pop() {
-        if !look(singles, &next, &mut left)? {
+        if !look(singles, &next, left)? {
             return Ok(false);
         }
     }
@@ -96,25 +113,11 @@ fn spread<'a>(
 {
     match view {
         NodeView::Basic(goal) => Ok(is_quiet_basic(singles, goal)),
-        NodeView::Conjunction(_, goals) => {
-            push_all(goals, left)?;
-            Ok(true)
-        }
-        NodeView::Disjunction(goals) => {
-            if goals.len() > 1 {
-                return Ok(false);
-            }
-            push_all(goals, left)?;
-            Ok(true)
-        }
-        NodeView::Switch(_, symbols, arms) => {
-            push_arms(symbols.as_slice(), arms, left)?;
-            Ok(true)
-        }
+        NodeView::Conjunction(_, goals) => spread_conjuncts(goals, left),
+        NodeView::Disjunction(goals) => spread_disjuncts(goals, left),
+        NodeView::Switch(_, symbols, arms) => spread_arms(symbols, arms, left),
         NodeView::Conditional(condition, then_part, else_part) => {
-            left.push(else_part)?;
-            left.push(then_part)?;
-            Ok(is_once(&condition))
+            spread_conditional(&condition, then_part, else_part, left)
         }
         NodeView::Negation(_) => Ok(true),
         NodeView::Quantified(_, inner) => {
@@ -122,6 +125,52 @@ fn spread<'a>(
             Ok(true)
         }
     }
+}
+
+// Leaves goals that all run to be looked at.
+fn spread_conjuncts<'a>(goals: Parts<'a>, left: &mut Vec<NodeRef<'a>>) -> Result<bool, NoMemory>
+    ensures { IfOk result (λ passes. (single : Procedure → Bool) (running : Running) → Spreads single (Conjunction running (nodes_of goals.entry)) passes left.old.items left.new.items) }
+{
+    push_all(goals, left)?;
+    Ok(true)
+}
+
+// Leaves a disjunct that stands alone to be looked at. Where there are several, a choice point may stay.
+fn spread_disjuncts<'a>(goals: Parts<'a>, left: &mut Vec<NodeRef<'a>>) -> Result<bool, NoMemory>
+    ensures { IfOk result (λ passes. (single : Procedure → Bool) → Spreads single (Disjunction (nodes_of goals.entry)) passes left.old.items left.new.items) }
+{
+    if goals.len() > 1 {
+        return Ok(false);
+    }
+    push_all(goals, left)?;
+    Ok(true)
+}
+
+// Leaves the then part and the else part to be looked at. Where the condition may answer more than once, a choice point may
+// stay.
+fn spread_conditional<'a>(
+    condition: &NodeRef<'a>,
+    then_part: NodeRef<'a>,
+    else_part: NodeRef<'a>,
+    left: &mut Vec<NodeRef<'a>>,
+) -> Result<bool, NoMemory>
+    ensures { IfOk result (λ passes. (single : Procedure → Bool) → Spreads single (Conditional condition.now then_part.entry else_part.entry) passes left.old.items left.new.items) }
+{
+    left.push(else_part)?;
+    left.push(then_part)?;
+    Ok(is_once(condition))
+}
+
+// Leaves the arms of a switch to be looked at, each that has a symbol.
+fn spread_arms<'a>(
+    symbols: &Sequence<Symbol>,
+    arms: Parts<'a>,
+    left: &mut Vec<NodeRef<'a>>,
+) -> Result<bool, NoMemory>
+    ensures { IfOk result (λ passes. (single : Procedure → Bool) (variable : ℕ) → Spreads single (Switch variable (arms_of symbols.now arms.entry)) passes left.old.items left.new.items) }
+{
+    push_all(with_symbols(arms, symbols.as_slice().len()), left)?;
+    Ok(true)
 }
 
 fn is_quiet_basic(singles: &Singles, goal: &BasicGoal) -> bool
@@ -142,15 +191,4 @@ fn push_all<'a>(goals: Parts<'a>, left: &mut Vec<NodeRef<'a>>) -> Result<(), NoM
         left.push(last)?;
     }
     Ok(())
-}
-
-// Leaves the arms of a switch to be looked at, each that has a symbol.
-fn push_arms<'a>(
-    symbols: &[Symbol],
-    arms: Parts<'a>,
-    left: &mut Vec<NodeRef<'a>>,
-) -> Result<(), NoMemory>
-    ensures { OnOk result (left.new.items ≡ left.old.items ++ reverse (bodies_of (arms_of symbols.now arms.entry))) }
-{
-    push_all(with_symbols(arms, symbols.len()), left)
 }

@@ -7,27 +7,26 @@ use Rattle.merc_gen.proofs.Performing.{performs_goal}
 use Rattle.merc_gen.proofs.Parting.{conjuncts_start, conditional_start, quantified_start}
 use Rattle.merc_gen.proofs.generating.emit_bare.Goals as goal
 
-pub returns-in_ok-push-in-Conjunction : goal.returns-in_ok-push-in-Conjunction
-returns-in_ok-push-in-Conjunction c = λ single.
-    performs_goal single (goal_of c.args.goal.now) (Conjunction c.in-Conjunction.field-0 (nodes_of c.in-Conjunction.goals)) c.args.mark c.args.tasks.now.items
-    c.push.new.self.items c.args.code.now c.args.code.now (sym c.view.ensures ∙ ap viewed c.in-Conjunction.is)
-    (conjuncts_start single c.in-Conjunction.field-0 c.in-Conjunction.goals c.args.mark c.args.tasks.now.items c.push.new.self.items c.args.code.now
-    c.in_ok-push-in-Conjunction.ensures.items)
+pub returns-in-Conjunction : goal.returns-in-Conjunction
+returns-in-Conjunction c =
+    on_ok_weaker c.leave.result (λ left single. performs_goal single (goal_of c.args.goal.now) (Conjunction c.in-Conjunction.field-0 (nodes_of c.in-Conjunction.goals)) c.args.mark
+    c.args.tasks.now.items c.leave.new.tasks.items c.args.code.now c.args.code.now (sym c.view.ensures ∙ ap viewed c.in-Conjunction.is)
+    (conjuncts_start single c.in-Conjunction.field-0 c.in-Conjunction.goals c.args.mark c.args.tasks.now.items c.leave.new.tasks.items c.args.code.now left)) c.leave.ensures
 
-pub returns-in_ok-push-in-Conditional-2 : goal.returns-in_ok-push-in-Conditional-2
-returns-in_ok-push-in-Conditional-2 c = λ single.
+pub returns-in-Conditional : goal.returns-in-Conditional
+returns-in-Conditional c =
+    on_ok_weaker c.emit_before.result (λ left single.
     performs_goal single (goal_of c.args.goal.now) (Conditional c.in-Conditional.condition c.in-Conditional.then_part c.in-Conditional.else_part) c.args.mark
-    c.args.tasks.now.items c.push-in-Conditional-2.new.self.items c.args.code.now c.args.code.now (sym c.view.ensures ∙ ap viewed c.in-Conditional.is)
+    c.args.tasks.now.items c.emit_before.new.tasks.items c.args.code.now c.args.code.now (sym c.view.ensures ∙ ap viewed c.in-Conditional.is)
     (conditional_start single c.in-Conditional.condition c.in-Conditional.then_part c.in-Conditional.else_part c.args.mark c.len.result c.args.tasks.now.items
-    c.push-in-Conditional.new.self.items c.push-in-Conditional-2.new.self.items c.args.code.now c.len.ensures c.in_ok-push-in-Conditional.ensures.items
-    c.in_ok-push-in-Conditional-2.ensures.items)
+    c.emit_before.new.tasks.items c.args.code.now c.len.ensures left)) c.emit_before.ensures
 
-pub returns-in_ok-push-in-Quantified : goal.returns-in_ok-push-in-Quantified
-returns-in_ok-push-in-Quantified c = λ single.
-    performs_goal single (goal_of c.args.goal.now) (Quantified c.in-Quantified.field-0.now c.in-Quantified.inner) c.args.mark c.args.tasks.now.items
-    c.push-in-Quantified.new.self.items c.args.code.now c.args.code.now (sym c.view.ensures ∙ ap viewed c.in-Quantified.is)
-    (quantified_start single c.in-Quantified.field-0.now c.in-Quantified.inner c.args.mark c.args.tasks.now.items c.push-in-Quantified.new.self.items
-    c.args.code.now c.in_ok-push-in-Quantified.ensures.items)
+pub returns-in-Quantified : goal.returns-in-Quantified
+returns-in-Quantified c =
+    on_ok_weaker c.leave-in-Quantified.result (λ left single. performs_goal single (goal_of c.args.goal.now) (Quantified c.in-Quantified.field-0.now c.in-Quantified.inner) c.args.mark
+    c.args.tasks.now.items c.leave-in-Quantified.new.tasks.items c.args.code.now c.args.code.now (sym c.view.ensures ∙ ap viewed c.in-Quantified.is)
+    (quantified_start single c.in-Quantified.field-0.now c.in-Quantified.inner c.args.mark c.args.tasks.now.items c.leave-in-Quantified.new.tasks.items c.args.code.now left))
+    c.leave-in-Quantified.ensures
 
 pub returns-in-Disjunction : goal.returns-in-Disjunction
 returns-in-Disjunction c =

@@ -2,8 +2,8 @@ use Rattle.std.proofs.lemmas.Result.{on_ok_weaker}
 use Rattle.merc_gen.proofs.Parting.{disjunct_step}
 use Rattle.merc_gen.proofs.generating.emit_disjunct.Goals as goal
 
-pub returns-in_ok-push-in-Some-3 : goal.returns-in_ok-push-in-Some-3
-returns-in_ok-push-in-Some-3 c =
+pub returns-in_ok-emit_before-in-Some : goal.returns-in_ok-emit_before-in-Some
+returns-in_ok-emit_before-in-Some c =
     on_ok_weaker c.put_jump.result (λ put single. disjunct_step single c.args.goals c.take_last.new.self c.in-Some.last c.args.mark c.args.behind c.len.result
-    c.args.tasks.now.items c.push.new.self.items c.push-in-Some.new.self.items c.push-in-Some-2.new.self.items c.args.code.now c.put_jump.new.code c.in-Some.ensures c.len.ensures
-    c.in_ok-push-in-Some.ensures.items c.in_ok-push-in-Some-2.ensures.items c.in_ok-push-in-Some-3.ensures.items put) c.put_jump.ensures
+    c.args.tasks.now.items c.leave.new.tasks.items c.emit_before.new.tasks.items c.args.code.now c.put_jump.new.code c.in-Some.ensures c.len.ensures
+    c.in_ok-leave-in-Some.ensures c.in_ok-emit_before-in-Some.ensures put) c.put_jump.ensures

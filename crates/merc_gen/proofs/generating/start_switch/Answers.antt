@@ -11,10 +11,10 @@ returns-in_default c =
     (put ∙ ap (λ l. Switch c.args.variable l ∷ c.args.code.now) c.new.ensures)) c.put_first.ensures
 
 pub returns : goal.returns
-returns c = λ single.
-    switch_start single c.args.variable c.args.symbols.now c.args.arms c.with_symbols-left.result c.take_last.new.self c.in-Some.last c.args.mark
+returns c =
+    on_ok_weaker c.emit_before.result (λ left single. switch_start single c.args.variable c.args.symbols.now c.args.arms c.with_symbols-left.result c.take_last.new.self c.in-Some.last c.args.mark
     (record { variable = c.args.variable; symbols = c.args.symbols; left = c.take_last.new.self; mark = c.args.mark; behind = c.len.result; starts = c.new-2.result })
-    c.args.tasks.now.items c.push.new.self.items c.push-2.new.self.items c.args.code.now
+    c.args.tasks.now.items c.emit_before.new.tasks.items c.args.code.now
     (subst (λ l. length c.with_symbols-left.result ≤ length l) c.as_slice.ensures c.with_symbols-left.ensures.short)
     (c.with_symbols-left.ensures.same c.args.symbols.now (ap length (sym c.as_slice.ensures))) c.in-Some.ensures refl refl refl refl c.len.ensures c.new-2.ensures.items
-    c.in_ok-push.ensures.items c.in_ok-push-2.ensures.items
+    left) c.emit_before.ensures

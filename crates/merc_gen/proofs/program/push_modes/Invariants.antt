@@ -2,7 +2,7 @@ use Rattle.std.proofs.Common.{◌≡◌, ◌++◌, drop, length, map}
 use Rattle.merc_gen.specs.Generated.{procedure_code}
 use Rattle.merc_gen.specs.Procedures.{mode_bodies}
 use Rattle.merc_gen.specs.Singles.{contained}
-use Rattle.merc_gen.proofs.program.generate_modes.Given as goal
+use Rattle.merc_gen.proofs.program.push_modes.Given as goal
 
 abbrev pub invariant-loop-mode : goal.invariant-loop-mode
 invariant-loop-mode l =

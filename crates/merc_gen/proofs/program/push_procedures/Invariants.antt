@@ -2,7 +2,7 @@ use Rattle.std.proofs.Common.{◌≡◌, ◌++◌, drop, map}
 use Rattle.merc_gen.specs.Generated.{procedure_code}
 use Rattle.merc_gen.specs.Procedures.{program_bodies}
 use Rattle.merc_gen.specs.Singles.{contained}
-use Rattle.merc_gen.proofs.program.generate_procedures.Given as goal
+use Rattle.merc_gen.proofs.program.push_procedures.Given as goal
 
 abbrev pub invariant-loop-declared : goal.invariant-loop-declared
 invariant-loop-declared l =

@@ -4,7 +4,7 @@ use Rattle.merc_gen.specs.Generated.{quiet}
 use Rattle.merc_gen.specs.Singles.{contained}
 use Rattle.merc_gen.specs.Turns.{list_turns}
 use Rattle.merc_gen.specs.Waiting.{are_quiet}
-use Rattle.merc_gen.proofs.quiet.is_quiet.Given as goal
+use Rattle.merc_gen.proofs.quiet.all_pass.Given as goal
 
 abbrev pub invariant-loop-next : goal.invariant-loop-next
 invariant-loop-next l = are_quiet (contained l.singles) l.left.items ≡ quiet (contained l.singles) (goal_of l.goal)

@@ -1,6 +1,6 @@
 use Rattle.std.proofs.Common.{◌≡◌, ◌++◌, drop, map}
 use Rattle.merc_gen.specs.Procedures.{program_bodies, answer_once}
-use Rattle.merc_gen.proofs.program.find_singles.Given as goal
+use Rattle.merc_gen.proofs.program.push_singles.Given as goal
 
 abbrev pub invariant-loop-declared : goal.invariant-loop-declared
 invariant-loop-declared l =

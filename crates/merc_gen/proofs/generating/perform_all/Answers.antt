@@ -1,6 +1,6 @@
 use Rattle.merc_gen.specs.Singles.{contained}
 use Rattle.merc_gen.proofs.Performing.{goes_on, fewer}
-use Rattle.merc_gen.proofs.generating.generate_goal.Goals as goal
+use Rattle.merc_gen.proofs.generating.perform_all.Goals as goal
 
 pub loop-task-smaller : goal.loop-task-smaller
 loop-task-smaller c =

@@ -2,7 +2,7 @@ use Rattle.std.proofs.Common.{sym, ap, ◌∙◌, ◌&&◌}
 use Rattle.merc_gen.specs.Singles.{contained}
 use Rattle.merc_gen.specs.Waiting.{are_quiet}
 use Rattle.merc_gen.proofs.Quieting.{looked_fewer, quiet-last}
-use Rattle.merc_gen.proofs.quiet.is_quiet.Goals as goal
+use Rattle.merc_gen.proofs.quiet.all_pass.Goals as goal
 
 pub returns-then-not-branch-2 : goal.returns-then-not-branch-2
 returns-then-not-branch-2 c =

@@ -1,6 +1,6 @@
 use Rattle.std.proofs.Common.{◌≡◌, ◌++◌, drop, length}
 use Rattle.merc_gen.specs.Procedures.{mode_bodies, answer_once}
-use Rattle.merc_gen.proofs.program.single_modes.Given as goal
+use Rattle.merc_gen.proofs.program.push_flags.Given as goal
 
 abbrev pub invariant-loop-mode : goal.invariant-loop-mode
 invariant-loop-mode l =
