@@ -12,3 +12,4 @@ pub mod OneFault
 pub mod RefusalLaws
 pub mod TypeVariableLaws
 pub mod FirstFaultExamples
+pub mod PhaseExamples

@@ -6,3 +6,4 @@ pub mod Assembling
 pub mod DeclaredTypes
 pub mod DeclaredModes
 pub mod ModuleOfExamples
+pub mod ModuleOfUnitExamples
