@@ -1,8 +1,9 @@
 //! Calls of which no run of the program shows that they succeed, each once with ample memory: bodies that always answer that
 //! memory was refused would meet their clauses. And `write_text`, of a value with shared parts.
+ghost use Rattle.std.specs.Prelude.{◌≡◌, length, IfOk};
 
-use merc_base::{Name, Names, Span, Text};
-use merc_goal_tree::{Nodes, Predicate, SimpleGoal, Vars};
+use merc_base::{Name, Names, NoMemory, Span, Text};
+use merc_goal_tree::{Node, NodeRef, Nodes, Predicate, SimpleGoal, Vars};
 use merc_heap::Heap;
 use merc_items::read_module;
 use merc_known::Known;
@@ -16,52 +17,93 @@ use merc_value::{Block, Word, equal, write_text};
 use std::alloc::Global;
 use std::test::Fail;
 
+// `[P | quoted]`, where P is a pair of the list `[-7]` with itself.
+fn shared_list(alloc: Global, pair: Name, quoted: Name) -> Result<Block, NoMemory>
+    ensures { IfOk result (λ block. length block.roots ≡ 1) }
+{
+    let mut block = Block::new(alloc);
+    block.cell(Name::CONS, &[Word::Int(-7), Word::Atom(Name::NIL)])?;
+    block.cell(pair, &[Word::Cell(0), Word::Cell(0)])?;
+    block.cell(Name::CONS, &[Word::Cell(1), Word::Text(quoted)])?;
+    block.add_root(Word::Cell(2))?;
+    Ok(block)
+}
+
 #[test]
 fn writes_a_shared_list(rt: HostRuntime) -> Result<(), Fail> {
     let alloc = rt.alloc();
     let mut names = Names::new(alloc);
     let pair = names.intern(b"pair")?;
     let quoted = names.intern(b"it's")?;
-    let mut block = Block::new(alloc);
-    block.cell(Name::CONS, &[Word::Int(-7), Word::Atom(Name::NIL)])?;
-    block.cell(pair, &[Word::Cell(0), Word::Cell(0)])?;
-    block.cell(Name::CONS, &[Word::Cell(1), Word::Text(quoted)])?;
-    block.add_root(Word::Cell(2))?;
+    let block = shared_list(alloc, pair, quoted)?;
     let mut text = Text::new(alloc);
-    write_text(alloc, &block, 0, &names, &mut text)?;
-    assert_eq!(rt; text.bytes(), b"[pair([-7], [-7]) | \"it's\"]".as_slice());
+    let is_written = write_text(alloc, &block, 0, &names, &mut text).is_ok();
+    // (a call, here and below, since it costs much to prove what is dropped)
+    drop(block);
+    drop(names);
+    assert!(rt; is_written);
+    assert!(rt; text.bytes() == b"[pair([-7], [-7]) | \"it's\"]".as_slice());
     Ok(())
+}
+
+// A pair of one value with itself, and the number 2.
+fn shared_pair(alloc: Global) -> Result<Block, NoMemory>
+    ensures { IfOk result (λ block. length block.roots ≡ 2) }
+{
+    let mut block = Block::new(alloc);
+    block.cell(Name::MAYBE, &[Word::Int(1)])?;
+    block.cell(Name::COMMA, &[Word::Cell(0), Word::Cell(0)])?;
+    block.add_root(Word::Cell(1))?;
+    block.add_root(Word::Int(2))?;
+    Ok(block)
+}
+
+// The same pair, of two cells.
+fn pair_apart(alloc: Global) -> Result<Block, NoMemory>
+    ensures { IfOk result (λ block. length block.roots ≡ 1) }
+{
+    let mut block = Block::new(alloc);
+    block.cell(Name::MAYBE, &[Word::Int(1)])?;
+    block.cell(Name::MAYBE, &[Word::Int(1)])?;
+    block.cell(Name::COMMA, &[Word::Cell(1), Word::Cell(0)])?;
+    block.add_root(Word::Cell(2))?;
+    Ok(block)
 }
 
 #[test]
 fn compares_values(rt: HostRuntime) -> Result<(), Fail> {
     let alloc = rt.alloc();
-    let mut shared = Block::new(alloc);
-    shared.cell(Name::MAYBE, &[Word::Int(1)])?;
-    shared.cell(Name::COMMA, &[Word::Cell(0), Word::Cell(0)])?;
-    shared.add_root(Word::Cell(1))?;
-    let mut apart = Block::new(alloc);
-    apart.cell(Name::MAYBE, &[Word::Int(1)])?;
-    apart.cell(Name::MAYBE, &[Word::Int(1)])?;
-    apart.cell(Name::COMMA, &[Word::Cell(1), Word::Cell(0)])?;
-    apart.add_root(Word::Cell(2))?;
-    assert!(rt; equal(&shared, 0, &apart, 0)?);
+    let shared = shared_pair(alloc)?;
+    let apart = pair_apart(alloc)?;
+    let are_equal = equal(&shared, 0, &apart, 0);
+    drop(apart);
+    drop(shared);
+    assert!(rt; are_equal?);
     Ok(())
 }
 
+// Whether a text reads as a term, which is then put behind another text.
+fn writes_back(alloc: Global, written: &[u8], names: &mut Names, into: &mut Text) -> bool {
+    match read_goal_text(alloc, written, names) {
+        Ok(term) => {
+            let is_written = write_term(alloc, &term, names, into).is_ok();
+            drop(term);
+            is_written
+        }
+        Err(_) => false,
+    }
+}
+
 #[test]
-fn writes_a_term_as_it_was_read(rt: HostRuntime) -> Result<(), Fail> {
+fn writes_a_term_as_it_was_read(rt: HostRuntime) {
     let alloc = rt.alloc();
-    let mut names = Names::new(alloc);
     let written = b"p(X, [a, 'B' | Y]) :- X = - (1), \"it\" = Y ; not q.r(-1)";
-    let term = match read_goal_text(alloc, written, &mut names) {
-        Ok(term) => term,
-        Err(_) => return Err(Fail::new("no term")),
-    };
+    let mut names = Names::new(alloc);
     let mut text = Text::new(alloc);
-    write_term(alloc, &term, &names, &mut text)?;
-    assert_eq!(rt; text.bytes(), written.as_slice());
-    Ok(())
+    let is_written = writes_back(alloc, written, &mut names, &mut text);
+    drop(names);
+    assert!(rt; is_written);
+    assert!(rt; text.bytes() == written.as_slice());
 }
 
 // `list(T)`, where T is a type variable of this name or `int`.
@@ -78,57 +120,94 @@ fn list_type(alloc: Global, variable: Option<Name>) -> Result<TypeExpr, Fail> {
     }
 }
 
+// The shape of the type that the unification of two types binds a variable to.
+fn bound_shape(
+    alloc: Global,
+    one: &TypeExpr,
+    other: &TypeExpr,
+    variable: Name,
+) -> Option<TypeShape> {
+    let free = Subst::new(alloc);
+    let found = unify(alloc, one, other, &free);
+    drop(free);
+    match found {
+        Ok(Some(found)) => {
+            let shape = match found.get(variable) {
+                Some(bound) => Some(bound.shape()),
+                None => None,
+            };
+            drop(found);
+            shape
+        }
+        _ => None,
+    }
+}
+
 #[test]
 fn unifies_types(rt: HostRuntime) -> Result<(), Fail> {
     let alloc = rt.alloc();
     let open = list_type(alloc, Some(Name::MODE))?;
     let closed = list_type(alloc, None)?;
-    let found = unify(alloc, &open, &closed, &Subst::new(alloc))?.expect(&rt, "a unifier");
-    let bound = found.get(Name::MODE).expect(&rt, "a binding");
-    assert!(rt; bound.shape() == TypeShape::Int);
+    let found = bound_shape(alloc, &open, &closed, Name::MODE);
+    drop(closed);
+    drop(open);
+    assert!(rt; found == Some(TypeShape::Int));
     Ok(())
 }
 
-// `not p, true`
-#[test]
-fn joins_goals(rt: HostRuntime) -> Result<(), Fail> {
-    let alloc = rt.alloc();
-    let span = Span {
-        first: 0,
-        past: 1,
-        line: 1,
-    };
-    let mut nodes = Nodes::new(alloc);
-    nodes.push(SimpleGoal::Call(Predicate::new(0), Vars::new(alloc)), span)?;
-    nodes.negate(span)?;
-    nodes.push(SimpleGoal::True, span)?;
+const SPAN: Span = Span {
+    first: 0,
+    past: 1,
+    line: 1,
+};
+
+// Puts `not p, true` behind the goals.
+fn put_conjunction(alloc: Global, nodes: &mut Nodes) -> Result<(), NoMemory> {
+    nodes.push(SimpleGoal::Call(Predicate::new(0), Vars::new(alloc)), SPAN)?;
+    nodes.negate(SPAN)?;
+    nodes.push(SimpleGoal::True, SPAN)?;
     if nodes.len() >= 2 {
-        nodes.conjoin(2, span)?;
+        nodes.conjoin(2, SPAN)?;
     }
-    let only = nodes.into_only().expect(&rt, "one goal");
-    assert_eq!(rt; only.as_ref().part_count(), 4);
     Ok(())
+}
+
+#[test]
+fn joins_goals(rt: HostRuntime) {
+    let alloc = rt.alloc();
+    let mut nodes = Nodes::new(alloc);
+    let is_put = put_conjunction(alloc, &mut nodes).is_ok();
+    let only = nodes.into_only().expect(&rt, "one goal");
+    assert!(rt; is_put);
+    assert!(rt; only.as_ref().part_count() == 4);
+}
+
+// How many words a block gives a heap.
+fn thawed_count(block: &Block, heap: &mut Heap) -> Result<usize, NoMemory> {
+    let words = thaw(block, heap)?;
+    Ok(words.len())
 }
 
 #[test]
 fn thaws_a_block(rt: HostRuntime) -> Result<(), Fail> {
     let alloc = rt.alloc();
-    let mut block = Block::new(alloc);
-    block.cell(Name::MAYBE, &[Word::Int(1)])?;
-    block.cell(Name::COMMA, &[Word::Cell(0), Word::Cell(0)])?;
-    block.add_root(Word::Cell(1))?;
-    block.add_root(Word::Int(2))?;
+    let block = shared_pair(alloc)?;
     let mut heap = Heap::new(alloc);
-    let words = thaw(&block, &mut heap)?;
-    assert_eq!(rt; words.len(), 2);
+    let count = thawed_count(&block, &mut heap);
+    drop(heap);
+    drop(block);
+    assert!(rt; count? == 2);
     Ok(())
 }
 
 // A module with one predicate of its own.
 fn small_module(alloc: Global) -> Result<Module, Fail> {
-    let mut names = Names::new(alloc);
     let text = Text::of(alloc, b":- module m.\n:- pred p is det.\np.\n")?;
-    match read_module(alloc, &text, &mut names) {
+    let mut names = Names::new(alloc);
+    let found = read_module(alloc, &text, &mut names);
+    drop(names);
+    drop(text);
+    match found {
         Ok(module) => Ok(module),
         Err(_) => Err(Fail::new("no module")),
     }
@@ -137,24 +216,43 @@ fn small_module(alloc: Global) -> Result<Module, Fail> {
 #[test]
 fn reads_a_module(rt: HostRuntime) -> Result<(), Fail> {
     let module = small_module(rt.alloc())?;
-    assert_eq!(rt; module.own, 1);
+    let own = module.own;
+    drop(module);
+    assert!(rt; own == 1);
     Ok(())
+}
+
+// Whether a goal has types in a module.
+fn is_typed_in(alloc: Global, known: &Known<'_>, goal: &NodeRef<'_>) -> Result<bool, NoMemory> {
+    let declared = DeclaredTypes::of(alloc, known)?;
+    let found = typing(alloc, known, &declared, None, goal);
+    let is_typed = match found {
+        Ok(typing) => typing.is_some(),
+        Err(refused) => return Err(refused),
+    };
+    Ok(is_typed)
+}
+
+// The goal `true`.
+fn true_goal(alloc: Global) -> Result<Node, Fail> {
+    let mut nodes = Nodes::new(alloc);
+    nodes.push(SimpleGoal::True, SPAN)?;
+    match nodes.into_only() {
+        Some(goal) => Ok(goal),
+        None => Err(Fail::new("one goal")),
+    }
 }
 
 #[test]
 fn finds_types(rt: HostRuntime) -> Result<(), Fail> {
     let alloc = rt.alloc();
+    let goal = true_goal(alloc)?;
     let module = small_module(alloc)?;
     let known = Known::of(alloc, &module)?;
-    let declared = DeclaredTypes::of(alloc, &known)?;
-    let span = Span {
-        first: 0,
-        past: 1,
-        line: 1,
-    };
-    let mut nodes = Nodes::new(alloc);
-    nodes.push(SimpleGoal::True, span)?;
-    let goal = nodes.into_only().expect(&rt, "one goal");
-    assert!(rt; typing(alloc, &known, &declared, None, &goal.as_ref())?.is_some());
+    let is_typed = is_typed_in(alloc, &known, &goal.as_ref());
+    drop(known);
+    drop(module);
+    drop(goal);
+    assert!(rt; is_typed?);
     Ok(())
 }

@@ -107,6 +107,23 @@ fn end_all(mut producers: Vec<Producer<Number, Number>>) -> Counts {
     counts
 }
 
+// Whether a wait at a cell that was poisoned before starves.
+fn starves(producer: Producer<Number, Number>, consumer: Consumer<Number, Number>) -> bool {
+    let got_nothing = producer.poison().is_none();
+    let is_starved = matches!(consumer.wait(Number(7)), CellWait::Starved(Number(7)));
+    got_nothing && is_starved
+}
+
+// Whether a wait at a cell that was signalled before has the value.
+fn is_ready(producer: Producer<Number, Number>, consumer: Consumer<Number, Number>) -> bool {
+    let got_nothing = producer.signal(Number(8)).is_none();
+    let has_value = matches!(
+        consumer.wait(Number(7)),
+        CellWait::Ready(Number(7), Number(8))
+    );
+    got_nothing && has_value
+}
+
 // No clause speaks of two threads at once, nor of what the producer did before a wait on the same thread.
 #[test]
 fn each_waiter_comes_out_once(rt: HostRuntime) -> Result<(), Fail> {
@@ -118,21 +135,12 @@ fn each_waiter_comes_out_once(rt: HostRuntime) -> Result<(), Fail> {
             move || end_all(producers),
         );
         let all = waited.with(ended);
-        assert_eq!(rt; all.waiters, 10_000);
-        assert_eq!(rt; all.waiter_sum, 49_995_000);
-        assert_eq!(rt; all.values, 5_000);
-        assert_eq!(rt; all.value_sum, 49_990_000);
+        assert!(rt; [all.waiters, all.waiter_sum] == [10_000, 49_995_000]);
+        assert!(rt; [all.values, all.value_sum] == [5_000, 49_990_000]);
     }
     let (producer, consumer) = new_cell::<Number, Number, Brand>(rt.alloc())?;
-    assert!(rt; producer.poison().is_none());
-    assert!(rt; matches!(consumer.wait(Number(7)), CellWait::Starved(Number(7))));
+    assert!(rt; starves(producer, consumer));
     let (producer, consumer) = new_cell::<Number, Number, Brand>(rt.alloc())?;
-    assert!(rt; producer.signal(Number(8)).is_none());
-    assert!(rt;
-        matches!(
-            consumer.wait(Number(7)),
-            CellWait::Ready(Number(7), Number(8))
-        )
-    );
+    assert!(rt; is_ready(producer, consumer));
     Ok(())
 }

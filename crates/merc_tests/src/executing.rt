@@ -48,6 +48,16 @@ fn handing_over(alloc: Global) -> Result<Script, NoMemory>
     }
 }
 
+// Whether the core makes these steps, and there is no outcome before any of them.
+fn makes_all(core: &mut Core, events: &[Event]) -> bool {
+    for event in events {
+        if core.outcome() != None || core.step(*event) != Ok(()) {
+            return false;
+        }
+    }
+    true
+}
+
 #[test]
 fn hands_a_value_over(rt: HostRuntime) -> Result<(), Fail> {
     let alloc = rt.alloc();
@@ -65,13 +75,24 @@ fn hands_a_value_over(rt: HostRuntime) -> Result<(), Fail> {
         Event::Resume(0),
         Event::End(0),
     ];
-    for event in &events {
-        assert!(rt; core.outcome() == None);
-        assert!(rt; core.step(*event) == Ok(()));
-    }
-    assert!(rt; core.outcome() == Some(Outcome::Ok(2)));
-    assert!(rt; core.ready_event() == None);
+    let are_made = makes_all(&mut core, &events);
+    let outcome = core.outcome();
+    let next = core.ready_event();
+    // (a call, here and below, since it costs much to prove what is dropped)
+    drop(core);
+    assert!(rt; are_made);
+    assert!(rt; outcome == Some(Outcome::Ok(2)));
+    assert!(rt; next == None);
     Ok(())
+}
+
+// What the core answers to a pop, a tick and a steal that it is to refuse.
+fn refusals(core: &mut Core) -> [Result<(), NotNow>; 3] {
+    [
+        core.step(Event::Pop(1)),
+        core.step(Event::Tick(1)),
+        core.step(Event::Steal(1, 1)),
+    ]
 }
 
 #[test]
@@ -79,13 +100,21 @@ fn refuses_and_changes_nothing(rt: HostRuntime) -> Result<(), Fail> {
     let alloc = rt.alloc();
     let mut core = Core::new(alloc, handing_over(alloc)?, 2)?;
     let accepted = [Event::Fork(0), Event::Steal(1, 0), Event::Wait(1)];
-    for event in &accepted {
-        assert!(rt; core.step(*event) == Ok(()));
-    }
-    assert!(rt; core.step(Event::Pop(1)) == Err(NotNow::ListEmpty));
-    assert!(rt; core.step(Event::Tick(1)) == Err(NotNow::Idle));
-    assert!(rt; core.step(Event::Steal(1, 1)) == Err(NotNow::SameWorker));
-    assert!(rt; core.events() == accepted.as_slice());
-    assert!(rt; core.step(Event::Tick(0)) == Ok(()));
+    let are_made = makes_all(&mut core, &accepted);
+    let refused = refusals(&mut core);
+    let is_kept = core.events() == accepted.as_slice();
+    let goes_on = core.step(Event::Tick(0));
+    drop(core);
+    assert!(rt; are_made);
+    assert!(rt;
+        refused
+            == [
+                Err(NotNow::ListEmpty),
+                Err(NotNow::Idle),
+                Err(NotNow::SameWorker)
+            ]
+    );
+    assert!(rt; is_kept);
+    assert!(rt; goes_on == Ok(()));
     Ok(())
 }

@@ -54,6 +54,33 @@ fn steps_of(parent: u64, child: u64) -> u64 {
     parent.wrapping_mul(100).wrapping_add(child)
 }
 
+impl Hands {
+    // Gives the job of a child to the thread whose turn it is.
+    fn give(&mut self, child: u64, job: Job) -> Result<(), NoMemory> {
+        let hand = match child % 4 {
+            0 => &mut self.first,
+            1 => &mut self.second,
+            2 => &mut self.third,
+            _ => &mut self.fourth,
+        };
+        hand.push(job)?;
+        Ok(())
+    }
+
+    // Gives each thread two tickets of a join.
+    fn deal(&mut self, alloc: Global, parent: u64) -> Result<(), NoMemory> {
+        let Ok(tickets) = new_join(alloc, CHILDREN, Parent(parent)) else {
+            return Err(NoMemory);
+        };
+        let mut child = 0;
+        for ticket in tickets {
+            self.give(child, (ticket, steps_of(parent, child)))?;
+            child = child.wrapping_add(1);
+        }
+        Ok(())
+    }
+}
+
 // The tickets of many joins, each thread having two of each.
 fn deal_out(alloc: Global) -> Result<Hands, NoMemory> {
     let mut hands = Hands {
@@ -63,20 +90,7 @@ fn deal_out(alloc: Global) -> Result<Hands, NoMemory> {
         fourth: Vec::new(alloc),
     };
     for parent in 0..JOINS {
-        let Ok(tickets) = new_join(alloc, CHILDREN, Parent(parent)) else {
-            return Err(NoMemory);
-        };
-        let mut child = 0;
-        for ticket in tickets {
-            let job = (ticket, steps_of(parent, child));
-            match child % 4 {
-                0 => hands.first.push(job)?,
-                1 => hands.second.push(job)?,
-                2 => hands.third.push(job)?,
-                _ => hands.fourth.push(job)?,
-            }
-            child = child.wrapping_add(1);
-        }
+        hands.deal(alloc, parent)?;
     }
     Ok(hands)
 }
@@ -164,14 +178,21 @@ fn has_both(finished: Option<Finished<Parent>>) -> bool {
     }
 }
 
+// Whether the second of two tickets gets both outcomes, and the first nothing.
+fn gets_both(earlier: (Ticket<Parent>, Outcome), later: (Ticket<Parent>, Outcome)) -> bool {
+    let (first, its_outcome) = earlier;
+    let (second, other_outcome) = later;
+    let got_nothing = first.done(its_outcome).is_none();
+    let got_both = has_both(second.done(other_outcome));
+    got_nothing && got_both
+}
+
 // No clause speaks of what was done before with the other ticket.
 #[test]
 fn the_second_of_two_gets_both(rt: HostRuntime) -> Result<(), Fail> {
     let (first, second) = two_tickets(rt.alloc())?;
-    assert!(rt; first.done(Outcome::Ok(3)).is_none());
-    assert!(rt; has_both(second.done(Outcome::Limit)));
+    assert!(rt; gets_both((first, Outcome::Ok(3)), (second, Outcome::Limit)));
     let (first, second) = two_tickets(rt.alloc())?;
-    assert!(rt; second.done(Outcome::Limit).is_none());
-    assert!(rt; has_both(first.done(Outcome::Ok(3))));
+    assert!(rt; gets_both((second, Outcome::Limit), (first, Outcome::Ok(3))));
     Ok(())
 }

@@ -3,6 +3,7 @@ ghost use Rattle.std.specs.Prelude.{None, Some};
 
 use merc_base::{Buffer, Fetched, Gate, Shelf, Sink, Text, Wrote};
 use merc_io::{FileShelf, OpenGate, Opener, OutSink, ReadFault};
+use std::alloc::Global;
 use std::io::{ErrorKind, Read, Write};
 use std::os::fd::AsRawFd;
 use std::test::Fail;
@@ -71,61 +72,107 @@ impl Write for Narrow {
 #[test]
 fn a_reader_gives_less(rt: HostRuntime) -> Result<(), Fail> {
     let alloc = rt.alloc();
+    let name = Text::of(alloc, b"a")?;
     let mut buffer = Buffer::new(alloc)?;
     let mut shelf = FileShelf::over(alloc, ShortFiles);
-    let name = Text::of(alloc, b"a")?;
-    assert!(rt; shelf.fetch(&name, 0, &mut buffer) == Fetched::Got(2));
-    assert_eq!(rt; buffer.bytes(), b"ab".as_slice());
-    assert!(rt; shelf.fetch(&name, 2, &mut buffer) == Fetched::Got(2));
-    assert!(rt; shelf.fetch(&name, 4, &mut buffer) == Fetched::Failed);
-    assert!(rt; shelf.fetch(&name, 4, &mut buffer) == Fetched::Got(2));
+    let first = shelf.fetch(&name, 0, &mut buffer);
+    let is_given = buffer.bytes() == b"ab".as_slice();
+    let later = [
+        shelf.fetch(&name, 2, &mut buffer),
+        shelf.fetch(&name, 4, &mut buffer),
+        shelf.fetch(&name, 4, &mut buffer),
+    ];
+    // (calls, here and below, since it costs much to prove what is dropped)
+    drop(shelf);
+    drop(buffer);
+    drop(name);
+    assert!(rt; first == Fetched::Got(2) && is_given);
+    assert!(rt; later == [Fetched::Got(2), Fetched::Failed, Fetched::Got(2)]);
     Ok(())
 }
 
 #[test]
-fn a_writer_takes_less(rt: HostRuntime) -> Result<(), Fail> {
+fn a_writer_takes_less(rt: HostRuntime) {
     let mut sink = OutSink::over(Narrow {
         bytes: Vec::new(rt.alloc()),
     });
-    assert!(rt; sink.write(b"abc") == Wrote::Took(2));
-    assert!(rt; sink.write(b"c") == Wrote::Took(1));
-    assert!(rt; sink.write(b"") == Wrote::Took(0));
-    assert!(rt; sink.write(b"de") == Wrote::Took(2));
-    assert!(rt; sink.write(b"f") == Wrote::Failed);
-    Ok(())
+    let answers = [
+        sink.write(b"abc"),
+        sink.write(b"c"),
+        sink.write(b""),
+        sink.write(b"de"),
+        sink.write(b"f"),
+    ];
+    drop(sink);
+    assert!(rt;
+        answers
+            == [
+                Wrote::Took(2),
+                Wrote::Took(1),
+                Wrote::Took(0),
+                Wrote::Took(2),
+                Wrote::Failed,
+            ]
+    );
 }
 
+// The file of this path, from two places on, and then with the file removed, and of a folder.
 #[test]
 fn the_system_is_read(rt: HostRuntime) -> Result<(), Fail> {
     let alloc = rt.alloc();
     let path = format!(in alloc; "/tmp/merc_io-{}.txt", process::id(rt.process()))?;
     fs::write(&rt, path.as_str(), "hello")?;
+    let name = Text::of(alloc, path.as_bytes())?;
+    let folder = Text::of(alloc, b"/")?;
     let mut buffer = Buffer::new(alloc)?;
     let mut shelf = FileShelf::new(&rt);
-    let name = Text::of(alloc, path.as_bytes())?;
-    assert!(rt; shelf.fetch(&name, 1, &mut buffer) == Fetched::Got(4));
-    assert_eq!(rt; buffer.bytes(), b"ello".as_slice());
-    assert!(rt; shelf.fetch(&name, 5, &mut buffer) == Fetched::End);
-    fs::remove_file(&rt, path.as_str())?;
-    assert!(rt; shelf.fetch(&name, 0, &mut buffer) == Fetched::Absent);
-    assert!(rt; shelf.fetch(&Text::of(alloc, b"/")?, 0, &mut buffer) == Fetched::Failed);
+    let first = shelf.fetch(&name, 1, &mut buffer);
+    let is_given = buffer.bytes() == b"ello".as_slice();
+    let end = shelf.fetch(&name, 5, &mut buffer);
+    let is_removed = fs::remove_file(&rt, path.as_str()).is_ok();
+    let later = [
+        shelf.fetch(&name, 0, &mut buffer),
+        shelf.fetch(&folder, 0, &mut buffer),
+    ];
+    drop(shelf);
+    drop(buffer);
+    drop(folder);
+    drop(name);
+    drop(path);
+    assert!(rt; first == Fetched::Got(4) && is_given);
+    assert!(rt; end == Fetched::End);
+    assert!(rt; is_removed);
+    assert!(rt; later == [Fetched::Absent, Fetched::Failed]);
     Ok(())
+}
+// The name under which this process finds a file that it has open.
+fn name_of<F: AsRawFd>(alloc: Global, file: &F) -> Result<Text, Fail> {
+    let path = format!(in alloc; "/proc/self/fd/{}", file.as_raw_fd())?;
+    let name = Text::of(alloc, path.as_bytes());
+    drop(path);
+    Ok(name?)
 }
 
 #[test]
 fn a_pipe_is_read_on(rt: HostRuntime) -> Result<(), Fail> {
     let alloc = rt.alloc();
-    let (reader, mut writer) = std::io::pipe(&rt)?;
-    let path = format!(in alloc; "/proc/self/fd/{}", reader.as_raw_fd())?;
     let mut buffer = Buffer::new(alloc)?;
+    let (reader, mut writer) = std::io::pipe(&rt)?;
+    let name = name_of(alloc, &reader)?;
     let mut shelf = FileShelf::new(&rt);
-    let name = Text::of(alloc, path.as_bytes())?;
-    writer.write_all(b"hello")?;
-    assert!(rt; shelf.fetch(&name, 0, &mut buffer) == Fetched::Got(5));
-    writer.write_all(b"abc")?;
-    assert!(rt; shelf.fetch(&name, 5, &mut buffer) == Fetched::Got(3));
-    writer.write_all(b"abc")?;
-    assert!(rt; shelf.fetch(&name, 9, &mut buffer) == Fetched::Failed);
+    let first_written = writer.write_all(b"hello").is_ok();
+    let first = shelf.fetch(&name, 0, &mut buffer);
+    let second_written = writer.write_all(b"abc").is_ok();
+    let second = shelf.fetch(&name, 5, &mut buffer);
+    let third_written = writer.write_all(b"abc").is_ok();
+    let third = shelf.fetch(&name, 9, &mut buffer);
+    drop(shelf);
+    drop(name);
+    drop(writer);
+    drop(reader);
+    drop(buffer);
+    assert!(rt; first_written && second_written && third_written);
+    assert!(rt; [first, second, third] == [Fetched::Got(5), Fetched::Got(3), Fetched::Failed]);
     Ok(())
 }
 
