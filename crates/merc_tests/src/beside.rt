@@ -29,21 +29,26 @@ fn shared_list(alloc: Global, pair: Name, quoted: Name) -> Result<Block, NoMemor
     Ok(block)
 }
 
-#[test]
-fn writes_a_shared_list(rt: HostRuntime) -> Result<(), Fail> {
-    let alloc = rt.alloc();
-    let mut names = Names::new(alloc);
+// Puts the text of that list behind a text, with one name that is written plain and one in quotes.
+fn put_shared_list(alloc: Global, names: &mut Names, into: &mut Text) -> Result<(), NoMemory> {
     let pair = names.intern(b"pair")?;
     let quoted = names.intern(b"it's")?;
     let block = shared_list(alloc, pair, quoted)?;
-    let mut text = Text::new(alloc);
-    let is_written = write_text(alloc, &block, 0, &names, &mut text).is_ok();
+    let written = write_text(alloc, &block, 0, names, into);
     // (a call, here and below, since it costs much to prove what is dropped)
     drop(block);
+    written
+}
+
+#[test]
+fn writes_a_shared_list(rt: HostRuntime) {
+    let alloc = rt.alloc();
+    let mut names = Names::new(alloc);
+    let mut text = Text::new(alloc);
+    let is_written = put_shared_list(alloc, &mut names, &mut text).is_ok();
     drop(names);
     assert!(rt; is_written);
     assert!(rt; text.bytes() == b"[pair([-7], [-7]) | \"it's\"]".as_slice());
-    Ok(())
 }
 
 // A pair of one value with itself, and the number 2.
@@ -107,17 +112,14 @@ fn writes_a_term_as_it_was_read(rt: HostRuntime) {
 }
 
 // `list(T)`, where T is a type variable of this name or `int`.
-fn list_type(alloc: Global, variable: Option<Name>) -> Result<TypeExpr, Fail> {
+fn list_type(alloc: Global, variable: Option<Name>) -> Result<Option<TypeExpr>, NoMemory> {
     let mut types = TypeExprs::new(alloc);
     match variable {
         Some(name) => types.push_variable(name)?,
         None => types.push_int()?,
     }
     types.apply(Name::LIST, types.len())?;
-    match types.into_only() {
-        Some(only) => Ok(only),
-        None => Err(Fail::new("one type")),
-    }
+    Ok(types.into_only())
 }
 
 // The shape of the type that the unification of two types binds a variable to.
@@ -146,8 +148,8 @@ fn bound_shape(
 #[test]
 fn unifies_types(rt: HostRuntime) -> Result<(), Fail> {
     let alloc = rt.alloc();
-    let open = list_type(alloc, Some(Name::MODE))?;
-    let closed = list_type(alloc, None)?;
+    let open = list_type(alloc, Some(Name::MODE))?.expect(&rt, "one type");
+    let closed = list_type(alloc, None)?.expect(&rt, "one type");
     let found = bound_shape(alloc, &open, &closed, Name::MODE);
     drop(closed);
     drop(open);
@@ -178,8 +180,9 @@ fn joins_goals(rt: HostRuntime) {
     let mut nodes = Nodes::new(alloc);
     let is_put = put_conjunction(alloc, &mut nodes).is_ok();
     let only = nodes.into_only().expect(&rt, "one goal");
-    assert!(rt; is_put);
-    assert!(rt; only.as_ref().part_count() == 4);
+    let count = only.as_ref().part_count();
+    drop(only);
+    assert!(rt; is_put && count == 4);
 }
 
 // How many words a block gives a heap.
@@ -222,35 +225,35 @@ fn reads_a_module(rt: HostRuntime) -> Result<(), Fail> {
     Ok(())
 }
 
-// Whether a goal has types in a module.
+// The goal `true`.
+fn true_goal(alloc: Global) -> Result<Option<Node>, NoMemory> {
+    let mut nodes = Nodes::new(alloc);
+    nodes.push(SimpleGoal::True, SPAN)?;
+    Ok(nodes.into_only())
+}
+
+// Whether a goal has types in a module whose names are known.
 fn is_typed_in(alloc: Global, known: &Known<'_>, goal: &NodeRef<'_>) -> Result<bool, NoMemory> {
     let declared = DeclaredTypes::of(alloc, known)?;
-    let found = typing(alloc, known, &declared, None, goal);
-    let is_typed = match found {
-        Ok(typing) => typing.is_some(),
-        Err(refused) => return Err(refused),
-    };
+    let is_typed = matches!(typing(alloc, known, &declared, None, goal), Ok(Some(_)));
+    drop(declared);
     Ok(is_typed)
 }
 
-// The goal `true`.
-fn true_goal(alloc: Global) -> Result<Node, Fail> {
-    let mut nodes = Nodes::new(alloc);
-    nodes.push(SimpleGoal::True, SPAN)?;
-    match nodes.into_only() {
-        Some(goal) => Ok(goal),
-        None => Err(Fail::new("one goal")),
-    }
+// Whether a goal has types in a module.
+fn has_types(alloc: Global, module: &Module, goal: &NodeRef<'_>) -> Result<bool, NoMemory> {
+    let known = Known::of(alloc, module)?;
+    let is_typed = is_typed_in(alloc, &known, goal);
+    drop(known);
+    is_typed
 }
 
 #[test]
 fn finds_types(rt: HostRuntime) -> Result<(), Fail> {
     let alloc = rt.alloc();
-    let goal = true_goal(alloc)?;
+    let goal = true_goal(alloc)?.expect(&rt, "one goal");
     let module = small_module(alloc)?;
-    let known = Known::of(alloc, &module)?;
-    let is_typed = is_typed_in(alloc, &known, &goal.as_ref());
-    drop(known);
+    let is_typed = has_types(alloc, &module, &goal.as_ref());
     drop(module);
     drop(goal);
     assert!(rt; is_typed?);

@@ -6,6 +6,7 @@ use std::alloc::Global;
 use std::marker::Brand;
 use std::test::Fail;
 use std::thread;
+use std::thread::Threads;
 
 // A value or a waiter, which fits each cell.
 #[derive(Clone, Copy)]
@@ -107,6 +108,13 @@ fn end_all(mut producers: Vec<Producer<Number, Number>>) -> Counts {
     counts
 }
 
+// What comes out of cells at which two threads meet.
+fn meet<R: Threads + Sync>(rt: &R, ends: Ends) -> Counts {
+    let (producers, consumers) = ends;
+    let (waited, ended) = thread::join(rt, move || wait_all(consumers), move || end_all(producers));
+    waited.with(ended)
+}
+
 // Whether a wait at a cell that was poisoned before starves.
 fn starves(producer: Producer<Number, Number>, consumer: Consumer<Number, Number>) -> bool {
     let got_nothing = producer.poison().is_none();
@@ -128,15 +136,9 @@ fn is_ready(producer: Producer<Number, Number>, consumer: Consumer<Number, Numbe
 #[test]
 fn each_waiter_comes_out_once(rt: HostRuntime) -> Result<(), Fail> {
     for round in 0..20 {
-        let (producers, consumers) = cells(rt.alloc(), 10_000)?;
-        let (waited, ended) = thread::join(
-            &rt,
-            move || wait_all(consumers),
-            move || end_all(producers),
-        );
-        let all = waited.with(ended);
-        assert!(rt; [all.waiters, all.waiter_sum] == [10_000, 49_995_000]);
-        assert!(rt; [all.values, all.value_sum] == [5_000, 49_990_000]);
+        let all = meet(&rt, cells(rt.alloc(), 10_000)?);
+        assert!(rt; all.waiters == 10_000 && all.waiter_sum == 49_995_000);
+        assert!(rt; all.values == 5_000 && all.value_sum == 49_990_000);
     }
     let (producer, consumer) = new_cell::<Number, Number, Brand>(rt.alloc())?;
     assert!(rt; starves(producer, consumer));

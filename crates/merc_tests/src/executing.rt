@@ -48,6 +48,11 @@ fn handing_over(alloc: Global) -> Result<Script, NoMemory>
     }
 }
 
+// A core with two workers at the start of that script.
+fn core_of_two(alloc: Global) -> Result<Core, NoMemory> {
+    Core::new(alloc, handing_over(alloc)?, 2)
+}
+
 // Whether the core makes these steps, and there is no outcome before any of them.
 fn makes_all(core: &mut Core, events: &[Event]) -> bool {
     for event in events {
@@ -60,8 +65,7 @@ fn makes_all(core: &mut Core, events: &[Event]) -> bool {
 
 #[test]
 fn hands_a_value_over(rt: HostRuntime) -> Result<(), Fail> {
-    let alloc = rt.alloc();
-    let mut core = Core::new(alloc, handing_over(alloc)?, 2)?;
+    let mut core = core_of_two(rt.alloc())?;
     let events = [
         Event::Fork(0),
         Event::Steal(1, 0),
@@ -97,8 +101,7 @@ fn refusals(core: &mut Core) -> [Result<(), NotNow>; 3] {
 
 #[test]
 fn refuses_and_changes_nothing(rt: HostRuntime) -> Result<(), Fail> {
-    let alloc = rt.alloc();
-    let mut core = Core::new(alloc, handing_over(alloc)?, 2)?;
+    let mut core = core_of_two(rt.alloc())?;
     let accepted = [Event::Fork(0), Event::Steal(1, 0), Event::Wait(1)];
     let are_made = makes_all(&mut core, &accepted);
     let refused = refusals(&mut core);

@@ -133,26 +133,29 @@ fn do_two<R: Threads + Sync>(rt: &R, one: Vec<Job>, other: Vec<Job>) -> Counts {
     a.with(b)
 }
 
+// What the jobs of all hands come to, done in four threads.
+fn do_four<R: Threads + Sync>(rt: &R, hands: Hands) -> Counts {
+    let Hands {
+        first,
+        second,
+        third,
+        fourth,
+    } = hands;
+    let (a, b) = thread::join(
+        rt,
+        move || do_two(rt, first, second),
+        move || do_two(rt, third, fourth),
+    );
+    a.with(b)
+}
+
 // No clause speaks of several threads at once.
 #[test]
 fn each_join_ends_once(rt: HostRuntime) -> Result<(), Fail> {
     for round in 0..20 {
-        let Hands {
-            first,
-            second,
-            third,
-            fourth,
-        } = deal_out(rt.alloc())?;
-        let threads = &rt;
-        let (a, b) = thread::join(
-            &rt,
-            move || do_two(threads, first, second),
-            move || do_two(threads, third, fourth),
-        );
-        let all = a.with(b);
-        assert_eq!(rt; all.finished, JOINS);
-        assert_eq!(rt; all.parent_sum, 1_999_000);
-        assert_eq!(rt; all.outcomes, 16_000);
+        let all = do_four(&rt, deal_out(rt.alloc())?);
+        assert!(rt; all.finished == JOINS);
+        assert!(rt; all.parent_sum == 1_999_000 && all.outcomes == 16_000);
     }
     Ok(())
 }

@@ -1,11 +1,12 @@
 //! What no clause can say: what the files of the system hold, and that a reader may give and a writer take less.
-ghost use Rattle.std.specs.Prelude.{None, Some};
+ghost use Rattle.std.specs.Prelude.{◌≡◌, ◌+◌, ◌<◌, ◌≤◌, None, Some};
 
 use merc_base::{Buffer, Fetched, Gate, Shelf, Sink, Text, Wrote};
 use merc_io::{FileShelf, OpenGate, Opener, OutSink, ReadFault};
 use std::alloc::Global;
 use std::io::{ErrorKind, Read, Write};
 use std::os::fd::AsRawFd;
+use std::rt::Files;
 use std::test::Fail;
 use std::{fs, io, process};
 
@@ -69,25 +70,46 @@ impl Write for Narrow {
     }
 }
 
+// Whether a fetch brings these bytes.
+fn brings<O: Opener + Drop>(
+    shelf: &mut FileShelf<O>,
+    name: &Text,
+    at: u64,
+    bytes: &[u8],
+    into: &mut Buffer,
+) -> bool
+    requires { shelf.old.faults < 18446744073709551615 }
+    ensures { shelf.new.faults ≤ shelf.old.faults + 1 }
+{
+    let answer = shelf.fetch(name, at, into);
+    answer == Fetched::Got(bytes.len()) && into.bytes() == bytes
+}
+
+// Whether files that are read by two bytes give these, and are opened anew behind a failure.
+fn gives_less(shelf: &mut FileShelf<ShortFiles>, name: &Text, into: &mut Buffer) -> bool
+    requires { shelf.old.faults ≡ 0 }
+{
+    let is_given = brings(shelf, name, 0, b"ab", into);
+    let later = [
+        shelf.fetch(name, 2, into),
+        shelf.fetch(name, 4, into),
+        shelf.fetch(name, 4, into),
+    ];
+    is_given && later == [Fetched::Got(2), Fetched::Failed, Fetched::Got(2)]
+}
+
 #[test]
 fn a_reader_gives_less(rt: HostRuntime) -> Result<(), Fail> {
     let alloc = rt.alloc();
     let name = Text::of(alloc, b"a")?;
     let mut buffer = Buffer::new(alloc)?;
     let mut shelf = FileShelf::over(alloc, ShortFiles);
-    let first = shelf.fetch(&name, 0, &mut buffer);
-    let is_given = buffer.bytes() == b"ab".as_slice();
-    let later = [
-        shelf.fetch(&name, 2, &mut buffer),
-        shelf.fetch(&name, 4, &mut buffer),
-        shelf.fetch(&name, 4, &mut buffer),
-    ];
+    let is_right = gives_less(&mut shelf, &name, &mut buffer);
     // (calls, here and below, since it costs much to prove what is dropped)
     drop(shelf);
     drop(buffer);
     drop(name);
-    assert!(rt; first == Fetched::Got(2) && is_given);
-    assert!(rt; later == [Fetched::Got(2), Fetched::Failed, Fetched::Got(2)]);
+    assert!(rt; is_right);
     Ok(())
 }
 
@@ -116,41 +138,69 @@ fn a_writer_takes_less(rt: HostRuntime) {
     );
 }
 
-// The file of this path, from two places on, and then with the file removed, and of a folder.
+// Whether a file that holds `hello` is read as it should be, up to its end, until it is removed.
+fn is_read<R: Files, O: Opener + Drop>(
+    rt: &R,
+    path: &str,
+    shelf: &mut FileShelf<O>,
+    name: &Text,
+    into: &mut Buffer,
+) -> bool
+    requires { shelf.old.faults ≡ 0 }
+    ensures { shelf.new.faults ≤ 3 }
+{
+    let is_given = brings(shelf, name, 1, b"ello", into);
+    let end = shelf.fetch(name, 5, into);
+    let is_removed = fs::remove_file(rt, path).is_ok();
+    let removed = shelf.fetch(name, 0, into);
+    is_given && is_removed && [end, removed] == [Fetched::End, Fetched::Absent]
+}
+
 #[test]
 fn the_system_is_read(rt: HostRuntime) -> Result<(), Fail> {
     let alloc = rt.alloc();
-    let path = format!(in alloc; "/tmp/merc_io-{}.txt", process::id(rt.process()))?;
-    fs::write(&rt, path.as_str(), "hello")?;
-    let name = Text::of(alloc, path.as_bytes())?;
     let folder = Text::of(alloc, b"/")?;
     let mut buffer = Buffer::new(alloc)?;
+    let path = format!(in alloc; "/tmp/merc_io-{}.txt", process::id(rt.process()))?;
+    let name = Text::of(alloc, path.as_bytes())?;
+    fs::write(&rt, path.as_str(), "hello")?;
     let mut shelf = FileShelf::new(&rt);
-    let first = shelf.fetch(&name, 1, &mut buffer);
-    let is_given = buffer.bytes() == b"ello".as_slice();
-    let end = shelf.fetch(&name, 5, &mut buffer);
-    let is_removed = fs::remove_file(&rt, path.as_str()).is_ok();
-    let later = [
-        shelf.fetch(&name, 0, &mut buffer),
-        shelf.fetch(&folder, 0, &mut buffer),
-    ];
+    let is_right = is_read(&rt, path.as_str(), &mut shelf, &name, &mut buffer);
+    let of_folder = shelf.fetch(&folder, 0, &mut buffer);
     drop(shelf);
-    drop(buffer);
-    drop(folder);
     drop(name);
     drop(path);
-    assert!(rt; first == Fetched::Got(4) && is_given);
-    assert!(rt; end == Fetched::End);
-    assert!(rt; is_removed);
-    assert!(rt; later == [Fetched::Absent, Fetched::Failed]);
+    drop(buffer);
+    drop(folder);
+    assert!(rt; is_right);
+    assert!(rt; of_folder == Fetched::Failed);
     Ok(())
 }
+
 // The name under which this process finds a file that it has open.
 fn name_of<F: AsRawFd>(alloc: Global, file: &F) -> Result<Text, Fail> {
     let path = format!(in alloc; "/proc/self/fd/{}", file.as_raw_fd())?;
     let name = Text::of(alloc, path.as_bytes());
     drop(path);
     Ok(name?)
+}
+
+// Whether what is written to a pipe is read on at its other end, and not from another place.
+fn is_read_on<W: Write, O: Opener + Drop>(
+    writer: &mut W,
+    shelf: &mut FileShelf<O>,
+    name: &Text,
+    into: &mut Buffer,
+) -> io::Result<bool>
+    requires { shelf.old.faults ≡ 0 }
+{
+    writer.write_all(b"hello")?;
+    let is_begun = brings(shelf, name, 0, b"hello", into);
+    writer.write_all(b"abc")?;
+    let goes_on = brings(shelf, name, 5, b"abc", into);
+    writer.write_all(b"abc")?;
+    let elsewhere = shelf.fetch(name, 9, into);
+    Ok(is_begun && goes_on && elsewhere == Fetched::Failed)
 }
 
 #[test]
@@ -160,19 +210,13 @@ fn a_pipe_is_read_on(rt: HostRuntime) -> Result<(), Fail> {
     let (reader, mut writer) = std::io::pipe(&rt)?;
     let name = name_of(alloc, &reader)?;
     let mut shelf = FileShelf::new(&rt);
-    let first_written = writer.write_all(b"hello").is_ok();
-    let first = shelf.fetch(&name, 0, &mut buffer);
-    let second_written = writer.write_all(b"abc").is_ok();
-    let second = shelf.fetch(&name, 5, &mut buffer);
-    let third_written = writer.write_all(b"abc").is_ok();
-    let third = shelf.fetch(&name, 9, &mut buffer);
+    let is_right = is_read_on(&mut writer, &mut shelf, &name, &mut buffer);
     drop(shelf);
     drop(name);
     drop(writer);
     drop(reader);
     drop(buffer);
-    assert!(rt; first_written && second_written && third_written);
-    assert!(rt; [first, second, third] == [Fetched::Got(5), Fetched::Got(3), Fetched::Failed]);
+    assert!(rt; is_right?);
     Ok(())
 }
 
