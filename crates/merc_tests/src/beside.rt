@@ -46,9 +46,12 @@ fn writes_a_shared_list(rt: HostRuntime) {
     let mut names = Names::new(alloc);
     let mut text = Text::new(alloc);
     let is_written = put_shared_list(alloc, &mut names, &mut text).is_ok();
+    let is_right = text.bytes() == b"[pair([-7], [-7]) | \"it's\"]".as_slice();
+    drop(text);
     drop(names);
+    // (of words alone, here and below, since the text of what is asserted is proved too)
     assert!(rt; is_written);
-    assert!(rt; text.bytes() == b"[pair([-7], [-7]) | \"it's\"]".as_slice());
+    assert!(rt; is_right);
 }
 
 // A pair of one value with itself, and the number 2.
@@ -106,20 +109,25 @@ fn writes_a_term_as_it_was_read(rt: HostRuntime) {
     let mut names = Names::new(alloc);
     let mut text = Text::new(alloc);
     let is_written = writes_back(alloc, written, &mut names, &mut text);
+    let is_same = text.bytes() == written.as_slice();
+    drop(text);
     drop(names);
     assert!(rt; is_written);
-    assert!(rt; text.bytes() == written.as_slice());
+    assert!(rt; is_same);
 }
 
 // `list(T)`, where T is a type variable of this name or `int`.
-fn list_type(alloc: Global, variable: Option<Name>) -> Result<Option<TypeExpr>, NoMemory> {
+fn list_type(alloc: Global, variable: Option<Name>) -> Result<TypeExpr, NoMemory> {
     let mut types = TypeExprs::new(alloc);
     match variable {
         Some(name) => types.push_variable(name)?,
         None => types.push_int()?,
     }
     types.apply(Name::LIST, types.len())?;
-    Ok(types.into_only())
+    match types.into_only() {
+        Some(only) => Ok(only),
+        None => Err(NoMemory),
+    }
 }
 
 // The shape of the type that the unification of two types binds a variable to.
@@ -148,8 +156,8 @@ fn bound_shape(
 #[test]
 fn unifies_types(rt: HostRuntime) -> Result<(), Fail> {
     let alloc = rt.alloc();
-    let open = list_type(alloc, Some(Name::MODE))?.expect(&rt, "one type");
-    let closed = list_type(alloc, None)?.expect(&rt, "one type");
+    let open = list_type(alloc, Some(Name::MODE))?;
+    let closed = list_type(alloc, None)?;
     let found = bound_shape(alloc, &open, &closed, Name::MODE);
     drop(closed);
     drop(open);
@@ -226,10 +234,13 @@ fn reads_a_module(rt: HostRuntime) -> Result<(), Fail> {
 }
 
 // The goal `true`.
-fn true_goal(alloc: Global) -> Result<Option<Node>, NoMemory> {
+fn true_goal(alloc: Global) -> Result<Node, NoMemory> {
     let mut nodes = Nodes::new(alloc);
     nodes.push(SimpleGoal::True, SPAN)?;
-    Ok(nodes.into_only())
+    match nodes.into_only() {
+        Some(only) => Ok(only),
+        None => Err(NoMemory),
+    }
 }
 
 // Whether a goal has types in a module whose names are known.
@@ -238,6 +249,14 @@ fn is_typed_in(alloc: Global, known: &Known<'_>, goal: &NodeRef<'_>) -> Result<b
     let is_typed = matches!(typing(alloc, known, &declared, None, goal), Ok(Some(_)));
     drop(declared);
     Ok(is_typed)
+}
+
+// Whether `true` has types in a module.
+fn is_true_typed(alloc: Global, module: &Module) -> Result<bool, NoMemory> {
+    let goal = true_goal(alloc)?;
+    let is_typed = has_types(alloc, module, &goal.as_ref());
+    drop(goal);
+    is_typed
 }
 
 // Whether a goal has types in a module.
@@ -250,12 +269,9 @@ fn has_types(alloc: Global, module: &Module, goal: &NodeRef<'_>) -> Result<bool,
 
 #[test]
 fn finds_types(rt: HostRuntime) -> Result<(), Fail> {
-    let alloc = rt.alloc();
-    let goal = true_goal(alloc)?.expect(&rt, "one goal");
-    let module = small_module(alloc)?;
-    let is_typed = has_types(alloc, &module, &goal.as_ref());
+    let module = small_module(rt.alloc())?;
+    let is_typed = is_true_typed(rt.alloc(), &module);
     drop(module);
-    drop(goal);
     assert!(rt; is_typed?);
     Ok(())
 }

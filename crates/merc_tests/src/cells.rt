@@ -137,8 +137,9 @@ fn is_ready(producer: Producer<Number, Number>, consumer: Consumer<Number, Numbe
 fn each_waiter_comes_out_once(rt: HostRuntime) -> Result<(), Fail> {
     for round in 0..20 {
         let all = meet(&rt, cells(rt.alloc(), 10_000)?);
-        assert!(rt; all.waiters == 10_000 && all.waiter_sum == 49_995_000);
-        assert!(rt; all.values == 5_000 && all.value_sum == 49_990_000);
+        let are_waiters_out = all.waiters == 10_000 && all.waiter_sum == 49_995_000;
+        let are_values_out = all.values == 5_000 && all.value_sum == 49_990_000;
+        assert!(rt; are_waiters_out && are_values_out);
     }
     let (producer, consumer) = new_cell::<Number, Number, Brand>(rt.alloc())?;
     assert!(rt; starves(producer, consumer));

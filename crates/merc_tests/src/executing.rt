@@ -104,19 +104,17 @@ fn refuses_and_changes_nothing(rt: HostRuntime) -> Result<(), Fail> {
     let mut core = core_of_two(rt.alloc())?;
     let accepted = [Event::Fork(0), Event::Steal(1, 0), Event::Wait(1)];
     let are_made = makes_all(&mut core, &accepted);
-    let refused = refusals(&mut core);
+    let is_refused = refusals(&mut core)
+        == [
+            Err(NotNow::ListEmpty),
+            Err(NotNow::Idle),
+            Err(NotNow::SameWorker),
+        ];
     let is_kept = core.events() == accepted.as_slice();
     let goes_on = core.step(Event::Tick(0));
     drop(core);
     assert!(rt; are_made);
-    assert!(rt;
-        refused
-            == [
-                Err(NotNow::ListEmpty),
-                Err(NotNow::Idle),
-                Err(NotNow::SameWorker)
-            ]
-    );
+    assert!(rt; is_refused);
     assert!(rt; is_kept);
     assert!(rt; goes_on == Ok(()));
     Ok(())

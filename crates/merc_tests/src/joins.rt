@@ -154,8 +154,8 @@ fn do_four<R: Threads + Sync>(rt: &R, hands: Hands) -> Counts {
 fn each_join_ends_once(rt: HostRuntime) -> Result<(), Fail> {
     for round in 0..20 {
         let all = do_four(&rt, deal_out(rt.alloc())?);
-        assert!(rt; all.finished == JOINS);
-        assert!(rt; all.parent_sum == 1_999_000 && all.outcomes == 16_000);
+        let are_parents_out = all.finished == JOINS && all.parent_sum == 1_999_000;
+        assert!(rt; are_parents_out && all.outcomes == 16_000);
     }
     Ok(())
 }
@@ -194,8 +194,10 @@ fn gets_both(earlier: (Ticket<Parent>, Outcome), later: (Ticket<Parent>, Outcome
 #[test]
 fn the_second_of_two_gets_both(rt: HostRuntime) -> Result<(), Fail> {
     let (first, second) = two_tickets(rt.alloc())?;
-    assert!(rt; gets_both((first, Outcome::Ok(3)), (second, Outcome::Limit)));
+    let is_in_order = gets_both((first, Outcome::Ok(3)), (second, Outcome::Limit));
+    assert!(rt; is_in_order);
     let (first, second) = two_tickets(rt.alloc())?;
-    assert!(rt; gets_both((second, Outcome::Limit), (first, Outcome::Ok(3))));
+    let is_in_order = gets_both((second, Outcome::Limit), (first, Outcome::Ok(3)));
+    assert!(rt; is_in_order);
     Ok(())
 }

@@ -111,7 +111,8 @@ fn each_spark_comes_out_once(rt: HostRuntime) -> Result<(), Fail> {
             || rob_four_times(&rt, &thief, &done),
         );
         let all = worked.with(robbed);
-        assert!(rt; all.sparks == SPARKS && all.sum == 4_999_950_000);
+        let are_all_out = all.sparks == SPARKS && all.sum == 4_999_950_000;
+        assert!(rt; are_all_out);
     }
     Ok(())
 }
