@@ -43,10 +43,11 @@ fn put_shared_list(alloc: Global, names: &mut Names, into: &mut Text) -> Result<
 #[test]
 fn writes_a_shared_list(rt: HostRuntime) {
     let alloc = rt.alloc();
+    let expected = b"[pair([-7], [-7]) | \"it's\"]";
     let mut names = Names::new(alloc);
     let mut text = Text::new(alloc);
     let is_written = put_shared_list(alloc, &mut names, &mut text).is_ok();
-    let is_right = text.bytes() == b"[pair([-7], [-7]) | \"it's\"]".as_slice();
+    let is_right = text.bytes() == expected.as_slice();
     drop(text);
     drop(names);
     // (of words alone, here and below, since the text of what is asserted is proved too)

@@ -1,7 +1,7 @@
 //! What no clause can say: what the files of the system hold, and that a reader may give and a writer take less.
 ghost use Rattle.std.specs.Prelude.{◌≡◌, ◌+◌, ◌<◌, ◌≤◌, None, Some};
 
-use merc_base::{Buffer, Fetched, Gate, Shelf, Sink, Text, Wrote};
+use merc_base::{Buffer, Fetched, Gate, NoMemory, Shelf, Sink, Text, Wrote};
 use merc_io::{FileShelf, OpenGate, Opener, OutSink, ReadFault};
 use std::alloc::Global;
 use std::io::{ErrorKind, Read, Write};
@@ -154,24 +154,41 @@ fn is_read<R: Files, O: Opener + Drop>(
     is_given && is_removed && [end, removed] == [Fetched::End, Fetched::Absent]
 }
 
+// Whether a folder is not read.
+fn is_folder_refused<O: Opener + Drop>(
+    alloc: Global,
+    shelf: &mut FileShelf<O>,
+    into: &mut Buffer,
+) -> Result<bool, NoMemory>
+    requires { shelf.old.faults < 18446744073709551615 }
+{
+    let folder = Text::of(alloc, b"/")?;
+    let answer = shelf.fetch(&folder, 0, into);
+    drop(folder);
+    Ok(answer == Fetched::Failed)
+}
+
+// Whether a file of this path, which it writes, and a folder are read as they should be.
+fn reads_files<R: Files + AllocGlobal>(rt: &R, path: &str) -> Result<bool, Fail> {
+    let alloc = rt.alloc();
+    fs::write(rt, path, "hello")?;
+    let name = Text::of(alloc, path.as_bytes())?;
+    let mut buffer = Buffer::new(alloc)?;
+    let mut shelf = FileShelf::new(rt);
+    let is_right = is_read(rt, path, &mut shelf, &name, &mut buffer);
+    let is_refused = is_folder_refused(alloc, &mut shelf, &mut buffer);
+    drop(shelf);
+    drop(buffer);
+    drop(name);
+    Ok(is_right && is_refused?)
+}
+
 #[test]
 fn the_system_is_read(rt: HostRuntime) -> Result<(), Fail> {
-    let alloc = rt.alloc();
-    let folder = Text::of(alloc, b"/")?;
-    let mut buffer = Buffer::new(alloc)?;
-    let path = format!(in alloc; "/tmp/merc_io-{}.txt", process::id(rt.process()))?;
-    let name = Text::of(alloc, path.as_bytes())?;
-    fs::write(&rt, path.as_str(), "hello")?;
-    let mut shelf = FileShelf::new(&rt);
-    let is_right = is_read(&rt, path.as_str(), &mut shelf, &name, &mut buffer);
-    let of_folder = shelf.fetch(&folder, 0, &mut buffer);
-    drop(shelf);
-    drop(name);
+    let path = format!(in rt.alloc(); "/tmp/merc_io-{}.txt", process::id(rt.process()))?;
+    let is_right = reads_files(&rt, path.as_str());
     drop(path);
-    drop(buffer);
-    drop(folder);
-    assert!(rt; is_right);
-    assert!(rt; of_folder == Fetched::Failed);
+    assert!(rt; is_right?);
     Ok(())
 }
 
@@ -215,20 +232,30 @@ fn is_read_on<W: Write, O: Opener + Drop>(
     is_begun && goes_on && is_written && elsewhere == Fetched::Failed
 }
 
+// Whether a pipe is read on, over the file that its end is.
+fn reads_pipe<R: Files + AllocGlobal, F: AsRawFd, W: Write>(
+    rt: &R,
+    reader: &F,
+    writer: &mut W,
+) -> Result<bool, Fail> {
+    let alloc = rt.alloc();
+    let name = name_of(alloc, reader)?;
+    let mut buffer = Buffer::new(alloc)?;
+    let mut shelf = FileShelf::new(rt);
+    let is_right = is_read_on(writer, &mut shelf, &name, &mut buffer);
+    drop(shelf);
+    drop(buffer);
+    drop(name);
+    Ok(is_right)
+}
+
 #[test]
 fn a_pipe_is_read_on(rt: HostRuntime) -> Result<(), Fail> {
-    let alloc = rt.alloc();
-    let mut buffer = Buffer::new(alloc)?;
-    let (reader, mut writer) = std::io::pipe(&rt)?;
-    let name = name_of(alloc, &reader)?;
-    let mut shelf = FileShelf::new(&rt);
-    let is_right = is_read_on(&mut writer, &mut shelf, &name, &mut buffer);
-    drop(shelf);
-    drop(name);
+    let (reader, mut writer) = io::pipe(&rt)?;
+    let is_right = reads_pipe(&rt, &reader, &mut writer);
     drop(writer);
     drop(reader);
-    drop(buffer);
-    assert!(rt; is_right);
+    assert!(rt; is_right?);
     Ok(())
 }
 
