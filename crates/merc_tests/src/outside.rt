@@ -232,30 +232,20 @@ fn is_read_on<W: Write, O: Opener + Drop>(
     is_begun && goes_on && is_written && elsewhere == Fetched::Failed
 }
 
-// Whether a pipe is read on, over the file that its end is.
-fn reads_pipe<R: Files + AllocGlobal, F: AsRawFd, W: Write>(
-    rt: &R,
-    reader: &F,
-    writer: &mut W,
-) -> Result<bool, Fail> {
-    let alloc = rt.alloc();
-    let name = name_of(alloc, reader)?;
-    let mut buffer = Buffer::new(alloc)?;
-    let mut shelf = FileShelf::new(rt);
-    let is_right = is_read_on(writer, &mut shelf, &name, &mut buffer);
-    drop(shelf);
-    drop(buffer);
-    drop(name);
-    Ok(is_right)
-}
-
 #[test]
 fn a_pipe_is_read_on(rt: HostRuntime) -> Result<(), Fail> {
-    let (reader, mut writer) = io::pipe(&rt)?;
-    let is_right = reads_pipe(&rt, &reader, &mut writer);
+    let alloc = rt.alloc();
+    let mut buffer = Buffer::new(alloc)?;
+    let (reader, mut writer) = std::io::pipe(&rt)?;
+    let name = name_of(alloc, &reader)?;
+    let mut shelf = FileShelf::new(&rt);
+    let is_right = is_read_on(&mut writer, &mut shelf, &name, &mut buffer);
+    drop(shelf);
+    drop(name);
     drop(writer);
     drop(reader);
-    assert!(rt; is_right?);
+    drop(buffer);
+    assert!(rt; is_right);
     Ok(())
 }
 
