@@ -1,2 +1,4 @@
 pub mod QueueLists
 mod StoredOutcomes
+mod QueuesExamples
+mod OutcomesExamples

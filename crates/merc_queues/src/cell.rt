@@ -1,5 +1,5 @@
 //! Cells, each with the branches that wait for it.
-ghost use Rattle.std.specs.Prelude.{◌≡◌, ◌+◌, ◌<◌, ◌^◌, ◌++◌, ℕ, [], map, length, if◌then◌else◌, nat_eq, IsSome};
+ghost use Rattle.std.specs.Prelude.{◌≡◌, ◌+◌, ◌<◌, ◌^◌, ◌++◌, ℕ, [], map, length, if◌then◌else◌, nat_eq, None, IsSome};
 ghost use Rattle.std.specs.Ordering.{nat_cmp};
 ghost use Rattle.std.specs.BTreeMap.{get};
 ghost use Rattle.merc_queues.specs.Queues.{filled, meeting_of, parked_at, spoiled, starved as starved_branch, waiting_of};
@@ -37,6 +37,7 @@ pub fn park(cells: &mut BTreeMap<CellId, Cell>, cell: CellId, branches: &mut Lin
     requires { length (waiting_of (get nat_cmp cells.old cell)) + length branches.old < 2 ^ 63 }
     ensures cells { (other : ℕ) → get nat_cmp cells.new other ≡ (if nat_eq cell other then parked_at branches.old (get nat_cmp cells.old cell) else get nat_cmp cells.old other) }
     ensures branches { IsSome (get nat_cmp cells.old cell) → branches.new ≡ [] }
+    ensures left { get nat_cmp cells.old cell ≡ None → branches.new ≡ branches.old }
 {
     if let Some(found) = cells.get_mut(&cell) {
         move_all(branches, &mut found.waiting);
