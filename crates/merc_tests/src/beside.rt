@@ -50,7 +50,6 @@ fn writes_a_shared_list(rt: HostRuntime) {
     let is_right = text.bytes() == expected.as_slice();
     drop(text);
     drop(names);
-    // (of words alone, here and below, since the text of what is asserted is proved too)
     assert!(rt; is_written);
     assert!(rt; is_right);
 }
