@@ -1,5 +1,5 @@
 //! A case through the program's one call, over files and output in memory.
-ghost use Rattle.std.specs.Prelude.{◌≡◌, IfOk};
+ghost use Rattle.std.specs.Prelude.{◌≡◌, IfNone, IfOk, IfSome};
 
 use crate::cases::Case;
 use crate::fault::TableFault;
@@ -74,7 +74,10 @@ fn compared(
     due: &[u8],
     status: u8,
     came: &[u8],
-) -> Result<Option<String>, TableFault> {
+) -> Result<Option<String>, TableFault>
+    ensures same { IfOk result (λ found. IfNone found ((status ≡ wanted) × (came.now ≡ due.now))) }
+    ensures differs { IfOk result (λ found. IfSome found (λ both. status ≡ wanted → came.now ≡ due.now → ⊥)) }
+{
     if status == wanted && came == due {
         return Ok(None);
     }
