@@ -31,6 +31,10 @@ impl Model for Buffer {
 
 impl Buffer {
     /// An empty buffer, with its room.
+    ///
+    /// # Errors
+    ///
+    /// `NoMemory` where memory was refused.
     pub fn new(alloc: Global) -> Result<Buffer, NoMemory>
         ensures { IfOk result (λ buffer. buffer ≡ []) }
     {

@@ -87,7 +87,7 @@ fn told(trees: Nodes, fault: Option<Refusal>) -> Result<Nodes, Fault>
     }
 }
 
-// Of so many procedures nothing is done.
+// The progress before the first of so many procedures.
 fn nothing_done(alloc: Global, count: usize) -> Progress
     ensures { (known : Module) (trees : List Node) → length trees ≡ count → IsDone known trees [] result }
 {

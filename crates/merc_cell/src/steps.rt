@@ -122,7 +122,7 @@ pub fn poison_on<V: Fits, W: Fits>(word: &Word<V, W>, seat: &mut CellSeat<V, W>)
 }
 
 /// Whatever the steps before, with two seats: the waiter is handed to one of the sides where both have made their step
-/// on the word and to none before that, and the end that the consumer found is how the producer ended.
+/// on the word, and to neither before that; and the end that the consumer found is how the producer ended.
 pub fn one_is_handed<V: Fits, W: Fits>()
     ensures { (words : List ℕ) (homes : List (Option (Slot V W))) (c p : Glance V W) → Cases V.fits W.fits words homes (c ∷ p ∷ []) → OneIsHanded c p }
 {}

@@ -70,7 +70,8 @@ impl Checked {
 }
 
 /// Checks a module. Names that the text and the library spell are added behind those in the table, also where the text
-/// is refused. As every table does, it holds the fixed names first, and each text once.
+/// is refused. As every table does, it holds the fixed names first, and each text once. The text has at most 300,000,000
+/// bytes.
 ///
 /// # Errors
 ///

@@ -46,8 +46,12 @@ impl Model for Core {
 }
 
 impl Core {
-    /// The start: the root's script runs on worker 0. The script has to be well formed, and there are 1 to 64 workers.
-    /// `NoMemory`: there was no memory for all that the steps will need, which is taken here.
+    /// A core at its start: the root's script runs on worker 0. The script has to be well formed, and there are 1 to 64
+    /// workers. All memory that the steps will need is taken here.
+    ///
+    /// # Errors
+    ///
+    /// `NoMemory` where memory was refused.
     pub fn new(alloc: Global, root: Script, workers: u32) -> Result<Core, NoMemory>
         requires well { WellFormed root }
         requires some { 1 ≤ workers }

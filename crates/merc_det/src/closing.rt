@@ -98,7 +98,7 @@ fn capped(outputs: &Vars, inner: Category) -> Category
     }
 }
 
-// The same label once more, with this category.
+// A copy of the label, with this category.
 fn with_category(alloc: Global, label: &Label, category: Category) -> Result<Label, NoMemory>
     ensures { IfOk result (λ copy. copy ≡ with_category label.now category) }
 {

@@ -17,7 +17,7 @@ pub(crate) fn label_of<'a>(goal: &NodeRef<'a>) -> &'a Label
     }
 }
 
-/// The same root once more.
+/// A copy of the root.
 ///
 /// # Errors
 ///
@@ -39,7 +39,7 @@ pub(crate) fn copy_root(alloc: Global, root: &Root) -> Result<Root, NoMemory>
     })
 }
 
-/// The same variables once more.
+/// A copy of the variables.
 ///
 /// # Errors
 ///

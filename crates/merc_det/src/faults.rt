@@ -122,7 +122,7 @@ fn conjunct_fault(number: usize, conjunct: &NodeRef<'_>) -> Result<Option<Refusa
     }))
 }
 
-// The same number. The limits on a text keep conjunctions so short that it always fits.
+// The number in 32 bits; `NoMemory` where it has more, which the limits on a text rule out.
 fn number_of(number: usize) -> Result<u32, NoMemory>
     ensures { IfOk result (λ same. same ≡ number) }
 {
@@ -170,7 +170,7 @@ fn push_all<'a>(goals: Parts<'a>, left: &mut Vec<NodeRef<'a>>) -> Result<(), NoM
     Ok(())
 }
 
-// Those of arms that have symbols.
+// Puts the arms of a switch behind the others, each that has a symbol, from the last to the first.
 fn push_arms<'a>(
     symbols: &[Symbol],
     arms: Parts<'a>,

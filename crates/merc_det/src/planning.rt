@@ -69,7 +69,7 @@ fn plan_inner<'a>(
     }
 }
 
-// Goals one after the other.
+// Plans goals that run one after the other.
 fn plan_in_turn<'a>(goals: Parts<'a>, tasks: &mut Vec<Task<'a>>) -> Result<(), NoMemory>
     ensures { OnOk result (tasks.new.items ≡ tasks.old.items ++ tasks_in_turn (nodes_of goals.entry)) }
 {
@@ -80,7 +80,7 @@ fn plan_in_turn<'a>(goals: Parts<'a>, tasks: &mut Vec<Task<'a>>) -> Result<(), N
     Ok(())
 }
 
-// Goals of which each starts from what is known before all.
+// Plans goals, each from what is known before the first.
 fn plan_choices<'a>(
     goals: Parts<'a>,
     known: usize,
@@ -95,7 +95,7 @@ fn plan_choices<'a>(
     Ok(())
 }
 
-// Arms, in each of which its symbol is known.
+// Plans the arms of a switch, each with its symbol known.
 fn plan_arms<'a>(
     variable: Var,
     symbols: &[Symbol],
@@ -112,7 +112,7 @@ fn plan_arms<'a>(
     Ok(())
 }
 
-// The arm of the symbol at an index.
+// Plans the arm of the symbol at an index; nothing where there is no such symbol.
 fn plan_arm<'a>(
     variable: Var,
     symbols: &[Symbol],
@@ -139,7 +139,7 @@ fn symbol_at(symbols: &[Symbol], index: usize) -> Option<Symbol>
     }
 }
 
-// A goal that keeps to itself what it tells.
+// Plans a goal, and that what becomes known in it is forgotten behind it.
 fn plan_apart<'a>(
     goal: NodeRef<'a>,
     known: usize,

@@ -42,7 +42,7 @@ impl Units {
 ///
 /// # Errors
 ///
-/// `NoMemory` says that memory was refused. No unit's text is.
+/// `NoMemory` where memory was refused. No text of a unit is refused.
 pub fn read_units(alloc: Global, names: &mut Names) -> Result<Units, NoMemory>
     ensures read { IfOk result (λ units. AreUnits names.old names.new (items_of units)) }
     ensures grows { (more : List (List ℕ)) × (names.new ≡ names.old ++ more) }

@@ -49,3 +49,14 @@ delivered-short = refl
 -- one slot further
 pub delivered-counterexample : delivered (0 ∷ []) (Cell 7 ∷ []) frame ≡ Cell 1 ∷ Cell 7 ∷ Mark 3 ∷ [] → ⊥
 delivered-counterexample = λ same. absurd cc
+
+-- of two that go to one slot the last stays
+pub passed-twice : passed (record { from = 1; to = 0 } ∷ record { from = 0; to = 0 } ∷ []) frame (empty_frame 1) ≡ Cell 1 ∷ []
+passed-twice = refl
+
+pub delivered-twice : delivered (0 ∷ 0 ∷ []) (Cell 7 ∷ Cell 8 ∷ []) frame ≡ Cell 8 ∷ Cell 2 ∷ Mark 3 ∷ []
+delivered-twice = refl
+
+-- one slot more than variables
+pub delivered-long : delivered (0 ∷ []) (Cell 7 ∷ Cell 8 ∷ []) frame ≡ Cell 7 ∷ Cell 2 ∷ Mark 3 ∷ []
+delivered-long = refl

@@ -91,3 +91,18 @@ cells_left-each = (refl, refl, refl)
 
 pub cells_left-counterexample : cells_left 9 (BackedOn 20 5) ≡ 20 → ⊥
 cells_left-counterexample = λ same. absurd cc
+
+-- nor does one that only fails hide an older one
+pub AreChoicesHeld-behind : AreChoicesHeld (Passes is_there) 0 (Dead ∷ stacks.choices) → ⊥
+AreChoicesHeld-behind = λ held. absurd (let mark = held.0 in omega (arith, mark))
+
+-- a caller's frame holds a cell that the choice point's mark does not reach
+pub AreChoicesHeld-callers : AreChoicesHeld (Passes is_there) 3 (GoesOn 20 1 [] (record { place = 7; slots = Cell 1 ∷ [] } ∷ []) ∷ []) → ⊥
+AreChoicesHeld-callers = λ held. absurd (let slots : All (Passes is_there 1) (Cell 1 ∷ []) = held.1.others 0 (record { place = 7; slots = [] }) (omega arith) in let slot : false ≡ true = slots 0 Empty (omega arith) in cc)
+
+-- a choice point's mark is above the end of the cells
+pub AreHeld-tops : AreHeld (Passes is_there) 3 (record { stacks = stacks; slots = slots; tops = record { heap = 4; end = 0 } ∷ [] }) → ⊥
+AreHeld-tops = λ held. absurd (let mark = held.1.0 in omega (arith, mark))
+
+pub AreStacksHeld-choices : AreStacksHeld (Passes is_there) 3 (record { current = []; callers = []; choices = GoesOn 20 4 [] [] ∷ [] }) → ⊥
+AreStacksHeld-choices = λ held. absurd (let mark = held.choices.0 in omega (arith, mark))

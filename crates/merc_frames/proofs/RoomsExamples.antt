@@ -24,3 +24,18 @@ caller-example = All-from_recursion (λ (slot : ℕ). slot < 1) (0 ∷ []) (omeg
 
 caller-not : AreCallerSlots (record { place = 7; slots = Empty ∷ [] } ∷ []) (1 ∷ []) → ⊥
 caller-not are = let h : 1 < 1 = are 0 1 (omega arith) in absurd (omega (arith, h))
+
+-- whatever slot it goes to
+taken-example : AreTaken 2 (record { from = 1; to = 5 } ∷ [])
+taken-example = All-from_recursion (λ (pass : Pass). pass.from < 2) (record { from = 1; to = 5 } ∷ []) (omega arith, tt)
+
+received-not : AreReceived 2 (record { from = 0; to = 2 } ∷ []) → ⊥
+received-not are = let h : 2 < 2 = are 0 (record { from = 0; to = 0 }) (omega arith) in absurd (omega (arith, h))
+
+-- without a caller nothing is asked
+caller-none : AreCallerSlots [] (3 ∷ [])
+caller-none = tt
+
+-- the newest caller's frame counts
+caller-newest : AreCallerSlots (record { place = 7; slots = Empty ∷ [] } ∷ record { place = 8; slots = Empty ∷ Empty ∷ [] } ∷ []) (1 ∷ []) → ⊥
+caller-newest are = let h : 1 < 1 = are 0 1 (omega arith) in absurd (omega (arith, h))

@@ -1,7 +1,7 @@
 -- What the definitions of slots say.
-use Rattle.std.proofs.Common.{◌≡◌, Some, None, refl}
-use Rattle.merc_value.specs.declared.word.Word.TheVariants.{Text as TextWord, Atom as AtomWord, Cell as CellWord}
-use Rattle.merc_frames.specs.declared.slot.Slot.TheVariants.{Empty, Atom, Cell, Mark}
+use Rattle.std.proofs.Common.{◌≡◌, Some, None, refl, pos}
+use Rattle.merc_value.specs.declared.word.Word.TheVariants.{Int as IntWord, Text as TextWord, Atom as AtomWord, Cell as CellWord}
+use Rattle.merc_frames.specs.declared.slot.Slot.TheVariants.{Empty, Int, Text, Atom, Cell, Mark}
 use Rattle.merc_frames.specs.Slots.{holding, word_in, mark_in}
 
 pub holding-example : holding (CellWord 3) ≡ Cell 3
@@ -29,3 +29,13 @@ mark_in-none = (refl, refl)
 
 pub mark_in-counterexample : mark_in (Cell 2) ≡ 2 → ⊥
 mark_in-counterexample = λ same. absurd cc
+
+pub holding-each : (holding (IntWord (pos 3)) ≡ Int (pos 3)) × (holding (TextWord 3) ≡ Text 3) × (holding (AtomWord 3) ≡ Atom 3)
+holding-each = (refl, refl, refl)
+
+pub word_in-each : (word_in (Int (pos 3)) ≡ Some (IntWord (pos 3))) × (word_in (Text 3) ≡ Some (TextWord 3)) × (word_in (Cell 3) ≡ Some (CellWord 3))
+word_in-each = (refl, refl, refl)
+
+-- no word is a mark
+pub mark_in-words : (mark_in (Int (pos 3)) ≡ 0) × (mark_in (Text 3) ≡ 0) × (mark_in (Atom 3) ≡ 0)
+mark_in-words = (refl, refl, refl)

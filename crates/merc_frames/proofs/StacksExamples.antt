@@ -153,3 +153,74 @@ GoesBack-dead = refl
 -- the callers are those of the choice point, and not those of now
 pub GoesBack-counterexample : GoesBack inner (record { current = one; callers = callers; choices = GoesOn 3 7 [] [] ∷ [] }) (BackedOn 4 8) → ⊥
 GoesBack-counterexample = λ back. absurd cc
+
+-- Frames with more around them: a caller that has a caller, and older choice points.
+
+-- the inner frame has called another
+abbrev deeper : Stacks
+deeper = record { current = Empty ∷ Empty ∷ []; callers = record { place = 5; slots = Empty ∷ [] } ∷ callers; choices = inner.choices }
+
+pub caller_place-newest : caller_place deeper.callers ≡ Some 5
+caller_place-newest = refl
+
+pub oldest-none : oldest 0 outer.choices ≡ []
+oldest-none = refl
+
+-- one that only fails leaves the older ones as they are
+pub softened-older : softened 1 outer.choices ≡ Dead ∷ GoesOn 3 7 [] [] ∷ []
+softened-older = refl
+
+pub Opens-choices : Opens (record { current = Empty ∷ []; callers = []; choices = outer.choices }) 1 → ⊥
+Opens-choices = λ opens. absurd (let count : 2 ≡ 0 = ap length opens.choices in omega (arith, count))
+
+-- the caller keeps its own caller
+pub Enters-deeper : Enters inner deeper 5 2 true []
+Enters-deeper = record { left = Empty ∷ Empty ∷ []; room = refl; empty = λ _. refl; current = refl; callers = refl; choices = refl }
+
+pub Enters-alone : Enters inner (record { current = Empty ∷ Empty ∷ []; callers = record { place = 5; slots = Empty ∷ [] } ∷ []; choices = inner.choices }) 5 2 true [] → ⊥
+Enters-alone = λ enters. absurd (let count : 1 ≡ 2 = ap length enters.callers in omega (arith, count))
+
+-- a call leaves the choice points
+pub Enters-choices : Enters inner (record { current = Empty ∷ Empty ∷ []; callers = deeper.callers; choices = [] }) 5 2 true [] → ⊥
+Enters-choices = λ enters. absurd (let count : 0 ≡ 2 = ap length enters.choices in omega (arith, count))
+
+pub Renews-deeper : Renews inner (record { current = Empty ∷ Empty ∷ []; callers = callers; choices = inner.choices }) 2 true []
+Renews-deeper = record { left = Empty ∷ Empty ∷ []; room = refl; empty = λ _. refl; current = refl; callers = refl; choices = refl }
+
+-- the callers are forgotten
+pub Renews-alone : Renews inner (record { current = Empty ∷ Empty ∷ []; callers = []; choices = inner.choices }) 2 true [] → ⊥
+Renews-alone = λ renews. absurd (let count : 0 ≡ 1 = ap length renews.callers in omega (arith, count))
+
+pub Renews-choices : Renews inner (record { current = Empty ∷ Empty ∷ []; callers = callers; choices = [] }) 2 true [] → ⊥
+Renews-choices = λ renews. absurd (let count : 0 ≡ 2 = ap length renews.choices in omega (arith, count))
+
+-- the new frame is too short
+pub Renews-short : Renews outer (record { current = Cell 2 ∷ []; callers = []; choices = outer.choices }) 2 false inputs → ⊥
+Renews-short = λ renews. absurd (let long : 1 ≡ length renews.left = ap length renews.current ∙ length-set renews.left 0 (Cell 2) in let room = renews.room in omega (arith, long, room))
+
+-- back from a frame whose caller has a caller
+pub GivesSlots-deeper : GivesSlots deeper (record { current = Cell 7 ∷ []; callers = callers; choices = inner.choices }) (Cell 7 ∷ []) (0 ∷ []) (Some 5)
+GivesSlots-deeper = (Empty ∷ [], refl, refl, refl)
+
+pub GivesSlots-alone : GivesSlots deeper (record { current = Cell 7 ∷ []; callers = []; choices = inner.choices }) (Cell 7 ∷ []) (0 ∷ []) (Some 5) → ⊥
+GivesSlots-alone = λ gives. absurd (let count : 2 ≡ 1 = ap length gives.1 in omega (arith, count))
+
+-- a return leaves the choice points
+pub GivesSlots-choices : GivesSlots deeper (record { current = Cell 7 ∷ []; callers = callers; choices = [] }) (Cell 7 ∷ []) (0 ∷ []) (Some 5) → ⊥
+GivesSlots-choices = λ gives. absurd (let count : 0 ≡ 2 = ap length gives.3 in omega (arith, count))
+
+-- there is a caller
+pub GivesBack-caller : GivesBack called called [] [] None → ⊥
+GivesBack-caller = λ gives. absurd (let count : 1 ≡ 0 = ap length gives.0 in omega (arith, count))
+
+-- without a choice point nothing changes
+pub GoesBack-changed : GoesBack (record { current = one; callers = callers; choices = [] }) (record { current = one; callers = []; choices = [] }) BackedEnd → ⊥
+GoesBack-changed = λ back. absurd (let count : 0 ≡ 1 = ap (λ (s : Stacks). length s.callers) back.1 in omega (arith, count))
+
+-- there is one
+pub GoesBack-early : GoesBack inner inner BackedEnd → ⊥
+GoesBack-early = λ back. absurd (let count : 2 ≡ 0 = ap length back.0 in omega (arith, count))
+
+-- the older choice points stay
+pub GoesBack-older : GoesBack (record { current = one; callers = callers; choices = Dead ∷ outer.choices }) (record { current = one; callers = callers; choices = outer.choices }) BackedDead
+GoesBack-older = refl

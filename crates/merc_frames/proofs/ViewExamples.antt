@@ -3,7 +3,7 @@ use Rattle.std.proofs.Common.{◌≡◌, inl, inr, ℕ, zero, suc, ◌+◌, ◌�
 use Rattle.merc_frames.specs.declared.slot.Slot.{Slot}
 use Rattle.merc_frames.specs.declared.slot.Slot.TheVariants.{Empty, Cell}
 use Rattle.merc_frames.specs.Held.{Top}
-use Rattle.merc_frames.specs.Stacks.{Stacks, GoesOn}
+use Rattle.merc_frames.specs.Stacks.{Stacks, Dead, GoesOn}
 use Rattle.merc_frames.specs.View.{Apart, frame_of, callers_of, data_of, kept_top, tops_of, view_of, Fine, FineChoice, Grows, Needs, larger, newest, kept_saved, kept_end, counted, lowered, caller_top}
 use Rattle.merc_frames.specs.declared.kept.Saved.{Saved}
 use Rattle.merc_frames.specs.declared.kept.Kept.{Kept}
@@ -165,3 +165,24 @@ lowered-each = (refl, refl, refl)
 
 pub caller_top-each : (caller_top (caller ∷ []) 1 ≡ 1) × (caller_top (caller ∷ []) 0 ≡ 0)
 caller_top-each = (refl, refl)
+
+-- a frame that the caller called, and one that stands behind it and called another with no caller
+abbrev called : Saved
+called = record { base = 1; size = 1; place = 11; parent = 1 }
+
+pub callers_of-parent : callers_of slots (caller ∷ called ∷ []) 2 ≡ record { place = 11; slots = Cell 2 ∷ [] } ∷ record { place = 10; slots = Cell 1 ∷ [] } ∷ []
+callers_of-parent = refl
+
+pub callers_of-apart : callers_of slots (caller ∷ record { base = 1; size = 1; place = 11; parent = 0 } ∷ []) 2 ≡ record { place = 11; slots = Cell 2 ∷ [] } ∷ []
+callers_of-apart = refl
+
+-- the newest lies last, and is seen first; one that is not live only fails
+pub view_of-choices : (view_of slots (caller ∷ []) (choice ∷ (record newer { live = false }) ∷ []) 2 1 0).choices
+    ≡ Dead ∷ GoesOn 20 5 (Cell 2 ∷ []) (record { place = 10; slots = Cell 1 ∷ [] } ∷ []) ∷ []
+view_of-choices = refl
+
+pub newest-last : newest (choice ∷ newer ∷ []) ≡ Some newer
+newest-last = refl
+
+pub caller_top-two : caller_top (caller ∷ called ∷ []) 2 ≡ 2
+caller_top-two = refl

@@ -320,7 +320,7 @@ impl Frames {
         }
     }
 
-    // The same, by `give_back`.
+    // Goes back to the newest caller by `give_back`, and puts the slot into the first of the caller's own.
     #[inline(always)]
     fn put_slot(&mut self, slot: Slot, outs: &[Var]) -> Result<(), NoMemory>
         requires there { self.old.stacks.callers ≡ [] → ⊥ }
@@ -336,7 +336,7 @@ impl Frames {
         Ok(())
     }
 
-    // The same, where the newest choice point keeps the frame.
+    // Does what `put_slot` does, where the newest choice point keeps the frame of the caller.
     #[cold]
     #[inline(never)]
     fn put_slot_kept(&mut self, slot: Slot, outs: &[Var]) -> Result<(), NoMemory>

@@ -103,7 +103,7 @@ fn look<'a>(
     spread(singles, goal.view(), left)
 }
 
-// The same of a goal that may answer more than once.
+// Whether nothing speaks against a goal but what is put behind the others. Whether it answers once is not looked at.
 fn spread<'a>(
     singles: &Singles,
     view: NodeView<'a>,

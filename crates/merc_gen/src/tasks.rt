@@ -14,7 +14,7 @@ pub(crate) struct Arms<'a> {
     pub(crate) mark: usize,
     // how many instructions are left where the code behind the switch begins
     pub(crate) behind: usize,
-    // the same of the arms whose code is there, the last first, but for the first of them
+    // how many instructions are left where each arm begins whose code is there, the last first, but for the first of them
     pub(crate) starts: Vec<usize>,
 }
 
@@ -24,7 +24,7 @@ pub(crate) struct Arms<'a> {
 pub(crate) enum Task<'a> {
     /// To put the goal's code before the others.
     Emit(NodeRef<'a>, usize),
-    /// The same without dropping its choice points.
+    /// To put the goal's code before the others, without what drops its choice points.
     Bare(NodeRef<'a>, usize),
     Put(Instruction),
     /// To put a choice point before the others that goes on at this place.

@@ -10,7 +10,7 @@ use std::alloc::Global;
 use std::marker::Model;
 
 /// How many goals that hold each other the passes over ordered goals may be in at once. They call themselves for each: of
-/// the 8 MiB of stack that a system gives they take some 5 then.
+/// the 8 MiB of stack that a system gives they take some 4.5 then.
 const DEPTH_LIMIT: usize = 4_000;
 
 /// The variables that are bound, in the order in which they were bound, each once. It goes with a pass into the goals that
@@ -166,7 +166,7 @@ fn make_room(table: &mut Vec<bool>, number: usize) -> Result<(), NoMemory>
     Ok(())
 }
 
-// Takes those from the trail that stand behind the mark, and out of the table.
+// Unbinds the variables that stand in the trail behind the mark.
 fn unbind(table: &mut [bool], trail: &mut Vec<Var>, mark: usize)
     requires tells { Tells table.old trail.old.items }
     requires apart { AreApart trail.old.items }
@@ -179,7 +179,7 @@ fn unbind(table: &mut [bool], trail: &mut Vec<Var>, mark: usize)
     }
 }
 
-// The same of the last.
+// Unbinds the last variable of the trail, if there is one.
 fn unbind_last(table: &mut [bool], trail: &mut Vec<Var>)
     requires tells { Tells table.old trail.old.items }
     requires apart { AreApart trail.old.items }

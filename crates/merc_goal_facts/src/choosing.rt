@@ -60,7 +60,7 @@ pub(crate) fn bound_by_some(
     Ok(bound)
 }
 
-/// The variables that all arms bind that count, None where there are no arms: then each variable is bound. The set has
+/// The variables that every arm binds that counts. `None` where no arm counts, and so each variable is bound. The set has
 /// no variables, before and after.
 ///
 /// # Errors
@@ -90,7 +90,8 @@ pub(crate) fn bound_by_all(
     Ok(bound)
 }
 
-// Those of the variables that an arm binds that all arms before it bind.
+// Of the variables that an arm binds, those that all arms before it bind too. `bound` are those that all before it bind, or
+// `None` where the arm is the first.
 fn bound_by_both(
     alloc: Global,
     set: &mut BoundSet,
@@ -113,6 +114,10 @@ fn bound_by_both(
 }
 
 /// Those of the variables that are bound.
+///
+/// # Errors
+///
+/// `NoMemory` where memory was refused.
 pub fn those_in(alloc: Global, set: &BoundSet, variables: &[Var]) -> Result<Vars, NoMemory>
     ensures { IfOk result (λ both. both ≡ filter (λ variable. among set.now variable) variables.now) }
 {

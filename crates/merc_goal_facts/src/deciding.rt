@@ -90,7 +90,7 @@ pub(crate) fn conditional_facts(
     let goes = [condition, then_part];
     let occurrences = then_end.saturating_sub(start);
     let first_arm = conjunction_facts(alloc, set, facts, &goes, occurrences)?;
-    // What its else part needs it leaves out: in a chain the lists would get longer and longer.
+    // The needs of the else part are not added: in a long chain each list would be longer than the one before.
     let needs = Vars::from_vec(Vec::from_slice(alloc, first_arm.needs.as_slice())?);
     let part = facts.len();
     facts.push(first_arm)?;
@@ -122,7 +122,7 @@ fn occurrences_at(facts: &[Facts], complete: Complete) -> usize
     }
 }
 
-// Those that all arms bind, where these are those that some arm binds.
+// The variables that all arms bind; where there are no arms, those that some arm binds.
 fn those_of_all<'a>(some: &'a [Var], every: &'a Option<Vars>) -> &'a [Var]
     ensures { result.now ≡ all_of some.now every.now }
 {
@@ -132,8 +132,8 @@ fn those_of_all<'a>(some: &'a [Var], every: &'a Option<Vars>) -> &'a [Var]
     }
 }
 
-// The facts of a goal with arms, of which some bind these variables and all bind those, and in which variables occur so
-// often. They need these. The set has no variables, before and after.
+// The facts of a goal with arms. Some arm that counts binds each of `some`, and each such arm binds all of `every`; the arms
+// need `needs`. Variables occur in the goal `occurrences` times. The set has no variables, before and after.
 fn arms_facts(
     alloc: Global,
     set: &mut BoundSet,

@@ -12,7 +12,8 @@ pub struct Facts {
     /// The variables that have to be bound before it, since it may not bind them: those that a negated goal binds and that
     /// occur outside, or that only some of the arms bind.
     pub owed: Vars,
-    /// The same of the condition of an if-then-else.
+    /// Of an if-then-else, the variables that have to be bound before it, since its condition may not bind them: those that
+    /// the condition binds and that occur outside of it and of the then part. Of other parts, none.
     pub owed_by_condition: Vars,
     /// Variables without which it is not ready: those that it reads and that no goal in it binds. Those that the goal that
     /// joins it needs too are told there alone, for that is looked at first.

@@ -63,7 +63,8 @@ fn inputs_of(alloc: Global, places: &[Arg], arguments: &[Var]) -> Result<Vars, N
     Ok(inputs)
 }
 
-/// What goals need of which one may go behind another. The set has no variables, before and after.
+/// What goals need together that may go in any order: what one of them needs, and none of them binds without needing it.
+/// The set has no variables, before and after.
 ///
 /// # Errors
 ///
@@ -90,7 +91,7 @@ pub(crate) fn needed_together(
     Ok(needed)
 }
 
-/// What some goal needs, each once. The set has no variables, before and after.
+/// The variables that some goal needs, each once. The set has no variables, before and after.
 ///
 /// # Errors
 ///
@@ -117,7 +118,7 @@ pub(crate) fn needed_by_some(
     Ok(needed)
 }
 
-// What some goal binds that does not need it. The set has no variables, before and after.
+// The variables that some goal binds without needing them. The set has no variables, before and after.
 fn brought_by_some(
     alloc: Global,
     set: &mut BoundSet,

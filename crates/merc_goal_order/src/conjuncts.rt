@@ -68,8 +68,8 @@ pub(crate) fn walk_conjunction(
     Ok(())
 }
 
-// Writes the goals out. Each time the first of those that are to be asked goes that is ready, up to the last one that is
-// left, which is walked without being asked. Where none is ready, none of those that are left is.
+// Writes the goals out. In each round the goals that are to be asked are asked from the left, up to one that is ready, which
+// goes. Once one goal is left, or none is ready, the first that is left is walked: it is written out, or its fault is told.
 #[cycle(walking)]
 fn walk_rounds(
     setting: &Setting<'_>,
@@ -97,7 +97,7 @@ fn walk_rounds(
     walk_first_left(setting, goals, facts, start, marks, bound, written)
 }
 
-// Asks those that are to be asked, up to one that is ready, which goes. False where none is.
+// Asks the goals that are to be asked, from the left up to one that is ready, which goes. False where none is ready.
 #[cycle(walking)]
 fn walk_next(
     setting: &Setting<'_>,

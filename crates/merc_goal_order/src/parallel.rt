@@ -197,8 +197,8 @@ fn needed_by(
     Ok(None)
 }
 
-// Whether a goal in which these occur may be ready behind one with these facts: if it is ready, or that binds one of them
-// that is not bound.
+// Whether a goal may be ready behind another one, by what is known of both: it is ready already, or the other one binds a
+// variable that occurs in it and is not bound.
 fn can_free(ready: bool, inside: &Occurrences, later: &Facts, bound: &BoundSet) -> bool
     ensures { result ≡ (ready || list_any (λ variable. not (among bound.now variable) && among inside.now variable) later.now.binds) }
 {
@@ -217,7 +217,7 @@ fn binds_one(variables: &[Var], inside: &Occurrences, bound: &BoundSet) -> bool
     false
 }
 
-// Whether the variable occurs at all: everything lies behind the empty stretch at the start.
+// Whether the variable occurs at all. (Each occurrence lies outside the empty stretch from 0 to 0.)
 fn occurs(inside: &Occurrences, variable: Var) -> bool
     ensures { result ≡ among inside.now variable }
 {

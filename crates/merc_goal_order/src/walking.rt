@@ -89,7 +89,7 @@ pub(crate) fn walk(
     walked
 }
 
-// The same, by the goals that it joins.
+// Writes out a goal that `walk` has entered, by its kind and the goals that it joins.
 #[cycle(walking)]
 fn walk_parts(
     setting: &Setting<'_>,
@@ -138,7 +138,7 @@ fn walk_parts(
     }
 }
 
-// The same of a goal that holds no others.
+// Writes out a goal that holds no others, with fresh variables and tests.
 fn walk_simple(
     setting: &Setting<'_>,
     goal: &SimpleGoal,
@@ -173,7 +173,7 @@ fn walk_simple(
     )
 }
 
-// The same of a negation.
+// Writes out a negation. It is a fault where the negated goal binds a variable that occurs outside and is not bound.
 #[cycle(walking)]
 fn walk_negation(
     setting: &Setting<'_>,
@@ -210,7 +210,7 @@ fn walk_negation(
     Ok(())
 }
 
-// The same of a goal with variables of its own.
+// Writes out a goal with variables of its own, in its order.
 #[cycle(walking)]
 fn walk_quantified(
     setting: &Setting<'_>,
@@ -260,7 +260,7 @@ pub(crate) fn clear(marks: &mut [bool])
     marks.fill(false);
 }
 
-// The same variables once more.
+// A copy of the variables.
 fn copy_of(alloc: Global, variables: &Vars) -> Result<Vars, NoMemory>
     ensures { IfOk result (λ copy. copy ≡ variables.now) }
 {

@@ -42,7 +42,7 @@ impl<'a> Numbered<'a> {
         let _ = &self.at;
     }
 
-    /// The same term with its number once more.
+    /// A second reference to the term, with its number. Nothing of the term is copied.
     pub fn copy(&self) -> Numbered<'a>
         ensures { result ≡ self.now }
     {

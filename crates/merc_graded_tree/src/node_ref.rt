@@ -55,7 +55,7 @@ pub enum NodeView<'a> {
 }
 
 impl<'a> NodeRef<'a> {
-    /// The same goal once more.
+    /// A second reference to the goal. Nothing of the goal is copied.
     pub fn copy(&self) -> NodeRef<'a>
         ensures { result ≡ self.now }
     {

@@ -14,6 +14,10 @@ impl Heap {
     ///
     /// Equal words are told at once. Else the cost is the number of arguments of the pairs of cells that are met, in
     /// which a pair counts once however often it is met: for two values without sharing, at most their size.
+    ///
+    /// # Errors
+    ///
+    /// `NoMemory` where memory was refused.
     #[inline(always)]
     pub fn equal(&self, one: Word, other: Word) -> Result<bool, NoMemory>
         requires one { IsBelow (length self.now) one }

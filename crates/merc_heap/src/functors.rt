@@ -114,7 +114,7 @@ fn other_number(others: &mut IndexSet<Functor>, symbol: Name, arity: usize) -> R
     sought_number(others, symbol, arity)
 }
 
-// The same by its hash. That is seldom asked, and kept out of the way.
+// The number of a constructor as `other_number` gives it, by its hash. That is seldom asked, and kept out of the way.
 #[cold]
 #[inline(never)]
 fn sought_number(

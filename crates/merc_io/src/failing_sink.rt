@@ -33,6 +33,10 @@ impl Model for FailingSink {
 impl FailingSink {
     /// An empty sink with room for so many bytes in all. The writes with the numbers in `fail` fail, counted
     /// from 1, and any other takes its piece whole, or fails if there is no room for it.
+    ///
+    /// # Errors
+    ///
+    /// `NoMemory` where memory was refused.
     pub fn with_room(alloc: Global, room: usize, fail: Vec<u64>) -> Result<FailingSink, NoMemory>
         ensures { IfOk result (λ sink. sink ≡
             record { sink = empty_sink room; fail = fail.items; most = None; next_write = 1 }) }
@@ -47,6 +51,10 @@ impl FailingSink {
 
     /// As `with_room`, but of each piece only the first `piece` bytes count, at least 1: a write takes those,
     /// or fails if there is no room for them.
+    ///
+    /// # Errors
+    ///
+    /// `NoMemory` where memory was refused.
     pub fn taking(
         alloc: Global,
         room: usize,

@@ -29,6 +29,10 @@ impl Model for MemSink {
 
 impl MemSink {
     /// An empty sink, with room for so many bytes in all.
+    ///
+    /// # Errors
+    ///
+    /// `NoMemory` where memory was refused.
     pub fn with_room(alloc: Global, room: usize) -> Result<MemSink, NoMemory>
         ensures { IfOk result (λ sink. sink ≡ empty_sink room) }
     {

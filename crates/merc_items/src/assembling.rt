@@ -248,7 +248,7 @@ fn push_predicates(
     pushed
 }
 
-// The same with the modes of a table.
+// Puts the predicates of a part of the module behind the others, each with its modes in the table.
 fn push_with_modes(
     alloc: Global,
     names: &Names,

@@ -20,7 +20,7 @@ use merc_tree::{Module, Terms};
 use std::alloc::Global;
 
 /// The module that a text is, with the items of the library units that it imports. Names that the text and the library
-/// spell are added to the table, also where the text is refused.
+/// spell are added to the table, also where the text is refused. The text has at most 300,000,000 bytes.
 ///
 /// # Errors
 ///
@@ -86,7 +86,7 @@ fn module_with(alloc: Global, terms: &Terms, units: &Units, names: &Names) -> Re
     found
 }
 
-// The same by the entries of the file and the units.
+// The module that the items of a file are, by the entries of the file and of the units.
 fn module_of_entries(
     alloc: Global,
     terms: &Terms,

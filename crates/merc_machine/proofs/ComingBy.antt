@@ -30,7 +30,7 @@ pub behind_one : (before between after : Machine) (count : ℕ) → ComesBy befo
 behind_one before between after count first second =
     subst (λ n. ComesBy before n after) (let same : 1 + count ≡ suc count = omega arith in same) (comes_behind before between after 1 count first second)
 
--- The machine stands for no state from which code comes to none that is stuck.
+-- The machine stands for no state from which code never comes to a stuck one.
 abbrev pub StandsForNone : Machine → Type 0
 StandsForNone machine =
     (codes : Codes) (entry_of : Procedure → Entry) (query : Code) → IsLoaded machine.program.now codes entry_of query

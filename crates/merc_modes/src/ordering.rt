@@ -45,8 +45,9 @@ struct Found {
 /// their order. In a body the arguments have the numbers from 0. Fresh variables are numbered on behind all others of
 /// their body.
 ///
-/// The order of a goal's parts is that of docs/LANGUAGE.md, “Modes”. With bodies of n parts and occurrences of variables,
-/// nested d levels deep, this takes time of the order of d times n times the number of variables at most.
+/// The order of a goal's parts is that of docs/LANGUAGE.md, “Modes and the order of goals”. With bodies of n parts and
+/// occurrences of variables, nested d levels deep, this takes time of the order of d times n times the number of variables at
+/// most.
 ///
 /// # Errors
 ///

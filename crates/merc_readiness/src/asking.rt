@@ -54,8 +54,8 @@ pub fn advance(
     Ok(ready)
 }
 
-// The same of a goal that is not marked itself: the pass goes into it, and leaves it. What it needs is looked at before: its
-// parts are not gone over each time that more is bound.
+// Asks whether a goal is ready that is not marked itself: the pass goes into it, and leaves it. What it needs is looked at
+// before, so that its parts are not gone over each time that more is bound.
 #[cycle(asking)]
 fn advance_within(
     alloc: Global,
@@ -80,7 +80,7 @@ fn advance_within(
     asked
 }
 
-// The same of a goal that is not marked itself, by its parts.
+// Asks whether a goal is ready that is not marked itself and that the pass has entered, by its parts.
 #[cycle(asking)]
 fn advance_parts(
     alloc: Global,
@@ -128,7 +128,7 @@ fn advance_parts(
     }
 }
 
-// The same of goals in parallel, from the left up to one that is not ready.
+// Asks whether goals in parallel are ready, from the left up to one that is not.
 #[cycle(asking)]
 fn advance_beside(
     alloc: Global,
@@ -165,7 +165,7 @@ fn advance_beside(
     Ok(true)
 }
 
-// The same of the arms of a disjunction.
+// Asks whether the arms of a disjunction are ready, from the left up to one that is not.
 #[cycle(asking)]
 fn advance_arms(
     alloc: Global,

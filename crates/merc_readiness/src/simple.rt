@@ -49,7 +49,7 @@ pub fn mode_taken(modes: &[ModeDecl], arguments: &[Var], bound: &BoundSet) -> Op
     }
 }
 
-// What is best so far with one mode more, to the left of those that were looked at.
+// The better one of the best mode so far and of one more, which stands to the left of those that were looked at.
 fn better(
     number: usize,
     mode: &ModeDecl,

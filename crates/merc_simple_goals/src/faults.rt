@@ -57,7 +57,7 @@ fn needing(
     }
 }
 
-// The same number.
+// The number in 32 bits; `NoMemory` where it has more, which the limits on a text rule out.
 fn number_of(number: usize) -> Result<u32, NoMemory>
     ensures { IfOk result (λ same. same ≡ number) }
 {

@@ -40,7 +40,8 @@ pub(crate) fn tested(
     Ok(tests)
 }
 
-/// The same of a call, where an input is no test.
+/// Which of the arguments of a call are outputs that are bound before, or by a place before them: an input is no test. The
+/// set has no variables, before and after.
 pub(crate) fn call_tested(
     alloc: Global,
     places: &[Arg],
@@ -130,7 +131,7 @@ pub(crate) fn tested_places(
     Ok(all)
 }
 
-/// The variables at places with none.
+/// The variables at places without a test.
 pub(crate) fn untested_places(
     alloc: Global,
     variables: &[Var],

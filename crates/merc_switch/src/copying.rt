@@ -43,7 +43,7 @@ pub(crate) fn label_with(alloc: Global, goal: &NodeRef<'_>, root: Root) -> Resul
     }
 }
 
-/// The same variables once more.
+/// A copy of the variables.
 pub(crate) fn copy_variables(alloc: Global, variables: &Vars) -> Result<Vars, NoMemory>
     ensures { IfOk result (λ copy. copy ≡ variables.now) }
 {

@@ -43,7 +43,7 @@ pub fn find_switches(
     done
 }
 
-// The same from what is bound before the goal, where nothing is to be done yet.
+// Puts the goal with its switches behind the others, from what is bound before it. There are no tasks before.
 fn find_from<'a>(
     alloc: Global,
     known: &Known<'_>,

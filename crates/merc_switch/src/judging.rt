@@ -71,7 +71,7 @@ fn enter_arms<'a>(
     choice
 }
 
-// The same with the candidates of the disjuncts.
+// Goes into arms as `enter_arms` does, over these candidates.
 fn enter_those<'a>(
     alloc: Global,
     known: &Known<'_>,
@@ -263,7 +263,7 @@ fn plan_switch<'a>(
     }
 }
 
-// A switch that has this label and these arms. Given are the counts of one of them.
+// Plans a switch that has this label and these arms. Given are the counts of one of them.
 fn push_switch<'a>(
     alloc: Global,
     label: Label,
@@ -284,7 +284,7 @@ fn push_switch<'a>(
     pushed
 }
 
-// The same, where what is not pushed stays.
+// Pushes the arms as `push_switch` does. Those that are not pushed for want of memory stay in the list.
 fn push_arms<'a>(
     alloc: Global,
     label: Label,
@@ -304,7 +304,7 @@ fn push_arms<'a>(
     Ok(())
 }
 
-// The arm of these disjuncts, with their counts if there are any.
+// Plans the arm of these disjuncts, with their counts if there are any.
 fn push_arm<'a>(
     alloc: Global,
     outer: &Outer<'a>,

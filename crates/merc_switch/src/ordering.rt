@@ -31,7 +31,8 @@ pub(crate) fn those_among(
     Ok(kept)
 }
 
-/// The same where each output is one once. Only the variables are gone through.
+/// Those of the outputs that are among the variables, in the order of the outputs, each of which is there once. Only the
+/// variables are gone through.
 pub(crate) fn in_order(
     alloc: Global,
     variables: &VarSet,

@@ -49,7 +49,7 @@ impl<'a> Whole<'a> {
         Ok(Whole { goal, outputs })
     }
 
-    /// The same once more.
+    /// A second reference to the disjunction, which shares its outputs.
     pub(crate) fn copy(&self) -> Result<Whole<'a>, NoMemory>
         ensures { IfOk result (λ whole. whole ≡ self.now) }
     {

@@ -22,7 +22,7 @@ pub struct Arms<'a> {
     pub groups: Vec<Disjuncts<'a>>,
 }
 
-// The same before the disjuncts of each are counted.
+// The arms of a switch before their disjuncts are counted: the symbols, and the disjuncts of each.
 #[derive(Drop)]
 struct Parts<'a> {
     symbols: Vec<Symbol>,

@@ -161,7 +161,7 @@ pub(crate) fn counted_each<'a>(
     counted_by_largest(alloc, groups, summary)
 }
 
-// The same where there is a group.
+// Groups of disjuncts, counted as `counted_each` does, where there is a group.
 fn counted_by_largest<'a>(
     alloc: Global,
     groups: Vec<Sequence<Disjunct<'a>>>,

@@ -89,7 +89,7 @@ fn application_form(name: Name, arity: usize) -> Form
     }
 }
 
-// The same where it is no infix operator.
+// The form of a name without a qualifier, with so many arguments, where it is neither a list nor an infix operator.
 fn prefix_form(name: Name, arity: usize) -> Form
     ensures { meant result ≡ rest_form name arity }
 {

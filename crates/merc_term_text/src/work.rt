@@ -38,7 +38,7 @@ pub(crate) enum Work<'a> {
     Bare(TermRef<'a>, bool),
     /// A term where terms of at most this priority may stand.
     Part(TermRef<'a>, u32, bool),
-    /// The same as a prefix operator's operand.
+    /// The operand of a prefix operator, where terms of at most this priority may stand.
     Operand(TermRef<'a>, u32, bool),
     /// A list from this tail on, without its closing bracket.
     Tail(TermRef<'a>),

@@ -161,7 +161,7 @@ pub fn infix(name: Name) -> Option<Operator>
     infix_in(&ROWS, name)
 }
 
-// The same, among the rows of the whole table.
+// The infix operator of this name, among the rows of the whole table.
 fn infix_in(rows: &[(u32, Fixity, Name)], name: Name) -> Option<Operator>
     requires { map operator_of rows.now ≡ operators }
     ensures { result ≡ infix_named name }
@@ -184,7 +184,7 @@ pub fn prefix(name: Name) -> Option<Operator>
     prefix_in(&ROWS, name)
 }
 
-// The same, among the rows of the whole table.
+// The prefix operator of this name, among the rows of the whole table.
 fn prefix_in(rows: &[(u32, Fixity, Name)], name: Name) -> Option<Operator>
     requires { map operator_of rows.now ≡ operators }
     ensures { result ≡ prefix_named name }

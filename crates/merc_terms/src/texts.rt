@@ -13,7 +13,7 @@ use std::alloc::Global;
 pub const GOAL_LIMIT: usize = 65_536;
 
 /// The terms of the items that a text is, in order. Names that the text spells are added to the table; where it is
-/// refused, the table may hold further names too.
+/// refused, the table may hold further names too. The text has at most 300,000,000 bytes.
 ///
 /// # Errors
 ///

@@ -220,6 +220,10 @@ fn integer_piece(text: &[u8]) -> Piece
 }
 
 /// What a text begins with, where it is told whether a name stands directly before it.
+///
+/// # Errors
+///
+/// `NoMemory` where memory was refused.
 pub fn first_piece(alloc: Global, after_name: bool, text: &[u8]) -> Result<Piece, NoMemory>
     ensures value { IfOk result (λ piece. piece ≡ first_piece after_name text.now) }
     ensures fits { IfOk result (λ piece. Fits (length text.now) piece) }

@@ -28,6 +28,10 @@ pub fn escaped(byte: u8) -> u8
 
 /// The text up to the closing quote, and how many bytes stand up to behind that quote. `None` where it is not closed
 /// in its line, or has an unknown escape.
+///
+/// # Errors
+///
+/// `NoMemory` where memory was refused.
 pub fn quoted(alloc: Global, quote: u8, text: &[u8]) -> Result<Option<(Text, usize)>, NoMemory>
     ensures value { IfOk result (λ found. option_map (λ pair. (pair.0, pair.1)) found ≡ quoted quote [] 0 text.now) }
     ensures bound { IfOk result (λ found. IfSome found (λ pair. pair.1 ≤ length text.now)) }

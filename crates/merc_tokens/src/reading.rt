@@ -148,7 +148,7 @@ fn first_bad_byte(text: &[u8]) -> Option<usize>
 }
 
 /// The tokens of a text. Their names are put into the table in order, each where it is new. It takes time linear in the
-/// text, save for the look-up of names.
+/// text, save for the look-up of names. The text has at most 300,000,000 bytes.
 ///
 /// # Errors
 ///

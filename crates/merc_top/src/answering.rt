@@ -96,7 +96,7 @@ fn find_run(
     }
 }
 
-// The same for a goal over a file that is accepted.
+// What is due for a goal over a file that is accepted, in at most so many steps and with so many answers at most.
 fn find_goal(
     alloc: Global,
     mut names: Names,

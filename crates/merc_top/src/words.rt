@@ -110,7 +110,7 @@ impl Settings {
         most: None,
     };
 
-    // The same with this set to a number, or `None` where it is set already.
+    // The settings with this one set to a number, or `None` where it is set already.
     fn with_number(self, setting: Setting, number: u64) -> Option<Settings>
         ensures { MatchOption result (setting_in setting self ≡ None → ⊥) (λ settings. (setting_in setting self ≡ None) × (settings ≡ with_setting setting number self)) }
     {
@@ -127,7 +127,7 @@ impl Settings {
         }
     }
 
-    // The same with this set to the number that a text spells, or `None` where it spells none or this is set already.
+    // The settings with this one set to the number that a text spells, or `None` where it spells none or this is set already.
     fn with(self, setting: Setting, text: &[u8]) -> Option<Settings>
         ensures { MatchOption result ((number : ℕ) → setting_in setting self ≡ None → IsNumberOf setting text.now number → ⊥) (SetsTo setting text.now self) }
     {
@@ -137,7 +137,7 @@ impl Settings {
 }
 
 impl<'a> Plains<'a> {
-    // The same with one word more behind them, or `None` where no request has so many.
+    // The words with one more behind them, or `None` where no request has so many.
     fn with(self, word: &'a Text) -> Option<Plains<'a>>
         ensures { MatchOption result (length (plains_of self.entry) ≡ 2) (λ plains. plains_of plains ≡ plains_of self.entry ++ word.now ∷ []) }
     {
@@ -148,7 +148,7 @@ impl<'a> Plains<'a> {
         }
     }
 
-    // The same with all these words behind them, or `None` where no request has so many.
+    // The words with all these behind them, or `None` where no request has so many.
     fn with_all(self, words: &'a [Text]) -> Option<Plains<'a>>
         ensures { MatchOption result (2 < length (plains_of self.entry) + length words.now) (λ plains. plains_of plains ≡ plains_of self.entry ++ words.now) }
     {

@@ -241,6 +241,10 @@ impl Term {
     }
 
     /// A copy.
+    ///
+    /// # Errors
+    ///
+    /// `NoMemory` where memory was refused.
     pub fn try_clone(&self, alloc: Global) -> Result<Term, NoMemory>
         ensures { IfOk result (λ copy. copy ≡ self.now) }
     {
@@ -271,7 +275,7 @@ impl<'a> Model for TermRef<'a> {
 }
 
 impl<'a> TermRef<'a> {
-    /// The same term once more.
+    /// A second reference to the term. Nothing of the term is copied.
     pub fn copy(&self) -> TermRef<'a>
         ensures { result ≡ self.now }
     {
@@ -318,7 +322,7 @@ impl<'a> TermRef<'a> {
         shape_at(self.nodes, index)
     }
 
-    /// The same with the place of the part.
+    /// The shape and the place of the part at an index, None past the last.
     pub fn placed_part(&self, index: usize) -> Option<(Shape, Span)>
         ensures { result ≡ slice_get (placed_parts self.now) index }
     {
@@ -327,6 +331,10 @@ impl<'a> TermRef<'a> {
 
     /// How deep the term is nested: 1 for a variable, a literal and a plain name, and for an application 1 more than
     /// its deepest argument. A chain to the right of `,`, `;`, `&`, `else` or of list cells counts once.
+    ///
+    /// # Errors
+    ///
+    /// `NoMemory` where memory was refused.
     pub fn nesting(&self, alloc: Global) -> Result<usize, NoMemory>
         ensures { IfOk result (λ depth. depth ≡ nesting self.now) }
     {
@@ -341,6 +349,10 @@ impl<'a> TermRef<'a> {
     }
 
     /// A copy of its own.
+    ///
+    /// # Errors
+    ///
+    /// `NoMemory` where memory was refused.
     pub fn to_term(&self, alloc: Global) -> Result<Term, NoMemory>
         ensures { IfOk result (λ term. term ≡ self.now) }
     {

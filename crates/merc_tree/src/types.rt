@@ -166,6 +166,10 @@ impl TypeExpr {
     }
 
     /// A copy.
+    ///
+    /// # Errors
+    ///
+    /// `NoMemory` where memory was refused.
     pub fn try_clone(&self, alloc: Global) -> Result<TypeExpr, NoMemory>
         ensures { IfOk result (λ copy. copy ≡ self.now) }
     {
@@ -194,7 +198,7 @@ impl<'a> Model for TypeRef<'a> {
 }
 
 impl<'a> TypeRef<'a> {
-    /// The same type once more.
+    /// A second reference to the type. Nothing of the type is copied.
     pub fn copy(&self) -> TypeRef<'a>
         ensures { result ≡ self.now }
     {
@@ -232,6 +236,10 @@ impl<'a> TypeRef<'a> {
     }
 
     /// A copy of its own.
+    ///
+    /// # Errors
+    ///
+    /// `NoMemory` where memory was refused.
     pub fn to_type(&self, alloc: Global) -> Result<TypeExpr, NoMemory>
         ensures { IfOk result (λ copy. copy ≡ self.now) }
     {

@@ -21,10 +21,13 @@ use merc_type_table::TypeNumber;
 use std::alloc::Global;
 use std::mem::replace;
 
-/// Whether the variables of a goal have types, as `typing` gives them, in as much time or less: a variable takes no place as
-/// long as it is only an argument, with declared types that are alike but for type variables. Then only these type variables
-/// are counted at each use but the first, in pairs that stand at one place; and none at a call that a variable gives the type
-/// of all its arguments whose types have type variables. The matchings are those of the module, to which others are added.
+/// Whether the variables of a goal have types, as `typing` gives them. The matchings are those of the module, to which others
+/// are added.
+///
+/// It takes the time of `typing` or less: of the declared types of a variable that is only an argument, with types that are
+/// alike but for type variables, fewer parts count. At its first use none do, and at each later one only the pairs of type
+/// variables that stand at one place in both types. In a call none do where the variable already has the declared type of the
+/// argument, and no other declared type of the call has type variables.
 ///
 /// # Errors
 ///

@@ -389,7 +389,7 @@ impl<'a> Checker<'a> {
         Ok(true)
     }
 
-    // The same of one pair.
+    // Asks that the type variables of a pair stand for the same, one in this part of the goal, and the other in that.
     fn stands_alike(&mut self, pair: NamePair, one: usize, other: usize) -> Result<bool, NoMemory>
         requires sound { IsSound self.old }
         requires one { one ≤ self.old.part }
@@ -411,7 +411,7 @@ impl<'a> Checker<'a> {
         }
     }
 
-    // The same where the first variable does not wait.
+    // Asks that two variables have one type, of which the first does not wait.
     fn is_alike(&mut self, alloc: Global, one: Var, other: Var) -> Result<bool, NoMemory>
         requires { IsSound self.old }
         ensures { IfOk result (λ done. Takes done self.old self.new (λ types instance. types one ≡ types other)) }

@@ -75,6 +75,10 @@ impl Subst {
     }
 
     /// A copy.
+    ///
+    /// # Errors
+    ///
+    /// `NoMemory` where memory was refused.
     pub fn try_clone(&self, alloc: Global) -> Result<Subst, NoMemory>
         ensures { IfOk result (λ copy. copy ≡ self.now) }
     {
@@ -92,6 +96,10 @@ impl Subst {
 /// of the substitution there are at most n² pairs, and each is looked for among those before it, so the cost is at worst
 /// of the order of n to the fifth power times the greatest number of arguments. Mostly it is the size of the two types
 /// times the number of bindings, and a copy of the substitution, which `Subst::unify` saves.
+///
+/// # Errors
+///
+/// `NoMemory` where memory was refused.
 pub fn unify(
     alloc: Global,
     a: &TypeExpr,

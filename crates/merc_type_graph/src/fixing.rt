@@ -92,7 +92,7 @@ fn fit(
     }
 }
 
-// The same of a type's name over the types at these places.
+// Puts on the list what makes a whole type fit a type's name over the types at these places. False where no type is both.
 fn fit_arguments(
     table: &TypeTable,
     name: Name,

@@ -119,6 +119,7 @@ impl<'a> TypeGraph<'a> {
     /// Makes the type at a place a declared type, in which type variables stand for themselves. It takes no more time than
     /// what is known of the parts of the type at the place: where that is nothing, or a declared type as well, none that
     /// hangs on the types. False where no types that solve the equations have this type there: the graph is of no use then.
+    /// Where memory is refused the graph is of no use either.
     pub fn make_whole(&mut self, place: Place, whole: TypeNumber) -> Result<bool, NoMemory>
         requires there { place < length self.old.entries }
         requires declared { whole < length self.old.table }
@@ -129,6 +130,10 @@ impl<'a> TypeGraph<'a> {
     }
 
     /// Whether there are types that solve the equations.
+    ///
+    /// # Errors
+    ///
+    /// `NoMemory` where memory was refused.
     pub fn is_solvable(&self, alloc: Global) -> Result<bool, NoMemory>
         ensures { IfOk result (λ solvable. Decides solvable self.now.entries) }
     {

@@ -51,7 +51,7 @@ IsMet-one found is pairs = record {
 IsMet-none : (found : IndependentPairs) → AreLinked found → found.pairs ≡ [] → IsMet found → ⊥
 IsMet-none found is pairs met = let same : IntType ≡ TextType = agree_linked found is ints texts ((met.same ints texts).0 (rw pairs tt)) in cc
 
--- the pair is put to none, or follows from itself, or is left out
+-- the pair is added to an empty list, or follows from itself, or is left out
 AddsPair-first : (old new : IndependentPairs) → IsMet new → old.pairs ≡ [] → new.pairs ≡ one_zero → AddsPair old new 1 0
 AddsPair-first old new met none pairs = record {
   met = met;

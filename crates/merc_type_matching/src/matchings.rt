@@ -12,8 +12,8 @@ use merc_type_table::TypeTable;
 use std::alloc::Global;
 use std::collections::{BTreeMap, BTreeSet};
 
-// So many pairs are kept in all, which take 64 MB. Where each two types with many type variables are matched once, more would be
-// of no use.
+// The most pairs that are kept in all, which take 64 MB. More would help only a module that matches the same many types with
+// many type variables again and again.
 const MOST_KEPT: usize = 4_000_000;
 
 /// What was found where two declared types of a module were matched. It is kept from one goal of the module to the next, so

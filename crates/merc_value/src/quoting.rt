@@ -37,6 +37,10 @@ pub fn text_of<'a>(names: &'a Names, name: Name) -> &'a [u8]
 
 /// A text within quotes of this byte: a backslash stands before that byte and a backslash, and a line end and a tab are
 /// written as `\n` and `\t`.
+///
+/// # Errors
+///
+/// `NoMemory` where memory was refused.
 pub fn quoted(alloc: Global, quote: u8, text: &[u8]) -> Result<Text, NoMemory>
     ensures { IfOk result (λ written. written ≡ quoted quote text.now) }
 {

@@ -15,6 +15,10 @@ use std::alloc::Global;
 /// Each value that lies in the blocks gets one word, from the lowest cells up, so that a cell is looked at once however
 /// often it is used. Each cell is compared with the different cells before it: at worst the cost is the square of the
 /// number of cells in both blocks, times the greatest number of arguments.
+///
+/// # Errors
+///
+/// `NoMemory` where memory was refused.
 pub fn equal(a: &Block, i: u32, b: &Block, j: u32) -> Result<bool, NoMemory>
     requires one { i < length a.now.roots }
     requires other { j < length b.now.roots }
@@ -111,6 +115,10 @@ fn moved(words: &[Word], word: &Word) -> Word
 }
 
 /// Words, each with the word at a cell's place in place of the cell. The words must lead to places that have one.
+///
+/// # Errors
+///
+/// `NoMemory` where memory was refused.
 pub fn moved_all(alloc: Global, words: &[Word], arguments: &[Word]) -> Result<Vec<Word>, NoMemory>
     requires { All (IsBelow (length words.now)) arguments.now }
     ensures { IfOk result (λ all. all.items ≡ map (moved words.now) arguments.now) }
