@@ -164,3 +164,18 @@ texted number = Variable number no_span
 
 underscores : answer_variables texts (written 0 (binary comma_name (binary p_name (texted 0) (texted 1)) (binary q_name (texted 2) (texted 0)))) ≡ occurrence 0 4 ∷ []
 underscores = refl
+
+-- `p(X_)`: a `_` behind the first letter hides nothing
+later_underscore : answer_variables (codes "X_" ∷ []) (written 0 (unary p_name (texted 0))) ≡ occurrence 0 2 ∷ []
+later_underscore = refl
+
+-- `not (p(X), q(X))`: none, and `p(X), q(Y), not r(Z)`: X and Y
+negated_both : answers_of (unary not_name (binary comma_name (unary p_name x) (unary q_name x))) ≡ []
+negated_both = refl
+
+negated_third : answers_of (binary comma_name (unary p_name x) (binary comma_name (unary q_name y) (unary not_name (unary r_name z)))) ≡ occurrence x_name 4 ∷ occurrence y_name 10 ∷ []
+negated_third = refl
+
+-- `q(X), some [Y, X] not p(X)`: X, since the one in the negation is another, as each variable of the quantifier is
+quantified_second : answers_of (binary comma_name (unary q_name x) (binary some_name (binary cons_name y (binary cons_name x (nullary nil_name))) (unary not_name (unary p_name x)))) ≡ occurrence x_name 4 ∷ []
+quantified_second = refl
