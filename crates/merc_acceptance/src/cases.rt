@@ -1,4 +1,6 @@
 //! A case with its texts written out.
+ghost use Rattle.std.specs.Prelude.{◌≡◌, false, [], IfOk};
+
 use crate::escapes::{Filling, expand, push_all};
 use crate::fault::TableFault;
 use crate::settings::Settings;
@@ -78,7 +80,10 @@ fn own_text(alloc: Global, text: &str) -> Result<Text, TableFault> {
 }
 
 // Whether what the case puts in stands somewhere, and its line just where one is said.
-fn check_used(filling: &Filling<'_>, is_line_said: bool) -> Result<(), TableFault> {
+fn check_used(filling: &Filling<'_>, is_line_said: bool) -> Result<(), TableFault>
+    ensures line { IfOk result (λ _. filling.now.has_line ≡ is_line_said) }
+    ensures text { IfOk result (λ _. filling.now.has_text ≡ false → filling.now.text.now ≡ []) }
+{
     if filling.has_line != is_line_said {
         return Err(TableFault::WrongLine);
     }

@@ -1,4 +1,5 @@
 //! How many cases passed and failed.
+ghost use Rattle.std.specs.Prelude.{◌≡◌, ◌<◌, ◌≤◌, true, false};
 
 /// The cases so far. A fault of a table counts as a case that failed.
 #[derive(Clone, Copy)]
@@ -11,7 +12,11 @@ pub struct Tally {
 
 impl Tally {
     /// Counts a case.
-    pub(crate) fn count(&mut self, passed: bool) {
+    pub(crate) fn count(&mut self, passed: bool)
+        ensures failed { passed ≡ false → (0 < self.new.failed) × (self.new.passed ≡ self.old.passed) }
+        ensures passed { passed ≡ true → (self.new.failed ≡ self.old.failed) × (self.old.passed ≤ self.new.passed) }
+        ensures kept { self.old.failed ≤ self.new.failed }
+    {
         if passed {
             self.passed = self.passed.saturating_add(1);
         } else {
