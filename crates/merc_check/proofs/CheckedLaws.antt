@@ -18,10 +18,10 @@ use Rattle.merc_order.specs.Ordered.{Ordered, Outcome, Ready, Stuck}
 use Rattle.merc_modes.specs.Told.{fault_in}
 use Rattle.merc_order.specs.Bound.{nothing}
 use Rattle.merc_grading.specs.Faults.{Body, Procedure, all_finished, finished, procedures_of}
-use Rattle.merc_fit_laws.specs.ProcedureBodies.{AreBodiesOf}
-use Rattle.merc_fit_laws.proofs.AskedBodies.{asked_body_is_there}
-use Rattle.merc_fit_laws.proofs.ModesFitting.{module_modes_fit}
-use Rattle.merc_fit_laws.proofs.ProcedureHeads.{bodies_are_there}
+use Rattle.merc_order_laws.specs.ProcedureBodies.{AreBodiesOf}
+use Rattle.merc_order_laws.proofs.AskedBodies.{asked_body_is_there}
+use Rattle.merc_order_laws.proofs.ModesFitting.{module_modes_fit}
+use Rattle.merc_order_laws.proofs.ProcedureHeads.{bodies_are_there}
 use Rattle.merc_check.specs.Accepted.{AreGraded, HasBody, HaveBodies, IsGradedGoal, RefusesClauses, RefusesGoal, query_answers, query_order}
 use Rattle.merc_check.specs.Checked.{IsAccepted, IsGoal, Refuses, RefusesQuery}
 use Rattle.merc_check.specs.Checked.Refuses.{no_module, clauses as clauses_refused}

@@ -8,7 +8,7 @@ use Rattle.merc_tree.specs.declared.declarations.Clause.{Clause}
 use Rattle.merc_tree.specs.declared.declarations.Module.{Module}
 use Rattle.merc_goal_tree.specs.Nodes.{Node}
 use Rattle.merc_type_check.specs.Typing.{HasTyping}
-use Rattle.merc_fit_laws.specs.HeadTypes.{declared_arguments}
+use Rattle.merc_order_laws.specs.HeadTypes.{declared_arguments}
 use Rattle.merc_check.specs.Untyped.{IsTypedAs, IsUntypedAt}
 
 all_pushed : {A : Type 0} (P : A → Type 0) (items : List A) (last : A) → AllByRecursion P items → P last → AllByRecursion P (items ++ last ∷ [])

@@ -17,10 +17,10 @@ use Rattle.merc_order.specs.Spelt.{spelt}
 use Rattle.merc_grading.specs.Faults.{Body, Procedure, procedures_of, with_modes}
 use Rattle.merc_grading.specs.Fitting.{AreToldApart, Fits}
 use Rattle.merc_order_laws.specs.TypedTree.{IsTypedTree}
-use Rattle.merc_fit_laws.specs.Laws.{HasNoSwitch}
-use Rattle.merc_fit_laws.specs.ProcedureBodies.{AreBodiesOf, IsAskedBody}
-use Rattle.merc_fit_laws.proofs.Spelt.{spelt_has_no_switch}
-use Rattle.merc_fit_laws.proofs.TypedFitting.{typed_fits}
+use Rattle.merc_order_laws.specs.Fitting.{HasNoSwitch}
+use Rattle.merc_order_laws.specs.ProcedureBodies.{AreBodiesOf, IsAskedBody}
+use Rattle.merc_order_laws.proofs.Spelt.{spelt_has_no_switch}
+use Rattle.merc_order_laws.proofs.TypedFitting.{typed_fits}
 use Rattle.merc_categories.specs.Fitted.{AreFitted, typed_as}
 
 -- A tree that is a body's has its place among the trees of modes.

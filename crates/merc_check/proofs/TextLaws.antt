@@ -11,7 +11,7 @@ use Rattle.merc_terms.specs.Texts.{ReadsItems, ReadsGoal, RefusesText, RefusesGo
 use Rattle.merc_items.specs.ReadModule.{IsModule, IsModuleOf, RefusesItemsOf, no_items, items as items_refused}
 use Rattle.merc_graded_tree.specs.Nodes.{Node as OrderedNode}
 use Rattle.merc_grading.specs.Fitting.{AreToldApart}
-use Rattle.merc_fit_laws.proofs.TypesApart.{types_are_told_apart}
+use Rattle.merc_order_laws.proofs.TypesApart.{types_are_told_apart}
 use Rattle.merc_check.specs.Accepted.{AcceptsClauses, AcceptsGoal, IsGradedGoal, RefusesClauses, RefusesGoal, query_answers}
 use Rattle.merc_check.specs.Checked.{IsAccepted, IsGoal, Refuses, RefusesQuery}
 use Rattle.merc_check.specs.Checked.Refuses.{no_module, clauses as clauses_refused}

@@ -21,8 +21,8 @@ use Rattle.merc_order.specs.Bound.{nothing}
 use Rattle.merc_order.specs.Procedures.{modes_of, order_fault, query_from}
 use Rattle.merc_modes.specs.Told.{fault_in}
 use Rattle.merc_grading.specs.Faults.{Body, procedures_of, all_finished, finished, category_fault, query_category_fault}
-use Rattle.merc_fit_laws.specs.HeadTypes.{declared_arguments}
-use Rattle.merc_fit_laws.specs.ProcedureBodies.{AreBodiesOf, IsAskedBody}
+use Rattle.merc_order_laws.specs.HeadTypes.{declared_arguments}
+use Rattle.merc_order_laws.specs.ProcedureBodies.{AreBodiesOf, IsAskedBody}
 
 abbrev pub type_mismatch : Span → Refusal
 type_mismatch span = record { rule = TypeMismatch; place = place_of span; detail = Plain }

@@ -6,7 +6,7 @@ use Rattle.merc_tree.specs.declared.declarations.Clause.{Clause}
 use Rattle.merc_tree.specs.declared.declarations.Module.{Module}
 use Rattle.merc_goal_tree.specs.Nodes.{Node}
 use Rattle.merc_type_check.specs.Typing.{HasTyping}
-use Rattle.merc_fit_laws.specs.HeadTypes.{declared_arguments}
+use Rattle.merc_order_laws.specs.HeadTypes.{declared_arguments}
 
 -- Given are a module and the flat form of each clause.
 module _ (known : Module) (form : Clause → Node) where

@@ -13,8 +13,8 @@ ghost use Rattle.merc_order.specs.Procedures.{modes_of, order_fault, procedure_t
 ghost use Rattle.merc_modes.specs.Told.{IsTold, fault_in};
 ghost use Rattle.merc_grading.specs.Faults.{Body, all_finished, category_fault, finished, procedures_of, query_category_fault};
 ghost use Rattle.merc_grading.specs.Fitting.{AreToldApart};
-ghost use Rattle.merc_fit_laws.specs.HeadTypes.{declared_arguments};
-ghost use Rattle.merc_fit_laws.specs.ProcedureBodies.{AreBodiesOf, IsAskedBody};
+ghost use Rattle.merc_order_laws.specs.HeadTypes.{declared_arguments};
+ghost use Rattle.merc_order_laws.specs.ProcedureBodies.{AreBodiesOf, IsAskedBody};
 ghost use Rattle.merc_check.specs.Accepted.{AcceptsClauses, AcceptsGoal, AreGraded, IsGradedGoal, RefusesClauses, RefusesGoal, query_answers, query_names, type_mismatch};
 ghost use Rattle.merc_check.specs.Untyped.{FindsUntyped};
 

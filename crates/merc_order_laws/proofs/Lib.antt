@@ -15,3 +15,15 @@ pub mod JoinedTyping
 pub mod JoinedVariables
 pub mod NewTypes
 pub mod NoGaps
+pub mod Spelt
+pub mod TypedFitting
+pub mod FoundFitting
+pub mod ApartKeys
+pub mod MovedKeys
+pub mod DeclaredKeys
+pub mod TypesApart
+pub mod AskedBodies
+pub mod ProcedureTrees
+pub mod ModesFitting
+pub mod PredicatesApart
+pub mod ProcedureHeads

@@ -12,3 +12,8 @@ pub mod TypedTreeExamples
 pub mod BodyNumbers
 pub mod BodyNumbersExamples
 pub mod BodyTyping
+pub mod Existence
+pub mod HeadTypes
+pub mod Fitting
+pub mod FittingExamples
+pub mod ProcedureBodies

@@ -11,7 +11,7 @@ use Rattle.merc_order.specs.Procedures.{bound_at, modes_of}
 use Rattle.merc_grading.specs.Fitting.{Fits}
 use Rattle.merc_grading.specs.Grading.{graded}
 use Rattle.merc_grading.specs.Switches.{find}
-use Rattle.merc_fit_laws.proofs.FoundFitting.{found_fits}
+use Rattle.merc_order_laws.proofs.FoundFitting.{found_fits}
 use Rattle.merc_categories.proofs.checking.finish.Goals as goal
 
 -- Given are the declared types and modes, what is bound, a goal, and one goal for it where its symbols fit.

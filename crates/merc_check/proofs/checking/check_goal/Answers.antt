@@ -19,7 +19,7 @@ use Rattle.merc_bodies.specs.Bodies.{asked_body, numbered, own_variables}
 use Rattle.merc_order.specs.Procedures.{modes_of, query_from, IsQuery}
 use Rattle.merc_graded_tree.specs.Nodes.{Node as OrderedNode}
 use Rattle.merc_grading.specs.Faults.{Body, query_category_fault}
-use Rattle.merc_fit_laws.specs.ProcedureBodies.{IsAskedBody}
+use Rattle.merc_order_laws.specs.ProcedureBodies.{IsAskedBody}
 use Rattle.merc_modes.specs.Told.{IsTold, fault_in}
 use Rattle.merc_check.specs.Accepted.{AcceptsGoal, HasBody, RefusesGoal, query_answers, query_order, type_mismatch}
 use Rattle.merc_check.specs.Accepted.RefusesGoal.{category, fault, untyped, unordered}

@@ -9,7 +9,7 @@ use Rattle.merc_bodies.specs.Bodies.{body_of}
 use Rattle.merc_order.specs.Procedures.{modes_of, procedure_trees}
 use Rattle.merc_grading.specs.Faults.{Body, procedures_of}
 use Rattle.merc_grading.specs.Fitting.{AreToldApart}
-use Rattle.merc_fit_laws.specs.ProcedureBodies.{AreBodiesOf}
+use Rattle.merc_order_laws.specs.ProcedureBodies.{AreBodiesOf}
 use Rattle.merc_categories.specs.Fitted.{AreFitted}
 use Rattle.merc_check.proofs.ProcedureTrees.{bodies_fitted, trees_of_bodies}
 use Rattle.merc_check.proofs.checking.check_procedures.Goals as goal

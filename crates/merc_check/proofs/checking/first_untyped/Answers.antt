@@ -5,7 +5,7 @@ use Rattle.merc_tree.specs.declared.declarations.Clause.{Clause}
 use Rattle.merc_tree.specs.declared.declarations.Module.{Module}
 use Rattle.merc_goal_tree.specs.Nodes.{Node}
 use Rattle.merc_type_check.specs.Checked.{Tells}
-use Rattle.merc_fit_laws.specs.HeadTypes.{declared_arguments}
+use Rattle.merc_order_laws.specs.HeadTypes.{declared_arguments}
 use Rattle.merc_check.specs.Untyped.{IsTypedAs, IsUntypedAt}
 use Rattle.merc_check.proofs.FirstUntyped.{typed_more, untyped_at}
 use Rattle.merc_check.proofs.checking.first_untyped.Goals as goal

@@ -1,5 +1,0 @@
-use Rattle.merc_accepted_laws.proofs.clauses.tells_first_fault.Goals as goal
-use Rattle.merc_accepted_laws.proofs.FirstFaults.{tells_first}
-
-abbrev pub returns : goal.returns
-returns c = tells_first

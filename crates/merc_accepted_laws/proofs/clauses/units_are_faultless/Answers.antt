@@ -1,5 +1,0 @@
-use Rattle.merc_accepted_laws.proofs.clauses.units_are_faultless.Goals as goal
-use Rattle.merc_accepted_laws.proofs.UnitClauses.{units_faultless}
-
-abbrev pub returns : goal.returns
-returns c = units_faultless

@@ -1,5 +1,0 @@
-use Rattle.merc_accepted_laws.proofs.good_programs.units_are_allowed.Goals as goal
-use Rattle.merc_accepted_laws.proofs.Allowed.{units_allowed}
-
-abbrev pub returns : goal.returns
-returns c = units_allowed

@@ -1,5 +1,0 @@
-use Rattle.merc_accepted_laws.proofs.runs.accepted_goals_keep.Goals as goal
-use Rattle.merc_accepted_laws.proofs.Accepted.{runs_answer_truly}
-
-abbrev pub returns : goal.returns
-returns c = runs_answer_truly

@@ -1,5 +1,0 @@
-use Rattle.merc_accepted_laws.proofs.units.tells_file_category.Goals as goal
-use Rattle.merc_accepted_laws.proofs.UnitCategories.{tells_category}
-
-abbrev pub returns : goal.returns
-returns c = tells_category

@@ -1,5 +1,0 @@
-use Rattle.merc_accepted_laws.proofs.units.tells_file_order.Goals as goal
-use Rattle.merc_accepted_laws.proofs.UnitProcedures.{tells_file}
-
-abbrev pub returns : goal.returns
-returns c = tells_file

@@ -1,5 +1,0 @@
-use Rattle.merc_accepted_laws.proofs.units.units_are_ordered.Goals as goal
-use Rattle.merc_accepted_laws.proofs.UnitProcedures.{units_ordered}
-
-abbrev pub returns : goal.returns
-returns c = units_ordered

@@ -1,0 +1,107 @@
+-- The procedures of a module have ordered bodies, where they have trees, and the bodies of its predicates are typed and have their literals.
+use Rattle.std.proofs.Common.{◌≡◌, ℕ, Bool, true, false, ◌==◌, cond, List, [], ◌∷◌, length, None, refl, subst, ◌∙◌, ap₂, eqb-true}
+use Rattle.std.proofs.lemmas.Bool.{and_parts}
+use Rattle.std.specs.List.{AllByRecursion}
+use Rattle.merc_tree.specs.Term.{Term, Variable, Integer, Text, Application, list_of}
+use Rattle.merc_tree.specs.Types.{TypeExpr}
+use Rattle.merc_tree.specs.declared.declarations.Clause.{Clause}
+use Rattle.merc_tree.specs.declared.declarations.ModeDecl.{ModeDecl}
+use Rattle.merc_tree.specs.declared.declarations.Module.{Module}
+use Rattle.merc_tree.specs.declared.declarations.PredDecl.{PredDecl}
+use Rattle.merc_goal_tree.specs.Nodes.{Node}
+use Rattle.merc_bodies.specs.Bodies.{body_of, clauses_of, is_head}
+use Rattle.merc_order_laws.proofs.JoinedTyping.{body_typed}
+use Rattle.merc_known.specs.Known.{callee_in}
+use Rattle.merc_type_check.specs.Typing.{HasTyping}
+use Rattle.merc_grading.specs.Faults.{Body, Procedure, procedures_of, with_modes}
+use Rattle.merc_order_laws.specs.TypedTree.{ModesFit}
+use Rattle.merc_program_laws.specs.ProgramBodies.{AreOrderedProcedures, HasWrittenLiterals}
+use Rattle.merc_program_laws.proofs.OrderedGoals.{procedure_is_ordered}
+use Rattle.merc_order_laws.specs.HeadTypes.{called_arguments, declared_arguments}
+use Rattle.merc_order_laws.specs.ProcedureBodies.{AreBodiesOf}
+use Rattle.merc_order_laws.proofs.PredicatesApart.{HasItsTypes}
+use Rattle.merc_program_laws.proofs.Lists.{all_flat, all_mapped}
+
+-- Given are a module and the flat form of each clause.
+module _ (known : Module) (form : Clause → Node) where
+  abbrev body : PredDecl → Node
+  body declared = body_of form known.clauses declared
+
+  abbrev pub IsTypedBody : PredDecl → Type 0
+  IsTypedBody declared = HasTyping known declared.args (body declared)
+
+  abbrev pub HasLiteralBody : PredDecl → Type 0
+  HasLiteralBody declared = HasWrittenLiterals (body declared)
+
+  -- clauses are typed by the types of the predicate whose head they have
+  module _ (declared : PredDecl) (its : HasItsTypes known declared) where
+    head_has_types : (head : Term) → is_head declared head ≡ true → declared_arguments known head ≡ declared.args
+    head_has_types (Application name qualifier arguments span) is =
+        let parts = and_parts (name == declared.name) (length (list_of arguments) == length declared.args) is in
+        ap₂ (λ (n count : ℕ). called_arguments known (callee_in known n None count)) (eqb-true name declared.name parts.0) (eqb-true (length (list_of arguments)) (length declared.args) parts.1) ∙ its
+    head_has_types (Variable name span) is = absurd cc
+    head_has_types (Integer value span) is = absurd cc
+    head_has_types (Text text span) is = absurd cc
+
+    clauses_typed : (clauses : List Clause) → AllByRecursion (λ clause. HasTyping known (declared_arguments known clause.head) (form clause)) clauses
+        → AllByRecursion (λ clause. HasTyping known declared.args (form clause)) (clauses_of clauses declared)
+    clauses_typed [] typed = tt
+    clauses_typed (clause ∷ rest) typed = by (is_head declared clause.head) refl (clauses_typed rest typed.1)
+      where
+        by : (b : Bool) → is_head declared clause.head ≡ b → AllByRecursion (λ clause. HasTyping known declared.args (form clause)) (clauses_of rest declared)
+            → AllByRecursion (λ clause. HasTyping known declared.args (form clause)) (cond b (clause ∷ clauses_of rest declared) (clauses_of rest declared))
+        by true is others = (subst (λ (arguments : List TypeExpr). HasTyping known arguments (form clause)) (head_has_types clause.head is) typed.0, others)
+        by false is others = others
+
+  pub bodies_typed : AllByRecursion (λ clause. HasTyping known (declared_arguments known clause.head) (form clause)) known.clauses → (some : List PredDecl)
+      → AllByRecursion (HasItsTypes known) some → AllByRecursion IsTypedBody some
+  bodies_typed typed [] its = tt
+  bodies_typed typed (declared ∷ rest) its = (body_typed known form known.clauses declared (clauses_typed declared its.0 known.clauses typed), bodies_typed typed rest its.1)
+
+  -- a predicate in one of its modes, and the same of a procedure
+
+  record IsSuited (declared : PredDecl) (mode : ModeDecl) : Type 0 where
+    typed : IsTypedBody declared
+    literals : HasLiteralBody declared
+    arity : length mode.args ≡ length declared.args
+
+  abbrev IsSuitedProcedure : Procedure → Type 0
+  IsSuitedProcedure procedure = IsSuited procedure.predicate procedure.mode
+
+  abbrev AreSuitedModes : PredDecl → Type 0
+  AreSuitedModes declared = AllByRecursion (IsSuited declared) declared.modes
+
+  modes_suited : (declared : PredDecl) → IsTypedBody declared → HasLiteralBody declared → (modes : List ModeDecl)
+      → AllByRecursion (λ mode. length mode.args ≡ length declared.args) modes → AllByRecursion (IsSuited declared) modes
+  modes_suited declared typed literals [] fit = tt
+  modes_suited declared typed literals (mode ∷ rest) fit = (record { typed = typed; literals = literals; arity = fit.0 }, modes_suited declared typed literals rest fit.1)
+
+  predicates_suited : (some : List PredDecl) → AllByRecursion IsTypedBody some → AllByRecursion HasLiteralBody some → ModesFit some → AllByRecursion AreSuitedModes some
+  predicates_suited [] typed literals fit = tt
+  predicates_suited (declared ∷ rest) typed literals fit = (modes_suited declared typed.0 literals.0 declared.modes fit.0, predicates_suited rest typed.1 literals.1 fit.1)
+
+  procedures_suited : (some : List PredDecl) → AllByRecursion AreSuitedModes some → AllByRecursion IsSuitedProcedure (procedures_of some)
+  procedures_suited some suited =
+      all_flat AreSuitedModes IsSuitedProcedure (λ declared. with_modes declared declared.modes) some
+      (λ declared modes. all_mapped (IsSuited declared) IsSuitedProcedure (λ mode. record { predicate = declared; mode = mode }) declared.modes (λ mode suited. suited) modes) suited
+
+  module _ (fit : ModesFit known.preds) where
+    retyped : (procedures : List Procedure) (bodies : List Body) → AllByRecursion IsSuitedProcedure procedures → AreBodiesOf known form procedures bodies
+        → (others : List Body) × AreBodiesOf known form procedures others × AreOrderedProcedures known procedures others
+    retyped [] [] suited are = ([], tt, tt)
+    retyped [] (one ∷ bodies) suited are = absurd are
+    retyped (procedure ∷ procedures) [] suited are = absurd are
+    retyped (procedure ∷ procedures) (one ∷ bodies) suited are =
+        let suits = suited.0 in
+        let ordered = procedure_is_ordered known procedure.predicate procedure.mode suits.typed.0 (body procedure.predicate) one.tree fit suits.arity suits.typed.1 suits.literals are.0.tree in
+        let rest = retyped procedures bodies suited.1 are.1 in (
+          record { types = ordered.0; tree = one.tree } ∷ rest.0,
+          (record { tree = are.0.tree; typed = ordered.1.typed }, rest.1),
+          (ordered.1, rest.2),
+        )
+
+    pub ordered_bodies : AllByRecursion IsTypedBody known.preds → AllByRecursion HasLiteralBody known.preds → (bodies : List Body)
+        → AreBodiesOf known form (procedures_of known.preds) bodies
+        → (others : List Body) × AreBodiesOf known form (procedures_of known.preds) others × AreOrderedProcedures known (procedures_of known.preds) others
+    ordered_bodies typed literals bodies are =
+        retyped (procedures_of known.preds) bodies (procedures_suited known.preds (predicates_suited known.preds typed literals fit)) are
