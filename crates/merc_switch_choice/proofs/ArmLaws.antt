@@ -1,8 +1,8 @@
 -- Disjuncts are put to the arms of their symbols, one after the other.
-use Rattle.std.specs.Prelude.{◌≡◌, ◌<◌, ℕ, suc, ◌+◌, Bool, true, false, not, ◌==◌, ◌||◌, List, [], ◌∷◌, ◌++◌, length, map, Option, Some, None, if◌then◌else◌, refl}
+use Rattle.std.specs.Prelude.{◌≡◌, ◌<◌, ◌≤◌, ℕ, zero, suc, ◌+◌, Bool, true, false, not, ◌==◌, ◌||◌, List, [], ◌∷◌, ◌++◌, length, map, Option, Some, None, if◌then◌else◌, refl}
 use Rattle.std.specs.List.{position_or_len, slice_index_or, slice_set}
 use Rattle.std.proofs.Common.{◌∙◌, ap, sym, subst, arith, cond, take, drop}
-use Rattle.std.proofs.lemmas.List.{length-set}
+use Rattle.std.proofs.lemmas.List.{length-append, length-map, length-set}
 use Rattle.std.proofs.Math.Seq.{take-append_seam}
 use Rattle.std.proofs.lemmas.Bool.Decides.{nat_tests}
 use Rattle.merc_goal_tree.specs.declared.goal.Symbol.{Symbol}
@@ -182,9 +182,6 @@ module _ (groups : List Group) (symbols : List Symbol) (disjuncts : List (List N
   symbols_same : symbols' ≡ symbols_at s groups place
   symbols_same = adds.symbols_are ∙ ap (λ l. if place == length l then symbols ++ s ∷ [] else symbols) are.groups_are ∙ ap (λ l. if place == length (seconds groups) then l ++ s ∷ [] else l) are.symbols_are
 
-  pub has_room : place < length opened_groups
-  has_room = subst (λ l. place < length l) (sym groups_same) at_place.room
-
   pub arms_added : (now : List (List Node)) → now ≡ slice_set opened_groups place (slice_index_or opened_groups place [] ++ d ∷ []) → AreArms symbols' now (joined_in s d groups)
   arms_added now put = record {
     symbols_are = symbols_same ∙ at_place.symbols;
@@ -193,6 +190,40 @@ module _ (groups : List Group) (symbols : List Symbol) (disjuncts : List (List N
 
   pub places_added : places' ≡ symbols'
   places_added = adds.places_are ∙ ap (λ l. with_symbol l s) (known ∙ are.symbols_are) ∙ at_place.places ∙ sym (symbols_same ∙ at_place.symbols)
+
+-- a disjunct has room in the arm of its symbol
+
+within_if : (b : Bool) (place len : ℕ) → place ≤ len → cond (not b) (1 + place) 0 ≤ suc len
+within_if true place len h = omega arith
+within_if false place len h = omega (arith, h)
+
+place_within : (s : Symbol) (symbols : List Symbol) → position_or_len (same_symbol s) symbols ≤ length symbols
+place_within s [] = omega arith
+place_within s (first ∷ rest) = within_if (same_symbol s first) (position_or_len (same_symbol s) rest) (length rest) (place_within s rest)
+
+below : (one other : ℕ) → one ≤ other → (one == other) ≡ false → one < other
+below zero zero h apart = absurd (cc)
+below zero (suc other) h apart = omega arith
+below (suc one) zero h apart = absurd (omega (arith, h))
+below (suc one) (suc other) h apart =
+    let less : one ≤ other = omega (arith, h) in
+    let k = below one other less (sym (next_eq one other) ∙ apart) in
+    omega (arith, k)
+
+room_if : (b : Bool) (place : ℕ) (disjuncts : List (List Node)) → (place == length disjuncts) ≡ b → place ≤ length disjuncts → place < length (if b then disjuncts ++ [] ∷ [] else disjuncts)
+room_if true place disjuncts same h = omega (arith, h, length-append disjuncts ([] ∷ []))
+room_if false place disjuncts apart h = below place (length disjuncts) h apart
+
+pub room_under : (s : Symbol) (place : ℕ) (places : List Symbol) (disjuncts opened_groups : List (List Node)) → length disjuncts ≡ length places → place ≡ position_or_len (same_symbol s) places
+    → opened_groups ≡ (if place == length disjuncts then disjuncts ++ [] ∷ [] else disjuncts) → place < length opened_groups
+room_under s place places disjuncts opened_groups same is groups_are =
+    let most = place_within s places in
+    let inside : place ≤ length disjuncts = omega (arith, same, is, most) in
+    subst (λ l. place < length l) (sym groups_are) (room_if (place == length disjuncts) place disjuncts refl inside)
+
+pub same_lengths : (groups : List Group) (symbols : List Symbol) (disjuncts : List (List Node)) (places : List Symbol) → places ≡ symbols → AreArms symbols disjuncts groups → length disjuncts ≡ length places
+same_lengths groups symbols disjuncts places known are =
+    ap length are.groups_are ∙ length-map groups (λ (group : Group). group.1) ∙ sym (length-map groups (λ (group : Group). group.0)) ∙ sym (ap length (known ∙ are.symbols_are))
 
 -- a slice of the whole list, written back
 pub written_back : {X : Type 0} (old now : List X) (len place : ℕ) (x : X) → length old ≡ len → now ≡ slice_set old place x → take len (now ++ drop (length now) old) ≡ now

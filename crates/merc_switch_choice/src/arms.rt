@@ -3,7 +3,7 @@ ghost use Rattle.std.specs.Prelude.{◌≡◌, ◌<◌, ◌==◌, ◌++◌, ◌�
 ghost use Rattle.std.specs.List.{list_all, slice_index_or, slice_set, position_or_len};
 ghost use Rattle.merc_grading.specs.Known.{same_symbol};
 ghost use Rattle.merc_grading.specs.Switches.{Group, symbol_at, is_there, grouped};
-ghost use Rattle.merc_switch_choice.specs.Arms.{AreArms};
+ghost use Rattle.merc_switch_choice.specs.Arms.{AreArms, joined_in};
 ghost use Rattle.merc_switch_choice.specs.Summaries.{DescribesAll};
 ghost use Rattle.merc_switch_choice.specs.Symbols.{with_symbol};
 
@@ -110,11 +110,34 @@ fn put_all<'a>(
 {
     for disjunct in disjuncts {
         if let Some(symbol) = disjunct.symbol(variable) {
-            let place = open_arm(alloc, &symbol, places, symbols, groups)?;
-            push_at(groups, place, disjunct)?;
+            put_under(alloc, symbol, disjunct, places, symbols, groups)?;
+        } else {
+            drop(disjunct);
         }
     }
     Ok(())
+}
+
+// Puts a disjunct to the arm of a symbol.
+fn put_under<'a>(
+    alloc: Global,
+    symbol: Symbol,
+    disjunct: Disjunct<'a>,
+    places: &mut SymbolSet,
+    symbols: &mut Vec<Symbol>,
+    groups: &mut Vec<Sequence<Disjunct<'a>>>,
+) -> Result<(), NoMemory>
+    requires { length groups.old.items ≡ length places.old }
+    ensures arms { OnOk result ((arms : List Group) → places.old ≡ symbols.old.items → AreArms symbols.old.items groups.old.items arms → AreArms symbols.new.items groups.new.items (joined_in symbol disjunct.entry arms)) }
+    ensures places { OnOk result ((arms : List Group) → places.old ≡ symbols.old.items → AreArms symbols.old.items groups.old.items arms → places.new ≡ symbols.new.items) }
+{
+    match open_arm(alloc, &symbol, places, symbols, groups) {
+        Ok(place) => push_at(groups, place, disjunct),
+        Err(refused) => {
+            drop(disjunct);
+            Err(refused)
+        }
+    }
 }
 
 // The place of a symbol's arm. A new symbol has an arm without disjuncts behind the others.
