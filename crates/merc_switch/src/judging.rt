@@ -19,7 +19,7 @@ use crate::handing::{Handed, take_counts};
 use crate::selection::Selection;
 use crate::tasks::{Group, Task, Tasks};
 use crate::whole::Whole;
-use merc_base::{NoMemory, Sequence};
+use merc_base::{Category, NoMemory, Sequence, Span};
 use merc_goal_tree::{Symbol, Var, Vars};
 use merc_graded_tree::{Label, Root};
 use merc_known::Known;
@@ -142,20 +142,39 @@ fn step_in<'a>(
     ensures tasks { OnOk result (tasks.new ≡ Close (outer_label variable symbol group.old) ∷ tasks.old) }
 {
     let span = group.selected.span();
-    let mut symbols = Vec::new(alloc);
-    symbols.push(symbol)?;
     let inner = inner_outputs(alloc, &mut group.selected, &group.outputs, narrowed)?;
     let outputs = mem::replace(&mut group.outputs, inner);
-    tasks.push(Task::Close(Label {
-        root: Root::Switch(variable, Sequence::from_vec(symbols)),
-        outputs,
-        category: group.category,
-        span,
-    }))?;
+    let label = one_arm(alloc, variable, symbol, outputs, group.category, span)?;
+    tasks.push(Task::Close(label))?;
     group.used.add(variable)?;
     group.left = group.left.saturating_sub(1);
     group.category = None;
     Ok(())
+}
+
+// The label of a switch on a variable that has one arm.
+fn one_arm(
+    alloc: Global,
+    variable: Var,
+    symbol: Symbol,
+    outputs: Vars,
+    category: Option<Category>,
+    span: Span,
+) -> Result<Label, NoMemory>
+    ensures { IfOk result (λ label. label ≡ record { root = Root.Switch variable (symbol ∷ []); outputs = outputs; category = category; span = span }) }
+{
+    match Vec::from_slice(alloc, &[symbol]) {
+        Ok(symbols) => Ok(Label {
+            root: Root::Switch(variable, Sequence::from_vec(symbols)),
+            outputs,
+            category,
+            span,
+        }),
+        Err(_) => {
+            drop(outputs);
+            Err(NoMemory)
+        }
+    }
 }
 
 // The outputs of the whole that occur in the disjuncts, which may be known to be these.
