@@ -1,4 +1,4 @@
-use Rattle.std.proofs.Common.{◌∙◌, ◌++◌, ◌∷◌, [], ap, subst, sym}
+use Rattle.std.proofs.Common.{◌∙◌, subst, sym}
 use Rattle.merc_grading.specs.Switches.{grouped}
 use Rattle.merc_switch_choice.specs.Arms.{AreArms}
 use Rattle.merc_switch_choice.proofs.ArmLaws.{grouped_some, grouped_none, same_lengths}
