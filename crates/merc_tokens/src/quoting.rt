@@ -37,6 +37,25 @@ pub fn quoted(alloc: Global, quote: u8, text: &[u8]) -> Result<Option<(Text, usi
     ensures bound { IfOk result (λ found. IfSome found (λ pair. pair.1 ≤ length text.now)) }
 {
     let mut content = Text::new(alloc);
+    match push_quoted(&mut content, quote, text) {
+        Ok(Some(past)) => Ok(Some((content, past))),
+        Ok(None) => {
+            // (a call, here and below, since it costs much to prove what is dropped)
+            drop(content);
+            Ok(None)
+        }
+        Err(refused) => {
+            drop(content);
+            Err(refused)
+        }
+    }
+}
+
+// Puts the text up to the closing quote behind the content, and says how many bytes stand up to behind that quote.
+fn push_quoted(content: &mut Text, quote: u8, text: &[u8]) -> Result<Option<usize>, NoMemory>
+    ensures value { IfOk result (λ found. option_map (λ past. (content.new, past)) found ≡ quoted quote content.old 0 text.now) }
+    ensures bound { IfOk result (λ found. IfSome found (λ past. past ≤ length text.now)) }
+{
     let mut past = 0;
     let mut rest = text;
     loop {
@@ -44,16 +63,12 @@ pub fn quoted(alloc: Global, quote: u8, text: &[u8]) -> Result<Option<(Text, usi
             [] => return Ok(None),
             [byte] => {
                 let closes = *byte == quote;
-                return Ok(if closes {
-                    Some((content, past + 1))
-                } else {
-                    None
-                });
+                return Ok(if closes { Some(past + 1) } else { None });
             }
             [byte, next, ..] => {
                 if *byte == quote {
                     if *next != quote {
-                        return Ok(Some((content, past + 1)));
+                        return Ok(Some(past + 1));
                     }
                     content.push(&[quote])?;
                     past += 2;

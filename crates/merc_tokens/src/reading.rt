@@ -7,7 +7,7 @@ ghost use Rattle.merc_base.specs.Characters.{line_end_code};
 ghost use Rattle.merc_base.specs.Texts.{with_text};
 ghost use Rattle.merc_tokens.specs.Tokens.{ReadsTokens, is_name, named_text, spelling_in, with_texts};
 ghost use Rattle.merc_tokens.specs.Faults.{RefusesRightly};
-ghost use Rattle.merc_tokens.specs.Outcomes.{ReadsRightly, earlier};
+ghost use Rattle.merc_tokens.specs.Outcomes.{ReadsAll, ReadsFault, ReadsRightly, earlier};
 ghost use Rattle.merc_tokens.specs.declared.token.Token.{Token};
 
 use crate::bytes::behind;
@@ -31,25 +31,25 @@ fn is_name(spelling: &Spelling) -> bool
 }
 
 // The name of this text.
-fn intern(names: &mut Names, text: Text) -> Result<Name, NoMemory>
-    ensures known { IfOk result (λ name. slice_get names.new name ≡ Some text) }
-    ensures added { OnOk result (names.new ≡ with_text names.old text) }
+fn intern(names: &mut Names, text: &Text) -> Result<Name, NoMemory>
+    ensures known { IfOk result (λ name. slice_get names.new name ≡ Some text.now) }
+    ensures added { OnOk result (names.new ≡ with_text names.old text.now) }
     ensures grows { (more : List (List ℕ)) × (names.new ≡ names.old ++ more) }
 {
     names.intern(text.bytes())
 }
 
 // The kind of token that this spells.
-fn kind_of(names: &mut Names, spelling: Spelling) -> Result<TokenKind, NoMemory>
-    ensures value { IfOk result (λ kind. spelling_in names.new kind ≡ Some spelling) }
-    ensures added { OnOk result (names.new ≡ fold with_text names.old (named_text spelling)) }
+fn kind_of(names: &mut Names, spelling: &Spelling) -> Result<TokenKind, NoMemory>
+    ensures value { IfOk result (λ kind. spelling_in names.new kind ≡ Some spelling.now) }
+    ensures added { OnOk result (names.new ≡ fold with_text names.old (named_text spelling.now)) }
     ensures grows { (more : List (List ℕ)) × (names.new ≡ names.old ++ more) }
 {
     Ok(match spelling {
         Spelling::Name(name) => TokenKind::Name(intern(names, name)?),
         Spelling::Quoted(name) => TokenKind::Quoted(intern(names, name)?),
         Spelling::Var(name) => TokenKind::Var(intern(names, name)?),
-        Spelling::Int(value) => TokenKind::Int(value),
+        Spelling::Int(value) => TokenKind::Int(*value),
         Spelling::Text(content) => TokenKind::Text(intern(names, content)?),
         Spelling::OpenArgs => TokenKind::OpenArgs,
         Spelling::Open => TokenKind::Open,
@@ -74,8 +74,10 @@ fn push_token(
     ensures added { OnOk result (names.new ≡ fold with_text names.old (named_text spelling)) }
     ensures grows { (more : List (List ℕ)) × (names.new ≡ names.old ++ more) }
 {
-    let kind = kind_of(names, spelling)?;
-    tokens.push(Token { kind, span })?;
+    let kind = kind_of(names, &spelling);
+    // (a call, here and below, since it costs much to prove what is dropped)
+    drop(spelling);
+    tokens.push(Token { kind: kind?, span })?;
     Ok(())
 }
 
@@ -93,6 +95,31 @@ fn read_all(alloc: Global, text: &[u8], names: &mut Names) -> Result<Reading, No
     ensures grows { (more : List (List ℕ)) × (names.new ≡ names.old ++ more) }
 {
     let mut tokens = Sequence::new(alloc);
+    match push_all(alloc, text, names, &mut tokens) {
+        Ok(None) => Ok(Reading::All(tokens)),
+        Ok(Some(refusal)) => {
+            drop(tokens);
+            Ok(Reading::Faulty(refusal))
+        }
+        Err(refused) => {
+            drop(tokens);
+            Err(refused)
+        }
+    }
+}
+
+// Puts the tokens of a text into a list that has none yet, up to the first fault, where nothing is said of UTF-8.
+fn push_all(
+    alloc: Global,
+    text: &[u8],
+    names: &mut Names,
+    tokens: &mut Tokens,
+) -> Result<Option<Refusal>, NoMemory>
+    requires text { length text.now ≤ 300000000 }
+    requires tokens { tokens.old ≡ [] }
+    ensures reading { IfOk result (λ fault. MatchOption fault (ReadsAll text.now names.old names.new tokens.new) (ReadsFault text.now)) }
+    ensures grows { (more : List (List ℕ)) × (names.new ≡ names.old ++ more) }
+{
     let mut at: usize = 0;
     let mut line: u32 = 1;
     let mut after_name = false;
@@ -104,7 +131,7 @@ fn read_all(alloc: Global, text: &[u8], names: &mut Names) -> Result<Reading, No
                     byte: at as u32,
                     line,
                 };
-                return Ok(Reading::Faulty(Refusal {
+                return Ok(Some(Refusal {
                     rule,
                     place,
                     detail,
@@ -117,14 +144,14 @@ fn read_all(alloc: Global, text: &[u8], names: &mut Names) -> Result<Reading, No
             Piece::Token(spelling, len) => {
                 after_name = is_name(&spelling);
                 let (first, past) = (at as u32, (at + len) as u32);
-                push_token(&mut tokens, names, spelling, Span { first, past, line })?;
+                push_token(tokens, names, spelling, Span { first, past, line })?;
                 len
             }
         };
         line += line_ends_in(rest, len);
         at += len;
     }
-    Ok(Reading::All(tokens))
+    Ok(None)
 }
 
 // How many line ends stand in the first bytes of a text.
@@ -161,21 +188,27 @@ pub fn tokens(alloc: Global, text: &[u8], names: &mut Names) -> Result<Tokens, F
     ensures grows { (more : List (List ℕ)) × (names.new ≡ names.old ++ more) }
 {
     let reading = read_all(alloc, text, names)?;
-    match (first_bad_byte(text), reading) {
-        (None, Reading::All(tokens)) => Ok(tokens),
-        (None, Reading::Faulty(refusal)) => Err(Fault::Refused(refusal)),
-        (Some(at), reading) => Err(Fault::Refused(earlier(text, at, reading))),
+    match first_bad_byte(text) {
+        Some(at) => {
+            let refusal = earlier(text, at, &reading);
+            drop(reading);
+            Err(Fault::Refused(refusal))
+        }
+        None => match reading {
+            Reading::All(tokens) => Ok(tokens),
+            Reading::Faulty(refusal) => Err(Fault::Refused(refusal)),
+        },
     }
 }
 
 // The earlier of the fault that was read and of a byte that is not UTF-8.
-fn earlier(text: &[u8], at: usize, reading: Reading) -> Refusal
+fn earlier(text: &[u8], at: usize, reading: &Reading) -> Refusal
     requires at { at ≤ length text.now }
     requires small { length text.now ≤ 300000000 }
-    ensures { result ≡ earlier text.now at reading }
+    ensures { result ≡ earlier text.now at reading.now }
 {
     match reading {
-        Reading::Faulty(refusal) if (refusal.place.byte as usize) < at => refusal,
+        Reading::Faulty(refusal) if (refusal.place.byte as usize) < at => *refusal,
         _ => Refusal {
             rule: Rule::BadToken,
             place: Place {

@@ -2,11 +2,11 @@ use Rattle.std.proofs.Common.{length, sym, ◌∙◌, arith, length-drop, ap}
 use Rattle.std.proofs.lemmas.List.{drop_all}
 use Rattle.merc_tokens.proofs.ReadsTo.{reads-none, reads-gap, reads-token}
 use Rattle.merc_tokens.proofs.ReadingEnds.{reads-fault, reads-all}
-use Rattle.merc_tokens.proofs.reading.read_all.Goals as goal
-use Rattle.merc_tokens.proofs.reading.read_all.Goals.{in-Gap, in-Token+in_ok-push_token-in-Token}
+use Rattle.merc_tokens.proofs.reading.push_all.Goals as goal
+use Rattle.merc_tokens.proofs.reading.push_all.Goals.{in-Gap, in-Token+in_ok-push_token-in-Token}
 
 pub loop-at-init : goal.loop-at-init
-loop-at-init c = reads-none c.args.text.now c.args.names.now _ c.new-tokens.ensures
+loop-at-init c = reads-none c.args.text.now c.args.names.now _ c.requires.tokens
 
 pub loop-at-preserved : goal.loop-at-preserved
 loop-at-preserved c =

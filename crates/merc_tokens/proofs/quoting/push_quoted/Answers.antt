@@ -1,6 +1,6 @@
 use Rattle.std.proofs.Common.{sym, ◌∙◌, arith, length-drop}
 use Rattle.merc_tokens.proofs.QuotedSteps.{quoted-doubled, quoted-escape, quoted-plain}
-use Rattle.merc_tokens.proofs.quoting.quoted.Goals as goal
+use Rattle.merc_tokens.proofs.quoting.push_quoted.Goals as goal
 
 pub loop-rest-preserved-then-byte-quote : goal.loop-rest-preserved-then-byte-quote
 loop-rest-preserved-then-byte-quote c =
