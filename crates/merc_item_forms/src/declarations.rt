@@ -60,7 +60,10 @@ fn import_fault(alloc: Global, root: &TermRef<'_>) -> Result<Option<(Rule, Detai
     ensures { IfOk result (λ fault. fault ≡ least_fault false (first_of (words (Import (chain comma_name root.now)))) false) }
 {
     let units = members(alloc, root, Name::COMMA)?;
-    Ok(least_fault(false, first_unit_word(&units), false))
+    let word = first_unit_word(&units);
+    // (a call, here and below, since it costs much to prove what is dropped)
+    drop(units);
+    Ok(least_fault(false, word, false))
 }
 
 // The first fault of a type's declaration.
@@ -74,11 +77,26 @@ fn type_fault(
     ensures { IfOk result (λ fault. fault ≡ least_fault (is_wrong_type names.now own head.now (chain semicolon_name root.now)) (first_of (words (TypeItem head.now (chain semicolon_name root.now)))) (is_too_wide (TypeItem head.now (chain semicolon_name root.now)))) }
 {
     let constructors = members(alloc, root, Name::SEMICOLON)?;
-    let is_wrong = is_wrong_type(alloc, names, own, head, &constructors)?;
+    let fault = declared_type_fault(alloc, names, own, head, &constructors);
+    drop(constructors);
+    fault
+}
+
+// The first fault of the declaration of a type with these constructors.
+fn declared_type_fault(
+    alloc: Global,
+    names: &Names,
+    own: Name,
+    head: &TermRef<'_>,
+    constructors: &[TermRef<'_>],
+) -> Result<Option<(Rule, Detail)>, NoMemory>
+    ensures { IfOk result (λ fault. fault ≡ least_fault (is_wrong_type names.now own head.now constructors.now) (first_of (words (TypeItem head.now constructors.now))) (is_too_wide (TypeItem head.now constructors.now))) }
+{
+    let is_wrong = is_wrong_type(alloc, names, own, head, constructors)?;
     Ok(least_fault(
         is_wrong,
-        type_word(head, &constructors),
-        is_wide(head) || any_is_wide(&constructors),
+        type_word(head, constructors),
+        is_wide(head) || any_is_wide(constructors),
     ))
 }
 
@@ -110,7 +128,9 @@ fn is_wrong_type_head(
         return Ok(true);
     }
     let parameters = arguments(alloc, head)?;
-    are_wrong_parameters(alloc, names, &parameters)
+    let are_wrong = are_wrong_parameters(alloc, names, &parameters);
+    drop(parameters);
+    are_wrong
 }
 
 // The first fault of a type that is not declared by its constructors.
@@ -206,7 +226,9 @@ fn predicate_fault(
     } else {
         first_argument_word(&arguments).or(category_word(category))
     };
-    Ok(least_fault(is_wrong, word, is_wide(head) || has_wide_type(&arguments)))
+    let fault = least_fault(is_wrong, word, is_wide(head) || has_wide_type(&arguments));
+    drop(arguments);
+    Ok(fault)
 }
 
 // The first fault of a mode's declaration.
@@ -227,6 +249,7 @@ fn mode_fault(
     } else {
         first_mode_word(&modes).or(category_word(category))
     };
+    drop(modes);
     Ok(least_fault(is_wrong, word, is_wide(head)))
 }
 

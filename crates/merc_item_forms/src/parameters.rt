@@ -17,7 +17,10 @@ pub(crate) fn repeats(
 {
     let mut variables = own_variables(alloc, names, parameters)?;
     variables.sort_unstable();
-    Ok(has_equal_neighbors(&variables))
+    let repeats = has_equal_neighbors(&variables);
+    // (a call, since it costs much to prove what is dropped)
+    drop(variables);
+    Ok(repeats)
 }
 
 // The names of the variables other than `_`, in order.
