@@ -211,13 +211,11 @@ items_refused tokens old new found rule detail place sofar reads wrong some e =
     here_at (first ∷ others) h is = here first others rule detail is
 
 -- the term of a goal without a fault
-pub goal_found : (tokens : List Token) (old new : Progress) (found : Bool) (term : Term) → old.built.terms ≡ [] → old.built.is_great ≡ false → old.rest.now ≡ tokens → ReadsGoal old new found → SaysWrong new.built found None
-    → new.built.terms ≡ term ∷ [] → HasGoal tokens term
-goal_found tokens old new found term terms small rest reads right only =
+pub goal_alone : (old new : Progress) (found : Bool) → old.built.terms ≡ [] → old.built.is_great ≡ false → ReadsGoal old new found → SaysWrong new.built found None
+    → (term : Term) × (new.built.terms ≡ term ∷ []) × HasGoal old.rest.now term
+goal_alone old new found terms small reads right =
     let one = goal_right old new found small reads right in
-    let same : one.0 ∷ [] ≡ term ∷ [] = sym (one.2.terms ∙ ap (λ (t : List Term). t ++ one.0 ∷ []) terms) ∙ only in
-    let same' : one.0 ≡ term = cc in
-    rw (← same', ← rest) (record { spelled = one.1; allowed = one.2.allowed })
+    (one.0, one.2.terms ∙ ap (λ (t : List Term). t ++ one.0 ∷ []) terms, record { spelled = one.1; allowed = one.2.allowed })
 
 pub goal_refused : (tokens : List Token) (old new : Progress) (found : Bool) (rule : Rule) (detail : Detail) (place : Place) → old.built.is_great ≡ false → old.rest.now ≡ tokens → ReadsGoal old new found
     → SaysWrong new.built found (Some (rule, detail)) → place ≡ place_of old.rest.now → RefusesGoal tokens (refusal_at rule detail place)

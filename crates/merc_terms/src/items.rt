@@ -1,5 +1,6 @@
 //! Reads the items of a list of tokens, and the term of a goal.
-ghost use Rattle.std.specs.Prelude.{◌≡◌, ◌<◌, true, length, IfOk, IfErr};
+ghost use Rattle.std.specs.Prelude.{◌≡◌, ◌<◌, true, false, [], ◌∷◌, length, IfOk, IfErr, OnOk};
+ghost use Rattle.merc_tree.specs.Term.{Term};
 ghost use Rattle.merc_terms.specs.Items.{HasItems, HasGoal, RefusesItems, RefusesGoal, IsRefusal, place_of};
 ghost use Rattle.merc_terms.specs.Outcomes.{TakesStop, IsAtEnd, ReadsItem, ReadsGoal, SaysWrong};
 
@@ -22,18 +23,14 @@ pub fn read_items(alloc: Global, tokens: &Tokens) -> Result<Terms, Fault>
     ensures refused { IfErr result (λ fault. IsRefusal (RefusesItems tokens.now) fault) }
 {
     let mut reader = Reader::new(alloc, tokens.as_slice());
-    while reader.left() > 0 {
-        let place = reader.place();
-        let found = reader.read_item()?;
-        if let Some((rule, detail)) = reader.find_fault(alloc, found)? {
-            return Err(Fault::Refused(Refusal {
-                rule,
-                place,
-                detail,
-            }));
+    match reader.read_all(alloc) {
+        Ok(()) => Ok(reader.into_terms()),
+        Err(fault) => {
+            // (a call, here and below, since it costs much to prove what is dropped)
+            drop(reader);
+            Err(fault)
         }
     }
-    Ok(reader.into_terms())
 }
 
 /// The term that the tokens of a goal are: a term of a priority of at most 1200, and then the end, or a full stop and
@@ -49,19 +46,56 @@ pub fn read_goal(alloc: Global, tokens: &Tokens) -> Result<Term, Fault>
     ensures refused { IfErr result (λ fault. IsRefusal (RefusesGoal tokens.now) fault) }
 {
     let mut reader = Reader::new(alloc, tokens.as_slice());
-    let place = reader.place();
-    let found = reader.read_goal()?;
-    if let Some((rule, detail)) = reader.find_fault(alloc, found)? {
-        return Err(Fault::Refused(Refusal {
-            rule,
-            place,
-            detail,
-        }));
+    match reader.read_only(alloc) {
+        Ok(()) => Ok(reader.into_terms().into_only().unwrap()),
+        Err(fault) => {
+            drop(reader);
+            Err(fault)
+        }
     }
-    Ok(reader.into_terms().into_only().unwrap())
 }
 
 impl Reader<'_> {
+    // Reads the items of all tokens, of which none is read yet, up to the first fault.
+    fn read_all(&mut self, alloc: Global) -> Result<(), Fault>
+        requires terms { self.old.progress.built.terms ≡ [] }
+        requires great { self.old.progress.built.is_great ≡ false }
+        ensures found { OnOk result (HasItems self.old.progress.rest.now self.new.progress.built.terms) }
+        ensures refused { IfErr result (λ fault. IsRefusal (RefusesItems self.old.progress.rest.now) fault) }
+    {
+        while self.left() > 0 {
+            let place = self.place();
+            let found = self.read_item()?;
+            if let Some((rule, detail)) = self.find_fault(alloc, found)? {
+                return Err(Fault::Refused(Refusal {
+                    rule,
+                    place,
+                    detail,
+                }));
+            }
+        }
+        Ok(())
+    }
+
+    // Reads the term of a goal, where none is read yet.
+    fn read_only(&mut self, alloc: Global) -> Result<(), Fault>
+        requires terms { self.old.progress.built.terms ≡ [] }
+        requires great { self.old.progress.built.is_great ≡ false }
+        ensures found { OnOk result ((term : Term) × (self.new.progress.built.terms ≡ term ∷ []) × HasGoal self.old.progress.rest.now term) }
+        ensures refused { IfErr result (λ fault. IsRefusal (RefusesGoal self.old.progress.rest.now) fault) }
+    {
+        let place = self.place();
+        let found = self.read_goal()?;
+        match self.find_fault(alloc, found)? {
+            Some((rule, detail)) => Err(Fault::Refused(Refusal {
+                rule,
+                place,
+                detail,
+            })),
+            None => Ok(()),
+        }
+    }
+
     // Where the tokens begin, the first line where there are none.
     fn place(&self) -> Place
         ensures value { result ≡ place_of self.now.progress.rest.now }

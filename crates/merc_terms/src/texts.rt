@@ -26,7 +26,10 @@ pub fn read_text(alloc: Global, text: &[u8], names: &mut Names) -> Result<Terms,
     ensures grows { (more : List (List ℕ)) × (names.new ≡ names.old ++ more) }
 {
     let tokens = tokens(alloc, text, names)?;
-    read_items(alloc, &tokens)
+    let terms = read_items(alloc, &tokens);
+    // (a call, here and below, since it costs much to prove what is dropped)
+    drop(tokens);
+    terms
 }
 
 /// The term that a goal's text is. Names that the text spells are added to the table; where it is refused, the table
@@ -50,5 +53,7 @@ pub fn read_goal_text(alloc: Global, text: &[u8], names: &mut Names) -> Result<T
         }));
     }
     let tokens = tokens(alloc, text, names)?;
-    read_goal(alloc, &tokens)
+    let term = read_goal(alloc, &tokens);
+    drop(tokens);
+    term
 }

@@ -17,13 +17,13 @@ returns-in_err-tokens-clause-refused c =
 pub returns-clause-found : goal.returns-clause-found
 unfolding goal_limit
 returns-clause-found c =
-    IfOk-weaker c.read_goal.result _ _
+    IfOk-weaker c.read_goal-term.result _ _
     (λ term is. record { within = c.if-text-gt-GOAL_LIMIT.false; tokens = c.in_ok-tokens.tokens; read = c.in_ok-tokens.ensures.found; goal = is })
-    c.read_goal.ensures.found
+    c.read_goal-term.ensures.found
 
 pub returns-clause-refused : goal.returns-clause-refused
 unfolding goal_limit
 returns-clause-refused c =
-    IfErr-weaker c.read_goal.result _ _
+    IfErr-weaker c.read_goal-term.result _ _
     (λ fault refuses. goal-refused c.args.names.now c.args.text.now c.tokens.new.names c.in_ok-tokens.tokens c.if-text-gt-GOAL_LIMIT.false c.in_ok-tokens.ensures.found fault refuses)
-    c.read_goal.ensures.refused
+    c.read_goal-term.ensures.refused

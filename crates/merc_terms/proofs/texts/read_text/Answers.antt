@@ -9,6 +9,6 @@ returns-in_err-tokens-clause-refused c =
 
 pub returns-clause-refused : goal.returns-clause-refused
 returns-clause-refused c =
-    IfErr-weaker c.read_items.result _ _
+    IfErr-weaker c.read_items-terms.result _ _
     (λ fault refuses. items-refused c.args.names.now c.args.text.now c.tokens.new.names c.in_ok-tokens.tokens c.in_ok-tokens.ensures.found fault refuses)
-    c.read_items.ensures.refused
+    c.read_items-terms.ensures.refused
