@@ -1,6 +1,7 @@
 -- The steps in which the entries of a module are joined.
 use Rattle.std.specs.List.{slice_get}
-use Rattle.std.proofs.Common.{◌≡◌, ℕ, ◌+◌, List, [], ◌∷◌, ◌++◌, map, drop, Some, None, ap, sym, ◌∙◌, append_assoc}
+use Rattle.std.proofs.Common.{◌≡◌, ℕ, suc, ◌+◌, ◌<◌, Bool, true, false, if◌then◌else◌, List, [], ◌∷◌, ◌++◌, map, drop, length, get_or, Some, None, refl, ap, sym, ◌∙◌, append_assoc, add-one}
+use Rattle.std.proofs.Math.Seq.{drop-cons}
 use Rattle.std.proofs.lemmas.List.{map-append}
 use Rattle.merc_base.specs.declared.place.Place.{Place}
 use Rattle.merc_base.specs.declared.place.Span.{Span}
@@ -10,8 +11,9 @@ use Rattle.merc_item_forms.specs.declared.item.Item.{Item as CodeItem}
 use Rattle.merc_entries.specs.EntryValue.{entry_value, entry_values}
 use Rattle.merc_item_forms.specs.ItemValue.{item_value}
 use Rattle.merc_item_forms.specs.Items.{item_of, place_of}
+use Rattle.merc_item_forms.specs.Forms.{is_in}
 use Rattle.merc_entries.specs.Entries.{Entry, entries_from, imports, unit_entries, with_units}
-use Rattle.merc_entries.specs.Joining.{own_entry, unit_entry}
+use Rattle.merc_entries.specs.Joining.{own_entry, unit_entry, entries_of_unit}
 use Rattle.merc_entries.proofs.ListSteps.{got, gone_on}
 
 -- one more element that is put behind others
@@ -55,4 +57,49 @@ item_past items terms i seen known before now whole found now_is known_is left =
     ap (λ s. now ++ entries_from items s (drop (i + 1) terms)) known_is
     ∙ ap (λ l. l ++ entries_from items seen (drop (i + 1) terms)) now_is
     ∙ ap (λ l. before ++ entries_from items seen l) (gone_on terms i found)
+    ∙ left
+
+-- the units that are left, from an index on
+cut_at : (units : List ℕ) (index unit : ℕ) → index < length units → unit ≡ get_or units index unit → drop index units ≡ unit ∷ drop (suc index) units
+cut_at units index unit within unit_is = drop-cons units index unit within ∙ ap (λ u. u ∷ drop (suc index) units) (sym unit_is)
+
+unit_more : (items : ℕ → List Term) (place : Place) (seen : List ℕ) (unit : ℕ) (rest : List ℕ)
+    → unit_entries items place seen (unit ∷ rest)
+    ≡ (if is_in unit seen then [] else entries_of_unit items place unit) ++ unit_entries items place (if is_in unit seen then seen else seen ++ unit ∷ []) rest
+unit_more items place seen unit rest = go (is_in unit seen)
+  where
+    go : (is : Bool) → (if is then unit_entries items place seen rest else entries_of_unit items place unit ++ unit_entries items place (seen ++ unit ∷ []) rest)
+        ≡ (if is then [] else entries_of_unit items place unit) ++ unit_entries items place (if is then seen else seen ++ unit ∷ []) rest
+    go true = refl
+    go false = refl
+
+seen_more : (seen : List ℕ) (unit : ℕ) (rest : List ℕ) → with_units seen (unit ∷ rest) ≡ with_units (if is_in unit seen then seen else seen ++ unit ∷ []) rest
+seen_more seen unit rest = go (is_in unit seen)
+  where
+    go : (is : Bool) → (if is then with_units seen rest else with_units (seen ++ unit ∷ []) rest) ≡ with_units (if is then seen else seen ++ unit ∷ []) rest
+    go true = refl
+    go false = refl
+
+-- one unit more, whose items are put behind the entries if it is new
+pub unit_step : (items : ℕ → List Term) (place : Place) (units : List ℕ) (index unit : ℕ) (seen known : List ℕ) (before now whole : List Entry) → index < length units → unit ≡ get_or units index unit
+    → now ≡ before ++ (if is_in unit seen then [] else entries_of_unit items place unit) → known ≡ (if is_in unit seen then seen else seen ++ unit ∷ [])
+    → before ++ unit_entries items place seen (drop index units) ≡ whole → now ++ unit_entries items place known (drop (index + 1) units) ≡ whole
+unit_step items place units index unit seen known before now whole within unit_is now_is known_is left =
+    let rest = drop (suc index) units in
+    ap (λ n. now ++ unit_entries items place known (drop n units)) (add-one index)
+    ∙ ap (λ s. now ++ unit_entries items place s rest) known_is
+    ∙ ap (λ l. l ++ unit_entries items place (if is_in unit seen then seen else seen ++ unit ∷ []) rest) now_is
+    ∙ append_assoc before (if is_in unit seen then [] else entries_of_unit items place unit) (unit_entries items place (if is_in unit seen then seen else seen ++ unit ∷ []) rest)
+    ∙ ap (λ l. before ++ l) (sym (unit_more items place seen unit rest))
+    ∙ ap (λ l. before ++ unit_entries items place seen l) (sym (cut_at units index unit within unit_is))
+    ∙ left
+
+pub seen_step : (units : List ℕ) (index unit : ℕ) (seen known all : List ℕ) → index < length units → unit ≡ get_or units index unit → known ≡ (if is_in unit seen then seen else seen ++ unit ∷ [])
+    → with_units seen (drop index units) ≡ all → with_units known (drop (index + 1) units) ≡ all
+seen_step units index unit seen known all within unit_is known_is left =
+    let rest = drop (suc index) units in
+    ap (λ n. with_units known (drop n units)) (add-one index)
+    ∙ ap (λ s. with_units s rest) known_is
+    ∙ sym (seen_more seen unit rest)
+    ∙ ap (λ l. with_units seen l) (sym (cut_at units index unit within unit_is))
     ∙ left

@@ -75,8 +75,8 @@ fn constructor_double(alloc: Global, entries: &[Entry<'_>]) -> Result<Option<Pla
 fn predicate_double(alloc: Global, entries: &[Entry<'_>]) -> Result<Option<Place>, NoMemory>
     ensures { IfOk result (λ place. place ≡ predicate_double (entry_values entries.now)) }
 {
-    let predicates = predicates(alloc, entries)?;
     let require = import_place(alloc, Name::REQUIRE, entries)?;
+    let predicates = predicates(alloc, entries)?;
     let error = first_error(&predicates);
     let again = first_key_again(alloc, predicates)?;
     Ok(earlier(again, both_later(require, error)))

@@ -1,6 +1,7 @@
 //! What the items of a module declare, in the order of their places.
-ghost use Rattle.std.specs.Prelude.{◌≡◌, ◌++◌, map, IfOk, OnOk};
-ghost use Rattle.merc_entries.specs.Entries.{types_of, constructors_of, predicates_of, modes_of, declared_by, key, own_entries};
+ghost use Rattle.std.specs.Prelude.{◌≡◌, ◌++◌, [], map, IfOk, OnOk};
+ghost use Rattle.std.specs.List.{flat_map};
+ghost use Rattle.merc_entries.specs.Entries.{key_of, types_of, constructors_of, predicates_of, modes_of, declared_by, key, own_entries};
 ghost use Rattle.merc_entries.specs.DoubleFaults.{type_keys, at_start};
 ghost use Rattle.merc_item_forms.specs.ItemValue.{item_value};
 ghost use Rattle.merc_entries.specs.EntryValue.{entry_values};
@@ -15,6 +16,7 @@ use crate::key_set::key_of;
 use merc_base::{Key, Name, NoMemory, Place};
 use merc_item_forms::Item;
 use merc_operands::members;
+use merc_tree::TermRef;
 use std::alloc::Global;
 
 /// The types, with `int` and `string` from the start.
@@ -22,12 +24,27 @@ pub(crate) fn types(alloc: Global, entries: &[Entry<'_>]) -> Result<Vec<Declared
     ensures { IfOk result (λ types. map (declared_value (λ key. key)) types.items ≡ type_keys (entry_values entries.now)) }
 {
     let mut types = Vec::new(alloc);
+    match push_types(entries, &mut types) {
+        Ok(()) => Ok(types),
+        Err(refused) => {
+            // (a call, here and below, since it costs much to prove what is dropped)
+            drop(types);
+            Err(refused)
+        }
+    }
+}
+
+// Puts the types into a list that has none yet.
+fn push_types(entries: &[Entry<'_>], types: &mut Vec<Declared<Key>>) -> Result<(), NoMemory>
+    requires { types.old.items ≡ [] }
+    ensures { OnOk result (map (declared_value (λ key. key)) types.new.items ≡ type_keys (entry_values entries.now)) }
+{
     types.push(at_start(Name::INT))?;
     types.push(at_start(Name::STRING))?;
     for entry in entries {
-        push_key(entry.place, type_key(&entry.item), &mut types)?;
+        push_key(entry.place, type_key(&entry.item), types)?;
     }
-    Ok(types)
+    Ok(())
 }
 
 /// The constructors.
@@ -63,6 +80,24 @@ pub(crate) fn modes(alloc: Global, entries: &[Entry<'_>]) -> Result<Vec<Declared
     ensures { IfOk result (λ modes. map (declared_value mode_value) modes.items ≡ declared_by modes_of (own_entries (entry_values entries.now))) }
 {
     let mut modes = Vec::new(alloc);
+    match push_modes(alloc, entries, &mut modes) {
+        Ok(()) => Ok(modes),
+        Err(refused) => {
+            drop(modes);
+            Err(refused)
+        }
+    }
+}
+
+// Puts the modes of the file's own predicates into a list that has none yet.
+fn push_modes(
+    alloc: Global,
+    entries: &[Entry<'_>],
+    modes: &mut Vec<Declared<Mode>>,
+) -> Result<(), NoMemory>
+    requires { modes.old.items ≡ [] }
+    ensures { OnOk result (map (declared_value mode_value) modes.new.items ≡ declared_by modes_of (own_entries (entry_values entries.now))) }
+{
     for entry in entries {
         if entry.unit.is_none() {
             if let Some(key) = mode_of(alloc, &entry.item)? {
@@ -71,7 +106,7 @@ pub(crate) fn modes(alloc: Global, entries: &[Entry<'_>]) -> Result<Vec<Declared
             }
         }
     }
-    Ok(modes)
+    Ok(())
 }
 
 // A type without arguments that is declared before any item.
@@ -110,10 +145,23 @@ fn push_constructors(
         Item::Type(_, root) => root,
         _ => return Ok(()),
     };
-    let place = entry.place;
-    for constructor in &members(alloc, root, Name::SEMICOLON)? {
-        if let Some(key) = key_of(constructor) {
-            constructors.push(Declared { key, place })?;
+    let terms = members(alloc, root, Name::SEMICOLON)?;
+    let pushed = push_heads(entry.place, &terms, constructors);
+    drop(terms);
+    pushed
+}
+
+// Puts the keys of these heads at a place behind the others.
+fn push_heads(
+    place: Place,
+    heads: &[TermRef<'_>],
+    declared: &mut Vec<Declared<Key>>,
+) -> Result<(), NoMemory>
+    ensures { OnOk result (map (declared_value (λ key. key)) declared.new.items ≡ map (declared_value (λ key. key)) declared.old.items ++ declared_at place (flat_map key_of heads.now)) }
+{
+    for head in heads {
+        if let Some(key) = key_of(head) {
+            declared.push(Declared { key, place })?;
         }
     }
     Ok(())

@@ -36,7 +36,10 @@ fn is_imported(alloc: Global, unit: Name, item: &Item<'_>) -> Result<bool, NoMem
     match item {
         Item::Import(root) => {
             let units = members(alloc, root, Name::COMMA)?;
-            Ok(is_named(unit, &units))
+            let found = is_named(unit, &units);
+            // (a call, since it costs much to prove what is dropped)
+            drop(units);
+            Ok(found)
         }
         _ => Ok(false),
     }

@@ -1,6 +1,7 @@
 //! The modes that items declare.
 ghost use Rattle.std.specs.Prelude.{◌≡◌, map, Some, IfOk};
 ghost use Rattle.std.specs.Option.{option_to_list};
+ghost use Rattle.merc_tree.specs.Shape.{arguments_of};
 ghost use Rattle.merc_operands.specs.Operands.{plain_name};
 ghost use Rattle.merc_item_forms.specs.Forms.{argument_mode};
 ghost use Rattle.merc_entries.specs.Entries.{is_out, modes_at, key_of, modes_of, outputs_of};
@@ -30,18 +31,12 @@ pub(crate) fn mode_of(alloc: Global, item: &Item<'_>) -> Result<Option<Mode>, No
     match item {
         Item::Predicate(head, category) => {
             if has_mode(head, category) {
-                let arguments = arguments(alloc, head)?;
-                let outputs = outputs_with_types(alloc, &arguments)?;
-                Ok(mode_at(head, outputs))
+                Ok(mode_at(head, predicate_outputs(alloc, head)?))
             } else {
                 Ok(None)
             }
         }
-        Item::Mode(head, _) => {
-            let arguments = arguments(alloc, head)?;
-            let outputs = outputs_alone(alloc, &arguments)?;
-            Ok(mode_at(head, outputs))
-        }
+        Item::Mode(head, _) => Ok(mode_at(head, mode_outputs(alloc, head)?)),
         _ => Ok(None),
     }
 }
@@ -54,6 +49,27 @@ fn mode_at(head: &TermRef<'_>, outputs: Vec<bool>) -> Option<Mode>
         Some(predicate) => Some(Mode { predicate, outputs }),
         None => None,
     }
+}
+
+// Which arguments of the predicate that this head declares are outputs, of those with a mode.
+fn predicate_outputs(alloc: Global, head: &TermRef<'_>) -> Result<Vec<bool>, NoMemory>
+    ensures { IfOk result (λ outputs. outputs.items ≡ outputs_of (map argument_mode (arguments_of head.now))) }
+{
+    let arguments = arguments(alloc, head)?;
+    let outputs = outputs_with_types(alloc, &arguments);
+    // (a call, here and below, since it costs much to prove what is dropped)
+    drop(arguments);
+    outputs
+}
+
+// Which arguments of the mode that this head declares are outputs.
+fn mode_outputs(alloc: Global, head: &TermRef<'_>) -> Result<Vec<bool>, NoMemory>
+    ensures { IfOk result (λ outputs. outputs.items ≡ outputs_of (map Some (arguments_of head.now))) }
+{
+    let arguments = arguments(alloc, head)?;
+    let outputs = outputs_alone(alloc, &arguments);
+    drop(arguments);
+    outputs
 }
 
 // Which arguments of a predicate's declaration are outputs, of those with a mode.

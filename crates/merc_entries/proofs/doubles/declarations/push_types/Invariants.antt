@@ -3,7 +3,7 @@ use Rattle.merc_entries.specs.Entries.{declared_by, types_of}
 use Rattle.merc_entries.specs.DoubleFaults.{type_keys}
 use Rattle.merc_entries.specs.EntryValue.{entry_values}
 use Rattle.merc_entries.specs.FirstPlaces.{declared_value}
-use Rattle.merc_entries.proofs.doubles.declarations.types.Given as goal
+use Rattle.merc_entries.proofs.doubles.declarations.push_types.Given as goal
 
 abbrev pub invariant-loop-entry : goal.invariant-loop-entry
 invariant-loop-entry l =

@@ -2,8 +2,8 @@ use Rattle.std.proofs.Common.{ap, sym, ◌∙◌}
 use Rattle.merc_entries.specs.EntryValue.{entry_values}
 use Rattle.merc_entries.specs.Units.{items_of}
 use Rattle.merc_entries.proofs.Joined.{item_step, item_past}
-use Rattle.merc_entries.proofs.joining.join.Goals as goal
-use Rattle.merc_entries.proofs.joining.join.Goals.{in-Some+in_ok-push_item, in_default}
+use Rattle.merc_entries.proofs.joining.push_items.Goals as goal
+use Rattle.merc_entries.proofs.joining.push_items.Goals.{in-Some+in_ok-push_item, in_default}
 
 pub loop-index-preserved : goal.loop-index-preserved
 loop-index-preserved c =

@@ -4,7 +4,7 @@ use Rattle.merc_entries.specs.EntryValue.{entry_values}
 use Rattle.merc_entries.specs.FirstPlaces.{declared_value, declared_at}
 use Rattle.merc_entries.specs.DoubleFaults.{type_keys}
 use Rattle.merc_entries.proofs.DeclarationSteps.{declared_step}
-use Rattle.merc_entries.proofs.doubles.declarations.types.Goals as goal
+use Rattle.merc_entries.proofs.doubles.declarations.push_types.Goals as goal
 
 pub loop-entry-preserved : goal.loop-entry-preserved
 loop-entry-preserved c =

@@ -1,8 +1,0 @@
-use Rattle.std.proofs.Common.{◌≡◌, ◌++◌, drop}
-use Rattle.merc_entries.specs.Entries.{entries, entries_from}
-use Rattle.merc_entries.specs.EntryValue.{entry_values}
-use Rattle.merc_entries.specs.Units.{items_of}
-use Rattle.merc_entries.proofs.joining.join.Given as goal
-
-abbrev pub invariant-loop-index : goal.invariant-loop-index
-invariant-loop-index l = entry_values l.entries.items ++ entries_from (items_of l.units) l.seen (drop l.index l.terms) ≡ entries (items_of l.units) l.terms
