@@ -1,5 +1,5 @@
 //! Clauses and declarations of the file, which have to go together.
-ghost use Rattle.std.specs.Prelude.{◌≡◌, ◌&&◌, IfOk, IfErr};
+ghost use Rattle.std.specs.Prelude.{◌≡◌, ◌&&◌, [], IfOk, IfErr, OnOk};
 ghost use Rattle.merc_base.specs.declared.refusal.Rule.TheVariants.{Undeclared};
 ghost use Rattle.merc_declared.specs.AloneItems.{IsAlone};
 ghost use Rattle.merc_entries.specs.EntryValue.{entry_values, AreInOrder, place_at};
@@ -25,8 +25,7 @@ pub fn check_clauses(alloc: Global, entries: &[Entry<'_>], own: Name) -> Result<
     ensures fine { IfOk result (λ _. HasNone (AtPlaces Undeclared (IsAlone own (entry_values entries.now)))) }
     ensures refused { IfErr result (λ fault. AnswersFirst (AtPlaces Undeclared (IsAlone own (entry_values entries.now))) fault) }
 {
-    let keys = OwnKeys::of(alloc, entries, own)?;
-    match first_alone(entries, own, &keys) {
+    match alone_place(alloc, entries, own)? {
         Some(place) => Err(Fault::Refused(Refusal {
             rule: Rule::Undeclared,
             place,
@@ -34,6 +33,17 @@ pub fn check_clauses(alloc: Global, entries: &[Entry<'_>], own: Name) -> Result<
         })),
         None => Ok(()),
     }
+}
+
+// The place of the first item of the file that goes together with no other.
+fn alone_place(alloc: Global, entries: &[Entry<'_>], own: Name) -> Result<Option<Place>, NoMemory>
+    ensures { IfOk result (λ place. place ≡ first_place place_at (is_alone_here own (entry_values entries.now)) (entry_values entries.now)) }
+{
+    let keys = OwnKeys::of(alloc, entries, own)?;
+    let place = first_alone(entries, own, &keys);
+    // (a call, here and below, since it costs much to prove what is dropped)
+    drop(keys);
+    Ok(place)
 }
 
 // The keys of the file's own predicates, and those of their clauses.
@@ -47,23 +57,36 @@ impl OwnKeys {
     fn of(alloc: Global, entries: &[Entry<'_>], own: Name) -> Result<OwnKeys, NoMemory>
         ensures { IfOk result (λ keys. HoldsKeys own (entry_values entries.now) keys) }
     {
-        let mut predicates = KeySet::new(alloc);
-        let mut clauses = KeySet::new(alloc);
+        let mut keys = OwnKeys {
+            predicates: KeySet::new(alloc),
+            clauses: KeySet::new(alloc),
+        };
+        match keys.add_all(entries, own) {
+            Ok(()) => Ok(keys),
+            Err(refused) => {
+                drop(keys);
+                Err(refused)
+            }
+        }
+    }
+
+    // Adds those of all entries, where there are none yet.
+    fn add_all(&mut self, entries: &[Entry<'_>], own: Name) -> Result<(), NoMemory>
+        requires { HoldsKeys own [] self.old }
+        ensures { OnOk result (HoldsKeys own (entry_values entries.now) self.new) }
+    {
         for entry in entries {
             if entry.unit.is_none() {
                 match &entry.item {
-                    Item::Predicate(head, _) => predicates.insert(key_of(head))?,
-                    Item::Clause(head, _) if !is_foreign(head, own) => clauses.insert(key_of(
-                        head,
-                    ))?,
+                    Item::Predicate(head, _) => self.predicates.insert(key_of(head))?,
+                    Item::Clause(head, _) if !is_foreign(head, own) => {
+                        self.clauses.insert(key_of(head))?
+                    }
                     _ => {}
                 }
             }
         }
-        Ok(OwnKeys {
-            predicates,
-            clauses,
-        })
+        Ok(())
     }
 
     // Whether an item of the file goes together with none of these.

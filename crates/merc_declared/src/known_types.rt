@@ -10,6 +10,7 @@ ghost use Rattle.merc_entries.specs.Entries.{Entry as entry_record, is_key};
 ghost use Rattle.merc_declared.specs.UnknownTypes.{HasUnknownType, has_unknown};
 ghost use Rattle.merc_entries.specs.EntryValue.{entry_value, entry_values, AreInOrder, place_at};
 ghost use Rattle.merc_item_forms.specs.ItemValue.{item_value};
+ghost use Rattle.merc_item_forms.specs.Items.{TypeItem};
 ghost use Rattle.merc_entries.specs.KeySets.{keys_at};
 ghost use Rattle.merc_base.specs.FirstFault.{AtPlaces, HasNone, AnswersFirst};
 ghost use Rattle.merc_base.specs.FirstPlace.{first_place};
@@ -40,8 +41,7 @@ pub fn check_types(
     ensures fine { IfOk result (λ _. HasNone (AtPlaces UnknownType (HasUnknownType names.now own (entry_values entries.now)))) }
     ensures refused { IfErr result (λ fault. AnswersFirst (AtPlaces UnknownType (HasUnknownType names.now own (entry_values entries.now))) fault) }
 {
-    let types = KnownTypes::of(alloc, entries, own)?;
-    match first_unknown(alloc, entries, names, &types)? {
+    match unknown_place(alloc, entries, own, names)? {
         Some(place) => Err(Fault::Refused(Refusal {
             rule: Rule::UnknownType,
             place,
@@ -52,6 +52,22 @@ pub fn check_types(
 }
 
 // The place of the first declaration of the file that is at fault.
+fn unknown_place(
+    alloc: Global,
+    entries: &[Entry<'_>],
+    own: Name,
+    names: &Names,
+) -> Result<Option<Place>, NoMemory>
+    ensures { IfOk result (λ place. place ≡ first_place place_at (has_unknown_here names.now own (entry_values entries.now)) (entry_values entries.now)) }
+{
+    let types = KnownTypes::of(alloc, entries, own)?;
+    let place = first_unknown(alloc, entries, names, &types);
+    // (a call, here and below, since it costs much to prove what is dropped)
+    drop(types);
+    place
+}
+
+// The same by the types that are known.
 fn first_unknown(
     alloc: Global,
     entries: &[Entry<'_>],
@@ -132,13 +148,27 @@ fn parameters_of(alloc: Global, head: &TermRef<'_>) -> Result<BTreeSet<Name>, No
     ensures { IfOk result (λ parameters. HoldsVariables (arguments_of head.now) parameters) }
 {
     let mut parameters = BTreeSet::new(alloc);
+    match add_parameters(head, &mut parameters) {
+        Ok(()) => Ok(parameters),
+        Err(refused) => {
+            drop(parameters);
+            Err(refused)
+        }
+    }
+}
+
+// Adds the variables among the arguments of a head to a set without any.
+fn add_parameters(head: &TermRef<'_>, parameters: &mut BTreeSet<Name>) -> Result<(), NoMemory>
+    requires { HoldsVariables [] parameters.old }
+    ensures { OnOk result (HoldsVariables (arguments_of head.now) parameters.new) }
+{
     let mut rest = head.arguments();
     while let Some(argument) = rest.take_last() {
         if let Shape::Variable(name) = argument.shape() {
             parameters.insert(name)?;
         }
     }
-    Ok(parameters)
+    Ok(())
 }
 
 // The types that the entries of a module declare: those of any entry, the file's own, and those of each unit.
@@ -160,10 +190,24 @@ impl KnownTypes {
             file: KeySet::new(alloc),
             units: UnitKeys::new(alloc),
         };
-        for entry in entries {
-            types.add(entry)?;
+        match types.add_all(entries) {
+            Ok(()) => Ok(types),
+            Err(refused) => {
+                drop(types);
+                Err(refused)
+            }
         }
-        Ok(types)
+    }
+
+    // Adds the types that all entries declare, where there are none yet.
+    fn add_all(&mut self, entries: &[Entry<'_>]) -> Result<(), NoMemory>
+        requires { HoldsTypes self.old.own_name [] self.old }
+        ensures { OnOk result (HoldsTypes self.old.own_name (entry_values entries.now) self.new) }
+    {
+        for entry in entries {
+            self.add(entry)?;
+        }
+        Ok(())
     }
 
     // Adds the type that an entry declares, if it does.
@@ -267,15 +311,32 @@ impl KnownTypes {
         false
     }
 
+    // Whether a type of some argument of these constructors is wrong, where the parameters of this head may stand in it.
+    fn has_wrong_member(
+        &self,
+        alloc: Global,
+        head: &TermRef<'_>,
+        constructors: &[TermRef<'_>],
+        names: &Names,
+    ) -> Result<bool, NoMemory>
+        ensures { IfOk result (λ answer. (own : ℕ) (entries : List entry_record) → HoldsTypes own entries self.now → answer ≡ has_unknown names.now own entries (TypeItem head.now constructors.now)) }
+    {
+        let variables = Variables::Only(parameters_of(alloc, head)?);
+        let answer = self.has_wrong_constructor(constructors, names, &variables);
+        drop(variables);
+        Ok(answer)
+    }
+
     // Whether an item names an unknown type.
     fn has_unknown(&self, alloc: Global, item: &Item<'_>, names: &Names) -> Result<bool, NoMemory>
         ensures { IfOk result (λ answer. (own : ℕ) (entries : List entry_record) → HoldsTypes own entries self.now → answer ≡ has_unknown names.now own entries (item_value item.now)) }
     {
         match item {
             Item::Type(head, root) => {
-                let variables = Variables::Only(parameters_of(alloc, head)?);
                 let constructors = members(alloc, root, Name::SEMICOLON)?;
-                Ok(self.has_wrong_constructor(&constructors, names, &variables))
+                let answer = self.has_wrong_member(alloc, head, &constructors, names);
+                drop(constructors);
+                answer
             }
             Item::Predicate(head, _) => Ok(self.has_wrong_argument(head, names)),
             _ => Ok(false),

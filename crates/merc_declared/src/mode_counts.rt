@@ -1,5 +1,5 @@
 //! The modes of the file's predicates: each predicate has one, each mode a category, and no predicate has too many.
-ghost use Rattle.std.specs.Prelude.{◌≡◌, ◌<◌, ◌^◌, ◌&&◌, false, List, Some, IfOk, IfErr, OnOk, is_some, if◌then◌else◌};
+ghost use Rattle.std.specs.Prelude.{◌≡◌, ◌<◌, ◌^◌, ◌&&◌, false, List, [], Some, IfOk, IfErr, OnOk, is_some, if◌then◌else◌};
 ghost use Rattle.merc_base.specs.declared.groups.Key.{Key as key_record};
 ghost use Rattle.merc_entries.specs.Entries.{is_own, are_keys};
 ghost use Rattle.merc_declared.specs.ModeFaults.{HasModeFault, lacks_mode_here, has_many_modes_here};
@@ -34,6 +34,8 @@ pub fn check_modes(alloc: Global, entries: &[Entry<'_>]) -> Result<(), Fault>
     let counts = ModeCounts::of(alloc, entries)?;
     let missing = first_missing(entries, &counts);
     let many = first_many(entries, &counts);
+    // (a call, here and below, since it costs much to prove what is dropped)
+    drop(counts);
     match earlier(missing, many) {
         Some(refusal) => Err(Fault::Refused(refusal)),
         None => Ok(()),
@@ -108,14 +110,28 @@ impl ModeCounts {
         let mut counts = ModeCounts {
             by_key: BTreeMap::new(alloc),
         };
+        match counts.add_all(entries) {
+            Ok(()) => Ok(counts),
+            Err(refused) => {
+                drop(counts);
+                Err(refused)
+            }
+        }
+    }
+
+    // Counts the modes of all entries, where none are counted yet.
+    fn add_all(&mut self, entries: &[Entry<'_>]) -> Result<(), NoMemory>
+        requires { HoldsModes [] self.old }
+        ensures { OnOk result (HoldsModes (entry_values entries.now) self.new) }
+    {
         for entry in entries {
             if entry.unit.is_none() {
                 if let Item::Mode(head, category) = &entry.item {
-                    counts.add(key_of(head), category.is_none())?;
+                    self.add(key_of(head), category.is_none())?;
                 }
             }
         }
-        Ok(counts)
+        Ok(())
     }
 
     // Counts one more mode of a predicate, where the head has a key.

@@ -4,7 +4,7 @@ use Rattle.std.specs.Ordering.{nat_cmp}
 use Rattle.std.specs.BTreeSet.{contains}
 use Rattle.merc_tree.specs.Shape.{arguments_of}
 use Rattle.merc_item_forms.specs.Forms.{is_this_variable}
-use Rattle.merc_declared.proofs.known_types.parameters_of.Given as goal
+use Rattle.merc_declared.proofs.known_types.add_parameters.Given as goal
 
 abbrev pub invariant-loop-argument : goal.invariant-loop-argument
 invariant-loop-argument l =

@@ -4,7 +4,7 @@ use Rattle.std.specs.BTreeSet.{contains}
 use Rattle.merc_tree.specs.Shape.{arguments_of}
 use Rattle.merc_item_forms.specs.Forms.{is_this_variable}
 use Rattle.merc_declared.proofs.TypeLaws.{variable-step}
-use Rattle.merc_declared.proofs.known_types.parameters_of.Goals as goal
+use Rattle.merc_declared.proofs.known_types.add_parameters.Goals as goal
 
 pub loop-argument-preserved-in_ok-insert : goal.loop-argument-preserved-in_ok-insert
 loop-argument-preserved-in_ok-insert c = λ name.
