@@ -1,4 +1,4 @@
-use Rattle.std.proofs.Common.{length, sym, ◌∙◌, arith, length-drop, ap}
+use Rattle.std.proofs.Common.{ℕ, List, ◌++◌, length, sym, ◌∙◌, arith, length-drop, ap, append_assoc}
 use Rattle.std.proofs.lemmas.List.{drop_all}
 use Rattle.merc_tokens.proofs.ReadsTo.{reads-none, reads-gap, reads-token}
 use Rattle.merc_tokens.proofs.ReadingEnds.{reads-fault, reads-all}
@@ -41,3 +41,18 @@ pub returns-clause-reading : goal.returns-clause-reading
 returns-clause-reading c =
     reads-all c.args.text.now c.args.names.now c.loop-at.names c.loop-at.tokens c.loop-at.invariant.spelled c.loop-at.at c.loop-at.after_name c.loop-at.invariant.so_far c.loop-at.invariant.texts c.loop-at.invariant.table
     (drop_all c.loop-at.at c.args.text.now (omega arith))
+
+pub returns-in_err-rule-clause-grows : goal.returns-in_err-rule-clause-grows
+returns-in_err-rule-clause-grows c = (c.loop-at.invariant.more, c.loop-at.invariant.grown)
+
+pub returns-in-Fault-clause-grows : goal.returns-in-Fault-clause-grows
+returns-in-Fault-clause-grows c = (c.loop-at.invariant.more, c.loop-at.invariant.grown)
+
+pub returns-in_err-push_token-in-Token-clause-grows : goal.returns-in_err-push_token-in-Token-clause-grows
+returns-in_err-push_token-in-Token-clause-grows c =
+    let reads = c.loop-at.invariant in
+    let grows = c.push_token.ensures.grows in
+    (reads.more ++ grows.0, grows.1 ∙ ap (λ (all : List (List ℕ)). all ++ grows.0) reads.grown ∙ append_assoc c.args.names.now reads.more grows.0)
+
+pub returns-clause-grows : goal.returns-clause-grows
+returns-clause-grows c = (c.loop-at.invariant.more, c.loop-at.invariant.grown)
