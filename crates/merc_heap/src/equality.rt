@@ -40,13 +40,30 @@ impl Heap {
         ensures { IfOk result (λ same. IsTrue same ↔ (value_of self.now one ≡ value_of self.now other)) }
     {
         let mut met = IndexSet::new(self.alloc());
-        if !meet(self, one, other, &mut met)? {
+        self.meet_all(one, other, &mut met)
+    }
+
+    // Meets two words, and then the arguments of each pair of cells that is met. `false` where the words do not stand for one
+    // value.
+    #[inline(always)]
+    fn meet_all(
+        &self,
+        one: Word,
+        other: Word,
+        met: &mut IndexSet<(usize, usize)>,
+    ) -> Result<bool, NoMemory>
+        requires one { IsBelow (length self.now) one }
+        requires other { IsBelow (length self.now) other }
+        requires none { met.old.keys ≡ [] }
+        ensures { IfOk result (λ same. IsTrue same ↔ (value_of self.now one ≡ value_of self.now other)) }
+    {
+        if !meet(self, one, other, met)? {
             return Ok(false);
         }
         let mut next = 0;
         while next < met.len() {
             let (place, other_place) = met[next];
-            if !meet_arguments(self, Word::Cell(place), Word::Cell(other_place), &mut met)? {
+            if !meet_arguments(self, Word::Cell(place), Word::Cell(other_place), met)? {
                 return Ok(false);
             }
             next += 1;

@@ -1,7 +1,7 @@
 -- Each round meets the arguments of the next pair of cells.
 use Rattle.std.proofs.Common.{arith, length, refl}
 use Rattle.merc_heap.proofs.MetLemmas.{met_found, all_same, round_met, round_each, round_parts, round_before, round_covered, round_falls}
-use Rattle.merc_heap.proofs.heap.Heap.equal_cells.Goals as goal
+use Rattle.merc_heap.proofs.heap.Heap.meet_all.Goals as goal
 
 pub meet_arguments-requires-clause-one : goal.meet_arguments-requires-clause-one
 meet_arguments-requires-clause-one c =

@@ -3,7 +3,7 @@ use Rattle.std.proofs.Common.{◌≡◌, length, map, drop}
 use Rattle.merc_value.specs.Block.{value_of}
 use Rattle.merc_heap.specs.Equality.{AreSame, AreMet, SameBelow, weight, words_at}
 use Rattle.merc_heap.proofs.MetLemmas.{Covered}
-use Rattle.merc_heap.proofs.heap.Heap.equal_cells.Given as goal
+use Rattle.merc_heap.proofs.heap.Heap.meet_all.Given as goal
 
 abbrev pub invariant-loop-next : goal.invariant-loop-next
 invariant-loop-next l = record {
