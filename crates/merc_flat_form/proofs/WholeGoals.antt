@@ -29,12 +29,11 @@ made_one span given start nodes inner later made is same count put =
     is ∙ ap (λ s. closed Join s start later) same ∙ ap (λ n. closed Join span n later) count ∙ ap (closed Join span (length nodes)) put ∙ closed_behind Join span nodes inner tt
 
 module _ (blank : ℕ → Bool) (callee : ℕ → Option ℕ → ℕ → Callee) where
-  pub whole_goal : (goal : Written) (scope : List Occurrence) (levels : List (List Occurrence)) (given : Span) (start : ℕ) (nodes later made : List Node)
-      → ((name : ℕ) → at_of name (scope_of levels) ≡ at_of name scope) → given ≡ written_span goal → start ≡ length nodes → later ≡ nodes ++ flat blank callee (scope_of levels) goal
-      → made ≡ closed Join given start later → made ≡ nodes ++ one_goal (written_span goal) (flat blank callee scope goal) ∷ []
-  whole_goal goal scope levels given start nodes later made same span count put is =
-      made_one (written_span goal) given start nodes (flat blank callee scope goal) later made is span count
-      (put ∙ ap (λ l. nodes ++ l) (flat-same blank callee (scope_of levels) scope same goal))
+  pub whole_goal : (goal : Written) (scope : List Occurrence) (levels : List (List Occurrence)) (nodes made : List Node)
+      → ((name : ℕ) → at_of name (scope_of levels) ≡ at_of name scope) → made ≡ nodes ++ one_goal (written_span goal) (flat blank callee (scope_of levels) goal) ∷ []
+      → made ≡ nodes ++ one_goal (written_span goal) (flat blank callee scope goal) ∷ []
+  whole_goal goal scope levels nodes made same put =
+      put ∙ ap (λ l. nodes ++ one_goal (written_span goal) l ∷ []) (flat-same blank callee (scope_of levels) scope same goal)
 
   -- the goals of a head
   pub head_put : (at : ℕ) (head given : Term) (span : Span) (scope : List Occurrence) (levels : List (List Occurrence)) (nodes later : List Node) (items : List SimpleGoal)

@@ -1,13 +1,13 @@
 //! How goals are brought into flat form.
-ghost use Rattle.std.specs.Prelude.{◌≡◌, ◌≤◌, ◌+◌, ◌++◌, ◌∷◌, [], OnOk};
+ghost use Rattle.std.specs.Prelude.{◌≡◌, ◌≤◌, ◌+◌, ◌++◌, ◌∷◌, [], ℕ, IfOk, OnOk};
 ghost use Rattle.merc_goals.specs.Entries.{entries_of};
 ghost use Rattle.merc_goals.specs.Numbers.{clause_limit};
 ghost use Rattle.merc_goals.specs.Written.{parts, written_span};
 ghost use Rattle.merc_known.specs.Known.{callee_in};
-ghost use Rattle.merc_scopes.specs.Scopes.{is_blank};
+ghost use Rattle.merc_scopes.specs.Scopes.{at_of, is_blank};
 ghost use Rattle.merc_scopes.specs.Bindings.{AreBindings};
-ghost use Rattle.merc_flat_form.specs.Levels.{scope_of};
-ghost use Rattle.merc_flat_form.specs.FlatForm.{body_goals, clause_goal, flat, one_goal};
+ghost use Rattle.merc_flat_form.specs.Levels.{scope_of, shown};
+ghost use Rattle.merc_flat_form.specs.FlatForm.{argument_terms, body_goals, clause_goal, flat, head_scope, one_goal};
 ghost use Rattle.merc_flat_form.specs.Frames.{IsReady};
 ghost use Rattle.merc_flat_form.specs.Steps.{IsTakenUp};
 
@@ -41,10 +41,25 @@ pub fn goal_form(
 ) -> Result<(), NoMemory>
     ensures { OnOk result (nodes.new ≡ nodes.old ++ one_goal (written_span goal.now) (flat (is_blank names.now) (callee_in known.now) scope.now goal.now) ∷ []) }
 {
-    let found = bindings(alloc, goal, names)?;
     let mut stack = ScopeStack::of(alloc, scope)?;
+    let put = put_whole(alloc, goal, &mut stack, known, names, nodes);
+    drop(stack);
+    put
+}
+
+// Puts the goals that a goal becomes behind others, as one goal.
+fn put_whole(
+    alloc: Global,
+    goal: &WrittenGoal<'_>,
+    stack: &mut ScopeStack,
+    known: &Known<'_>,
+    names: &Names,
+    nodes: &mut Nodes,
+) -> Result<(), NoMemory>
+    ensures { OnOk result (nodes.new ≡ nodes.old ++ one_goal (written_span goal.now) (flat (is_blank names.now) (callee_in known.now) (scope_of stack.old) goal.now) ∷ []) }
+{
     let start = nodes.len();
-    flatten(alloc, goal, &found, &mut stack, known, names, nodes)?;
+    put_goal(alloc, goal, stack, known, names, nodes)?;
     make_one(nodes, start, goal.span())
 }
 
@@ -61,13 +76,48 @@ pub fn clause_form(
     requires { at ≤ clause_limit }
     ensures { OnOk result (nodes.new ≡ nodes.old ++ clause_goal (is_blank names.now) (callee_in known.now) at clause.now.head clause.now.body clause.now.span ∷ []) }
 {
+    let mut stack = head_stack(alloc, clause, at, names)?;
+    let put = put_clause(alloc, clause, at, &mut stack, known, names, nodes);
+    drop(stack);
+    put
+}
+
+// One level, in which the variables of the head of a clause stand for their numbers.
+fn head_stack(
+    alloc: Global,
+    clause: &Clause,
+    at: usize,
+    names: &Names,
+) -> Result<ScopeStack, NoMemory>
+    requires { at ≤ clause_limit }
+    ensures { IfOk result (λ stack. (name : ℕ) → shown name stack ≡ at_of name (head_scope (is_blank names.now) 0 (at + 2) (argument_terms clause.now.head))) }
+{
+    let head = clause.head.as_ref();
+    let scope = head_scope(alloc, names, at, &head)?;
+    let stack = ScopeStack::of(alloc, &scope);
+    drop(scope);
+    stack
+}
+
+// Puts the goals of the head of a clause and those of its body behind others, as one goal.
+fn put_clause(
+    alloc: Global,
+    clause: &Clause,
+    at: usize,
+    stack: &mut ScopeStack,
+    known: &Known<'_>,
+    names: &Names,
+    nodes: &mut Nodes,
+) -> Result<(), NoMemory>
+    requires limit { at ≤ clause_limit }
+    requires names { (name : ℕ) → shown name stack.old ≡ at_of name (head_scope (is_blank names.now) 0 (at + 2) (argument_terms clause.now.head)) }
+    ensures { OnOk result (nodes.new ≡ nodes.old ++ clause_goal (is_blank names.now) (callee_in known.now) at clause.now.head clause.now.body clause.now.span ∷ []) }
+{
     let head = clause.head.as_ref();
     let start = nodes.len();
-    let scope = head_scope(alloc, names, at, &head)?;
-    let mut stack = ScopeStack::of(alloc, &scope)?;
-    let goals = head_goals(alloc, &stack, names, at, &head)?;
+    let goals = head_goals(alloc, stack, names, at, &head)?;
     put_all(nodes, goals, clause.span)?;
-    put_body(alloc, clause, at, &mut stack, known, names, nodes)?;
+    put_body(alloc, clause, at, stack, known, names, nodes)?;
     make_one(nodes, start, clause.span)
 }
 
@@ -91,11 +141,29 @@ fn put_body(
     let head = clause.head.as_ref();
     let at = number_behind(at, &head);
     let goal = written_goal(alloc, &body, at)?;
-    let found = bindings(alloc, &goal, names)?;
-    flatten(alloc, &goal, &found, stack, known, names, nodes)
+    let put = put_goal(alloc, &goal, stack, known, names, nodes);
+    drop(goal);
+    put
 }
 
 // Puts the goals that a goal becomes behind others.
+fn put_goal(
+    alloc: Global,
+    goal: &WrittenGoal<'_>,
+    stack: &mut ScopeStack,
+    known: &Known<'_>,
+    names: &Names,
+    nodes: &mut Nodes,
+) -> Result<(), NoMemory>
+    ensures { OnOk result (nodes.new ≡ nodes.old ++ flat (is_blank names.now) (callee_in known.now) (scope_of stack.old) goal.now) }
+{
+    let found = bindings(alloc, goal, names)?;
+    let put = flatten(alloc, goal, &found, stack, known, names, nodes);
+    drop(found);
+    put
+}
+
+// Puts the goals that a goal becomes behind others, whose names these are, entry by entry.
 fn flatten(
     alloc: Global,
     goal: &WrittenGoal<'_>,

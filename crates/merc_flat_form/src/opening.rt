@@ -58,8 +58,8 @@ pub(crate) fn open(
     ensures below { OnOk result (drop 1 stack.new ≡ stack.old) }
     ensures shown { OnOk result ((name : ℕ) → shown name stack.new ≡ or_else (shown name stack.old) (at_of name found.now)) }
 {
-    enter(stack, found)?;
-    frames.push(frame)
+    frames.push(frame)?;
+    enter(stack, found)
 }
 
 /// Puts both frames of an if-then-else within the others: one for its condition and its then part, which may share
@@ -98,9 +98,9 @@ pub(crate) fn open_quantified(
     ensures below { OnOk result (drop 1 stack.new ≡ stack.old) }
     ensures shown { OnOk result ((name : ℕ) → shown name stack.new ≡ or_else (at_of name found.now) (shown name stack.old)) }
 {
-    let variables = variables_of(alloc, found)?;
     stack.enter()?;
     stack.bind_over(found)?;
+    let variables = variables_of(alloc, found)?;
     frames.push(frame_of(Closing::Quantify(variables), span, 1, start))
 }
 

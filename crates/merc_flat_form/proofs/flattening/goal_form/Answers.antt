@@ -6,8 +6,6 @@ use Rattle.merc_flat_form.proofs.flattening.goal_form.Goals as goal
 
 pub returns : goal.returns
 returns c =
-    on_ok_weaker c.make_one.result
-    (whole_goal (is_blank c.args.names.now) (callee_in c.args.known.now) c.args.goal.now c.args.scope.now c.in_ok-stack.stack c.span.result c.len-start.result c.args.nodes.now
-    c.flatten.new.nodes c.make_one.new.nodes
-    c.in_ok-stack.ensures c.span.ensures c.len-start.ensures c.in_ok-flatten.ensures)
-    c.make_one.ensures
+    on_ok_weaker c.put_whole-put.result
+    (whole_goal (is_blank c.args.names.now) (callee_in c.args.known.now) c.args.goal.now c.args.scope.now c.in_ok-stack.stack c.args.nodes.now c.put_whole-put.new.nodes c.in_ok-stack.ensures)
+    c.put_whole-put.ensures
