@@ -62,15 +62,19 @@ all_counting arms test = all_by (any_reached arms) arms test
 
 -- what is found by a set of what all arms bind
 
-pub bound_is : (outer : Bound) (reached : Bool) (some shared slice set every bound result : List ℕ) → result ≡ filter outer bound → bound ≡ (if reached then some else slice) → slice ≡ shared
-    → shared ≡ filter (λ variable. among set variable) some → set ≡ every → result ≡ filter outer (those_bound reached some every)
-bound_is outer reached some shared slice set every bound result r b l s e =
-    r ∙ ap (filter outer) (b ∙ ap (λ x. if reached then some else x) (l ∙ s ∙ ap (λ x. filter (λ variable. among x variable) some) e))
+pub bound_by_some : (outer : Bound) (reached : Bool) (some set bound : List ℕ) → reached ≡ true → bound ≡ filter outer some → bound ≡ filter outer (those_bound reached some set)
+bound_by_some outer reached some set bound r b = b ∙ sym (ap (λ x. filter outer (those_bound x some set)) r)
 
-pub owed_is : (outer : Bound) (reached : Bool) (some apart slice set every owed result : List ℕ) → result ≡ filter outer owed → owed ≡ (if reached then slice else []) → slice ≡ apart
-    → apart ≡ filter (λ variable. not (among set variable)) some → set ≡ every → result ≡ filter outer (those_owed reached some every)
-owed_is outer reached some apart slice set every owed result r b l s e =
-    r ∙ ap (filter outer) (b ∙ ap (λ x. if reached then x else []) (l ∙ s ∙ ap (λ x. filter (λ variable. not (among x variable)) some) e))
+pub bound_by_every : (outer : Bound) (reached : Bool) (some set shared slice bound : List ℕ) → reached ≡ false → shared ≡ filter (λ variable. among set variable) some → slice ≡ shared
+    → bound ≡ filter outer slice → bound ≡ filter outer (those_bound reached some set)
+bound_by_every outer reached some set shared slice bound r s l b = b ∙ ap (filter outer) (l ∙ s) ∙ sym (ap (λ x. filter outer (those_bound x some set)) r)
+
+pub owed_as_apart : (outer : Bound) (reached : Bool) (some set apart slice owed : List ℕ) → reached ≡ true → apart ≡ filter (λ variable. not (among set variable)) some → slice ≡ apart
+    → owed ≡ filter outer slice → owed ≡ filter outer (those_owed reached some set)
+owed_as_apart outer reached some set apart slice owed r s l o = o ∙ ap (filter outer) (l ∙ s) ∙ sym (ap (λ x. filter outer (those_owed x some set)) r)
+
+pub none_owed : (outer : Bound) (reached : Bool) (some set owed : List ℕ) → reached ≡ false → owed ≡ [] → owed ≡ filter outer (those_owed reached some set)
+none_owed outer reached some set owed r o = o ∙ sym (ap (λ x. filter outer (those_owed x some set)) r)
 
 and_true : (one : Bool) → (one && true) ≡ one
 and_true true = refl

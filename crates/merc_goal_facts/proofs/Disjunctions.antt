@@ -103,19 +103,19 @@ pub record AreArms (facts : List Facts) (joined : List Complete) (any : Bool) (s
   pub some_are : (total : ℕ → ℕ) (modes : ℕ → List ModeDecl) (goals : Nodes) (variable : ℕ) → AreKnown total modes facts joined goals → among some variable ≡ some_count any (arms total modes goals) variable
   pub every_are : (total : ℕ → ℕ) (modes : ℕ → List ModeDecl) (goals : Nodes) (variable : ℕ) → AreKnown total modes facts joined goals → among_all every variable ≡ all_count any (arms total modes goals) variable
 
-pub found_are : (facts : List Facts) (joined : List Complete) (all : List ℕ) (start end : ℕ) (any : Bool) (some slice slice' others needs : List ℕ) (every : Option (List ℕ)) (occurrences : ℕ) (result : Result Facts NoMemory) → AreArms facts joined any some every
+pub found_are : (facts : List Facts) (joined : List Complete) (all : List ℕ) (start end : ℕ) (any : Bool) (some slice slice' others : List ℕ) (every : Option (List ℕ)) (result : Result Facts NoMemory) → AreArms facts joined any some every
     → slice ≡ some → slice' ≡ some → others ≡ all_of slice' every → IfOk result (λ found. found.reached ≡ any)
     → IfOk result (λ found. found.binds ≡ filter (λ variable. occurs_outside all start end variable) (those_bound any slice (all_behind [] others)))
     → IfOk result (λ found. found.owed ≡ filter (λ variable. occurs_outside all start end variable) (those_owed any slice (all_behind [] others)))
-    → IfOk result (λ found. found.owed_by_condition ≡ []) → ((variable : ℕ) → among needs variable ≡ is_needed (found_in facts joined) variable) → IfOk result (λ found. found.needs ≡ needs)
-    → IfOk result (λ found. found.occurrences ≡ occurrences) → occurrences ≡ end - start
+    → IfOk result (λ found. found.owed_by_condition ≡ []) → IfOk result (λ found. (variable : ℕ) → among found.needs variable ≡ is_needed (found_in facts joined) variable)
+    → IfOk result (λ found. found.occurrences ≡ end - start)
     → IfOk result (λ found. (total : ℕ → ℕ) (modes : ℕ → List ModeDecl) (goals : Nodes) (span : Span) → AreKnown total modes facts joined goals → IsStretch total all start end (all_variables goals) → AreFactsOf total modes (Disjunction goals span) found)
-found_are facts joined all start end any some slice slice' others needs every occurrences (Ok found) are s s' e r b o c needed is n count = λ total modes goals span known stretch.
+found_are facts joined all start end any some slice slice' others every (Ok found) are s s' e r b o c needed n = λ total modes goals span known stretch.
     let same : others ≡ all_of some every = e ∙ ap (λ l. all_of l every) s' in
     let outer = filter (λ variable. occurs_outside all start end variable) in
     disjunction_are total modes goals span all start end any some every found (are.any_is total modes goals known)
     (λ variable. are.some_are total modes goals variable known) (λ variable. are.every_are total modes goals variable known) r
     (b ∙ ap (λ l. outer (those_bound any l (all_behind [] others))) s ∙ ap (λ l. outer (those_bound any some (all_behind [] l))) same)
     (o ∙ ap (λ l. outer (those_owed any l (all_behind [] others))) s ∙ ap (λ l. outer (those_owed any some (all_behind [] l))) same) c
-    (disjunction_needed total modes facts joined goals span found.needs known (λ variable. ap (λ l. among l variable) is ∙ needed variable)) (n ∙ count) stretch
-found_are facts joined all start end any some slice slice' others needs every occurrences (Err fault) are s s' e r b o c needed is n count = tt
+    (disjunction_needed total modes facts joined goals span found.needs known needed) n stretch
+found_are facts joined all start end any some slice slice' others every (Err fault) are s s' e r b o c needed n = tt

@@ -206,14 +206,18 @@ none_needed all needs slice are same empty variable =
     let nothing : among needs variable ≡ false = ap (λ l. among l variable) (sym same ∙ empty) in
     nothing ∙ sym (ap (λ b. b && not (is_brought all variable)) (sym (are variable) ∙ nothing))
 
-pub needed_not_brought : (all : List Facts) (some slice brought slice' set needs : List ℕ) → ((variable : ℕ) → among some variable ≡ is_needed all variable)
-    → ((variable : ℕ) → among brought variable ≡ is_brought all variable) → slice ≡ some → slice' ≡ brought → set ≡ all_behind [] slice'
-    → needs ≡ filter (λ variable. not (among set variable)) slice → (variable : ℕ) → among needs variable ≡ is_needed_together all variable
-needed_not_brought all some slice brought slice' set needs some_are brought_are same same' set_is is variable =
+-- What is brought is bound.
+pub brought_bound : (all : List Facts) (brought slice old set : List ℕ) → ((variable : ℕ) → among brought variable ≡ is_brought all variable) → slice ≡ brought → old ≡ []
+    → set ≡ all_behind old slice → (variable : ℕ) → among set variable ≡ is_brought all variable
+brought_bound all brought slice old set are same empty is variable =
+    ap (λ l. among l variable) (is ∙ ap (λ l. all_behind l slice) empty ∙ ap (λ l. all_behind [] l) same) ∙ among-all_behind [] brought variable ∙ are variable
+
+pub needed_not_brought : (all : List Facts) (some slice set needs : List ℕ) → ((variable : ℕ) → among some variable ≡ is_needed all variable) → slice ≡ some
+    → ((variable : ℕ) → among set variable ≡ is_brought all variable) → needs ≡ filter (λ variable. not (among set variable)) slice → (variable : ℕ) → among needs variable ≡ is_needed_together all variable
+needed_not_brought all some slice set needs some_are same set_is is variable =
     ap (λ l. among l variable) is ∙ among-filter (λ v. not (among set v)) slice variable
     ∙ ap (λ l. among l variable && not (among set variable)) same ∙ ap (λ b. b && not (among set variable)) (some_are variable)
-    ∙ ap (λ l. is_needed all variable && not (among l variable)) (set_is ∙ ap (λ l. all_behind [] l) same')
-    ∙ ap (λ b. is_needed all variable && not b) (among-all_behind [] brought variable ∙ brought_are variable)
+    ∙ ap (λ b. is_needed all variable && not b) (set_is variable)
 
 module _ (total : ℕ → ℕ) (modes : ℕ → List ModeDecl) where
   -- One that needs an unbound variable is not ready.

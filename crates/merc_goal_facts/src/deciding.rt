@@ -1,5 +1,5 @@
 //! What is known of goals with arms, by what their arms bind.
-ghost use Rattle.std.specs.Prelude.{◌≡◌, ◌∷◌, not, ℕ, List, Some, [], IfOk, OnOk, slice_get, if◌then◌else◌};
+ghost use Rattle.std.specs.Prelude.{◌≡◌, ◌-◌, ◌++◌, ◌∷◌, ℕ, List, Some, [], IfOk, OnOk, slice_get};
 ghost use Rattle.std.specs.List.{filter};
 ghost use Rattle.merc_base.specs.declared.place.Span.{Span};
 ghost use Rattle.merc_tree.specs.declared.declarations.ModeDecl.{ModeDecl};
@@ -10,14 +10,15 @@ ghost use Rattle.merc_goal_facts.specs.Arms.{all_of, those_bound, those_owed};
 ghost use Rattle.merc_goal_facts.specs.Bounds.{all_behind};
 ghost use Rattle.merc_goal_facts.specs.Complete.{AreKnown};
 ghost use Rattle.merc_goal_facts.specs.Facts.{AreFactsOf};
+ghost use Rattle.merc_goal_facts.specs.Needs.{found_in, is_needed};
 ghost use Rattle.merc_goal_facts.specs.Outside.{occurs_outside, IsStretch};
 ghost use Rattle.merc_goal_facts.specs.declared.facts.Facts.{Facts as FactsValue};
 
 use crate::bound::BoundSet;
 use crate::choosing::{bound_by_all, bound_by_some, is_any_reached, those_in};
 use crate::complete::Complete;
-use crate::facts::Facts;
-use crate::finding::{put_those_not_in, those_outside};
+use crate::facts::{Facts, push_facts};
+use crate::finding::{those_not_in, those_outside};
 use crate::joining::{conjunction_facts, facts_at};
 use crate::needing::needed_by_some;
 use crate::occurrences::Occurrences;
@@ -47,18 +48,17 @@ pub(crate) fn disjunction_facts(
     let reached = is_any_reached(facts, joined);
     let some = bound_by_some(alloc, set, facts, joined, reached)?;
     let every = bound_by_all(alloc, set, facts, joined, reached)?;
-    let needs = needed_by_some(alloc, set, facts, joined)?;
     arms_facts(
         alloc,
         set,
         all,
         start,
         end,
+        facts,
+        joined,
         reached,
         some.as_slice(),
         those_of_all(some.as_slice(), &every),
-        needs,
-        end.saturating_sub(start),
     )
 }
 
@@ -85,21 +85,51 @@ pub(crate) fn conditional_facts(
     ensures cleared { OnOk result (set.new ≡ []) }
 {
     let then_end = end.saturating_sub(occurrences_at(facts, else_part));
-    let condition_binds = binds_at(facts, condition);
-    let owed_by_condition = those_outside(alloc, all, start, then_end, condition_binds)?;
     let goes = [condition, then_part];
     let occurrences = then_end.saturating_sub(start);
     let first_arm = conjunction_facts(alloc, set, facts, &goes, occurrences)?;
-    // The needs of the else part are not added: in a long chain each list would be longer than the one before.
-    let needs = Vars::from_vec(Vec::from_slice(alloc, first_arm.needs.as_slice())?);
     let part = facts.len();
-    facts.push(first_arm)?;
+    push_facts(facts, first_arm)?;
     let arms = [Complete { part, start }, else_part];
-    let mut decided = disjunction_facts(alloc, set, all, start, end, facts, &arms)?;
-    facts.truncate(part);
-    decided.owed_by_condition = owed_by_condition;
-    decided.needs = needs;
-    Ok(decided)
+    let decided = disjunction_facts(alloc, set, all, start, end, facts, &arms)?;
+    // The needs of the else part are not added: in a long chain each list would be longer than the one before.
+    let needs = take_needs(alloc, facts);
+    let condition_binds = binds_at(facts, condition);
+    owing(alloc, all, start, then_end, condition_binds, needs, decided)
+}
+
+// Takes the last facts away, and gives what they tell that is needed.
+fn take_needs(alloc: Global, facts: &mut Vec<Facts>) -> Vars
+    ensures { (others : List FactsValue) (last : FactsValue) → facts.old.items ≡ others ++ last ∷ [] → (facts.new.items ≡ others) × (result ≡ last.needs) }
+{
+    match facts.pop() {
+        Some(last) => last.needs,
+        None => Vars::new(alloc),
+    }
+}
+
+// The facts of a disjunction, with these needs, and with what is owed by a condition that goes from one place to another and
+// binds these variables.
+fn owing(
+    alloc: Global,
+    all: &Occurrences,
+    start: usize,
+    end: usize,
+    condition_binds: &[Var],
+    needs: Vars,
+    decided: Facts,
+) -> Result<Facts, NoMemory>
+    ensures { IfOk result (λ found. found ≡ record { reached = decided.reached; binds = decided.binds; owed = decided.owed; owed_by_condition = filter (λ variable. occurs_outside all.now start end variable) condition_binds.now; needs = needs; occurrences = decided.occurrences }) }
+{
+    let owed_by_condition = those_outside(alloc, all, start, end, condition_binds)?;
+    Ok(Facts {
+        reached: decided.reached,
+        binds: decided.binds,
+        owed: decided.owed,
+        owed_by_condition,
+        needs,
+        occurrences: decided.occurrences,
+    })
 }
 
 // What a goal that is complete binds.
@@ -132,49 +162,80 @@ fn those_of_all<'a>(some: &'a [Var], every: &'a Option<Vars>) -> &'a [Var]
     }
 }
 
-// The facts of a goal with arms. Some arm that counts binds each of `some`, and each such arm binds all of `every`; the arms
-// need `needs`. Variables occur in the goal `occurrences` times. The set has no variables, before and after.
+// The facts of a goal with these arms. Some arm that counts binds each of `some`, and each such arm binds all of `every`. The
+// set has no variables, before and after.
 fn arms_facts(
     alloc: Global,
     set: &mut BoundSet,
     all: &Occurrences,
     start: usize,
     end: usize,
+    facts: &[Facts],
+    joined: &[Complete],
     reached: bool,
     some: &[Var],
     every: &[Var],
-    needs: Vars,
-    occurrences: usize,
 ) -> Result<Facts, NoMemory>
     requires { set.old ≡ [] }
     ensures reached { IfOk result (λ found. found.reached ≡ reached) }
     ensures binds { IfOk result (λ found. found.binds ≡ filter (λ variable. occurs_outside all.now start end variable) (those_bound reached some.now (all_behind [] every.now))) }
     ensures owed { IfOk result (λ found. found.owed ≡ filter (λ variable. occurs_outside all.now start end variable) (those_owed reached some.now (all_behind [] every.now))) }
-    ensures occurrences { IfOk result (λ found. found.occurrences ≡ occurrences) }
+    ensures occurrences { IfOk result (λ found. found.occurrences ≡ end - start) }
     ensures condition { IfOk result (λ found. found.owed_by_condition ≡ []) }
-    ensures needs { IfOk result (λ found. found.needs ≡ needs) }
+    ensures needs { IfOk result (λ found. (variable : ℕ) → among found.needs variable ≡ is_needed (found_in facts.now joined.now) variable) }
     ensures cleared { OnOk result (set.new ≡ []) }
 {
     set.bind_all(every)?;
-    let shared = those_in(alloc, set, some)?;
-    let mut differing = Vars::new(alloc);
-    put_those_not_in(set, &mut differing, some)?;
+    let binds = bound_outside(alloc, set, all, start, end, reached, some)?;
+    let owed = owed_outside(alloc, set, all, start, end, reached, some)?;
     set.undo(0);
-    let bound = one_of(reached, some, shared.as_slice());
-    let owed = one_of(reached, differing.as_slice(), &[]);
+    let needs = needed_by_some(alloc, set, facts, joined)?;
     Ok(Facts {
         reached,
-        binds: those_outside(alloc, all, start, end, bound)?,
-        owed: those_outside(alloc, all, start, end, owed)?,
+        binds,
+        owed,
         owed_by_condition: Vars::new(alloc),
         needs,
-        occurrences,
+        occurrences: end.saturating_sub(start),
     })
 }
 
-// These where it holds, else the others.
-fn one_of<'a>(holds: bool, these: &'a [Var], others: &'a [Var]) -> &'a [Var]
-    ensures { result.now ≡ (if holds then these.now else others.now) }
+// Of the variables that some arm binds, those that are bound behind the arms and occur outside. The set has those that all
+// arms bind.
+fn bound_outside(
+    alloc: Global,
+    set: &BoundSet,
+    all: &Occurrences,
+    start: usize,
+    end: usize,
+    reached: bool,
+    some: &[Var],
+) -> Result<Vars, NoMemory>
+    ensures { IfOk result (λ bound. bound ≡ filter (λ variable. occurs_outside all.now start end variable) (those_bound reached some.now set.now)) }
 {
-    if holds { these } else { others }
+    if reached {
+        return those_outside(alloc, all, start, end, some);
+    }
+    let shared = those_in(alloc, set, some)?;
+    those_outside(alloc, all, start, end, shared.as_slice())
+}
+
+// Of the variables that some arm binds, those that have to be bound before the arms and occur outside. The set has those that
+// all arms bind.
+fn owed_outside(
+    alloc: Global,
+    set: &BoundSet,
+    all: &Occurrences,
+    start: usize,
+    end: usize,
+    reached: bool,
+    some: &[Var],
+) -> Result<Vars, NoMemory>
+    ensures { IfOk result (λ owed. owed ≡ filter (λ variable. occurs_outside all.now start end variable) (those_owed reached some.now set.now)) }
+{
+    if !reached {
+        return Ok(Vars::new(alloc));
+    }
+    let differing = those_not_in(alloc, set, some)?;
+    those_outside(alloc, all, start, end, differing.as_slice())
 }

@@ -1,5 +1,7 @@
 //! What is known of the parts of a body before any of them is ordered.
+ghost use Rattle.std.specs.Prelude.{◌≡◌, ◌++◌, ◌∷◌, [], OnOk};
 
+use merc_base::NoMemory;
 use merc_goal_tree::Vars;
 
 /// What is known of one part of a body.
@@ -20,4 +22,16 @@ pub struct Facts {
     pub needs: Vars,
     /// How often variables occur in it.
     pub occurrences: usize,
+}
+
+/// Puts the facts of a part behind the others.
+///
+/// # Errors
+///
+/// `NoMemory` where memory was refused.
+pub(crate) fn push_facts(facts: &mut Vec<Facts>, found: Facts) -> Result<(), NoMemory>
+    ensures { OnOk result (facts.new.items ≡ facts.old.items ++ found ∷ []) }
+{
+    facts.push(found)?;
+    Ok(())
 }

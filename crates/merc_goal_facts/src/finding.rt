@@ -223,6 +223,19 @@ pub(crate) fn those_outside(
     Ok(outer)
 }
 
+/// Those of the variables that are not bound.
+pub(crate) fn those_not_in(
+    alloc: Global,
+    set: &BoundSet,
+    variables: &[Var],
+) -> Result<Vars, NoMemory>
+    ensures { IfOk result (λ others. others ≡ filter (λ variable. not (among set.now variable)) variables.now) }
+{
+    let mut others = Vars::new(alloc);
+    put_those_not_in(set, &mut others, variables)?;
+    Ok(others)
+}
+
 /// Puts those of the variables behind the others that are not bound.
 pub(crate) fn put_those_not_in(
     set: &BoundSet,

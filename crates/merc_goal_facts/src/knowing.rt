@@ -14,7 +14,7 @@ ghost use Rattle.merc_goal_facts.specs.Outside.{IsStretch};
 use crate::bound::BoundSet;
 use crate::complete::Complete;
 use crate::deciding::{conditional_facts, disjunction_facts};
-use crate::facts::Facts;
+use crate::facts::{Facts, push_facts};
 use crate::finding::{negation_facts, quantified_facts, simple_facts};
 use crate::joining::conjunction_facts;
 use crate::needing::leave_out;
@@ -97,12 +97,10 @@ fn complete_part(
         root,
     )?;
     known.end = place_behind(all, start, found.occurrences);
-    set.bind_all(found.needs.as_slice())?;
     let part = known.facts.len();
-    known.facts.push(found)?;
+    push_facts(&mut known.facts, found)?;
     // What it needs is looked at before its goals are asked: they need not tell it again.
-    leave_out(alloc, set, &mut known.facts, joined)?;
-    set.undo(0);
+    leave_out(alloc, set, &mut known.facts, part, joined)?;
     known.complete.truncate(kept);
     known.complete.push(Complete { part, start })?;
     Ok(())

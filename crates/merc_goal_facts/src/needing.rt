@@ -1,5 +1,5 @@
 //! What goals need: the variables without which they are not ready.
-ghost use Rattle.std.specs.Prelude.{◌≡◌, not, ℕ, [], IfOk, OnOk};
+ghost use Rattle.std.specs.Prelude.{◌≡◌, ◌<◌, not, ℕ, [], length, IfOk, OnOk};
 ghost use Rattle.merc_order.specs.Bound.{among};
 ghost use Rattle.merc_order.specs.CallModes.{inputs_of};
 ghost use Rattle.merc_order.specs.Procedures.{modes_of};
@@ -8,7 +8,7 @@ ghost use Rattle.merc_goal_facts.specs.Needs.{reads, found_in, is_needed, is_bro
 use crate::bound::BoundSet;
 use crate::complete::Complete;
 use crate::facts::Facts;
-use crate::finding::{put_all, put_those_not_in};
+use crate::finding::{put_all, put_those_not_in, those_not_in};
 use crate::joining::facts_at;
 use crate::modes::modes_at;
 use merc_base::NoMemory;
@@ -83,10 +83,8 @@ pub(crate) fn needed_together(
     if some.as_slice().is_empty() {
         return Ok(some);
     }
-    let brought = brought_by_some(alloc, set, facts, joined)?;
-    set.bind_all(brought.as_slice())?;
-    let mut needed = Vars::new(alloc);
-    put_those_not_in(set, &mut needed, some.as_slice())?;
+    bind_brought(alloc, set, facts, joined)?;
+    let needed = those_not_in(alloc, set, some.as_slice())?;
     set.undo(0);
     Ok(needed)
 }
@@ -116,6 +114,20 @@ pub(crate) fn needed_by_some(
     }
     set.undo(0);
     Ok(needed)
+}
+
+// Binds the variables that some goal binds without needing them, where none are bound.
+fn bind_brought(
+    alloc: Global,
+    set: &mut BoundSet,
+    facts: &[Facts],
+    joined: &[Complete],
+) -> Result<(), NoMemory>
+    requires { set.old ≡ [] }
+    ensures { OnOk result ((variable : ℕ) → among set.new variable ≡ is_brought (found_in facts.now joined.now) variable) }
+{
+    let brought = brought_by_some(alloc, set, facts, joined)?;
+    set.bind_all(brought.as_slice())
 }
 
 // The variables that some goal binds without needing them. The set has no variables, before and after.
@@ -152,22 +164,27 @@ fn put_brought(set: &mut BoundSet, brought: &mut Vars, found: &Facts) -> Result<
     Ok(())
 }
 
-/// Leaves out of what these goals need what is bound.
+/// Leaves out of what these goals need what a part needs. The set has no variables, before and after.
 ///
 /// # Errors
 ///
 /// `NoMemory` where memory was refused.
 pub(crate) fn leave_out(
     alloc: Global,
-    set: &BoundSet,
+    set: &mut BoundSet,
     facts: &mut [Facts],
+    part: usize,
     joined: &[Complete],
 ) -> Result<(), NoMemory>
-    ensures { OnOk result (AreKept facts.old facts.new) }
+    requires known { part < length facts.old }
+    ensures kept { OnOk result (AreKept facts.old facts.new) }
+    ensures cleared { OnOk result (set.new ≡ []) }
 {
+    set.bind_all(facts[part].needs.as_slice())?;
     for goal in joined {
         leave_out_of(alloc, set, facts, goal.part)?;
     }
+    set.undo(0);
     Ok(())
 }
 
@@ -182,8 +199,7 @@ fn leave_out_of(
     if part >= facts.len() {
         return Ok(());
     }
-    let mut left = Vars::new(alloc);
-    put_those_not_in(set, &mut left, facts[part].needs.as_slice())?;
+    let left = those_not_in(alloc, set, facts[part].needs.as_slice())?;
     facts[part].needs = left;
     Ok(())
 }

@@ -1,4 +1,4 @@
-use Rattle.std.proofs.Common.{◌∙◌, ◌++◌, not, ap, sym}
+use Rattle.std.proofs.Common.{◌∙◌, not, ap, sym}
 use Rattle.std.specs.List.{filter}
 use Rattle.merc_order.specs.Bound.{among}
 use Rattle.merc_goal_facts.specs.declared.facts.Facts.{Facts}
@@ -10,6 +10,5 @@ returns-then-part-facts c = all_same c.args.facts.now
 
 pub returns : goal.returns
 returns c =
-    left_kept c.args.facts.now c.args.part c.index-facts-part.result c.index-facts-part-2.result c.put_those_not_in.new.found c.as_slice.result.now c.args.set.now c.index-facts-part.is
-    (c.as_slice.ensures ∙ ap (λ (f : Facts). f.needs) (sym c.index-facts-part.is))
-    (c.in_ok-put_those_not_in.ensures ∙ ap (λ l. l ++ filter (λ variable. not (among c.args.set.now variable)) c.as_slice.result.now) c.new-left.ensures)
+    left_kept c.args.facts.now c.args.part c.index-facts-part.result c.index-facts-part-2.result c.in_ok-left.left c.as_slice.result.now c.args.set.now c.index-facts-part.is
+    (c.as_slice.ensures ∙ ap (λ (f : Facts). f.needs) (sym c.index-facts-part.is)) c.in_ok-left.ensures
