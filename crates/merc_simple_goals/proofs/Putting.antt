@@ -45,6 +45,15 @@ puts_gives modes ordered outcome goal span is_ready old new (Err (Refused refusa
     o ∙ ap (λ b. if b then Ready ordered else Stuck (never_ready span)) r ∙ ap Stuck (sym s)
 puts_gives modes ordered outcome goal span is_ready old new (Err NoMemory) p g c o = tt
 
+-- a goal over its operands, with what it writes and of what it has tests
+module _ (outputs : List ℕ) (span : Span) (old new : Written) where
+  pub goal_put : (goal : List ℕ → BasicGoal) (operands operands' writes writes' testing testing' : List ℕ) → operands ≡ operands' → writes ≡ writes' → testing ≡ testing'
+      → IsPut (with_tests old.fresh (goal operands) writes testing outputs span) (length testing) old new → IsPut (with_tests old.fresh (goal operands') writes' testing' outputs span) (length testing') old new
+  goal_put goal operands operands' writes writes' testing testing' o w t is =
+      subst (λ l. IsPut (with_tests old.fresh (goal operands') writes' l outputs span) (length l) old new) t
+      (subst (λ l. IsPut (with_tests old.fresh (goal operands') l testing outputs span) (length testing) old new) w
+      (subst (λ l. IsPut (with_tests old.fresh (goal l) writes testing outputs span) (length testing) old new) o is))
+
 -- the set in which variables were looked up is empty as before
 pub after_looking : (goal : Node) (count : ℕ) (old new : Written) (seen : List ℕ) → seen ≡ old.seen → IsPut goal count (record { nodes = old.nodes; fresh = old.fresh; seen = seen }) new → IsPut goal count old new
 after_looking goal count old new seen same p = record { nodes = p.nodes; fresh = p.fresh; seen = p.seen ∙ same }

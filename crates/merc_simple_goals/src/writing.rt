@@ -8,7 +8,7 @@ ghost use Rattle.merc_graded_tree.specs.Nodes.{node, Basic};
 ghost use Rattle.merc_order.specs.Bound.{among, each_once};
 ghost use Rattle.merc_order.specs.Order.{outputs_of, simple_from};
 ghost use Rattle.merc_order.specs.Procedures.{modes_of};
-ghost use Rattle.merc_order.specs.Spelt.{inputs_in, with_tests};
+ghost use Rattle.merc_order.specs.Spelt.{inputs_in, replaced, tested_places, untested_places, with_tests, written as written_places};
 ghost use Rattle.merc_goal_facts.specs.Facts.{AreFactsOf};
 ghost use Rattle.merc_goal_facts.specs.Bounds.{all_behind};
 ghost use Rattle.merc_goal_facts.specs.Outside.{IsStretch};
@@ -294,19 +294,34 @@ fn order_shape(
         return put_if(bound.are_bound(arguments), goal, frame, written);
     }
     let tests = tested(alloc, arguments, bound, &mut written.seen)?;
-    let parts = replaced(alloc, written.fresh, arguments, &tests)?;
-    let writes = untested_places(alloc, arguments, &tests)?;
-    let testing = tested_places(alloc, arguments, &tests)?;
-    let goal = BasicGoal::Split(whole, symbol, parts);
+    put_split(alloc, whole, symbol, arguments, &tests, frame, written)?;
+    Ok(())
+}
+
+// Puts a split with these tests behind the others.
+fn put_split(
+    alloc: Global,
+    whole: Var,
+    symbol: Symbol,
+    arguments: &[Var],
+    tests: &[bool],
+    frame: Frame,
+    written: &mut Written,
+) -> Result<(), NoMemory>
+    requires { written.old.seen ≡ [] }
+    ensures { OnOk result (IsPut (with_tests written.old.fresh (BasicGoal.Split whole symbol (replaced written.old.fresh arguments.now tests.now)) (untested_places arguments.now tests.now) (tested_places arguments.now tests.now) frame.outputs frame.span) (length (tested_places arguments.now tests.now)) written.old written.new) }
+{
+    let writes = untested_places(alloc, arguments, tests)?;
+    let testing = tested_places(alloc, arguments, tests)?;
+    let parts = replaced(alloc, written.fresh, arguments, tests)?;
     put_with_tests(
         alloc,
-        goal,
+        BasicGoal::Split(whole, symbol, parts),
         writes.as_slice(),
         testing.as_slice(),
         frame,
         written,
-    )?;
-    Ok(())
+    )
 }
 
 // Arithmetic, which gives its target the result for both operands.
@@ -353,22 +368,38 @@ fn order_call(
         Some(mode) => {
             let places = places_at(modes, mode);
             let tests = call_tested(alloc, places, arguments, bound, &mut written.seen)?;
-            let operands = replaced(alloc, written.fresh, arguments, &tests)?;
-            let writes = writes_of(alloc, places, arguments, &tests)?;
-            let testing = tested_places(alloc, arguments, &tests)?;
-            let goal = BasicGoal::Call(Procedure { predicate, mode }, operands);
-            put_with_tests(
-                alloc,
-                goal,
-                writes.as_slice(),
-                testing.as_slice(),
-                frame,
-                written,
-            )?;
+            let procedure = Procedure { predicate, mode };
+            put_call(alloc, procedure, places, arguments, &tests, frame, written)?;
             Ok(())
         }
         None => Err(fault_at(Rule::NeverReady, frame.span)),
     }
+}
+
+// Puts a call with these tests behind the others.
+fn put_call(
+    alloc: Global,
+    procedure: Procedure,
+    places: &[Arg],
+    arguments: &[Var],
+    tests: &[bool],
+    frame: Frame,
+    written: &mut Written,
+) -> Result<(), NoMemory>
+    requires { written.old.seen ≡ [] }
+    ensures { OnOk result (IsPut (with_tests written.old.fresh (BasicGoal.Call procedure (replaced written.old.fresh arguments.now tests.now)) (written_places places.now arguments.now tests.now) (tested_places arguments.now tests.now) frame.outputs frame.span) (length (tested_places arguments.now tests.now)) written.old written.new) }
+{
+    let writes = writes_of(alloc, places, arguments, tests)?;
+    let testing = tested_places(alloc, arguments, tests)?;
+    let operands = replaced(alloc, written.fresh, arguments, tests)?;
+    put_with_tests(
+        alloc,
+        BasicGoal::Call(procedure, operands),
+        writes.as_slice(),
+        testing.as_slice(),
+        frame,
+        written,
+    )
 }
 
 // The places of the mode of this number.

@@ -1,4 +1,4 @@
-use Rattle.std.proofs.Common.{◌∙◌, sym, ap}
+use Rattle.std.proofs.Common.{◌∙◌, ap, refl, sym}
 use Rattle.merc_order.specs.Spelt.{replaced, tested_places, untested_places}
 use Rattle.merc_simple_goals.proofs.Putting.{after_looking, build_gives, split_gives}
 use Rattle.merc_simple_goals.proofs.writing.order_shape.Goals as goal
@@ -10,9 +10,8 @@ returns-then-not-is_bound c = λ total modes.
 
 pub returns : goal.returns
 returns c = λ total modes.
-    split_gives modes c.args.whole c.args.symbol c.args.arguments.now c.in_ok-parts.parts c.as_slice.result.now c.as_slice-2.result.now c.args.frame.outputs c.args.frame.span c.in_ok-tests.tests.items _ _ _
-    c.args.written.now c.put_with_tests.new.written (sym c.is_bound.ensures ∙ c.if-not-is_bound.false) c.in_ok-tests.ensures.tests
-    (c.in_ok-parts.ensures ∙ ap (replaced c.args.written.now.fresh c.args.arguments.now) c.deref.ensures.value)
-    (c.as_slice.ensures ∙ c.in_ok-writes.ensures ∙ ap (untested_places c.args.arguments.now) c.deref-2.ensures.value)
-    (c.as_slice-2.ensures ∙ c.in_ok-testing.ensures ∙ ap (tested_places c.args.arguments.now) c.deref-3.ensures.value)
-    (after_looking _ _ c.args.written.now _ c.tested.new.seen (c.in_ok-tests.ensures.cleared ∙ sym c.requires) c.in_ok-put_with_tests.ensures)
+    let arguments = c.args.arguments.now in
+    split_gives modes c.args.whole c.args.symbol arguments (replaced c.args.written.now.fresh arguments c.deref.result.now) (untested_places arguments c.deref.result.now) (tested_places arguments c.deref.result.now)
+    c.args.frame.outputs c.args.frame.span c.deref.result.now _ _ _ c.args.written.now c.put_split.new.written (sym c.is_bound.ensures ∙ c.if-not-is_bound.false)
+    (c.deref.ensures.value ∙ c.in_ok-tests.ensures.tests) refl refl refl
+    (after_looking _ _ c.args.written.now _ c.tested.new.seen (c.in_ok-tests.ensures.cleared ∙ sym c.requires) c.in_ok-put_split.ensures)
