@@ -1,6 +1,7 @@
 //! Substitutions of type variables, and what unifies two types.
-ghost use Rattle.std.specs.Prelude.{◌≡◌, [], IfOk, OnErr, MatchOption};
+ghost use Rattle.std.specs.Prelude.{◌≡◌, ◌++◌, [], IfOk, OnErr, MatchOption};
 ghost use Rattle.merc_type_expr.specs.Outcome.{BecomesUnifier};
+ghost use Rattle.merc_type_expr.specs.Solving.{IsSubst, Solved};
 ghost use Rattle.merc_type_expr.specs.Unifier.{bound_to, HasNoUnifier, IsSolvable, IsUnifier};
 
 use crate::solving::new_bindings;
@@ -63,15 +64,14 @@ impl Subst {
         ensures err { OnErr result (self.new ≡ self.old) }
     {
         let alloc = *self.bindings.allocator();
-        // Copies, since the proof of the search wants one lifetime for the types and the bindings.
-        let a = a.to_type(alloc)?;
-        let b = b.to_type(alloc)?;
-        let mut more = match new_bindings(alloc, &self.bindings, &a.as_ref(), &b.as_ref())? {
-            Some(found) => found,
-            None => return Ok(false),
-        };
-        self.bindings.append(&mut more)?;
-        Ok(true)
+        match bindings_besides(alloc, &self.bindings, a, b)? {
+            Some(found) => {
+                let mut more = found;
+                self.bindings.append(&mut more)?;
+                Ok(true)
+            }
+            None => Ok(false),
+        }
     }
 
     /// A copy.
@@ -88,6 +88,22 @@ impl Subst {
         }
         Ok(Subst { bindings })
     }
+}
+
+// The bindings that a substitution needs besides to make two types one, None where nothing unifies them under it.
+fn bindings_besides(
+    alloc: Global,
+    under: &[(Name, TypeExpr)],
+    a: &TypeRef<'_>,
+    b: &TypeRef<'_>,
+) -> Result<Option<Vec<(Name, TypeExpr)>>, NoMemory>
+    requires { IsSubst under.now }
+    ensures { IfOk result (λ answer. MatchOption answer (HasNoUnifier a.now b.now under.now) (λ found. Solved under.now (under.now ++ found.items) a.now b.now)) }
+{
+    // Copies, since the proof of the search wants one lifetime for the types and the bindings.
+    let a = a.to_type(alloc)?;
+    let b = b.to_type(alloc)?;
+    new_bindings(alloc, under, &a.as_ref(), &b.as_ref())
 }
 
 /// The most general unifier of two types under a substitution, None exactly where there is no unifier.
