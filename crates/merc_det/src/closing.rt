@@ -42,7 +42,14 @@ pub(crate) fn close(
     let inner = category_of(alloc, known, seen, &label.root, graded)?;
     let category = capped(&label.outputs, inner);
     graded.put(with_category(alloc, label, category)?)?;
-    match &label.root {
+    learn_behind(&label.root, seen)
+}
+
+// What a goal with this root tells of its variables, if it joins none, is known from now on.
+fn learn_behind(root: &Root, seen: &mut SeenSymbols) -> Result<(), NoMemory>
+    ensures { OnOk result (seen.new ≡ known_behind_root root.now seen.old) }
+{
+    match root {
         Root::Basic(basic) => learn_from(basic, seen),
         Root::Conjunction(_, _)
         | Root::Disjunction(_)
