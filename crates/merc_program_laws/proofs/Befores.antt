@@ -13,7 +13,7 @@ use Rattle.merc_meaning.specs.Steps.{value_at}
 use Rattle.merc_program_laws.proofs.Values.{Instance, or_false, or_with}
 use Rattle.merc_program_laws.proofs.Lawful.{Fits, Goes}
 use Rattle.merc_program_laws.proofs.Knowing.{knows_more}
-use Rattle.merc_program_laws.proofs.Trees.{not_in}
+use Rattle.merc_program_laws.proofs.TreeCategories.{not_in}
 
 -- Given are the module, the types of the variables, and what type variables stand for.
 module _ (known : Module) (types i : Instance) where

@@ -24,7 +24,7 @@ use Rattle.merc_program_laws.specs.CategoryLaws.{Enters}
 use Rattle.merc_program_laws.proofs.Traces.{each_map, has_map, has_each}
 use Rattle.merc_program_laws.proofs.Values.{Instance, none_not, same_some, is_some_of}
 use Rattle.merc_program_laws.proofs.Lawful.{Goes, Lawful}
-use Rattle.merc_program_laws.proofs.Trees.{node_law}
+use Rattle.merc_program_laws.proofs.TreeCategories.{node_law}
 use Rattle.merc_program_laws.specs.Instances.{ArgumentsAgree}
 use Rattle.merc_program_laws.specs.AnswerLaws.{AnswersLaw, OthersLaw}
 use Rattle.merc_program_laws.proofs.Truthful.{Truthful, or_else, decide_has, decide_head, typed_value, each_both}

@@ -19,7 +19,7 @@ use Rattle.merc_meaning.specs.Values.{made, fields}
 use Rattle.merc_meaning.specs.Truth.{Assignment, Judgement, assigned, No, NoGoal, NoAny, NoAll, NoArms}
 use Rattle.merc_program_laws.specs.Guarding.{Guards, GuardsGoal, OneGuards, EachGuards, EachArmGuards, ArmsHaveGuards}
 use Rattle.merc_program_laws.proofs.Values.{Instance, or_not_left, or_not_right, none_not, symbol_decides, one_symbol, fields_of_made}
-use Rattle.merc_program_laws.proofs.Trees.{IsPart}
+use Rattle.merc_program_laws.proofs.TreeCategories.{IsPart}
 use Rattle.merc_program_laws.proofs.SimpleTruth.{assigned_many}
 
 none_case : (o : Option Values) → ((ws : Values) → o ≡ Some ws → ⊥) → o ≡ None

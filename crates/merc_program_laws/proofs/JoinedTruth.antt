@@ -28,7 +28,7 @@ use Rattle.merc_program_laws.proofs.Traces.{each_map, has_map, has_each, never_h
 use Rattle.merc_program_laws.proofs.Values.{Instance, or_not_left, or_not_right, or_false, or_with, same_some, some_of, is_some_of}
 use Rattle.merc_program_laws.proofs.Lawful.{Fits, Goes}
 use Rattle.merc_program_laws.proofs.Maxima.{or_zero}
-use Rattle.merc_program_laws.proofs.Trees.{IsPart}
+use Rattle.merc_program_laws.proofs.TreeCategories.{IsPart}
 use Rattle.merc_program_laws.proofs.Truthful.{Matches, IsInstance, Truthful, Grows, each_both, pick, then_truth, widen_instance, overridden, overridden_out, overridden_in, overridden_values, typed_value, first_left, first_right}
 use Rattle.merc_program_laws.proofs.Guarded.{guard_node, rest_no}
 use Rattle.merc_program_laws.proofs.NodeTruth.{no_solution}

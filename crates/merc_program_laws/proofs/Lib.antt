@@ -9,7 +9,7 @@ pub mod Calls
 pub mod Maxima
 pub mod Combining
 pub mod Graded
-pub mod Trees
+pub mod TreeCategories
 pub mod Programs
 pub mod Basics
 pub mod Local

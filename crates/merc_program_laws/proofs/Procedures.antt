@@ -34,7 +34,7 @@ use Rattle.merc_program_laws.proofs.Values.{Instance, none_not, same_some, is_so
 use Rattle.merc_program_laws.proofs.Lawful.{Fits}
 use Rattle.merc_program_laws.proofs.Calls.{LawfulCalls}
 use Rattle.merc_program_laws.proofs.Graded.{Graded, graded_has}
-use Rattle.merc_program_laws.proofs.Trees.{IsPart}
+use Rattle.merc_program_laws.proofs.TreeCategories.{IsPart}
 use Rattle.merc_program_laws.proofs.Programs.{category_law, type_law}
 use Rattle.merc_program_laws.proofs.Fewer.{node_fewer}
 

@@ -38,7 +38,7 @@ use Rattle.merc_program_laws.proofs.Knowing.{one_not_zero, many_not_zero}
 use Rattle.merc_program_laws.proofs.Calls.{LawfulCalls}
 use Rattle.merc_program_laws.proofs.Combining.{looser, zero_law}
 use Rattle.merc_program_laws.proofs.Graded.{Graded, graded_has, ends_zero}
-use Rattle.merc_program_laws.proofs.Trees.{IsPart, outputs_within, not_in, node_law}
+use Rattle.merc_program_laws.proofs.TreeCategories.{IsPart, outputs_within, not_in, node_law}
 
 -- Procedures by their numbers.
 

@@ -24,7 +24,7 @@ use Rattle.merc_program_laws.proofs.Traces.{each_map, has_map, has_each}
 use Rattle.merc_program_laws.proofs.Values.{Instance, none_not, same_some, is_some_of}
 use Rattle.merc_program_laws.proofs.Lawful.{Fits, Goes}
 use Rattle.merc_program_laws.proofs.Graded.{Graded, graded_has}
-use Rattle.merc_program_laws.proofs.Trees.{IsPart, node_law}
+use Rattle.merc_program_laws.proofs.TreeCategories.{IsPart, node_law}
 use Rattle.merc_program_laws.proofs.Programs.{query_type_law}
 use Rattle.merc_program_laws.specs.Instances.{IsAnswer, EachOfRun, HasOfRun, EndsFreely}
 use Rattle.merc_program_laws.specs.AnswerLaws.{AnswersAreWhole, RunAnswersAreYes, RunOthersAreNo, RunAnswersLaw, RunOthersLaw, WholeAnswersLaw}

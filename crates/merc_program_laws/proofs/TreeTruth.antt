@@ -40,7 +40,7 @@ use Rattle.merc_program_laws.proofs.Simple.{GoodBasicGoal}
 use Rattle.merc_program_laws.proofs.Calls.{LawfulCalls}
 use Rattle.merc_program_laws.proofs.Maxima.{most_is, or_zero}
 use Rattle.merc_program_laws.proofs.Graded.{Graded, GradedGoal, GradedAll, GradedEach, GradedArms}
-use Rattle.merc_program_laws.proofs.Trees.{IsPart, outputs_within, node_law}
+use Rattle.merc_program_laws.proofs.TreeCategories.{IsPart, outputs_within, node_law}
 use Rattle.merc_program_laws.proofs.Truthful.{IsInstance, Truthful, Grows, then_truth, single_each, single_done, behind_answered, front_answered, single_negated}
 use Rattle.merc_program_laws.proofs.SimpleTruth.{assign_truth, test_truth, build_truth, split_truth, arithmetic_truth, compare_truth, raise_truth}
 use Rattle.merc_program_laws.proofs.CallTruth.{TruthfulCalls, call_truth, single_called}
