@@ -216,20 +216,28 @@ fn plan_disjunction<'a>(group: Group<'a>, tasks: &mut Tasks<'a>) -> Result<(), N
 {
     drop(group.used);
     let span = group.selected.span();
-    let disjuncts = group.selected.into_vec();
-    tasks.push(Task::Close(Label {
+    let mut disjuncts = group.selected.into_vec();
+    let label = Label {
         root: Root::Disjunction(disjuncts.len()),
         outputs: group.outputs,
         category: group.category,
         span,
-    }))?;
-    push_finds(disjuncts, tasks)
+    };
+    let pushed = push_finds(label, &mut disjuncts, tasks);
+    drop(disjuncts);
+    pushed
 }
 
-fn push_finds<'a>(disjuncts: Vec<Disjunct<'a>>, tasks: &mut Tasks<'a>) -> Result<(), NoMemory>
-    ensures { OnOk result (tasks.new ≡ finds disjuncts.entry.items ++ tasks.old) }
+// Plans a goal that has this label and joins these disjuncts. Those that are not pushed for want of memory stay in the
+// list.
+fn push_finds<'a>(
+    label: Label,
+    disjuncts: &mut Vec<Disjunct<'a>>,
+    tasks: &mut Tasks<'a>,
+) -> Result<(), NoMemory>
+    ensures { OnOk result (tasks.new ≡ finds disjuncts.old.items ++ Close label ∷ tasks.old) }
 {
-    let mut disjuncts = disjuncts;
+    tasks.push(Task::Close(label))?;
     while let Some(last) = disjuncts.pop() {
         let goal = last.goal();
         drop(last);
