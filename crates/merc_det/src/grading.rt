@@ -7,7 +7,7 @@ ghost use Rattle.merc_grading.specs.Grading.{graded};
 ghost use Rattle.merc_det.specs.Tasks.{all_turns, AreEnough, Keeps};
 
 use crate::closing::close;
-use crate::planning::{Task, plan};
+use crate::planning::{Task, leave, plan};
 use crate::seen::SeenSymbols;
 use merc_base::NoMemory;
 use merc_graded_tree::{NodeRef, Nodes};
@@ -35,9 +35,28 @@ pub fn grade(
 {
     let mut seen = SeenSymbols::new(alloc);
     let mut tasks = Vec::new(alloc);
-    tasks.push(Task::Grade(goal.copy()))?;
+    let done = grade_from(alloc, known, goal, &mut tasks, &mut seen, nodes);
+    // (calls, since it costs much to prove what is dropped here)
+    drop(tasks);
+    drop(seen);
+    done
+}
+
+// Grades the goal as `grade` does, from what is known before it. There are no tasks before.
+fn grade_from<'a>(
+    alloc: Global,
+    known: &Known<'_>,
+    goal: &NodeRef<'a>,
+    tasks: &mut Vec<Task<'a>>,
+    seen: &mut SeenSymbols,
+    nodes: &mut Nodes,
+) -> Result<(), NoMemory>
+    requires { tasks.old.items ≡ [] }
+    ensures { OnOk result ((types : ℕ → TypeExpr) → Fits known.now.types types goal.now → nodes.new ≡ nodes.old ++ graded known.now.types (modes_of known.now.preds) types seen.old goal.now ∷ []) }
+{
+    leave(Task::Grade(goal.copy()), tasks)?;
     while let Some(task) = tasks.pop() {
-        perform(alloc, known, task, &mut tasks, &mut seen, nodes)?;
+        perform(alloc, known, task, tasks, seen, nodes)?;
     }
     Ok(())
 }

@@ -36,7 +36,7 @@ pub(crate) fn plan<'a>(
     ensures { OnOk result (tasks.new.items ≡ tasks.old.items ++ plan known goal.entry) }
 {
     let view = goal.view();
-    tasks.push(Task::Close(goal))?;
+    leave(Task::Close(goal), tasks)?;
     plan_inner(view, known, tasks)
 }
 
@@ -56,17 +56,26 @@ fn plan_inner<'a>(
             plan_arms(variable, symbols.as_slice(), arms, known, tasks)
         }
         NodeView::Conditional(condition, then_part, else_part) => {
-            plan_apart(else_part, known, tasks)?;
-            plan_apart(then_part, known, tasks)?;
-            tasks.push(Task::Grade(condition))?;
-            Ok(())
+            plan_conditional(condition, then_part, else_part, known, tasks)
         }
         NodeView::Negation(inner) => plan_apart(inner, known, tasks),
-        NodeView::Quantified(_, inner) => {
-            tasks.push(Task::Grade(inner))?;
-            Ok(())
-        }
+        NodeView::Quantified(_, inner) => leave(Task::Grade(inner), tasks),
     }
+}
+
+// Plans a condition, a then part that goes on behind it, and an else part from what is known before both.
+fn plan_conditional<'a>(
+    condition: NodeRef<'a>,
+    then_part: NodeRef<'a>,
+    else_part: NodeRef<'a>,
+    known: usize,
+    tasks: &mut Vec<Task<'a>>,
+) -> Result<(), NoMemory>
+    ensures { OnOk result (tasks.new.items ≡ tasks.old.items ++ Task.Forget known ∷ Task.Grade else_part.entry ∷ Task.Forget known ∷ Task.Grade then_part.entry ∷ Task.Grade condition.entry ∷ []) }
+{
+    plan_apart(else_part, known, tasks)?;
+    plan_apart(then_part, known, tasks)?;
+    leave(Task::Grade(condition), tasks)
 }
 
 // Plans goals that run one after the other.
@@ -75,7 +84,7 @@ fn plan_in_turn<'a>(goals: Parts<'a>, tasks: &mut Vec<Task<'a>>) -> Result<(), N
 {
     let mut left = goals;
     while let Some(last) = left.take_last() {
-        tasks.push(Task::Grade(last))?;
+        leave(Task::Grade(last), tasks)?;
     }
     Ok(())
 }
@@ -125,7 +134,7 @@ fn plan_arm<'a>(
 {
     if let Some(symbol) = symbol_at(symbols, index) {
         plan_apart(body, known, tasks)?;
-        tasks.push(Task::Learn(variable, symbol))?;
+        leave(Task::Learn(variable, symbol), tasks)?;
     }
     Ok(())
 }
@@ -147,7 +156,18 @@ fn plan_apart<'a>(
 ) -> Result<(), NoMemory>
     ensures { OnOk result (tasks.new.items ≡ tasks.old.items ++ Task.Forget known ∷ Task.Grade goal.entry ∷ []) }
 {
-    tasks.push(Task::Forget(known))?;
-    tasks.push(Task::Grade(goal))?;
+    leave(Task::Forget(known), tasks)?;
+    leave(Task::Grade(goal), tasks)
+}
+
+/// Leaves a task to be done next.
+///
+/// # Errors
+///
+/// `NoMemory` where memory was refused.
+pub(crate) fn leave<'a>(task: Task<'a>, tasks: &mut Vec<Task<'a>>) -> Result<(), NoMemory>
+    ensures { OnOk result (tasks.new.items ≡ tasks.old.items ++ task.entry ∷ []) }
+{
+    tasks.push(task)?;
     Ok(())
 }
