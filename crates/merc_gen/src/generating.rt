@@ -323,32 +323,17 @@ fn emit_arm<'a>(
 ) -> Result<(), NoMemory>
     ensures { OnOk result ((single : Procedure → Bool) → Performs single (switched_code single arms.entry) (list_turns arms.entry.left) tasks.old.items code.old tasks.new.items code.new) }
 {
-    let Arms {
-        variable,
-        symbols,
-        mut left,
-        mark,
-        behind,
-        mut starts,
-    } = arms;
+    let mut arms = arms;
     let start = code.len();
-    starts.push(start)?;
-    match left.take_last() {
+    arms.starts.push(start)?;
+    match arms.left.take_last() {
         Some(last) => {
-            put_jump(behind, code)?;
-            let others = Task::Switch(Arms {
-                variable,
-                symbols,
-                left,
-                mark,
-                behind,
-                starts,
-            });
-            emit_before(last, mark, others, tasks)
+            put_jump(arms.behind, code)?;
+            emit_before(last, arms.mark, Task::Switch(arms), tasks)
         }
         None => {
-            let targets = targets(alloc, symbols.as_slice(), starts, start)?;
-            code.put_first(Instruction::Switch(variable, targets))
+            let targets = targets(alloc, arms.symbols.as_slice(), arms.starts, start)?;
+            code.put_first(Instruction::Switch(arms.variable, targets))
         }
     }
 }
