@@ -74,8 +74,7 @@ fn fill(
     found.own = found.preds.as_slice().len();
     push_predicates(alloc, names, Part::Units, entries, &mut found.preds)?;
     push_clauses(alloc, Part::File, entries, &mut found.clauses)?;
-    push_clauses(alloc, Part::Units, entries, &mut found.clauses)?;
-    Ok(())
+    push_clauses(alloc, Part::Units, entries, &mut found.clauses)
 }
 
 // What stands where a name is missing.
@@ -129,26 +128,27 @@ fn push_types(
     for entry in entries {
         if part.has(entry) {
             if let Item::Type(head, root) = &entry.item {
-                types.push(type_def(alloc, names, entry.unit, head, root)?)?;
+                push_type(alloc, names, entry.unit, head, root, types)?;
             }
         }
     }
     Ok(())
 }
 
-// The type with this head and this chain of constructors.
-fn type_def(
+// Puts the type with this head and this chain of constructors behind the others.
+fn push_type(
     alloc: Global,
     names: &Names,
     unit: Option<Name>,
     head: &TermRef<'_>,
     root: &TermRef<'_>,
-) -> Result<TypeDef, NoMemory>
-    ensures { IfOk result (λ type_def. type_def ∷ [] ≡ type_defs_of names.now unit (TypeItem head.now (chain semicolon_name root.now))) }
+    types: &mut TypeDefs,
+) -> Result<(), NoMemory>
+    ensures { OnOk result (types.new ≡ types.old ++ type_defs_of names.now unit (TypeItem head.now (chain semicolon_name root.now))) }
 {
     let params = type_parameters(alloc, names, head)?;
     match constructors(alloc, names, root) {
-        Ok(constructors) => Ok(TypeDef {
+        Ok(constructors) => types.push(TypeDef {
             name: head_name(head),
             params,
             constructors,
@@ -218,18 +218,30 @@ fn push_constructors(
     ensures { OnOk result (constructors.new ≡ constructors.old ++ map (constructor_of names.now) terms.now) }
 {
     for term in terms {
-        constructors.push(constructor(alloc, names, term)?)?;
+        push_constructor(alloc, names, term, constructors)?;
     }
     Ok(())
 }
 
-fn constructor(alloc: Global, names: &Names, term: &TermRef<'_>) -> Result<Constructor, NoMemory>
-    ensures { IfOk result (λ constructor. constructor ≡ constructor_of names.now term.now) }
+// Puts the constructor with this head behind the others.
+fn push_constructor(
+    alloc: Global,
+    names: &Names,
+    head: &TermRef<'_>,
+    constructors: &mut Constructors,
+) -> Result<(), NoMemory>
+    ensures { OnOk result (constructors.new ≡ constructors.old ++ constructor_of names.now head.now ∷ []) }
 {
-    Ok(Constructor {
-        name: head_name(term),
-        args: declared_types(alloc, names, &arguments(alloc, term)?)?,
-    })
+    let terms = arguments(alloc, head)?;
+    let args = declared_types(alloc, names, &terms);
+    drop(terms);
+    match args {
+        Ok(args) => constructors.push(Constructor {
+            name: head_name(head),
+            args,
+        }),
+        Err(refused) => Err(refused),
+    }
 }
 
 // Puts the predicates of a part of the module behind the others, each with its modes in that part.
@@ -262,7 +274,7 @@ fn push_with_modes(
     for entry in entries {
         if part.has(entry) {
             if let Item::Predicate(head, _) = &entry.item {
-                preds.push(predicate(alloc, names, table, entry.unit, head, entry.span)?)?;
+                push_predicate(alloc, names, table, entry.unit, head, entry.span, preds)?;
             }
         }
     }
@@ -279,19 +291,21 @@ fn predicate_types(alloc: Global, names: &Names, head: &TermRef<'_>) -> Result<T
     types
 }
 
-fn predicate(
+// Puts the predicate with this head behind the others.
+fn push_predicate(
     alloc: Global,
     names: &Names,
     table: &ModeTable,
     unit: Option<Name>,
     head: &TermRef<'_>,
     span: Span,
-) -> Result<PredDecl, NoMemory>
-    ensures { IfOk result (λ predicate. predicate ≡ pred_decl_of names.now table.now unit span head.now) }
+    preds: &mut PredDecls,
+) -> Result<(), NoMemory>
+    ensures { OnOk result (preds.new ≡ preds.old ++ pred_decl_of names.now table.now unit span head.now ∷ []) }
 {
     let args = predicate_types(alloc, names, head)?;
     match table.modes(alloc, head) {
-        Ok(modes) => Ok(PredDecl {
+        Ok(modes) => preds.push(PredDecl {
             name: head_name(head),
             args,
             modes,
@@ -317,24 +331,26 @@ fn push_clauses(
     for entry in entries {
         if part.has(entry) {
             if let Item::Clause(head, body) = &entry.item {
-                clauses.push(clause(alloc, head, body, entry.span)?)?;
+                push_clause(alloc, head, body, entry.span, clauses)?;
             }
         }
     }
     Ok(())
 }
 
-fn clause(
+// Puts the clause with this head and this body behind the others.
+fn push_clause(
     alloc: Global,
     head: &TermRef<'_>,
     body: &Option<TermRef<'_>>,
     span: Span,
-) -> Result<Clause, NoMemory>
-    ensures { IfOk result (λ clause. clause ≡ clause_of span head.now body.now) }
+    clauses: &mut Clauses,
+) -> Result<(), NoMemory>
+    ensures { OnOk result (clauses.new ≡ clauses.old ++ clause_of span head.now body.now ∷ []) }
 {
     let body = body_term(alloc, body)?;
     match head.to_term(alloc) {
-        Ok(head) => Ok(Clause { head, body, span }),
+        Ok(head) => clauses.push(Clause { head, body, span }),
         Err(refused) => {
             drop(body);
             Err(refused)

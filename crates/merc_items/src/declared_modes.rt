@@ -1,5 +1,5 @@
 //! The modes that items declare, by their predicates.
-ghost use Rattle.std.specs.Prelude.{◌≡◌, ◌++◌, List, Some, map, IfOk, OnOk, if◌then◌else◌};
+ghost use Rattle.std.specs.Prelude.{◌≡◌, ◌++◌, List, [], ◌∷◌, Some, map, IfOk, OnOk, if◌then◌else◌};
 ghost use Rattle.std.specs.List.{flat_map};
 ghost use Rattle.merc_tree.specs.Shape.{arguments_of};
 ghost use Rattle.merc_operands.specs.Operands.{plain_name};
@@ -9,7 +9,7 @@ ghost use Rattle.merc_entries.specs.Entries.{has_mode, is_out, key_of, are_keys}
 ghost use Rattle.merc_entries.specs.EntryValue.{entry_value, entry_values};
 ghost use Rattle.merc_item_forms.specs.ItemValue.{item_value};
 ghost use Rattle.merc_entries.specs.KeySets.{keys_at};
-ghost use Rattle.merc_items.specs.ModuleOf.{arg_of, args_of, category_or_det, declared_category, modes_in};
+ghost use Rattle.merc_items.specs.ModuleOf.{arg_of, args_of, category_or_det, declared_category, mode_decl, modes_in};
 ghost use Rattle.merc_items.specs.DeclaredModes.{entry_modes, kept_modes, moded_predicate};
 ghost use Rattle.merc_items.specs.Parting.{kept};
 
@@ -97,16 +97,17 @@ fn copy_modes(alloc: Global, modes: &ModeDecls) -> Result<ModeDecls, NoMemory>
 {
     let mut copy = ModeDecls::new(alloc);
     for mode in modes.as_slice() {
-        copy.push(copy_mode(alloc, mode)?)?;
+        push_copy(alloc, mode, &mut copy)?;
     }
     Ok(copy)
 }
 
-fn copy_mode(alloc: Global, mode: &ModeDecl) -> Result<ModeDecl, NoMemory>
-    ensures { IfOk result (λ copy. copy ≡ mode.now) }
+// Puts a copy of a mode behind the others.
+fn push_copy(alloc: Global, mode: &ModeDecl, modes: &mut ModeDecls) -> Result<(), NoMemory>
+    ensures { OnOk result (modes.new ≡ modes.old ++ mode.now ∷ []) }
 {
     let args = Vec::from_slice(alloc, mode.args.as_slice())?;
-    Ok(ModeDecl {
+    modes.push(ModeDecl {
         args: Args::from_vec(args),
         category: mode.category,
         span: mode.span,
@@ -136,45 +137,50 @@ fn push_mode(alloc: Global, entry: &Entry<'_>, modes: &mut ModeDecls) -> Result<
 {
     match &entry.item {
         Item::Predicate(head, category) => {
-            modes.push(mode_decl(args_with_types(alloc, head)?, category, entry.span))
+            push_decl(alloc, head, true, category, entry.span, modes)
         }
-        Item::Mode(head, category) => {
-            modes.push(mode_decl(args_alone(alloc, head)?, category, entry.span))
-        }
+        Item::Mode(head, category) => push_decl(alloc, head, false, category, entry.span, modes),
         _ => Ok(()),
     }
 }
 
-fn mode_decl(args: Args, category: &Option<TermRef<'_>>, span: Span) -> ModeDecl
-    ensures { result ≡ record { args = args; category = declared_category category.now; span = span } }
+// Puts the mode with this head behind the others. The head of a predicate's declaration has types with the modes.
+fn push_decl(
+    alloc: Global,
+    head: &TermRef<'_>,
+    has_types: bool,
+    category: &Option<TermRef<'_>>,
+    span: Span,
+    modes: &mut ModeDecls,
+) -> Result<(), NoMemory>
+    ensures { OnOk result (modes.new ≡ modes.old ++ mode_decl (map (λ argument. if has_types then argument_mode argument else Some argument) (arguments_of head.now)) category.now span ∷ []) }
 {
-    ModeDecl {
-        args,
-        category: declared_category(category),
-        span,
+    let terms = arguments(alloc, head)?;
+    let args = args_of(alloc, &terms, has_types);
+    drop(terms);
+    match args {
+        Ok(args) => modes.push(ModeDecl {
+            args,
+            category: declared_category(category),
+            span,
+        }),
+        Err(refused) => Err(refused),
     }
 }
 
-// The arguments of a mode that a predicate's declaration has with it.
-fn args_with_types(alloc: Global, head: &TermRef<'_>) -> Result<Args, NoMemory>
-    ensures { IfOk result (λ args. args ≡ args_of (map argument_mode (arguments_of head.now))) }
+// The arguments of a mode.
+fn args_of(alloc: Global, terms: &[TermRef<'_>], has_types: bool) -> Result<Args, NoMemory>
+    ensures { IfOk result (λ args. args ≡ args_of (map (λ argument. if has_types then argument_mode argument else Some argument) terms.now)) }
 {
     let mut args = Args::new(alloc);
-    for argument in &arguments(alloc, head)? {
-        if let Some(mode) = argument_mode(argument) {
-            args.push(arg_of(&mode))?;
+    for argument in terms {
+        if has_types {
+            if let Some(mode) = argument_mode(argument) {
+                args.push(arg_of(&mode))?;
+            }
+        } else {
+            args.push(arg_of(argument))?;
         }
-    }
-    Ok(args)
-}
-
-// The arguments of a mode's declaration.
-fn args_alone(alloc: Global, head: &TermRef<'_>) -> Result<Args, NoMemory>
-    ensures { IfOk result (λ args. args ≡ args_of (map Some (arguments_of head.now))) }
-{
-    let mut args = Args::new(alloc);
-    for argument in &arguments(alloc, head)? {
-        args.push(arg_of(argument))?;
     }
     Ok(args)
 }

@@ -1,5 +1,6 @@
 use Rattle.std.proofs.Common.{◌++◌, length, List, ap, ◌∙◌}
 use Rattle.std.specs.List.{flat_map}
+use Rattle.std.proofs.lemmas.Result.{on_ok_weaker}
 use Rattle.merc_tree.specs.declared.declarations.PredDecl.{PredDecl}
 use Rattle.merc_items.specs.declared.parting.Part.TheVariants.{File}
 use Rattle.merc_entries.specs.EntryValue.{entry_values}
@@ -10,7 +11,9 @@ use Rattle.merc_items.proofs.Assembled.{whole_module, with_parts}
 use Rattle.merc_items.proofs.assembling.fill.Goals as goal
 
 pub returns : goal.returns
-returns c = λ terms named imported.
+returns c =
+    on_ok_weaker c.push_clauses-2.result
+    (λ clauses terms named imported.
     let entries = entry_values c.args.entries.now in
     let begun = c.args.found.now in
     ap (λ (p : List PredDecl). with_parts begun.name begun.units c.push_types-2.new.types c.push_predicates-2.new.preds (length p) c.push_clauses-2.new.clauses) c.as_slice.ensures
@@ -19,4 +22,5 @@ returns c = λ terms named imported.
     named imported
     (c.in_ok-push_types.ensures ∙ ap (λ l. l ++ flat_map (kept File (type_defs c.args.names.now)) entries) c.requires.types) c.in_ok-push_types-2.ensures
     (c.in_ok-push_predicates.ensures ∙ ap (λ l. l ++ flat_map (pred_decls c.args.names.now (own_entries entries)) (own_entries entries)) c.requires.preds) c.in_ok-push_predicates-2.ensures
-    (c.in_ok-push_clauses.ensures ∙ ap (λ l. l ++ flat_map (kept File clauses_in) entries) c.requires.clauses) c.in_ok-push_clauses-2.ensures
+    (c.in_ok-push_clauses.ensures ∙ ap (λ l. l ++ flat_map (kept File clauses_in) entries) c.requires.clauses) clauses)
+    c.push_clauses-2.ensures
