@@ -1,6 +1,6 @@
 -- Clauses with their forms are the clauses, where each has the form that a function gives.
 use Rattle.std.proofs.Common.{◌≡◌, ℕ, zero, suc, ◌+◌, ◌≤◌, Bool, true, false, cond, List, [], ◌∷◌, ◌++◌, length, map, Option, Some, None, slice_get, refl, sym, ◌∙◌, ap, drop, arith}
-use Rattle.std.proofs.lemmas.List.{append-nil, append_assoc, drop_all}
+use Rattle.std.proofs.lemmas.List.{append_assoc, drop_all}
 use Rattle.std.proofs.lemmas.List.Elements.{filter-append}
 use Rattle.merc_tree.specs.declared.declarations.Clause.{Clause}
 use Rattle.merc_tree.specs.declared.declarations.PredDecl.{PredDecl}
@@ -42,21 +42,15 @@ module _ (form : Clause → Node) where
       ∙ ap (λ l. as_one l (joined_forms arity arity (map (λ (pair : Clause × Node). pair.1) (map (λ clause. (clause, form clause)) found)))) (clauses_in found)
       ∙ ap (λ l. as_one found (joined_forms arity arity l)) (forms_in found)
 
-  pub bodies_are : (clauses : List Clause) (forms : List Node) (preds : List PredDecl) → forms ≡ map form clauses
-      → map (λ declared. body_of_pairs (length declared.args) (headed declared (paired clauses forms))) preds ≡ map (body_of form clauses) preds
-  bodies_are clauses forms [] each = refl
-  bodies_are clauses forms (first ∷ rest) each =
-      ap (λ body. body ∷ map (λ declared. body_of_pairs (length declared.args) (headed declared (paired clauses forms))) rest) (body_is clauses forms first each)
-      ∙ ap (λ l. body_of form clauses first ∷ l) (bodies_are clauses forms rest each)
-
-  -- where all predicates are gone through
-  pub bodies_all : (clauses : List Clause) (forms : List Node) (preds : List PredDecl) (index : ℕ) (found : List Node) → length preds ≤ index
-      → found ++ map (λ declared. body_of_pairs (length declared.args) (headed declared (paired clauses forms))) (drop index preds)
-      ≡ map (λ declared. body_of_pairs (length declared.args) (headed declared (paired clauses forms))) preds
-      → forms ≡ map form clauses → found ≡ map (body_of form clauses) preds
-  bodies_all clauses forms preds index found past is each =
-      let body = λ (declared : PredDecl). body_of_pairs (length declared.args) (headed declared (paired clauses forms)) in
-      sym (append-nil found) ∙ ap (λ l. found ++ map body l) (sym (drop_all index preds past)) ∙ is ∙ bodies_are clauses forms preds each
+  -- where each predicate has its clauses with their forms
+  pub bodies_by : (pairs : PredDecl → List (Clause × Node)) (clauses : List Clause) (forms : List Node) (preds : List PredDecl)
+      → ((declared : PredDecl) → pairs declared ≡ headed declared (paired clauses forms)) → forms ≡ map form clauses
+      → map (λ declared. body_of_pairs (length declared.args) (pairs declared)) preds ≡ map (body_of form clauses) preds
+  bodies_by pairs clauses forms [] grouped each = refl
+  bodies_by pairs clauses forms (first ∷ rest) grouped each =
+      ap (λ body. body ∷ map (λ declared. body_of_pairs (length declared.args) (pairs declared)) rest)
+      (ap (body_of_pairs (length first.args)) (grouped first) ∙ body_is clauses forms first each)
+      ∙ ap (λ l. body_of form clauses first ∷ l) (bodies_by pairs clauses forms rest grouped each)
 
 -- the next clause with its form
 

@@ -52,3 +52,13 @@ one_more arity part left parts before now whole next put is =
     ∙ ap (λ l. before ++ l) (sym (filter-append (λ variable. nat_le arity variable) (part_variables part) (flat_map part_variables parts)))
     ∙ ap (λ l. before ++ own_in arity (flat_map part_variables l)) (sym next)
     ∙ is
+
+-- the next variable likewise
+pub one_variable : (arity variable : ℕ) (left later before now whole : List ℕ) → left ≡ variable ∷ later
+    → now ≡ before ++ own_in arity (variable ∷ []) → before ++ own_in arity left ≡ whole → now ++ own_in arity later ≡ whole
+one_variable arity variable left later before now whole next put is =
+    ap (λ l. l ++ own_in arity later) put
+    ∙ append_assoc before (own_in arity (variable ∷ [])) (own_in arity later)
+    ∙ ap (λ l. before ++ l) (sym (filter-append (λ other. nat_le arity other) (variable ∷ []) later))
+    ∙ ap (λ l. before ++ own_in arity l) (sym next)
+    ∙ is

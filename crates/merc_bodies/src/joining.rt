@@ -1,5 +1,6 @@
 //! How the clauses of a predicate become one goal.
-ghost use Rattle.std.specs.Prelude.{◌≡◌, [], ◌∷◌, ◌++◌, map, IfOk, OnOk};
+ghost use Rattle.std.specs.Prelude.{◌≡◌, [], ◌∷◌, ◌++◌, length, map, IfOk, OnOk};
+ghost use Rattle.merc_base.specs.Groups.{kept};
 ghost use Rattle.merc_tree.specs.declared.declarations.Clause.{Clause};
 ghost use Rattle.merc_goal_tree.specs.Nodes.{Node};
 ghost use Rattle.merc_bodies.specs.Bodies.{body_of, joined_forms};
@@ -8,7 +9,7 @@ ghost use Rattle.merc_bodies.specs.Grouping.{body_of_pairs, formed_seen, form_in
 use crate::grouping::{Formed, grouped};
 use crate::numbering::Numbering;
 use crate::renaming::push_renamed;
-use merc_base::{Key, NoMemory, Span};
+use merc_base::{Groups, Key, NoMemory, Span};
 use merc_goal_tree::{Nodes, SimpleGoal};
 use merc_tree::{Clause, PredDecl};
 use std::alloc::Global;
@@ -42,15 +43,36 @@ pub fn bodies(
 {
     let groups = grouped(alloc, clauses, forms)?;
     let mut bodies = Nodes::new(alloc);
+    let put = put_bodies(alloc, preds, &groups, &mut bodies);
+    // (a call, here and below, since it costs much to prove what is dropped)
+    drop(groups);
+    match put {
+        Ok(()) => Ok(bodies),
+        Err(refused) => {
+            drop(bodies);
+            Err(refused)
+        }
+    }
+}
+
+// Puts the bodies of predicates behind other goals, each of the clauses in its group.
+fn put_bodies(
+    alloc: Global,
+    preds: &[PredDecl],
+    groups: &Groups<Formed<'_>>,
+    nodes: &mut Nodes,
+) -> Result<(), NoMemory>
+    ensures { OnOk result (nodes.new ≡ nodes.old ++ map (λ declared. body_of_pairs (length declared.args) (map formed_seen (kept groups.now declared.name (length declared.args)))) preds.now) }
+{
     for declared in preds {
         let arity = declared.args.len();
         let found = groups.at(Key {
             name: declared.name,
             arity,
         });
-        put_body(alloc, arity, found, &mut bodies)?;
+        put_body(alloc, arity, found, nodes)?;
     }
-    Ok(bodies)
+    Ok(())
 }
 
 // Puts the body of a predicate of so many arguments with these clauses behind other goals.
@@ -80,9 +102,23 @@ fn put_forms(
     ensures { OnOk result (nodes.new ≡ nodes.old ++ joined_forms arity arity (map form_in clauses.now)) }
 {
     let mut numbering = Numbering::new(alloc, arity)?;
+    let put = put_numbered(alloc, clauses, &mut numbering, nodes);
+    drop(numbering);
+    put
+}
+
+// Puts the forms of further clauses behind other goals, whose new variables have the next numbers.
+fn put_numbered(
+    alloc: Global,
+    clauses: &[Formed<'_>],
+    numbering: &mut Numbering,
+    nodes: &mut Nodes,
+) -> Result<(), NoMemory>
+    ensures { OnOk result (nodes.new ≡ nodes.old ++ joined_forms numbering.old.arity (length numbering.old.variables.items) (map form_in clauses.now)) }
+{
     for clause in clauses {
         numbering.take(alloc, &clause.form)?;
-        push_renamed(alloc, &numbering, &clause.form, nodes)?;
+        push_renamed(alloc, numbering, &clause.form, nodes)?;
     }
     Ok(())
 }
