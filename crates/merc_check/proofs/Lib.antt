@@ -1,6 +1,7 @@
 pub mod AcceptedLaws
 pub mod CheckedLaws
 pub mod FirstUntyped
+pub mod GoalForms
 pub mod Growing
 pub mod Refusals
 pub mod ProcedureTrees

@@ -1,9 +1,11 @@
 //! The check of clauses and of goals.
-ghost use Rattle.std.specs.Prelude.{◌≡◌, ℕ, List, [], ◌∷◌, length, map, IfErr, IfOk};
+ghost use Rattle.std.specs.Prelude.{◌≡◌, ℕ, List, [], ◌∷◌, None, length, map, IfErr, IfOk};
+ghost use Rattle.merc_tree.specs.Term.{Term, span_of};
 ghost use Rattle.merc_tree.specs.declared.declarations.Clause.{Clause};
 ghost use Rattle.merc_terms.specs.Items.{IsRefusal};
 ghost use Rattle.merc_goal_tree.specs.Nodes.{Node};
 ghost use Rattle.merc_graded_tree.specs.Nodes.{Node as OrderedNode};
+ghost use Rattle.merc_flat.specs.Flat.{clause_node, clauses_fault};
 ghost use Rattle.merc_type_check.specs.Checked.{Tells, head_of};
 ghost use Rattle.merc_type_matching.specs.Kept.{AreKept};
 ghost use Rattle.merc_type_check.specs.TypeNumbers.{AreDeclared};
@@ -16,6 +18,7 @@ ghost use Rattle.merc_grading.specs.Fitting.{AreToldApart};
 ghost use Rattle.merc_order_laws.specs.HeadTypes.{declared_arguments};
 ghost use Rattle.merc_order_laws.specs.ProcedureBodies.{AreBodiesOf, IsAskedBody};
 ghost use Rattle.merc_check.specs.Accepted.{AcceptsClauses, AcceptsGoal, AreGraded, IsGradedGoal, RefusesClauses, RefusesGoal, query_answers, query_names, type_mismatch};
+ghost use Rattle.merc_check.specs.Forms.{IsFlatForm};
 ghost use Rattle.merc_check.specs.Untyped.{FindsUntyped};
 
 use merc_base::{Detail, Fault, Name, Names, NoMemory, Refusal, Rule, Sequence, Span};
@@ -53,12 +56,27 @@ pub(crate) fn check_clauses(
     ensures refused { IfErr result (λ fault. IsRefusal (RefusesClauses names.now known.now) fault) }
 {
     let forms = flatten(alloc, known, names)?;
-    let declared = DeclaredTypes::of(alloc, known)?;
-    if let Some(span) = first_untyped(alloc, known, &declared, &forms)? {
+    let trees = check_forms(alloc, known, &forms);
+    // (a call, here and below, since it costs much to prove what is dropped)
+    drop(forms);
+    trees
+}
+
+// The trees of the procedures. The forms are those of the clauses, in order.
+fn check_forms(alloc: Global, known: &Known<'_>, forms: &Nodes) -> Result<OrderedNodes, Fault>
+    requires apart { AreToldApart known.now.types }
+    requires forms { (form : Clause → Node) × (forms.now ≡ map form known.now.clauses) }
+    ensures accepted { IfOk result (λ trees. (names : List (List ℕ)) → clauses_fault names known.now ≡ None → forms.now ≡ map (clause_node names known.now) known.now.clauses → AcceptsClauses names known.now) }
+    ensures graded { IfOk result (λ trees. (names : List (List ℕ)) → forms.now ≡ map (clause_node names known.now) known.now.clauses → AreGraded names known.now trees) }
+    ensures refused { IfErr result (λ fault. (names : List (List ℕ)) → clauses_fault names known.now ≡ None → forms.now ≡ map (clause_node names known.now) known.now.clauses → IsRefusal (RefusesClauses names known.now) fault) }
+{
+    if let Some(span) = untyped_clause(alloc, known, forms)? {
         return Err(Fault::Refused(type_mismatch(span)));
     }
-    let ordered = check_order(alloc, known, &forms)?;
-    check_procedures(alloc, known, &ordered)
+    let ordered = check_order(alloc, known, forms)?;
+    let trees = check_procedures(alloc, known, &ordered);
+    drop(ordered);
+    trees
 }
 
 // The trees of the procedures, each in an order. The forms are those of the clauses, in order.
@@ -125,22 +143,75 @@ pub(crate) fn check_goal(
     ensures refused { IfErr result (λ fault. IsRefusal (RefusesGoal names.now known.now goal.now) fault) }
 {
     let query = flatten_query(alloc, known, goal, names)?;
-    let form = match query.form.get(0) {
-        Some(form) => form,
+    let asked = match query.form.get(0) {
+        Some(form) => check_form(alloc, known, &form, query.answers.as_slice(), goal.span()),
         None => unreachable!(),
     };
+    drop(query);
+    asked
+}
+
+// The tree of a goal that is asked, of this form and with these answer variables, which stands here.
+fn check_form(
+    alloc: Global,
+    known: &Known<'_>,
+    form: &NodeRef<'_>,
+    answers: &[Occurrence],
+    span: Span,
+) -> Result<AskedGoal, Fault>
+    requires { AreToldApart known.now.types }
+    ensures accepted { IfOk result (λ asked. (names : List (List ℕ)) (goal : Term) → IsFlatForm names known.now goal form.now answers.now → AcceptsGoal names known.now goal) }
+    ensures graded { IfOk result (λ asked. (body : Body) → IsAskedBody known.now (map (numbered 0 0 (own_variables 0 form.now)) (map (λ variable. variable.at) answers.now)) (asked_body form.now) body → asked.trees ≡ finished known.now.types known.now.preds nothing body ∷ []) }
+    ensures answers { IfOk result (λ asked. asked.answers ≡ map (numbered 0 0 (own_variables 0 form.now)) (map (λ variable. variable.at) answers.now)) }
+    ensures names { IfOk result (λ asked. asked.names ≡ map (λ variable. variable.name) answers.now) }
+    ensures refused { IfErr result (λ fault. (names : List (List ℕ)) (goal : Term) → IsFlatForm names known.now goal form.now answers.now → span ≡ span_of goal → IsRefusal (RefusesGoal names known.now goal) fault) }
+{
+    if !is_typed_goal(alloc, known, form)? {
+        return Err(Fault::Refused(type_mismatch(span)));
+    }
+    let ordered = check_query_order(alloc, known, form, answers)?;
+    with_categories(alloc, known, ordered, answers)
+}
+
+// Whether a goal that is asked, of this form, is typed.
+fn is_typed_goal(alloc: Global, known: &Known<'_>, form: &NodeRef<'_>) -> Result<bool, NoMemory>
+    ensures { IfOk result (λ typed. Tells typed known.now [] form.now) }
+{
     let declared = DeclaredTypes::of(alloc, known)?;
     let mut matchings = Matchings::new(alloc);
-    if !is_typed(alloc, known, &declared, &mut matchings, None, &form)? {
-        return Err(Fault::Refused(type_mismatch(goal.span())));
-    }
-    let ordered = check_query_order(alloc, known, &form, query.answers.as_slice())?;
+    let typed = is_typed(alloc, known, &declared, &mut matchings, None, form);
+    drop(matchings);
+    drop(declared);
+    typed
+}
+
+// The goal with its switches and categories, and with the names of its answer variables. There is one tree.
+fn with_categories(
+    alloc: Global,
+    known: &Known<'_>,
+    ordered: OrderedGoal,
+    variables: &[Occurrence],
+) -> Result<AskedGoal, Fault>
+    requires apart { AreToldApart known.now.types }
+    requires one { length ordered.trees ≡ 1 }
+    ensures graded { IfOk result (λ asked. (answers : List ℕ) (goal : Node) (tree : OrderedNode) (body : Body) → ordered.trees ≡ tree ∷ [] → IsQuery (modes_of known.now.preds) answers goal tree → IsAskedBody known.now answers goal body → asked.trees ≡ finished known.now.types known.now.preds nothing body ∷ []) }
+    ensures told { (answers : List ℕ) (goal : Node) (tree : OrderedNode) (body : Body) → ordered.trees ≡ tree ∷ [] → IsQuery (modes_of known.now.preds) answers goal tree → IsAskedBody known.now answers goal body → IsTold (query_category_fault known.now.types known.now.preds body) result }
+    ensures answers { IfOk result (λ asked. asked.answers ≡ ordered.answers) }
+    ensures names { IfOk result (λ asked. asked.names ≡ map (λ variable. variable.name) variables.now) }
+{
     let trees = check_query_tree(alloc, known, &ordered.trees)?;
-    Ok(AskedGoal {
-        trees,
-        answers: ordered.answers,
-        names: names_of(alloc, query.answers.as_slice())?,
-    })
+    match names_of(alloc, variables) {
+        Ok(names) => Ok(AskedGoal {
+            trees,
+            answers: ordered.answers,
+            names,
+        }),
+        Err(refused) => {
+            drop(trees);
+            drop(ordered);
+            Err(refused.into())
+        }
+    }
 }
 
 // The tree of a goal that is asked, of this form and with these answer variables, in an order.
@@ -227,23 +298,41 @@ fn type_mismatch(span: Span) -> Refusal
 }
 
 // The span of the first clause that is not typed, None where all are. The forms are those of the clauses, in order.
+fn untyped_clause(
+    alloc: Global,
+    known: &Known<'_>,
+    forms: &Nodes,
+) -> Result<Option<Span>, NoMemory>
+    requires { length forms.now ≡ length known.now.clauses }
+    ensures { IfOk result (λ found. (form : Clause → Node) → forms.now ≡ map form known.now.clauses → FindsUntyped known.now form found) }
+{
+    let declared = DeclaredTypes::of(alloc, known)?;
+    let mut matchings = Matchings::new(alloc);
+    let found = first_untyped(alloc, known, &declared, &mut matchings, forms);
+    drop(matchings);
+    drop(declared);
+    found
+}
+
+// The same by the numbers of the declared types.
 fn first_untyped(
     alloc: Global,
     known: &Known<'_>,
     declared: &DeclaredTypes,
+    matchings: &mut Matchings,
     forms: &Nodes,
 ) -> Result<Option<Span>, NoMemory>
     requires declared { AreDeclared known.now declared.now }
+    requires kept { AreKept declared.now.table matchings.old }
     requires count { length forms.now ≡ length known.now.clauses }
     ensures { IfOk result (λ found. (form : Clause → Node) → forms.now ≡ map form known.now.clauses → FindsUntyped known.now form found) }
 {
-    let mut matchings = Matchings::new(alloc);
     for (index, clause) in known.module().clauses.as_slice().iter().enumerate() {
         let form = match forms.get(index) {
             Some(form) => form,
             None => unreachable!(),
         };
-        if !is_typed_clause(alloc, known, declared, &mut matchings, clause, &form)? {
+        if !is_typed_clause(alloc, known, declared, matchings, clause, &form)? {
             return Ok(Some(clause.span));
         }
     }

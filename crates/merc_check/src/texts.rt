@@ -4,7 +4,8 @@ ghost use Rattle.std.specs.List.{IsDistinct};
 ghost use Rattle.std.specs.Str.{bytes_eq};
 ghost use Rattle.merc_base.specs.Names.{HoldsFixed};
 ghost use Rattle.merc_terms.specs.Items.{IsRefusal};
-ghost use Rattle.merc_check.specs.Accepted.{AreGraded, IsGradedGoal, query_answers, query_names};
+ghost use Rattle.merc_grading.specs.Fitting.{AreToldApart};
+ghost use Rattle.merc_check.specs.Accepted.{AcceptsClauses, AreGraded, IsGradedGoal, RefusesClauses, query_answers, query_names};
 ghost use Rattle.merc_check.specs.Checked.{IsAccepted, IsGoal, Refuses, RefusesQuery};
 
 use crate::checking::{check_clauses, check_goal};
@@ -89,16 +90,39 @@ pub fn check(alloc: Global, text: &Text, names: &mut Names) -> Result<Checked, F
     ensures grows { (more : List (List ℕ)) × (names.new ≡ names.old ++ more) }
 {
     let items = read_text(alloc, text.bytes(), names)?;
-    let module = module_of_items(alloc, &items, names)?;
-    let trees = {
-        let known = Known::of(alloc, &module)?;
-        check_clauses(alloc, &known, names)?
+    let module = match module_of_items(alloc, &items, names) {
+        Ok(module) => module,
+        Err(fault) => {
+            // (a call, here and below, since it costs much to prove what is dropped)
+            drop(items);
+            return Err(fault);
+        }
     };
-    Ok(Checked {
-        items,
-        module,
-        trees,
-    })
+    match trees_of(alloc, &module, names) {
+        Ok(trees) => Ok(Checked {
+            items,
+            module,
+            trees,
+        }),
+        Err(fault) => {
+            drop(items);
+            drop(module);
+            Err(fault)
+        }
+    }
+}
+
+// The trees of a module's procedures.
+fn trees_of(alloc: Global, module: &Module, names: &Names) -> Result<Nodes, Fault>
+    requires { AreToldApart «module».now.types }
+    ensures accepted { IfOk result (λ trees. AcceptsClauses names.now «module».now) }
+    ensures graded { IfOk result (λ trees. AreGraded names.now «module».now trees) }
+    ensures refused { IfErr result (λ fault. IsRefusal (RefusesClauses names.now «module».now) fault) }
+{
+    let known = Known::of(alloc, module)?;
+    let trees = check_clauses(alloc, &known, names);
+    drop(known);
+    trees
 }
 
 /// A goal that is accepted over a module.
