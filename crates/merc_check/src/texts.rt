@@ -5,17 +5,17 @@ ghost use Rattle.std.specs.Str.{bytes_eq};
 ghost use Rattle.merc_base.specs.Names.{HoldsFixed};
 ghost use Rattle.merc_terms.specs.Items.{IsRefusal};
 ghost use Rattle.merc_grading.specs.Fitting.{AreToldApart};
-ghost use Rattle.merc_check.specs.Accepted.{AcceptsClauses, AreGraded, IsGradedGoal, RefusesClauses, query_answers, query_names};
+ghost use Rattle.merc_check.specs.Accepted.{AcceptsClauses, AcceptsGoal, AreGraded, IsGradedGoal, RefusesClauses, RefusesGoal, query_answers, query_names};
 ghost use Rattle.merc_check.specs.Checked.{IsAccepted, IsGoal, Refuses, RefusesQuery};
 
-use crate::checking::{check_clauses, check_goal};
+use crate::checking::{AskedGoal, check_clauses, check_goal};
 use merc_base::{Fault, Name, Names, Sequence, Text};
 use merc_goal_tree::Vars;
 use merc_graded_tree::Nodes;
 use merc_items::module_of_items;
 use merc_known::Known;
 use merc_terms::{read_goal_text, read_text};
-use merc_tree::{Module, Term, Terms};
+use merc_tree::{Module, Term, TermRef, Terms};
 use std::alloc::Global;
 use std::marker::Model;
 
@@ -159,12 +159,36 @@ pub fn check_query(
     ensures grows { (more : List (List ℕ)) × (names.new ≡ names.old ++ more) }
 {
     let goal = read_goal_text(alloc, text.bytes(), names)?;
-    let known = Known::of(alloc, &checked.module)?;
-    let asked = check_goal(alloc, &known, &goal.as_ref(), names)?;
-    Ok(Query {
-        goal,
-        trees: asked.trees,
-        answers: asked.answers,
-        names: asked.names,
-    })
+    match asked_over(alloc, &checked.module, &goal.as_ref(), names) {
+        Ok(asked) => Ok(Query {
+            goal,
+            trees: asked.trees,
+            answers: asked.answers,
+            names: asked.names,
+        }),
+        Err(fault) => {
+            drop(goal);
+            Err(fault)
+        }
+    }
+}
+
+// A goal that is asked over a module, as it runs.
+fn asked_over(
+    alloc: Global,
+    module: &Module,
+    goal: &TermRef<'_>,
+    names: &Names,
+) -> Result<AskedGoal, Fault>
+    requires { AreToldApart «module».now.types }
+    ensures accepted { IfOk result (λ asked. AcceptsGoal names.now «module».now goal.now) }
+    ensures graded { IfOk result (λ asked. IsGradedGoal names.now «module».now goal.now asked.trees) }
+    ensures answers { IfOk result (λ asked. asked.answers ≡ query_answers names.now «module».now goal.now) }
+    ensures names { IfOk result (λ asked. asked.names ≡ query_names names.now goal.now) }
+    ensures refused { IfErr result (λ fault. IsRefusal (RefusesGoal names.now «module».now goal.now) fault) }
+{
+    let known = Known::of(alloc, module)?;
+    let asked = check_goal(alloc, &known, goal, names);
+    drop(known);
+    asked
 }
