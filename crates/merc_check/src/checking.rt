@@ -298,11 +298,7 @@ fn type_mismatch(span: Span) -> Refusal
 }
 
 // The span of the first clause that is not typed, None where all are. The forms are those of the clauses, in order.
-fn untyped_clause(
-    alloc: Global,
-    known: &Known<'_>,
-    forms: &Nodes,
-) -> Result<Option<Span>, NoMemory>
+fn untyped_clause(alloc: Global, known: &Known<'_>, forms: &Nodes) -> Result<Option<Span>, NoMemory>
     requires { length forms.now ≡ length known.now.clauses }
     ensures { IfOk result (λ found. (form : Clause → Node) → forms.now ≡ map form known.now.clauses → FindsUntyped known.now form found) }
 {
