@@ -227,11 +227,16 @@ fn check_query_order(
 {
     let asked = body_with_answers(alloc, form, answers)?;
     let preds = known.module().preds.as_slice();
-    let trees = order_query(alloc, preds, asked.answers.as_slice(), &asked.goal.as_ref())?;
-    Ok(OrderedGoal {
-        trees,
-        answers: asked.answers,
-    })
+    match order_query(alloc, preds, asked.answers.as_slice(), &asked.goal.as_ref()) {
+        Ok(trees) => Ok(OrderedGoal {
+            trees,
+            answers: asked.answers,
+        }),
+        Err(fault) => {
+            drop(asked);
+            Err(fault)
+        }
+    }
 }
 
 // The tree of a goal that is asked, with its switches and categories. There is one tree.
