@@ -1,5 +1,5 @@
 -- The first fault of a small module, of which two items go together with no other.
-use Rattle.std.proofs.Common.{◌≡◌, ℕ, ◌+◌, List, [], ◌∷◌, None, Some, refl, arith}
+use Rattle.std.proofs.Common.{ℕ, ◌+◌, List, [], ◌∷◌, None, Some, refl, arith}
 use Rattle.merc_base.specs.Names.{colon_minus_name, module_name, colon_colon_name, pred_name, is_name, in_name, int_name, det_name}
 use Rattle.merc_base.specs.FirstFault.{AtPlaces, HasNone, IsFirst, IsFirstOf}
 use Rattle.merc_base.specs.declared.refusal.Rule.TheVariants.{DeclaredTwice, UnknownType, Undeclared}

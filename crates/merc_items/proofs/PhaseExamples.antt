@@ -1,8 +1,7 @@
 -- Small modules with faults of two phases: the earlier phase decides, although the fault of the later one comes first in the text.
-use Rattle.std.proofs.Common.{◌≡◌, ℕ, ◌+◌, ◌*◌, List, [], ◌∷◌, None, Some, refl, arith}
+use Rattle.std.proofs.Common.{ℕ, ◌+◌, ◌*◌, List, [], ◌∷◌, None, Some, refl, arith}
 use Rattle.merc_base.specs.Names.{colon_minus_name, module_name, colon_colon_name, pred_name, is_name, in_name, int_name, true_name, det_name}
-use Rattle.merc_base.specs.FirstFault.{AtPlaces, HasNone, IsFirst, IsFirstOf}
-use Rattle.merc_base.specs.declared.place.Place.{Place}
+use Rattle.merc_base.specs.FirstFault.{IsFirstOf}
 use Rattle.merc_base.specs.declared.refusal.Rule.{Rule}
 use Rattle.merc_base.specs.declared.refusal.Rule.TheVariants.{WrongForm, DeclaredTwice, UnknownType, MissingMode}
 use Rattle.merc_base.specs.declared.refusal.Detail.TheVariants.{Plain}
@@ -11,7 +10,7 @@ use Rattle.merc_base.specs.declared.refusal.Refusal.{Refusal}
 use Rattle.merc_base.proofs.FirstFaultLaws.{none_at_places, first_at_places}
 use Rattle.merc_base.proofs.FirstPlaceLaws.{first_place-least}
 use Rattle.merc_tree.specs.Term.{Term, Application, terms_of}
-use Rattle.merc_item_forms.specs.FormFaults.{Rises, HasFormFault}
+use Rattle.merc_item_forms.specs.FormFaults.{Rises}
 use Rattle.merc_item_forms.proofs.FormLaws.{no_fault, first_fault}
 use Rattle.merc_entries.specs.Entries.{Entry, entries}
 use Rattle.merc_entries.specs.EntryValue.{place_at, AreInOrder}
@@ -20,7 +19,6 @@ use Rattle.merc_entries.proofs.EntryOrder.{entries_in_order}
 use Rattle.merc_entries.proofs.FirstDoubles.{first_double-least}
 use Rattle.merc_declared.specs.UnknownTypes.{HasUnknownType}
 use Rattle.merc_declared.specs.KnownTypes.{has_unknown_here}
-use Rattle.merc_declared.specs.ModeFaults.{HasModeFault}
 use Rattle.merc_declared.proofs.ModeFaultLaws.{first_mode_fault, lacks_least, many_least}
 use Rattle.merc_items.specs.Phases.{HasFault}
 use Rattle.merc_items.proofs.FirstFaults.{forms_refused, doubles_refused, types_refused, modes_refused}

@@ -5,12 +5,10 @@ use Rattle.std.specs.Str.{bytes_eq}
 use Rattle.merc_base.specs.FirstFault.{IsFirstOf}
 use Rattle.merc_base.specs.declared.refusal.Refusal.{Refusal}
 use Rattle.merc_tree.specs.Term.{Term}
-use Rattle.merc_terms.specs.Texts.{ReadsItems, RefusesText}
 use Rattle.merc_entries.specs.Entries.{entries}
 use Rattle.merc_item_forms.specs.FormFaults.{Rises}
 use Rattle.merc_items.specs.Phases.{HasFault}
 use Rattle.merc_items.specs.ReadModule.{RefusesItemsOf, first, RefusesModule, no_items, items as items_refused}
-use Rattle.merc_entries.specs.Units.{AreUnits}
 use Rattle.merc_items.proofs.OneFault.{one_first}
 use Rattle.merc_items.proofs.ModuleLaws.{AreUnits-unique}
 use Rattle.merc_items.proofs.ReadingLaws.{reads-rises}

@@ -1,4 +1,3 @@
-use Rattle.std.proofs.Common.{◌≡◌}
 use Rattle.std.proofs.lemmas.Result.{IfOk-weaker, IfErr-weaker, err_from_is_err_and}
 use Rattle.merc_items.proofs.ReadingLaws.{reads-rises, text-refused, items_of-refused, grows_twice}
 use Rattle.merc_items.proofs.reading.read_module.Goals as goal
