@@ -39,17 +39,22 @@ pub fn members<'a>(
 {
     let mut members = Vec::new(alloc);
     let mut stack = Vec::new(alloc);
-    stack.push(root.copy())?;
-    while let Some(term) = stack.pop() {
+    let mut term = root.copy();
+    loop {
         match link(&term, operator) {
             Some((first, second)) => {
                 stack.push(second)?;
-                stack.push(first)?;
+                term = first;
             }
-            None => members.push(term)?,
+            None => {
+                members.push(term)?;
+                match stack.pop() {
+                    Some(next) => term = next,
+                    None => return Ok(members),
+                }
+            }
         }
     }
-    Ok(members)
 }
 
 // Both sides of an operator, where a term is such an application.

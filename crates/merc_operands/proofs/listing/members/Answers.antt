@@ -1,19 +1,26 @@
-use Rattle.merc_operands.proofs.Chains.{link_step, link_size, member_step, member_size}
+use Rattle.std.proofs.Common.{◌<◌, List, ◌∷◌, ◌++◌, [], refl, ap, sym, subst, ◌∙◌}
+use Rattle.merc_tree.specs.Term.{Term}
+use Rattle.merc_operands.specs.Members.{stacked}
+use Rattle.merc_operands.proofs.Chains.{stack_size, link_step, link_size, member_step, member_size}
 use Rattle.merc_operands.proofs.listing.members.Goals as goal
 
-pub loop-term-smaller-in-Continue-branch-3 : goal.loop-term-smaller-in-Continue-branch-3
-loop-term-smaller-in-Continue-branch-3 c =
-    link_size c.args.operator c.loop-term.members.items _ _ c.in-Some.term c.in-Some.ensures.items _ _ c.in-Some-link.first c.in-Some-link.second
-    c.in_ok-push-in-Some-link.ensures.items c.in_ok-push-in-Some-link-2.ensures.items c.in-Some-link.ensures
+pub loop-first-smaller-in-Some : goal.loop-first-smaller-in-Some
+loop-first-smaller-in-Some c =
+    link_size c.args.operator c.loop-first.members.items (c.loop-first.stack.items ++ c.loop-first.term ∷ []) c.loop-first.stack.items c.loop-first.term refl _ _
+    c.in-Some.first c.in-Some.second c.in_ok-push-in-Some.ensures.items refl c.in-Some.ensures
 
-pub loop-term-preserved-in-Continue-branch-3 : goal.loop-term-preserved-in-Continue-branch-3
-loop-term-preserved-in-Continue-branch-3 c =
-    link_step c.args.operator c.loop-term.members.items _ _ c.in-Some.term c.in-Some.ensures.items _ _ c.in-Some-link.first c.in-Some-link.second
-    c.in_ok-push-in-Some-link.ensures.items c.in_ok-push-in-Some-link-2.ensures.items c.in-Some-link.ensures _ c.loop-term.invariant
+pub loop-first-preserved-in-Some : goal.loop-first-preserved-in-Some
+loop-first-preserved-in-Some c =
+    link_step c.args.operator c.loop-first.members.items (c.loop-first.stack.items ++ c.loop-first.term ∷ []) c.loop-first.stack.items c.loop-first.term refl _ _
+    c.in-Some.first c.in-Some.second c.in_ok-push-in-Some.ensures.items refl c.in-Some.ensures _ c.loop-first.invariant
 
-pub loop-term-smaller : goal.loop-term-smaller
-loop-term-smaller c = member_size _ _ c.in-Some.term c.in-Some.ensures.items
+pub loop-first-smaller : goal.loop-first-smaller
+loop-first-smaller c =
+    subst (λ (l : List Term). stack_size l < stack_size (c.loop-first.stack.items ++ c.loop-first.term ∷ [])) c.in-Some-pop.ensures.items
+    (member_size (c.loop-first.stack.items ++ c.loop-first.term ∷ []) c.loop-first.stack.items c.loop-first.term refl)
 
-pub loop-term-preserved : goal.loop-term-preserved
-loop-term-preserved c =
-    member_step c.args.operator c.loop-term.members.items _ _ c.in-Some.term c.in-Some.ensures.items _ c.in_ok-push-in-None.ensures.items c.in-None.ensures _ c.loop-term.invariant
+pub loop-first-preserved : goal.loop-first-preserved
+loop-first-preserved c =
+    ap (λ (l : List Term). c.push-in-None.new.self.items ++ stacked c.args.operator l) (sym c.in-Some-pop.ensures.items)
+    ∙ member_step c.args.operator c.loop-first.members.items (c.loop-first.stack.items ++ c.loop-first.term ∷ []) c.loop-first.stack.items c.loop-first.term refl _
+    c.in_ok-push-in-None.ensures.items c.in-None.ensures _ c.loop-first.invariant
