@@ -1,5 +1,5 @@
 -- A chain is taken apart link by link, with a stack.
-use Rattle.std.proofs.Common.{◌≡◌, ℕ, ◌+◌, ◌≤◌, ◌<◌, ◌==◌, Bool, true, false, List, [], ◌∷◌, ◌++◌, Option, Some, None, if◌then◌else◌, refl, ap, sym, subst, ◌∙◌, arith}
+use Rattle.std.proofs.Common.{◌≡◌, ℕ, ◌+◌, ◌≤◌, ◌<◌, ◌==◌, Bool, true, false, List, [], ◌∷◌, ◌++◌, length, Option, Some, None, if◌then◌else◌, refl, ap, sym, subst, ◌∙◌, arith}
 use Rattle.std.proofs.lemmas.List.{append_assoc, append-nil}
 use Rattle.merc_base.specs.Names.{if_name, then_name}
 use Rattle.merc_base.specs.declared.place.Span.{Span}
@@ -161,6 +161,10 @@ module _ (kind : ChainKind) (members old popped : List NumberedTerm) (numbered :
       ∙ ap (stacked kind) (sym popping)
       )
       ∙ before
+
+pub none_left : (stack : List NumberedTerm) → length stack ≡ 0 → stack ≡ []
+none_left [] is = refl
+none_left (first ∷ rest) is = absurd (omega (arith, is))
 
 pub member_size : (old popped : List NumberedTerm) (numbered : NumberedTerm) → old ≡ popped ++ numbered ∷ [] → parts_all popped < parts_all old
 member_size old popped numbered popping = omega (arith, ap parts_all popping, parts_all-append popped (numbered ∷ []), parts_some numbered.term)

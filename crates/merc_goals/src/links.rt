@@ -100,17 +100,22 @@ pub(crate) fn chain<'a>(
 {
     let mut members = Vec::new(alloc);
     let mut stack = Vec::new(alloc);
-    stack.push(root.copy())?;
-    while let Some(numbered) = stack.pop() {
+    let mut numbered = root.copy();
+    loop {
         match link_of(kind, &numbered) {
             Some(link) => {
                 stack.push(link.right)?;
-                stack.push(link.left)?;
+                numbered = link.left;
             }
-            None => members.push(numbered)?,
+            None => {
+                members.push(numbered)?;
+                match stack.pop() {
+                    Some(next) => numbered = next,
+                    None => return Ok(members),
+                }
+            }
         }
     }
-    Ok(members)
 }
 
 // The variables of a proper list of variables, None for any other term.
