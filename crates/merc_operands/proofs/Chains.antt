@@ -1,5 +1,5 @@
 -- A chain is taken apart link by link.
-use Rattle.std.proofs.Common.{◌≡◌, ℕ, ◌+◌, ◌<◌, ◌==◌, ◌&&◌, Bool, true, false, List, [], ◌∷◌, ◌++◌, Option, Some, None, if◌then◌else◌, refl, ap, sym, subst, ◌∙◌, arith}
+use Rattle.std.proofs.Common.{◌≡◌, ℕ, ◌+◌, ◌<◌, ◌==◌, ◌&&◌, Bool, true, false, List, [], ◌∷◌, ◌++◌, length, Option, Some, None, if◌then◌else◌, refl, ap, sym, subst, ◌∙◌, arith}
 use Rattle.std.proofs.lemmas.List.{append_assoc, append-nil}
 use Rattle.merc_tree.specs.Term.{Term, Terms, Variable, Integer, Text, Application, none, more}
 use Rattle.merc_operands.specs.Members.{chain, link_of, stacked}
@@ -123,6 +123,10 @@ size_some (Variable name span) = omega arith
 size_some (Integer value span) = omega arith
 size_some (Text text span) = omega arith
 size_some (Application name qualifier arguments span) = omega arith
+
+pub none_left : (stack : List Term) → length stack ≡ 0 → stack ≡ []
+none_left [] is = refl
+none_left (first ∷ rest) is = absurd (omega (arith, is))
 
 pub member_size : (old popped : List Term) (term : Term) → old ≡ popped ++ term ∷ [] → stack_size popped < stack_size old
 member_size old popped term popping = omega (arith, ap stack_size popping, stack_size-push popped term, size_some term)
