@@ -15,9 +15,9 @@ loop-instruction-preserved c =
       within = within-step c.args.code.now c.loop-instruction.instruction-index c.instruction-item.result c.loop-instruction.variables c.loop-instruction.marks c.max-variables.result c.max-marks.result
           c.loop-instruction-test.true c.instruction-item.is (omega (arith, more)) (omega (arith, marks)) c.loop-instruction.invariant.within (record {
             written_variables_are_there = λ k d h. let e = c.in_ok-above_written.ensures k d h in omega (arith, e, above_written);
-            set_marks_are_there = λ k d h. let e = c.in_ok-above_marks.ensures.set k d h in omega (arith, e, above_marks);
+            set_marks_are_there = λ k d h. let e = c.in_ok-above_marks.ensures.0 k d h in omega (arith, e, above_marks);
             read_variables_are_there = λ k d h. let e = c.in_ok-above_read.ensures k d h in omega (arith, e, above_read);
-            read_marks_are_there = λ k d h. let e = c.in_ok-above_marks.ensures.read k d h in omega (arith, e, above_marks);
+            read_marks_are_there = λ k d h. let e = c.in_ok-above_marks.ensures.1 k d h in omega (arith, e, above_marks);
           });
     }
 
