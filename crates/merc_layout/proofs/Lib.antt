@@ -3,4 +3,5 @@ pub mod Lists
 pub mod Places
 pub mod Reading
 pub mod Results
+pub mod Reversed
 pub mod Rooms
