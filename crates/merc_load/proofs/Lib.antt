@@ -7,6 +7,7 @@ pub mod LeavingOut
 pub mod Ops
 pub mod Passed
 pub mod Returning
+pub mod Reversed
 pub mod StandingOps
 pub mod Steps
 pub mod TakenOut
