@@ -111,6 +111,10 @@ module _ (root : Script) (items : List Item) (count : ℕ) (parts : Parts) (whol
         });
   }
 
+-- the first worker, which runs the root's branch
+pub workers-first : (none workers : List Worker) (hand : List CoreBranch) (one : Worker) → none ≡ [] → workers ≡ none ++ (one ∷ []) → one ≡ worker_with hand → hand ≡ root_branch ∷ [] → workers ≡ first_workers 1
+workers-first none workers hand one nothing put runs is = put ∙ ap (λ (ws : List Worker). ws ++ (one ∷ [])) nothing ∙ ap (λ (w : Worker). w ∷ []) (runs ∙ ap worker_with is)
+
 -- one worker more that has nothing
 pub workers-more : (n : ℕ) (workers more : List Worker) (hand : List CoreBranch) (one : Worker) → 1 ≤ n → workers ≡ first_workers n → more ≡ workers ++ (one ∷ []) → one ≡ worker_with hand → hand ≡ []
     → more ≡ first_workers (n + 1)

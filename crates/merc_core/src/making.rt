@@ -101,9 +101,9 @@ fn make_workers(alloc: Global, count: u32) -> Result<Vec<Worker>, NoMemory>
     requires { 1 ≤ count }
     ensures { IfOk result (λ workers. workers.items ≡ first_workers count) }
 {
-    let mut workers = Vec::new(alloc);
     let mut hand = LinkedList::new(alloc);
     hand.push_back(root_branch(alloc))?;
+    let mut workers = Vec::new(alloc);
     workers.push(worker_of(alloc, hand))?;
     for _ in 1..count {
         workers.push(worker_of(alloc, LinkedList::new(alloc)))?;

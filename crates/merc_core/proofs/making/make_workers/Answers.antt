@@ -1,5 +1,12 @@
-use Rattle.merc_core.proofs.Starts.{workers-more}
+use Rattle.std.proofs.Common.{[], ◌∷◌, ◌++◌, ◌∙◌, List, ap}
+use Rattle.merc_queues.specs.declared.branch.Branch.{Branch}
+use Rattle.merc_core.proofs.Starts.{workers-first, workers-more}
 use Rattle.merc_core.proofs.making.make_workers.Goals as goal
+
+pub loop-init : goal.loop-init
+loop-init c =
+    workers-first c.new-workers.result.items c.push.new.self.items c.push_back.new.self c.worker_of.result c.new-workers.ensures.items c.in_ok-push.ensures.items c.worker_of.ensures
+    (c.in_ok-push_back.ensures.items ∙ ap (λ (hand : List Branch). hand ++ c.root_branch.result ∷ []) c.new-hand.ensures ∙ ap (λ (branch : Branch). branch ∷ []) c.root_branch.ensures)
 
 pub loop-preserved : goal.loop-preserved
 loop-preserved c =
