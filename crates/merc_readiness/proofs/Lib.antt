@@ -15,3 +15,4 @@ pub mod Asks
 pub mod Turns
 pub mod Halves
 pub mod Listed
+pub mod Lengths

@@ -3,13 +3,13 @@ use Rattle.std.specs.List.{slice_index_or}
 use Rattle.std.proofs.lemmas.List.{drop_all, append-nil}
 use Rattle.std.proofs.lemmas.Result.{IfOk-weaker}
 use borrow.Rule.Slice.PartMut.{put_mid}
-use Rattle.merc_goal_tree.specs.Nodes.{Node, Conjunction, Parallel, nodes_of, span_of}
-use Rattle.merc_goal_tree.specs.Parts.{parts_of}
+use Rattle.merc_goal_tree.specs.Nodes.{Node, Conjunction, Parallel, Disjunction, nodes_of, span_of}
+use Rattle.merc_goal_tree.specs.Parts.{parts_of, all_parts}
 use Rattle.merc_order.specs.Bound.{among, are_bound}
 use Rattle.merc_order.specs.Procedures.{modes_of}
 use Rattle.merc_goal_facts.specs.Bounds.{all_behind}
 use Rattle.merc_goal_facts.specs.declared.facts.Facts.{Facts}
-use Rattle.merc_readiness.specs.Asking.{Asked, AskedParts}
+use Rattle.merc_readiness.specs.Asking.{joined_by, Asked, AskedParts}
 use Rattle.merc_readiness.specs.Chains.{AskedArm, AskedLinks, IsOpen, IsReached, Told}
 use Rattle.merc_readiness.specs.Sweeps.{Extends, ArePlaced, AreGone, AreStuck, DuringArms, DuringBeside, listed_if_left}
 use Rattle.merc_readiness.specs.declared.waiting.Waiting.{Waiting}
@@ -21,11 +21,20 @@ use Rattle.merc_readiness.proofs.ChainLaws.{begin_chain, conditional_length}
 use Rattle.merc_readiness.proofs.Conjunctions.{all_went, none_went, is_empty}
 use Rattle.merc_readiness.proofs.Each.{begin_beside, not_by_arms, end_arms, end_beside}
 use Rattle.merc_readiness.proofs.Halves.{condition_stops, owed_stops, then_asked, arm_stops_decision, decision_owes, decision_asked, negation_stops, negation_asked, quantified_asked}
+use Rattle.merc_readiness.proofs.Lengths.{front_length, part_length, tail_length, whole_length}
 use Rattle.merc_readiness.proofs.Listed.{not_empty, none_counted, placed_here, parts_here, placed_if_left, placed-reverse, within_if_left, gone_reversed}
 use Rattle.merc_readiness.proofs.Marking.{parts_length}
 use Rattle.merc_readiness.proofs.Turns.{arm_stops, arm_goes, beside_stops, beside_goes, link_stops, link_goes, last_stops, last_goes, member_stays, member_goes, member_asked}
 use Rattle.merc_readiness.proofs.+asking.Goals.{sweeping::sweep_once-then-not-branch+in_ok-push, sweeping::sweep_once-else-not-branch}
 use Rattle.merc_readiness.proofs.+asking.Goals as goal
+
+pub asking::advance-advance_within-requires : goal.asking::advance-advance_within-requires
+asking::advance-advance_within-requires t c =
+    let h = parts_length c.args.goal.now in
+    let size = length (all_parts (joined_by c.args.goal.now)) in
+    let own : c.part_count-own.result - 1 ≡ size = omega (arith, h, c.part_count-own.ensures) in
+    (omega (arith, h), (front_length c.args.facts.now (c.part_count-own.result - 1) size 1 (omega (arith, h, c.requires.known)) own,
+    front_length c.args.marks.now (c.part_count-own.result - 1) size 1 (omega (arith, h, c.requires.marked)) own))
 
 pub asking::advance-overflow_sub-own : goal.asking::advance-overflow_sub-own
 asking::advance-overflow_sub-own t c = let h = parts_length c.args.goal.now in omega arith
@@ -54,6 +63,9 @@ asking::advance-returns-clause-asked t c = λ total known m.
           (c.part_count-own.result - 1) c.in_ok-ready.ready own_is m is marked,
     )
 
+pub asking::advance_within-advance_parts-asked-requires : goal.asking::advance_within-advance_parts-asked-requires
+asking::advance_within-advance_parts-asked-requires t c = (omega arith, (c.requires.known, c.requires.marked))
+
 pub asking::advance_within-returns-then-not-are_bound-clause-asked : goal.asking::advance_within-returns-then-not-are_bound-clause-asked
 asking::advance_within-returns-then-not-are_bound-clause-asked t c = λ total known own_known m.
     let needs : are_bound (among c.args.bound.now) c.args.own.now.needs ≡ false =
@@ -64,6 +76,16 @@ pub asking::advance_within-returns-clause-asked : goal.asking::advance_within-re
 asking::advance_within-returns-clause-asked t c =
     subst (λ b. IfOk c.advance_parts-asked.result (λ ready. AskedParts c.args.predicates.now c.args.goal.now c.args.facts.now c.args.own.now c.args.marks.now c.advance_parts-asked.new.marks (among b) ready))
     c.enter.ensures c.advance_parts-asked.ensures.asked
+
+pub asking::advance_arms-advance-requires : goal.asking::advance_arms-advance-requires
+asking::advance_arms-advance-requires t c =
+    let room : c.loop-arm.arm-index < length c.args.arms.now = omega arith in
+    let parts = rest_length c.args.arms.now c.loop-arm.arm-index c.arm-item.result room c.arm-item.is in
+    let size = length (parts_of c.arm-item.result) in
+    let end : c.loop-arm.at + c.part_count.result ≡ c.loop-arm.at + size = ap (λ n. c.loop-arm.at + n) c.part_count.ensures in
+    let within : c.loop-arm.at + c.part_count.result ≤ length (all_parts (nodes_of c.args.arms.now)) = omega (arith, parts, end, c.loop-arm.invariant.at_is) in
+    (omega (arith, within, end), (part_length c.args.facts.now c.loop-arm.at (c.loop-arm.at + c.part_count.result) size (omega (arith, within, c.requires.known)) end,
+    part_length c.loop-arm.marks c.loop-arm.at (c.loop-arm.at + c.part_count.result) size (omega (arith, within, c.requires.marked, c.loop-arm.auto.marks)) end))
 
 pub asking::advance_arms-returns-then-not-are_bound-clause-asked : goal.asking::advance_arms-returns-then-not-are_bound-clause-asked
 asking::advance_arms-returns-then-not-are_bound-clause-asked t c = λ span total known own_known m.
@@ -117,6 +139,24 @@ asking::advance_arms-returns-clause-asked t c = λ span total known own_known m.
     let owed : are_bound (among c.args.bound.now) c.args.own.now.owed ≡ true =
     sym (c.are_bound.ensures ∙ ap (λ l. are_bound (among c.args.bound.now) l) c.as_slice.ensures) ∙ c.if-not-are_bound.false in
     (is ∙ sym (own_known.owed_are (among c.args.bound.now)) ∙ owed, marked)
+
+pub asking::advance_beside-advance-requires : goal.asking::advance_beside-advance-requires
+asking::advance_beside-advance-requires t c =
+    let room : c.loop-goal.goal-index < length c.args.goals.now = omega arith in
+    let parts = rest_length c.args.goals.now c.loop-goal.goal-index c.goal-item.result room c.goal-item.is in
+    let size = length (parts_of c.goal-item.result) in
+    let end : c.loop-goal.at + c.part_count.result ≡ c.loop-goal.at + size = ap (λ n. c.loop-goal.at + n) c.part_count.ensures in
+    let within : c.loop-goal.at + c.part_count.result ≤ length (all_parts (nodes_of c.args.goals.now)) = omega (arith, parts, end, c.loop-goal.invariant.at_is) in
+    (omega (arith, within, end), (part_length c.args.facts.now c.loop-goal.at (c.loop-goal.at + c.part_count.result) size (omega (arith, within, c.requires.known)) end,
+    part_length c.loop-goal.marks c.loop-goal.at (c.loop-goal.at + c.part_count.result) size (omega (arith, within, c.requires.marked, c.loop-goal.auto.marks)) end))
+
+pub asking::advance_beside-returns-clause-same : goal.asking::advance_beside-returns-clause-same
+asking::advance_beside-returns-clause-same t c = c.undo-2.ensures ∙ undone c.args.bound.now c.loop-goal.bound c.mark-before.result c.loop-goal.invariant.extends c.mark-before.ensures
+
+pub asking::advance_beside-returns-then-not-branch-clause-same : goal.asking::advance_beside-returns-then-not-branch-clause-same
+asking::advance_beside-returns-then-not-branch-clause-same t c =
+    c.undo.ensures ∙ ap (λ l. take c.mark-before.result l) c.in_ok-advance.ensures.same
+    ∙ undone c.args.bound.now c.loop-goal.bound c.mark-before.result c.loop-goal.invariant.extends c.mark-before.ensures
 
 pub asking::advance_beside-loop-goal-init : goal.asking::advance_beside-loop-goal-init
 asking::advance_beside-loop-goal-init t c = record {
@@ -193,6 +233,41 @@ asking::advance_beside-returns-clause-asked t c = λ span own total known own_kn
     end_beside total (modes_of c.args.predicates.now) (nodes_of c.args.goals.now) span (among c.args.bound.now) c.loop-goal.marks c.loop-goal.at (among c.loop-goal.bound)
     (subst (λ n. DuringBeside total (modes_of c.args.predicates.now) (nodes_of c.args.goals.now) (among c.args.bound.now) n c.loop-goal.marks c.loop-goal.at (among c.loop-goal.bound)) none_left d)
 
+pub asking::advance_parts-advance_all-requires : goal.asking::advance_parts-advance_all-requires
+asking::advance_parts-advance_all-requires t c =
+    let same : Conjunction (nodes_of c.deref.result.now) (span_of c.args.goal.now) ≡ c.args.goal.now =
+    ap (λ l. Conjunction (nodes_of l) (span_of c.args.goal.now)) (c.deref.ensures.value ∙ c.in_ok-goals-in-Conjunction.ensures) ∙ c.in-Conjunction.ensures in
+    let parts : length (all_parts (joined_by c.args.goal.now)) ≡ length (all_parts (nodes_of c.deref.result.now)) = ap (λ g. length (all_parts (joined_by g))) (sym same) in
+    (omega (arith, parts), (c.requires.known ∙ parts, c.requires.marked ∙ parts))
+
+pub asking::advance_parts-advance_beside-requires : goal.asking::advance_parts-advance_beside-requires
+asking::advance_parts-advance_beside-requires t c =
+    let same : Parallel (nodes_of c.deref-in-Parallel.result.now) (span_of c.args.goal.now) ≡ c.args.goal.now =
+    ap (λ l. Parallel (nodes_of l) (span_of c.args.goal.now)) (c.deref-in-Parallel.ensures.value ∙ c.in_ok-goals-in-Parallel.ensures) ∙ c.in-Parallel.ensures in
+    let parts : length (all_parts (joined_by c.args.goal.now)) ≡ length (all_parts (nodes_of c.deref-in-Parallel.result.now)) = ap (λ g. length (all_parts (joined_by g))) (sym same) in
+    (omega (arith, parts), (c.requires.known ∙ parts, c.requires.marked ∙ parts))
+
+pub asking::advance_parts-advance_arms-requires : goal.asking::advance_parts-advance_arms-requires
+asking::advance_parts-advance_arms-requires t c =
+    let same : Disjunction (nodes_of c.deref-in-Disjunction.result.now) (span_of c.args.goal.now) ≡ c.args.goal.now =
+    ap (λ l. Disjunction (nodes_of l) (span_of c.args.goal.now)) (c.deref-in-Disjunction.ensures.value ∙ c.in_ok-arms-in-Disjunction.ensures) ∙ c.in-Disjunction.ensures in
+    let parts : length (all_parts (joined_by c.args.goal.now)) ≡ length (all_parts (nodes_of c.deref-in-Disjunction.result.now)) = ap (λ g. length (all_parts (joined_by g))) (sym same) in
+    (omega (arith, parts), (c.requires.known ∙ parts, c.requires.marked ∙ parts))
+
+pub asking::advance_parts-returns-in_ok-arms-in-Disjunction-clause-asked : goal.asking::advance_parts-returns-in_ok-arms-in-Disjunction-clause-asked
+asking::advance_parts-returns-in_ok-arms-in-Disjunction-clause-asked t c =
+    let same : Disjunction (nodes_of c.deref-in-Disjunction.result.now) (span_of c.args.goal.now) ≡ c.args.goal.now =
+    ap (λ l. Disjunction (nodes_of l) (span_of c.args.goal.now)) (c.deref-in-Disjunction.ensures.value ∙ c.in_ok-arms-in-Disjunction.ensures) ∙ c.in-Disjunction.ensures in
+    IfOk-weaker c.advance_arms.result _ _
+    (λ ready told. subst (λ (g : Node). AskedParts c.args.predicates.now g c.args.facts.now c.args.own.now c.args.marks.now c.advance_arms.new.marks (among c.args.bound.now) ready) same
+    (told (span_of c.args.goal.now))) c.advance_arms.ensures.asked
+
+pub asking::advance_parts-returns-in-Conditional-clause-asked : goal.asking::advance_parts-returns-in-Conditional-clause-asked
+asking::advance_parts-returns-in-Conditional-clause-asked t c =
+    IfOk-weaker c.advance_decision.result _ _
+    (λ ready told. subst (λ (g : Node). AskedParts c.args.predicates.now g c.args.facts.now c.args.own.now c.args.marks.now c.advance_decision.new.marks (among c.args.bound.now) ready) c.in-Conditional.ensures
+    (told (span_of c.args.goal.now))) c.advance_decision.ensures.asked
+
 pub asking::advance_parts-returns-in_ok-goals-in-Conjunction-clause-asked : goal.asking::advance_parts-returns-in_ok-goals-in-Conjunction-clause-asked
 asking::advance_parts-returns-in_ok-goals-in-Conjunction-clause-asked t c =
     let same : Conjunction (nodes_of c.deref.result.now) (span_of c.args.goal.now) ≡ c.args.goal.now =
@@ -233,6 +308,22 @@ asking::advance_parts-returns-in-Quantified-clause-asked t c =
     (among c.args.bound.now) ready) c.in-Quantified.ensures
     (quantified_asked c.args.predicates.now c.in-Quantified.field-0.now c.in-Quantified.inner (span_of c.args.goal.now) c.args.facts.now c.args.own.now c.args.marks.now
     c.advance-in-Quantified.new.marks (among c.args.bound.now) ready told)) c.advance-in-Quantified.ensures.asked
+
+pub chains::advance_arm-advance-requires : goal.chains::advance_arm-advance-requires
+chains::advance_arm-advance-requires t c =
+    let size = length (parts_of c.args.link.now.condition) in
+    let more = length (parts_of c.args.link.now.then_part) in
+    (omega arith, (front_length c.args.facts.now c.part_count-first.result size more c.requires.known c.part_count-first.ensures,
+    front_length c.args.marks.now c.part_count-first.result size more c.requires.marked c.part_count-first.ensures))
+
+pub chains::advance_arm-advance-requires-2 : goal.chains::advance_arm-advance-requires-2
+chains::advance_arm-advance-requires-2 t c =
+    let size = length (parts_of c.args.link.now.condition) in
+    let more = length (parts_of c.args.link.now.then_part) in
+    let first = c.part_count-first.result in
+    let whole = whole_length c.args.marks.now first size more c.advance.new.marks c.requires.marked c.part_count-first.ensures c.advance.auto.marks in
+    (omega arith, (tail_length c.args.facts.now first size more c.requires.known c.part_count-first.ensures,
+    tail_length (c.advance.new.marks ++ drop first c.args.marks.now) first size more whole c.part_count-first.ensures))
 
 pub chains::advance_arm-returns-then-not-branch-clause-asked : goal.chains::advance_arm-returns-then-not-branch-clause-asked
 chains::advance_arm-returns-then-not-branch-clause-asked t c = λ total else_part span known own_known m.
@@ -295,6 +386,23 @@ chains::advance_chain-returns-in-None-clause-asked t c = λ total known m.
     subst (λ e. AskedLinks c.args.predicates.now c.args.goal.now c.args.facts.now c.args.marks.now c.advance_links.new.marks
     (among c.args.bound.now) e) c.in-None.is c.in_ok-end.ensures.asked total known m
 
+pub chains::advance_decision-advance_arm-requires : goal.chains::advance_decision-advance_arm-requires
+chains::advance_decision-advance_arm-requires t c =
+    let size = length (parts_of c.args.link.now.condition) + length (parts_of c.args.link.now.then_part) in
+    let more = length (parts_of c.args.link.now.else_part) in
+    let first = c.part_count.result + c.part_count-2.result in
+    let first_is : first ≡ size = omega (arith, c.part_count.ensures, c.part_count-2.ensures) in
+    (omega arith, (front_length c.args.facts.now first size more c.requires.known first_is, front_length c.args.marks.now first size more c.requires.marked first_is))
+
+pub chains::advance_decision-advance_chain-requires : goal.chains::advance_decision-advance_chain-requires
+chains::advance_decision-advance_chain-requires t c =
+    let size = length (parts_of c.args.link.now.condition) + length (parts_of c.args.link.now.then_part) in
+    let more = length (parts_of c.args.link.now.else_part) in
+    let first = c.part_count.result + c.part_count-2.result in
+    let first_is : first ≡ size = omega (arith, c.part_count.ensures, c.part_count-2.ensures) in
+    let whole = whole_length c.args.marks.now first size more c.advance_arm.new.marks c.requires.marked first_is c.advance_arm.auto.marks in
+    (omega arith, (tail_length c.args.facts.now first size more c.requires.known first_is, tail_length (c.advance_arm.new.marks ++ drop first c.args.marks.now) first size more whole first_is))
+
 pub chains::advance_decision-returns-then-not-are_bound-clause-asked : goal.chains::advance_decision-returns-then-not-are_bound-clause-asked
 chains::advance_decision-returns-then-not-are_bound-clause-asked t c = λ span.
     let owed : are_bound (among c.args.bound.now) c.args.own.now.owed ≡ false =
@@ -326,6 +434,32 @@ chains::advance_decision-returns-clause-asked t c =
     (c.advance_arm.new.marks ++ drop (c.part_count.result + c.part_count-2.result) c.args.marks.now) (c.part_count.result + c.part_count-2.result) (length
     (c.advance_arm.new.marks ++ drop (c.part_count.result + c.part_count-2.result) c.args.marks.now))) c.advance_chain.new.marks (among b) ready)
     c.in_ok-advance_arm.ensures.same told) owed) c.advance_chain.ensures.asked
+
+pub chains::advance_links-advance_arm-requires : goal.chains::advance_links-advance_arm-requires
+chains::advance_links-advance_arm-requires t c =
+    let last_is = c.in-Some.ensures.1 in
+    let parts : length (parts_of c.loop-link.last) ≡ suc (length (parts_of c.in-Some.link.condition) + length (parts_of c.in-Some.link.then_part) + length (parts_of c.in-Some.link.else_part)) =
+    ap (λ n. length (parts_of n)) last_is ∙ conditional_length c.in-Some.link.condition c.in-Some.link.then_part c.in-Some.link.else_part (span_of c.loop-link.last) in
+    let size = length (parts_of c.in-Some.link.condition) + length (parts_of c.in-Some.link.then_part) in
+    let next = c.loop-link.at + c.part_count.result + c.part_count-in-Some.result in
+    let next_is : next ≡ c.loop-link.at + size = omega (arith, c.part_count.ensures, c.part_count-in-Some.ensures) in
+    let within : next ≤ length c.args.facts.now = omega (arith, parts, next_is, c.loop-link.invariant.end_is, c.loop-link.invariant.room) in
+    (omega (arith, parts, c.loop-link.invariant.end_is, c.loop-link.invariant.room, c.requires.known), (part_length c.args.facts.now c.loop-link.at next size within next_is,
+    part_length c.loop-link.marks c.loop-link.at next size (omega (arith, within, c.requires.known, c.requires.marked, c.loop-link.auto.marks)) next_is))
+
+pub chains::advance_links-bounds-facts-end : goal.chains::advance_links-bounds-facts-end
+chains::advance_links-bounds-facts-end t c =
+    let last_is = c.in-Some.ensures.1 in
+    let parts : length (parts_of c.loop-link.last) ≡ suc (length (parts_of c.in-Some.link.condition) + length (parts_of c.in-Some.link.then_part) + length (parts_of c.in-Some.link.else_part)) =
+    ap (λ n. length (parts_of n)) last_is ∙ conditional_length c.in-Some.link.condition c.in-Some.link.then_part c.in-Some.link.else_part (span_of c.loop-link.last) in
+    omega (arith, parts, c.loop-link.invariant.end_is, c.loop-link.invariant.room)
+
+pub chains::advance_links-advance-requires : goal.chains::advance_links-advance-requires
+chains::advance_links-advance-requires t c =
+    let i = c.loop-link.invariant in
+    let size = length (parts_of c.loop-link.last) in
+    (omega (arith, i.end_is, i.room, c.requires.known), (part_length c.args.facts.now c.loop-link.at c.loop-link.end size i.room i.end_is,
+    part_length c.loop-link.marks c.loop-link.at c.loop-link.end size (omega (arith, i.room, c.requires.known, c.requires.marked, c.loop-link.auto.marks)) i.end_is))
 
 pub chains::advance_links-loop-link-init : goal.chains::advance_links-loop-link-init
 chains::advance_links-loop-link-init t c = record {
@@ -426,10 +560,25 @@ chains::advance_links-returns-else-branch-clause-asked t c = λ total known m.
     (slice_range c.loop-link.marks c.loop-link.at c.loop-link.end) c.advance.new.marks (among b) c.in_ok-advance.field-0)
     c.loop-link.invariant.same c.in_ok-advance.ensures.asked)) total (c.loop-link.invariant.chain total known m)
 
+pub sweeping::advance_all-returns-clause-same : goal.sweeping::advance_all-returns-clause-same
+sweeping::advance_all-returns-clause-same t c =
+    c.undo.ensures ∙ undone c.args.bound.now c.sweep_all.new.bound c.mark-before.result
+    (extends_on c.args.bound.now c.bind_gone.new.bound c.sweep_all.new.bound c.in_ok-left.ensures.extends c.in_ok-ready.ensures.extends) c.mark-before.ensures
+
+pub sweeping::advance_all-sweep_all-requires : goal.sweeping::advance_all-sweep_all-requires
+sweeping::advance_all-sweep_all-requires t c = (omega arith, (c.requires.known, (c.requires.marked, c.in_ok-left.ensures.placed)))
+
 pub sweeping::advance_all-returns-clause-asked : goal.sweeping::advance_all-returns-clause-asked
 sweeping::advance_all-returns-clause-asked t c = λ span own total known own_known m.
     c.in_ok-ready.ensures.asked total (among c.args.bound.now) span known (gone_at_first total (modes_of c.args.predicates.now) c.args.goals.now span c.args.facts.now c.args.marks.now
     c.args.bound.now c.bind_gone.new.bound c.in_ok-left.left.items known m c.in_ok-left.ensures.binds)
+
+pub sweeping::ask_member-advance-requires : goal.sweeping::ask_member-advance-requires
+sweeping::ask_member-advance-requires t c =
+    let size = length (parts_of c.args.goal.now) in
+    let end : c.args.at + c.part_count.result ≡ c.args.at + size = ap (λ n. c.args.at + n) c.part_count.ensures in
+    (omega arith, (part_length c.args.facts.now c.args.at (c.args.at + c.part_count.result) size (omega (arith, end, c.requires.known)) end,
+    part_length c.args.marks.now c.args.at (c.args.at + c.part_count.result) size (omega (arith, end, c.requires.marked)) end))
 
 pub sweeping::ask_member-overflow_sub-end : goal.sweeping::ask_member-overflow_sub-end
 sweeping::ask_member-overflow_sub-end t c = let h = parts_length c.args.goal.now in omega (arith, c.part_count.ensures)
@@ -468,6 +617,11 @@ sweeping::ask_member-returns-clause-asks t c =
     c.index-facts-end.result end_is size_is own_is c.index-facts-end.is set
     (subst (λ r. Asked c.args.predicates.now c.args.goal.now (slice_range c.args.facts.now c.args.at end) (slice_range c.args.marks.now c.args.at end) c.advance.new.marks (among c.args.bound.now) r)
     c.if-not-branch.false c.in_ok-advance.ensures.asked)
+
+pub sweeping::sweep_all-sweep_once-requires : goal.sweeping::sweep_all-sweep_once-requires
+sweeping::sweep_all-sweep_once-requires t c =
+    (omega arith, (c.requires.known, (omega (arith, c.requires.marked, c.loop-alloc.auto.marks),
+    subst (λ l. ArePlaced c.args.goals.now l) (sym c.deref.ensures.value) c.loop-alloc.invariant.placed)))
 
 pub sweeping::sweep_all-returns-then-len-clause-asked : goal.sweeping::sweep_all-returns-then-len-clause-asked
 sweeping::sweep_all-returns-then-len-clause-asked t c = λ total start span known gone.
