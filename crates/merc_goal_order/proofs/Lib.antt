@@ -8,3 +8,4 @@ pub mod Beside
 pub mod Agreeing
 pub mod Resuming
 pub mod Freeing
+pub mod Lengths

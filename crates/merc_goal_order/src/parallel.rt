@@ -3,6 +3,7 @@ ghost use Rattle.std.specs.Prelude.{◌≡◌, ◌+◌, ◌≤◌, ◌&&◌, ◌
 ghost use Rattle.std.specs.List.{list_any};
 ghost use Rattle.merc_goal_tree.specs.Nodes.{Parallel, nodes_of};
 ghost use Rattle.merc_goal_tree.specs.Parts.{parts_of, all_parts};
+ghost use Rattle.merc_goal_tree.specs.Variables.{variables};
 ghost use Rattle.merc_order.specs.Bound.{among};
 ghost use Rattle.merc_goal_order.specs.Beside.{all_beside, FreedBy, Needs, StuckBeside, TellsReady};
 ghost use Rattle.merc_readiness.specs.Sweeps.{Extends};
@@ -181,13 +182,34 @@ fn needed_by(
     ensures same { OnOk result (bound.new ≡ bound.old) }
     ensures needs { IfOk result (λ other. Needs setting.now.predicates.now goal.now (nodes_of others.now) facts.now number bound.old other) }
 {
+    let inside = occurrences_of(setting.alloc, &[], goal)?;
+    first_freeing(setting, goal, others, facts, marks, bound, number, &inside)
+}
+
+// The number of the first of these goals behind which the goal with this number is ready, in which these variables occur.
+fn first_freeing(
+    setting: &Setting<'_>,
+    goal: &NodeRef<'_>,
+    others: &[NodeRef<'_>],
+    facts: &[Facts],
+    marks: &mut [bool],
+    bound: &mut BoundSet,
+    number: usize,
+    inside: &Occurrences,
+) -> Result<Option<usize>, NoMemory>
+    requires known { length facts.now ≡ length (parts_of goal.now) + length (all_parts (nodes_of others.now)) }
+    requires marked { length marks.old ≡ length (parts_of goal.now) + length (all_parts (nodes_of others.now)) }
+    requires fits { number + length others.now ≤ 18446744073709551615 }
+    requires occurs { inside.now ≡ variables goal.now }
+    ensures same { OnOk result (bound.new ≡ bound.old) }
+    ensures needs { IfOk result (λ other. Needs setting.now.predicates.now goal.now (nodes_of others.now) facts.now number bound.old other) }
+{
     let own = goal.part_count();
     let ready = is_ready(setting, goal, &facts[..own], &mut marks[..own], bound)?;
-    let inside = occurrences_of(setting.alloc, &[], goal)?;
     let mut at = own;
     for (index, later) in others.iter().enumerate() {
         let end = at + later.part_count();
-        if can_free(ready, &inside, &facts[end - 1], bound)
+        if can_free(ready, inside, &facts[end - 1], bound)
             && is_freed_by(setting, goal, later, facts, at, marks, bound)?
         {
             return Ok(Some(number + 1 + index));

@@ -1,11 +1,13 @@
 mod Links
-use Rattle.std.proofs.Common.{◌≡◌, ◌+◌, ◌-◌, ◌<◌, ◌∙◌, ℕ, suc, true, false, [], ◌∷◌, Ok, Err, inl, inr, take, drop, length, ap, sym, subst, refl, arith, slice_index_or}
+use Rattle.std.proofs.Common.{◌≡◌, ◌+◌, ◌-◌, ◌<◌, ◌∙◌, ℕ, suc, true, false, [], ◌∷◌, Ok, Err, inl, inr, None, take, drop, length, length-append, ap, sym, subst, refl, arith, slice_index_or}
 use Rattle.std.proofs.lemmas.List.{drop_all}
 use Rattle.std.proofs.lemmas.Result.{err_from_is_err_and}
 use Rattle.std.proofs.lemmas.Slice.{between_to_end}
 use Rattle.std.specs.List.{slice_range}
-use Rattle.merc_goal_tree.specs.Nodes.{Node, Simple, Conjunction, Disjunction, Negation, Quantified, nodes_of, Parallel}
-use Rattle.merc_goal_tree.specs.Parts.{parts_of}
+use Rattle.merc_goal_tree.specs.Nodes.{Node, Simple, Conjunction, Disjunction, Negation, Quantified, nodes_of, Parallel, span_of}
+use Rattle.merc_goal_tree.specs.Parts.{parts_of, all_parts}
+use Rattle.merc_graded_tree.specs.declared.entries.Root.TheVariants.{Conjunction as ConjunctionRoot, Disjunction as DisjunctionRoot, Negation as NegationRoot, Quantified as QuantifiedRoot}
+use Rattle.merc_graded_tree.specs.declared.entries.Running.TheVariants.{Sequential, Parallel as Beside}
 use Rattle.merc_goal_tree.specs.Variables.{variables, all_variables}
 use Rattle.merc_order.specs.Bound.{among, are_bound, nothing, with}
 use Rattle.merc_order.specs.Marks.{Marked, left}
@@ -34,6 +36,7 @@ use Rattle.merc_readiness.proofs.Binding.{extends_same, extends_on, extends_all}
 use Rattle.merc_goal_order.proofs.Beside.{facts_of_first, facts_from, blank_there, beside_goes, beside_stuck, beside_err, walked_tells, never_stuck}
 use Rattle.merc_readiness.proofs.Marking.{subgoals_length, all_subgoals_length, parts_length}
 use Rattle.merc_readiness.proofs.Stepping.{facts_of_next}
+use Rattle.merc_goal_order.proofs.Lengths.{front_length, part_length, cleared_length, joined_length}
 use Rattle.merc_goal_order.proofs.Stepped.{if_stays, if_goes, first_tells, passing_on, none_told, member_passes, member_marks, member_asked, awaited_on, none_awaited, amid_at, end_told, next_err, rounds_first, fewer_by, rounds_err}
 use Rattle.merc_goal_order.proofs.Walked.{walked_on, walked_end, walked_stuck}
 use Rattle.merc_goal_order.proofs.Wholes.{end_within, at_behind, undone_is, known_parts, known_own, negation_stuck, negation_binds, negation_ready, quantified_stuck, quantified_ready, disjunction_stuck, disjunction_differs, disjunction_ready, conjunction_stuck, conjunction_ready, parallel_stuck, parallel_ready}
@@ -42,6 +45,26 @@ use Rattle.merc_goal_order.proofs.+walking.Goals.{conjuncts::walk_rounds-else-lo
 use Rattle.merc_goal_order.proofs.+walking.Answers.Links as links_of
 
 -- negations
+
+pub walking::walk_negation-walk-requires : goal.walking::walk_negation-walk-requires
+walking::walk_negation-walk-requires t c =
+    let size = length (parts_of c.args.inner.now) in
+    (omega arith, (front_length c.args.facts.now c.part_count-own.result size 1 c.requires.known c.part_count-own.ensures,
+    (front_length c.args.marks.now c.part_count-own.result size 1 c.requires.marked c.part_count-own.ensures, c.requires.seen)))
+
+pub walking::walk_negation-bounds-facts-own : goal.walking::walk_negation-bounds-facts-own
+walking::walk_negation-bounds-facts-own t c = omega (arith, c.requires.known, c.part_count-own.ensures)
+
+pub walking::walk_negation-negate-requires : goal.walking::walk_negation-negate-requires
+walking::walk_negation-negate-requires t c = omega (arith, c.in_ok-walk.ensures.adds.more)
+
+pub walking::walk_negation-returns-clause-adds : goal.walking::walk_negation-returns-clause-adds
+walking::walk_negation-returns-clause-adds t c = record {
+  more =
+      let long : length c.negate.new.self + 1 ≡ length c.walk.new.written.nodes + 1 = joined_length NegationRoot c.new.result c.args.span c.walk.new.written.nodes c.negate.new.self (omega (arith, c.in_ok-walk.ensures.adds.more)) c.in_ok-negate.ensures.ok in
+      omega (arith, long, c.in_ok-walk.ensures.adds.more);
+  cleared = c.in_ok-walk.ensures.adds.cleared;
+}
 
 pub walking::walk_negation-returns-in_err-walk-clause-orders : goal.walking::walk_negation-returns-in_err-walk-clause-orders
 walking::walk_negation-returns-in_err-walk-clause-orders t c =
@@ -79,6 +102,27 @@ walking::walk_negation-returns-clause-orders t c = λ total known stretch.
 
 -- goals with variables of their own
 
+pub walking::walk_quantified-walk-requires : goal.walking::walk_quantified-walk-requires
+walking::walk_quantified-walk-requires t c =
+    let size = length (parts_of c.args.inner.now) in
+    (omega arith, (front_length c.args.facts.now c.part_count-last.result size 1 c.requires.known c.part_count-last.ensures,
+    (front_length c.args.marks.now c.part_count-last.result size 1 c.requires.marked c.part_count-last.ensures, c.requires.seen)))
+
+pub walking::walk_quantified-bounds-facts-last : goal.walking::walk_quantified-bounds-facts-last
+walking::walk_quantified-bounds-facts-last t c = omega (arith, c.requires.known, c.part_count-last.ensures)
+
+pub walking::walk_quantified-quantify-requires : goal.walking::walk_quantified-quantify-requires
+walking::walk_quantified-quantify-requires t c = omega (arith, c.in_ok-walk.ensures.adds.more)
+
+pub walking::walk_quantified-returns-clause-adds : goal.walking::walk_quantified-returns-clause-adds
+walking::walk_quantified-returns-clause-adds t c = record {
+  more =
+      let long : length c.quantify.new.self + 1 ≡ length c.walk.new.written.nodes + 1 =
+          joined_length (QuantifiedRoot c.in_ok-own.own) c.in_ok-outputs.outputs c.args.span c.walk.new.written.nodes c.quantify.new.self (omega (arith, c.in_ok-walk.ensures.adds.more)) c.in_ok-quantify.ensures.ok in
+      omega (arith, long, c.in_ok-walk.ensures.adds.more);
+  cleared = c.in_ok-outputs.ensures.cleared;
+}
+
 pub walking::walk_quantified-returns-in_err-walk-clause-orders : goal.walking::walk_quantified-returns-in_err-walk-clause-orders
 walking::walk_quantified-returns-in_err-walk-clause-orders t c =
     let p = err_from_is_err_and c.from_residual.result c.from_residual.ensures.1 in
@@ -103,6 +147,34 @@ walking::walk_quantified-returns-clause-orders t c = λ total known stretch.
     (c.in_ok-walk.ensures.orders total k stretch) c.in_ok-own.ensures outs c.in_ok-quantify.ensures.ok refl (c.in_ok-outputs.ensures.cleared ∙ sym c.in_ok-walk.ensures.adds.cleared)
 
 -- disjunctions
+
+pub disjuncts::walk_disjunction-overflow_sub-own : goal.disjuncts::walk_disjunction-overflow_sub-own
+disjuncts::walk_disjunction-overflow_sub-own t c = omega (arith, c.requires.known)
+
+pub disjuncts::walk_disjunction-bounds-facts-own : goal.disjuncts::walk_disjunction-bounds-facts-own
+disjuncts::walk_disjunction-bounds-facts-own t c = omega (arith, c.requires.known)
+
+pub disjuncts::walk_disjunction-walk_arms-requires : goal.disjuncts::walk_disjunction-walk_arms-requires
+disjuncts::walk_disjunction-walk_arms-requires t c =
+    let size = length (all_parts (nodes_of c.args.arms.now)) in
+    (omega arith, (front_length c.args.facts.now (length c.args.facts.now - 1) size 1 c.requires.known (omega (arith, c.requires.known)),
+    (front_length c.args.marks.now (length c.args.facts.now - 1) size 1 c.requires.marked (omega (arith, c.requires.known)), c.requires.seen)))
+
+pub disjuncts::walk_disjunction-overflow_sub-count : goal.disjuncts::walk_disjunction-overflow_sub-count
+disjuncts::walk_disjunction-overflow_sub-count t c = omega (arith, c.len.ensures, c.len-before.ensures, c.in_ok-walk_arms.ensures.adds.more)
+
+pub disjuncts::walk_disjunction-disjoin-requires : goal.disjuncts::walk_disjunction-disjoin-requires
+disjuncts::walk_disjunction-disjoin-requires t c = omega (arith, c.len.ensures)
+
+pub disjuncts::walk_disjunction-returns-clause-adds : goal.disjuncts::walk_disjunction-returns-clause-adds
+disjuncts::walk_disjunction-returns-clause-adds t c = record {
+  more =
+      let count = c.len.result - c.len-before.result in
+      let long : length c.disjoin.new.self + count ≡ length c.walk_arms.new.written.nodes + 1 =
+          joined_length (DisjunctionRoot count) c.in_ok-outputs.outputs c.args.span c.walk_arms.new.written.nodes c.disjoin.new.self (omega (arith, c.len.ensures)) c.in_ok-disjoin.ensures.ok in
+      omega (arith, long, c.len.ensures, c.len-before.ensures, c.in_ok-walk_arms.ensures.adds.more);
+  cleared = c.in_ok-outputs.ensures.cleared;
+}
 
 pub disjuncts::walk_disjunction-returns-in_err-walk_arms-clause-orders : goal.disjuncts::walk_disjunction-returns-in_err-walk_arms-clause-orders
 disjuncts::walk_disjunction-returns-in_err-walk_arms-clause-orders t c =
@@ -147,6 +219,13 @@ disjuncts::walk_disjunction-returns-clause-orders t c = λ total known stretch.
     c.in_ok-walk_arms.field-0 (c.in_ok-walk_arms.ensures.orders total k stretch) f owed outs
     (ap (λ n. n - c.len-before.result) c.len.ensures ∙ ap (λ n. length c.walk_arms.new.written.nodes - n) c.len-before.ensures)
     c.in_ok-disjoin.ensures.ok refl (c.in_ok-outputs.ensures.cleared ∙ sym c.in_ok-walk_arms.ensures.adds.cleared)
+
+pub disjuncts::walk_arms-walk-requires : goal.disjuncts::walk_arms-walk-requires
+disjuncts::walk_arms-walk-requires t c =
+    let within = end_within c.args.arms.now c.loop-arm.arm-index c.arm-item.result c.loop-arm.at c.part_count.result c.loop-arm-test.true c.arm-item.is c.part_count.ensures c.loop-arm.invariant.at_is in
+    let size = length (parts_of c.arm-item.result) in
+    (omega (arith, within, c.part_count.ensures), (part_length c.args.facts.now c.loop-arm.at c.part_count.result size (omega (arith, within, c.requires.known)) c.part_count.ensures,
+    (part_length c.loop-arm.marks c.loop-arm.at c.part_count.result size (omega (arith, within, c.requires.marked, c.loop-arm.auto.marks)) c.part_count.ensures, c.loop-arm.invariant.adds.cleared)))
 
 pub disjuncts::walk_arms-returns-in_err-walk-clause-orders : goal.disjuncts::walk_arms-returns-in_err-walk-clause-orders
 disjuncts::walk_arms-returns-in_err-walk-clause-orders t c =
@@ -207,6 +286,37 @@ disjuncts::walk_arms-returns-clause-orders t c = λ total known stretch.
 
 -- conjunctions
 
+pub conjuncts::walk_conjunction-overflow_sub-own : goal.conjuncts::walk_conjunction-overflow_sub-own
+conjuncts::walk_conjunction-overflow_sub-own t c = omega (arith, c.requires.known)
+
+pub conjuncts::walk_conjunction-bounds-facts-own : goal.conjuncts::walk_conjunction-bounds-facts-own
+conjuncts::walk_conjunction-bounds-facts-own t c = omega (arith, c.requires.known)
+
+pub conjuncts::walk_conjunction-walk_rounds-requires : goal.conjuncts::walk_conjunction-walk_rounds-requires
+conjuncts::walk_conjunction-walk_rounds-requires t c =
+    let size = length (all_parts (nodes_of c.args.goals.now)) in
+    (omega arith, (front_length c.args.facts.now (length c.args.facts.now - 1) size 1 c.requires.known (omega (arith, c.requires.known)),
+    (front_length c.args.marks.now (length c.args.facts.now - 1) size 1 c.requires.marked (omega (arith, c.requires.known)), c.requires.seen)))
+
+pub conjuncts::walk_conjunction-overflow_sub-count : goal.conjuncts::walk_conjunction-overflow_sub-count
+conjuncts::walk_conjunction-overflow_sub-count t c = omega (arith, c.len.ensures, c.len-before.ensures, c.in_ok-walk_rounds.ensures.adds.more)
+
+pub conjuncts::walk_conjunction-conjoin-requires : goal.conjuncts::walk_conjunction-conjoin-requires
+conjuncts::walk_conjunction-conjoin-requires t c = omega (arith, c.len.ensures)
+
+pub conjuncts::walk_conjunction-returns-clause-adds : goal.conjuncts::walk_conjunction-returns-clause-adds
+conjuncts::walk_conjunction-returns-clause-adds t c = record {
+  more =
+      let count = c.len.result - c.len-before.result in
+      let long : length c.conjoin.new.self + count ≡ length c.walk_rounds.new.written.nodes + 1 =
+          joined_length (ConjunctionRoot Sequential count) c.in_ok-outputs.outputs c.args.span c.walk_rounds.new.written.nodes c.conjoin.new.self (omega (arith, c.len.ensures)) c.in_ok-conjoin.ensures.ok in
+      omega (arith, long, c.len.ensures, c.len-before.ensures, c.in_ok-walk_rounds.ensures.adds.more);
+  cleared = c.in_ok-outputs.ensures.cleared;
+}
+
+pub conjuncts::walk_conjunction-returns-clause-same : goal.conjuncts::walk_conjunction-returns-clause-same
+conjuncts::walk_conjunction-returns-clause-same t c = undone_is c.args.bound.now c.walk_rounds.new.bound c.undo.new.self c.mark-known.result c.in_ok-walk_rounds.ensures.extends c.mark-known.ensures c.undo.ensures
+
 pub conjuncts::walk_conjunction-returns-in_err-walk_rounds-clause-orders : goal.conjuncts::walk_conjunction-returns-in_err-walk_rounds-clause-orders
 conjuncts::walk_conjunction-returns-in_err-walk_rounds-clause-orders t c =
     let p = err_from_is_err_and c.from_residual.result c.from_residual.ensures.1 in
@@ -234,6 +344,9 @@ conjuncts::walk_conjunction-returns-clause-orders t c = λ total known stretch.
     c.in_ok-walk_rounds.field-0 (c.in_ok-walk_rounds.ensures.orders total k stretch) outs
     (ap (λ n. n - c.len-before.result) c.len.ensures ∙ ap (λ n. length c.walk_rounds.new.written.nodes - n) c.len-before.ensures)
     c.in_ok-conjoin.ensures.ok refl (c.in_ok-outputs.ensures.cleared ∙ sym c.in_ok-walk_rounds.ensures.adds.cleared)
+
+pub conjuncts::walk_rounds-walk_next-requires : goal.conjuncts::walk_rounds-walk_next-requires
+conjuncts::walk_rounds-walk_next-requires t c = (omega arith, (c.requires.known, (omega (arith, c.requires.marked, c.loop-round.auto.marks), (c.loop-round.invariant.adds.cleared, (c.loop-round.invariant.sound, c.loop-round.invariant.stands)))))
 
 pub conjuncts::walk_rounds-loop-round-init : goal.conjuncts::walk_rounds-loop-round-init
 conjuncts::walk_rounds-loop-round-init t c = record {
@@ -420,6 +533,12 @@ conjuncts::walk_next-returns-clause-next t c = λ total start whole old less kno
 
 -- a goal that is asked
 
+pub conjuncts::walk_member-walk_if_ready-requires : goal.conjuncts::walk_member-walk_if_ready-requires
+conjuncts::walk_member-walk_if_ready-requires t c =
+    let size = length (parts_of c.args.goal.now) in
+    (omega arith, (part_length c.args.facts.now c.args.here.at c.part_count.result size (omega (arith, c.requires.known, c.part_count.ensures)) c.part_count.ensures,
+    (part_length c.args.marks.now c.args.here.at c.part_count.result size (omega (arith, c.requires.marked, c.part_count.ensures)) c.part_count.ensures, c.requires.seen)))
+
 pub conjuncts::walk_member-overflow_sub-own : goal.conjuncts::walk_member-overflow_sub-own
 conjuncts::walk_member-overflow_sub-own t c = omega (arith, some_parts c.args.goal.now c.part_count.result c.part_count.ensures)
 
@@ -451,6 +570,9 @@ conjuncts::walk_member-returns-clause-asks t c = λ total goals rest start index
     (omega (arith, c.part_count.ensures)) c.walk_if_ready.result (c.walk_if_ready.ensures.goes total k s m)
 
 -- a goal that goes if it is ready
+
+pub conjuncts::walk_if_ready-walk-requires : goal.conjuncts::walk_if_ready-walk-requires
+conjuncts::walk_if_ready-walk-requires t c = (omega arith, (c.requires.known, (omega (arith, c.requires.marked, c.advance.auto.marks), c.requires.seen)))
 
 pub conjuncts::walk_if_ready-returns-then-not-branch-clause-goes : goal.conjuncts::walk_if_ready-returns-then-not-branch-clause-goes
 conjuncts::walk_if_ready-returns-then-not-branch-clause-goes t c = λ total known stretch marked.
@@ -489,6 +611,21 @@ conjuncts::walk_if_ready-returns-clause-goes t c = λ total known stretch marked
     c.in_ok-walk.field-0 gives same known own c.index-facts-own.is set (omega (arith, c.requires.marked, c.walk.auto.marks, c.advance.auto.marks))
 
 -- the first goal that is left
+
+pub conjuncts::walk_first_left-walk-requires : goal.conjuncts::walk_first_left-walk-requires
+conjuncts::walk_first_left-walk-requires t c =
+    let within = end_within c.args.goals.now c.loop-goal.goal-index c.goal-item.result c.loop-goal.at c.part_count.result c.loop-goal-test.true c.goal-item.is c.part_count.ensures c.loop-goal.invariant.at_is in
+    let size = length (parts_of c.goal-item.result) in
+    let long : length c.loop-goal.marks ≡ length c.args.marks.now = ap length c.loop-goal.invariant.same_marks in
+    (omega (arith, within, c.part_count.ensures), (part_length c.args.facts.now c.loop-goal.at c.part_count.result size (omega (arith, within, c.requires.known)) c.part_count.ensures,
+    (part_length c.loop-goal.marks c.loop-goal.at c.part_count.result size (omega (arith, within, long, c.requires.marked)) c.part_count.ensures,
+    ap (λ (w : Written). w.seen) c.loop-goal.invariant.same_written ∙ c.requires.seen)))
+
+pub conjuncts::walk_first_left-bounds-facts-own : goal.conjuncts::walk_first_left-bounds-facts-own
+conjuncts::walk_first_left-bounds-facts-own t c =
+    let within = end_within c.args.goals.now c.loop-goal.goal-index c.goal-item.result c.loop-goal.at c.part_count.result c.loop-goal-test.true c.goal-item.is c.part_count.ensures c.loop-goal.invariant.at_is in
+    let one = some_parts c.goal-item.result c.part_count.result c.part_count.ensures in
+    omega (arith, one, within, c.requires.known)
 
 pub conjuncts::walk_first_left-overflow_sub-own : goal.conjuncts::walk_first_left-overflow_sub-own
 conjuncts::walk_first_left-overflow_sub-own t c = omega (arith, some_parts c.goal-item.result c.part_count.result c.part_count.ensures)
@@ -552,6 +689,72 @@ walking::walk-walk_parts-walked-requires t c = let h = parts_length c.args.goal.
 
 -- goals that hold no others
 
+pub walking::walk_parts-walk_conjunction-requires : goal.walking::walk_parts-walk_conjunction-requires
+walking::walk_parts-walk_conjunction-requires t c =
+    let same : Conjunction (nodes_of c.deref.result.now) (span_of c.args.goal.now) ≡ c.args.goal.now =
+    ap (λ l. Conjunction (nodes_of l) (span_of c.args.goal.now)) (c.deref.ensures.value ∙ c.in_ok-goals-in-Conjunction.ensures) ∙ c.in-Conjunction.ensures in
+    let long : length (parts_of c.args.goal.now) ≡ length (all_parts (nodes_of c.deref.result.now)) + 1 = ap (λ g. length (parts_of g)) (sym same) ∙ length-append (all_parts (nodes_of c.deref.result.now)) _ in
+    (omega (arith, long), (omega (arith, long, c.requires.known), (omega (arith, long, c.requires.marked), c.requires.seen)))
+
+pub walking::walk_parts-returns-in_ok-goals-in-Conjunction-clause-orders : goal.walking::walk_parts-returns-in_ok-goals-in-Conjunction-clause-orders
+walking::walk_parts-returns-in_ok-goals-in-Conjunction-clause-orders t c =
+    let same : Conjunction (nodes_of c.deref.result.now) (span_of c.args.goal.now) ≡ c.args.goal.now =
+    ap (λ l. Conjunction (nodes_of l) (span_of c.args.goal.now)) (c.deref.ensures.value ∙ c.in_ok-goals-in-Conjunction.ensures) ∙ c.in-Conjunction.ensures in
+    subst (λ g. Orders c.args.setting.now.predicates.now g c.args.facts.now c.args.setting.now.all.now c.args.start c.args.bound.now c.args.written.now c.walk_conjunction.new.written c.walk_conjunction.result)
+    (ap (λ s. Conjunction (nodes_of c.deref.result.now) s) c.span-span.ensures ∙ same) c.walk_conjunction.ensures.orders
+
+pub walking::walk_parts-walk_parallel-requires : goal.walking::walk_parts-walk_parallel-requires
+walking::walk_parts-walk_parallel-requires t c =
+    let same : Parallel (nodes_of c.deref-in-Parallel.result.now) (span_of c.args.goal.now) ≡ c.args.goal.now =
+    ap (λ l. Parallel (nodes_of l) (span_of c.args.goal.now)) (c.deref-in-Parallel.ensures.value ∙ c.in_ok-goals-in-Parallel.ensures) ∙ c.in-Parallel.ensures in
+    let long : length (parts_of c.args.goal.now) ≡ length (all_parts (nodes_of c.deref-in-Parallel.result.now)) + 1 = ap (λ g. length (parts_of g)) (sym same) ∙ length-append (all_parts (nodes_of c.deref-in-Parallel.result.now)) _ in
+    (omega (arith, long), (omega (arith, long, c.requires.known), (omega (arith, long, c.requires.marked), c.requires.seen)))
+
+pub walking::walk_parts-returns-in_ok-goals-in-Parallel-clause-orders : goal.walking::walk_parts-returns-in_ok-goals-in-Parallel-clause-orders
+walking::walk_parts-returns-in_ok-goals-in-Parallel-clause-orders t c =
+    let same : Parallel (nodes_of c.deref-in-Parallel.result.now) (span_of c.args.goal.now) ≡ c.args.goal.now =
+    ap (λ l. Parallel (nodes_of l) (span_of c.args.goal.now)) (c.deref-in-Parallel.ensures.value ∙ c.in_ok-goals-in-Parallel.ensures) ∙ c.in-Parallel.ensures in
+    subst (λ g. Orders c.args.setting.now.predicates.now g c.args.facts.now c.args.setting.now.all.now c.args.start c.args.bound.now c.args.written.now c.walk_parallel.new.written c.walk_parallel.result)
+    (ap (λ s. Parallel (nodes_of c.deref-in-Parallel.result.now) s) c.span-span.ensures ∙ same) c.walk_parallel.ensures.orders
+
+pub walking::walk_parts-walk_disjunction-requires : goal.walking::walk_parts-walk_disjunction-requires
+walking::walk_parts-walk_disjunction-requires t c =
+    let same : Disjunction (nodes_of c.deref-in-Disjunction.result.now) (span_of c.args.goal.now) ≡ c.args.goal.now =
+    ap (λ l. Disjunction (nodes_of l) (span_of c.args.goal.now)) (c.deref-in-Disjunction.ensures.value ∙ c.in_ok-arms-in-Disjunction.ensures) ∙ c.in-Disjunction.ensures in
+    let long : length (parts_of c.args.goal.now) ≡ length (all_parts (nodes_of c.deref-in-Disjunction.result.now)) + 1 = ap (λ g. length (parts_of g)) (sym same) ∙ length-append (all_parts (nodes_of c.deref-in-Disjunction.result.now)) _ in
+    (omega (arith, long), (omega (arith, long, c.requires.known), (omega (arith, long, c.requires.marked), c.requires.seen)))
+
+pub walking::walk_parts-returns-in_ok-arms-in-Disjunction-clause-orders : goal.walking::walk_parts-returns-in_ok-arms-in-Disjunction-clause-orders
+walking::walk_parts-returns-in_ok-arms-in-Disjunction-clause-orders t c =
+    let same : Disjunction (nodes_of c.deref-in-Disjunction.result.now) (span_of c.args.goal.now) ≡ c.args.goal.now =
+    ap (λ l. Disjunction (nodes_of l) (span_of c.args.goal.now)) (c.deref-in-Disjunction.ensures.value ∙ c.in_ok-arms-in-Disjunction.ensures) ∙ c.in-Disjunction.ensures in
+    subst (λ g. Orders c.args.setting.now.predicates.now g c.args.facts.now c.args.setting.now.all.now c.args.start c.args.bound.now c.args.written.now c.walk_disjunction.new.written c.walk_disjunction.result)
+    (ap (λ s. Disjunction (nodes_of c.deref-in-Disjunction.result.now) s) c.span-span.ensures ∙ same) c.walk_disjunction.ensures.orders
+
+pub walking::walk_parts-walk_negation-requires : goal.walking::walk_parts-walk_negation-requires
+walking::walk_parts-walk_negation-requires t c =
+    let long : length (parts_of c.args.goal.now) ≡ length (parts_of c.in-Negation.inner) + 1 =
+    ap (λ g. length (parts_of g)) (sym c.in-Negation.ensures) ∙ length-append (parts_of c.in-Negation.inner) _ in
+    (omega (arith, long), (omega (arith, long, c.requires.known), (omega (arith, long, c.requires.marked), c.requires.seen)))
+
+pub walking::walk_parts-returns-in-Negation-clause-orders : goal.walking::walk_parts-returns-in-Negation-clause-orders
+walking::walk_parts-returns-in-Negation-clause-orders t c =
+    let same : Negation c.in-Negation.inner c.span-span.result ≡ c.args.goal.now = ap (λ s. Negation c.in-Negation.inner s) c.span-span.ensures ∙ c.in-Negation.ensures in
+    subst (λ g. Orders c.args.setting.now.predicates.now g c.args.facts.now c.args.setting.now.all.now c.args.start c.args.bound.now c.args.written.now c.walk_negation.new.written c.walk_negation.result) same
+    c.walk_negation.ensures.orders
+
+pub walking::walk_parts-walk_quantified-requires : goal.walking::walk_parts-walk_quantified-requires
+walking::walk_parts-walk_quantified-requires t c =
+    let long : length (parts_of c.args.goal.now) ≡ length (parts_of c.in-Quantified.inner) + 1 =
+    ap (λ g. length (parts_of g)) (sym c.in-Quantified.ensures) ∙ length-append (parts_of c.in-Quantified.inner) _ in
+    (omega (arith, long), (omega (arith, long, c.requires.known), (omega (arith, long, c.requires.marked), c.requires.seen)))
+
+pub walking::walk_parts-returns-in-Quantified-clause-orders : goal.walking::walk_parts-returns-in-Quantified-clause-orders
+walking::walk_parts-returns-in-Quantified-clause-orders t c =
+    let same : Quantified c.in-Quantified.own.now c.in-Quantified.inner c.span-span.result ≡ c.args.goal.now = ap (λ s. Quantified c.in-Quantified.own.now c.in-Quantified.inner s) c.span-span.ensures ∙ c.in-Quantified.ensures in
+    subst (λ g. Orders c.args.setting.now.predicates.now g c.args.facts.now c.args.setting.now.all.now c.args.start c.args.bound.now c.args.written.now c.walk_quantified.new.written c.walk_quantified.result) same
+    c.walk_quantified.ensures.orders
+
 pub walking::walk_parts-returns-in-Simple-clause-orders : goal.walking::walk_parts-returns-in-Simple-clause-orders
 walking::walk_parts-returns-in-Simple-clause-orders t c =
     let same : Simple c.in-Simple.simple.now c.span-span.result ≡ c.args.goal.now = ap (λ s. Simple c.in-Simple.simple.now s) c.span-span.ensures ∙ c.in-Simple.ensures in
@@ -559,6 +762,21 @@ walking::walk_parts-returns-in-Simple-clause-orders t c =
     c.walk_simple.ensures.orders
 
 -- if-then-elses
+
+pub links::walk_guard-walk-requires : goal.links::walk_guard-walk-requires
+links::walk_guard-walk-requires = links_of.links::walk_guard-walk-requires
+
+pub links::walk_chain-walk_guard-requires : goal.links::walk_chain-walk_guard-requires
+links::walk_chain-walk_guard-requires = links_of.links::walk_chain-walk_guard-requires
+
+pub links::walk_chain-overflow_sub-last : goal.links::walk_chain-overflow_sub-last
+links::walk_chain-overflow_sub-last = links_of.links::walk_chain-overflow_sub-last
+
+pub links::walk_chain-bounds-known-last : goal.links::walk_chain-bounds-known-last
+links::walk_chain-bounds-known-last = links_of.links::walk_chain-bounds-known-last
+
+pub links::walk_chain-close_links-requires : goal.links::walk_chain-close_links-requires
+links::walk_chain-close_links-requires = links_of.links::walk_chain-close_links-requires
 
 pub links::walk_guard-returns-in_err-walk-clause-guards : goal.links::walk_guard-returns-in_err-walk-clause-guards
 links::walk_guard-returns-in_err-walk-clause-guards = links_of.links::walk_guard-returns-in_err-walk-clause-guards
@@ -604,6 +822,37 @@ links::walk_chain-returns-clause-orders = links_of.links::walk_chain-returns-cla
 
 -- goals side by side
 
+pub parallel::walk_parallel-overflow_sub-own : goal.parallel::walk_parallel-overflow_sub-own
+parallel::walk_parallel-overflow_sub-own t c = omega (arith, c.requires.known)
+
+pub parallel::walk_parallel-bounds-facts-own : goal.parallel::walk_parallel-bounds-facts-own
+parallel::walk_parallel-bounds-facts-own t c = omega (arith, c.requires.known)
+
+pub parallel::walk_parallel-walk_conjuncts-requires : goal.parallel::walk_parallel-walk_conjuncts-requires
+parallel::walk_parallel-walk_conjuncts-requires t c =
+    let size = length (all_parts (nodes_of c.args.goals.now)) in
+    (omega arith, (front_length c.args.facts.now (length c.args.facts.now - 1) size 1 c.requires.known (omega (arith, c.requires.known)),
+    (front_length c.args.marks.now (length c.args.facts.now - 1) size 1 c.requires.marked (omega (arith, c.requires.known)), c.requires.seen)))
+
+pub parallel::walk_parallel-overflow_sub-count : goal.parallel::walk_parallel-overflow_sub-count
+parallel::walk_parallel-overflow_sub-count t c = omega (arith, c.len.ensures, c.len-before.ensures, c.in_ok-walk_conjuncts.ensures.adds.more)
+
+pub parallel::walk_parallel-conjoin-requires : goal.parallel::walk_parallel-conjoin-requires
+parallel::walk_parallel-conjoin-requires t c = omega (arith, c.len.ensures)
+
+pub parallel::walk_parallel-returns-clause-adds : goal.parallel::walk_parallel-returns-clause-adds
+parallel::walk_parallel-returns-clause-adds t c = record {
+  more =
+      let count = c.len.result - c.len-before.result in
+      let long : length c.conjoin.new.self + count ≡ length c.walk_conjuncts.new.written.nodes + 1 =
+          joined_length (ConjunctionRoot (Beside None) count) c.in_ok-outputs.outputs c.args.span c.walk_conjuncts.new.written.nodes c.conjoin.new.self (omega (arith, c.len.ensures)) c.in_ok-conjoin.ensures.ok in
+      omega (arith, long, c.len.ensures, c.len-before.ensures, c.in_ok-walk_conjuncts.ensures.adds.more);
+  cleared = c.in_ok-outputs.ensures.cleared;
+}
+
+pub parallel::walk_parallel-returns-clause-same : goal.parallel::walk_parallel-returns-clause-same
+parallel::walk_parallel-returns-clause-same t c = undone_is c.args.bound.now c.walk_conjuncts.new.bound c.undo.new.self c.mark-known.result c.in_ok-walk_conjuncts.ensures.extends c.mark-known.ensures c.undo.ensures
+
 pub parallel::walk_parallel-returns-in_err-walk_conjuncts-clause-orders : goal.parallel::walk_parallel-returns-in_err-walk_conjuncts-clause-orders
 parallel::walk_parallel-returns-in_err-walk_conjuncts-clause-orders t c =
     let p = err_from_is_err_and c.from_residual.result c.from_residual.ensures.1 in
@@ -631,6 +880,14 @@ parallel::walk_parallel-returns-clause-orders t c = λ total known stretch.
     c.in_ok-walk_conjuncts.field-0 (c.in_ok-walk_conjuncts.ensures.orders total k stretch) outs
     (ap (λ n. n - c.len-before.result) c.len.ensures ∙ ap (λ n. length c.walk_conjuncts.new.written.nodes - n) c.len-before.ensures)
     c.in_ok-conjoin.ensures.ok refl (c.in_ok-outputs.ensures.cleared ∙ sym c.in_ok-walk_conjuncts.ensures.adds.cleared)
+
+pub parallel::walk_conjuncts-walk_if_ready-requires : goal.parallel::walk_conjuncts-walk_if_ready-requires
+parallel::walk_conjuncts-walk_if_ready-requires t c =
+    let within = end_within c.args.goals.now c.loop-index.index c.index-goals-index.result c.loop-index.at c.part_count.result c.loop-index-test.true c.index-goals-index.is c.part_count.ensures c.loop-index.invariant.at_is in
+    let size = length (parts_of c.index-goals-index.result) in
+    (omega (arith, within, c.part_count.ensures), (part_length c.args.facts.now c.loop-index.at c.part_count.result size (omega (arith, within, c.requires.known)) c.part_count.ensures,
+    (cleared_length c.loop-index.marks c.clear.new.marks c.loop-index.at c.part_count.result size (omega (arith, within, c.requires.marked, c.loop-index.auto.marks)) c.part_count.ensures c.clear.ensures,
+    c.loop-index.invariant.adds.cleared)))
 
 pub parallel::walk_conjuncts-overflow_sub-own : goal.parallel::walk_conjuncts-overflow_sub-own
 parallel::walk_conjuncts-overflow_sub-own t c = omega (arith, some_parts c.index-goals-index.result c.part_count.result c.part_count.ensures)
@@ -725,6 +982,13 @@ parallel::walk_conjuncts-returns-clause-orders t c = λ total known stretch.
     walked_end total modes c.args.facts.now c.loop-index.at c.args.setting.now.all.now c.loop-index.place (all_beside (moves total modes (nodes_of c.args.goals.now)) (among c.args.bound.now))
     (beside (c.loop-index.index + 1) (moves total modes (nodes_of rest)) (among c.loop-index.bound)) c.args.written.now c.loop-index.written (nodes_of rest) (c.loop-index.invariant.walked total known stretch)
     (ap (λ l. beside (c.loop-index.index + 1) (moves total modes (nodes_of l)) (among c.loop-index.bound)) none)
+
+pub parallel::walk_stuck-walk-result-requires : goal.parallel::walk_stuck-walk-result-requires
+parallel::walk_stuck-walk-result-requires t c =
+    let size = length (parts_of c.args.goal.now) in
+    let more = length (all_parts (nodes_of c.args.others.now)) in
+    (omega arith, (front_length c.args.facts.now c.part_count-own.result size more c.requires.known c.part_count-own.ensures,
+    (front_length c.needed_by.new.marks c.part_count-own.result size more (omega (arith, c.requires.marked, c.needed_by.auto.marks)) c.part_count-own.ensures, c.requires.seen)))
 
 pub parallel::walk_stuck-returns-in-Ok-clause-tells : goal.parallel::walk_stuck-returns-in-Ok-clause-tells
 parallel::walk_stuck-returns-in-Ok-clause-tells t c = λ total known stretch stuck.

@@ -19,8 +19,54 @@ use Rattle.merc_agenda.proofs.Stretches.{stretch_front}
 use Rattle.merc_goal_order.specs.Linked.{Guarded, GuardGives, Within, Closing}
 use Rattle.merc_readiness.proofs.Binding.{extends_all, bound_behind}
 use Rattle.merc_goal_order.proofs.Chaining.{condition_known, condition_own, condition_err, condition_outer, then_known, then_own, then_stretch, then_err, place_behind_is, guarded_by, first_within, pushed, guard_known, own_known, guard_stretch, chain_err, rest_err, rest_ready, conditional_parts}
+use Rattle.merc_goal_order.proofs.Lengths.{front_length}
 use Rattle.merc_goal_order.proofs.Wholes.{undone_is}
 use Rattle.merc_goal_order.proofs.+walking.Goals as goal
+
+pub links::walk_guard-walk-requires : goal.links::walk_guard-walk-requires
+links::walk_guard-walk-requires t c =
+    let size = length (parts_of c.args.condition.now) in
+    let more = length (parts_of c.args.then_part.now) in
+    (omega arith, (front_length c.args.facts.now c.part_count-count.result size more c.requires.known c.part_count-count.ensures,
+    (front_length c.args.marks.now c.part_count-count.result size more c.requires.marked c.part_count-count.ensures, c.requires.seen)))
+
+pub links::walk_chain-walk_guard-requires : goal.links::walk_chain-walk_guard-requires
+links::walk_chain-walk_guard-requires t c =
+    let first = c.in-Conditional.condition in
+    let second = c.in-Conditional.then_part in
+    let third = c.in-Conditional.else_part in
+    let rest = c.loop-condition.rest in
+    let some = conditional_parts rest first second third (span_of rest) c.in-Conditional.ensures in
+    let count = c.part_count.result + c.part_count-in-Conditional.result in
+    let counts : count ≡ length (parts_of first) + length (parts_of second) = omega (arith, c.part_count.ensures, c.part_count-in-Conditional.ensures) in
+    let few : length (parts_of first) + length (parts_of second) ≤ length c.loop-condition.known.now = omega (arith, some, c.loop-condition.invariant.known_is) in
+    let small : length (parts_of first) + length (parts_of second) ≤ length c.loop-condition.marks = omega (arith, some, c.loop-condition.invariant.smaller, c.requires.marked, c.loop-condition.auto.marks) in
+    (omega (arith, some, c.loop-condition.invariant.smaller), (length-take-le count c.loop-condition.known.now (omega (arith, few, counts)) ∙ counts,
+    (length-take-le count c.loop-condition.marks (omega (arith, small, counts)) ∙ counts, c.loop-condition.invariant.cleared)))
+
+pub links::walk_chain-overflow_sub-last : goal.links::walk_chain-overflow_sub-last
+links::walk_chain-overflow_sub-last t c =
+    let first = c.in-Conditional.condition in
+    let second = c.in-Conditional.then_part in
+    let third = c.in-Conditional.else_part in
+    let rest = c.loop-condition.rest in
+    let some = conditional_parts rest first second third (span_of rest) c.in-Conditional.ensures in
+    omega (arith, some, c.loop-condition.invariant.known_is)
+
+pub links::walk_chain-bounds-known-last : goal.links::walk_chain-bounds-known-last
+links::walk_chain-bounds-known-last t c =
+    let first = c.in-Conditional.condition in
+    let second = c.in-Conditional.then_part in
+    let third = c.in-Conditional.else_part in
+    let rest = c.loop-condition.rest in
+    let some = conditional_parts rest first second third (span_of rest) c.in-Conditional.ensures in
+    omega (arith, some, c.loop-condition.invariant.known_is)
+
+pub links::walk_chain-close_links-requires : goal.links::walk_chain-close_links-requires
+links::walk_chain-close_links-requires t c = record {
+  enough = omega (arith, c.loop-condition.invariant.more, c.in_ok-walk.ensures.adds.more);
+  seen = c.in_ok-walk.ensures.adds.cleared;
+}
 
 pub links::walk_guard-returns-in_err-walk-clause-guards : goal.links::walk_guard-returns-in_err-walk-clause-guards
 links::walk_guard-returns-in_err-walk-clause-guards t c =

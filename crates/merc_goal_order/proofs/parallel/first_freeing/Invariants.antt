@@ -8,7 +8,7 @@ use Rattle.merc_order.specs.Order.{moves}
 use Rattle.merc_order.specs.Procedures.{modes_of}
 use Rattle.merc_goal_facts.specs.Facts.{AreKnown, all_subgoals}
 use Rattle.merc_readiness.specs.Sweeps.{AreKnownFrom}
-use Rattle.merc_goal_order.proofs.parallel.needed_by.Given as goal
+use Rattle.merc_goal_order.proofs.parallel.first_freeing.Given as goal
 
 abbrev pub invariant-loop-index : goal.invariant-loop-index
 invariant-loop-index l = record {
