@@ -6,10 +6,37 @@ use Rattle.merc_order.specs.Bound.{among, with}
 use Rattle.merc_readiness.specs.Sweeps.{marked_bind, IsPlaced, ArePlaced, BindsFrom, listed_if_left}
 use Rattle.merc_readiness.specs.declared.waiting.Waiting.{Waiting}
 use Rattle.merc_readiness.proofs.Asks.{rest_nodes, rest_length}
-use Rattle.merc_readiness.proofs.Binding.{extends_on, bound_at_first, bound_at_last}
+use Rattle.merc_readiness.proofs.Binding.{extends_same, extends_on, bound_at_first, bound_at_last}
 use Rattle.merc_readiness.proofs.Listed.{all_parts_cut, placed_if_left}
 use Rattle.merc_readiness.proofs.waiting.bind_gone.Goals.{then-not-branch+in_ok-push, else-not-branch}
 use Rattle.merc_readiness.proofs.waiting.bind_gone.Goals as goal
+
+pub bind_if_gone-requires-clause-known : goal.bind_if_gone-requires-clause-known
+bind_if_gone-requires-clause-known c =
+    let room : c.loop-index.index < length c.args.goals.now = omega (arith, c.loop-index-test.true) in
+    let parts = rest_length c.args.goals.now c.loop-index.index c.index-goals-index.result room c.index-goals-index.is in
+    omega (arith, parts, c.loop-index.invariant.at_is, c.requires.known)
+
+pub bind_if_gone-requires-clause-marked : goal.bind_if_gone-requires-clause-marked
+bind_if_gone-requires-clause-marked c =
+    let room : c.loop-index.index < length c.args.goals.now = omega (arith, c.loop-index-test.true) in
+    let parts = rest_length c.args.goals.now c.loop-index.index c.index-goals-index.result room c.index-goals-index.is in
+    omega (arith, parts, c.loop-index.invariant.at_is, c.requires.marked)
+
+pub loop-index-init : goal.loop-index-init
+loop-index-init c = record {
+  at_is = omega arith;
+  placed = subst (λ l. ArePlaced c.args.goals.now l) (sym c.new-left.ensures.items) tt;
+  extends = extends_same c.args.bound.now;
+  binds = λ total modes target whole first.
+      subst (λ l. BindsFrom total modes (nodes_of c.args.goals.now) c.args.facts.now c.args.marks.now 0 (among c.args.bound.now) target whole 0 l) (sym c.new-left.ensures.items) first;
+}
+
+pub returns-clause-extends : goal.returns-clause-extends
+returns-clause-extends c = c.loop-index.invariant.extends
+
+pub returns-clause-placed : goal.returns-clause-placed
+returns-clause-placed c = c.loop-index.invariant.placed
 
 pub returns-clause-binds : goal.returns-clause-binds
 returns-clause-binds c = λ total modes marked fits same known.
