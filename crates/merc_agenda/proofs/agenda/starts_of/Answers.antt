@@ -1,6 +1,6 @@
 use Rattle.std.proofs.Common.{◌≡◌, ◌+◌, ◌<◌, ◌∙◌, ◌++◌, ◌∷◌, ℕ, List, [], suc, length, drop, ap, sym, subst, arith}
 use Rattle.std.proofs.lemmas.List.{length-append}
-use Rattle.merc_agenda.specs.Agenda.{start_at}
+use Rattle.merc_agenda.specs.Agenda.{start_at, StandAt}
 use Rattle.merc_agenda.specs.Positions.{IsAt, IsPlaced}
 use Rattle.merc_agenda.specs.declared.agenda.Start.{Start}
 use Rattle.merc_agenda.proofs.Awaiting.{pushed}
@@ -41,3 +41,23 @@ start_behind-here-requires c =
     let index = c.loop-goal.goal-index in
     let there = next_item goals index c.goal-item.result c.loop-goal-test.true c.goal-item.is in
     omega (arith, c.requires.known, parts_within goals index c.loop-goal.here.at c.goal-item.result (drop (index + 1) goals) there c.loop-goal.invariant.here)
+
+pub returns-clause-stands : goal.returns-clause-stands
+returns-clause-stands c =
+    let i = c.loop-goal.invariant in
+    let goals = c.args.goals.now in
+    let here = c.loop-goal.here in
+    let old = c.loop-goal.starts.items in
+    let long : length (old ++ here ∷ []) ≡ suc (length goals) = length-append old (here ∷ []) ∙ omega (arith, i.long) in
+    subst (λ (l : List Start). StandAt goals l) (sym c.in_ok-push-2.ensures.items)
+    (long, pushed (λ other s. IsAt goals other s.at) old here i.each (subst (λ n. IsAt goals n here.at) (sym i.long) i.here))
+
+pub returns-clause-placed : goal.returns-clause-placed
+returns-clause-placed c = λ total modes known stretch.
+    let i = c.loop-goal.invariant in
+    let goals = c.args.goals.now in
+    let here = c.loop-goal.here in
+    let old = c.loop-goal.starts.items in
+    let p = i.placed total modes known stretch in
+    subst (λ (l : List Start). (other : ℕ) → other < length l → IsPlaced c.args.start goals other (start_at l other).place) (sym c.in_ok-push-2.ensures.items)
+    (pushed (λ other s. IsPlaced c.args.start goals other s.place) old here p.1 (subst (λ n. IsPlaced c.args.start goals n here.place) (sym i.long) p.0))
