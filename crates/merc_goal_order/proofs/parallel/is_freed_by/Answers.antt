@@ -1,4 +1,6 @@
 use Rattle.std.proofs.Common.{◌≡◌, ◌+◌, ◌-◌, ◌∙◌, ◌&&◌, suc, length, ap, sym, subst, arith}
+use Rattle.std.proofs.lemmas.List.{length-take-le}
+use Rattle.std.proofs.lemmas.Slice.{take-put_mid_below}
 use Rattle.merc_goal_tree.specs.Parts.{parts_of}
 use Rattle.merc_order.specs.Bound.{among, with}
 use Rattle.merc_order.specs.Order.{binds, from}
@@ -10,8 +12,27 @@ use Rattle.merc_agenda.proofs.Positions.{some_parts}
 use Rattle.merc_goal_order.proofs.Beside.{facts_of_first}
 use Rattle.merc_readiness.proofs.Binding.{extends_all}
 use Rattle.merc_readiness.proofs.Stepping.{facts_of_next, bound_by_next}
+use Rattle.merc_goal_order.proofs.Lengths.{part_length}
 use Rattle.merc_goal_order.proofs.Wholes.{undone_is}
 use Rattle.merc_goal_order.proofs.parallel.is_freed_by.Goals as goal
+
+pub is_ready-requires-clause-known : goal.is_ready-requires-clause-known
+is_ready-requires-clause-known c =
+    part_length c.args.facts.now c.args.at c.part_count.result (length (parts_of c.args.later.now)) (omega (arith, c.requires.known, c.part_count.ensures)) c.part_count.ensures
+
+pub is_ready-requires-clause-marked : goal.is_ready-requires-clause-marked
+is_ready-requires-clause-marked c =
+    part_length c.args.marks.now c.args.at c.part_count.result (length (parts_of c.args.later.now)) (omega (arith, c.requires.marked, c.part_count.ensures)) c.part_count.ensures
+
+pub is_ready-requires-2-clause-known : goal.is_ready-requires-2-clause-known
+is_ready-requires-2-clause-known c =
+    length-take-le c.part_count-own.result c.args.facts.now (omega (arith, c.requires.first, c.requires.known, c.part_count-own.ensures)) ∙ c.part_count-own.ensures
+
+pub is_ready-requires-2-clause-marked : goal.is_ready-requires-2-clause-marked
+is_ready-requires-2-clause-marked c =
+    let own = c.part_count-own.result in
+    let front = take-put_mid_below c.args.at (c.args.at + c.part_count.result - c.args.at) c.args.marks.now c.is_ready.new.marks own (omega (arith, c.requires.first, c.part_count-own.ensures)) (omega (arith, c.requires.marked)) in
+    ap length front ∙ length-take-le own c.args.marks.now (omega (arith, c.requires.first, c.requires.marked, c.part_count-own.ensures)) ∙ c.part_count-own.ensures
 
 pub returns-then-not-branch-clause-frees : goal.returns-then-not-branch-clause-frees
 returns-then-not-branch-clause-frees c = λ total others rest known from_here.
