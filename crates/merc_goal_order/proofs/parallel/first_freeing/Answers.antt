@@ -110,6 +110,12 @@ is_freed_by-requires-clause-marked c =
     c.part_count.ensures (c.loop-index.invariant.at_is ∙ sym c.requires.known) in
     omega (arith, within, c.part_count.ensures, c.requires.known, c.requires.marked, c.loop-index.auto.marks)
 
+pub overflow_add-result : goal.overflow_add-result
+overflow_add-result c = omega (arith, c.requires.fits, c.loop-index-test.true)
+
+pub overflow_add-result-then-branch : goal.overflow_add-result-then-branch
+overflow_add-result-then-branch c = omega (arith, c.requires.fits, c.loop-index-test.true)
+
 pub returns-then-branch-clause-needs : goal.returns-then-branch-clause-needs
 returns-then-branch-clause-needs c = λ total known.
     let modes = modes_of c.args.setting.now.predicates.now in
