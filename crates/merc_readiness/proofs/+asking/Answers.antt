@@ -32,9 +32,13 @@ pub asking::advance-advance_within-requires : goal.asking::advance-advance_withi
 asking::advance-advance_within-requires t c =
     let h = parts_length c.args.goal.now in
     let size = length (all_parts (joined_by c.args.goal.now)) in
-    let own : c.part_count-own.result - 1 ≡ size = omega (arith, h, c.part_count-own.ensures) in
-    (omega (arith, h), (front_length c.args.facts.now (c.part_count-own.result - 1) size 1 (omega (arith, h, c.requires.known)) own,
-    front_length c.args.marks.now (c.part_count-own.result - 1) size 1 (omega (arith, h, c.requires.marked)) own))
+    let own : c.part_count-own.result - 1 ≡ size = omega (arith, h, c.part_count-own.ensures) in (
+      omega (arith, h),
+      (
+        front_length c.args.facts.now (c.part_count-own.result - 1) size 1 (omega (arith, h, c.requires.known)) own,
+        front_length c.args.marks.now (c.part_count-own.result - 1) size 1 (omega (arith, h, c.requires.marked)) own,
+      ),
+    )
 
 pub asking::advance-overflow_sub-own : goal.asking::advance-overflow_sub-own
 asking::advance-overflow_sub-own t c = let h = parts_length c.args.goal.now in omega arith
@@ -83,9 +87,13 @@ asking::advance_arms-advance-requires t c =
     let parts = rest_length c.args.arms.now c.loop-arm.arm-index c.arm-item.result room c.arm-item.is in
     let size = length (parts_of c.arm-item.result) in
     let end : c.loop-arm.at + c.part_count.result ≡ c.loop-arm.at + size = ap (λ n. c.loop-arm.at + n) c.part_count.ensures in
-    let within : c.loop-arm.at + c.part_count.result ≤ length (all_parts (nodes_of c.args.arms.now)) = omega (arith, parts, end, c.loop-arm.invariant.at_is) in
-    (omega (arith, within, end), (part_length c.args.facts.now c.loop-arm.at (c.loop-arm.at + c.part_count.result) size (omega (arith, within, c.requires.known)) end,
-    part_length c.loop-arm.marks c.loop-arm.at (c.loop-arm.at + c.part_count.result) size (omega (arith, within, c.requires.marked, c.loop-arm.auto.marks)) end))
+    let within : c.loop-arm.at + c.part_count.result ≤ length (all_parts (nodes_of c.args.arms.now)) = omega (arith, parts, end, c.loop-arm.invariant.at_is) in (
+      omega (arith, within, end),
+      (
+        part_length c.args.facts.now c.loop-arm.at (c.loop-arm.at + c.part_count.result) size (omega (arith, within, c.requires.known)) end,
+        part_length c.loop-arm.marks c.loop-arm.at (c.loop-arm.at + c.part_count.result) size (omega (arith, within, c.requires.marked, c.loop-arm.auto.marks)) end,
+      ),
+    )
 
 pub asking::advance_arms-returns-then-not-are_bound-clause-asked : goal.asking::advance_arms-returns-then-not-are_bound-clause-asked
 asking::advance_arms-returns-then-not-are_bound-clause-asked t c = λ span total known own_known m.
@@ -146,9 +154,13 @@ asking::advance_beside-advance-requires t c =
     let parts = rest_length c.args.goals.now c.loop-goal.goal-index c.goal-item.result room c.goal-item.is in
     let size = length (parts_of c.goal-item.result) in
     let end : c.loop-goal.at + c.part_count.result ≡ c.loop-goal.at + size = ap (λ n. c.loop-goal.at + n) c.part_count.ensures in
-    let within : c.loop-goal.at + c.part_count.result ≤ length (all_parts (nodes_of c.args.goals.now)) = omega (arith, parts, end, c.loop-goal.invariant.at_is) in
-    (omega (arith, within, end), (part_length c.args.facts.now c.loop-goal.at (c.loop-goal.at + c.part_count.result) size (omega (arith, within, c.requires.known)) end,
-    part_length c.loop-goal.marks c.loop-goal.at (c.loop-goal.at + c.part_count.result) size (omega (arith, within, c.requires.marked, c.loop-goal.auto.marks)) end))
+    let within : c.loop-goal.at + c.part_count.result ≤ length (all_parts (nodes_of c.args.goals.now)) = omega (arith, parts, end, c.loop-goal.invariant.at_is) in (
+      omega (arith, within, end),
+      (
+        part_length c.args.facts.now c.loop-goal.at (c.loop-goal.at + c.part_count.result) size (omega (arith, within, c.requires.known)) end,
+        part_length c.loop-goal.marks c.loop-goal.at (c.loop-goal.at + c.part_count.result) size (omega (arith, within, c.requires.marked, c.loop-goal.auto.marks)) end,
+      ),
+    )
 
 pub asking::advance_beside-returns-clause-same : goal.asking::advance_beside-returns-clause-same
 asking::advance_beside-returns-clause-same t c = c.undo-2.ensures ∙ undone c.args.bound.now c.loop-goal.bound c.mark-before.result c.loop-goal.invariant.extends c.mark-before.ensures
@@ -312,18 +324,26 @@ asking::advance_parts-returns-in-Quantified-clause-asked t c =
 pub chains::advance_arm-advance-requires : goal.chains::advance_arm-advance-requires
 chains::advance_arm-advance-requires t c =
     let size = length (parts_of c.args.link.now.condition) in
-    let more = length (parts_of c.args.link.now.then_part) in
-    (omega arith, (front_length c.args.facts.now c.part_count-first.result size more c.requires.known c.part_count-first.ensures,
-    front_length c.args.marks.now c.part_count-first.result size more c.requires.marked c.part_count-first.ensures))
+    let more = length (parts_of c.args.link.now.then_part) in (
+      omega arith,
+      (
+        front_length c.args.facts.now c.part_count-first.result size more c.requires.known c.part_count-first.ensures,
+        front_length c.args.marks.now c.part_count-first.result size more c.requires.marked c.part_count-first.ensures,
+      ),
+    )
 
 pub chains::advance_arm-advance-requires-2 : goal.chains::advance_arm-advance-requires-2
 chains::advance_arm-advance-requires-2 t c =
     let size = length (parts_of c.args.link.now.condition) in
     let more = length (parts_of c.args.link.now.then_part) in
     let first = c.part_count-first.result in
-    let whole = whole_length c.args.marks.now first size more c.advance.new.marks c.requires.marked c.part_count-first.ensures c.advance.auto.marks in
-    (omega arith, (tail_length c.args.facts.now first size more c.requires.known c.part_count-first.ensures,
-    tail_length (c.advance.new.marks ++ drop first c.args.marks.now) first size more whole c.part_count-first.ensures))
+    let whole = whole_length c.args.marks.now first size more c.advance.new.marks c.requires.marked c.part_count-first.ensures c.advance.auto.marks in (
+      omega arith,
+      (
+        tail_length c.args.facts.now first size more c.requires.known c.part_count-first.ensures,
+        tail_length (c.advance.new.marks ++ drop first c.args.marks.now) first size more whole c.part_count-first.ensures,
+      ),
+    )
 
 pub chains::advance_arm-returns-then-not-branch-clause-asked : goal.chains::advance_arm-returns-then-not-branch-clause-asked
 chains::advance_arm-returns-then-not-branch-clause-asked t c = λ total else_part span known own_known m.
@@ -443,9 +463,13 @@ chains::advance_links-advance_arm-requires t c =
     let size = length (parts_of c.in-Some.link.condition) + length (parts_of c.in-Some.link.then_part) in
     let next = c.loop-link.at + c.part_count.result + c.part_count-in-Some.result in
     let next_is : next ≡ c.loop-link.at + size = omega (arith, c.part_count.ensures, c.part_count-in-Some.ensures) in
-    let within : next ≤ length c.args.facts.now = omega (arith, parts, next_is, c.loop-link.invariant.end_is, c.loop-link.invariant.room) in
-    (omega (arith, parts, c.loop-link.invariant.end_is, c.loop-link.invariant.room, c.requires.known), (part_length c.args.facts.now c.loop-link.at next size within next_is,
-    part_length c.loop-link.marks c.loop-link.at next size (omega (arith, within, c.requires.known, c.requires.marked, c.loop-link.auto.marks)) next_is))
+    let within : next ≤ length c.args.facts.now = omega (arith, parts, next_is, c.loop-link.invariant.end_is, c.loop-link.invariant.room) in (
+      omega (arith, parts, c.loop-link.invariant.end_is, c.loop-link.invariant.room, c.requires.known),
+      (
+        part_length c.args.facts.now c.loop-link.at next size within next_is,
+        part_length c.loop-link.marks c.loop-link.at next size (omega (arith, within, c.requires.known, c.requires.marked, c.loop-link.auto.marks)) next_is,
+      ),
+    )
 
 pub chains::advance_links-bounds-facts-end : goal.chains::advance_links-bounds-facts-end
 chains::advance_links-bounds-facts-end t c =
@@ -457,9 +481,13 @@ chains::advance_links-bounds-facts-end t c =
 pub chains::advance_links-advance-requires : goal.chains::advance_links-advance-requires
 chains::advance_links-advance-requires t c =
     let i = c.loop-link.invariant in
-    let size = length (parts_of c.loop-link.last) in
-    (omega (arith, i.end_is, i.room, c.requires.known), (part_length c.args.facts.now c.loop-link.at c.loop-link.end size i.room i.end_is,
-    part_length c.loop-link.marks c.loop-link.at c.loop-link.end size (omega (arith, i.room, c.requires.known, c.requires.marked, c.loop-link.auto.marks)) i.end_is))
+    let size = length (parts_of c.loop-link.last) in (
+      omega (arith, i.end_is, i.room, c.requires.known),
+      (
+        part_length c.args.facts.now c.loop-link.at c.loop-link.end size i.room i.end_is,
+        part_length c.loop-link.marks c.loop-link.at c.loop-link.end size (omega (arith, i.room, c.requires.known, c.requires.marked, c.loop-link.auto.marks)) i.end_is,
+      ),
+    )
 
 pub chains::advance_links-loop-link-init : goal.chains::advance_links-loop-link-init
 chains::advance_links-loop-link-init t c = record {
@@ -576,9 +604,13 @@ sweeping::advance_all-returns-clause-asked t c = λ span own total known own_kno
 pub sweeping::ask_member-advance-requires : goal.sweeping::ask_member-advance-requires
 sweeping::ask_member-advance-requires t c =
     let size = length (parts_of c.args.goal.now) in
-    let end : c.args.at + c.part_count.result ≡ c.args.at + size = ap (λ n. c.args.at + n) c.part_count.ensures in
-    (omega arith, (part_length c.args.facts.now c.args.at (c.args.at + c.part_count.result) size (omega (arith, end, c.requires.known)) end,
-    part_length c.args.marks.now c.args.at (c.args.at + c.part_count.result) size (omega (arith, end, c.requires.marked)) end))
+    let end : c.args.at + c.part_count.result ≡ c.args.at + size = ap (λ n. c.args.at + n) c.part_count.ensures in (
+      omega arith,
+      (
+        part_length c.args.facts.now c.args.at (c.args.at + c.part_count.result) size (omega (arith, end, c.requires.known)) end,
+        part_length c.args.marks.now c.args.at (c.args.at + c.part_count.result) size (omega (arith, end, c.requires.marked)) end,
+      ),
+    )
 
 pub sweeping::ask_member-overflow_sub-end : goal.sweeping::ask_member-overflow_sub-end
 sweeping::ask_member-overflow_sub-end t c = let h = parts_length c.args.goal.now in omega (arith, c.part_count.ensures)
@@ -619,9 +651,16 @@ sweeping::ask_member-returns-clause-asks t c =
     c.if-not-branch.false c.in_ok-advance.ensures.asked)
 
 pub sweeping::sweep_all-sweep_once-requires : goal.sweeping::sweep_all-sweep_once-requires
-sweeping::sweep_all-sweep_once-requires t c =
-    (omega arith, (c.requires.known, (omega (arith, c.requires.marked, c.loop-alloc.auto.marks),
-    subst (λ l. ArePlaced c.args.goals.now l) (sym c.deref.ensures.value) c.loop-alloc.invariant.placed)))
+sweeping::sweep_all-sweep_once-requires t c = (
+  omega arith,
+  (
+    c.requires.known,
+    (
+      omega (arith, c.requires.marked, c.loop-alloc.auto.marks),
+      subst (λ l. ArePlaced c.args.goals.now l) (sym c.deref.ensures.value) c.loop-alloc.invariant.placed,
+    ),
+  ),
+)
 
 pub sweeping::sweep_all-returns-then-len-clause-asked : goal.sweeping::sweep_all-returns-then-len-clause-asked
 sweeping::sweep_all-returns-then-len-clause-asked t c = λ total start span known gone.
