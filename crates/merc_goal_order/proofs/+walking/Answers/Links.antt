@@ -26,9 +26,13 @@ use Rattle.merc_goal_order.proofs.+walking.Goals as goal
 pub links::walk_guard-walk-requires : goal.links::walk_guard-walk-requires
 links::walk_guard-walk-requires t c =
     let size = length (parts_of c.args.condition.now) in
-    let more = length (parts_of c.args.then_part.now) in
-    (omega arith, (front_length c.args.facts.now c.part_count-count.result size more c.requires.known c.part_count-count.ensures,
-    (front_length c.args.marks.now c.part_count-count.result size more c.requires.marked c.part_count-count.ensures, c.requires.seen)))
+    let more = length (parts_of c.args.then_part.now) in (
+      omega arith,
+      (
+        front_length c.args.facts.now c.part_count-count.result size more c.requires.known c.part_count-count.ensures,
+        (front_length c.args.marks.now c.part_count-count.result size more c.requires.marked c.part_count-count.ensures, c.requires.seen),
+      ),
+    )
 
 pub links::walk_chain-walk_guard-requires : goal.links::walk_chain-walk_guard-requires
 links::walk_chain-walk_guard-requires t c =
@@ -40,9 +44,13 @@ links::walk_chain-walk_guard-requires t c =
     let count = c.part_count.result + c.part_count-in-Conditional.result in
     let counts : count ≡ length (parts_of first) + length (parts_of second) = omega (arith, c.part_count.ensures, c.part_count-in-Conditional.ensures) in
     let few : length (parts_of first) + length (parts_of second) ≤ length c.loop-condition.known.now = omega (arith, some, c.loop-condition.invariant.known_is) in
-    let small : length (parts_of first) + length (parts_of second) ≤ length c.loop-condition.marks = omega (arith, some, c.loop-condition.invariant.smaller, c.requires.marked, c.loop-condition.auto.marks) in
-    (omega (arith, some, c.loop-condition.invariant.smaller), (length-take-le count c.loop-condition.known.now (omega (arith, few, counts)) ∙ counts,
-    (length-take-le count c.loop-condition.marks (omega (arith, small, counts)) ∙ counts, c.loop-condition.invariant.cleared)))
+    let small : length (parts_of first) + length (parts_of second) ≤ length c.loop-condition.marks = omega (arith, some, c.loop-condition.invariant.smaller, c.requires.marked, c.loop-condition.auto.marks) in (
+      omega (arith, some, c.loop-condition.invariant.smaller),
+      (
+        length-take-le count c.loop-condition.known.now (omega (arith, few, counts)) ∙ counts,
+        (length-take-le count c.loop-condition.marks (omega (arith, small, counts)) ∙ counts, c.loop-condition.invariant.cleared),
+      ),
+    )
 
 pub links::walk_chain-overflow_sub-last : goal.links::walk_chain-overflow_sub-last
 links::walk_chain-overflow_sub-last t c =
