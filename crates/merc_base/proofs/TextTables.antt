@@ -1,13 +1,14 @@
 -- A table of keys that stand for texts, against the list of those texts.
-use Rattle.std.proofs.Common.{◌≡◌, refl, ap, sym, ℕ, suc, ◌+◌, ◌<◌, Bool, true, false, true≢false, cond, not, ◌||◌, ◌∙◌, get_or, slice_get, is_some, Option, Some, None, IfSome, List, [], ◌∷◌, ◌++◌, map, length, position, unwrap_or, arith}
+use Rattle.std.proofs.Common.{◌≡◌, refl, ap, sym, ℕ, suc, ◌+◌, ◌<◌, Bool, true, false, true≢false, cond, not, ◌||◌, ◌∙◌, subst, get_or, slice_get, is_some, Option, Some, None, IfSome, List, [], ◌∷◌, ◌++◌, map, length, position, unwrap_or, arith}
 use Rattle.std.specs.List.{list_any, prefix_len, position_or_len, IsDistinct, AllByRecursion}
 use Rattle.std.specs.Str.{bytes_eq}
 use Rattle.std.proofs.lemmas.Slice.Eq.{bytes_eq-Decides}
 use Rattle.std.proofs.lemmas.List.Folds.{list_any-append}
 use Rattle.std.proofs.lemmas.Map.Keys.{apart_from_distinct}
 use Rattle.std.proofs.lemmas.Option.{cond_some, get_or_from_slice_get, slice_get_within}
-use Rattle.indexmap.specs.IndexSet.{insert_key}
-use Rattle.merc_base.specs.Texts.{is_among, place_among, with_text}
+use Rattle.std.proofs.lemmas.Cmp.{nat_list_eq_equiv}
+use Rattle.std.specs.Map.{lookup, KeepsOthers}
+use Rattle.merc_base.specs.Texts.{is_among, number_among, place_among, with_text}
 
 -- the place that is found is the first
 pub found_first : {K : Type 0} (test : K → Bool) (ks : List K) (found : Option ℕ) → found ≡ position test ks → IfSome found (λ place. place ≡ position_or_len test ks)
@@ -87,7 +88,7 @@ all_pushed P [] text all last = (last, tt)
 all_pushed P (other ∷ texts) text all last = (all.0, all_pushed P texts text all.1 last)
 
 -- one text more, which is new, leaves texts distinct
-pushed-distinct : (texts : List (List ℕ)) (text : List ℕ) → is_among text texts ≡ false → IsDistinct bytes_eq texts → IsDistinct bytes_eq (texts ++ text ∷ [])
+pub pushed-distinct : (texts : List (List ℕ)) (text : List ℕ) → is_among text texts ≡ false → IsDistinct bytes_eq texts → IsDistinct bytes_eq (texts ++ text ∷ [])
 unfolding IsDistinct
 pushed-distinct [] text new distinct = (tt, tt)
 pushed-distinct (other ∷ texts) text new distinct = by (bytes_eq text other) refl new (λ new'. pushed-distinct texts text new' distinct.1)
@@ -138,16 +139,83 @@ module _ {K : Type 0} (text_of : K → List ℕ) where
   IsDistinct-texts [] distinct = distinct
   IsDistinct-texts (k ∷ ks) distinct = (all-texts (λ other. bytes_eq (text_of k) other ≡ false) ks distinct.0, IsDistinct-texts ks distinct.1)
 
-  map-pushed : (ks : List K) (k : K) → map text_of (ks ++ k ∷ []) ≡ map text_of ks ++ text_of k ∷ []
-  map-pushed [] k = refl
-  map-pushed (x ∷ ks) k = ap (λ texts. text_of x ∷ texts) (map-pushed ks k)
+-- what is known of a number that is found
+pub number_first : (texts : List (List ℕ)) (text : List ℕ) (found : Option ℕ) → found ≡ number_among texts text → IfSome found (λ k. k ≡ place_among texts text)
+number_first texts text None is = tt
+number_first texts text (Some k) is = by (is_among text texts) is
+  where
+    by : (b : Bool) → Some k ≡ cond b (Some (place_among texts text)) None → k ≡ place_among texts text
+    by true same = cc
+    by false same = absurd cc
 
-  -- a key that is inserted adds its text
-  pub insert_key-texts : (ks : List K) (k : K) → map text_of (insert_key (λ x y. bytes_eq (text_of x) (text_of y)) ks k) ≡ with_text (map text_of ks) (text_of k)
-  insert_key-texts ks k = by _ _ (list_any-texts (bytes_eq (text_of k)) ks)
+pub number_known : (texts : List (List ℕ)) (text : List ℕ) (found : Option ℕ) → found ≡ number_among texts text → is_some found ≡ is_among text texts
+number_known texts text found is = ap is_some is ∙ by (is_among text texts)
+  where
+    by : (b : Bool) → is_some (cond b (Some (place_among texts text)) None) ≡ b
+    by true = refl
+    by false = refl
+
+-- where there is no text none is distinct from another
+pub none-distinct : IsDistinct bytes_eq []
+unfolding IsDistinct
+none-distinct = tt
+
+among-true : (texts : List (List ℕ)) (text : List ℕ) (k : ℕ) (b : Bool) → Some k ≡ cond b (Some (place_among texts text)) None → b ≡ true
+among-true texts text k true same = refl
+among-true texts text k false same = absurd cc
+
+-- a number that is found is below the number of texts
+pub number_within : (texts : List (List ℕ)) (text : List ℕ) (k : ℕ) → Some k ≡ number_among texts text → k < length texts
+number_within texts text k is =
+    let there = among-true texts text k (is_among text texts) is in
+    subst (λ n. n < length texts) (sym (number_first texts text (Some k) is)) (slice_get_within texts (place_among texts text) text (first_place texts text there))
+
+-- a text of the list stands where it stood once another is put behind
+kept_place : (texts : List (List ℕ)) (new text : List ℕ) → is_among text texts ≡ true → place_among (texts ++ new ∷ []) text ≡ place_among texts text
+kept_place [] new text there = absurd cc
+kept_place (other ∷ texts) new text there = by (bytes_eq text other) there (kept_place texts new text)
+  where
+    by : (b : Bool) → (b || is_among text texts) ≡ true → (is_among text texts ≡ true → place_among (texts ++ new ∷ []) text ≡ place_among texts text)
+        → cond (not b) (1 + place_among (texts ++ new ∷ []) text) 0 ≡ cond (not b) (1 + place_among texts text) 0
+    by true is later = refl
+    by false is later = ap (λ n. 1 + n) (later is)
+
+module _ (texts : List (List ℕ)) (new : List ℕ) (fresh : is_among new texts ≡ false) where
+  pushed-new : number_among (texts ++ new ∷ []) new ≡ Some (length texts)
+  pushed-new = ap (λ b. cond b (Some (place_among (texts ++ new ∷ []) new)) None) (last_place texts new)
+      ∙ ap Some (sym (new_place texts new fresh ∙ ap (λ now. place_among now new) (ap (λ b. cond b texts (texts ++ new ∷ [])) fresh)))
+
+  among-other : (text : List ℕ) → bytes_eq text new ≡ false → is_among text (texts ++ new ∷ []) ≡ is_among text texts
+  among-other text apart = list_any-append (bytes_eq text) texts (new ∷ []) ∙ ap (λ b. is_among text texts || (b || false)) apart ∙ or-false (is_among text texts)
     where
-      by : (a b : Bool) → a ≡ b → map text_of (cond a ks (ks ++ k ∷ [])) ≡ cond b (map text_of ks) (map text_of ks ++ text_of k ∷ [])
-      by true true same = refl
-      by false false same = map-pushed ks k
-      by true false same = cc
-      by false true same = cc
+      or-false : (b : Bool) → (b || (false || false)) ≡ b
+      or-false true = refl
+      or-false false = refl
+
+  pushed-other : (text : List ℕ) → bytes_eq text new ≡ false → number_among (texts ++ new ∷ []) text ≡ number_among texts text
+  pushed-other text apart = ap (λ b. cond b (Some (place_among (texts ++ new ∷ []) text)) None) (among-other text apart) ∙ by (is_among text texts) refl
+    where
+      by : (b : Bool) → is_among text texts ≡ b → cond b (Some (place_among (texts ++ new ∷ []) text)) None ≡ cond b (Some (place_among texts text)) None
+      by true is = ap Some (kept_place texts new text is)
+      by false is = refl
+
+  -- a new text's number, and those of the others, once it stands behind the others
+  pub number-pushed : (text : List ℕ) (before : Option ℕ) → before ≡ number_among texts text → cond (bytes_eq new text) (Some (length texts)) before ≡ number_among (texts ++ new ∷ []) text
+  number-pushed text before was = by (bytes_eq new text) refl
+    where
+      by : (b : Bool) → bytes_eq new text ≡ b → cond b (Some (length texts)) before ≡ number_among (texts ++ new ∷ []) text
+      by true is = sym (ap (λ t. number_among (texts ++ new ∷ []) t) (sym ((bytes_eq-Decides new text).0 is)) ∙ pushed-new)
+      by false is = was ∙ sym (pushed-other text (differ new text is))
+
+-- what is looked up once a key has another value
+pub lookup_after : {K X : Type 0} (bytes : K → List ℕ) (new text : List ℕ) (old later : List (K × X)) (value : Option X)
+    → KeepsOthers (λ one other. bytes_eq (bytes one) (bytes other)) (λ key. bytes_eq new (bytes key)) old later
+    → lookup (λ key. bytes_eq new (bytes key)) later ≡ value
+    → lookup (λ key. bytes_eq text (bytes key)) later ≡ cond (bytes_eq new text) value (lookup (λ key. bytes_eq text (bytes key)) old)
+unfolding KeepsOthers
+lookup_after bytes new text old later value keeps here = by (bytes_eq new text) refl
+  where
+    by : (b : Bool) → bytes_eq new text ≡ b → lookup (λ key. bytes_eq text (bytes key)) later ≡ cond b value (lookup (λ key. bytes_eq text (bytes key)) old)
+    by true is = subst (λ t. lookup (λ key. bytes_eq t (bytes key)) later ≡ value) ((bytes_eq-Decides new text).0 is) here
+    by false is = keeps (λ key. bytes_eq text (bytes key)) (λ one other. nat_list_eq_equiv.congr text (bytes one) (bytes other))
+        (λ key same. subst (λ t. bytes_eq text t ≡ false) ((bytes_eq-Decides new (bytes key)).0 same) (differ new text is))

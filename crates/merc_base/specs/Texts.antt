@@ -1,5 +1,5 @@
 -- Lists of texts, in which a text goes by its place from 0.
-use Rattle.std.specs.Prelude.{ℕ, Bool, not, List, [], ◌∷◌, ◌++◌, if◌then◌else◌}
+use Rattle.std.specs.Prelude.{ℕ, Bool, not, Option, Some, None, List, [], ◌∷◌, ◌++◌, if◌then◌else◌}
 use Rattle.std.specs.List.{list_any, prefix_len}
 use Rattle.std.specs.Str.{bytes_eq}
 
@@ -14,3 +14,7 @@ place_among texts text = prefix_len (λ other. not (bytes_eq text other)) texts
 -- these texts, each where it first stands
 abbrev pub with_text : List (List ℕ) → List ℕ → List (List ℕ)
 with_text texts text = if is_among text texts then texts else texts ++ text ∷ []
+
+--- the number of a text among these, where it is one of them
+abbrev pub number_among : List (List ℕ) → List ℕ → Option ℕ
+number_among texts text = if is_among text texts then Some (place_among texts text) else None

@@ -5,23 +5,32 @@ ghost use Rattle.std.specs.Str.{bytes_eq};
 ghost use Rattle.merc_base.specs.Texts.{is_among, place_among, with_text};
 
 use crate::NoMemory;
-use indexmap::IndexSet;
 use std::alloc::Global;
+use std::collections::HashMap;
 use std::marker::Model;
 
 /// Texts of which no two are equal, numbered from 0 in the order in which they came. Contracts see the list of the
 /// texts by number.
 #[derive(Drop)]
 pub struct TextTable {
-    texts: IndexSet<Vec<u8>>,
+    texts: Vec<Vec<u8>>,
+    // The number of each text.
+    numbers: HashMap<Vec<u8>, usize>,
 }
 
 impl Model for TextTable {
-    ghost use Rattle.std.specs.Prelude.{List, ℕ, map};
+    ghost use Rattle.std.specs.Prelude.{◌≡◌, List, ℕ, map};
 
     ghost Value = { List (List ℕ) };
 
-    ghost view = { λ t. map (λ text. text.items) t.texts.keys };
+    ghost view = { λ t. map (λ text. text.items) t.texts.items };
+
+    ghost use Rattle.std.specs.List.{IsDistinct};
+    ghost use Rattle.std.specs.Str.{bytes_eq};
+    ghost use Rattle.std.specs.HashMap.{get_by};
+    ghost use Rattle.merc_base.specs.Texts.{number_among};
+
+    ghost invariant = { λ t. ((text : List ℕ) → get_by (λ key. bytes_eq text key.items) t.numbers ≡ number_among (map (λ other. other.items) t.texts.items) text) × IsDistinct bytes_eq (map (λ other. other.items) t.texts.items) };
 }
 
 impl TextTable {
@@ -30,7 +39,8 @@ impl TextTable {
         ensures { result ≡ [] }
     {
         TextTable {
-            texts: IndexSet::new(alloc),
+            texts: Vec::new(alloc),
+            numbers: HashMap::new(alloc),
         }
     }
 
@@ -47,7 +57,7 @@ impl TextTable {
     pub fn contains(&self, text: &[u8]) -> bool
         ensures { result ≡ is_among text.now self.now }
     {
-        self.texts.contains(text)
+        self.numbers.contains_key(text)
     }
 
     /// The number of this text, where the table has it.
@@ -55,7 +65,7 @@ impl TextTable {
         ensures found { IfSome result (λ k. k ≡ place_among self.now text.now) }
         ensures known { is_some result ≡ is_among text.now self.now }
     {
-        self.texts.get_index_of(text)
+        self.numbers.get(text).copied()
     }
 
     /// The number of this text, which is put behind the others where the table does not have it. Where memory is
@@ -67,11 +77,15 @@ impl TextTable {
         ensures small { IfOk result (λ k. k < 2 ^ 63) }
     {
         let count = self.texts.len();
-        if let Some(place) = self.texts.get_index_of(text) {
-            return Ok(place);
+        if let Some(place) = self.numbers.get(text) {
+            return Ok(*place);
         }
-        let text = Vec::from_slice(*self.texts.allocator(), text)?;
-        self.texts.insert(text)?;
+        let alloc = *self.texts.allocator();
+        let key = Vec::from_slice(alloc, text)?;
+        let text = Vec::from_slice(alloc, text)?;
+        self.texts.reserve(1)?;
+        self.numbers.insert(key, count)?;
+        self.texts.push_reserved(text);
         Ok(count)
     }
 
@@ -79,7 +93,7 @@ impl TextTable {
     pub fn text(&self, place: usize) -> Option<&[u8]>
         ensures { option_copied result ≡ slice_get self.now place }
     {
-        let text = self.texts.get_index(place)?;
-        Some(text)
+        let text = self.texts.get(place)?;
+        Some(text.as_slice())
     }
 }

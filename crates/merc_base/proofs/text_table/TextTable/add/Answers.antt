@@ -1,32 +1,46 @@
--- The set does with its keys what the table does with their texts.
-use Rattle.std.proofs.Common.{◌≡◌, ap, ◌∙◌, sym, not, map}
+-- A new text stands behind the others, and its number with it.
+use Rattle.std.proofs.Common.{◌≡◌, ap, ◌∙◌, ◌++◌, ◌∷◌, [], subst, sym, map, length, arith, cond, ℕ, List, Some, None, is_some, false, true}
+use Rattle.std.proofs.lemmas.List.{length-map, map-append}
+use Rattle.std.specs.List.{IsDistinct}
+use Rattle.std.specs.Map.{lookup}
 use Rattle.std.specs.Str.{bytes_eq}
-use Rattle.std.proofs.lemmas.List.{length-map}
-use Rattle.merc_base.specs.Texts.{place_among, with_text}
-use Rattle.merc_base.proofs.TextTables.{found_first, with_text-present, new_place, list_any-texts, prefix_len-texts, insert_key-texts}
+use Rattle.merc_base.specs.Texts.{is_among, number_among, place_among, with_text}
+use Rattle.merc_base.proofs.TextTables.{lookup_after, number_known, number_within, number-pushed, new_place, pushed-distinct}
 use Rattle.merc_base.proofs.text_table.TextTable.add.Goals as goal
 
-pub returns-in-Some-clause-texts : goal.returns-in-Some-clause-texts
-returns-in-Some-clause-texts c = rw (← c.self.view_is) (with_text-present _ c.args.text.now
-    (c.in-Some.ensures.found ∙ list_any-texts (λ k. k.items) (bytes_eq c.args.text.now) c.self.inside.texts.keys))
+pub returns-in-Some-clause-small : goal.returns-in-Some-clause-small
+returns-in-Some-clause-small c =
+    let within = number_within (map (λ text. text.items) c.self.inside.texts.items) c.args.text.now c.in-Some.place.now (c.in-Some.ensures.value ∙ c.self.invariant.0 c.args.text.now) in
+    omega (arith, within, length-map c.self.inside.texts.items (λ text. text.items), c.self.inside.texts.small, c.self.inside.texts.ok, c.len-count.ensures)
 
-pub returns-in-Some-clause-place : goal.returns-in-Some-clause-place
-returns-in-Some-clause-place c = rw (← c.self.view_is) (found_first _ c.self.inside.texts.keys _ c.in-Some.ensures.index
-    ∙ prefix_len-texts (λ k. k.items) (λ other. not (bytes_eq c.args.text.now other)) c.self.inside.texts.keys)
+module _ (c : goal.After-push_reserved) where
+  abbrev texts : List (List ℕ)
+  texts = map (λ text. text.items) c.self.inside.texts.items
 
-pub returns-clause-texts : goal.returns-clause-texts
-returns-clause-texts c = rw (← c.self.view_is) (ap (map (λ k. k.items)) c.in_ok-insert.ensures.keys
-    ∙ insert_key-texts (λ k. k.items) c.self.inside.texts.keys c.in_ok-text.text
-    ∙ ap (with_text (map (λ k. k.items) c.self.inside.texts.keys)) c.in_ok-text.ensures.items)
+  fresh : is_among c.args.text.now texts ≡ false
+  fresh = sym (number_known texts c.args.text.now None (c.in_default.ensures.value ∙ c.self.invariant.0 c.args.text.now))
+
+  stored : map (λ text. text.items) c.push_reserved.new.self.items ≡ texts ++ c.args.text.now ∷ []
+  stored = ap (map (λ text. text.items)) (c.push_reserved.ensures.items ∙ ap (λ l. l ++ c.in_ok-text.text ∷ []) c.in_ok-reserve.ensures.items)
+      ∙ map-append (λ text. text.items) c.self.inside.texts.items (c.in_ok-text.text ∷ [])
+      ∙ ap (λ t. texts ++ t ∷ []) c.in_ok-text.ensures.items
+
+  counted : c.len-count.result ≡ length texts
+  counted = omega (arith, c.len-count.ensures, c.self.inside.texts.ok, length-map c.self.inside.texts.items (λ text. text.items))
+
+pub invariant_of-self-2 : goal.invariant_of-self-2
+invariant_of-self-2 c =
+    let new = c.args.text.now in
+    let updates = c.in_ok-insert.ensures.updates in (
+      λ text.
+          let before = lookup (λ key. bytes_eq text key.items) c.self.inside.numbers.entries in
+          lookup_after (λ key. key.items) c.in_ok-key.key.items text c.self.inside.numbers.entries c.insert.new.self.entries (Some c.len-count.result) updates.3 updates.1
+          ∙ ap (λ t. cond (bytes_eq t text) (Some c.len-count.result) before) c.in_ok-key.ensures.items
+          ∙ ap (λ n. cond (bytes_eq new text) (Some n) before) (counted c)
+          ∙ number-pushed (texts c) new (fresh c) text before (c.self.invariant.0 text)
+          ∙ ap (λ l. number_among l text) (sym (stored c)),
+      subst (λ l. IsDistinct bytes_eq l) (sym (stored c)) (pushed-distinct (texts c) new (fresh c) c.self.invariant.1),
+    )
 
 pub returns-clause-place : goal.returns-clause-place
-returns-clause-place c =
-    let texts = map (λ k. k.items) c.self.inside.texts.keys in
-    let stored : map (λ k. k.items) c.insert.new.self.keys ≡ with_text texts c.args.text.now =
-    ap (map (λ k. k.items)) c.in_ok-insert.ensures.keys
-    ∙ insert_key-texts (λ k. k.items) c.self.inside.texts.keys c.in_ok-text.text
-    ∙ ap (with_text texts) c.in_ok-text.ensures.items in
-    c.len-count.ensures.len
-    ∙ sym (length-map c.self.inside.texts.keys (λ k. k.items))
-    ∙ new_place texts c.args.text.now (sym (c.in_default.ensures.found ∙ list_any-texts (λ k. k.items) (bytes_eq c.args.text.now) c.self.inside.texts.keys))
-    ∙ ap (λ now. place_among now c.args.text.now) (sym stored)
+returns-clause-place c = counted c ∙ new_place (texts c) c.args.text.now (fresh c) ∙ ap (λ now. place_among now c.args.text.now) (ap (λ b. cond b (texts c) (texts c ++ c.args.text.now ∷ [])) (fresh c) ∙ sym (stored c))
