@@ -1,19 +1,14 @@
--- A table of keys that stand for texts, against the list of those texts.
-use Rattle.std.proofs.Common.{◌≡◌, refl, ap, sym, ℕ, suc, ◌+◌, ◌<◌, Bool, true, false, true≢false, cond, not, ◌||◌, ◌∙◌, subst, get_or, slice_get, is_some, Option, Some, None, IfSome, List, [], ◌∷◌, ◌++◌, map, length, position, unwrap_or, arith}
-use Rattle.std.specs.List.{list_any, prefix_len, position_or_len, IsDistinct, AllByRecursion}
+-- A list of texts, and the table of their numbers beside it.
+use Rattle.std.proofs.Common.{◌≡◌, refl, ap, sym, ℕ, suc, ◌+◌, ◌<◌, Bool, true, false, true≢false, cond, not, ◌||◌, ◌∙◌, subst, get_or, slice_get, is_some, Option, Some, None, IfSome, List, [], ◌∷◌, ◌++◌, length, arith}
+use Rattle.std.specs.List.{list_any, prefix_len, IsDistinct, AllByRecursion}
 use Rattle.std.specs.Str.{bytes_eq}
 use Rattle.std.proofs.lemmas.Slice.Eq.{bytes_eq-Decides}
 use Rattle.std.proofs.lemmas.List.Folds.{list_any-append}
 use Rattle.std.proofs.lemmas.Map.Keys.{apart_from_distinct}
-use Rattle.std.proofs.lemmas.Option.{cond_some, get_or_from_slice_get, slice_get_within}
+use Rattle.std.proofs.lemmas.Option.{get_or_from_slice_get, slice_get_within}
 use Rattle.std.proofs.lemmas.Cmp.{nat_list_eq_equiv}
 use Rattle.std.specs.Map.{lookup, KeepsOthers}
 use Rattle.merc_base.specs.Texts.{is_among, number_among, place_among, with_text}
-
--- the place that is found is the first
-pub found_first : {K : Type 0} (test : K → Bool) (ks : List K) (found : Option ℕ) → found ≡ position test ks → IfSome found (λ place. place ≡ position_or_len test ks)
-found_first test ks None is = tt
-found_first test ks (Some place) is = sym (cond_some _ _ _ (sym is)).1
 
 -- a text that is there changes nothing
 pub with_text-present : (texts : List (List ℕ)) (text : List ℕ) → true ≡ is_among text texts → texts ≡ with_text texts text
@@ -40,11 +35,6 @@ prefix_len-none test (x ∷ xs) none = by (test x) refl none (prefix_len-none te
     by : (b : Bool) → test x ≡ b → (b || list_any test xs) ≡ false → (list_any test xs ≡ false → prefix_len (λ y. not (test y)) xs ≡ length xs) → cond (not b) (1 + prefix_len (λ y. not (test y)) xs) 0 ≡ length (x ∷ xs)
     by true is none rest = cc
     by false is none rest = let e = rest none in omega arith
-
--- where a table does not have a text, the number of its texts stands for the place
-pub place_or_length : (texts : List (List ℕ)) (text : List ℕ) (found : Option ℕ) → IfSome found (λ place. place ≡ place_among texts text) → is_some found ≡ is_among text texts → unwrap_or found (length texts) ≡ place_among texts text
-place_or_length texts text None first known = sym (prefix_len-none (bytes_eq text) texts (sym known))
-place_or_length texts text (Some place) first known = first
 
 -- a text that is new has the place behind the others
 pub new_place : (texts : List (List ℕ)) (text : List ℕ) → is_among text texts ≡ false → length texts ≡ place_among (with_text texts text) text
@@ -118,26 +108,6 @@ distinct_places texts one other text distinct h g =
     let before = not_earlier texts one other text distinct h g in
     let after = not_earlier texts other one text distinct g h in
     omega arith
-
-module _ {K : Type 0} (text_of : K → List ℕ) where
-  -- a test of the keys' texts is a test of the texts
-  pub list_any-texts : (test : List ℕ → Bool) (ks : List K) → list_any (λ k. test (text_of k)) ks ≡ list_any test (map text_of ks)
-  list_any-texts test [] = refl
-  list_any-texts test (k ∷ ks) = ap (λ b. test (text_of k) || b) (list_any-texts test ks)
-
-  pub prefix_len-texts : (test : List ℕ → Bool) (ks : List K) → prefix_len (λ k. test (text_of k)) ks ≡ prefix_len test (map text_of ks)
-  prefix_len-texts test [] = refl
-  prefix_len-texts test (k ∷ ks) = ap (λ n. cond (test (text_of k)) (1 + n) 0) (prefix_len-texts test ks)
-
-  all-texts : (P : List ℕ → Type 0) (ks : List K) → AllByRecursion (λ k. P (text_of k)) ks → AllByRecursion P (map text_of ks)
-  all-texts P [] all = all
-  all-texts P (k ∷ ks) all = (all.0, all-texts P ks all.1)
-
-  -- keys of distinct texts
-  pub IsDistinct-texts : (ks : List K) → IsDistinct (λ x y. bytes_eq (text_of x) (text_of y)) ks → IsDistinct bytes_eq (map text_of ks)
-  unfolding IsDistinct
-  IsDistinct-texts [] distinct = distinct
-  IsDistinct-texts (k ∷ ks) distinct = (all-texts (λ other. bytes_eq (text_of k) other ≡ false) ks distinct.0, IsDistinct-texts ks distinct.1)
 
 -- what is known of a number that is found
 pub number_first : (texts : List (List ℕ)) (text : List ℕ) (found : Option ℕ) → found ≡ number_among texts text → IfSome found (λ k. k ≡ place_among texts text)
