@@ -7,7 +7,7 @@ use Rattle.merc_base.specs.declared.refusal.Detail.{Detail}
 use Rattle.merc_base.specs.declared.refusal.Detail.TheVariants.{Plain}
 use Rattle.merc_base.specs.declared.refusal.Refusal.{Refusal}
 use Rattle.merc_base.specs.declared.refusal.Fault.TheVariants.{Refused}
-use Rattle.merc_base.specs.FirstFault.{ComesFirst, AtPlaces, at, HasNone, IsFirst, AnswersFirst, IsFirstOf}
+use Rattle.merc_base.specs.FirstFault.{ComesFirst, AtPlaces, at, HasNone, AnswersFirst, IsFirstOf}
 use Rattle.merc_base.specs.FirstPlace.{StandsAt, NeverFalls, first_place, earlier, IsLeast}
 use Rattle.merc_base.proofs.FirstFaultLaws.{first_at_places}
 

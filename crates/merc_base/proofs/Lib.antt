@@ -13,3 +13,4 @@ pub mod RefusalExamples
 pub mod RefusalTable
 pub mod TextTables
 mod CharacterExamples
+mod TextExamples

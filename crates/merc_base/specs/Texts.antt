@@ -15,6 +15,6 @@ place_among texts text = prefix_len (λ other. not (bytes_eq text other)) texts
 abbrev pub with_text : List (List ℕ) → List ℕ → List (List ℕ)
 with_text texts text = if is_among text texts then texts else texts ++ text ∷ []
 
---- the number of a text among these, where it is one of them
+-- the number of a text among these, where it is one of them
 abbrev pub number_among : List (List ℕ) → List ℕ → Option ℕ
 number_among texts text = if is_among text texts then Some (place_among texts text) else None

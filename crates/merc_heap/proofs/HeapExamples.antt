@@ -1,10 +1,10 @@
 -- What the definitions of Heap say of a small heap: the pair of a text with itself, the pair of that pair with 7, and `yes` of that.
-use Rattle.std.proofs.Common.{◌≡◌, pos, List, [], ◌∷◌, refl, arith}
+use Rattle.std.proofs.Common.{◌≡◌, true, false, Some, pos, List, [], ◌∷◌, refl, arith}
 use Rattle.merc_base.specs.Names.{cons_name, nil_name, yes_name}
 use Rattle.merc_value.specs.Value.{Value, Int, Text, Con, none, more}
 use Rattle.merc_value.specs.Block.{cell_values, value_of}
 use Rattle.merc_value.specs.declared.word.Word.TheVariants.{Int as IntWord, Text as TextWord, Cell as CellWord}
-use Rattle.merc_heap.specs.Functors.{functor_numbered, inner_number, list_functor, list_number, no_functor, Extends}
+use Rattle.merc_heap.specs.Functors.{functor_numbered, inner_number, list_functor, list_number, no_functor, same_functor, Extends, IsNumberOf}
 use Rattle.merc_heap.specs.Heap.{cells_of, IsFlat, arguments_in}
 use Rattle.merc_heap.specs.declared.functors.Functor.{Functor}
 use Rattle.merc_heap.specs.Fields.{Field, field_with}
@@ -56,6 +56,27 @@ functor_numbered-inner = refl
 -- a number that no constructor has
 pub functor_numbered-none : functor_numbered others 3 ≡ no_functor
 functor_numbered-none = refl
+
+abbrev yes_functor : Functor
+yes_functor = record { symbol = yes_name; arity = 1 }
+
+pub IsNumberOf-example : IsNumberOf others yes_functor (Some 2)
+IsNumberOf-example = (omega arith, refl)
+
+-- the number of another functor is not one of this
+pub IsNumberOf-other : IsNumberOf others yes_functor (Some list_number) → ⊥
+IsNumberOf-other known = cc
+
+pub same_functor-example : same_functor yes_functor yes_functor ≡ true
+same_functor-example = refl
+
+-- the same symbol with another number of arguments is another functor
+pub same_functor-arity : same_functor yes_functor (record { symbol = yes_name; arity = 2 }) ≡ false
+same_functor-arity = refl
+
+-- another symbol with as many arguments is another functor
+pub same_functor-symbol : same_functor yes_functor (record { symbol = nil_name; arity = 1 }) ≡ false
+same_functor-symbol = refl
 
 pub Extends-example : Extends [] others
 Extends-example = record { more = others; grown = refl }

@@ -21,12 +21,12 @@ found_within [] k x found = absurd (cc)
 found_within (y ∷ xs) zero x found = omega arith
 found_within (y ∷ xs) (suc k) x found = omega (arith, found_within xs k x found)
 
-front_found : {A : Type 0} (xs ys : List A) (k : ℕ) → k < length xs → slice_get (xs ++ ys) k ≡ slice_get xs k
+pub front_found : {A : Type 0} (xs ys : List A) (k : ℕ) → k < length xs → slice_get (xs ++ ys) k ≡ slice_get xs k
 front_found [] ys k within = absurd (omega (arith, within))
 front_found (x ∷ xs) ys zero within = refl
 front_found (x ∷ xs) ys (suc k) within = front_found xs ys k (omega (arith, within))
 
-last_found : {A : Type 0} (xs : List A) (x : A) → slice_get (xs ++ x ∷ []) (length xs) ≡ Some x
+pub last_found : {A : Type 0} (xs : List A) (x : A) → slice_get (xs ++ x ∷ []) (length xs) ≡ Some x
 last_found [] x = refl
 last_found (y ∷ xs) x = last_found xs x
 

@@ -1,7 +1,8 @@
 -- The constructors of a heap's cells, which slots name by number.
-use Rattle.std.specs.Prelude.{◌≡◌, ℕ, List, ◌∷◌, ◌++◌, slice_index_or}
+use Rattle.std.specs.Prelude.{◌≡◌, ◌≤◌, ◌==◌, ◌&&◌, ℕ, Bool, List, ◌∷◌, ◌++◌, Option, Some, IfSome, slice_get, slice_index_or}
 use Rattle.merc_base.specs.Names.{nil_name, cons_name}
 use Rattle.merc_heap.specs.declared.functors.Functor.{Functor}
+use Rattle.merc_heap.specs.declared.slot.TheConstants.{MOST}
 
 -- what a field names at which no cell ends
 abbrev pub no_functor : Functor
@@ -28,3 +29,10 @@ functor_numbered others number = slice_index_or (numbered others) number no_func
 pub record Extends (old new : List Functor) : Type 0 where
   pub more : List Functor
   pub grown : new ≡ old ++ more
+
+abbrev pub same_functor : Functor → Functor → Bool
+same_functor one other = (one.symbol == other.symbol) && (one.arity == other.arity)
+
+-- a number that is found for a functor is one that slots hold, and is its own
+abbrev pub IsNumberOf : List Functor → Functor → Option ℕ → Type 0
+IsNumberOf others functor found = IfSome found (λ number. number ≤ MOST × slice_get (numbered others) number ≡ Some functor)

@@ -4,9 +4,9 @@ ghost use Rattle.merc_heap.specs.Functors.{functor_numbered, list_number, number
 ghost use Rattle.merc_heap.specs.declared.slot.TheConstants.{MOST};
 
 use crate::slot::MOST;
-use indexmap::IndexSet;
 use merc_base::{Name, NoMemory};
 use std::alloc::Global;
+use std::collections::HashMap;
 use std::marker::Model;
 
 /// A constructor with the number of its arguments.
@@ -32,7 +32,9 @@ const FEW: u32 = 8;
 /// are asked for it first. It is seen as the list of these others.
 #[derive(Drop)]
 pub struct Functors {
-    others: IndexSet<Functor>,
+    others: Vec<Functor>,
+    // The number of each of the others.
+    numbers: HashMap<Functor, u32>,
 }
 
 impl Model for Functors {
@@ -41,7 +43,12 @@ impl Model for Functors {
 
     ghost Value = { List Functor };
 
-    ghost view = { λ f. f.others.keys };
+    ghost view = { λ f. f.others.items };
+
+    ghost use Rattle.std.specs.HashMap.{get};
+    ghost use Rattle.merc_heap.specs.Functors.{same_functor, IsNumberOf};
+
+    ghost invariant = { λ f. (functor : Functor) → IsNumberOf f.others.items functor (get same_functor f.numbers functor) };
 }
 
 impl Functors {
@@ -50,7 +57,8 @@ impl Functors {
         ensures { result ≡ [] }
     {
         Functors {
-            others: IndexSet::new(alloc),
+            others: Vec::new(alloc),
+            numbers: HashMap::new(alloc),
         }
     }
 
@@ -79,17 +87,53 @@ impl Functors {
         if symbol == Name::CONS && arity == 2 {
             return Ok(LIST);
         }
-        other_number(&mut self.others, symbol, arity)
+        self.other_number(symbol, arity)
+    }
+
+    // The number of a constructor other than the one of lists, which it is given where it has none.
+    #[inline(never)]
+    fn other_number(&mut self, symbol: Name, arity: usize) -> Result<u32, NoMemory>
+        ensures number { IfOk result (λ number. slice_get (numbered self.new) number ≡ Some (record { symbol = symbol; arity = arity })) }
+        ensures small { IfOk result (λ number. number ≤ MOST) }
+        ensures others { Extends self.old self.new }
+    {
+        for number in FIRST..FIRST + FEW {
+            if is_number(&self.others, number, symbol, arity) {
+                return Ok(number);
+            }
+        }
+        self.sought_number(Functor { symbol, arity })
+    }
+
+    // The number of a constructor as `other_number` gives it, by its hash. That is seldom asked, and kept out of the way.
+    #[cold]
+    #[inline(never)]
+    fn sought_number(&mut self, functor: Functor) -> Result<u32, NoMemory>
+        ensures number { IfOk result (λ number. slice_get (numbered self.new) number ≡ Some functor) }
+        ensures small { IfOk result (λ number. number ≤ MOST) }
+        ensures others { Extends self.old self.new }
+    {
+        if let Some(number) = self.numbers.get(&functor) {
+            return Ok(*number);
+        }
+        let number = match u32::try_from(self.others.len()) {
+            Ok(count) if count <= MOST - FIRST => FIRST + count,
+            _ => return Err(NoMemory),
+        };
+        self.others.reserve(1)?;
+        self.numbers.insert(functor, number)?;
+        self.others.push_reserved(functor);
+        Ok(number)
     }
 }
 
 // The constructor of a number other than the one of lists.
-fn other_functor(others: &IndexSet<Functor>, number: u32) -> Functor
+fn other_functor(others: &[Functor], number: u32) -> Functor
     requires { number ≢ list_number }
-    ensures { result ≡ functor_numbered others.now.keys number }
+    ensures { result ≡ functor_numbered others.now number }
 {
     if number >= FIRST {
-        if let Some(functor) = others.get_index((number - FIRST) as usize) {
+        if let Some(functor) = others.get((number - FIRST) as usize) {
             return *functor;
         }
     }
@@ -99,47 +143,13 @@ fn other_functor(others: &IndexSet<Functor>, number: u32) -> Functor
     }
 }
 
-// The number of a constructor other than the one of lists, which it is given where it has none.
-#[inline(never)]
-fn other_number(others: &mut IndexSet<Functor>, symbol: Name, arity: usize) -> Result<u32, NoMemory>
-    ensures number { IfOk result (λ number. slice_get (numbered others.new.keys) number ≡ Some (record { symbol = symbol; arity = arity })) }
-    ensures small { IfOk result (λ number. number ≤ MOST) }
-    ensures others { Extends others.old.keys others.new.keys }
-{
-    for number in FIRST..FIRST + FEW {
-        if is_number(others, number, symbol, arity) {
-            return Ok(number);
-        }
-    }
-    sought_number(others, symbol, arity)
-}
-
-// The number of a constructor as `other_number` gives it, by its hash. That is seldom asked, and kept out of the way.
-#[cold]
-#[inline(never)]
-fn sought_number(
-    others: &mut IndexSet<Functor>,
-    symbol: Name,
-    arity: usize,
-) -> Result<u32, NoMemory>
-    ensures number { IfOk result (λ number. slice_get (numbered others.new.keys) number ≡ Some (record { symbol = symbol; arity = arity })) }
-    ensures small { IfOk result (λ number. number ≤ MOST) }
-    ensures others { Extends others.old.keys others.new.keys }
-{
-    let (index, _) = others.insert_full(Functor { symbol, arity })?;
-    match u32::try_from(index) {
-        Ok(index) if index <= MOST - FIRST => Ok(index + FIRST),
-        _ => Err(NoMemory),
-    }
-}
-
 // Whether this is the number of that constructor.
 #[inline(always)]
-fn is_number(others: &IndexSet<Functor>, number: u32, symbol: Name, arity: usize) -> bool
+fn is_number(others: &[Functor], number: u32, symbol: Name, arity: usize) -> bool
     requires { list_number < number }
-    ensures { IsTrue result → slice_get (numbered others.now.keys) number ≡ Some (record { symbol = symbol; arity = arity }) }
+    ensures { IsTrue result → slice_get (numbered others.now) number ≡ Some (record { symbol = symbol; arity = arity }) }
 {
-    match others.get_index((number - FIRST) as usize) {
+    match others.get((number - FIRST) as usize) {
         Some(known) => known.symbol == symbol && known.arity == arity,
         None => false,
     }

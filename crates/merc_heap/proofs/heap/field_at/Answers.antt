@@ -1,5 +1,5 @@
 -- The word of the field is read among the words of the fields.
-use Rattle.std.proofs.Common.{◌≡◌, ◌<◌, ◌≤◌, ◌∙◌, Some, List, ap, arith, length, refl, slice_get, sym}
+use Rattle.std.proofs.Common.{◌<◌, ◌≤◌, ◌∙◌, Some, List, ap, arith, length, refl, slice_get, sym}
 use Rattle.std.specs.Option.{option_map}
 use Rattle.std.proofs.lemmas.Option.{slice_get-map, slice_get_past, slice_get_read}
 use Rattle.merc_value.specs.declared.word.Word.{Word}

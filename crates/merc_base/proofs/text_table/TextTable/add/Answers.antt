@@ -1,10 +1,10 @@
 -- A new text stands behind the others, and its number with it.
-use Rattle.std.proofs.Common.{◌≡◌, ap, ◌∙◌, ◌++◌, ◌∷◌, [], subst, sym, map, length, arith, cond, ℕ, List, Some, None, is_some, false, true}
+use Rattle.std.proofs.Common.{◌≡◌, ap, ◌∙◌, ◌++◌, ◌∷◌, [], subst, sym, map, length, arith, cond, ℕ, List, Some, None, false}
 use Rattle.std.proofs.lemmas.List.{length-map, map-append}
 use Rattle.std.specs.List.{IsDistinct}
 use Rattle.std.specs.Map.{lookup}
 use Rattle.std.specs.Str.{bytes_eq}
-use Rattle.merc_base.specs.Texts.{is_among, number_among, place_among, with_text}
+use Rattle.merc_base.specs.Texts.{is_among, number_among, place_among}
 use Rattle.merc_base.proofs.TextTables.{lookup_after, number_known, number_within, number-pushed, new_place, pushed-distinct}
 use Rattle.merc_base.proofs.text_table.TextTable.add.Goals as goal
 

@@ -1,8 +1,5 @@
 -- Nothing has a number.
-use Rattle.std.proofs.Common.{◌≡◌, ap, ◌∙◌, refl, sym, subst, map, List}
-use Rattle.std.specs.List.{IsDistinct}
-use Rattle.std.specs.Str.{bytes_eq}
-use Rattle.merc_base.specs.Texts.{number_among}
+use Rattle.std.proofs.Common.{refl}
 use Rattle.merc_base.proofs.TextTables.{none-distinct}
 use Rattle.merc_base.proofs.text_table.TextTable.new.Goals as goal
 
