@@ -1,5 +1,5 @@
 -- What the definitions of Heap say of a small heap: the pair of a text with itself, the pair of that pair with 7, and `yes` of that.
-use Rattle.std.proofs.Common.{◌≡◌, true, false, Some, pos, List, [], ◌∷◌, refl, arith}
+use Rattle.std.proofs.Common.{◌≡◌, true, false, Some, pos, List, [], ◌∷◌, refl, ap, arith}
 use Rattle.merc_base.specs.Names.{cons_name, nil_name, yes_name}
 use Rattle.merc_value.specs.Value.{Value, Int, Text, Con, none, more}
 use Rattle.merc_value.specs.Block.{cell_values, value_of}
@@ -65,7 +65,11 @@ IsNumberOf-example = (omega arith, refl)
 
 -- the number of another functor is not one of this
 pub IsNumberOf-other : IsNumberOf others yes_functor (Some list_number) → ⊥
-IsNumberOf-other known = cc
+IsNumberOf-other known =
+    let is : Some list_functor ≡ Some yes_functor = known.1 in
+    let same : list_functor ≡ yes_functor = cc in
+    let counts : 2 ≡ 1 = ap (λ (f : Functor). f.arity) same in
+    omega (arith, counts)
 
 pub same_functor-example : same_functor yes_functor yes_functor ≡ true
 same_functor-example = refl
