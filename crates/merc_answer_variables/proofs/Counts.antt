@@ -5,7 +5,8 @@ use Rattle.std.proofs.lemmas.Bool.{eqb-true, ne_eqb, or_from}
 use Rattle.std.proofs.lemmas.List.Sums.{sum_by-cons, sum_by-append}
 use Rattle.merc_goals.specs.Written.{Written, WrittenGoals, Truth, Failure, Equal, Compared, Called, Conjunction, Parallel, Disjunction, Conditional, Negated, Quantified, WrongForm, OutsideProfile, no_goals, more_goals}
 use Rattle.merc_scopes.specs.declared.occurrence.Occurrence.{Occurrence}
-use Rattle.merc_scopes.specs.Scopes.{free, all_free, is_blank, without}
+use Rattle.merc_value.specs.Text.{is_blank}
+use Rattle.merc_scopes.specs.Scopes.{free, all_free, without}
 use Rattle.merc_answer_variables.specs.AnswerVariables.{count_of, count_in, is_hidden, is_hidden_among}
 use Rattle.merc_answer_variables.proofs.MapLaws.{flipped}
 

@@ -4,8 +4,7 @@ use Rattle.std.specs.List.{filter, list_any}
 use Rattle.std.proofs.lemmas.Bool.{eqb-true, eq-eqb, ne_eqb}
 use Rattle.merc_goals.specs.Written.{Written}
 use Rattle.merc_scopes.specs.declared.occurrence.Occurrence.{Occurrence}
-use Rattle.merc_scopes.specs.Scopes.{is_blank}
-use Rattle.merc_value.specs.Text.{text_at}
+use Rattle.merc_value.specs.Text.{text_at, is_blank}
 use Rattle.merc_answer_variables.specs.AnswerVariables.{begins_with_underscore, firsts, count_in, is_hidden, is_answer, answer_variables}
 use Rattle.merc_answer_variables.specs.Statuses.{Status, all_before, status_of}
 use Rattle.merc_answer_variables.specs.Reading.{is_place, is_chosen, chosen}

@@ -5,7 +5,8 @@ use Rattle.std.specs.Option.{option_or}
 use Rattle.std.proofs.lemmas.Bool.{ltb-true, ltb-false, eq-eqb, ne_eqb}
 use Rattle.merc_goals.specs.Written.{Written, WrittenGoals, Truth, Failure, Equal, Compared, Called, Conjunction, Parallel, Disjunction, Conditional, Negated, Quantified, WrongForm, OutsideProfile, no_goals, more_goals}
 use Rattle.merc_scopes.specs.declared.occurrence.Occurrence.{Occurrence}
-use Rattle.merc_scopes.specs.Scopes.{free, all_free, is_blank}
+use Rattle.merc_value.specs.Text.{is_blank}
+use Rattle.merc_scopes.specs.Scopes.{free, all_free}
 use Rattle.merc_answer_variables.specs.AnswerVariables.{count_of, count_in, is_hidden, is_hidden_among}
 use Rattle.merc_answer_variables.specs.Statuses.{Status, unseen, joined, decided, all_before, each_before, status_of, each_status}
 use Rattle.merc_answer_variables.proofs.Counts.{count-append, count-without, too_many, all_too_many}

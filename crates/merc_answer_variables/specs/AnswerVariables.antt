@@ -1,10 +1,10 @@
 -- The answer variables of a goal.
 use Rattle.std.specs.Prelude.{ℕ, ◌+◌, Bool, false, ◌==◌, ◌&&◌, ◌||◌, not, nat_lt, List, [], ◌∷◌, if◌then◌else◌}
 use Rattle.std.specs.List.{count_by, filter, list_any}
-use Rattle.merc_value.specs.Text.{text_at}
+use Rattle.merc_value.specs.Text.{text_at, is_blank}
 use Rattle.merc_goals.specs.Written.{Written, WrittenGoals, Conjunction, Parallel, Disjunction, Conditional, Negated, Quantified, no_goals, more_goals}
 use Rattle.merc_scopes.specs.declared.occurrence.Occurrence.{Occurrence}
-use Rattle.merc_scopes.specs.Scopes.{free, is_blank}
+use Rattle.merc_scopes.specs.Scopes.{free}
 
 -- The answer variables of a goal: those whose name does not begin with `_` and that occur outside every quantifier over them, unless all their occurrences
 -- lie in one negated goal, or in the condition and the then part of one if-then-else with at least one in the condition.

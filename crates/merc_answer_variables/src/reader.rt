@@ -3,11 +3,11 @@ ghost use Rattle.std.specs.Prelude.{◌≡◌, ◌<◌, ◌∷◌, ◌++◌, ℕ
 ghost use Rattle.merc_base.specs.declared.place.Span.{Span as span_record};
 ghost use Rattle.merc_goals.specs.Written.{Written, Conjunction, Parallel, Disjunction};
 ghost use Rattle.merc_goals.specs.Entries.{goals_of, with_form, conditional_of, negated, quantified_by};
-ghost use Rattle.merc_scopes.specs.Scopes.{free, is_blank};
+ghost use Rattle.merc_scopes.specs.Scopes.{free};
 ghost use Rattle.merc_answer_variables.specs.AnswerVariables.{begins_with_underscore, answer_variables};
 ghost use Rattle.merc_answer_variables.specs.Statuses.{plain_status, unseen};
 ghost use Rattle.merc_answer_variables.specs.Reading.{status, chosen, is_chosen, HoldEach, IsRead, AreTaken, IsPlain, IsBeside};
-ghost use Rattle.merc_value.specs.Text.{text_at};
+ghost use Rattle.merc_value.specs.Text.{text_at, is_blank};
 
 use crate::terms::{argument_variables, side_variables};
 use crate::variables::Variables;

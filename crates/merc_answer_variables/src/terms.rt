@@ -4,12 +4,14 @@ ghost use Rattle.merc_tree.specs.Term.{terms_of};
 ghost use Rattle.merc_tree.specs.Shape.{arguments_of};
 ghost use Rattle.merc_goals.specs.Written.{parts, parts_of};
 ghost use Rattle.merc_goals.specs.Numbers.{number_limit, BothFit, Fits};
-ghost use Rattle.merc_scopes.specs.Scopes.{is_blank, occurrences, occurrences_of};
+ghost use Rattle.merc_value.specs.Text.{is_blank};
+ghost use Rattle.merc_scopes.specs.Scopes.{occurrences, occurrences_of};
 ghost use Rattle.merc_answer_variables.specs.Reading.{own_occurrence, listed};
 
 use merc_base::{Names, NoMemory};
-use merc_scopes::{Occurrence, is_blank};
+use merc_scopes::Occurrence;
 use merc_tree::{Arguments, Shape, TermRef};
+use merc_value::is_blank;
 use std::alloc::Global;
 
 /// The variables of both sides of a goal whose number is this.

@@ -1,5 +1,5 @@
 //! Refusals: the rule that a text breaks, the place of it, and the words for both.
-ghost use Rattle.std.specs.Prelude.{◌≡◌, Some};
+ghost use Rattle.std.specs.Prelude.{◌≡◌, Some, IfOk};
 ghost use Rattle.std.specs.Fmt.{DisplaysOnOk};
 ghost use Rattle.merc_base.specs.FirstFault.{comes_first};
 ghost use Rattle.merc_base.specs.Refusal.{rule_number, rule_text, construct_word, limit_word, detail_text, refusal_text};
@@ -169,6 +169,19 @@ pub enum Detail {
     Categories(Category, Category),
     /// A conjunct of a parallel conjunction, by number from 1, and its category.
     Conjunct(u32, Category),
+}
+
+impl Detail {
+    /// The number of a conjunct as a detail has it; `NoMemory` where it is 2 ^ 32 or more, which the limits on a text rule
+    /// out.
+    pub fn conjunct_number(number: usize) -> Result<u32, NoMemory>
+        ensures { IfOk result (λ same. same ≡ number) }
+    {
+        match u32::try_from(number) {
+            Ok(same) => Ok(same),
+            Err(_) => Err(NoMemory),
+        }
+    }
 }
 
 /// A rule that a text breaks, and where.

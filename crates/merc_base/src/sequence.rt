@@ -1,5 +1,5 @@
 //! A list of items of one kind, which contracts see as the list itself.
-ghost use Rattle.std.specs.Prelude.{◌≡◌, [], ◌∷◌, ◌++◌, OnOk, OnErr};
+ghost use Rattle.std.specs.Prelude.{◌≡◌, [], ◌∷◌, ◌++◌, IfOk, OnOk, OnErr};
 
 use crate::NoMemory;
 use std::alloc::Global;
@@ -59,5 +59,14 @@ impl<T> Sequence<T> {
     {
         self.items.push(item)?;
         Ok(())
+    }
+}
+
+impl<T: Copy> Sequence<T> {
+    /// A copy of the list. `NoMemory` where memory was refused.
+    pub fn try_clone(&self, alloc: Global) -> Result<Sequence<T>, NoMemory>
+        ensures { IfOk result (λ copy. copy ≡ self.now) }
+    {
+        Ok(Sequence::from_vec(Vec::from_slice(alloc, &self.items)?))
     }
 }

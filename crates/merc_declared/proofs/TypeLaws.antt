@@ -15,7 +15,8 @@ use Rattle.merc_declared.specs.declared.known_types.UnitKey.{UnitKey}
 use Rattle.merc_declared.specs.declared.known_types.KnownTypes.{KnownTypes}
 use Rattle.merc_declared.specs.declared.known_types.Variables.TheVariants.{Any, Only}
 use Rattle.merc_item_forms.specs.Items.{TypeItem, PredicateItem}
-use Rattle.merc_item_forms.specs.Forms.{is_blank, is_this_variable, has_part, argument_type}
+use Rattle.merc_value.specs.Text.{is_blank}
+use Rattle.merc_item_forms.specs.Forms.{is_this_variable, has_part, argument_type}
 use Rattle.merc_base.specs.declared.groups.Key.{Key}
 use Rattle.merc_entries.specs.Entries.{Entry, is_key, key}
 use Rattle.merc_declared.specs.UnknownTypes.{is_known_type, is_unknown, is_unbound, has_unknown}

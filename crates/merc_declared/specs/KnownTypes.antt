@@ -11,7 +11,8 @@ use Rattle.merc_declared.specs.declared.known_types.UnitKeys.{UnitKeys}
 use Rattle.merc_declared.specs.declared.known_types.KnownTypes.{KnownTypes}
 use Rattle.merc_declared.specs.declared.known_types.Variables.{Variables}
 use Rattle.merc_declared.specs.declared.known_types.Variables.TheVariants.{Any, Only}
-use Rattle.merc_item_forms.specs.Forms.{is_blank, is_this_variable}
+use Rattle.merc_value.specs.Text.{is_blank}
+use Rattle.merc_item_forms.specs.Forms.{is_this_variable}
 use Rattle.merc_base.specs.declared.groups.Key.{Key}
 use Rattle.merc_entries.specs.Entries.{Entry, is_key, types_of, is_own, key}
 use Rattle.merc_declared.specs.UnknownTypes.{is_of_unit, declares_type, has_unknown}

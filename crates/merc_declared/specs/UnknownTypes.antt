@@ -7,7 +7,8 @@ use Rattle.merc_base.specs.declared.place.Place.{Place}
 use Rattle.merc_tree.specs.Term.{Term, Variable, Application}
 use Rattle.merc_tree.specs.Shape.{arguments_of}
 use Rattle.merc_item_forms.specs.Items.{Item, TypeItem, PredicateItem}
-use Rattle.merc_item_forms.specs.Forms.{is_blank, is_this_variable, has_part, argument_type}
+use Rattle.merc_value.specs.Text.{is_blank}
+use Rattle.merc_item_forms.specs.Forms.{is_this_variable, has_part, argument_type}
 use Rattle.merc_base.specs.declared.groups.Key.{Key}
 use Rattle.merc_entries.specs.EntryValue.{place_at}
 use Rattle.merc_entries.specs.Entries.{Entry, key, is_key, types_of, is_own}

@@ -19,9 +19,10 @@ ghost use Rattle.merc_declared.specs.KnownTypes.{has_unit_key, HoldsTypes, AddsT
 
 use merc_base::{Detail, Fault, Key, Name, Names, NoMemory, Place, Refusal, Rule};
 use merc_entries::{Entry, KeySet, type_key};
-use merc_item_forms::{Item, argument_type, is_blank};
+use merc_item_forms::{Item, argument_type};
 use merc_operands::members;
 use merc_tree::{Shape, TermRef};
+use merc_value::is_blank;
 use std::alloc::Global;
 use std::collections::BTreeSet;
 

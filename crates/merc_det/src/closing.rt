@@ -3,13 +3,12 @@ ghost use Rattle.std.specs.Prelude.{◌≡◌, ◌≤◌, ◌-◌, ℕ, suc, dro
 ghost use Rattle.merc_tree.specs.Types.{TypeExpr};
 ghost use Rattle.merc_order.specs.Procedures.{modes_of};
 ghost use Rattle.merc_graded_tree.specs.Nodes.{goal_of};
-ghost use Rattle.merc_graded_tree.specs.Roots.{arity_of, joining, root_of};
+ghost use Rattle.merc_graded_tree.specs.Roots.{arity_of, joining, label_of, root_of};
 ghost use Rattle.merc_grading.specs.Fitting.{Fits};
 ghost use Rattle.merc_grading.specs.Grading.{capped, rule};
 ghost use Rattle.merc_det.specs.Closing.{closed, known_behind_root, with_category, FitsRoot};
 
 use crate::basics::{basic_category, learn_from};
-use crate::copying::{copy_root, copy_variables, label_of};
 use crate::folding::{Joint, category_at, joined_category};
 use crate::seen::SeenSymbols;
 use crate::symbols::is_complete;
@@ -105,13 +104,23 @@ fn capped(outputs: &Vars, inner: Category) -> Category
     }
 }
 
+// What a goal has besides the goals that it joins.
+fn label_of<'a>(goal: &NodeRef<'a>) -> &'a Label
+    ensures { result.now ≡ label_of goal.now }
+{
+    match goal.part(goal.part_count() - 1) {
+        Some(label) => label,
+        None => unreachable!(),
+    }
+}
+
 // A copy of the label, with this category.
 fn with_category(alloc: Global, label: &Label, category: Category) -> Result<Label, NoMemory>
     ensures { IfOk result (λ copy. copy ≡ with_category label.now category) }
 {
     Ok(Label {
-        root: copy_root(alloc, &label.root)?,
-        outputs: copy_variables(alloc, &label.outputs)?,
+        root: label.root.try_clone(alloc)?,
+        outputs: label.outputs.try_clone(alloc)?,
         category: Some(category),
         span: label.span,
     })

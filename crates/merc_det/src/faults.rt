@@ -118,18 +118,8 @@ fn conjunct_fault(number: usize, conjunct: &NodeRef<'_>) -> Result<Option<Refusa
     Ok(Some(Refusal {
         rule: Rule::ParallelCategory,
         place: conjunct.span().start(),
-        detail: Detail::Conjunct(number_of(number)?, category),
+        detail: Detail::Conjunct(Detail::conjunct_number(number)?, category),
     }))
-}
-
-// The number in 32 bits; `NoMemory` where it has more, which the limits on a text rule out.
-fn number_of(number: usize) -> Result<u32, NoMemory>
-    ensures { IfOk result (λ same. same ≡ number) }
-{
-    match u32::try_from(number) {
-        Ok(same) => Ok(same),
-        Err(_) => Err(NoMemory),
-    }
 }
 
 // Whether a parallel conjunct may be of this category.

@@ -3,7 +3,6 @@
 
 mod basics;
 mod closing;
-mod copying;
 mod faults;
 mod folding;
 mod grading;

@@ -2,7 +2,8 @@
 ghost use Rattle.std.specs.Prelude.{◌≡◌, ◌≤◌, ◌+◌, ◌++◌, reverse, OnOk, IfOk};
 ghost use Rattle.merc_tree.specs.Shape.{shape_of};
 ghost use Rattle.merc_goals.specs.Numbers.{first_limit};
-ghost use Rattle.merc_scopes.specs.Scopes.{is_blank, occurrences};
+ghost use Rattle.merc_value.specs.Text.{is_blank};
+ghost use Rattle.merc_scopes.specs.Scopes.{occurrences};
 ghost use Rattle.merc_flat_form.specs.Levels.{scope_of};
 ghost use Rattle.merc_flat_form.specs.FlatForm.{argument_terms, head_goals, head_scope};
 ghost use Rattle.merc_flat_form.specs.HeadTasks.{head_part, head_same, head_task, head_tasks, named};
@@ -13,8 +14,9 @@ use crate::tasks::{Task, give, perform, put, variable_of};
 use merc_base::{Name, Names, NoMemory};
 use merc_goal_tree::{SimpleGoal, Var};
 use merc_goals::Numbered;
-use merc_scopes::{Occurrence, is_blank};
+use merc_scopes::Occurrence;
 use merc_tree::{Shape, TermRef};
+use merc_value::is_blank;
 use std::alloc::Global;
 
 /// What the variables of a head stand for, whose number among the parts of its clause is `at`.

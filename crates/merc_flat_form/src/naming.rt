@@ -1,7 +1,7 @@
 //! The goals by which variables have the values of terms.
 ghost use Rattle.std.specs.Prelude.{◌≡◌, [], ◌∷◌, ◌++◌, map, OnOk, IfOk};
 ghost use Rattle.merc_goals.specs.Numbers.{BothFit, Fits};
-ghost use Rattle.merc_scopes.specs.Scopes.{is_blank};
+ghost use Rattle.merc_value.specs.Text.{is_blank};
 ghost use Rattle.merc_flat_form.specs.Levels.{scope_of};
 ghost use Rattle.merc_flat_form.specs.FlatForm.{argument_terms, call_of, called, compare, compared, comparison_of, equal};
 ghost use Rattle.merc_flat_form.specs.Numbering.{sides_of};

@@ -2,7 +2,8 @@
 ghost use Rattle.std.specs.Prelude.{◌≡◌, ◌++◌, ◌∷◌, [], ℕ, List, IfOk, OnOk};
 ghost use Rattle.merc_goals.specs.Numbers.{Fits};
 ghost use Rattle.merc_known.specs.Known.{callee_in};
-ghost use Rattle.merc_scopes.specs.Scopes.{at_of, is_blank};
+ghost use Rattle.merc_value.specs.Text.{is_blank};
+ghost use Rattle.merc_scopes.specs.Scopes.{at_of};
 ghost use Rattle.merc_scopes.specs.declared.occurrence.Occurrence.{Occurrence as SeenOccurrence};
 ghost use Rattle.merc_flat_form.specs.Levels.{or_else, scope_of, shown};
 ghost use Rattle.merc_flat_form.specs.FlatForm.{simple};

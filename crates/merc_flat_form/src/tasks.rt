@@ -1,7 +1,7 @@
 //! What is to be done for the goals of terms.
 ghost use Rattle.std.specs.Prelude.{◌≡◌, ◌≤◌, [], ◌∷◌, ◌++◌, map, OnOk, IfOk, if◌then◌else◌};
 ghost use Rattle.merc_goals.specs.Numbers.{number_limit};
-ghost use Rattle.merc_scopes.specs.Scopes.{is_blank};
+ghost use Rattle.merc_value.specs.Text.{is_blank};
 ghost use Rattle.merc_flat_form.specs.Levels.{scope_of};
 ghost use Rattle.merc_flat_form.specs.FlatForm.{operation_of, variable_of};
 ghost use Rattle.merc_flat_form.specs.Numbering.{is_negative};
@@ -13,8 +13,8 @@ use crate::scope_stack::ScopeStack;
 use merc_base::{Name, Names, NoMemory};
 use merc_goal_tree::{Operation, SimpleGoal, Symbol, Var, Vars};
 use merc_goals::Numbered;
-use merc_scopes::is_blank;
 use merc_tree::Shape;
+use merc_value::is_blank;
 use std::alloc::Global;
 
 // One thing to do. The last of a list of tasks comes first.

@@ -48,7 +48,7 @@ fn put_call(
 ) -> Result<(), NoMemory>
     ensures { OnOk result (code.new ≡ Instruction.Call procedure arguments.now ∷ code.old) }
 {
-    code.put_first(Instruction::Call(procedure, copy_variables(alloc, arguments)?))
+    code.put_first(Instruction::Call(procedure, arguments.try_clone(alloc)?))
 }
 
 fn put_build(
@@ -72,7 +72,7 @@ fn build(
     ensures { IfOk result (λ instruction. instruction ≡ build_code whole symbol arguments.now) }
 {
     if !arguments.as_slice().is_empty() {
-        return Ok(Instruction::Build(whole, symbol, copy_variables(alloc, arguments)?));
+        return Ok(Instruction::Build(whole, symbol, arguments.try_clone(alloc)?));
     }
     Ok(match symbol {
         Symbol::Integer(number) => Instruction::Integer(whole, number),
@@ -102,16 +102,10 @@ fn split(
     ensures { IfOk result (λ instruction. instruction ≡ split_code whole symbol arguments.now) }
 {
     if !arguments.as_slice().is_empty() {
-        return Ok(Instruction::Split(whole, symbol, copy_variables(alloc, arguments)?));
+        return Ok(Instruction::Split(whole, symbol, arguments.try_clone(alloc)?));
     }
     Ok(match symbol {
         Symbol::Integer(_) | Symbol::Text(_) => Instruction::Literal(whole, symbol),
         Symbol::Constructor(_, _) => Instruction::Split(whole, symbol, Sequence::new(alloc)),
     })
-}
-
-fn copy_variables(alloc: Global, variables: &Vars) -> Result<Vars, NoMemory>
-    ensures { IfOk result (λ copy. copy ≡ variables.now) }
-{
-    Ok(Vars::from_vec(Vec::from_slice(alloc, variables.as_slice())?))
 }

@@ -67,7 +67,7 @@ pub(crate) fn negation_facts(
     ensures { IfOk result (λ facts. (total : ℕ → ℕ) (modes : ℕ → List ModeDecl) (goal : Node) (span : Span) → IsStretch total all.now start end (variables goal) → AreFactsOf total modes goal inner.now → AreFactsOf total modes (Negation goal span) facts) }
 {
     let owed = those_outside(alloc, all, start, end, inner.binds.as_slice())?;
-    let needs = Vars::from_vec(Vec::from_slice(alloc, inner.needs.as_slice())?);
+    let needs = inner.needs.try_clone(alloc)?;
     Ok(Facts {
         reached: true,
         binds: Vars::new(alloc),
@@ -93,7 +93,7 @@ pub(crate) fn quantified_facts(
     ensures { IfOk result (λ facts. (total : ℕ → ℕ) (modes : ℕ → List ModeDecl) (own : List ℕ) (goal : Node) (span : Span) → IsStretch total all.now start end (variables goal) → AreFactsOf total modes goal inner.now → AreFactsOf total modes (Quantified own goal span) facts) }
 {
     let binds = those_outside(alloc, all, start, end, inner.binds.as_slice())?;
-    let needs = Vars::from_vec(Vec::from_slice(alloc, inner.needs.as_slice())?);
+    let needs = inner.needs.try_clone(alloc)?;
     Ok(Facts {
         reached: inner.reached,
         binds,

@@ -1,5 +1,5 @@
 //! The order of a goal, written out.
-ghost use Rattle.std.specs.Prelude.{◌≡◌, ◌+◌, [], length, replicate, false, OnOk, IfOk};
+ghost use Rattle.std.specs.Prelude.{◌≡◌, ◌+◌, [], length, replicate, false, OnOk};
 ghost use Rattle.merc_goal_tree.specs.Nodes.{Simple, Negation, Quantified};
 ghost use Rattle.merc_goal_tree.specs.Parts.{parts_of};
 ghost use Rattle.merc_goal_order.specs.Walking.{Orders};
@@ -9,7 +9,7 @@ use crate::conjuncts::walk_conjunction;
 use crate::disjuncts::walk_disjunction;
 use crate::links::walk_chain;
 use crate::parallel::walk_parallel;
-use merc_base::{Fault, NoMemory, Rule, Span};
+use merc_base::{Fault, Rule, Span};
 use merc_goal_facts::{BoundSet, Facts};
 use merc_goal_tree::{NodeRef, NodeView, SimpleGoal, Vars};
 use merc_readiness::members;
@@ -248,7 +248,7 @@ fn walk_quantified(
         bound,
         &mut written.seen,
     )?;
-    let own = copy_of(setting.alloc, own)?;
+    let own = own.try_clone(setting.alloc)?;
     written.nodes.quantify(own, outputs, span)?;
     Ok(())
 }
@@ -258,11 +258,4 @@ pub(crate) fn clear(marks: &mut [bool])
     ensures { marks.new ≡ replicate (length marks.old) false }
 {
     marks.fill(false);
-}
-
-// A copy of the variables.
-fn copy_of(alloc: Global, variables: &Vars) -> Result<Vars, NoMemory>
-    ensures { IfOk result (λ copy. copy ≡ variables.now) }
-{
-    Ok(Vars::from_vec(Vec::from_slice(alloc, variables.as_slice())?))
 }

@@ -1,11 +1,12 @@
 //! How goals lie in a list of entries: the goals that are joined, then the one that joins them.
-ghost use Rattle.std.specs.Prelude.{◌≡◌, ◌≤◌, ◌<◌, ◌-◌, [], ◌∷◌, ◌++◌, length, take};
+ghost use Rattle.std.specs.Prelude.{◌≡◌, ◌≤◌, ◌<◌, ◌-◌, [], ◌∷◌, ◌++◌, length, take, IfOk};
 ghost use Rattle.std.specs.List.{slice_index_or, slice_range};
 ghost use Rattle.merc_graded_tree.specs.Roots.{arity_of};
 
 use crate::{BasicGoal, Site};
-use merc_base::{Category, Sequence, Span};
+use merc_base::{Category, NoMemory, Sequence, Span};
 use merc_goal_tree::{Symbol, Var, Vars};
+use std::alloc::Global;
 
 /// How the goals of a conjunction run.
 #[derive(Clone, Copy)]
@@ -67,6 +68,39 @@ impl Root {
             Root::Conditional => 3,
             Root::Negation | Root::Quantified(_) => 1,
         }
+    }
+
+    /// A copy of the root. `NoMemory` where memory was refused.
+    pub fn try_clone(&self, alloc: Global) -> Result<Root, NoMemory>
+        ensures { IfOk result (λ copy. copy ≡ self.now) }
+    {
+        match self {
+            Root::Basic(goal) => Ok(Root::Basic(goal.try_clone(alloc)?)),
+            Root::Conjunction(running, count) => Ok(Root::Conjunction(*running, *count)),
+            Root::Disjunction(count) => Ok(Root::Disjunction(*count)),
+            Root::Switch(variable, symbols) => {
+                Ok(Root::Switch(*variable, symbols.try_clone(alloc)?))
+            }
+            Root::Conditional => Ok(Root::Conditional),
+            Root::Negation => Ok(Root::Negation),
+            Root::Quantified(own) => Ok(Root::Quantified(own.try_clone(alloc)?)),
+        }
+    }
+}
+
+impl Label {
+    /// A copy of the label. `NoMemory` where memory was refused.
+    pub fn try_clone(&self, alloc: Global) -> Result<Label, NoMemory>
+        ensures { IfOk result (λ copy. copy ≡ self.now) }
+    {
+        // (the root last, since it costs much to prove what is dropped of it)
+        let outputs = self.outputs.try_clone(alloc)?;
+        Ok(Label {
+            root: self.root.try_clone(alloc)?,
+            outputs,
+            category: self.category,
+            span: self.span,
+        })
     }
 }
 

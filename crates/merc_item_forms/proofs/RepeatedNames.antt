@@ -8,7 +8,8 @@ use Rattle.std.proofs.lemmas.List.Sums.{sum_by-cons}
 use Rattle.std.specs.Ordering.{is_lt, nat_cmp}
 use Rattle.std.proofs.lemmas.Bool.Decides.{nat_tests}
 use Rattle.merc_tree.specs.Term.{Term, Variable, Integer, Text, Application}
-use Rattle.merc_item_forms.specs.Forms.{is_in, is_blank, is_this_variable, repeats}
+use Rattle.merc_value.specs.Text.{is_blank}
+use Rattle.merc_item_forms.specs.Forms.{is_in, is_this_variable, repeats}
 use Rattle.merc_item_forms.specs.Parameters.{with_name, own_variables, has_double, begins_with, has_equal_neighbors}
 
 either_way : (a b : Bool) → (a ≡ true → b ≡ true) → (b ≡ true → a ≡ true) → a ≡ b

@@ -1,9 +1,8 @@
 -- The forms of declarations and clause heads: what is wrong with an item by itself. The name of the module is that of the first item.
-use Rattle.std.specs.Prelude.{◌≡◌, ℕ, Bool, true, false, ◌==◌, ◌&&◌, ◌||◌, not, nat_lt, List, [], ◌∷◌, ◌++◌, length, Option, Some, None, is_some, if◌then◌else◌, codes}
+use Rattle.std.specs.Prelude.{◌≡◌, ℕ, Bool, true, false, ◌==◌, ◌&&◌, ◌||◌, not, nat_lt, List, [], ◌∷◌, ◌++◌, length, Option, Some, None, is_some, if◌then◌else◌}
 use Rattle.std.specs.List.{list_any, list_all, flat_map}
-use Rattle.std.specs.Str.{bytes_eq}
 use Rattle.merc_base.specs.Names.{colon_colon_name, else_name, if_name, then_name, semicolon_name, arrow_name, ampersand_name, comma_name, some_name, all_name, implies_name, equivalent_name, not_name, not_provable_name, pred_name, func_name, equal_name, not_equal_name, less_name, greater_name, at_most_name, at_least_name, true_name, fail_name, false_name, in_name, out_name, int_name, string_name, list_name, bool_name, maybe_name, require_name, det_name, semidet_name, multi_name, nondet_name, erroneous_name, failure_name, cc_multi_name, cc_nondet_name, char_name, float_name, uint_name, int8_name, int16_name, int32_name, int64_name, uint8_name, uint16_name, uint32_name, uint64_name}
-use Rattle.merc_value.specs.Text.{text_at}
+use Rattle.merc_value.specs.Text.{is_blank}
 use Rattle.merc_base.specs.declared.category.Category.{Category}
 use Rattle.merc_base.specs.declared.category.Category.TheVariants.{Det, Semidet, Multi, Nondet, Erroneous, Failure}
 use Rattle.merc_base.specs.declared.refusal.Construct.{Construct}
@@ -143,9 +142,6 @@ lacks_category None = false
 lacks_category (Some term) = not (is_category (plain_name term))
 
 -- Type parameters are distinct variables. Each `_` is a variable of its own.
-
-abbrev pub is_blank : List (List ℕ) → ℕ → Bool
-is_blank names name = bytes_eq (text_at names name) (codes "_")
 
 abbrev pub is_variable : Term → Bool
 is_variable (Variable name span) = true

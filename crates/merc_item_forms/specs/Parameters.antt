@@ -1,7 +1,8 @@
 -- Parameters that repeat, by the names of the variables.
 use Rattle.std.specs.Prelude.{ℕ, Bool, false, ◌==◌, ◌||◌, List, [], ◌∷◌, Option, Some, None, if◌then◌else◌}
 use Rattle.merc_tree.specs.Term.{Term, Variable, Integer, Text, Application}
-use Rattle.merc_item_forms.specs.Forms.{is_in, is_blank}
+use Rattle.merc_value.specs.Text.{is_blank}
+use Rattle.merc_item_forms.specs.Forms.{is_in}
 
 -- the name of a variable other than `_`
 abbrev pub own_variable : List (List ℕ) → Term → Option ℕ

@@ -13,4 +13,3 @@ pub use arguments::{argument_mode, argument_type, category_named, is_moded};
 pub use forms::{check_forms, own_name};
 pub use heads::is_foreign;
 pub use item::{Item, item_of};
-pub use parameters::is_blank;

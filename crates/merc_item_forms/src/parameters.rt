@@ -1,10 +1,12 @@
 //! Parameters of types.
 ghost use Rattle.std.specs.Prelude.{◌≡◌, IfOk};
-ghost use Rattle.merc_item_forms.specs.Forms.{is_blank, repeats};
+ghost use Rattle.merc_value.specs.Text.{is_blank};
+ghost use Rattle.merc_item_forms.specs.Forms.{repeats};
 ghost use Rattle.merc_item_forms.specs.Parameters.{own_variable, own_variables, has_equal_neighbors};
 
 use merc_base::{Name, Names, NoMemory};
 use merc_tree::{Shape, TermRef};
+use merc_value::is_blank;
 use std::alloc::Global;
 
 /// Whether a variable stands among these parameters twice. Each `_` is a variable of its own.
@@ -53,16 +55,6 @@ fn own_variable(names: &Names, term: &TermRef<'_>) -> Option<Name>
             }
         }
         _ => None,
-    }
-}
-
-/// Whether a variable is `_`.
-pub fn is_blank(names: &Names, name: Name) -> bool
-    ensures { result ≡ is_blank names.now name }
-{
-    match names.text(name) {
-        Some(text) => text == b"_".as_slice(),
-        None => false,
     }
 }
 

@@ -1,7 +1,7 @@
 -- Type variables of declarations: named ones are apart where their names are, and each `_` is apart from all others.
 use Rattle.std.proofs.Common.{◌≡◌, ℕ, ◌+◌, ◌<◌, Bool, true, false, List, length, if◌then◌else◌, ap, sym, ◌∙◌, arith}
 use Rattle.merc_base.specs.declared.place.Span.{Span}
-use Rattle.merc_item_forms.specs.Forms.{is_blank}
+use Rattle.merc_value.specs.Text.{is_blank}
 use Rattle.merc_items.specs.ModuleOf.{type_variable}
 
 module _ (names : List (List ℕ)) (name other : ℕ) (span place : Span) where

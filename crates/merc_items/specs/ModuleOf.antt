@@ -18,7 +18,8 @@ use Rattle.merc_tree.specs.declared.declarations.Clause.{Clause}
 use Rattle.merc_tree.specs.declared.declarations.Module.{Module}
 use Rattle.merc_item_forms.specs.Items.{Item, TypeItem, PredicateItem, ModeItem, ClauseItem}
 use Rattle.merc_operands.specs.Operands.{plain_name}
-use Rattle.merc_item_forms.specs.Forms.{is_blank, argument_type, argument_mode, category_named}
+use Rattle.merc_value.specs.Text.{is_blank}
+use Rattle.merc_item_forms.specs.Forms.{argument_type, argument_mode, category_named}
 use Rattle.merc_base.specs.declared.groups.Key.{Key}
 use Rattle.merc_entries.specs.Entries.{Entry, key_of, has_mode, is_out, units_of, own_entries, is_own, are_keys}
 use Rattle.merc_item_forms.specs.FormFaults.{own_name}

@@ -106,9 +106,9 @@ fn copy_modes(alloc: Global, modes: &ModeDecls) -> Result<ModeDecls, NoMemory>
 fn push_copy(alloc: Global, mode: &ModeDecl, modes: &mut ModeDecls) -> Result<(), NoMemory>
     ensures { OnOk result (modes.new ≡ modes.old ++ mode.now ∷ []) }
 {
-    let args = Vec::from_slice(alloc, mode.args.as_slice())?;
+    let args = mode.args.try_clone(alloc)?;
     modes.push(ModeDecl {
-        args: Args::from_vec(args),
+        args,
         category: mode.category,
         span: mode.span,
     })

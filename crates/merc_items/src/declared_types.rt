@@ -6,8 +6,9 @@ ghost use Rattle.merc_items.specs.ModuleOf.{declared_type, type_variable};
 ghost use Rattle.merc_items.specs.DeclaredTypes.{with_part};
 
 use merc_base::{Name, Names, NoMemory, Span};
-use merc_item_forms::{argument_type, is_blank};
+use merc_item_forms::argument_type;
 use merc_tree::{Shape, TermRef, TypeExprs};
+use merc_value::is_blank;
 use std::alloc::Global;
 
 /// The types that terms declare, in order.

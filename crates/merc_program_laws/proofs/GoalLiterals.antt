@@ -10,7 +10,8 @@ use Rattle.merc_goal_tree.specs.declared.goal.SimpleGoal.{SimpleGoal}
 use Rattle.merc_known.specs.declared.callee.Callee.{Callee}
 use Rattle.merc_known.specs.Known.{callee_in}
 use Rattle.merc_scopes.specs.declared.occurrence.Occurrence.{Occurrence}
-use Rattle.merc_scopes.specs.Scopes.{introduced, is_blank}
+use Rattle.merc_value.specs.Text.{is_blank}
+use Rattle.merc_scopes.specs.Scopes.{introduced}
 use Rattle.merc_answer_variables.specs.AnswerVariables.{answer_variables}
 use Rattle.merc_flat_form.specs.FlatForm.{argument_terms, body_goals, called, compared, equal, flat, flat_all, flat_each, head_goals, head_scope, one_goal, simple}
 use Rattle.merc_flat.specs.Flat.{arity_of, query_node}

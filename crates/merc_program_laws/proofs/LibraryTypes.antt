@@ -5,7 +5,7 @@ use Rattle.std.specs.Str.{bytes_eq}
 use Rattle.merc_base.specs.Names.{HoldsFixed, bool_name, fixed_names, list_name, maybe_name, t_name}
 use Rattle.merc_base.specs.declared.place.Span.{Span}
 use Rattle.merc_tree.specs.Term.{Term}
-use Rattle.merc_item_forms.specs.Forms.{is_blank}
+use Rattle.merc_value.specs.Text.{is_blank}
 use Rattle.merc_item_forms.specs.Items.{item_of}
 use Rattle.merc_entries.specs.LibraryItems.{bool_items, library_items, list_items, maybe_items}
 use Rattle.merc_items.specs.ModuleOf.{type_variable}

@@ -8,7 +8,8 @@ use Rattle.merc_tree.specs.Term.{Term, Terms, Variable, Integer, Text, Applicati
 use Rattle.merc_tree.specs.Shape.{arguments_of}
 use Rattle.merc_tree.specs.Types.{TypeExprs, IntType, TextType, TypeApplication, no_types, more_types}
 use Rattle.merc_tree.specs.declared.declarations.Constructor.{Constructor}
-use Rattle.merc_item_forms.specs.Forms.{has_part, have_part, is_blank, is_this_variable}
+use Rattle.merc_value.specs.Text.{is_blank}
+use Rattle.merc_item_forms.specs.Forms.{has_part, have_part, is_this_variable}
 use Rattle.merc_item_forms.specs.Items.{Item, Opening, Ending, Section, Import, TypeItem, PredicateItem, ModeItem, ClauseItem, OtherType, OtherFunction, OtherGrammar, OtherDeclaration, Formless}
 use Rattle.merc_entries.specs.Entries.{Entry}
 use Rattle.merc_declared.specs.UnknownTypes.{has_unknown, is_unbound, is_unknown}

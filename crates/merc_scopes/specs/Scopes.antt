@@ -1,18 +1,12 @@
 -- Which variables of a goal are one variable.
-use Rattle.std.specs.Prelude.{ℕ, ◌+◌, Bool, ◌==◌, not, nat_le, List, [], ◌∷◌, ◌++◌, Option, Some, None, codes, if◌then◌else◌}
+use Rattle.std.specs.Prelude.{ℕ, ◌+◌, Bool, ◌==◌, not, nat_le, List, [], ◌∷◌, ◌++◌, Option, Some, None, if◌then◌else◌}
 use Rattle.std.specs.List.{count_by, filter, flat_map, list_any}
-use Rattle.std.specs.Str.{bytes_eq}
 use Rattle.merc_tree.specs.Term.{Term, Terms, Variable, Application, none, more}
-use Rattle.merc_value.specs.Text.{text_at}
 use Rattle.merc_goals.specs.Written.{Written, WrittenGoals, Equal, Compared, Called, Conjunction, Parallel, Disjunction, Conditional, Negated, Quantified, no_goals, more_goals, parts}
 use Rattle.merc_scopes.specs.declared.occurrence.Occurrence.{Occurrence}
 
 abbrev pub occurrence : ℕ → ℕ → Occurrence
 occurrence name at = record { name = name; at = at }
-
--- whether a name is `_`, given the texts of names
-abbrev pub is_blank : List (List ℕ) → ℕ → Bool
-is_blank names name = bytes_eq (text_at names name) (codes "_")
 
 -- the number of the first of some occurrences that has a name
 abbrev pub at_of : ℕ → List Occurrence → Option ℕ

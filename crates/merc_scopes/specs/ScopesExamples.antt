@@ -4,7 +4,8 @@ use Rattle.merc_base.specs.Names.{less_name}
 use Rattle.merc_base.specs.declared.place.Span.{Span}
 use Rattle.merc_tree.specs.Term.{Term, Variable, Application, none, more}
 use Rattle.merc_goals.specs.Written.{Written, no_goals, more_goals, Equal, Compared, Called, Conjunction, Parallel, Disjunction, Conditional, Negated, Quantified}
-use Rattle.merc_scopes.specs.Scopes.{at_of, free, introduced, is_blank, occurrence, own, shared}
+use Rattle.merc_value.specs.Text.{is_blank}
+use Rattle.merc_scopes.specs.Scopes.{at_of, free, introduced, occurrence, own, shared}
 
 -- The names `X`, `Y` and `Z`, `_`, and `a` have numbers behind those of the constants.
 

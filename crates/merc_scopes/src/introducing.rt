@@ -3,7 +3,8 @@ ghost use Rattle.std.specs.Prelude.{◌≡◌, ◌+◌, ◌≤◌, ◌<◌, ◌�
 ghost use Rattle.merc_goals.specs.Written.{Written};
 ghost use Rattle.merc_goals.specs.Entries.{entries_of, with_form};
 ghost use Rattle.merc_scopes.specs.declared.occurrence.Occurrence.{Occurrence as occurrence_record};
-ghost use Rattle.merc_scopes.specs.Scopes.{is_blank, own, without};
+ghost use Rattle.merc_value.specs.Text.{is_blank};
+ghost use Rattle.merc_scopes.specs.Scopes.{own, without};
 ghost use Rattle.merc_scopes.specs.Bindings.{AreBindings};
 ghost use Rattle.merc_scopes.specs.FirstPlaces.{Holds};
 ghost use Rattle.merc_scopes.specs.Standing.{AllHold, Stands, IsJoined, GoesOn, needs};

@@ -4,16 +4,17 @@ ghost use Rattle.std.specs.Option.{option_or};
 ghost use Rattle.merc_tree.specs.Term.{terms_of};
 ghost use Rattle.merc_tree.specs.Shape.{arguments_of};
 ghost use Rattle.merc_goals.specs.Written.{parts};
-ghost use Rattle.merc_scopes.specs.Scopes.{at_of, is_blank, occurrence, occurrences, occurrences_of};
+ghost use Rattle.merc_value.specs.Text.{is_blank};
+ghost use Rattle.merc_scopes.specs.Scopes.{at_of, occurrence, occurrences, occurrences_of};
 ghost use Rattle.merc_scopes.specs.FirstPlaces.{place_in, IsInStep, Lists};
 ghost use Rattle.merc_goals.specs.Numbers.{numbered_from, BothFit, Fits};
 ghost use Rattle.merc_scopes.specs.Walking.{stacked};
 
-use crate::is_blank;
 use crate::listing::Listing;
 use merc_base::{Name, Names, NoMemory};
 use merc_goals::{Numbered, left_of, number_behind, right_of};
 use merc_tree::{Shape, TermRef};
+use merc_value::is_blank;
 use std::alloc::Global;
 
 /// The variables of both sides of the operator whose term has this number.

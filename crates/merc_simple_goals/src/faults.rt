@@ -51,18 +51,9 @@ fn needing(
 {
     match (rule, other) {
         (Rule::NeverReady, Some(other)) => {
-            Ok(Detail::Pair(number_of(number)?, number_of(other)?))
+            let number = Detail::conjunct_number(number)?;
+            Ok(Detail::Pair(number, Detail::conjunct_number(other)?))
         }
         _ => Ok(detail),
-    }
-}
-
-// The number in 32 bits; `NoMemory` where it has more, which the limits on a text rule out.
-fn number_of(number: usize) -> Result<u32, NoMemory>
-    ensures { IfOk result (λ same. same ≡ number) }
-{
-    match u32::try_from(number) {
-        Ok(same) => Ok(same),
-        Err(_) => Err(NoMemory),
     }
 }

@@ -14,7 +14,6 @@ ghost use Rattle.merc_switch.specs.Selections.{MayCount};
 ghost use Rattle.merc_switch.specs.Tasks.{Performs};
 ghost use Rattle.merc_switch.specs.Plans.{disjunction_plan, switch_plan, group_plan, finds, arm_plan, inner_group, outer_label, choice_left, AreNarrowed, HaveSymbol};
 
-use crate::copying::copy_variables;
 use crate::handing::{Handed, take_counts};
 use crate::selection::Selection;
 use crate::tasks::{Group, Task, Tasks};
@@ -189,7 +188,7 @@ fn inner_outputs(
     ensures selection { selected.new ≡ selected.old }
 {
     if narrowed {
-        return copy_variables(alloc, outputs);
+        return outputs.try_clone(alloc);
     }
     selected.outputs(alloc)
 }

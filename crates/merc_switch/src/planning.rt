@@ -3,7 +3,7 @@ ghost use Rattle.std.specs.Prelude.{◌≡◌, ◌∷◌, ◌++◌, length, IfOk
 ghost use Rattle.merc_grading.specs.Switches.{split_variables};
 ghost use Rattle.merc_switch.specs.Plans.{plan, in_turn, disjoined, decided};
 
-use crate::copying::{copy_variables, label_with};
+use crate::copying::label_with;
 use crate::selection::Selection;
 use crate::tasks::{Group, Task, Tasks};
 use crate::whole::Whole;
@@ -44,7 +44,7 @@ pub(crate) fn plan_goal<'a>(
             plan_one(label, inner, tasks)
         }
         NodeView::Quantified(own, inner) => {
-            let own = copy_variables(alloc, own)?;
+            let own = own.try_clone(alloc)?;
             let label = label_with(alloc, goal, Root::Quantified(own))?;
             plan_one(label, inner, tasks)
         }
@@ -102,7 +102,7 @@ fn plan_disjunction<'a>(
 {
     let disjuncts = disjuncts_of(alloc, goals)?;
     let left = split_count(&disjuncts)?;
-    let outputs = copy_variables(alloc, whole.outputs())?;
+    let outputs = whole.outputs().try_clone(alloc)?;
     // (the disjuncts last, since it costs much to prove what is dropped of them)
     let selected = selection_of(alloc, whole, disjuncts)?;
     tasks.push(Task::Judge(Group {

@@ -1,9 +1,9 @@
 -- What the definitions of Text say of some values.
-use Rattle.std.specs.Prelude.{◌≡◌, ℕ, pos, negsuc, true, List, [], ◌∷◌, codes, refl}
+use Rattle.std.specs.Prelude.{◌≡◌, ℕ, pos, negsuc, true, false, List, [], ◌∷◌, codes, refl}
 use Rattle.std.specs.Fmt.{digits}
 use Rattle.merc_base.specs.Names.{cons_name, nil_name}
 use Rattle.merc_value.specs.Value.{Value, Int, Text, Con, none, more}
-use Rattle.merc_value.specs.Text.{word_operators, is_plain, name_text, value_text}
+use Rattle.merc_value.specs.Text.{is_blank, word_operators, is_plain, name_text, value_text}
 
 -- a table of names, and the number of each
 abbrev pub some_names : List (List ℕ)
@@ -136,3 +136,13 @@ name_text-operator = refl
 pub is_plain-counterexample : is_plain (codes "rem") ≡ true → ⊥
 unfolding word_operators
 is_plain-counterexample same = cc
+
+pub is_blank-example : is_blank (codes "f" ∷ codes "_" ∷ []) 1 ≡ true
+is_blank-example = refl
+
+-- a name that begins so is another one
+pub is_blank-longer : is_blank (codes "_f" ∷ []) 0 ≡ false
+is_blank-longer = refl
+
+pub is_blank-unknown : is_blank some_names unknown_name ≡ false
+is_blank-unknown = refl

@@ -1,6 +1,7 @@
 -- The text of a value, in the syntax of the language.
 use Rattle.std.specs.Prelude.{ℕ, Bool, false, not, ◌&&◌, ◌||◌, ◌==◌, List, [], ◌∷◌, ◌++◌, codes, slice_get, unwrap_or, if◌then◌else◌}
 use Rattle.std.specs.List.{list_all, flat_map}
+use Rattle.std.specs.Str.{bytes_eq}
 use Rattle.std.specs.Char.{is_ascii_lowercase, is_ascii_alphanumeric}
 use Rattle.std.specs.Fmt.{signed_decimal}
 use Rattle.merc_base.specs.Texts.{is_among}
@@ -11,6 +12,10 @@ use Rattle.merc_value.specs.Value.{Value, Values, Int, Text, Con, none, more}
 -- the text of a name; a name that the table does not hold has the empty text
 abbrev pub text_at : List (List ℕ) → ℕ → List ℕ
 text_at names name = unwrap_or (slice_get names name) []
+
+-- whether a name is `_`
+abbrev pub is_blank : List (List ℕ) → ℕ → Bool
+is_blank names name = bytes_eq (text_at names name) (codes "_")
 
 -- a byte within quotes: a backslash stands before a quote and a backslash, and in the names of a line end and a tab
 abbrev pub escape : ℕ → ℕ → List ℕ

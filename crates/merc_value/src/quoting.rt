@@ -2,7 +2,7 @@
 ghost use Rattle.std.specs.Prelude.{◌≡◌, ◌++◌, IfOk, OnOk};
 ghost use Rattle.std.specs.List.{list_all, list_any};
 ghost use Rattle.std.specs.Str.{bytes_eq};
-ghost use Rattle.merc_value.specs.Text.{text_at, escape, quoted, is_word_byte, is_word, is_plain, name_text};
+ghost use Rattle.merc_value.specs.Text.{text_at, is_blank, escape, quoted, is_word_byte, is_word, is_plain, name_text};
 
 use merc_base::{Name, Names, NoMemory, Text};
 use std::alloc::Global;
@@ -33,6 +33,13 @@ pub fn text_of<'a>(names: &'a Names, name: Name) -> &'a [u8]
     ensures { result.now ≡ text_at names.now name }
 {
     names.text(name).unwrap_or(b"")
+}
+
+/// Whether a name is `_`. A variable of this name is another one wherever it stands.
+pub fn is_blank(names: &Names, name: Name) -> bool
+    ensures { result ≡ is_blank names.now name }
+{
+    text_of(names, name) == b"_".as_slice()
 }
 
 /// A text within quotes of this byte: a backslash stands before that byte and a backslash, and a line end and a tab are

@@ -1,7 +1,7 @@
 use Rattle.std.proofs.Common.{◌≡◌, ◌++◌, List, length}
 use Rattle.merc_goals.specs.Entries.{entries_of, goals_in}
 use Rattle.merc_goals.specs.Entries.{GoalEntry}
-use Rattle.merc_scopes.specs.Scopes.{is_blank}
+use Rattle.merc_value.specs.Text.{is_blank}
 use Rattle.merc_answer_variables.specs.Reading.{IsRead}
 use Rattle.merc_answer_variables.proofs.answers.answer_variables.Given as goal
 

@@ -1,6 +1,6 @@
 use Rattle.std.proofs.Common.{◌≡◌, ◌+◌, ◌++◌, reverse, ◌∙◌, ap, arith, refl}
 use Rattle.merc_tree.specs.Shape.{arguments_of}
-use Rattle.merc_scopes.specs.Scopes.{is_blank}
+use Rattle.merc_value.specs.Text.{is_blank}
 use Rattle.merc_answer_variables.proofs.TermLaws.{term_parts, term_step}
 use Rattle.merc_answer_variables.proofs.terms.term_variables.Goals as goal
 

@@ -1,6 +1,6 @@
 use Rattle.std.proofs.Common.{◌≡◌, ◌≤◌, ◌+◌, ◌++◌, reverse}
 use Rattle.merc_goals.specs.Numbers.{number_limit}
-use Rattle.merc_scopes.specs.Scopes.{is_blank}
+use Rattle.merc_value.specs.Text.{is_blank}
 use Rattle.merc_answer_variables.specs.Reading.{listed}
 use Rattle.merc_answer_variables.proofs.TermLaws.{all_parts}
 use Rattle.merc_answer_variables.proofs.terms.term_variables.Given as goal

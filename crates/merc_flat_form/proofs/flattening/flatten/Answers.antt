@@ -2,7 +2,7 @@ use Rattle.std.proofs.Common.{◌≡◌, ◌+◌, ◌<◌, ◌++◌, ◌∷◌, 
 use Rattle.std.proofs.lemmas.List.{drop_more}
 use Rattle.merc_goals.specs.Entries.{goals_in}
 use Rattle.merc_known.specs.Known.{callee_in}
-use Rattle.merc_scopes.specs.Scopes.{is_blank}
+use Rattle.merc_value.specs.Text.{is_blank}
 use Rattle.merc_flat_form.specs.Levels.{scope_of}
 use Rattle.merc_flat_form.specs.FlatForm.{flat}
 use Rattle.merc_flat_form.proofs.Walking.{bindings_within, started, walked}

@@ -1,6 +1,7 @@
 use Rattle.std.proofs.Common.{◌+◌, ap, ◌∙◌}
 use Rattle.std.proofs.lemmas.Result.{IfOk-weaker}
-use Rattle.merc_scopes.specs.Scopes.{at_of, is_blank}
+use Rattle.merc_value.specs.Text.{is_blank}
+use Rattle.merc_scopes.specs.Scopes.{at_of}
 use Rattle.merc_flat_form.specs.FlatForm.{argument_terms, head_scope}
 use Rattle.merc_flat_form.proofs.flattening.head_stack.Goals as goal
 

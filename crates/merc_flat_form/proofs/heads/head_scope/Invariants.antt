@@ -1,5 +1,5 @@
 use Rattle.std.proofs.Common.{◌≡◌, ◌++◌, drop}
-use Rattle.merc_scopes.specs.Scopes.{is_blank}
+use Rattle.merc_value.specs.Text.{is_blank}
 use Rattle.merc_flat_form.specs.HeadTasks.{head_parts}
 use Rattle.merc_flat_form.proofs.heads.head_scope.Given as goal
 

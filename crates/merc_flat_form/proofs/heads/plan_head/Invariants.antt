@@ -1,5 +1,5 @@
 use Rattle.std.proofs.Common.{◌≡◌, ◌++◌, length}
-use Rattle.merc_scopes.specs.Scopes.{is_blank}
+use Rattle.merc_value.specs.Text.{is_blank}
 use Rattle.merc_flat_form.specs.Levels.{scope_of}
 use Rattle.merc_flat_form.specs.HeadTasks.{head_tasks}
 use Rattle.merc_flat_form.proofs.heads.plan_head.Given as goal

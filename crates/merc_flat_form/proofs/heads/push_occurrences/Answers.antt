@@ -1,7 +1,7 @@
 use Rattle.std.proofs.Common.{◌≡◌, [], ◌∷◌, ◌++◌, reverse, ap, sym, ◌∙◌}
 use Rattle.merc_tree.specs.Shape.{shape_of}
 use Rattle.merc_goals.specs.Numbers.{NumberedTerm}
-use Rattle.merc_scopes.specs.Scopes.{is_blank}
+use Rattle.merc_value.specs.Text.{is_blank}
 use Rattle.merc_flat_form.proofs.HeadLaws.{part_less, variable_less, arguments_step, variable_step}
 use Rattle.merc_flat_form.proofs.heads.push_occurrences.Goals as goal
 

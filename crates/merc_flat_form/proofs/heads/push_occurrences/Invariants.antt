@@ -1,5 +1,6 @@
 use Rattle.std.proofs.Common.{◌≡◌, ◌++◌}
-use Rattle.merc_scopes.specs.Scopes.{is_blank, occurrences}
+use Rattle.merc_value.specs.Text.{is_blank}
+use Rattle.merc_scopes.specs.Scopes.{occurrences}
 use Rattle.merc_flat_form.proofs.HeadLaws.{waiting, sizes}
 use Rattle.merc_flat_form.proofs.heads.push_occurrences.Given as goal
 

@@ -8,4 +8,4 @@ pub returns : goal.returns
 returns c = λ total modes own goal span stretch known.
     quantified_are total modes own goal span c.args.all.now c.args.start c.args.end c.args.inner.now _ stretch known refl
     (c.in_ok-binds.ensures ∙ ap (filter (λ variable. occurs_outside c.args.all.now c.args.start c.args.end variable)) c.as_slice.ensures) c.new.ensures c.new-2.ensures
-    (c.from_vec-needs.ensures ∙ c.in_ok-from_slice.ensures.items ∙ c.as_slice-2.ensures) refl
+    c.in_ok-needs.ensures refl

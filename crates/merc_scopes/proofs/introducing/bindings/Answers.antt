@@ -1,6 +1,6 @@
 use Rattle.std.proofs.Common.{◌-◌, ◌≤◌, length, drop, ap, sym, ◌∙◌, arith}
 use Rattle.merc_goals.specs.Entries.{goals_in}
-use Rattle.merc_scopes.specs.Scopes.{is_blank}
+use Rattle.merc_value.specs.Text.{is_blank}
 use Rattle.merc_scopes.specs.Standing.{needs}
 use Rattle.merc_scopes.proofs.Begins.{begins_before}
 use Rattle.merc_scopes.proofs.Completeness.{sub_goals}

@@ -1,6 +1,6 @@
 use Rattle.std.proofs.Common.{reverse, drop}
 use Rattle.merc_goals.specs.Entries.{goals_in}
-use Rattle.merc_scopes.specs.Scopes.{is_blank}
+use Rattle.merc_value.specs.Text.{is_blank}
 use Rattle.merc_scopes.specs.Bindings.{AreBindings}
 use Rattle.merc_scopes.specs.Standing.{Stands}
 use Rattle.merc_scopes.proofs.introducing.bindings.Given as goal

@@ -3,7 +3,8 @@ use Rattle.std.proofs.lemmas.Result.{IfOk-weaker}
 use Rattle.merc_goals.specs.Entries.{GoalEntry}
 use Rattle.merc_goals.specs.declared.goal.Form.TheVariants.{Quantified as QuantifiedForm}
 use Rattle.merc_scopes.specs.declared.occurrence.Occurrence.{Occurrence}
-use Rattle.merc_scopes.specs.Scopes.{free, is_blank}
+use Rattle.merc_value.specs.Text.{is_blank}
+use Rattle.merc_scopes.specs.Scopes.{free}
 use Rattle.merc_scopes.specs.Standing.{needs}
 use Rattle.merc_scopes.proofs.Reading.{read_called, read_conjunction, read_disjunction, read_conditional, read_quantified}
 use Rattle.merc_scopes.proofs.introducing.read_entry.Goals as goal

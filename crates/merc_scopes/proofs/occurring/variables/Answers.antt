@@ -1,6 +1,6 @@
 use Rattle.std.proofs.Common.{◌≡◌, [], ◌∷◌, ◌++◌, ap, sym, ◌∙◌}
 use Rattle.merc_goals.specs.Numbers.{NumberedTerm}
-use Rattle.merc_scopes.specs.Scopes.{is_blank}
+use Rattle.merc_value.specs.Text.{is_blank}
 use Rattle.merc_scopes.proofs.Walks.{arguments_step, popped_less, pushed_less, variable_step}
 use Rattle.merc_scopes.proofs.occurring.variables.Goals as goal
 

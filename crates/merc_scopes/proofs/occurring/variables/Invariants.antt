@@ -1,6 +1,7 @@
 use Rattle.std.proofs.Common.{◌≡◌, ℕ}
 use Rattle.std.specs.Option.{option_or}
-use Rattle.merc_scopes.specs.Scopes.{at_of, is_blank}
+use Rattle.merc_value.specs.Text.{is_blank}
+use Rattle.merc_scopes.specs.Scopes.{at_of}
 use Rattle.merc_scopes.specs.FirstPlaces.{place_in, IsInStep}
 use Rattle.merc_scopes.specs.Walking.{stacked}
 use Rattle.merc_scopes.proofs.Walks.{parts_all}

@@ -2,7 +2,7 @@ use Rattle.std.proofs.Common.{List, ◌++◌, ap, subst, ◌∙◌, reverse, ◌
 use Rattle.std.specs.Result.{IfOk}
 use Rattle.merc_tree.specs.Shape.{arguments_of}
 use Rattle.merc_scopes.specs.declared.occurrence.Occurrence.{Occurrence}
-use Rattle.merc_scopes.specs.Scopes.{is_blank}
+use Rattle.merc_value.specs.Text.{is_blank}
 use Rattle.merc_scopes.specs.FirstPlaces.{Lists}
 use Rattle.merc_goals.specs.Numbers.{numbered_from}
 use Rattle.merc_scopes.specs.Walking.{stacked}

@@ -1,6 +1,6 @@
 use Rattle.std.proofs.Common.{List, [], ◌∷◌, reverse, subst, ◌∙◌}
 use Rattle.std.proofs.lemmas.Result.{IfOk-weaker}
-use Rattle.merc_scopes.specs.Scopes.{is_blank}
+use Rattle.merc_value.specs.Text.{is_blank}
 use Rattle.merc_answer_variables.specs.declared.variables.Variables.{Variables}
 use Rattle.merc_answer_variables.specs.Reading.{status, HoldEach}
 use Rattle.merc_answer_variables.proofs.TakingLaws.{last_first}

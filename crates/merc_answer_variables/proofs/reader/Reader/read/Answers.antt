@@ -2,7 +2,7 @@ use Rattle.std.proofs.Common.{List, ◌∙◌, take}
 use Rattle.std.proofs.lemmas.Result.{on_ok_weaker}
 use Rattle.merc_goals.specs.Written.{Written, Equal, Compared, Conjunction, Parallel, Disjunction}
 use Rattle.merc_goals.specs.Entries.{goals_of, called}
-use Rattle.merc_scopes.specs.Scopes.{is_blank}
+use Rattle.merc_value.specs.Text.{is_blank}
 use Rattle.merc_answer_variables.specs.Reading.{IsRead}
 use Rattle.merc_answer_variables.proofs.ReadLaws.{plain_equal, plain_compared, plain_called, free-called, beside_conjunction, beside_parallel, beside_disjunction, no_variables}
 use Rattle.merc_answer_variables.proofs.reader.Reader.read.Goals as goal

@@ -1,7 +1,7 @@
 use Rattle.std.proofs.Common.{◌≡◌, ◌∙◌, arith, Some, None}
 use Rattle.merc_graded_tree.specs.Roots.{label_of}
 use Rattle.merc_det.proofs.Labelling.{some_label, label_last}
-use Rattle.merc_det.proofs.copying.label_of.Goals as goal
+use Rattle.merc_det.proofs.closing.label_of.Goals as goal
 
 pub overflow_sub-part_count : goal.overflow_sub-part_count
 overflow_sub-part_count c = let h = some_label c.args.goal.now in omega (arith, h, c.part_count.ensures)
