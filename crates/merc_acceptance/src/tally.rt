@@ -1,5 +1,5 @@
 //! How many cases passed and failed.
-ghost use Rattle.std.specs.Prelude.{◌≡◌, ◌<◌, ◌≤◌, true, false};
+ghost use Rattle.std.specs.Prelude.{◌≡◌, ◌<◌, ◌≤◌, ◌+◌, ◌-◌, ◌^◌, min, true, false};
 
 /// The cases so far. A fault of a table counts as a case that failed.
 #[derive(Clone, Copy)]
@@ -13,8 +13,9 @@ pub struct Tally {
 impl Tally {
     /// Counts a case.
     pub(crate) fn count(&mut self, passed: bool)
-        ensures failed { passed ≡ false → (0 < self.new.failed) × (self.new.passed ≡ self.old.passed) }
-        ensures passed { passed ≡ true → (self.new.failed ≡ self.old.failed) × (self.old.passed ≤ self.new.passed) }
+        ensures failed { passed ≡ false → (self.new.failed ≡ min (self.old.failed + 1) (2 ^ 32 - 1)) × (self.new.passed ≡ self.old.passed) }
+        ensures passed { passed ≡ true → (self.new.passed ≡ min (self.old.passed + 1) (2 ^ 32 - 1)) × (self.new.failed ≡ self.old.failed) }
+        ensures some { passed ≡ false → 0 < self.new.failed }
         ensures kept { self.old.failed ≤ self.new.failed }
     {
         if passed {
