@@ -13,4 +13,3 @@ pub mod RefusalExamples
 pub mod RefusalTable
 pub mod TextTables
 mod CharacterExamples
-mod TextExamples

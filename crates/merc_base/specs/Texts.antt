@@ -11,7 +11,7 @@ is_among text texts = list_any (λ other. bytes_eq text other) texts
 abbrev pub place_among : List (List ℕ) → List ℕ → ℕ
 place_among texts text = prefix_len (λ other. not (bytes_eq text other)) texts
 
--- these texts, each where it first stands
+-- these texts, and behind them this one where it is not among them
 abbrev pub with_text : List (List ℕ) → List ℕ → List (List ℕ)
 with_text texts text = if is_among text texts then texts else texts ++ text ∷ []
 

@@ -1,6 +1,6 @@
 -- What the definitions of Texts say of short lists.
-use Rattle.std.specs.Prelude.{◌≡◌, refl, ℕ, true, List, [], ◌∷◌, codes}
-use Rattle.merc_base.specs.Texts.{is_among, place_among, with_text}
+use Rattle.std.specs.Prelude.{◌≡◌, refl, ℕ, true, Some, None, List, [], ◌∷◌, codes}
+use Rattle.merc_base.specs.Texts.{is_among, place_among, with_text, number_among}
 
 abbrev pub two_texts : List (List ℕ)
 two_texts = codes "X" ∷ codes "Total" ∷ []
@@ -31,3 +31,9 @@ with_text-example-present = refl
 -- it goes behind the others
 pub with_text-counterexample : with_text two_texts (codes "Y") ≡ codes "Y" ∷ two_texts → ⊥
 with_text-counterexample wrong = cc
+
+pub number_among-example : number_among two_texts (codes "Total") ≡ Some 1
+number_among-example = refl
+
+pub number_among-example-absent : number_among two_texts (codes "Y") ≡ None
+number_among-example-absent = refl

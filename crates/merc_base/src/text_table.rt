@@ -14,7 +14,7 @@ use std::marker::Model;
 #[derive(Drop)]
 pub struct TextTable {
     texts: Vec<Vec<u8>>,
-    // The number of each text.
+    // The number of each text. The keys are copies, since a map cannot borrow from the list beside it.
     numbers: HashMap<Vec<u8>, usize>,
 }
 
@@ -83,6 +83,7 @@ impl TextTable {
         let alloc = *self.texts.allocator();
         let key = Vec::from_slice(alloc, text)?;
         let text = Vec::from_slice(alloc, text)?;
+        // (room first, so that no text has a number without standing in the list)
         self.texts.reserve(1)?;
         self.numbers.insert(key, count)?;
         self.texts.push_reserved(text);

@@ -151,7 +151,7 @@ pub(crate) fn check_goal(
     asked
 }
 
-// The tree of a goal that is asked, of this form and with these answer variables, which stands here.
+// The tree of a goal that is asked, of this form and with these answer variables. Where it has no types, this is its span.
 fn check_form(
     alloc: Global,
     known: &Known<'_>,
@@ -315,7 +315,7 @@ fn untyped_clause(alloc: Global, known: &Known<'_>, forms: &Nodes) -> Result<Opt
     found
 }
 
-// The same by the numbers of the declared types.
+// The same by the numbers of the declared types, with what is known of pairs of them.
 fn first_untyped(
     alloc: Global,
     known: &Known<'_>,

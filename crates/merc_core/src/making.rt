@@ -101,6 +101,7 @@ fn make_workers(alloc: Global, count: u32) -> Result<Vec<Worker>, NoMemory>
     requires { 1 ≤ count }
     ensures { IfOk result (λ workers. workers.items ≡ first_workers count) }
 {
+    // (before the list, so that no list has to be dropped where memory is refused)
     let mut hand = LinkedList::new(alloc);
     hand.push_back(root_branch(alloc))?;
     let mut workers = Vec::new(alloc);

@@ -42,7 +42,8 @@ pub fn grade(
     done
 }
 
-// Grades the goal as `grade` does, from what is known before it. There are no tasks before.
+// Grades the goal as `grade` does, from what is known before it. The list of tasks is empty, and lent so that what is left in
+// it is dropped by a call.
 fn grade_from<'a>(
     alloc: Global,
     known: &Known<'_>,

@@ -222,14 +222,14 @@ fn plan_disjunction<'a>(group: Group<'a>, tasks: &mut Tasks<'a>) -> Result<(), N
         category: group.category,
         span,
     };
-    let pushed = push_finds(label, &mut disjuncts, tasks);
+    let pushed = plan_joined(label, &mut disjuncts, tasks);
     drop(disjuncts);
     pushed
 }
 
 // Plans a goal that has this label and joins these disjuncts. Those that are not pushed for want of memory stay in the
 // list.
-fn push_finds<'a>(
+fn plan_joined<'a>(
     label: Label,
     disjuncts: &mut Vec<Disjunct<'a>>,
     tasks: &mut Tasks<'a>,
