@@ -5,9 +5,7 @@
 pub mod clean;
 pub mod entries;
 pub mod sizes;
-pub mod told;
 
 pub use clean::all_clean;
 pub use entries::{Entry, Frame, Known, Piece, Pieces, Table, find, goal_piece, place_all};
 pub use sizes::Size;
-pub use told::told_behind;
