@@ -1,7 +1,6 @@
 //! The symbols of types.
 ghost use Rattle.std.specs.Prelude.{◌≡◌, List, [], ◌∷◌, ◌++◌, map, IfOk, OnOk};
 ghost use Rattle.std.specs.List.{list_all};
-ghost use Rattle.std.specs.Option.{option_map};
 ghost use Rattle.merc_goal_tree.specs.declared.goal.Symbol.{Symbol};
 ghost use Rattle.merc_grading.specs.Fitting.{fellows};
 ghost use Rattle.merc_grading.specs.Known.{has_symbol, is_single, same_symbol, symbol_of};
@@ -9,6 +8,7 @@ ghost use Rattle.merc_det.specs.Symbols.{is_complete_by, AreKeys};
 
 use merc_base::{Groups, Key, NoMemory};
 use merc_goal_tree::Symbol;
+use merc_grading::symbols::fellows;
 use merc_known::Known;
 use merc_tree::Constructor;
 use std::alloc::Global;
@@ -61,19 +61,6 @@ pub(crate) fn is_complete(
             None => Ok(false),
         },
         [] => Ok(false),
-    }
-}
-
-// The constructors of the type to which a symbol belongs. None where its symbols have no end.
-fn fellows<'a>(known: &Known<'a>, symbol: Symbol) -> Option<&'a [Constructor]>
-    ensures { option_map (λ constructors. map symbol_of constructors.now) result ≡ fellows known.now.types symbol }
-{
-    match symbol {
-        Symbol::Constructor(name, arity) => match known.constructor(name, arity) {
-            Some((declared, _)) => Some(declared.constructors.as_slice()),
-            None => None,
-        },
-        Symbol::Integer(_) | Symbol::Text(_) => None,
     }
 }
 

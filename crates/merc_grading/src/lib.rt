@@ -1,5 +1,7 @@
-//! Switches and determinism categories of ordered goals: definitions and laws, and the category of a goal that joins others.
+//! Switches and determinism categories of ordered goals: definitions and laws, the category of a goal that joins others, and the
+//! symbols of a type.
 #![tactic(auto)]
 
 pub mod categories;
 pub mod laws;
+pub mod symbols;

@@ -3,7 +3,6 @@ ghost use Rattle.std.specs.Prelude.{◌≡◌, [], true, false, map, IfOk, Match
 ghost use Rattle.std.specs.List.{list_all};
 ghost use Rattle.std.specs.Option.{option_map};
 ghost use Rattle.merc_grading.specs.Known.{has_symbol, symbol_of};
-ghost use Rattle.merc_grading.specs.Fitting.{fellows};
 ghost use Rattle.merc_switch_choice.specs.Choosing.{symbols_in, fellows_of, is_covered};
 ghost use Rattle.merc_switch_choice.specs.Symbols.{all_symbols};
 ghost use Rattle.merc_switch_choice.specs.Gaps.{symbol_of_gap, IsMissing};
@@ -13,7 +12,8 @@ use crate::disjuncts::Disjunct;
 use crate::gaps::Gap;
 use crate::symbols::SymbolSet;
 use merc_base::NoMemory;
-use merc_goal_tree::{Symbol, Var};
+use merc_goal_tree::Var;
+use merc_grading::symbols::fellows;
 use merc_known::Known;
 use merc_tree::Constructor;
 use std::alloc::Global;
@@ -118,19 +118,6 @@ fn fellows_in<'a>(
         }
     }
     None
-}
-
-// The constructors of the type to which a symbol belongs, None where its symbols have no end.
-fn fellows<'a>(known: &Known<'a>, symbol: Symbol) -> Option<&'a [Constructor]>
-    ensures { option_map (λ all. map symbol_of all.now) result ≡ fellows known.now.types symbol }
-{
-    match symbol {
-        Symbol::Constructor(name, arity) => match known.constructor(name, arity) {
-            Some((declared, _)) => Some(declared.constructors.as_slice()),
-            None => None,
-        },
-        _ => None,
-    }
 }
 
 // The first of the constructors that is none of the symbols.
