@@ -64,7 +64,7 @@ indexed_other {K} compare make numbers nodes node apart indexes key number = (
 )
 
 -- keys
-number_equal : (a b : ℕ) → is_eq (nat_cmp a b) ≡ true → a ≡ b
+pub number_equal : (a b : ℕ) → is_eq (nat_cmp a b) ≡ true → a ≡ b
 number_equal a b same = grind (arith, nat_tests)
 
 number_same : (a : ℕ) → is_eq (nat_cmp a a) ≡ true
@@ -86,7 +86,7 @@ pair_is a b first rest =
     let with_rest : ℕ → Pair = λ n. record { first = b.first; rest = n } in
     ap with_first first ∙ ap with_rest rest
 
-pair_equal : (a b : Pair) → is_eq (compare_pairs a b) ≡ true → a ≡ b
+pub pair_equal : (a b : Pair) → is_eq (compare_pairs a b) ≡ true → a ≡ b
 pair_equal a b same =
     let both = then_equal (nat_cmp a.first b.first) (nat_cmp a.rest b.rest) same in
     pair_is a b (number_equal a.first b.first both.0) (number_equal a.rest b.rest both.1)
