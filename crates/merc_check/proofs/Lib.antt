@@ -6,3 +6,7 @@ pub mod Growing
 pub mod Refusals
 pub mod ProcedureTrees
 pub mod TextLaws
+mod AcceptedExamples
+mod CheckedExamples
+mod FormsExamples
+mod UntypedExamples
