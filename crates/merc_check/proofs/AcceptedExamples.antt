@@ -5,7 +5,7 @@ use Rattle.merc_base.specs.FirstFault.{first_of_faults}
 use Rattle.merc_base.specs.Names.{ampersand_name, comma_name, equal_name, fail_name, semicolon_name, true_name}
 use Rattle.merc_base.specs.Places.{place_of}
 use Rattle.merc_base.specs.declared.category.Category.{Category}
-use Rattle.merc_base.specs.declared.category.Category.TheVariants.{Det, Semidet, Failure}
+use Rattle.merc_base.specs.declared.category.Category.TheVariants.{Det, Semidet, Multi, Failure}
 use Rattle.merc_base.specs.declared.place.Span.{Span}
 use Rattle.merc_base.specs.declared.refusal.Detail.TheVariants.{Plain, Categories, Conjunct}
 use Rattle.merc_base.specs.declared.refusal.Refusal.{Refusal}
@@ -24,7 +24,7 @@ use Rattle.merc_goal_tree.specs.declared.goal.Symbol.TheVariants.{Integer as Int
 use Rattle.merc_flat.specs.GoalFaults.{unknown_name}
 use Rattle.merc_graded_tree.specs.declared.basic.BasicGoal.TheVariants.{True as TrueGoal, Fail as FailGoal, Build, Split}
 use Rattle.merc_graded_tree.specs.declared.entries.Running.TheVariants.{Sequential, Parallel}
-use Rattle.merc_graded_tree.specs.Nodes.{Node as OrderedNode, node, Basic, Conjunction as OrderedConjunction, nodes_of as ordered_nodes}
+use Rattle.merc_graded_tree.specs.Nodes.{Node as OrderedNode, node, Basic, Conjunction as OrderedConjunction, Disjunction as OrderedDisjunction, nodes_of as ordered_nodes}
 use Rattle.merc_order.specs.Bound.{nothing}
 use Rattle.merc_order.specs.Faults.{never_ready, unbound_output}
 use Rattle.merc_order.specs.Ordered.{Outcome, Ready, Stuck, put, Build as Builds}
@@ -431,6 +431,25 @@ three_graded-bare trees = let wrong : three_tree None ∷ [] ≡ three_tree (Som
 
 three_graded-none : IsGradedGoal texts bare three [] → ⊥
 three_graded-none trees = let wrong : ◌≡◌ {A = List OrderedNode} [] (three_tree (Some Det) ∷ []) = trees (three_body IntType) three_has in cc
+
+-- `( X = 1, X = 1 ; X = 1, X = 1 )`: each disjunct begins with a split of X, but there is no switch, since nothing is bound before the goal
+
+abbrev repeated : Term
+repeated = join semicolon_name (join comma_name (is_one 0 10) (is_one 0 13) 10) (join comma_name (is_one 0 16) (is_one 0 19) 16) 9
+
+abbrev repeats : Option Category → ℕ → ℕ → OrderedNode
+repeats category first second =
+    node (OrderedConjunction Sequential (ordered_nodes (builds 0 (0 ∷ []) category first ∷ node (Basic (Split 0 (IntegerSymbol (pos 1)) [])) [] category (at second) ∷ []))) (0 ∷ []) category (at first)
+
+abbrev repeated_tree : Option Category → Option Category → OrderedNode
+repeated_tree category whole = node (OrderedDisjunction (ordered_nodes (repeats category 10 13 ∷ repeats category 16 19 ∷ []))) (0 ∷ []) whole (at 9)
+
+repeated_graded : IsGradedGoal texts bare repeated (repeated_tree (Some Det) (Some Multi) ∷ [])
+repeated_graded body is =
+    sym (ap (λ (tree : OrderedNode). finished [] [] nothing (record { types = body.types; tree = tree }) ∷ []) (is.tree.2 ∙ ap (tree_from (modes_of []) 1) (sym is.tree.1)))
+
+repeated_has : HasBody texts bare repeated (record { types = λ variable. IntType; tree = repeated_tree None None })
+repeated_has = record { tree = (_, refl, refl); typed = (refl, (refl, (refl, (refl, tt)))) }
 
 -- `X = 1`: an answer variable is an output
 one_order : query_order texts bare (is_one 0 10) ≡ Ready (put (Builds 0 (IntegerSymbol (pos 1)) []) (0 ∷ []) (at 10))
