@@ -1,3 +1,4 @@
 pub mod Indexing
+pub mod IndexingExamples
 pub mod Known
 pub mod KnownExamples

@@ -50,6 +50,11 @@ pub unit_text-unknown : unit_text (codes "may") ≡ None
 unfolding units
 unit_text-unknown = refl
 
+-- nor is a name that begins with that of a unit
+pub unit_text-longer : unit_text (codes "lists") ≡ None
+unfolding units
+unit_text-longer = refl
+
 -- The lines of `list`, counted from 1
 
 abbrev line_of_list : ℕ → Option (List ℕ)
