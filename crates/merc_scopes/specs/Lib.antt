@@ -4,3 +4,4 @@ pub mod FirstPlaces
 pub mod Walking
 pub mod Standing
 pub mod ScopesExamples
+pub mod BindingsExamples

@@ -9,40 +9,40 @@ use Rattle.merc_scopes.specs.Scopes.{at_of, free, introduced, occurrence, own, s
 
 -- The names `X`, `Y` and `Z`, `_`, and `a` have numbers behind those of the constants.
 
-abbrev a_name : ℕ
+abbrev pub a_name : ℕ
 a_name = 109
 
-abbrev blank_name : ℕ
+abbrev pub blank_name : ℕ
 blank_name = 110
 
-abbrev x_name : ℕ
+abbrev pub x_name : ℕ
 x_name = 111
 
-abbrev y_name : ℕ
+abbrev pub y_name : ℕ
 y_name = 112
 
-abbrev z_name : ℕ
+abbrev pub z_name : ℕ
 z_name = 113
 
-abbrev here : Span
+abbrev pub here : Span
 here = record { first = 3; past = 4; line = 1 }
 
-abbrev blank : ℕ → Bool
+abbrev pub blank : ℕ → Bool
 blank name = name == blank_name
 
-abbrev variable : ℕ → Term
+abbrev pub variable : ℕ → Term
 variable name = Variable name here
 
 -- `a(X)` for one variable or another
-abbrev call : ℕ → ℕ → Written
+abbrev pub call : ℕ → ℕ → Written
 call at name = Called at a_name None (more (variable name) none) here
 
 -- two variables on both sides of `=`
-abbrev equation : ℕ → ℕ → ℕ → Written
+abbrev pub equation : ℕ → ℕ → ℕ → Written
 equation at left right = Equal at (variable left) (variable right) here
 
 -- `X = Y, a(X)`
-abbrev both : Written
+abbrev pub both : Written
 both = Conjunction (more_goals (equation 2 x_name y_name) (more_goals (call 8 x_name) no_goals)) here
 
 -- the variables of a goal
