@@ -1,15 +1,16 @@
 -- Worked examples of last calls.
-use Rattle.std.specs.Prelude.{◌≡◌, pos, true, false, List, [], ◌∷◌, None, slice_get, refl}
+use Rattle.std.specs.Prelude.{◌≡◌, ℕ, zero, pos, true, false, List, [], ◌∷◌, None, slice_get, refl}
+use Rattle.std.proofs.Common.{arith}
 use Rattle.merc_tree.specs.declared.declarations.Arg.{Arg}
 use Rattle.merc_tree.specs.declared.declarations.Arg.TheVariants.{Input, Output}
-use Rattle.merc_meaning.specs.Trace.{Ends, Tick, Answer as AnswerOf, RunDone}
+use Rattle.merc_meaning.specs.Trace.{Ends, Tick, Answer as AnswerOf, RunDone, LimitPassed}
 use Rattle.merc_code.specs.declared.instruction.Instruction.TheVariants.{Integer, Copy, Jump, Commit, Call, Return, Fail, Answer}
-use Rattle.merc_code.specs.Steps.{Code, Codes, Caller, caller, State, At}
+use Rattle.merc_code.specs.Steps.{Code, Codes, Caller, caller, Dead, GoesOn, State, At, Back, Stops, Moves, Ticks, step}
 use Rattle.merc_code.specs.StepsExamples.{int, procedure}
-use Rattle.merc_code.specs.Meaning.{Goes, stays as stays_too, ticks as ticks_too, start}
-use Rattle.merc_last_calls.specs.LastCalls.{comes_to_return, outputs, own_outputs, arguments_with, are_same, is_last, handed_to, with_call}
+use Rattle.merc_code.specs.Meaning.{Goes, stays as stays_too, moves as moves_too, ticks as ticks_too, start}
+use Rattle.merc_last_calls.specs.LastCalls.{comes_to_return, outputs, own_outputs, arguments_with, are_same, is_last, handed_to, with_call, step_lean}
 use Rattle.merc_last_calls.specs.LeanMeaning.{YieldsLean, stops, moves, ticks, answers, GoesLean, stays}
-use Rattle.merc_last_calls.specs.Standing.{Stands, bottom, kept, handed}
+use Rattle.merc_last_calls.specs.Standing.{Stands, bottom, kept, handed, ChoicesStand, none as no_choices, dead, goes_on, Matches, at, back, Ahead, moves as moves_ahead, behind, Follows, FollowsAnswer, FollowsStop}
 
 comes_to_return-jumps : comes_to_return 0 (Jump 1 ∷ Fail ∷ Jump 0 ∷ Return ∷ []) ≡ true
 comes_to_return-jumps = refl
@@ -102,6 +103,16 @@ passed_through = caller (Return ∷ []) (None ∷ []) [] one_output (0 ∷ [])
 abbrev second_with : List Caller → State
 second_with callers = At (Integer 0 (pos 7) ∷ Return ∷ []) (None ∷ []) [] callers [] 0
 
+-- a last call makes a step, if one is left; one of a procedure that is not there fails
+step_lean-call : step_lean calling (At (Call (procedure 1) (0 ∷ []) ∷ Return ∷ []) (None ∷ []) [] (waiting ∷ []) [] 1) ≡ Ticks (second_with (waiting ∷ []))
+step_lean-call = refl
+
+step_lean-limit : step_lean calling (At (Call (procedure 1) (0 ∷ []) ∷ Return ∷ []) (None ∷ []) [] (waiting ∷ []) [] 0) ≡ Stops LimitPassed
+step_lean-limit = refl
+
+step_lean-unknown : step_lean calling (At (Call (procedure 2) (0 ∷ []) ∷ Return ∷ []) (None ∷ []) [] (waiting ∷ []) (Dead ∷ []) 1) ≡ Moves (Back (Dead ∷ []) 1)
+step_lean-unknown = refl
+
 lean_run : YieldsLean calling (start asking 2) (Tick (Tick (AnswerOf (int 7 ∷ []) (Ends RunDone))))
 lean_run = ticks _ _ _ refl (ticks _ _ _ refl (moves _ _ _ refl (moves _ _ _ refl (answers _ _ _ _ refl (stops _ _ refl)))))
 
@@ -123,3 +134,48 @@ stands-example = handed _ _ _ _ _ _ _ _ _ _ _ _ refl (kept waiting [] [] bottom)
 stands-not : (lean : List Caller) → lean ≡ waiting ∷ [] → Stands lean (caller (Commit 0 ∷ Return ∷ []) (None ∷ []) [] one_output (0 ∷ []) ∷ waiting ∷ []) → ⊥
 stands-not lean e (kept _ _ _ s) = absurd cc
 stands-not lean e (handed _ _ _ _ _ _ _ _ _ _ _ _ last s) = absurd cc
+
+-- choice points one for one, each with its callers
+choices_stand-example : ChoicesStand (Dead ∷ GoesOn (Return ∷ []) [] [] (waiting ∷ []) ∷ []) (Dead ∷ GoesOn (Return ∷ []) [] [] (passed_through ∷ waiting ∷ []) ∷ [])
+choices_stand-example = dead _ _ (goes_on _ _ _ _ _ _ _ stands-example no_choices)
+
+matches-example : Matches (second_with (waiting ∷ [])) (second_with (passed_through ∷ waiting ∷ []))
+matches-example = at _ _ _ _ _ _ _ _ stands-example no_choices
+
+-- as many steps are left
+matches-steps : (lean state : State) → lean ≡ Back [] 1 → state ≡ Back [] 2 → Matches lean state → ⊥
+matches-steps lean state is are (at _ _ _ _ _ _ _ _ _ _) = absurd cc
+matches-steps lean state is are (back _ _ left _) = let one : ◌≡◌ {A = ℕ} left 1 = cc in let two : ◌≡◌ {A = ℕ} left 2 = cc in absurd (omega arith)
+
+-- one return where code without last calls makes two
+abbrev returned : List Caller → State
+returned callers = At (Return ∷ []) (int 7 ∷ []) [] callers [] 0
+
+abbrev answering : State
+answering = At (Answer (0 ∷ []) ∷ []) (int 7 ∷ []) [] [] [] 0
+
+ahead-example : Ahead calling (Moves answering) (returned (passed_through ∷ waiting ∷ []))
+ahead-example = behind _ _ _ refl (moves_ahead _ _ _ refl (at _ _ _ _ _ _ _ _ bottom no_choices))
+
+follows-example : Follows calling 2 (second_with (waiting ∷ [])) (start asking 2)
+follows-example = record { there = second_with (passed_through ∷ waiting ∷ []); goes = two_frames; matches = matches-example }
+
+follows_answer-example : FollowsAnswer calling (int 7 ∷ []) (Back [] 0) (returned (passed_through ∷ waiting ∷ []))
+follows_answer-example = record {
+  before = answering;
+  there = Back [] 0;
+  goes = moves_too _ _ _ _ refl (moves_too _ _ _ _ refl (stays_too _));
+  answers = refl;
+  matches = back _ _ _ no_choices;
+}
+
+follows_stop-example : FollowsStop calling RunDone (Back (Dead ∷ []) 0)
+follows_stop-example = record { before = Back [] 0; goes = moves_too _ _ _ _ refl (stays_too _); stops = refl }
+
+-- the run does not end otherwise
+follows_stop-not : FollowsStop calling LimitPassed (Back [] 0) → ⊥
+follows_stop-not follows = by follows.before follows.goes follows.stops
+  where
+    by : (before : State) → Goes calling zero (Back [] 0) before → step calling before ≡ Stops LimitPassed → ⊥
+    by before (stays_too _) e = absurd cc
+    by before (moves_too _ _ next _ made later) e = absurd cc
