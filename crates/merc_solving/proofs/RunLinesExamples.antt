@@ -23,16 +23,16 @@ pub line-counterexample : line (codes "true") ≡ codes "true" → ⊥
 line-counterexample same = cc
 
 -- texts of names
-abbrev names : List (List ℕ)
+abbrev pub names : List (List ℕ)
 names = codes "X" ∷ codes "Y" ∷ codes "no row" ∷ []
 
 abbrev x : ℕ
 x = 0
 
-abbrev y : ℕ
+abbrev pub y : ℕ
 y = 1
 
-abbrev no_row : ℕ
+abbrev pub no_row : ℕ
 no_row = 2
 
 abbrev int : ℕ → Value
@@ -133,7 +133,7 @@ end_status-counterexample same = cc
 -- ---- runs
 
 -- two steps and two answers
-abbrev two_answers : Run
+abbrev pub two_answers : Run
 two_answers = Tick (Answer (Some (int 4) ∷ []) (Tick (Answer (Some (int 8) ∷ []) (Ends RunDone))))
 
 pub answers_of-example : answers_of two_answers ≡ (Some (int 4) ∷ []) ∷ (Some (int 8) ∷ []) ∷ []
