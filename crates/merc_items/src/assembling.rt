@@ -234,14 +234,12 @@ fn push_constructor(
 {
     let terms = arguments(alloc, head)?;
     let args = declared_types(alloc, names, &terms);
+    // (a call, since it costs much to prove what is dropped at each `?`)
     drop(terms);
-    match args {
-        Ok(args) => constructors.push(Constructor {
-            name: head_name(head),
-            args,
-        }),
-        Err(refused) => Err(refused),
-    }
+    constructors.push(Constructor {
+        name: head_name(head),
+        args: args?,
+    })
 }
 
 // Puts the predicates of a part of the module behind the others, each with its modes in that part.

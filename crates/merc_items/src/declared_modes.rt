@@ -157,15 +157,13 @@ fn push_decl(
 {
     let terms = arguments(alloc, head)?;
     let args = args_of(alloc, &terms, has_types);
+    // (a call, since it costs much to prove what is dropped at each `?`)
     drop(terms);
-    match args {
-        Ok(args) => modes.push(ModeDecl {
-            args,
-            category: declared_category(category),
-            span,
-        }),
-        Err(refused) => Err(refused),
-    }
+    modes.push(ModeDecl {
+        args: args?,
+        category: declared_category(category),
+        span,
+    })
 }
 
 // The arguments of a mode.
