@@ -204,9 +204,6 @@ module _ (due : ℕ → ℕ) (root : Script) (w : World) (live : Live due root w
   any-worker v (x ∷ pool) (inl here) all = listed-worker v x.location x.branch here all.0.in_range
   any-worker v (x ∷ pool) (inr later) all = any-worker v pool later all.1
 
-  found-there : (pool : List Spot) (place : ℕ) (x : Spot) → slice_get pool place ≡ Some x → taken pool (Some place) ≡ Some (x, remove pool place)
-  found-there pool place x is = rw is
-
   pop-ok : (v : ℕ) → acting w.pool ≡ None → nat_lt v w.workers ≡ true → AnyOf (λ x. listed v x ≡ true) w.pool → Accepted w (Pop v)
   pop-ok v none worker any =
       let found = find-some (listed v) 0 None w.pool any in

@@ -26,10 +26,6 @@ use Rattle.merc_core.proofs.PoolShows.{gone-none}
 
 -- the steps of a join are few where the limit is
 
-few-if : (b : Bool) (n limit : ℕ) → nat_le n limit ≡ b → limit ≤ most_steps → HasFewSteps (if b then Fine n else Limit)
-few-if true n limit is few = let e : n ≤ limit = grind (arith, nat_tests) in omega (arith, e, few)
-few-if false n limit is few = tt
-
 few-raise : (b : Bool) (text n limit : ℕ) → nat_le n limit ≡ b → limit ≤ most_steps → HasFewSteps (if b then Raise text n else Limit)
 few-raise true text n limit is few = let e : n ≤ limit = grind (arith, nat_tests) in omega (arith, e, few)
 few-raise false text n limit is few = tt

@@ -141,9 +141,6 @@ back-single w x to b others takes hand parent single = record {
   fresh = λ number more. let t = total-takes (parent_of number) takes in let k = total-back (parent_of number) others (spot to b) in let less = parent number in let none = single.fresh number more in omega arith;
 }
 
-no-parent : (number : ℕ) (x : Spot) → 0 ≤ parent_of number x
-no-parent number x = omega arith
-
 up-hand : (v u : ℕ) (pool others : List Spot) (at : Bool) → nat_eq u v ≡ at → total (acting u) pool ≡ 0 → total (acting v) others ≤ total (acting v) pool → total (acting v) pool ≤ 1 → total (acting v) others + one_if at ≤ 1
 up-hand v u pool others true is free less one = let same = test_same u v is in let none : total (acting v) pool ≡ 0 = rw (← same) free in omega arith
 up-hand v u pool others false is free less one = omega arith

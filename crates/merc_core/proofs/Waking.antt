@@ -61,10 +61,6 @@ pub or-false : (a : Bool) → a || (false || false) ≡ a
 or-false true = refl
 or-false false = refl
 
-flip : (a b : ℕ) (t : Bool) → nat_eq a b ≡ t → nat_eq b a ≡ t
-flip a b true same = grind (arith, nat_tests)
-flip a b false apart = grind (arith, nat_tests)
-
 pub has-added : (cell : ℕ) (cells : List ℕ) → has cell (cells ++ (cell ∷ [])) ≡ true
 has-added cell cells =
     any-append (λ one. nat_eq one cell) cells (cell ∷ []) ∙ (let e : nat_eq cell cell ≡ true = grind (arith, nat_tests) in ap (λ t. list_any (λ one. nat_eq one cell) cells || (t || false)) e)

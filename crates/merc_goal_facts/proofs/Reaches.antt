@@ -218,9 +218,6 @@ earlier_pushed reaches before after old new variable reach end (tells, kept) n a
 
 -- From one occurrence to the one before it.
 
-under_front : (start end : ℕ) → nat_lt start end ≡ true → start < end
-under_front start end h = grind (arith, nat_tests)
-
 not_under : (start end : ℕ) → nat_lt start end ≡ false → end ≤ start
 not_under start end h = grind (arith, nat_tests)
 

@@ -25,14 +25,6 @@ most_is true Zero = refl
 most_is true One = refl
 most_is true Many = refl
 
-category_is : (one : Category) → category (can_fail_of one) (most_of one) ≡ one
-category_is Det = refl
-category_is Semidet = refl
-category_is Multi = refl
-category_is Nondet = refl
-category_is Erroneous = refl
-category_is Failure = refl
-
 both_assoc : (a b c : Most) → both_most (both_most a b) c ≡ both_most a (both_most b c)
 both_assoc Zero b c = refl
 both_assoc One Zero c = refl

@@ -25,10 +25,6 @@ no_longer false is = refl
 negated : (a : Bool) → a ≡ false → not a ≡ true
 negated a is = ap not is
 
-both_of : (a b : Bool) → (a && b) ≡ true → (a ≡ true) × (b ≡ true)
-both_of true b is = (refl, is)
-both_of false b is = cc
-
 -- heads of types
 
 wrong_head : (names : List (List ℕ)) (own : ℕ) (head : Term) → is_wrong_type_head names own head ≡ true → IsWrongTypeHead names own head

@@ -131,9 +131,6 @@ simple-more total modes (Call predicate arguments) outs outs' span bound more h 
 bound_or-more : (a b c : Bool) → (a ≡ true → b ≡ true) → (a || c) ≡ true → (b || c) ≡ true
 bound_or-more a b c f h = or_both a c (b || c) (λ k. or_left b c (f k)) (λ k. or_right b c k) h
 
-or3-more : (a b c d : Bool) → (a ≡ true → b ≡ true) → ((a || c) || d) ≡ true → ((b || c) || d) ≡ true
-or3-more a b c d f h = bound_or-more (a || c) (b || c) d (bound_or-more a b c f) h
-
 agree_or : (a b c d : Bool) → (a ≡ true → b ≡ true) → (a || c || d) ≡ true → (b || c || d) ≡ true
 agree_or true true c d f h = h
 agree_or true false c d f h = cc (f refl)

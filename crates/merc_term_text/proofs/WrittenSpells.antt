@@ -256,9 +256,6 @@ take_name names fixed name' tokens after same = named_by names fixed name' (is_p
 
 -- an infix operator
 
-operator_kind : Operator → TokenKind
-operator_kind operator = cond (operator.name == comma_name) Comma (Name operator.name)
-
 record Operated (commas : Bool) (operator : Operator) (tokens : List TokenOf) (after : List Piece) : Type 0 where
   kind : TokenKind
   span : Span
