@@ -10,7 +10,7 @@ use Rattle.merc_core.specs.declared.event.Event.{Event}
 use Rattle.merc_core.specs.declared.event.Event.TheVariants.{Tick, Fork, Pop, Signal, Wait, End, Resume}
 use Rattle.merc_core.specs.Rights.{has, has_in}
 use Rattle.merc_core.specs.World.{Branch, Location, Listed, Runs, Holds, AtCell, AtJoin, Spot, spot, Join, Stored, World, outcome, outermost, stored_at, gathered}
-use Rattle.merc_core.specs.Events.{Answer, first_from, last_from, taken, acts, acts_at, listed, listed_at, in_hand, back_of, tick_on, fork_on, signal_on, wait_at, wait_on, end_on, go_behind, running, happens}
+use Rattle.merc_core.specs.Events.{Answer, first_from, last_from, acts, acts_at, listed, listed_at, in_hand, back_of, tick_on, fork_on, signal_on, wait_at, wait_on, end_on, go_behind, running, happens}
 use Rattle.merc_core.specs.Ready.{event_at, acting_at, acting, listed_for, waiting, or_else, unless_done, ready}
 use Rattle.merc_core.specs.Laws.{GoesOn}
 use Rattle.merc_core.proofs.Pool.{last-found, each-always, each-both}

@@ -1,5 +1,5 @@
 -- The first refusal of the items is the first of their faults.
-use Rattle.std.proofs.Common.{◌≡◌, ℕ, ◌<◌, ◌≤◌, ◌⊎◌, inl, inr, Bool, true, false, List, [], ◌∷◌, ◌++◌, Option, Some, None, refl, ap, sym, subst, ◌∙◌, arith}
+use Rattle.std.proofs.Common.{◌≡◌, ℕ, ◌<◌, ◌≤◌, inl, inr, Bool, true, false, List, [], ◌∷◌, ◌++◌, Option, Some, None, refl, ap, sym, subst, ◌∙◌, arith}
 use Rattle.merc_base.specs.Refusal.{rule_number}
 use Rattle.merc_base.specs.FirstFault.{ComesFirst, HasNone, IsFirst}
 use Rattle.merc_base.specs.declared.place.Place.{Place}

@@ -1,5 +1,5 @@
 -- What items are, by the operands of their terms.
-use Rattle.std.proofs.Common.{◌≡◌, ℕ, ◌==◌, Bool, true, false, Option, Some, None, if◌then◌else◌, refl}
+use Rattle.std.proofs.Common.{◌≡◌, ◌==◌, Bool, true, false, Option, Some, None, if◌then◌else◌, refl}
 use Rattle.merc_base.specs.Names.{colon_minus_name, grammar_arrow_name, type_arrow_name, equal_equal_name, semicolon_name, is_name}
 use Rattle.merc_tree.specs.Term.{Term, Variable, Integer, Text, Application, none, more}
 use Rattle.merc_item_forms.specs.Items.{Item, OtherType, OtherGrammar, OtherDeclaration, Formless, TypeItem, ClauseItem, item_of, declaration, nullary, unary, wider, type_item, with_category}

@@ -17,7 +17,7 @@ use Rattle.merc_tree.specs.declared.term.Shape.TheVariants.{Application as Appli
 use Rattle.merc_item_forms.specs.Forms.{second_opening}
 use Rattle.merc_item_forms.specs.FormChecks.{fault_of, least_fault, first_refusal}
 use Rattle.merc_item_forms.specs.FormFaults.{Rises, HasFormFault, no_item, wrong, outside, wide}
-use Rattle.merc_item_forms.specs.FormsExamples.{names, blank, t_name, t, plain, m, f, p, apply, both, declared, int}
+use Rattle.merc_item_forms.specs.FormsExamples.{names, blank, t_name, t, plain, m, f, p, apply, declared, int}
 use Rattle.merc_item_forms.specs.Parameters.{own_variables, has_double, has_equal_neighbors}
 use Rattle.merc_item_forms.specs.Parts.{is_outside_shape, is_moded_shape, is_wide_shape}
 

@@ -1,5 +1,5 @@
 -- A goal that can be ordered can be ordered where more is bound.
-use Rattle.std.specs.Prelude.{◌≡◌, ℕ, suc, ◌+◌, ◌==◌, Bool, true, false, not, ◌&&◌, ◌||◌, List, [], ◌∷◌, ◌++◌, length, Option, Some, None, is_some, refl, if◌then◌else◌}
+use Rattle.std.specs.Prelude.{◌≡◌, ℕ, suc, ◌+◌, Bool, true, false, not, ◌&&◌, ◌||◌, List, [], ◌∷◌, ◌++◌, length, Option, Some, None, is_some, refl, if◌then◌else◌}
 use Rattle.std.specs.List.{list_all}
 use Rattle.std.proofs.Common.{◌∙◌, sym, subst}
 use Rattle.merc_base.specs.declared.place.Span.{Span}
@@ -14,7 +14,7 @@ use Rattle.merc_order.specs.CallModes.{inputs_of, wider, taken_from}
 use Rattle.merc_order.specs.Faults.{never_ready, binds_outer, unbound_output}
 use Rattle.merc_order.specs.Moves.{Move, beside, beside_next, each_from, settled}
 use Rattle.merc_order.specs.Order.{Arm, differ_on, outside, binds, arms, decision_arms, binds_inside, agree, same_from, called_from, simple_from, from, moves}
-use Rattle.merc_order.specs.Ordered.{Ordered, Ordereds, Outcome, Ready, Stuck, is_ready, Outcomes, AllReady, OneStuck, are_ready, then_all, and_all, if_ready, if_all_ready}
+use Rattle.merc_order.specs.Ordered.{Ordered, Ordereds, Outcome, Ready, Stuck, is_ready, Outcomes, AllReady, OneStuck, are_ready, and_all, if_ready, if_all_ready}
 use Rattle.merc_order.proofs.MoveLaws.{holds_with, or_left, or_right, or_both, AreMonotone, then_all-ready, settled-more}
 
 and_both : (a b c d : Bool) → (a ≡ true → c ≡ true) → (b ≡ true → d ≡ true) → (a && b) ≡ true → (c && d) ≡ true

@@ -1,11 +1,10 @@
 -- How far goals of a conjunction have come, in whatever order they went, and what that tells.
-use Rattle.std.specs.Prelude.{◌≡◌, ℕ, true, ◌||◌, List, [], ◌∷◌, length, refl}
-use Rattle.std.proofs.Common.{◌∙◌}
+use Rattle.std.specs.Prelude.{◌≡◌, true, List, [], ◌∷◌, length, refl}
 use Rattle.merc_order.specs.Bound.{Bound, with, Holds}
 use Rattle.merc_order.specs.Ways.{CanAll, none, take, Went, start, went, NoneReady}
 use Rattle.merc_order.specs.Moves.{Move, settled}
 use Rattle.merc_order.specs.Ordered.{are_ready}
-use Rattle.merc_order.proofs.MoveLaws.{holds_with, AreMonotone, monotone_one, monotone_rest, can_all-more, can_all-without, settled-all, all-settled}
+use Rattle.merc_order.proofs.MoveLaws.{holds_with, AreMonotone, monotone_one, monotone_rest, can_all-without, settled-all, all-settled}
 
 left_monotone : (all left : List Move) (bound now : Bound) → Went all bound left now → AreMonotone all → AreMonotone left
 left_monotone all left bound now (start a k) mono = mono

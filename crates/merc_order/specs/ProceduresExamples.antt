@@ -1,5 +1,5 @@
 -- Procedures with their order, and what is wrong with others. The goals and predicates are those of the examples of orders.
-use Rattle.std.specs.Prelude.{◌≡◌, ℕ, ◌+◌, true, false, ◌==◌, List, [], ◌∷◌, Some, None, refl}
+use Rattle.std.specs.Prelude.{◌≡◌, ℕ, true, false, List, [], ◌∷◌, Some, None, refl}
 use Rattle.merc_base.specs.declared.category.Category.TheVariants.{Det}
 use Rattle.merc_tree.specs.Types.{IntType}
 use Rattle.merc_tree.specs.declared.declarations.Arg.TheVariants.{Input, Output}

@@ -1,5 +1,5 @@
 -- The ways in which the goals of a conjunction can go.
-use Rattle.std.specs.Prelude.{◌≡◌, ℕ, true, false, List, [], ◌∷◌, ◌++◌}
+use Rattle.std.specs.Prelude.{◌≡◌, true, false, List, [], ◌∷◌, ◌++◌}
 use Rattle.merc_order.specs.Bound.{Bound, with}
 use Rattle.merc_order.specs.Moves.{Move}
 use Rattle.merc_order.specs.Ordered.{Ordered, Ordereds, no_goals, more_goals, Ready, is_ready}

@@ -1,7 +1,6 @@
 -- What was read from a text can be written.
-use Rattle.std.proofs.Common.{◌≡◌, ℕ, Bool, true, false, ◌==◌, ◌&&◌, List, [], ◌∷◌, Some, None, codes, refl, sym, subst, arith}
+use Rattle.std.proofs.Common.{ℕ, Bool, true, false, List, [], ◌∷◌, Some, None, codes, refl, sym, subst, arith}
 use Rattle.std.specs.Char.{encode_utf8}
-use Rattle.std.proofs.lemmas.Bool.{eqb-true}
 use Rattle.merc_base.specs.Names.{HoldsFixed, fixed_names, comma_name, cons_name, nil_name}
 use Rattle.merc_base.specs.declared.place.Span.{Span}
 use Rattle.merc_terms.proofs.Table.{infix_name as infix_is_named}

@@ -1,6 +1,4 @@
-use Rattle.std.proofs.Common.{◌∙◌, not, ap, sym}
-use Rattle.std.specs.List.{filter}
-use Rattle.merc_order.specs.Bound.{among}
+use Rattle.std.proofs.Common.{◌∙◌, ap, sym}
 use Rattle.merc_goal_facts.specs.declared.facts.Facts.{Facts}
 use Rattle.merc_goal_facts.proofs.Keeping.{all_same, left_kept}
 use Rattle.merc_goal_facts.proofs.needing.leave_out_of.Goals as goal
