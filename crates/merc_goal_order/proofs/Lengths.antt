@@ -1,5 +1,5 @@
 -- How long the slices are that are passed on, and lists of goals of which some became one.
-use Rattle.std.specs.Prelude.{◌≡◌, ◌≤◌, ◌+◌, ◌-◌, ℕ, Bool, false, List, [], ◌∷◌, length, take, drop, replicate}
+use Rattle.std.specs.Prelude.{◌≡◌, ◌≤◌, ◌+◌, ◌-◌, ℕ, Bool, false, List, length, take, drop, replicate}
 use Rattle.std.specs.List.{slice_range}
 use Rattle.std.proofs.Common.{◌∙◌, ap, arith}
 use Rattle.std.proofs.lemmas.List.{length-append, length-drop, length-replicate, length-take-le}
@@ -8,7 +8,7 @@ use borrow.Rule.Slice.PartMut.{put_mid}
 use Rattle.merc_base.specs.declared.place.Span.{Span}
 use Rattle.merc_graded_tree.specs.Nodes.{Node}
 use Rattle.merc_graded_tree.specs.declared.entries.Root.{Root}
-use Rattle.merc_graded_tree.specs.Roots.{arity_of, joined, last_joined, labelled}
+use Rattle.merc_graded_tree.specs.Roots.{arity_of, joined}
 
 pub front_length : {X : Type 0} (items : List X) (own size more : ℕ) → length items ≡ size + more → own ≡ size → length (take own items) ≡ size
 front_length items own size more all is = length-take-le own items (omega (arith, all, is)) ∙ is

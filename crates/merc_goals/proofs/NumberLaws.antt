@@ -1,5 +1,5 @@
 -- The numbers of a term's arguments, and of the forms in its plan, keep the limit where those of the term do.
-use Rattle.std.proofs.Common.{◌≡◌, ℕ, ◌+◌, ◌≤◌, ◌==◌, ◌||◌, Bool, true, false, List, [], ◌∷◌, ◌++◌, map, Option, Some, None, if◌then◌else◌, subst, arith}
+use Rattle.std.proofs.Common.{◌≡◌, ℕ, ◌+◌, ◌==◌, ◌||◌, Bool, true, false, List, [], ◌∷◌, ◌++◌, map, Option, Some, None, if◌then◌else◌, subst, arith}
 use Rattle.std.specs.List.{AllByRecursion}
 use Rattle.merc_base.specs.Names.{fail_name, false_name, if_name, not_name, not_provable_name, true_name, arrow_name}
 use Rattle.merc_base.specs.declared.place.Span.{Span}

@@ -8,10 +8,8 @@ use Rattle.merc_goal_tree.specs.declared.goal.Comparison.TheVariants.{AtLeast, A
 use Rattle.merc_goal_tree.specs.declared.goal.Operation.TheVariants.{Add}
 use Rattle.merc_value.specs.declared.word.Word.TheVariants.{Int as IntWord}
 use Rattle.merc_meaning.specs.Trace.{Env}
-use Rattle.merc_code.specs.Steps.{Code, Codes, State, Step, Answers, Ticks}
+use Rattle.merc_code.specs.Steps.{Code, Codes, State, Answers}
 use Rattle.merc_last_calls.specs.LastCalls.{step_lean}
-use Rattle.merc_last_calls.specs.LeanMeaning.{GoesLean, stays, moves as goes_moves, ticks as goes_ticks}
-use Rattle.merc_live.specs.Agreeing.{StepsAgree, stops, moves, ticks, answers, stuck}
 use Rattle.merc_frames.specs.declared.passing.Pass.{Pass}
 use Rattle.merc_frames.specs.declared.slot.Slot.{Slot}
 use Rattle.merc_frames.specs.declared.slot.Slot.TheVariants.{Empty, Int as IntSlot}
@@ -32,7 +30,6 @@ use Rattle.merc_store.proofs.NumberLemmas.{operate_number_does}
 use Rattle.merc_machine.specs.declared.machine.Machine.{Machine}
 use Rattle.merc_machine.specs.declared.machine.Phase.TheVariants.{Running}
 use Rattle.merc_machine.specs.Coming.{Acts, ComesBy, IsStanding}
-use Rattle.merc_machine.specs.Event.{Tick}
 use Rattle.merc_machine.specs.declared.machine.Next.TheVariants.{Tick as TickNext}
 use Rattle.merc_machine.specs.Outputs.{FollowsCall}
 use Rattle.merc_machine.proofs.ComingAtOnce.{comes_back_at_once, enters_at_once}

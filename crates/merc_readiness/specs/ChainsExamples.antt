@@ -1,5 +1,5 @@
 -- Chains of if-then-elses, over variables by their numbers.
-use Rattle.std.specs.Prelude.{◌≡◌, ℕ, true, [], ◌∷◌, refl}
+use Rattle.std.specs.Prelude.{◌≡◌, ℕ, [], ◌∷◌, refl}
 use Rattle.merc_goal_tree.specs.declared.goal.SimpleGoal.TheVariants.{True, Raise}
 use Rattle.merc_goal_tree.specs.Nodes.{Node, Simple, Conditional}
 use Rattle.merc_tree.specs.Term.{no_span}

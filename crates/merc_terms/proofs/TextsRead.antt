@@ -1,5 +1,5 @@
 -- A text whose words are constants is read the same whatever names the table holds behind the constants, and its words add none.
-use Rattle.std.proofs.Common.{◌≡◌, ℕ, zero, suc, ◌&&◌, Bool, true, false, nat_lt, List, [], ◌∷◌, ◌++◌, map, fold, slice_get, Option, Some, None, refl, sym, ap, ap₂, subst, ◌∙◌, ltb-true, arith}
+use Rattle.std.proofs.Common.{◌≡◌, ℕ, zero, suc, Bool, true, false, nat_lt, List, [], ◌∷◌, ◌++◌, map, fold, slice_get, Option, Some, None, refl, sym, ap, ap₂, subst, ◌∙◌, ltb-true, arith}
 use Rattle.std.proofs.lemmas.Bool.{and_parts}
 use Rattle.std.proofs.lemmas.Str.{IsUtf8-from_ascii}
 use Rattle.std.specs.Bool.{if◌then◌else◌}

@@ -1,5 +1,5 @@
 -- Texts whose items are computed, and texts that have none, by the computation of TextsRead.
-use Rattle.std.proofs.Common.{◌≡◌, [], ◌∷◌, ◌++◌, Some, None, refl}
+use Rattle.std.proofs.Common.{◌≡◌, [], ◌∷◌, Some, None, refl}
 use Rattle.std.specs.Prelude.{codes}
 use Rattle.merc_base.specs.Names.{fixed_names, append_name, nil_name}
 use Rattle.merc_tree.specs.Term.{Application, none, more}

@@ -1,5 +1,5 @@
 -- What texts begin with: for each rule a text that reads, and one that does not.
-use Rattle.std.specs.Prelude.{◌≡◌, ℕ, true, false, List, [], ◌∷◌, ◌++◌, length, codes, refl}
+use Rattle.std.specs.Prelude.{◌≡◌, ℕ, true, false, List, [], ◌++◌, length, codes, refl}
 use Rattle.std.proofs.Math.ListN.{replicate}
 use Rattle.merc_base.specs.Characters.{lower_a_code, space_code, star_code, upper_a_code}
 use Rattle.merc_tokens.specs.declared.pieces.Spelling.{Spelling}

@@ -1,6 +1,6 @@
 -- What holds of the types that terms keep.
-use Rattle.std.specs.Prelude.{ℕ, ◌==◌, ◌&&◌, false, ◌↔◌, Option, Some, None, if◌then◌else◌}
-use Rattle.std.proofs.Common.{◌≡◌, ◌+◌, ◌-◌, ◌≤◌, List, [], ◌∷◌, ◌++◌, length, map, take, drop, ap, sym, subst, refl, ◌∙◌, arith}
+use Rattle.std.specs.Prelude.{ℕ, ◌==◌, ◌&&◌, false, ◌↔◌, Option, Some, None}
+use Rattle.std.proofs.Common.{◌≡◌, ◌-◌, ◌≤◌, List, [], ◌∷◌, ◌++◌, length, map, take, drop, ap, sym, subst, refl, ◌∙◌, arith}
 use Rattle.std.proofs.lemmas.List.{map-append, take-map, drop-map, length-map, length-drop}
 use Rattle.std.proofs.lemmas.Option.{slice_get-map}
 use Rattle.std.specs.List.{slice_get}

@@ -1,5 +1,5 @@
 -- Worked examples of types, which the prover computes, and a false statement that it refutes.
-use Rattle.std.specs.Prelude.{◌≡◌, ℕ, [], ◌∷◌, refl}
+use Rattle.std.specs.Prelude.{◌≡◌, [], ◌∷◌, refl}
 use Rattle.merc_base.specs.Names.{int_name, list_name, string_name}
 use Rattle.merc_tree.specs.declared.types.TypeShape.TheVariants.{Application as ApplicationShape}
 use Rattle.merc_tree.specs.Types.{TypeExpr, TypeVariable, IntType, TextType, TypeApplication, no_types, more_types, replaced}

@@ -1,5 +1,5 @@
 -- Types, as declarations and the checker of types have them. Names are numbers in a table of names.
-use Rattle.std.specs.Prelude.{◌≡◌, ℕ, ◌==◌, List, [], ◌∷◌, if◌then◌else◌}
+use Rattle.std.specs.Prelude.{ℕ, List, [], ◌∷◌}
 
 -- a type is a type variable, `int`, `string`, or a type's name with arguments
 mutual

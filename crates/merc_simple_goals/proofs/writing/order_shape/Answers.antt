@@ -1,4 +1,4 @@
-use Rattle.std.proofs.Common.{◌∙◌, ap, refl, sym}
+use Rattle.std.proofs.Common.{◌∙◌, refl, sym}
 use Rattle.merc_order.specs.Spelt.{replaced, tested_places, untested_places}
 use Rattle.merc_simple_goals.proofs.Putting.{after_looking, build_gives, split_gives}
 use Rattle.merc_simple_goals.proofs.writing.order_shape.Goals as goal
