@@ -12,21 +12,16 @@ use Rattle.merc_graded_tree.specs.declared.node_ref.NodeView.{NodeView}
 use Rattle.merc_graded_tree.specs.declared.node_ref.NodeView.TheVariants.{Conjunction as ConjunctionView, Disjunction as DisjunctionView}
 use Rattle.merc_graded_tree.specs.Nodes.{Node, nodes_of, no_arms, more_arms}
 use Rattle.merc_graded_tree.specs.Roots.{arms_of, bodies_of, goals_in}
+use Rattle.merc_graded_tree.proofs.Reversed.{reversed_step}
 use Rattle.merc_det.specs.Tasks.{tasks_in_turn, choice_tasks, arm_task, arm_tasks}
 use Rattle.merc_det.specs.declared.planning.Task.{Task}
 use Rattle.merc_det.specs.declared.planning.Task.TheVariants.{Grade, Learn, Forget}
 use Rattle.merc_det.proofs.RootCategories.{list_of-nodes_of}
-use Rattle.merc_det.proofs.SeenLaws.{reverse-last}
 
 -- what is to come loses what is pushed
 pub step : {X : Type 0} (old new pushed later rest whole : List X) → new ≡ old ++ pushed → later ≡ pushed ++ rest → old ++ later ≡ whole → new ++ rest ≡ whole
 step old new pushed later rest whole e f same =
     ap (λ l. l ++ rest) e ∙ append_assoc old pushed rest ∙ ap (λ l. old ++ l) (sym f) ∙ same
-
-pub reversed_step : (old new goals left : List Node) (last : Node) (whole : List Node) → goals ≡ left ++ last ∷ [] → new ≡ old ++ last ∷ []
-    → old ++ reverse goals ≡ whole → new ++ reverse left ≡ whole
-reversed_step old new goals left last whole e f same =
-    step old new (last ∷ []) (reverse goals) (reverse left) whole f (ap reverse e ∙ reverse-last left last) same
 
 -- goals one after the other
 

@@ -11,7 +11,7 @@ ghost use Rattle.merc_det.specs.Looking.{own_goal_faults};
 use crate::folding::given;
 use merc_base::{Category, Detail, Most, Name, NoMemory, Refusal, Rule};
 use merc_goal_tree::Symbol;
-use merc_graded_tree::{NodeRef, NodeView, Parts, Running};
+use merc_graded_tree::{NodeRef, NodeView, Parts, Running, push_all};
 use merc_grading::categories::{is_many, is_zero};
 use merc_tree::ModeDecl;
 use std::alloc::Global;
@@ -146,16 +146,6 @@ fn push_joined<'a>(view: NodeView<'a>, left: &mut Vec<NodeRef<'a>>) -> Result<()
             left.push(condition)?;
         }
         NodeView::Negation(inner) | NodeView::Quantified(_, inner) => left.push(inner)?,
-    }
-    Ok(())
-}
-
-fn push_all<'a>(goals: Parts<'a>, left: &mut Vec<NodeRef<'a>>) -> Result<(), NoMemory>
-    ensures { OnOk result (left.new.items ≡ left.old.items ++ reverse goals.entry) }
-{
-    let mut goals = goals;
-    while let Some(last) = goals.take_last() {
-        left.push(last)?;
     }
     Ok(())
 }

@@ -1,7 +1,7 @@
 -- Goals that are taken from the last to the first, and from the first to the last.
 use Rattle.std.specs.Prelude.{◌≡◌, ◌≤◌, ◌<◌, ◌+◌, ℕ, zero, suc, List, [], ◌∷◌, ◌++◌, length, drop, reverse, slice_get, refl, Option, Some, None, MatchOption}
 use Rattle.std.proofs.Common.{◌∙◌, ap, sym, subst, add-one, arith}
-use Rattle.std.proofs.lemmas.List.{append_assoc, reverse-append}
+use Rattle.std.proofs.lemmas.List.{reverse-append}
 use Rattle.merc_goal_tree.specs.declared.goal.Symbol.{Symbol}
 use Rattle.merc_graded_tree.specs.Nodes.{Node, no_arms, more_arms}
 use Rattle.merc_graded_tree.specs.Roots.{arms_of, bodies_of}
@@ -11,11 +11,6 @@ reverse-last items last = reverse-append items (last ∷ [])
 
 pub reverse-first : {X : Type 0} (first : X) (items : List X) → reverse (first ∷ items) ≡ reverse items ++ first ∷ []
 reverse-first first items = reverse-append (first ∷ []) items
-
-pub reversed_step : {X : Type 0} (old new goals left : List X) (last : X) (whole : List X) → goals ≡ left ++ last ∷ [] → new ≡ old ++ last ∷ []
-    → old ++ reverse goals ≡ whole → new ++ reverse left ≡ whole
-reversed_step old new goals left last whole e f same =
-    ap (λ l. l ++ reverse left) f ∙ append_assoc old (last ∷ []) (reverse left) ∙ ap (λ l. old ++ l) (sym (ap reverse e ∙ reverse-last left last)) ∙ same
 
 pub length-last : {X : Type 0} (items : List X) (last : X) → length (items ++ last ∷ []) ≡ suc (length items)
 length-last [] last = refl

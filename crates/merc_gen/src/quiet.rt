@@ -1,5 +1,5 @@
 //! Goals that leave no choice point behind.
-ghost use Rattle.std.specs.Prelude.{◌≡◌, ◌&&◌, ◌++◌, ℕ, Bool, [], not, reverse, IfOk, OnOk};
+ghost use Rattle.std.specs.Prelude.{◌≡◌, ◌&&◌, ℕ, Bool, [], not, IfOk};
 ghost use Rattle.merc_graded_tree.specs.declared.basic.Procedure.{Procedure};
 ghost use Rattle.merc_graded_tree.specs.declared.entries.Running.{Running};
 ghost use Rattle.merc_graded_tree.specs.Nodes.{Conditional, Conjunction, Disjunction, Switch, goal_of, nodes_of};
@@ -14,7 +14,7 @@ use crate::Singles;
 use crate::arms::with_symbols;
 use merc_base::{Category, Most, NoMemory, Sequence};
 use merc_goal_tree::{Symbol, Vars};
-use merc_graded_tree::{BasicGoal, NodeRef, NodeView, Parts};
+use merc_graded_tree::{BasicGoal, NodeRef, NodeView, Parts, push_all};
 use std::alloc::Global;
 
 /// Whether the goal's choice points have to be dropped behind it: it answers once and may leave some.
@@ -180,15 +180,4 @@ fn is_quiet_basic(singles: &Singles, goal: &BasicGoal) -> bool
         BasicGoal::Call(procedure, _) => singles.contains(*procedure),
         _ => true,
     }
-}
-
-// Puts goals behind the others, from the last to the first.
-fn push_all<'a>(goals: Parts<'a>, left: &mut Vec<NodeRef<'a>>) -> Result<(), NoMemory>
-    ensures { OnOk result (left.new.items ≡ left.old.items ++ reverse goals.entry) }
-{
-    let mut goals = goals;
-    while let Some(last) = goals.take_last() {
-        left.push(last)?;
-    }
-    Ok(())
 }

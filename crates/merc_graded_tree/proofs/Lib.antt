@@ -1,3 +1,4 @@
 pub mod JoinLaws
 pub mod EntryLaws
 pub mod Cuts
+pub mod Reversed

@@ -1,11 +1,11 @@
 //! What goals begin with.
-ghost use Rattle.std.specs.Prelude.{◌≡◌, ◌++◌, [], reverse, IfOk, OnOk};
+ghost use Rattle.std.specs.Prelude.{◌≡◌, ◌++◌, [], IfOk, OnOk};
 ghost use Rattle.merc_grading.specs.Switches.{beginning, basic_beginning};
 ghost use Rattle.merc_switch_choice.specs.Beginnings.{Begins, left_with};
 
 use merc_base::NoMemory;
 use merc_goal_tree::{Symbol, Var};
-use merc_graded_tree::{BasicGoal, NodeRef, NodeView, Parts, Running};
+use merc_graded_tree::{BasicGoal, NodeRef, NodeView, Parts, Running, push_all};
 use std::alloc::Global;
 
 /// The splits with which a goal begins.
@@ -89,21 +89,10 @@ fn begin_conjunction<'a>(
     ensures { OnOk result (rest.new.items ≡ left_with running goals.entry rest.old.items) }
 {
     match running {
-        Running::Sequential => push_goals(goals, rest),
+        Running::Sequential => push_all(goals, rest),
         Running::Parallel(_) => {
             rest.clear();
             Ok(())
         }
     }
-}
-
-// Puts goals before others, of which the last comes first.
-fn push_goals<'a>(goals: Parts<'a>, rest: &mut Vec<NodeRef<'a>>) -> Result<(), NoMemory>
-    ensures { OnOk result (rest.new.items ≡ rest.old.items ++ reverse goals.entry) }
-{
-    let mut goals = goals;
-    while let Some(last) = goals.take_last() {
-        rest.push(last)?;
-    }
-    Ok(())
 }

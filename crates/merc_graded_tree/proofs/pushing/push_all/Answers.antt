@@ -1,5 +1,5 @@
-use Rattle.merc_det.proofs.Pushing.{reversed_step}
-use Rattle.merc_det.proofs.faults.push_all.Goals as goal
+use Rattle.merc_graded_tree.proofs.Reversed.{reversed_step}
+use Rattle.merc_graded_tree.proofs.pushing.push_all.Goals as goal
 
 pub loop-last-preserved : goal.loop-last-preserved
 loop-last-preserved c =

@@ -1,5 +1,5 @@
 use Rattle.std.proofs.Common.{◌≡◌, ◌++◌, length, reverse}
-use Rattle.merc_det.proofs.faults.push_all.Given as goal
+use Rattle.merc_graded_tree.proofs.pushing.push_all.Given as goal
 
 abbrev pub invariant-loop-last : goal.invariant-loop-last
 invariant-loop-last l = l.left.items ++ reverse l.goals ≡ l.fn.left.items ++ reverse l.fn.goals
