@@ -10,9 +10,6 @@ use Rattle.merc_graded_tree.specs.Nodes.{Node}
 use Rattle.merc_graded_tree.specs.declared.entries.Root.{Root}
 use Rattle.merc_graded_tree.specs.Roots.{arity_of, joined}
 
-pub front_length : {X : Type 0} (items : List X) (own size more : ℕ) → length items ≡ size + more → own ≡ size → length (take own items) ≡ size
-front_length items own size more all is = length-take-le own items (omega (arith, all, is)) ∙ is
-
 pub part_length : {X : Type 0} (items : List X) (at count size : ℕ) → at + count ≤ length items → count ≡ size → length (slice_range items at (at + count)) ≡ size
 part_length items at count size room is = length-take-le (at + count - at) (drop at items) (omega (arith, room, length-drop at items)) ∙ omega (arith, is)
 

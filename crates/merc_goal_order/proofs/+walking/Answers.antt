@@ -25,10 +25,11 @@ use Rattle.merc_goal_order.specs.Conjuncts.{GoesIfReady}
 use Rattle.merc_goal_order.specs.Walking.{Orders}
 use Rattle.merc_goal_order.specs.Walks.{Walked}
 use Rattle.merc_readiness.proofs.Binding.{extends_on}
+use Rattle.merc_readiness.proofs.Lengths.{front_length}
 use Rattle.merc_goal_order.proofs.Beside.{facts_of_first, facts_from, blank_there, beside_goes, beside_stuck, beside_err, walked_tells, never_stuck}
 use Rattle.merc_readiness.proofs.Marking.{subgoals_length, all_subgoals_length, parts_length}
 use Rattle.merc_readiness.proofs.Stepping.{facts_of_next}
-use Rattle.merc_goal_order.proofs.Lengths.{front_length, part_length, cleared_length, joined_length}
+use Rattle.merc_goal_order.proofs.Lengths.{part_length, cleared_length, joined_length}
 use Rattle.merc_goal_order.proofs.Walked.{walked_on, walked_end, walked_stuck}
 use Rattle.merc_goal_order.proofs.Wholes.{end_within, at_behind, undone_is, known_parts, known_own, negation_stuck, negation_binds, negation_ready, quantified_stuck, quantified_ready, disjunction_stuck, disjunction_differs, disjunction_ready, parallel_stuck, parallel_ready}
 use Rattle.merc_goal_order.proofs.+walking.Goals as goal

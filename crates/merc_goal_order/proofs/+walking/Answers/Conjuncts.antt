@@ -27,9 +27,10 @@ use Rattle.merc_agenda.specs.Positions.{IsPlaced}
 use Rattle.merc_goal_order.specs.Walks.{all_settled}
 use Rattle.merc_agenda.specs.declared.agenda.Start.{Start}
 use Rattle.merc_readiness.proofs.Binding.{extends_same, extends_on, extends_all}
+use Rattle.merc_readiness.proofs.Lengths.{front_length}
 use Rattle.merc_readiness.proofs.Marking.{all_subgoals_length}
 use Rattle.merc_readiness.proofs.Stepping.{facts_of_next}
-use Rattle.merc_goal_order.proofs.Lengths.{front_length, part_length, joined_length}
+use Rattle.merc_goal_order.proofs.Lengths.{part_length, joined_length}
 use Rattle.merc_goal_order.proofs.Stepped.{if_stays, if_goes, first_tells, passing_on, none_told, member_passes, member_marks, member_asked, awaited_on, none_awaited, amid_at, end_told, next_err, rounds_first, fewer_by, rounds_err}
 use Rattle.merc_goal_order.proofs.Wholes.{end_within, at_behind, undone_is, known_parts, known_own, conjunction_stuck, conjunction_ready}
 use Rattle.merc_goal_order.proofs.+walking.Goals as goal

@@ -18,8 +18,8 @@ use Rattle.merc_agenda.proofs.Positions.{some_parts}
 use Rattle.merc_agenda.proofs.Stretches.{stretch_front}
 use Rattle.merc_goal_order.specs.Linked.{Guarded, GuardGives, Within, Closing}
 use Rattle.merc_readiness.proofs.Binding.{extends_all, bound_behind}
+use Rattle.merc_readiness.proofs.Lengths.{front_length}
 use Rattle.merc_goal_order.proofs.Chaining.{condition_known, condition_own, condition_err, condition_outer, then_known, then_own, then_stretch, then_err, place_behind_is, guarded_by, first_within, pushed, guard_known, own_known, guard_stretch, chain_err, rest_err, rest_ready, conditional_parts}
-use Rattle.merc_goal_order.proofs.Lengths.{front_length}
 use Rattle.merc_goal_order.proofs.Wholes.{undone_is}
 use Rattle.merc_goal_order.proofs.+walking.Goals as goal
 
