@@ -9,12 +9,12 @@ ghost use Rattle.merc_entries.specs.Entries.{has_mode, is_out, key_of, are_keys}
 ghost use Rattle.merc_entries.specs.EntryValue.{entry_value, entry_values};
 ghost use Rattle.merc_item_forms.specs.ItemValue.{item_value};
 ghost use Rattle.merc_entries.specs.KeySets.{keys_at};
-ghost use Rattle.merc_items.specs.ModuleOf.{arg_of, args_of, category_or_det, declared_category, mode_decl, modes_in};
+ghost use Rattle.merc_items.specs.ModuleOf.{arg_of, args_of, category_or_det, declared_category, modes_in};
 ghost use Rattle.merc_items.specs.DeclaredModes.{entry_modes, kept_modes, moded_predicate};
 ghost use Rattle.merc_items.specs.Parting.{kept};
 
 use crate::parting::Part;
-use merc_base::{Category, Key, Name, NoMemory, Span};
+use merc_base::{Category, Key, Name, NoMemory};
 use merc_entries::{Entry, has_mode, key_of};
 use merc_item_forms::{Item, argument_mode, category_named};
 use merc_operands::{arguments, plain_name};
@@ -136,49 +136,60 @@ fn push_mode(alloc: Global, entry: &Entry<'_>, modes: &mut ModeDecls) -> Result<
     ensures { OnOk result (modes.new ≡ modes.old ++ entry_modes (entry_value entry.now)) }
 {
     match &entry.item {
-        Item::Predicate(head, category) => {
-            push_decl(alloc, head, true, category, entry.span, modes)
-        }
-        Item::Mode(head, category) => push_decl(alloc, head, false, category, entry.span, modes),
+        Item::Predicate(head, category) => modes.push(ModeDecl {
+            args: predicate_args(alloc, head)?,
+            category: declared_category(category),
+            span: entry.span,
+        }),
+        Item::Mode(head, category) => modes.push(ModeDecl {
+            args: mode_args(alloc, head)?,
+            category: declared_category(category),
+            span: entry.span,
+        }),
         _ => Ok(()),
     }
 }
 
-// Puts the mode with this head behind the others. The head of a predicate's declaration has types with the modes.
-fn push_decl(
-    alloc: Global,
-    head: &TermRef<'_>,
-    has_types: bool,
-    category: &Option<TermRef<'_>>,
-    span: Span,
-    modes: &mut ModeDecls,
-) -> Result<(), NoMemory>
-    ensures { OnOk result (modes.new ≡ modes.old ++ mode_decl (map (λ argument. if has_types then argument_mode argument else Some argument) (arguments_of head.now)) category.now span ∷ []) }
+// The arguments of the predicate that this head declares, of those with a mode.
+fn predicate_args(alloc: Global, head: &TermRef<'_>) -> Result<Args, NoMemory>
+    ensures { IfOk result (λ args. args ≡ args_of (map argument_mode (arguments_of head.now))) }
 {
     let terms = arguments(alloc, head)?;
-    let args = args_of(alloc, &terms, has_types);
-    // (a call, since it costs much to prove what is dropped at each `?`)
+    let args = args_with_types(alloc, &terms);
     drop(terms);
-    modes.push(ModeDecl {
-        args: args?,
-        category: declared_category(category),
-        span,
-    })
+    args
 }
 
-// The arguments of a mode.
-fn args_of(alloc: Global, terms: &[TermRef<'_>], has_types: bool) -> Result<Args, NoMemory>
-    ensures { IfOk result (λ args. args ≡ args_of (map (λ argument. if has_types then argument_mode argument else Some argument) terms.now)) }
+// The arguments of the mode that this head declares.
+fn mode_args(alloc: Global, head: &TermRef<'_>) -> Result<Args, NoMemory>
+    ensures { IfOk result (λ args. args ≡ args_of (map Some (arguments_of head.now))) }
+{
+    let terms = arguments(alloc, head)?;
+    let args = args_alone(alloc, &terms);
+    drop(terms);
+    args
+}
+
+// The arguments of a predicate's declaration, where the modes stand behind the types, of those with a mode.
+fn args_with_types(alloc: Global, terms: &[TermRef<'_>]) -> Result<Args, NoMemory>
+    ensures { IfOk result (λ args. args ≡ args_of (map argument_mode terms.now)) }
 {
     let mut args = Args::new(alloc);
     for argument in terms {
-        if has_types {
-            if let Some(mode) = argument_mode(argument) {
-                args.push(arg_of(&mode))?;
-            }
-        } else {
-            args.push(arg_of(argument))?;
+        if let Some(mode) = argument_mode(argument) {
+            args.push(arg_of(&mode))?;
         }
+    }
+    Ok(args)
+}
+
+// The arguments of a mode's declaration, which are the modes alone.
+fn args_alone(alloc: Global, terms: &[TermRef<'_>]) -> Result<Args, NoMemory>
+    ensures { IfOk result (λ args. args ≡ args_of (map Some terms.now)) }
+{
+    let mut args = Args::new(alloc);
+    for argument in terms {
+        args.push(arg_of(argument))?;
     }
     Ok(args)
 }
