@@ -8,7 +8,7 @@ use Rattle.merc_scopes.specs.declared.occurrence.Occurrence.{Occurrence}
 use Rattle.merc_scopes.specs.Scopes.{occurrence}
 use Rattle.merc_flat.specs.Flat.{query_node}
 use Rattle.merc_flat.specs.GoalFaults.{unknown_name}
-use Rattle.merc_check.specs.Forms.{IsFlatForm}
+use Rattle.merc_check.specs.Forms.{IsFlatForm, answers_of}
 use Rattle.merc_check.proofs.AcceptedExamples.{at, bare, q_name, texts, three, word}
 
 -- `V = 1`
@@ -33,6 +33,10 @@ has_form-numbers is = let wrong : form_of 4 12 18 ≡ form_of 0 1 2 = is.form_is
 -- `_Y` is no answer variable
 has_form-answers : IsFlatForm texts bare three (form_of 4 12 18) (occurrence 1 4 ∷ answers) → ⊥
 has_form-answers is = let wrong : occurrence 1 4 ∷ answers ≡ answers = is.answers_are in cc
+
+-- by their numbers in the form's body, where `_Y` comes first
+body_answers : answers_of (form_of 4 12 18) answers ≡ 1 ∷ 2 ∷ []
+body_answers = refl
 
 -- `q`, which is not there, has no form, whatever is made of it
 

@@ -1,5 +1,5 @@
 -- What is told of the form of a goal that is asked is told of the goal.
-use Rattle.std.proofs.Common.{◌≡◌, ℕ, List, map, sym, subst}
+use Rattle.std.proofs.Common.{◌≡◌, ℕ, List, sym, subst}
 use Rattle.merc_tree.specs.Term.{Term}
 use Rattle.merc_tree.specs.declared.declarations.Module.{Module}
 use Rattle.merc_goals.specs.Written.{written}
@@ -7,12 +7,9 @@ use Rattle.merc_goal_tree.specs.Nodes.{Node}
 use Rattle.merc_scopes.specs.declared.occurrence.Occurrence.{Occurrence}
 use Rattle.merc_answer_variables.specs.AnswerVariables.{answer_variables}
 use Rattle.merc_flat.specs.Flat.{query_node}
-use Rattle.merc_bodies.specs.Bodies.{asked_body, numbered, own_variables}
+use Rattle.merc_bodies.specs.Bodies.{asked_body}
 use Rattle.merc_check.specs.Accepted.{query_answers}
-
--- the answer variables of a form by their numbers in its body
-abbrev pub answers_of : Node → List Occurrence → List ℕ
-answers_of form answers = map (numbered 0 0 (own_variables 0 form)) (map (λ (variable : Occurrence). variable.at) answers)
+use Rattle.merc_check.specs.Forms.{answers_of}
 
 module _ (names : List (List ℕ)) (known : Module) (goal : Term) (form : Node) (answers : List Occurrence)
     (same : query_node names known (written 0 goal) ≡ form) (is : answers ≡ answer_variables names (written 0 goal)) where

@@ -9,7 +9,7 @@ ghost use Rattle.merc_flat.specs.Flat.{clause_node, clauses_fault};
 ghost use Rattle.merc_type_check.specs.Checked.{Tells, head_of};
 ghost use Rattle.merc_type_matching.specs.Kept.{AreKept};
 ghost use Rattle.merc_type_check.specs.TypeNumbers.{AreDeclared};
-ghost use Rattle.merc_bodies.specs.Bodies.{asked_body, body_of, numbered, own_variables};
+ghost use Rattle.merc_bodies.specs.Bodies.{asked_body, body_of};
 ghost use Rattle.merc_order.specs.Bound.{nothing};
 ghost use Rattle.merc_order.specs.Procedures.{modes_of, order_fault, procedure_trees, query_from, IsQuery};
 ghost use Rattle.merc_modes.specs.Told.{IsTold, fault_in};
@@ -18,7 +18,7 @@ ghost use Rattle.merc_grading.specs.Fitting.{AreToldApart};
 ghost use Rattle.merc_order_laws.specs.HeadTypes.{declared_arguments};
 ghost use Rattle.merc_order_laws.specs.ProcedureBodies.{AreBodiesOf, IsAskedBody};
 ghost use Rattle.merc_check.specs.Accepted.{AcceptsClauses, AcceptsGoal, AreGraded, IsGradedGoal, RefusesClauses, RefusesGoal, query_answers, query_names, type_mismatch};
-ghost use Rattle.merc_check.specs.Forms.{IsFlatForm};
+ghost use Rattle.merc_check.specs.Forms.{IsFlatForm, answers_of};
 ghost use Rattle.merc_check.specs.Untyped.{FindsUntyped};
 
 use merc_base::{Detail, Fault, Name, Names, NoMemory, Refusal, Rule, Sequence, Span};
@@ -161,8 +161,8 @@ fn check_form(
 ) -> Result<AskedGoal, Fault>
     requires { AreToldApart known.now.types }
     ensures accepted { IfOk result (λ asked. (names : List (List ℕ)) (goal : Term) → IsFlatForm names known.now goal form.now answers.now → AcceptsGoal names known.now goal) }
-    ensures graded { IfOk result (λ asked. (body : Body) → IsAskedBody known.now (map (numbered 0 0 (own_variables 0 form.now)) (map (λ variable. variable.at) answers.now)) (asked_body form.now) body → asked.trees ≡ finished known.now.types known.now.preds nothing body ∷ []) }
-    ensures answers { IfOk result (λ asked. asked.answers ≡ map (numbered 0 0 (own_variables 0 form.now)) (map (λ variable. variable.at) answers.now)) }
+    ensures graded { IfOk result (λ asked. (body : Body) → IsAskedBody known.now (answers_of form.now answers.now) (asked_body form.now) body → asked.trees ≡ finished known.now.types known.now.preds nothing body ∷ []) }
+    ensures answers { IfOk result (λ asked. asked.answers ≡ answers_of form.now answers.now) }
     ensures names { IfOk result (λ asked. asked.names ≡ map (λ variable. variable.name) answers.now) }
     ensures refused { IfErr result (λ fault. (names : List (List ℕ)) (goal : Term) → IsFlatForm names known.now goal form.now answers.now → span ≡ span_of goal → IsRefusal (RefusesGoal names known.now goal) fault) }
 {
@@ -221,9 +221,9 @@ fn check_query_order(
     form: &NodeRef<'_>,
     answers: &[Occurrence],
 ) -> Result<OrderedGoal, Fault>
-    ensures told { IsTold (fault_in (query_from (modes_of known.now.preds) (map (numbered 0 0 (own_variables 0 form.now)) (map (λ variable. variable.at) answers.now)) (asked_body form.now))) result }
-    ensures tree { IfOk result (λ asked. (tree : OrderedNode) × (asked.trees ≡ tree ∷ []) × IsQuery (modes_of known.now.preds) (map (numbered 0 0 (own_variables 0 form.now)) (map (λ variable. variable.at) answers.now)) (asked_body form.now) tree) }
-    ensures answers { IfOk result (λ asked. asked.answers ≡ map (numbered 0 0 (own_variables 0 form.now)) (map (λ variable. variable.at) answers.now)) }
+    ensures told { IsTold (fault_in (query_from (modes_of known.now.preds) (answers_of form.now answers.now) (asked_body form.now))) result }
+    ensures tree { IfOk result (λ asked. (tree : OrderedNode) × (asked.trees ≡ tree ∷ []) × IsQuery (modes_of known.now.preds) (answers_of form.now answers.now) (asked_body form.now) tree) }
+    ensures answers { IfOk result (λ asked. asked.answers ≡ answers_of form.now answers.now) }
 {
     let asked = body_with_answers(alloc, form, answers)?;
     let preds = known.module().preds.as_slice();
@@ -264,7 +264,7 @@ fn body_with_answers(
     answers: &[Occurrence],
 ) -> Result<Asked, NoMemory>
     ensures goal { IfOk result (λ asked. asked.goal ≡ asked_body form.now) }
-    ensures answers { IfOk result (λ asked. asked.answers ≡ map (numbered 0 0 (own_variables 0 form.now)) (map (λ variable. variable.at) answers.now)) }
+    ensures answers { IfOk result (λ asked. asked.answers ≡ answers_of form.now answers.now) }
 {
     let variables = numbers_of(alloc, answers)?;
     asked_body(alloc, form, &variables)

@@ -22,8 +22,8 @@ use Rattle.merc_order_laws.specs.ProcedureBodies.{IsAskedBody}
 use Rattle.merc_modes.specs.Told.{IsTold, fault_in}
 use Rattle.merc_check.specs.Accepted.{AcceptsGoal, HasBody, RefusesGoal, query_order, type_mismatch}
 use Rattle.merc_check.specs.Accepted.RefusesGoal.{category, untyped, unordered}
-use Rattle.merc_check.specs.Forms.{IsFlatForm}
-use Rattle.merc_check.proofs.GoalForms.{answers_of, of_goal, of_form}
+use Rattle.merc_check.specs.Forms.{IsFlatForm, answers_of}
+use Rattle.merc_check.proofs.GoalForms.{of_goal, of_form}
 use Rattle.merc_check.proofs.checking.check_form.Goals as goal
 
 -- the check of types tells that it is not typed
