@@ -30,7 +30,9 @@ use Rattle.merc_program_laws.specs.AnswerLaws.{AnswersLaw, OthersLaw}
 use Rattle.merc_program_laws.proofs.Truthful.{Truthful, or_else, decide_has, decide_head, typed_value, each_both}
 use Rattle.merc_program_laws.proofs.CallTruth.{TruthfulCalls}
 use Rattle.merc_program_laws.proofs.TreeTruth.{node_truth}
-use Rattle.merc_program_laws.proofs.Procedures.{body_graded, body_parts, body_good, body_fits, found, lawful_calls, single_call}
+use Rattle.merc_program_laws.proofs.NumberedBodies.{body_graded, body_parts, found}
+use Rattle.merc_program_laws.proofs.Programs.{lawful_calls, single_call}
+use Rattle.merc_program_laws.proofs.Procedures.{body_good, body_fits}
 
 -- an assignment of a body's variables: the arguments' values, and else an environment's
 abbrev entered_as : List ℕ → Assignment → (ℕ → Option Value) → Assignment
@@ -141,7 +143,7 @@ module _ (known : Module) (bodies : List Body) (good : IsGoodProgram known bodie
       let there = found known bodies good p declared mode is in
       let truth = truthful_calls depth stage (omega (arith, le)) in
       record {
-        single = λ one i env h. single_call known bodies good (suc depth) p declared mode is one i env h;
+        single = λ one i env h. single_call known bodies good (suc depth) p declared mode is one env;
         answers_yes = λ i env h args long.
             subst (λ (o : Option ProcedureBody). SaysYes program stage o args (Tick (body_trace program (call_trace program depth) o env))) (sym there.there)
             (body_yes depth stage truth declared mode there.body there.good i env h args long);

@@ -10,6 +10,7 @@ pub mod Maxima
 pub mod Combining
 pub mod Graded
 pub mod TreeCategories
+pub mod NumberedBodies
 pub mod Programs
 pub mod Basics
 pub mod Local

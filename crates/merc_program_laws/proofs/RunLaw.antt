@@ -1,15 +1,11 @@
 -- The truth law of runs.
-use Rattle.std.proofs.Common.{◌≡◌, ◌⊎◌, inl, inr, ℕ, zero, suc, ◌<◌, true, List, [], Some, refl, ap, sym, ◌∙◌, subst, arith}
-use Rattle.std.specs.List.{AllByRecursion}
+use Rattle.std.proofs.Common.{◌≡◌, ◌⊎◌, inl, inr, ℕ, zero, suc, ◌<◌, true, List, [], Some, ap, sym, ◌∙◌, arith}
 use Rattle.merc_tree.specs.Types.{TypeVariable}
 use Rattle.merc_tree.specs.declared.declarations.Module.{Module}
-use Rattle.merc_graded_tree.specs.Nodes.{Node, outputs_of}
+use Rattle.merc_graded_tree.specs.Nodes.{outputs_of}
 use Rattle.merc_graded_tree.specs.Variables.{in_node}
-use Rattle.merc_type_check.specs.Typing.{IsTypedGoal}
 use Rattle.merc_order.specs.Bound.{nothing, with, among}
-use Rattle.merc_order.specs.Procedures.{modes_of}
-use Rattle.merc_order_laws.specs.WrittenGoals.{basic_goals, written_goal}
-use Rattle.merc_order_laws.proofs.Facts.{clash, either_way}
+use Rattle.merc_order_laws.proofs.Facts.{either_way}
 use Rattle.merc_grading.specs.Known.{known_behind}
 use Rattle.merc_grading.specs.Faults.{Body}
 use Rattle.merc_value.specs.Value.{Value}
@@ -18,20 +14,18 @@ use Rattle.merc_meaning.specs.Steps.{value_at}
 use Rattle.merc_meaning.specs.Runs.{Program, node_trace, call_trace, run}
 use Rattle.merc_meaning.specs.Truth.{Assignment, IsAssignment, YesCall, NoCall, YesAt, NoAt}
 use Rattle.merc_program_laws.specs.Answers.{Each, Has, IsDone}
-use Rattle.merc_program_laws.specs.GoodPrograms.{HasLiteral, IsGoodProgram, IsGoodQuery, program_of}
+use Rattle.merc_program_laws.specs.GoodPrograms.{IsGoodProgram, IsGoodQuery, program_of}
 use Rattle.merc_program_laws.specs.CategoryLaws.{GivesAll}
 use Rattle.merc_program_laws.proofs.Traces.{each_map, has_map, has_each}
 use Rattle.merc_program_laws.proofs.Values.{Instance, none_not, same_some, is_some_of}
-use Rattle.merc_program_laws.proofs.Lawful.{Fits, Goes}
-use Rattle.merc_program_laws.proofs.Graded.{Graded, graded_has}
-use Rattle.merc_program_laws.proofs.TreeCategories.{IsPart, node_law}
-use Rattle.merc_program_laws.proofs.Programs.{query_type_law}
+use Rattle.merc_program_laws.proofs.Lawful.{Goes}
+use Rattle.merc_program_laws.proofs.TreeCategories.{node_law}
+use Rattle.merc_program_laws.proofs.Programs.{lawful_calls, query_fits, query_graded, query_parts, query_type_law}
 use Rattle.merc_program_laws.specs.Instances.{IsAnswer, EachOfRun, HasOfRun, EndsFreely}
 use Rattle.merc_program_laws.specs.AnswerLaws.{AnswersAreWhole, RunAnswersAreYes, RunOthersAreNo, RunAnswersLaw, RunOthersLaw, WholeAnswersLaw}
 use Rattle.merc_program_laws.proofs.Truthful.{IsInstance, Truthful, each_both, overridden, overridden_out, overridden_in, overridden_values, typed_value}
 use Rattle.merc_program_laws.proofs.JoinedTruth.{yes_same}
 use Rattle.merc_program_laws.proofs.TreeTruth.{node_truth}
-use Rattle.merc_program_laws.proofs.Procedures.{all_both, lawful_calls}
 use Rattle.merc_program_laws.proofs.CallLaw.{truthful_calls}
 
 -- Traces and runs.
@@ -68,15 +62,6 @@ module _ (known : Module) (bodies : List Body) (good : IsGoodProgram known bodie
   abbrev itself : Instance
   itself name = TypeVariable name
 
-  query_graded : Graded known.types (modes_of known.preds) query.types [] query.tree
-  query_graded = subst (λ (n : Node). Graded known.types (modes_of known.preds) query.types [] n) (sym asked.is_graded.1) (graded_has known.types (modes_of known.preds) query.types asked.is_graded.0 [])
-
-  query_parts : AllByRecursion (IsPart known query.types itself) (basic_goals query.tree)
-  query_parts = all_both (λ g. IsTypedGoal known query.types (written_goal g)) HasLiteral (basic_goals query.tree) asked.typed asked.literals
-
-  query_fits : Fits known query.types itself (among answers) nothing (in_node query.tree) [] []
-  query_fits = record { bounds = λ x o. refl; outer = λ x o e. clash e refl; typed = λ x v e. absurd (none_not e); knows = λ x s e. absurd (none_not e) }
-
   module _ (limit stage : ℕ) (later : limit < stage) where
     abbrev trace : Trace
     trace = node_trace program (call_trace program (suc limit)) query.tree []
@@ -86,12 +71,13 @@ module _ (known : Module) (bodies : List Body) (good : IsGoodProgram known bodie
 
     query_goes : Each Behind trace
     query_goes =
-        (node_law known good.good_types program (call_trace program (suc limit)) (lawful_calls known bodies good (suc limit)) query.types itself query.tree (among answers) nothing [] [] asked.binds query_graded query_parts query_fits).goes
+        (node_law known good.good_types program (call_trace program (suc limit)) (lawful_calls known bodies good (suc limit)) query.types itself query.tree (among answers) nothing [] [] asked.binds
+        (query_graded known bodies good answers query asked itself) (query_parts known bodies good answers query asked itself) (query_fits known bodies good answers query asked itself)).goes
 
     query_truth : Truthful (among answers) (in_node query.tree) (λ s. YesAt program stage (among answers) query.tree s) (λ s. NoAt program stage (among answers) query.tree s) [] trace
     query_truth =
         node_truth known good.good_types program (YesCall program stage) (NoCall program stage) (call_trace program (suc limit)) (lawful_calls known bodies good (suc limit)) (truthful_calls known bodies good (suc limit) stage (omega (arith, later)))
-        query.types itself query.tree (among answers) nothing [] [] asked.binds query_graded asked.guarded query_parts query_fits
+        query.types itself query.tree (among answers) nothing [] [] asked.binds (query_graded known bodies good answers query asked itself) asked.guarded (query_parts known bodies good answers query asked itself) (query_fits known bodies good answers query asked itself)
 
     query_gives : Each (GivesAll known.types itself query.types answers) trace
     query_gives = query_type_law known bodies good answers query asked itself (suc limit)
