@@ -1,32 +1,15 @@
 -- Small facts on assignments.
 use Rattle.std.proofs.Common.{◌≡◌, ◌⊎◌, inl, inr, ℕ, Bool, true, false, ◌==◌, if◌then◌else◌, List, [], ◌∷◌, refl, sym}
-use Rattle.std.specs.Bool.{Decides}
 use Rattle.std.proofs.lemmas.Bool.Decides.{Decides-eqb}
 use Rattle.merc_order.specs.Bound.{among}
 use Rattle.merc_value.specs.Value.{Value, Values, IsValue, more}
 use Rattle.merc_meaning.specs.Truth.{Assignment, IsAssignment, assigned}
-use Rattle.merc_order_laws.proofs.Facts.{clash, or_right}
 use Rattle.merc_order_laws.proofs.Replacing.{first_among}
+use Rattle.merc_program_laws.proofs.Values.{among_there, chosen_false, chosen_true, decide}
 
 pub either : {A B C D : Type 0} → (A → C) → (B → D) → A ⊎ B → C ⊎ D
 either f g (inl a) = inl (f a)
 either f g (inr b) = inr (g b)
-
--- a test either holds or does not
-pub decide : (b : Bool) (P : Type 0) → Decides b P → ((b ≡ true) × P) ⊎ ((b ≡ false) × (P → ⊥))
-decide true P d = inl (refl, d.0 refl)
-decide false P d = inr (refl, λ p. clash (d.1 p) refl)
-
-pub among_there : (x y : ℕ) (ys : List ℕ) → among ys x ≡ true → among (y ∷ ys) x ≡ true
-among_there x y ys h = or_right (x == y) (among ys x) h
-
-pub chosen_true : {A : Type 0} {b : Bool} (x y : A) → b ≡ true → (if b then x else y) ≡ x
-chosen_true {b = true} x y h = refl
-chosen_true {b = false} x y h = clash h refl
-
-pub chosen_false : {A : Type 0} {b : Bool} (x y : A) → b ≡ false → (if b then x else y) ≡ y
-chosen_false {b = true} x y h = clash refl h
-chosen_false {b = false} x y h = refl
 
 -- an assignment with one value changed
 abbrev pub set_to : ℕ → Value → Assignment → Assignment

@@ -2,14 +2,13 @@
 use Rattle.std.proofs.Common.{◌≡◌, ◌⊎◌, inl, inr, ℕ, zero, suc, true, false, is_some, List, [], ◌∷◌, length, Option, Some, None, slice_get, refl, ap, sym, ◌∙◌, subst, arith}
 use Rattle.merc_base.specs.Category.{most_of}
 use Rattle.merc_base.specs.declared.category.Most.TheVariants.{One}
-use Rattle.merc_tree.specs.Types.{TypeExpr, replaced}
 use Rattle.merc_tree.specs.declared.declarations.Arg.{Arg}
 use Rattle.merc_tree.specs.declared.declarations.Arg.TheVariants.{Input, Output}
 use Rattle.merc_tree.specs.declared.declarations.ModeDecl.{ModeDecl}
 use Rattle.merc_tree.specs.declared.declarations.PredDecl.{PredDecl}
 use Rattle.merc_tree.specs.declared.declarations.Module.{Module}
 use Rattle.merc_graded_tree.specs.declared.basic.Procedure.{Procedure}
-use Rattle.merc_type_check.specs.Typing.{HaveTypes as VariablesHave, IsCalled}
+use Rattle.merc_type_check.specs.Typing.{IsCalled}
 use Rattle.merc_order.specs.Bound.{Bound, among}
 use Rattle.merc_order.specs.CallModes.{inputs_of}
 use Rattle.merc_order.specs.Procedures.{bound_at, modes_in, modes_of}
@@ -23,37 +22,18 @@ use Rattle.merc_meaning.specs.Trace.{Env, Trace, taken_back}
 use Rattle.merc_meaning.specs.Steps.{value_at, with_entry, entered, brought_back}
 use Rattle.merc_meaning.specs.Runs.{Program, ProcedureBody, called}
 use Rattle.merc_meaning.specs.Truth.{Assignment, IsAssignment, Judgement}
-use Rattle.merc_meaning.proofs.Environments.{entry_same, entry_other}
-use Rattle.merc_program_laws.specs.ValueTypes.{HasType}
+use Rattle.merc_meaning.proofs.Environments.{entry_same}
 use Rattle.merc_program_laws.specs.Answers.{Each, Has, IsDone, Single}
-use Rattle.merc_program_laws.specs.CategoryLaws.{AreTyped, Enters, Leaves, IsProcedure}
+use Rattle.merc_program_laws.specs.CategoryLaws.{Enters, Leaves, IsProcedure}
 use Rattle.merc_program_laws.proofs.Traces.{each_taken, has_each, has_taken, done_taken}
-use Rattle.merc_program_laws.proofs.Values.{Instance, composed, none_not, same_some, some_of, among_here, among_there, among_cases, not_here, not_there}
-use Rattle.merc_program_laws.proofs.Steps.{EnvTyped, free_not, placed}
+use Rattle.merc_program_laws.proofs.Values.{Instance, composed, none_not, same_some, some_of, among_here, among_there, among_cases}
+use Rattle.merc_program_laws.proofs.Steps.{free_not}
 use Rattle.merc_program_laws.proofs.Lawful.{Fits}
-use Rattle.merc_program_laws.proofs.Calls.{LawfulCalls}
+use Rattle.merc_program_laws.proofs.Calls.{LawfulCalls, brought_other, entered_bound, entered_typed}
 use Rattle.merc_program_laws.specs.Instances.{ArgumentsAgree}
 use Rattle.merc_program_laws.proofs.Truthful.{IsInstance, Truthful, each_both, single_taken}
 
 -- Entering a body and coming back.
-
-brought_other : (places : List Arg) (args : List ℕ) (g : ℕ → Option Value) (env : Env) (x : ℕ) → among (written_by places args) x ≡ false → value_at (brought_back places args g env) x ≡ value_at env x
-brought_other [] args g env x h = refl
-brought_other (k ∷ places) [] g env x h = refl
-brought_other (Input ∷ places) (a ∷ args) g env x h = brought_other places args (λ y. g (suc y)) env x h
-brought_other (Output ∷ places) (a ∷ args) g env x h =
-    brought_other places args (λ y. g (suc y)) (with_entry env a (g zero)) x (not_there x a (written_by places args) h)
-    ∙ entry_other env a x (g zero) (not_here x a (written_by places args) h)
-
--- exactly the inputs are bound when a body is entered
-entered_bound : (b : Bound) (places : List Arg) (args : List ℕ) (env : Env) → length places ≡ length args → AreBound b (inputs_of places args) → ((y : ℕ) → among args y ≡ true → is_some (value_at env y) ≡ b y)
-    → (v : ℕ) → is_some (value_at (entered places args env) v) ≡ bound_at places v
-entered_bound b [] args env l m k v = refl
-entered_bound b (p ∷ places) [] env l m k v = absurd cc
-entered_bound b (Input ∷ places) (a ∷ args) env l m k zero = k a (among_here a args) ∙ m.0
-entered_bound b (Input ∷ places) (a ∷ args) env l m k (suc v) = entered_bound b places args env (omega (arith, l)) m.1 (λ y n. k y (among_there y a args n)) v
-entered_bound b (Output ∷ places) (a ∷ args) env l m k zero = refl
-entered_bound b (Output ∷ places) (a ∷ args) env l m k (suc v) = entered_bound b places args env (omega (arith, l)) m (λ y n. k y (among_there y a args n)) v
 
 -- behind a call the outputs have the values of the body's variables
 abbrev OutsAt : List Arg → List ℕ → (ℕ → Option Value) → Env → Type 0
@@ -126,16 +106,6 @@ TruthfulCalls known is_yes is_no call = (p : Procedure) (declared : PredDecl) (m
 
 -- Given is a program whose calls are lawful and truthful.
 module _ (known : Module) (program : Program) (is_yes is_no : Judgement) (call : Procedure → Env → Trace) (calls : LawfulCalls known program call) (truth : TruthfulCalls known is_yes is_no call) (types i : Instance) where
-  entered_typed : (j : Instance) (places : List Arg) (args : List ℕ) (ts : List TypeExpr) (env : Env) → VariablesHave known types j args ts → EnvTyped known types i env → AreTyped known.types (composed i j) ts (entered places args env)
-  entered_typed j [] args ts env h t v type value p q = absurd (none_not q)
-  entered_typed j (k ∷ places) [] ts env h t v type value p q = absurd (none_not q)
-  entered_typed j (k ∷ places) (a ∷ args) [] env h t v type value p q = absurd h
-  entered_typed j (Input ∷ places) (a ∷ args) (u ∷ ts) env h t zero type value p q =
-      subst (λ (z : TypeExpr). HasType known.types value (replaced (composed i j) z)) (same_some p) (subst (λ (z : TypeExpr). HasType known.types value z) (placed known types i j a u h.0) (t a value q))
-  entered_typed j (Input ∷ places) (a ∷ args) (u ∷ ts) env h t (suc v) type value p q = entered_typed j places args ts env h.1 t v type value p q
-  entered_typed j (Output ∷ places) (a ∷ args) (u ∷ ts) env h t zero type value p q = absurd (none_not q)
-  entered_typed j (Output ∷ places) (a ∷ args) (u ∷ ts) env h t (suc v) type value p q = entered_typed j places args ts env h.1 t v type value p q
-
   abbrev CallTruth : Variables → Procedure → List ℕ → Env → Trace → Type 0
   CallTruth out p args env t = Truthful out (among args) (is_yes p args) (is_no p args) env t
 
@@ -144,7 +114,7 @@ module _ (known : Module) (program : Program) (is_yes is_no : Judgement) (call :
       → Fits known types i out b (among args) seen env → Enters known.types (composed i typed.0) mode.args declared.args (entered mode.args args env)
   enters out b seen outs args env declared mode typed good fits = record {
     bindings = entered_bound b mode.args args env good.0 good.1 (λ y m. fits.bounds y m);
-    typed = entered_typed typed.0 mode.args args declared.args env typed.1 fits.typed;
+    typed = entered_typed known types i typed.0 mode.args args declared.args env typed.1 fits.typed;
   }
 
   mode_truth : (out : Variables) (b : Bound) (seen : Known) (outs : List ℕ) (p : Procedure) (args : List ℕ) (env : Env) (declared : PredDecl) (mode : ModeDecl) → IsProcedure known p declared mode

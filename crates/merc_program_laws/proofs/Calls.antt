@@ -37,7 +37,7 @@ use Rattle.merc_program_laws.proofs.Lawful.{Fits, Goes, Lawful}
 use Rattle.merc_program_laws.proofs.Knowing.{knows_on, one_law, none_law, goes_to, goes_more}
 use Rattle.merc_program_laws.proofs.Simple.{Before, BasicLaw, GoodBasicGoal, assign_law, build_law, split_law, two_law, arithmetic_law, raise_law}
 
-brought_other : (places : List Arg) (args : List ℕ) (g : ℕ → Option Value) (env : Env) (x : ℕ) → among (written_by places args) x ≡ false → value_at (brought_back places args g env) x ≡ value_at env x
+pub brought_other : (places : List Arg) (args : List ℕ) (g : ℕ → Option Value) (env : Env) (x : ℕ) → among (written_by places args) x ≡ false → value_at (brought_back places args g env) x ≡ value_at env x
 brought_other [] args g env x h = refl
 brought_other (k ∷ places) [] g env x h = refl
 brought_other (Input ∷ places) (a ∷ args) g env x h = brought_other places args (λ y. g (suc y)) env x h
@@ -55,7 +55,7 @@ written_within (Output ∷ places) (a ∷ args) x h = elim (among_cases x a (wri
 ]
 
 -- exactly the inputs are bound when a body is entered
-entered_bound : (b : Bound) (places : List Arg) (args : List ℕ) (env : Env) → length places ≡ length args → AreBound b (inputs_of places args) → ((y : ℕ) → among args y ≡ true → is_some (value_at env y) ≡ b y)
+pub entered_bound : (b : Bound) (places : List Arg) (args : List ℕ) (env : Env) → length places ≡ length args → AreBound b (inputs_of places args) → ((y : ℕ) → among args y ≡ true → is_some (value_at env y) ≡ b y)
     → (v : ℕ) → is_some (value_at (entered places args env) v) ≡ bound_at places v
 entered_bound b [] args env l m k v = refl
 entered_bound b (p ∷ places) [] env l m k v = absurd cc
@@ -72,7 +72,7 @@ types_length known types j (a ∷ args) (t ∷ ts) h = ap suc (types_length know
 
 -- Given are the module, the types of the variables, and what type variables stand for.
 module _ (known : Module) (types i : Instance) where
-  entered_typed : (j : Instance) (places : List Arg) (args : List ℕ) (ts : List TypeExpr) (env : Env) → VariablesHave known types j args ts → EnvTyped known types i env → AreTyped known.types (composed i j) ts (entered places args env)
+  pub entered_typed : (j : Instance) (places : List Arg) (args : List ℕ) (ts : List TypeExpr) (env : Env) → VariablesHave known types j args ts → EnvTyped known types i env → AreTyped known.types (composed i j) ts (entered places args env)
   entered_typed j [] args ts env h t v type value p q = absurd (none_not q)
   entered_typed j (k ∷ places) [] ts env h t v type value p q = absurd (none_not q)
   entered_typed j (k ∷ places) (a ∷ args) [] env h t v type value p q = absurd h

@@ -13,7 +13,7 @@ use Rattle.merc_meaning.specs.Truth.{Outside}
 use Rattle.merc_order_laws.proofs.Facts.{clash, or_cases, either_way}
 use Rattle.merc_order_laws.proofs.Groups.{taken_takes}
 use Rattle.merc_order_laws.proofs.Replacing.{first_among}
-use Rattle.merc_program_laws.proofs.Basics.{among_there}
+use Rattle.merc_program_laws.proofs.Values.{among_there}
 use Rattle.merc_program_laws.proofs.Keeping.{Within}
 use Rattle.merc_program_laws.proofs.Grouping.{IsHeld, AreHeld}
 

@@ -9,7 +9,8 @@ use Rattle.merc_meaning.specs.Values.{made}
 use Rattle.merc_meaning.specs.Truth.{Assignment, IsAssignment, Outside, with, AgreeOn, assigned, Judgement, YesBasic, NoBasic, Yes, No, YesGoal, NoGoal, YesAll, NoAll, YesAny, NoAny, YesArm, NoArms}
 use Rattle.merc_order_laws.proofs.Facts.{or_left, or_right, either_way}
 use Rattle.merc_order_laws.proofs.Replacing.{first_among}
-use Rattle.merc_program_laws.proofs.Basics.{either, among_there, mix, mix_values, mix_in, chosen_true, chosen_false, assigned_same}
+use Rattle.merc_program_laws.proofs.Values.{among_there, chosen_false, chosen_true}
+use Rattle.merc_program_laws.proofs.Basics.{either, mix, mix_values, mix_in, assigned_same}
 
 -- a call's truth depends on the values of its arguments alone
 abbrev pub IsByValues : Judgement → Type 0

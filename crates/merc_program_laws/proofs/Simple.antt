@@ -30,6 +30,12 @@ use Rattle.merc_program_laws.proofs.Steps.{values_there, filled_other, free_not,
 use Rattle.merc_program_laws.proofs.Lawful.{Fits, Goes, Lawful}
 use Rattle.merc_program_laws.proofs.Knowing.{knows_on, knows_more, knows_copied, one_law, none_law, tested_law, goes_to, goes_same, goes_more, goes_one, value_of, int_at, text_of, split_sure, split_never}
 
+-- what an operation on integers that are there does
+pub operated_is : (env : Env) (op : Operation) (z : ℕ) (n m : ℤ) (o p : Option Value) → o ≡ Some (Int n) → p ≡ Some (Int m) → computed env z (arithmetic op n m) ≡ operated env op z o p
+operated_is env op z n m o p e f =
+    subst (λ (u : Option Value). computed env z (arithmetic op n m) ≡ operated env op z u p) (sym e)
+    (subst (λ (u : Option Value). computed env z (arithmetic op n m) ≡ operated env op z (Some (Int n)) u) (sym f) refl)
+
 -- Given are the module, the modes of each predicate, the types of the variables, and what type variables stand for.
 module _ (known : Module) (modes : ℕ → List ModeDecl) (types i : Instance) where
   abbrev pub Before : Variables → Bound → Known → BasicGoal → Env → Type 0
@@ -135,11 +141,6 @@ module _ (known : Module) (modes : ℕ → List ModeDecl) (types i : Instance) w
       (goes_one known types i out b (among (z ∷ x ∷ y ∷ [])) seen seen z (Int k) env fits h.good.2 (among_here z (x ∷ y ∷ [])) t
       (λ kept. knows_on seen env (bound env z (Int k)) fits.knows kept))
       h.good.3)
-
-  operated_is : (env : Env) (op : Operation) (z : ℕ) (n m : ℤ) (o p : Option Value) → o ≡ Some (Int n) → p ≡ Some (Int m) → computed env z (arithmetic op n m) ≡ operated env op z o p
-  operated_is env op z n m o p e f =
-      subst (λ (u : Option Value). computed env z (arithmetic op n m) ≡ operated env op z u p) (sym e)
-      (subst (λ (u : Option Value). computed env z (arithmetic op n m) ≡ operated env op z (Some (Int n)) u) (sym f) refl)
 
   pub arithmetic_law : (out : Variables) (b : Bound) (seen : Known) (outs : List ℕ) (op : Operation) (z x y : ℕ) (env : Env) → GoodBasicGoal out b outs (Arithmetic op z x y) → Before out b seen (Arithmetic op z x y) env
       → BasicLaw out b seen outs (Arithmetic op z x y) env (operated env op z (value_at env x) (value_at env y))

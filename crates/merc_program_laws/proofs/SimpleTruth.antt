@@ -19,7 +19,7 @@ use Rattle.merc_value.specs.Value.{Value, Int, Text, Con, Values, none, more}
 use Rattle.merc_meaning.specs.Trace.{Env, Trace, one_answer}
 use Rattle.merc_meaning.specs.Values.{count, made, fields, same}
 use Rattle.merc_meaning.specs.Arithmetic.{Result, Gives, ZeroDivisor, arithmetic, given, arithmetic_of, comparison_of}
-use Rattle.merc_meaning.specs.Steps.{value_at, bound, tested, compared, joined, values_at, binds, made_if, filled, filled_if, split, computed, operated, raised}
+use Rattle.merc_meaning.specs.Steps.{value_at, bound, tested, compared, values_at, binds, made_if, filled, filled_if, split, computed, operated, raised}
 use Rattle.merc_meaning.specs.Truth.{Assignment, assigned}
 use Rattle.merc_meaning.proofs.ValueLaws.{same-decides}
 use Rattle.merc_program_laws.specs.ValueTypes.{HasType}
@@ -27,9 +27,9 @@ use Rattle.merc_program_laws.specs.Answers.{Has}
 use Rattle.merc_program_laws.specs.GoodPrograms.{AreGoodTypes, FitsArguments}
 use Rattle.merc_program_laws.proofs.Values.{Instance, decide, same_number, among_here, among_there, none_not, same_some, is_some_of, IsMany, fields_constructor, fields_integer, fields_text, fields_of_made, at_same, at_other}
 use Rattle.merc_program_laws.proofs.Declared.{found_arity}
-use Rattle.merc_program_laws.proofs.Steps.{values_there, filled_other, free_not, Instances, fields_typed, may_have}
+use Rattle.merc_program_laws.proofs.Steps.{joined_parts, values_there, filled_other, free_not, Instances, fields_typed, may_have}
 use Rattle.merc_program_laws.proofs.Knowing.{value_of, int_at, text_of}
-use Rattle.merc_program_laws.proofs.Simple.{Before, GoodBasicGoal}
+use Rattle.merc_program_laws.proofs.Simple.{Before, GoodBasicGoal, operated_is}
 use Rattle.merc_program_laws.proofs.Truthful.{Matches, IsInstance, Truthful}
 
 pub bound_matches : (occurs : Variables) (s : Assignment) (env : Env) (x : ℕ) (v : Value) → s x ≡ v → Matches occurs s env → Matches occurs s (bound env x v)
@@ -51,12 +51,6 @@ filled_matches : (occurs : Variables) (s : Assignment) (env : Env) (ys : List �
 filled_matches occurs s env [] vs h k = k
 filled_matches occurs s env (y ∷ ys) none h k = k
 filled_matches occurs s env (y ∷ ys) (more v vs) h k = filled_matches occurs s (bound env y v) ys vs (rest_is h) (bound_matches occurs s env y v (first_is h) k)
-
--- what `joined` is made of
-joined_parts : (o : Option Value) (p : Option Values) (vs : Values) → joined o p ≡ Some vs → (v : Value) × (ws : Values) × (o ≡ Some v) × (p ≡ Some ws) × (vs ≡ more v ws)
-joined_parts None p vs h = absurd (none_not h)
-joined_parts (Some v) None vs h = absurd (none_not h)
-joined_parts (Some v) (Some ws) vs h = (v, ws, refl, refl, sym (same_some h))
 
 -- the values of variables under an assignment that matches
 assigned_is : (s : Assignment) (env : Env) (ys : List ℕ) (vs : Values) → values_at env ys ≡ Some vs → ((y : ℕ) → among ys y ≡ true → (v : Value) → value_at env y ≡ Some v → s y ≡ v) → assigned s ys ≡ vs
@@ -241,11 +235,6 @@ module _ (known : Module) (modes : ℕ → List ModeDecl) (types i : Instance) w
   result_truth out b seen outs op z x y env good fits n m k (Gives j) e =
       one_truth out (among (z ∷ x ∷ y ∷ [])) _ _ env z (Int j) (among_here z (x ∷ y ∷ [])) (kept_bound env z (Int j) (fits.bounds z (among_here z (x ∷ y ∷ [])) ∙ good.good.2))
       (λ s h q. k s h ∙ ap given (sym e) ∙ ap Some (sym q)) (λ s h q w. q (same_some (sym w ∙ k s h ∙ ap given (sym e))))
-
-  operated_is : (env : Env) (op : Operation) (z : ℕ) (n m : ℤ) (o p : Option Value) → o ≡ Some (Int n) → p ≡ Some (Int m) → computed env z (arithmetic op n m) ≡ operated env op z o p
-  operated_is env op z n m o p e f =
-      subst (λ (u : Option Value). computed env z (arithmetic op n m) ≡ operated env op z u p) (sym e)
-      (subst (λ (u : Option Value). computed env z (arithmetic op n m) ≡ operated env op z (Some (Int n)) u) (sym f) refl)
 
   pub arithmetic_truth : (out : Variables) (b : Bound) (seen : Known) (outs : List ℕ) (op : Operation) (z x y : ℕ) (env : Env) → Good out b outs (Arithmetic op z x y) → Before known modes types i out b seen (Arithmetic op z x y) env
       → BasicTruth out (Arithmetic op z x y) (λ s. arithmetic_of op (s x) (s y) ≡ Some (s z)) (λ s. arithmetic_of op (s x) (s y) ≡ Some (s z) → ⊥) env (operated env op z (value_at env x) (value_at env y))

@@ -19,7 +19,8 @@ use Rattle.merc_meaning.specs.Truth.{Assignment, Outside, with, Judgement, assig
 use Rattle.merc_order_laws.proofs.Facts.{or_left, or_right, or_cases, not_true, among_append}
 use Rattle.merc_order_laws.proofs.Replacing.{first_among, numbered_from, numbered_to}
 use Rattle.merc_order_laws.proofs.SpeltVariables.{one_place}
-use Rattle.merc_program_laws.proofs.Basics.{first_same, among_there}
+use Rattle.merc_program_laws.proofs.Values.{among_there}
+use Rattle.merc_program_laws.proofs.Basics.{first_same}
 use Rattle.merc_program_laws.proofs.Local.{IsByValues, Match}
 use Rattle.merc_program_laws.proofs.Keeping.{Within, Misses, Law, LawAll, LawEach, law_fresh, law_all_fresh, law_each_fresh, law_conjunction, law_disjunction, law_negation, law_quantified, law_none, law_no_arm, law_each, law_more, law_conditional}
 use Rattle.merc_program_laws.proofs.Grouping.{AreHeld, fresh, group_law}

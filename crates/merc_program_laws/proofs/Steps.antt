@@ -22,10 +22,10 @@ use Rattle.merc_program_laws.proofs.Values.{Instance, composed, none_not, same_s
 use Rattle.merc_program_laws.proofs.Declared.{found_arity, found_scoped}
 
 -- what `joined` is made of
-joined_inv : (o : Option Value) (p : Option Values) (vs : Values) → joined o p ≡ Some vs → (v : Value) × (ws : Values) × (o ≡ Some v) × (p ≡ Some ws) × (vs ≡ more v ws)
-joined_inv None p vs h = absurd (none_not h)
-joined_inv (Some v) None vs h = absurd (none_not h)
-joined_inv (Some v) (Some ws) vs h = (v, ws, refl, refl, sym (same_some h))
+pub joined_parts : (o : Option Value) (p : Option Values) (vs : Values) → joined o p ≡ Some vs → (v : Value) × (ws : Values) × (o ≡ Some v) × (p ≡ Some ws) × (vs ≡ more v ws)
+joined_parts None p vs h = absurd (none_not h)
+joined_parts (Some v) None vs h = absurd (none_not h)
+joined_parts (Some v) (Some ws) vs h = (v, ws, refl, refl, sym (same_some h))
 
 both_there : (o : Option Value) (p : Option Values) (v : Value) (vs : Values) → o ≡ Some v → p ≡ Some vs → joined o p ≡ Some (more v vs)
 both_there (Some w) (Some ws) v vs h k = let e : w ≡ v = same_some h in let f : ws ≡ vs = same_some k in cc
@@ -85,7 +85,7 @@ module _ (known : Module) (types i : Instance) where
   values_typed j env [] (t ∷ ts) vs h k e = absurd k
   values_typed j env (y ∷ ys) [] vs h k e = absurd k
   values_typed j env (y ∷ ys) (t ∷ ts) vs h k e =
-      let parts = joined_inv (value_at env y) (values_at env ys) vs e in
+      let parts = joined_parts (value_at env y) (values_at env ys) vs e in
       subst (λ (u : Values). Instances j u (t ∷ ts)) (sym parts.4)
       (subst (λ (u : TypeExpr). HasType known.types parts.0 u) (placed j y t k.0) (h y parts.0 parts.2), values_typed j env ys ts parts.1 h k.1 parts.3)
 

@@ -13,7 +13,8 @@ use Rattle.merc_meaning.specs.Truth.{Assignment, IsAssignment, Outside, with, Ju
 use Rattle.merc_meaning.proofs.ValueLaws.{same-decides}
 use Rattle.merc_order_laws.proofs.Facts.{clash, or_left}
 use Rattle.merc_order_laws.proofs.Replacing.{first_among, numbered_from, not_numbered}
-use Rattle.merc_program_laws.proofs.Basics.{decide, among_there, set_to, set_here, set_there, value_case, more_both}
+use Rattle.merc_program_laws.proofs.Values.{among_there, decide}
+use Rattle.merc_program_laws.proofs.Basics.{set_to, set_here, set_there, value_case, more_both}
 
 -- of each test its fresh variable and the one for which it stands
 abbrev pub Each : (ℕ → ℕ → Type 0) → ℕ → List ℕ → Type 0
