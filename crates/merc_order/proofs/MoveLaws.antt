@@ -88,7 +88,7 @@ can_all-without move all others bound mono r (take m a o k s ready rest) =
 
 -- What `next` finds.
 
-some_is : {T : Type 0} (one other : T) → Some one ≡ Some other → one ≡ other
+pub some_is : {T : Type 0} (one other : T) → Some one ≡ Some other → one ≡ other
 some_is one other h = cc
 
 pub record IsNext (all : List Move) (bound : Bound) (found : Next) : Type 0 where
@@ -125,11 +125,11 @@ next_none move all others bound (here m o) ready h = none_here (m.from bound) m.
 next_none move all others bound (later f m a o r) ready h =
     next_none move a o bound r ready (none_later (f.from bound) f.binds a f (next a bound) h)
 
-removed_length : (move : Move) (all others : List Move) → Removed move all others → length all ≡ suc (length others)
+pub removed_length : (move : Move) (all others : List Move) → Removed move all others → length all ≡ suc (length others)
 removed_length move all others (here m o) = refl
 removed_length move all others (later f m a o r) = ap suc (removed_length move a o r)
 
-suc_is : (a b : ℕ) → suc a ≡ suc b → a ≡ b
+pub suc_is : (a b : ℕ) → suc a ≡ suc b → a ≡ b
 suc_is a b h = cc
 
 -- The order by `settled` is there exactly where all can go.

@@ -4,8 +4,8 @@ use Rattle.std.proofs.Common.{◌∙◌, ap, sym, subst}
 use Rattle.merc_order.specs.Bound.{Bound, with}
 use Rattle.merc_order.specs.Moves.{Move, Next, fault_in, behind, if_ready_next, next, settled_next, settled}
 use Rattle.merc_order.specs.Ordered.{Ordered, Ordereds, no_goals, more_goals, Outcome, Ready, Stuck, is_ready, Outcomes, AllReady, OneStuck, then_all}
-use Rattle.merc_order.specs.Ways.{Removed, here, later, AllStuck, IsSequence, none_left, goes}
-use Rattle.merc_order.proofs.MoveLaws.{next_none, next_is}
+use Rattle.merc_order.specs.Ways.{here, AllStuck, IsSequence, none_left, goes}
+use Rattle.merc_order.proofs.MoveLaws.{next_none, next_is, removed_length, some_is, suc_is}
 
 pub record IsFirst (all : List Move) (bound : Bound) (found : Next) : Type 0 where
   pub before : List Move
@@ -16,9 +16,6 @@ pub record IsFirst (all : List Move) (bound : Bound) (found : Next) : Type 0 whe
   pub stuck : AllStuck before bound
   pub binds_is : found.binds ≡ move.binds
   pub outcome : move.from bound ≡ Ready found.goal
-
-some_is : {T : Type 0} (one other : T) → Some one ≡ Some other → one ≡ other
-some_is one other h = cc
 
 first_step : (m : Move) (ms : List Move) (bound : Bound) (found : Next) (o : Outcome) (l : Option Next) → m.from bound ≡ o → ((n : Next) → l ≡ Some n → IsFirst ms bound n)
     → if_ready_next o m.binds ms (behind m l) ≡ Some found → IsFirst (m ∷ ms) bound found
@@ -54,13 +51,6 @@ step left m ms bound os (Some found) e again count h =
     let s : IsSequence (i.before ++ i.behind_it) (with bound i.move.binds) r =
     subst (λ k. IsSequence k (with bound i.move.binds) r) i.rest (subst (λ b. IsSequence found.others (with bound b) r) i.binds_is (again found.others (with bound found.binds) r one (count found refl))) in
     subst (λ k. IsSequence k bound os) (sym i.whole) (subst (λ k. IsSequence (i.before ++ i.move ∷ i.behind_it) bound k) two (goes i.before i.behind_it i.move bound found.goal r i.stuck i.outcome s))
-
-removed_length : (move : Move) (all others : List Move) → Removed move all others → length all ≡ suc (length others)
-removed_length move all others (here m o) = refl
-removed_length move all others (later f m a o r) = ap suc (removed_length move a o r)
-
-suc_is : (a b : ℕ) → suc a ≡ suc b → a ≡ b
-suc_is a b h = cc
 
 none_is : (os : Ordereds) → AllReady no_goals ≡ AllReady os → no_goals ≡ os
 none_is os h = cc
