@@ -53,14 +53,14 @@ beyond_all (x ∷ xs) v h = elim (or_cases (v == x) (among xs v) h) as (λ _. v 
   | inr k ↦ omega (arith, beyond_all xs v k, max_right (suc x) (beyond xs))
 ]
 
-inputs_below : (places : List Arg) (v : ℕ) → bound_at places v ≡ true → v < length places
+pub inputs_below : (places : List Arg) (v : ℕ) → bound_at places v ≡ true → v < length places
 inputs_below [] v h = clash h refl
 inputs_below (Input ∷ places) zero h = omega (arith)
 inputs_below (Output ∷ places) zero h = clash h refl
 inputs_below (Input ∷ places) (suc v) h = omega (arith, inputs_below places v h)
 inputs_below (Output ∷ places) (suc v) h = omega (arith, inputs_below places v h)
 
-below_are : (n v : ℕ) → v < n → among (numbers_below n) v ≡ true
+pub below_are : (n v : ℕ) → v < n → among (numbers_below n) v ≡ true
 below_are zero v l = absurd (omega (arith, l))
 below_are (suc n) v l = among_append v (numbers_below n) (n ∷ []) ∙ elim (either_way (v == n)) as (λ _. (among (numbers_below n) v || ((v == n) || false)) ≡ true) [
   | inl k ↦ or_right (among (numbers_below n) v) ((v == n) || false) (or_left (v == n) false k)

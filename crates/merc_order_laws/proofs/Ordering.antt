@@ -19,7 +19,7 @@ use Rattle.merc_order.specs.Order.{Arm, any_reached, counting, all_bind, differ_
 use Rattle.merc_order.specs.Ordered.{Ordered, Step, Ordereds, put, Truth, Failure, Assign, Test, Build, Split, Computed, Compared, Raised, Called, Sequence, Beside, Choice, Decision, Denial, Within as Inside, no_goals, more_goals, Outcome, Ready, Stuck, is_ready, Outcomes, AllReady, OneStuck, then_all, and_all, if_ready, if_all_ready}
 use Rattle.merc_order.specs.Spelt.{untested_places, written}
 use Rattle.merc_order.specs.Ways.{Removed, here, later}
-use Rattle.merc_order.proofs.MoveLaws.{next_is, next_none}
+use Rattle.merc_order.proofs.MoveLaws.{next_is, next_none, removed_length, suc_is}
 use Rattle.merc_order_laws.specs.Bindings.{Variables, Binds}
 use Rattle.merc_order_laws.specs.GoodOrdered.{GoodCall, EachBinds, Good, GoodStep, GoodList, GoodEach}
 use Rattle.merc_order_laws.specs.Laws.{Sized, AllSized, Outer, OrderedIsGood, OrderedKeepsVariables, OrderedEnds}
@@ -65,7 +65,7 @@ pub beside_is : (number : ℕ) (move : Move) (ms : List Move) (bound : Bound) (x
 beside_is number move ms bound (Ready g) xs os h = let (r, e, f) = then_all_is g xs os h in (g, r, refl, e, f)
 beside_is number move ms bound (Stuck x) xs os h = one_stuck_not (conjunct_fault number move.span (needed (number + 1) move ms bound) x) os h
 
-none_found : (x : Outcome) (os : Ordereds) → fault_in x ≡ AllReady os → is_ready x ≡ true
+pub none_found : (x : Outcome) (os : Ordereds) → fault_in x ≡ AllReady os → is_ready x ≡ true
 none_found (Ready g) os h = refl
 none_found (Stuck x) os h = one_stuck_not x os h
 
@@ -658,13 +658,6 @@ module _ (total : ℕ → ℕ) (modes : ℕ → List ModeDecl) where
         is_rest = ap (λ l. record { binds = λ v. binds total modes m v; span = span_of m; from = λ k. from total modes m k } ∷ l) t.is_rest;
         fits = λ a. ((t.fits a.1).0, (a.0, (t.fits a.1).1));
       }
-
-  suc_is : (a b : ℕ) → suc a ≡ suc b → a ≡ b
-  suc_is a b h = cc
-
-  removed_length : (move : Move) (all others : List Move) → Removed move all others → length all ≡ suc (length others)
-  removed_length move all others (here m o) = refl
-  removed_length move all others (later f m a o r) = ap suc (removed_length move a o r)
 
   abbrev ListFits : Variables → Nodes → Ordereds → Type 0
   ListFits bound ms os = FitsList bound (all_variables ms) (some_bind total modes ms) (all_reached total modes ms) os

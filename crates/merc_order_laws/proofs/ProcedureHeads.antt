@@ -39,7 +39,7 @@ module _ (known : Module) (form : Clause → Node) where
         by true is others = (subst (λ (arguments : List TypeExpr). HasTyping known arguments (form clause)) (head_has_types clause.head is) typed.0, others)
         by false is others = others
 
-  bodies_typed : AllByRecursion (λ clause. HasTyping known (declared_arguments known clause.head) (form clause)) known.clauses → (some : List PredDecl)
+  pub bodies_typed : AllByRecursion (λ clause. HasTyping known (declared_arguments known clause.head) (form clause)) known.clauses → (some : List PredDecl)
       → AllByRecursion (HasItsTypes known) some → AllByRecursion (λ declared. HasTyping known declared.args (body_of form known.clauses declared)) some
   bodies_typed typed [] its = tt
   bodies_typed typed (declared ∷ rest) its = (body_typed known form known.clauses declared (clauses_typed declared its.0 known.clauses typed), bodies_typed typed rest its.1)

@@ -25,7 +25,7 @@ use Rattle.merc_order_laws.specs.TypedTree.{TreeIsTyped, ModesFit, TypedIsSized}
 use Rattle.merc_order_laws.specs.WrittenGoals.{simple_goals, all_simple_goals, basic_goals, written_goal, renamed, StandsFor, as_written, turned_round, with_itself}
 use Rattle.merc_order_laws.proofs.Written.{all_left, all_right, all_joined}
 
-all_at : (P : SimpleGoal → Type 0) (xs : List SimpleGoal) → AllByRecursion P xs → (place : ℕ) (g : SimpleGoal) → place < length xs → slice_index_or xs place g ≡ g → P g
+pub all_at : (P : SimpleGoal → Type 0) (xs : List SimpleGoal) → AllByRecursion P xs → (place : ℕ) (g : SimpleGoal) → place < length xs → slice_index_or xs place g ≡ g → P g
 all_at P [] h place g l e = absurd (omega (arith, l))
 all_at P (x ∷ xs) h zero g l e = subst (λ (z : SimpleGoal). P z) e h.0
 all_at P (x ∷ xs) h (suc place) g l e = all_at P xs h.1 place g (omega (arith, l)) e

@@ -14,7 +14,8 @@ use Rattle.merc_order_laws.proofs.ProcedureHeads.{bodies_are_there}
 use Rattle.merc_program_laws.specs.ModuleLaws.{AskedBecomesGood, ModuleBecomesGood}
 use Rattle.merc_program_laws.proofs.BodyLiterals.{module_has_literals, query_has_literals}
 use Rattle.merc_program_laws.proofs.ModuleTypes.{module_has_good_types}
-use Rattle.merc_program_laws.proofs.OrderedModules.{bodies_typed, ordered_bodies}
+use Rattle.merc_order_laws.proofs.ProcedureHeads.{bodies_typed}
+use Rattle.merc_program_laws.proofs.OrderedModules.{ordered_bodies}
 
 pub module_becomes_good : ModuleBecomesGood
 module_becomes_good before after text terms found fixed distinct is faultless units =

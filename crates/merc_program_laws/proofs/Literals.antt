@@ -1,6 +1,6 @@
 -- The literals of an ordered goal are those of the goal as it is written.
-use Rattle.std.proofs.Common.{◌≡◌, ℕ, zero, suc, ◌<◌, List, [], ◌∷◌, length, map, refl, subst, arith}
-use Rattle.std.specs.List.{AllByRecursion, slice_index_or}
+use Rattle.std.proofs.Common.{◌≡◌, ℕ, List, [], ◌∷◌, map, refl}
+use Rattle.std.specs.List.{AllByRecursion}
 use Rattle.merc_goal_tree.specs.declared.goal.SimpleGoal.{SimpleGoal}
 use Rattle.merc_goal_tree.specs.declared.goal.Symbol.{Symbol}
 use Rattle.merc_goal_tree.specs.declared.goal.Symbol.TheVariants.{Constructor, Integer, Text}
@@ -9,13 +9,9 @@ use Rattle.merc_graded_tree.specs.declared.basic.BasicGoal.{BasicGoal}
 use Rattle.merc_graded_tree.specs.declared.basic.BasicGoal.TheVariants.{True, Fail, Assign, Test, Build, Split, Arithmetic, Compare, Raise, Call, Wait, Signal}
 use Rattle.merc_graded_tree.specs.Nodes.{Node as OrderedNode}
 use Rattle.merc_order_laws.specs.WrittenGoals.{simple_goals, basic_goals, written_goal, renamed, StandsFor, as_written, turned_round, with_itself, IsMadeOf}
+use Rattle.merc_order_laws.proofs.TreeTypes.{all_at}
 use Rattle.merc_program_laws.specs.GoodPrograms.{FitsArguments, HasLiteral, HasLiterals}
 use Rattle.merc_program_laws.specs.ProgramBodies.{WrittenLiteral, HasWrittenLiterals}
-
-all_at : (P : SimpleGoal → Type 0) (xs : List SimpleGoal) → AllByRecursion P xs → (place : ℕ) (g : SimpleGoal) → place < length xs → slice_index_or xs place g ≡ g → P g
-all_at P [] h place g l e = absurd (omega (arith, l))
-all_at P (x ∷ xs) h zero g l e = subst (λ (z : SimpleGoal). P z) e h.0
-all_at P (x ∷ xs) h (suc place) g l e = all_at P xs h.1 place g (omega (arith, l)) e
 
 none_mapped : (new : ℕ → ℕ) (ys : List ℕ) → map new ys ≡ [] → ys ≡ []
 none_mapped new [] h = refl

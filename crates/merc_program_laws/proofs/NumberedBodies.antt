@@ -1,7 +1,6 @@
 -- The bodies of a good program by the numbers of its procedures, and what they have.
-use Rattle.std.proofs.Common.{◌≡◌, ℕ, zero, suc, ◌+◌, ◌<◌, Bool, true, false, ◌||◌, ◌==◌, List, [], ◌∷◌, ◌++◌, length, map, drop, Option, Some, slice_get, refl, ap, sym, ◌∙◌, subst, arith}
+use Rattle.std.proofs.Common.{◌≡◌, ℕ, zero, suc, ◌+◌, ◌<◌, List, [], ◌∷◌, ◌++◌, length, map, drop, Option, Some, slice_get, refl, ap, sym, ◌∙◌, subst, arith}
 use Rattle.std.specs.List.{AllByRecursion}
-use Rattle.std.proofs.lemmas.Bool.Decides.{Decides-eqb}
 use Rattle.merc_tree.specs.Types.{TypeExpr}
 use Rattle.merc_tree.specs.declared.declarations.ModeDecl.{ModeDecl}
 use Rattle.merc_tree.specs.declared.declarations.PredDecl.{PredDecl}
@@ -9,10 +8,8 @@ use Rattle.merc_tree.specs.declared.declarations.Module.{Module}
 use Rattle.merc_graded_tree.specs.declared.basic.Procedure.{Procedure as ProcedureNumber}
 use Rattle.merc_graded_tree.specs.Nodes.{Node}
 use Rattle.merc_type_check.specs.Typing.{IsTypedGoal, AreArguments}
-use Rattle.merc_order.specs.Bound.{among}
-use Rattle.merc_order.specs.Procedures.{numbers_below, modes_of}
+use Rattle.merc_order.specs.Procedures.{modes_of}
 use Rattle.merc_order_laws.specs.WrittenGoals.{basic_goals, written_goal}
-use Rattle.merc_order_laws.proofs.Facts.{clash, or_left, or_right, among_append}
 use Rattle.merc_grading.specs.Faults.{Procedure, Body, with_modes, procedures_of}
 use Rattle.merc_meaning.specs.Runs.{ProcedureBody}
 use Rattle.merc_meaning.specs.Programs.{body_of_mode, body_of}
@@ -61,19 +58,6 @@ in_predicates known (d ∷ ds) bodies (suc predicate) number declared mode good 
     (in_predicates known ds (drop (length d.modes) bodies) predicate number declared mode (behind_modes known d d.modes (procedures_of ds) bodies good) e k)
 
 -- Arguments.
-
-below_case : (n x : ℕ) (b : Bool) → (x == n) ≡ b → x < suc n → (x < n → among (numbers_below n) x ≡ true) → (among (numbers_below n) x || among (n ∷ []) x) ≡ true
-below_case n x true e l f = or_right (among (numbers_below n) x) (among (n ∷ []) x) (or_left (x == n) false e)
-below_case n x false e l f = or_left (among (numbers_below n) x) (among (n ∷ []) x) (f (smaller x n l (λ p. clash ((Decides-eqb x n).1 p) e))) where
-  smaller : (k m : ℕ) → k < suc m → (k ≡ m → ⊥) → k < m
-  smaller zero zero h f = absurd (f refl)
-  smaller zero (suc m) h f = omega (arith)
-  smaller (suc k) zero h f = absurd (omega (arith, h))
-  smaller (suc k) (suc m) h f = omega (arith, smaller k m (omega (arith, h)) (λ e. f (ap suc e)))
-
-pub among_below : (n x : ℕ) → x < n → among (numbers_below n) x ≡ true
-among_below zero x h = absurd (omega (arith, h))
-among_below (suc n) x h = among_append x (numbers_below n) (n ∷ []) ∙ below_case n x (x == n) refl h (λ l. among_below n x l)
 
 pub type_below : (ts : List TypeExpr) (x : ℕ) → x < length ts → (t : TypeExpr) × (slice_get ts x ≡ Some t)
 type_below [] x h = absurd (omega (arith, h))

@@ -1,5 +1,5 @@
 -- Ordering keeps truth, stage by stage.
-use Rattle.std.proofs.Common.{◌≡◌, inl, inr, ℕ, zero, suc, ◌<◌, ◌≤◌, true, false, ◌==◌, ◌||◌, if◌then◌else◌, max, List, [], ◌∷◌, ◌++◌, length, Option, Some, None, refl, ap, sym, subst, ◌∙◌, arith}
+use Rattle.std.proofs.Common.{◌≡◌, inl, inr, ℕ, zero, suc, ◌<◌, ◌≤◌, true, false, ◌==◌, if◌then◌else◌, max, List, [], ◌∷◌, ◌++◌, length, Option, Some, None, refl, ap, sym, subst, ◌∙◌, arith}
 use Rattle.std.specs.Prelude.{◌↔◌, slice_get, replicate}
 use Rattle.std.specs.List.{AllByRecursion}
 use Rattle.std.proofs.lemmas.Bool.Decides.{Decides-eqb}
@@ -22,7 +22,8 @@ use Rattle.merc_order.specs.Procedures.{bound_at, numbers_below, total_of, beyon
 use Rattle.merc_order.specs.Spelt.{spelt, twins}
 use Rattle.merc_meaning.specs.Runs.{Program, ProcedureBody}
 use Rattle.merc_meaning.specs.Truth.{Assignment, Outside, is_argument, Judgement, IsEntered, assigned, YesBody, NoBody, YesCall, NoCall, Yes, No}
-use Rattle.merc_order_laws.proofs.Facts.{clash, or_left, or_right, or_cases, either_way, among_append}
+use Rattle.merc_order_laws.proofs.Facts.{clash, or_left, or_right, or_cases, among_append}
+use Rattle.merc_order_laws.proofs.Bodies.{below_are}
 use Rattle.merc_order_laws.proofs.Ordering.{if_ready_is, if_is}
 use Rattle.merc_program_laws.specs.Plain.{plain}
 use Rattle.merc_program_laws.specs.Programs.{flat_procedure, flat_program, IsThere, IsOrderedProcedure, IsOrderedProgram}
@@ -62,7 +63,7 @@ no_by_values program (suc k) p args args' s s' e h = no_values (YesCall program 
 
 -- Places and numbers.
 
-argument_below : (places : List Arg) (v : ℕ) → is_argument places v ≡ true → v < length places
+pub argument_below : (places : List Arg) (v : ℕ) → is_argument places v ≡ true → v < length places
 argument_below [] v h = clash h refl
 argument_below (place ∷ places) zero h = omega (arith)
 argument_below (place ∷ places) (suc v) h = omega (arith, argument_below places v h)
@@ -97,15 +98,6 @@ beyond_all (x ∷ xs) v h = elim (or_cases (v == x) (among xs v) h) as (λ _. v 
   | inl k ↦ omega (arith, (Decides-eqb v x).0 k, max_left (suc x) (beyond xs))
   | inr k ↦ omega (arith, beyond_all xs v k, max_right (suc x) (beyond xs))
 ]
-
-below_are : (n v : ℕ) → v < n → among (numbers_below n) v ≡ true
-below_are zero v l = absurd (omega (arith, l))
-below_are (suc n) v l = among_append v (numbers_below n) (n ∷ []) ∙ elim (either_way (v == n)) as (λ _. (among (numbers_below n) v || ((v == n) || false)) ≡ true) [
-  | inl k ↦ or_right (among (numbers_below n) v) ((v == n) || false) (or_left (v == n) false k)
-  | inr k ↦ or_left (among (numbers_below n) v) ((v == n) || false) (below_are n v (less v n l (λ e. clash ((Decides-eqb v n).1 e) k)))
-] where
-  less : (a b : ℕ) → a < suc b → (a ≡ b → ⊥) → a < b
-  less a b l h = omega (arith, l, h)
 
 -- Elements of lists.
 

@@ -1,25 +1,18 @@
 -- The procedures of a module have ordered bodies, where they have trees, and the bodies of its predicates are typed and have their literals.
-use Rattle.std.proofs.Common.{◌≡◌, ℕ, Bool, true, false, ◌==◌, cond, List, [], ◌∷◌, length, None, refl, subst, ◌∙◌, ap₂, eqb-true}
-use Rattle.std.proofs.lemmas.Bool.{and_parts}
+use Rattle.std.proofs.Common.{◌≡◌, List, [], ◌∷◌, length}
 use Rattle.std.specs.List.{AllByRecursion}
-use Rattle.merc_tree.specs.Term.{Term, Variable, Integer, Text, Application, list_of}
-use Rattle.merc_tree.specs.Types.{TypeExpr}
 use Rattle.merc_tree.specs.declared.declarations.Clause.{Clause}
 use Rattle.merc_tree.specs.declared.declarations.ModeDecl.{ModeDecl}
 use Rattle.merc_tree.specs.declared.declarations.Module.{Module}
 use Rattle.merc_tree.specs.declared.declarations.PredDecl.{PredDecl}
 use Rattle.merc_goal_tree.specs.Nodes.{Node}
-use Rattle.merc_bodies.specs.Bodies.{body_of, clauses_of, is_head}
-use Rattle.merc_order_laws.proofs.JoinedTyping.{body_typed}
-use Rattle.merc_known.specs.Known.{callee_in}
+use Rattle.merc_bodies.specs.Bodies.{body_of}
 use Rattle.merc_type_check.specs.Typing.{HasTyping}
 use Rattle.merc_grading.specs.Faults.{Body, Procedure, procedures_of, with_modes}
 use Rattle.merc_order_laws.specs.TypedTree.{ModesFit}
 use Rattle.merc_program_laws.specs.ProgramBodies.{AreOrderedProcedures, HasWrittenLiterals}
 use Rattle.merc_program_laws.proofs.OrderedGoals.{procedure_is_ordered}
-use Rattle.merc_order_laws.specs.HeadTypes.{called_arguments, declared_arguments}
 use Rattle.merc_order_laws.specs.ProcedureBodies.{AreBodiesOf}
-use Rattle.merc_order_laws.proofs.PredicatesApart.{HasItsTypes}
 use Rattle.merc_program_laws.proofs.Lists.{all_flat, all_mapped}
 
 -- Given are a module and the flat form of each clause.
@@ -32,31 +25,6 @@ module _ (known : Module) (form : Clause → Node) where
 
   abbrev pub HasLiteralBody : PredDecl → Type 0
   HasLiteralBody declared = HasWrittenLiterals (body declared)
-
-  -- clauses are typed by the types of the predicate whose head they have
-  module _ (declared : PredDecl) (its : HasItsTypes known declared) where
-    head_has_types : (head : Term) → is_head declared head ≡ true → declared_arguments known head ≡ declared.args
-    head_has_types (Application name qualifier arguments span) is =
-        let parts = and_parts (name == declared.name) (length (list_of arguments) == length declared.args) is in
-        ap₂ (λ (n count : ℕ). called_arguments known (callee_in known n None count)) (eqb-true name declared.name parts.0) (eqb-true (length (list_of arguments)) (length declared.args) parts.1) ∙ its
-    head_has_types (Variable name span) is = absurd cc
-    head_has_types (Integer value span) is = absurd cc
-    head_has_types (Text text span) is = absurd cc
-
-    clauses_typed : (clauses : List Clause) → AllByRecursion (λ clause. HasTyping known (declared_arguments known clause.head) (form clause)) clauses
-        → AllByRecursion (λ clause. HasTyping known declared.args (form clause)) (clauses_of clauses declared)
-    clauses_typed [] typed = tt
-    clauses_typed (clause ∷ rest) typed = by (is_head declared clause.head) refl (clauses_typed rest typed.1)
-      where
-        by : (b : Bool) → is_head declared clause.head ≡ b → AllByRecursion (λ clause. HasTyping known declared.args (form clause)) (clauses_of rest declared)
-            → AllByRecursion (λ clause. HasTyping known declared.args (form clause)) (cond b (clause ∷ clauses_of rest declared) (clauses_of rest declared))
-        by true is others = (subst (λ (arguments : List TypeExpr). HasTyping known arguments (form clause)) (head_has_types clause.head is) typed.0, others)
-        by false is others = others
-
-  pub bodies_typed : AllByRecursion (λ clause. HasTyping known (declared_arguments known clause.head) (form clause)) known.clauses → (some : List PredDecl)
-      → AllByRecursion (HasItsTypes known) some → AllByRecursion IsTypedBody some
-  bodies_typed typed [] its = tt
-  bodies_typed typed (declared ∷ rest) its = (body_typed known form known.clauses declared (clauses_typed declared its.0 known.clauses typed), bodies_typed typed rest its.1)
 
   -- a predicate in one of its modes, and the same of a procedure
 

@@ -18,14 +18,14 @@ use Rattle.merc_graded_tree.specs.Variables.{variables_of as basic_variables, in
 use Rattle.merc_order.specs.Bound.{Bound, with, among, are_bound}
 use Rattle.merc_order.specs.CallModes.{taken_from, tested, call_tested}
 use Rattle.merc_order.specs.Faults.{never_ready, binds_outer, unbound_output}
-use Rattle.merc_order.specs.Moves.{Move, Next, next, fault_in, settled, settled_next, beside, each_from}
+use Rattle.merc_order.specs.Moves.{Move, Next, next, settled, settled_next, beside, each_from}
 use Rattle.merc_order.specs.Order.{binds, arms, decision_arms, binds_inside, agree, outputs_of, same_from, called_from, simple_from, from, moves}
 use Rattle.merc_order.specs.Ordered.{Ordered, Ordereds, put, Truth, Failure, Assign, Test, Build, Split, Computed, Compared, Raised, Called, Sequence, Beside, Choice, Decision, Denial, Within as Inside, no_goals, more_goals, Outcome, Ready, Stuck, is_ready, AllReady, if_ready}
 use Rattle.merc_order.specs.Ways.{Removed, here, later}
-use Rattle.merc_order.proofs.MoveLaws.{next_is, next_none}
+use Rattle.merc_order.proofs.MoveLaws.{next_is, next_none, removed_length, suc_is}
 use Rattle.merc_meaning.specs.Truth.{Assignment, Outside, with as also, Judgement, YesBasic, NoBasic}
 use Rattle.merc_order_laws.proofs.Facts.{clash, or_left, or_right, or_cases}
-use Rattle.merc_order_laws.proofs.Ordering.{chosen, ready_is, all_ready_is, stuck_not, one_stuck_not, if_ready_is, if_all_ready_is, then_all_is, and_all_is, beside_is, if_is, if_then}
+use Rattle.merc_order_laws.proofs.Ordering.{chosen, ready_is, all_ready_is, stuck_not, if_ready_is, if_all_ready_is, then_all_is, and_all_is, beside_is, if_is, if_then, none_found}
 use Rattle.merc_program_laws.specs.Plain.{plain_goal, plain, plain_all}
 use Rattle.merc_program_laws.proofs.Basics.{either}
 use Rattle.merc_program_laws.proofs.Local.{IsByValues}
@@ -34,17 +34,6 @@ use Rattle.merc_program_laws.proofs.Permuting.{Removed as NodeRemoved, here as n
 use Rattle.merc_program_laws.proofs.Whole.{whole, whole_all, Tests, TestsAll, TestsEach}
 use Rattle.merc_program_laws.proofs.Plains.{binds_in}
 use Rattle.merc_program_laws.proofs.Held.{held_by, call_held, taken_is}
-
-none_found : (x : Outcome) (os : Ordereds) → fault_in x ≡ AllReady os → is_ready x ≡ true
-none_found (Ready g) os h = refl
-none_found (Stuck x) os h = one_stuck_not x os h
-
-suc_is : (a b : ℕ) → suc a ≡ suc b → a ≡ b
-suc_is a b h = cc
-
-removed_length : (move : Move) (all others : List Move) → Removed move all others → length all ≡ suc (length others)
-removed_length move all others (here m o) = refl
-removed_length move all others (later f m a o r) = ap suc (removed_length move a o r)
 
 swap_two : (a b : Bool) → (a || (b || false)) ≡ (b || (a || false))
 swap_two true true = refl

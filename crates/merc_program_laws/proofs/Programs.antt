@@ -6,8 +6,6 @@ use Rattle.merc_base.specs.declared.category.Category.{Category}
 use Rattle.merc_base.specs.declared.category.Most.{Most}
 use Rattle.merc_base.specs.declared.category.Most.TheVariants.{Zero, One, Many}
 use Rattle.merc_tree.specs.Types.{TypeExpr, replaced}
-use Rattle.merc_tree.specs.declared.declarations.Arg.{Arg}
-use Rattle.merc_tree.specs.declared.declarations.Arg.TheVariants.{Input, Output}
 use Rattle.merc_tree.specs.declared.declarations.ModeDecl.{ModeDecl}
 use Rattle.merc_tree.specs.declared.declarations.PredDecl.{PredDecl}
 use Rattle.merc_tree.specs.declared.declarations.Module.{Module}
@@ -19,6 +17,7 @@ use Rattle.merc_order.specs.Bound.{nothing, with, among}
 use Rattle.merc_order.specs.Procedures.{bound_at, numbers_below, modes_of}
 use Rattle.merc_order_laws.specs.WrittenGoals.{basic_goals, written_goal}
 use Rattle.merc_order_laws.proofs.Facts.{clash, either_way}
+use Rattle.merc_order_laws.proofs.Bodies.{below_are, inputs_below}
 use Rattle.merc_grading.specs.Known.{known_behind}
 use Rattle.merc_grading.specs.Grading.{category_at}
 use Rattle.merc_grading.specs.Faults.{at_most, Body}
@@ -37,16 +36,7 @@ use Rattle.merc_program_laws.proofs.Calls.{LawfulCalls}
 use Rattle.merc_program_laws.proofs.Combining.{looser, zero_law}
 use Rattle.merc_program_laws.proofs.Graded.{Graded, graded_has, ends_zero}
 use Rattle.merc_program_laws.proofs.TreeCategories.{IsPart, outputs_within, not_in, node_law}
-use Rattle.merc_program_laws.proofs.NumberedBodies.{all_both, among_below, body_graded, body_parts, found, type_below, type_of}
-
--- Arguments.
-
-bound_below : (places : List Arg) (x : ℕ) → bound_at places x ≡ true → x < length places
-bound_below [] x h = clash h refl
-bound_below (Input ∷ places) zero h = omega (arith)
-bound_below (Output ∷ places) zero h = clash h refl
-bound_below (Input ∷ places) (suc x) h = omega (arith, bound_below places x h)
-bound_below (Output ∷ places) (suc x) h = omega (arith, bound_below places x h)
+use Rattle.merc_program_laws.proofs.NumberedBodies.{all_both, body_graded, body_parts, found, type_below, type_of}
 
 -- What a declaration allows.
 
@@ -80,9 +70,9 @@ module _ (known : Module) (declared : PredDecl) (mode : ModeDecl) (body : Body) 
     body_fits : (env : Env) → Enters known.types i mode.args declared.args env → Fits known body.types i (among heads) (bound_at mode.args) (in_node body.tree) [] env
     body_fits env h = record {
       bounds = λ x o. h.bindings x;
-      outer = λ x o e. among_below (length declared.args) x (omega (arith, bound_below mode.args x e, good.arity));
+      outer = λ x o e. below_are (length declared.args) x (omega (arith, inputs_below mode.args x e, good.arity));
       typed = λ x v e.
-          let below : x < length mode.args = bound_below mode.args x (sym (h.bindings x) ∙ is_some_of (value_at env x) v e) in
+          let below : x < length mode.args = inputs_below mode.args x (sym (h.bindings x) ∙ is_some_of (value_at env x) v e) in
           let t = type_below declared.args x (omega (arith, below, good.arity)) in
           subst (λ (u : TypeExpr). HasType known.types v (replaced i u)) (sym (type_of known declared mode body good x t.0 t.1)) (h.typed x t.0 v t.1 e);
       knows = λ x s e. absurd (none_not e);
@@ -100,7 +90,7 @@ module _ (known : Module) (declared : PredDecl) (mode : ModeDecl) (body : Body) 
     body_leaves env answer h ends goes = record {
       keeps = goes.keeps;
       bindings = λ x l.
-          let o : among heads x ≡ true = among_below (length declared.args) x l in
+          let o : among heads x ≡ true = below_are (length declared.args) x l in
           elim (either_way (in_node body.tree x)) as (λ _. is_some (value_at answer x) ≡ true) [
             | inl q ↦ goes.bounds x q o ∙ ends x o
             | inr q ↦ ap is_some (goes.own x q) ∙ h.bindings x ∙ head_in (bound_at mode.args x) (among (outputs_of body.tree) x) (ends x o)
