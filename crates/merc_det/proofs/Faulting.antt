@@ -10,7 +10,7 @@ use Rattle.merc_graded_tree.specs.Roots.{bodies_of, goals_in}
 use Rattle.merc_grading.specs.Faults.{parallel_faults, goal_faults, all_faults, arm_faults, beside_faults, conjunct_faults}
 use Rattle.merc_det.specs.Looking.{own_goal_faults, faults_in}
 use Rattle.merc_det.specs.Tasks.{turns, goal_turns, joined_turns, arm_turns}
-use Rattle.merc_det.proofs.SeenLaws.{reverse-first}
+use Rattle.merc_graded_tree.proofs.Reversed.{reverse-first}
 
 faults_in-append : (front back : List Node) → faults_in (front ++ back) ≡ faults_in back ++ faults_in front
 faults_in-append [] back = sym (append-nil (faults_in back))

@@ -10,13 +10,13 @@ use Rattle.merc_graded_tree.specs.Views.{viewed}
 use Rattle.merc_graded_tree.specs.declared.entries.Running.{Running}
 use Rattle.merc_graded_tree.specs.declared.node_ref.NodeView.{NodeView}
 use Rattle.merc_graded_tree.specs.declared.node_ref.NodeView.TheVariants.{Conjunction as ConjunctionView, Disjunction as DisjunctionView}
-use Rattle.merc_graded_tree.specs.Nodes.{Node, nodes_of, no_arms, more_arms}
+use Rattle.merc_graded_tree.specs.Nodes.{Node, nodes_of}
 use Rattle.merc_graded_tree.specs.Roots.{arms_of, bodies_of, goals_in}
+use Rattle.merc_graded_tree.proofs.JoinLaws.{arms_none, arms_past, list_of-nodes_of}
 use Rattle.merc_graded_tree.proofs.Reversed.{reversed_step}
 use Rattle.merc_det.specs.Tasks.{tasks_in_turn, choice_tasks, arm_task, arm_tasks}
 use Rattle.merc_det.specs.declared.planning.Task.{Task}
 use Rattle.merc_det.specs.declared.planning.Task.TheVariants.{Grade, Learn, Forget}
-use Rattle.merc_det.proofs.RootCategories.{list_of-nodes_of}
 
 -- what is to come loses what is pushed
 pub step : {X : Type 0} (old new pushed later rest whole : List X) → new ≡ old ++ pushed → later ≡ pushed ++ rest → old ++ later ≡ whole → new ++ rest ≡ whole
@@ -68,20 +68,10 @@ arm_step known variable symbols old new goals left last index whole e i f same =
     (ap (λ l. arm_tasks known variable (arms_of symbols l)) e ∙ arms-last known variable symbols left last
     ∙ ap (λ n. arm_task known variable (slice_get symbols n) last ++ arm_tasks known variable (arms_of symbols left)) (sym i)) same
 
-pub arms_none : (symbols : List Symbol) → arms_of symbols [] ≡ no_arms
-arms_none [] = refl
-arms_none (first ∷ rest) = refl
-
 pub arms_end : (known variable : ℕ) (symbols : List Symbol) (tasks : List Task) (left : List Node) (whole : List Task) → left ≡ []
     → tasks ++ arm_tasks known variable (arms_of symbols left) ≡ whole → tasks ≡ whole
 arms_end known variable symbols tasks left whole e same =
     sym (append-nil tasks) ∙ sym (ap (λ l. tasks ++ arm_tasks known variable (arms_of symbols l)) e ∙ ap (λ a. tasks ++ arm_tasks known variable a) (arms_none symbols)) ∙ same
-
-pub arms_past : (symbols : List Symbol) (goals : List Node) (last : Node) → length symbols ≤ length goals → arms_of symbols (goals ++ last ∷ []) ≡ arms_of symbols goals
-arms_past [] goals last h = refl
-arms_past (first ∷ rest) [] last h = absurd (omega (arith, h))
-arms_past (first ∷ rest) (goal ∷ goals) last h =
-    let k : length rest ≤ length goals = omega (arith, h) in ap (more_arms first goal) (arms_past rest goals last k)
 
 bodies-last : (symbols : List Symbol) (goals : List Node) (last : Node) → length goals < length symbols
     → bodies_of (arms_of symbols (goals ++ last ∷ [])) ≡ bodies_of (arms_of symbols goals) ++ last ∷ []

@@ -14,6 +14,7 @@ use Rattle.merc_graded_tree.specs.Roots.{symbols_of, bodies_of, arms_of, arity_o
 use Rattle.merc_graded_tree.specs.declared.entries.Root.{Root}
 use Rattle.merc_graded_tree.specs.declared.entries.Root.TheVariants.{Conjunction, Disjunction, Switch, Conditional, Negation, Quantified}
 use Rattle.merc_graded_tree.specs.declared.entries.Running.{Running}
+use Rattle.merc_graded_tree.proofs.JoinLaws.{bodies_of-arms_of, list_of-nodes_of, symbols_of-arms_of}
 use Rattle.merc_grading.specs.Categories.{conjunction_category, disjunction_category, arms_category, switch_category, conditional_category, negation_category}
 use Rattle.merc_grading.specs.Grading as grading
 use Rattle.merc_grading.specs.Grading.{categories, category_at}
@@ -21,21 +22,6 @@ use Rattle.merc_grading.specs.Known.{Known, are_complete, symbols_of_type}
 use Rattle.merc_det.specs.Closing.{FitsFirst, FitsRoot}
 use Rattle.merc_det.specs.Folding.{category_in}
 use Rattle.merc_det.specs.Symbols.{is_complete_by}
-
-pub list_of-nodes_of : (goals : List Node) → list_of (nodes_of goals) ≡ goals
-list_of-nodes_of [] = refl
-list_of-nodes_of (first ∷ rest) = ap (λ l. first ∷ l) (list_of-nodes_of rest)
-
-symbols-back : (symbols : List Symbol) (goals : List Node) → length symbols ≡ length goals → symbols_of (arms_of symbols goals) ≡ symbols
-symbols-back [] goals e = refl
-symbols-back (first ∷ rest) [] e = absurd (omega (arith, e))
-symbols-back (first ∷ rest) (goal ∷ goals) e = let h : length rest ≡ length goals = omega (arith, e) in ap (λ l. first ∷ l) (symbols-back rest goals h)
-
-bodies-back : (symbols : List Symbol) (goals : List Node) → length symbols ≡ length goals → bodies_of (arms_of symbols goals) ≡ goals
-bodies-back [] [] e = refl
-bodies-back [] (goal ∷ goals) e = absurd (omega (arith, e))
-bodies-back (first ∷ rest) [] e = absurd (omega (arith, e))
-bodies-back (first ∷ rest) (goal ∷ goals) e = let h : length rest ≡ length goals = omega (arith, e) in ap (λ l. goal ∷ l) (bodies-back rest goals h)
 
 complete_is : (declared : List TypeDef) (types : ℕ → TypeExpr) (variable : ℕ) (symbols : List Symbol) → FitsFirst declared types variable symbols
     → is_complete_by declared symbols ≡ are_complete (symbols_of_type declared (types variable)) symbols
@@ -62,11 +48,11 @@ switch : (declared : List TypeDef) (types : ℕ → TypeExpr) (variable : ℕ) (
     → category ≡ switch_category (are_complete (symbols_of_type declared (types variable)) (symbols_of (arms_of symbols parts))) (categories (bodies_of (arms_of symbols parts)))
 switch declared types variable symbols goals complete arms category fits enough is_complete all step parts cut =
     let count : length symbols ≡ length parts = sym (ap length cut ∙ taken goals (length symbols) enough) in
-    let kept = symbols-back symbols parts count in
+    let kept = symbols_of-arms_of symbols parts count in
     step (categories parts) (all ∙ ap (λ l. arms_category (categories l)) (sym cut))
     ∙ ap (λ b. switch_category b (categories parts)) (is_complete ∙ complete_is declared types variable symbols fits)
     ∙ ap (λ s. switch_category (are_complete (symbols_of_type declared (types variable)) s) (categories parts)) (sym kept)
-    ∙ ap (λ l. switch_category (are_complete (symbols_of_type declared (types variable)) (symbols_of (arms_of symbols parts))) (categories l)) (sym (bodies-back symbols parts count))
+    ∙ ap (λ l. switch_category (are_complete (symbols_of_type declared (types variable)) (symbols_of (arms_of symbols parts))) (categories l)) (sym (bodies_of-arms_of symbols parts count))
 
 found : (goals : List Node) (index : ℕ) → index < length goals → category_in (slice_get goals index) ≡ category_at (goal_at goals index)
 found goals index h = ap category_in (slice_get-get_or goals index _ h)

@@ -6,17 +6,12 @@ use Rattle.std.proofs.Common.{◌∙◌, ◌≢◌, ap, sym, subst, arith, set, 
 use Rattle.std.proofs.Math.Seq.{take-append_seam}
 use Rattle.std.proofs.lemmas.Bool.{cases_eq}
 use Rattle.std.proofs.lemmas.Bool.Decides.{nat_tests}
-use Rattle.std.proofs.lemmas.List.{get_or-set_same, get_or-set_other, length-append, length-map, length-reverse, reverse-append, reverse-reverse}
+use Rattle.std.proofs.lemmas.List.{get_or-set_same, get_or-set_other, length-append, length-map, length-reverse, reverse-reverse}
 use Rattle.merc_goal_tree.specs.declared.goal.Symbol.{Symbol}
+use Rattle.merc_graded_tree.proofs.Reversed.{reverse-first, reverse-last}
 use Rattle.merc_grading.specs.Known.{Known, known_of}
 use Rattle.merc_det.specs.Seen.{known_in, back_to, latest, AreLinked, Finds}
 use Rattle.merc_det.specs.declared.seen.Entry.{Entry}
-
-pub reverse-last : {X : Type 0} (items : List X) (last : X) → reverse (items ++ last ∷ []) ≡ last ∷ reverse items
-reverse-last items last = reverse-append items (last ∷ [])
-
-pub reverse-first : {X : Type 0} (first : X) (items : List X) → reverse (first ∷ items) ≡ reverse items ++ first ∷ []
-reverse-first first items = reverse-append (first ∷ []) items
 
 pub known_in-last : (entries : List Entry) (last : Entry) → known_in (entries ++ last ∷ []) ≡ (last.variable, last.symbol) ∷ known_in entries
 known_in-last entries last = ap (λ l. map (λ one. (one.variable, one.symbol)) l) (reverse-last entries last)

@@ -1,26 +1,14 @@
 -- Goals that are taken from the last to the first, and from the first to the last.
-use Rattle.std.specs.Prelude.{◌≡◌, ◌≤◌, ◌<◌, ◌+◌, ℕ, zero, suc, List, [], ◌∷◌, ◌++◌, length, drop, reverse, slice_get, refl, Option, Some, None, MatchOption}
+use Rattle.std.specs.Prelude.{◌≡◌, ◌≤◌, ◌<◌, ◌+◌, ℕ, zero, suc, List, [], ◌∷◌, ◌++◌, length, drop, slice_get, refl, Option, Some, None, MatchOption}
 use Rattle.std.proofs.Common.{◌∙◌, ap, sym, subst, add-one, arith}
-use Rattle.std.proofs.lemmas.List.{reverse-append}
 use Rattle.merc_goal_tree.specs.declared.goal.Symbol.{Symbol}
-use Rattle.merc_graded_tree.specs.Nodes.{Node, no_arms, more_arms}
+use Rattle.merc_graded_tree.specs.Nodes.{Node}
 use Rattle.merc_graded_tree.specs.Roots.{arms_of, bodies_of}
-
-pub reverse-last : {X : Type 0} (items : List X) (last : X) → reverse (items ++ last ∷ []) ≡ last ∷ reverse items
-reverse-last items last = reverse-append items (last ∷ [])
-
-pub reverse-first : {X : Type 0} (first : X) (items : List X) → reverse (first ∷ items) ≡ reverse items ++ first ∷ []
-reverse-first first items = reverse-append (first ∷ []) items
+use Rattle.merc_graded_tree.proofs.JoinLaws.{arms_past}
 
 pub length-last : {X : Type 0} (items : List X) (last : X) → length (items ++ last ∷ []) ≡ suc (length items)
 length-last [] last = refl
 length-last (first ∷ rest) last = ap suc (length-last rest last)
-
-pub arms_past : (symbols : List Symbol) (goals : List Node) (last : Node) → length symbols ≤ length goals → arms_of symbols (goals ++ last ∷ []) ≡ arms_of symbols goals
-arms_past [] goals last h = refl
-arms_past (first ∷ rest) [] last h = absurd (omega (arith, h))
-arms_past (first ∷ rest) (goal ∷ goals) last h =
-    let k : length rest ≤ length goals = omega (arith, h) in ap (more_arms first goal) (arms_past rest goals last k)
 
 -- one arm that has no symbol less
 pub arms_taken : (symbols : List Symbol) (goals left : List Node) (last : Node) (count : ℕ) (whole : _) → goals ≡ left ++ last ∷ [] → count < length goals → length symbols ≡ count
@@ -39,10 +27,6 @@ pub arms_cut : (symbols : List Symbol) (goals left : List Node) (last : Option N
     → MatchOption last ((goals ≡ []) × (left ≡ [])) (λ one. goals ≡ left ++ one ∷ []) → arms_of symbols goals ≡ whole → arms_of symbols left ≡ whole
 arms_cut symbols goals left None length_is count whole l h n (e, f) same = absurd (omega (arith, l, h, ap length e))
 arms_cut symbols goals left (Some last) length_is count whole l h n e same = arms_taken symbols goals left last count whole e (omega (arith, l, h)) n same
-
-pub arms_none : (symbols : List Symbol) → arms_of symbols [] ≡ no_arms
-arms_none [] = refl
-arms_none (first ∷ rest) = refl
 
 taken_at : {X : Type 0} (xs : List X) (n : ℕ) → n < length xs → MatchOption (slice_get xs n) ((drop n xs ≡ []) × (drop (suc n) xs ≡ [])) (λ first. drop n xs ≡ first ∷ drop (suc n) xs)
 taken_at [] n h = absurd (omega (arith, h))

@@ -10,7 +10,7 @@ use Rattle.merc_graded_tree.specs.Views.{viewed}
 use Rattle.merc_gen.specs.Generated.{is_once, quiet, node_quiet, all_quiet, any_quiet, arms_quiet}
 use Rattle.merc_gen.specs.Turns.{node_turns, goal_turns, joined_turns, arms_turns, list_turns}
 use Rattle.merc_gen.specs.Waiting.{are_quiet, Spreads}
-use Rattle.merc_gen.proofs.Lists.{reverse-first}
+use Rattle.merc_graded_tree.proofs.Reversed.{reverse-first}
 
 pub and-assoc : (a b c : Bool) → (a && b) && c ≡ a && (b && c)
 and-assoc true b c = refl

@@ -15,7 +15,9 @@ use Rattle.merc_gen.specs.declared.tasks.Arms.{Arms as LeftArms}
 use Rattle.merc_gen.specs.declared.tasks.Task.{Task}
 use Rattle.merc_gen.specs.declared.tasks.Task.TheVariants.{Emit, Switch as SwitchTask}
 use Rattle.merc_gen.proofs.Fronts.{node-front, arms-front}
-use Rattle.merc_gen.proofs.Lists.{length-last, arms_none, bodies_all, reverse-last}
+use Rattle.merc_graded_tree.proofs.JoinLaws.{arms_none}
+use Rattle.merc_graded_tree.proofs.Reversed.{reverse-last}
+use Rattle.merc_gen.proofs.Lists.{length-last, bodies_all}
 use Rattle.merc_gen.proofs.Performing.{performs, done, skipped_is}
 use Rattle.merc_gen.proofs.Parting.{turns-last}
 use Rattle.merc_gen.proofs.Quieting.{turns-arms}

@@ -1,5 +1,5 @@
 -- The plan of a goal by what the goal joins.
-use Rattle.std.specs.Prelude.{◌≡◌, ℕ, List, [], ◌∷◌, ◌++◌, length, refl}
+use Rattle.std.specs.Prelude.{◌≡◌, ℕ, List, [], ◌∷◌, ◌++◌, length}
 use Rattle.std.proofs.Common.{◌∙◌, ap, sym}
 use Rattle.std.proofs.lemmas.List.{append_assoc}
 use Rattle.merc_graded_tree.specs.declared.entries.Label.{Label}
@@ -8,6 +8,7 @@ use Rattle.merc_graded_tree.specs.declared.entries.Root.TheVariants.{Conjunction
 use Rattle.merc_graded_tree.specs.declared.entries.Running.{Running}
 use Rattle.merc_graded_tree.specs.Nodes.{Node, Goal, Conjunction, Disjunction, nodes_of, list_of, goal_of, outputs_of, category_of, span_of}
 use Rattle.merc_graded_tree.specs.Roots.{root_of, label_of}
+use Rattle.merc_graded_tree.proofs.JoinLaws.{list_of-nodes_of}
 use Rattle.merc_switch.specs.declared.tasks.Task.{Task}
 use Rattle.merc_switch.specs.declared.tasks.Task.TheVariants.{Close}
 use Rattle.merc_switch.specs.Plans.{in_turn, disjoined, plan_of, plan}
@@ -15,10 +16,6 @@ use Rattle.merc_switch.specs.Plans.{in_turn, disjoined, plan_of, plan}
 -- a goal's label by its root
 abbrev pub with_root : Node → Root → Label
 with_root whole root = record { root = root; outputs = outputs_of whole; category = category_of whole; span = span_of whole }
-
-list_of-nodes_of : (goals : List Node) → list_of (nodes_of goals) ≡ goals
-list_of-nodes_of [] = refl
-list_of-nodes_of (first ∷ rest) = ap (λ l. first ∷ l) (list_of-nodes_of rest)
 
 planned : (mark : ℕ) (whole : Node) (goal : Goal) (rest tasks : List Task) → goal ≡ goal_of whole → tasks ≡ plan_of mark whole goal ++ rest → tasks ≡ plan mark whole ++ rest
 planned mark whole goal rest tasks is put = put ∙ ap (λ g. plan_of mark whole g ++ rest) is

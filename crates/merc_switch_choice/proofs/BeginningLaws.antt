@@ -10,10 +10,11 @@ use Rattle.merc_graded_tree.specs.declared.entries.Running.TheVariants.{Sequenti
 use Rattle.merc_graded_tree.specs.declared.node_ref.NodeView.{NodeView}
 use Rattle.merc_graded_tree.specs.declared.node_ref.NodeView.TheVariants.{Basic as BasicView, Conjunction as ConjunctionView, Disjunction as DisjunctionView, Switch as SwitchView, Conditional as ConditionalView, Negation as NegationView, Quantified as QuantifiedView}
 use Rattle.merc_graded_tree.specs.Views.{viewed}
-use Rattle.merc_graded_tree.specs.Nodes.{Node, node, Goal, Basic, Conjunction, nodes_of, list_of, goal_of}
+use Rattle.merc_graded_tree.specs.Nodes.{Node, node, Goal, Basic, Conjunction, nodes_of, goal_of}
 use Rattle.merc_graded_tree.specs.Roots.{goals_of, goals_in, label_of}
 use Rattle.merc_graded_tree.specs.Labels.{labels_of, all_labels}
 use Rattle.merc_graded_tree.specs.LabelCode.{labels_are}
+use Rattle.merc_graded_tree.proofs.JoinLaws.{list_of-nodes_of}
 use Rattle.merc_grading.specs.Switches.{Beginning, nothing_else, stops, followed, basic_beginning, beginning, goal_beginning, all_beginning}
 use Rattle.merc_switch_choice.specs.Beginnings.{splits_with, left_with, Begins}
 
@@ -90,10 +91,6 @@ basic_end next rest rest' splits splits' goal goes_on is put told ends none = su
       ∙ sym (next_first splits rest next (basic_beginning goal) (ap goal_beginning is));
   smaller = omega (arith, with_last rest next);
 })
-
-list_of-nodes_of : (goals : List Node) → list_of (nodes_of goals) ≡ goals
-list_of-nodes_of [] = refl
-list_of-nodes_of (first ∷ rest) = ap (λ l. first ∷ l) (list_of-nodes_of rest)
 
 sequence_on : (next : Node) (rest : List Node) (splits : List (ℕ × Symbol)) (goals : List Node) → Conjunction Sequential (nodes_of goals) ≡ goal_of next
     → Begins next rest splits (rest ++ reverse goals) splits
