@@ -10,7 +10,7 @@ use Rattle.merc_base.specs.declared.place.Span.{Span}
 use Rattle.merc_base.specs.declared.refusal.Rule.TheVariants.{WrongForm}
 use Rattle.merc_base.specs.declared.refusal.Detail.TheVariants.{Plain}
 use Rattle.merc_base.proofs.NameLaws.{slice_get-front}
-use Rattle.merc_tree.specs.Term.{Term, Variable, Integer, Text, Application, span_of}
+use Rattle.merc_tree.specs.Term.{Term, Variable, Integer, Text, Application}
 use Rattle.merc_tree.specs.Shape.{arguments_of}
 use Rattle.merc_tree.specs.declared.declarations.PredDecl.{PredDecl}
 use Rattle.merc_tree.specs.declared.declarations.Module.{Module}
@@ -19,6 +19,7 @@ use Rattle.merc_item_forms.specs.FormFaults.{is_nil, own_name, wrong}
 use Rattle.merc_item_forms.specs.Forms.{argument_type, is_application, is_in, is_variable, no_name, parameters as parameters_fault, predicate_head, IsWrong, type_head}
 use Rattle.merc_item_forms.specs.Items.{Item, Opening, Ending, Section, Import, TypeItem, PredicateItem, ModeItem, ClauseItem, OtherType, OtherFunction, OtherGrammar, OtherDeclaration, Formless, item_of, place_of}
 use Rattle.merc_entries.specs.Entries.{Entry, entries, entries_from, imports, is_own, key, own_entries, predicates_of, types_of, unit_entries, with_units}
+use Rattle.merc_entries.specs.Joining.{unit_entry}
 use Rattle.merc_entries.specs.LibraryItems.{bool_items, library_items, list_items, maybe_items}
 use Rattle.merc_entries.proofs.LibraryReads.{units_are-library}
 use Rattle.merc_items.specs.ModuleOf.{declared_type, parameters, pred_decls, pred_decls_of, type_defs, type_defs_of, unit_items}
@@ -137,9 +138,6 @@ module _ (names : List (List ℕ)) where
 
   -- Given are the items of each unit, of which each fits.
   module _ (items : ℕ → List Term) (units_fit : (unit : ℕ) → AllByRecursion FitsTerm (items unit)) where
-    abbrev unit_entry : Place → ℕ → Term → Entry
-    unit_entry place unit term = record { item = item_of term; span = span_of term; place = place; unit = Some unit }
-
     terms_fit : (place : Place) (unit : ℕ) (terms : List Term) (behind : List Entry) → AllByRecursion FitsTerm terms → AllByRecursion FitsEntry behind
         → AllByRecursion FitsEntry (map (unit_entry place unit) terms ++ behind)
     terms_fit place unit [] behind fit others = others

@@ -1,18 +1,13 @@
 -- What holds of all entries of a module, those of units among them.
-use Rattle.std.proofs.Common.{◌≡◌, ℕ, Bool, true, false, List, [], ◌∷◌, ◌++◌, map, Some, None, if◌then◌else◌, refl, sym, subst, append_assoc}
+use Rattle.std.proofs.Common.{◌≡◌, ℕ, Bool, true, false, List, [], ◌∷◌, ◌++◌, map, if◌then◌else◌, refl, sym, subst, append_assoc}
 use Rattle.std.specs.List.{AllByRecursion}
 use Rattle.merc_base.specs.declared.place.Place.{Place}
-use Rattle.merc_tree.specs.Term.{Term, span_of}
+use Rattle.merc_tree.specs.Term.{Term}
 use Rattle.merc_item_forms.specs.Forms.{is_in}
 use Rattle.merc_item_forms.specs.Items.{item_of, place_of}
 use Rattle.merc_entries.specs.Entries.{Entry, entries_from, imports, is_own, own_entries, unit_entries, with_units}
+use Rattle.merc_entries.specs.Joining.{own_entry, unit_entry}
 use Rattle.merc_items.specs.ModuleOf.{unit_items}
-
-abbrev pub own_entry : Term → Entry
-own_entry term = record { item = item_of term; span = span_of term; place = place_of term; unit = None }
-
-abbrev pub unit_entry : Place → ℕ → Term → Entry
-unit_entry place unit term = record { item = item_of term; span = span_of term; place = place; unit = Some unit }
 
 module _ (P : Entry → Type 0) where
   -- Given are the items of each unit, of which each is so.

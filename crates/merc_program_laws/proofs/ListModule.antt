@@ -27,11 +27,12 @@ use Rattle.merc_entries.specs.DoubleFaults.{predicate_again}
 use Rattle.merc_entries.specs.Entries.{Entry, are_keys, entries, is_key, is_own, key, key_of, own_entries, predicates_of}
 use Rattle.merc_entries.specs.EntryValue.{place_at}
 use Rattle.merc_entries.specs.LibraryItems.{append_declaration, append_mode, append_nil, bool_type, maybe_type, library_items, list_items, member_declaration, member_mode, length_declaration, reverse_declaration, onto_declaration}
+use Rattle.merc_entries.specs.Joining.{unit_entry}
 use Rattle.merc_items.specs.ModuleOf.{clauses_in, clauses_of, modes_in, module_of, pred_decls, pred_decls_of, unit_items}
 use Rattle.merc_items.specs.Phases.{alone, clauses_phase, doubles_phase, double, HasNoFault}
 use Rattle.merc_program_laws.specs.ClauseFaults.{IsAmong, file_clauses}
 use Rattle.merc_program_laws.proofs.ListLookups.{list_of_t, number_of, predicate_key, t}
-use Rattle.merc_program_laws.proofs.UnitEntries.{flat_mapped, own_among, unique, unit_entry}
+use Rattle.merc_program_laws.proofs.UnitEntries.{flat_mapped, own_among, unique}
 use Rattle.merc_program_laws.proofs.ListOnce.{is_empty, list_there, listed_once, other_units}
 use Rattle.merc_program_laws.proofs.ListOrders.{append_modes, member_modes, length_modes, reverse_modes, onto_modes}
 

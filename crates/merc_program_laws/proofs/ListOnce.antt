@@ -11,10 +11,11 @@ use Rattle.merc_item_forms.specs.Forms.{is_in}
 use Rattle.merc_item_forms.specs.Items.{item_of, place_of}
 use Rattle.merc_entries.specs.Entries.{Entry, entries, entries_from, imports, is_own, unit_entries, with_units}
 use Rattle.merc_entries.specs.LibraryItems.{bool_items, bool_type, library_items, list_items, maybe_items, maybe_type}
+use Rattle.merc_entries.specs.Joining.{unit_entry}
 use Rattle.merc_items.specs.ModuleOf.{unit_items}
 use Rattle.merc_program_laws.specs.ClauseFaults.{IsAmong}
 use Rattle.merc_program_laws.proofs.ListLookups.{swapped}
-use Rattle.merc_program_laws.proofs.UnitEntries.{comes_from, flat_among, flat_mapped, map_among, unit_among, unit_entry, unit_there}
+use Rattle.merc_program_laws.proofs.UnitEntries.{comes_from, flat_among, flat_mapped, map_among, unit_among, unit_there}
 
 unit_items-append : (some others : List Entry) → unit_items (some ++ others) ≡ unit_items some ++ unit_items others
 unit_items-append [] others = refl

@@ -11,6 +11,7 @@ use Rattle.merc_terms.proofs.TextLaws.{ReadsItems-distinct, ReadsItems-grows}
 use Rattle.merc_item_forms.specs.FormFaults.{own_name}
 use Rattle.merc_item_forms.specs.Items.{item_of}
 use Rattle.merc_entries.specs.Entries.{Entry, entries, is_own, own_entries}
+use Rattle.merc_entries.specs.Joining.{own_entry}
 use Rattle.merc_entries.proofs.LibraryReads.{units_are-library}
 use Rattle.merc_declared.specs.UnknownTypes.{has_unknown}
 use Rattle.merc_items.specs.ModuleOf.{type_defs, unit_items}
@@ -19,7 +20,7 @@ use Rattle.merc_order_laws.proofs.Written.{all_joined}
 use Rattle.merc_program_laws.specs.GoodPrograms.{IsScoped}
 use Rattle.merc_order_laws.proofs.TypesApart.{types_are_told_apart}
 use Rattle.merc_program_laws.specs.TextLaws.{ModuleHasGoodTypes, ModuleIsScoped}
-use Rattle.merc_program_laws.proofs.EntryFacts.{of_entries, of_own, of_unit_items, own_entry}
+use Rattle.merc_program_laws.proofs.EntryFacts.{of_entries, of_own, of_unit_items}
 use Rattle.merc_program_laws.proofs.LibraryTypes.{library_scoped}
 use Rattle.merc_program_laws.proofs.Lists.{all_flat, all_implied}
 use Rattle.merc_program_laws.proofs.ScopedTypes.{ItemIsScoped, item_scoped}

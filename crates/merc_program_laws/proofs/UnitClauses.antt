@@ -15,6 +15,7 @@ use Rattle.merc_item_forms.specs.Items.{item_of}
 use Rattle.merc_entries.specs.DoubleFaults.{constructor_again, predicate_again}
 use Rattle.merc_entries.specs.Entries.{Entry, entries}
 use Rattle.merc_entries.specs.LibraryItems.{bool_items, library_items, list_items, maybe_items}
+use Rattle.merc_entries.specs.Joining.{unit_entry}
 use Rattle.merc_entries.proofs.LibraryReads.{units_are-library}
 use Rattle.merc_items.specs.ModuleOf.{clauses_in, clauses_of, module_of, unit_items}
 use Rattle.merc_items.specs.Phases.{doubles_phase, double, HasNoFault}
@@ -25,7 +26,7 @@ use Rattle.merc_program_laws.proofs.ClausePlaces.{module_clauses}
 use Rattle.merc_program_laws.proofs.FirstFaults.{all_at, among_either, goal_none, name_none, tells_first, type_none}
 use Rattle.merc_program_laws.proofs.ListClauses.{list_faultless}
 use Rattle.merc_program_laws.proofs.ListLookups.{knows_list}
-use Rattle.merc_program_laws.proofs.UnitEntries.{ComesFrom, comes_from, flat_among, flat_mapped, unit_among, unit_entry}
+use Rattle.merc_program_laws.proofs.UnitEntries.{ComesFrom, comes_from, flat_among, flat_mapped, unit_among}
 
 -- a table that holds the constants begins with them
 front_of : (front whole : List (List ℕ)) → ((number : ℕ) (text : List ℕ) → slice_get front number ≡ Some text → slice_get whole number ≡ Some text) → (back : List (List ℕ)) × (whole ≡ front ++ back)

@@ -1,5 +1,5 @@
 -- Entries of a module: from which unit they come, and that no two of them declare the same.
-use Rattle.std.proofs.Common.{◌≡◌, ℕ, inl, inr, ◌==◌, ◌||◌, Bool, true, false, List, [], ◌∷◌, ◌++◌, map, Some, if◌then◌else◌, refl, sym, ap, ap₂, subst, ◌∙◌, eqb-true}
+use Rattle.std.proofs.Common.{◌≡◌, ℕ, inl, inr, ◌==◌, ◌||◌, Bool, true, false, List, [], ◌∷◌, ◌++◌, map, if◌then◌else◌, refl, sym, ap, ap₂, subst, ◌∙◌, eqb-true}
 use Rattle.std.proofs.Math.Bool.{or-true}
 use Rattle.std.proofs.lemmas.Bool.{and_parts}
 use Rattle.std.proofs.lemmas.List.{append_assoc}
@@ -7,11 +7,12 @@ use Rattle.std.proofs.lemmas.List.Folds.{list_any-append}
 use Rattle.std.specs.List.{flat_map, list_any}
 use Rattle.merc_base.specs.declared.groups.Key.{Key}
 use Rattle.merc_base.specs.declared.place.Place.{Place}
-use Rattle.merc_tree.specs.Term.{Term, span_of}
+use Rattle.merc_tree.specs.Term.{Term}
 use Rattle.merc_item_forms.specs.Forms.{is_in}
 use Rattle.merc_item_forms.specs.Items.{Item, item_of, place_of}
 use Rattle.merc_entries.specs.DoubleFaults.{IsAgain}
 use Rattle.merc_entries.specs.Entries.{Declared, Entry, declared_by, entries_from, imports, is_key, is_own, own_entries, unit_entries, with_units}
+use Rattle.merc_entries.specs.Joining.{unit_entry}
 use Rattle.merc_items.specs.ModuleOf.{unit_items}
 use Rattle.merc_program_laws.specs.ClauseFaults.{IsAmong}
 use Rattle.merc_program_laws.proofs.FirstFaults.{among_either, among_left, among_right}
@@ -83,9 +84,6 @@ unit_there one (first ∷ rest) among foreign = by (is_own first) refl (λ there
     by false is inner (inr there) = inr (inner there)
 
 -- Where an entry that is not the file's own comes from: a unit all of whose items are entries.
-
-abbrev pub unit_entry : Place → ℕ → Term → Entry
-unit_entry place unit term = record { item = item_of term; span = span_of term; place = place; unit = Some unit }
 
 pub record ComesFrom (items : ℕ → List Term) (all : List Entry) (one : Entry) : Type 0 where
   pub place : Place
