@@ -1,7 +1,8 @@
 -- Entries of goals without sub-goals, and of goals whose sub-goals stand beside each other.
 use Rattle.std.proofs.Common.{◌≡◌, ℕ, ◌+◌, Bool, List, [], ◌∷◌, ◌⊎◌, inl, inr, refl, ap, sym, subst}
 use Rattle.merc_base.specs.declared.place.Span.{Span}
-use Rattle.merc_tree.specs.Term.{Term, Terms, Variable, Integer, Text, Application, none, more, list_of, terms_of}
+use Rattle.merc_tree.specs.Term.{Term, Variable, Integer, Text, Application, terms_of}
+use Rattle.merc_tree.specs.TermCode.{terms_of-list_of}
 use Rattle.merc_tree.specs.Shape.{arguments_of}
 use Rattle.merc_goals.specs.Written.{Written, WrittenGoals, Truth, Failure, Equal, Compared, Conjunction, Parallel, Disjunction, WrongForm, OutsideProfile}
 use Rattle.merc_goals.specs.Entries.{called, with_form}
@@ -35,10 +36,6 @@ module _ (blank : ℕ → Bool) where
   plain_called at (Integer value place) span = plain_wrong span
   plain_called at (Text text place) span = plain_wrong span
   plain_called at (Application name qualifier arguments place) span = record { all = λ behind. refl; status = λ other behind. refl }
-
-  terms_of-list_of : (terms : Terms) → terms_of (list_of terms) ≡ terms
-  terms_of-list_of none = refl
-  terms_of-list_of (more first rest) = ap (more first) (terms_of-list_of rest)
 
   pub free-called : (at : ℕ) (term : Term) (span : Span) → occurrences_of blank (at + 2) (terms_of (arguments_of term)) ≡ free blank (called at term span)
   free-called at (Variable name place) span = refl

@@ -3,6 +3,7 @@ use Rattle.std.proofs.Common.{◌≡◌, ℕ, ◌+◌, ◌≤◌, Bool, ◌⊎�
 use Rattle.std.proofs.lemmas.List.{append_assoc, append-nil, length-map, take-map, drop-map, length-reverse}
 use Rattle.merc_base.specs.declared.place.Span.{Span}
 use Rattle.merc_tree.specs.Term.{Term, Terms, Variable, Integer, Text, Application, terms_of}
+use Rattle.merc_tree.specs.TermCode.{terms_of-list_of}
 use Rattle.merc_tree.specs.Shape.{arguments_of}
 use Rattle.merc_goals.specs.Written.{Written}
 use Rattle.merc_goals.specs.Entries.{called, goals_of, with_form}
@@ -14,7 +15,6 @@ use Rattle.merc_scopes.specs.declared.occurrence.Occurrence.{Occurrence}
 use Rattle.merc_scopes.specs.Scopes.{at_of, occurrences_of, free, all_free, each_free, own, without, shared}
 use Rattle.merc_scopes.specs.FirstPlaces.{Lists}
 use Rattle.merc_scopes.specs.Standing.{AllHold, Stands, IsJoined, GoesOn, needs, together}
-use Rattle.merc_scopes.proofs.Walks.{terms_of-list_of}
 use Rattle.merc_scopes.proofs.Standings.{AllHold-length, pushed}
 
 module _ (blank : ℕ → Bool) where

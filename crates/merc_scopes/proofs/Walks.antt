@@ -2,7 +2,8 @@
 use Rattle.std.proofs.Common.{◌≡◌, ℕ, ◌+◌, ◌<◌, Bool, List, [], ◌∷◌, ◌++◌, Option, reverse, if◌then◌else◌, refl, ap, sym, ◌∙◌, arith}
 use Rattle.std.specs.Option.{option_or}
 use Rattle.std.proofs.lemmas.List.{append_assoc, append-nil, reverse-append}
-use Rattle.merc_tree.specs.Term.{Term, Terms, Variable, Integer, Text, Application, none, more, terms_of, list_of}
+use Rattle.merc_tree.specs.Term.{Term, Variable, Integer, Text, Application, terms_of}
+use Rattle.merc_tree.specs.TermCode.{terms_of-list_of}
 use Rattle.merc_tree.specs.Shape.{shape_of, arguments_of}
 use Rattle.merc_tree.specs.declared.term.Shape.{Shape}
 use Rattle.merc_tree.specs.declared.term.Shape.TheVariants.{Variable as VariableShape}
@@ -13,10 +14,6 @@ use Rattle.merc_scopes.specs.Scopes.{at_of, occurrence, occurrences, occurrences
 use Rattle.merc_goals.specs.Numbers.{numbered_from}
 use Rattle.merc_scopes.specs.Walking.{stacked}
 use Rattle.merc_scopes.proofs.PlaceLaws.{at_of-append, option_or-assoc}
-
-pub terms_of-list_of : (terms : Terms) → terms_of (list_of terms) ≡ terms
-terms_of-list_of none = refl
-terms_of-list_of (more first rest) = ap (more first) (terms_of-list_of rest)
 
 -- how many numbers the parts of terms have
 abbrev pub parts_all : List NumberedTerm → ℕ

@@ -4,6 +4,7 @@ use Rattle.std.specs.Bool.{if◌then◌else◌}
 use Rattle.merc_base.specs.declared.place.Span.{Span}
 use Rattle.merc_tokens.specs.Integers.{integer_limit}
 use Rattle.merc_tree.specs.Term.{Term, Terms, Variable, Integer, Text, Application, none, more, terms_of, list_of, span_of, with_span, applied, enclosed}
+use Rattle.merc_tree.specs.TermCode.{terms_of-list_of}
 use Rattle.merc_terms.specs.declared.built.Built.{Built}
 use Rattle.merc_terms.specs.Reader.{fits, with_term, with_integer, clipped, clipped_all, is_great, are_great, pushed, with_application, with_cells, with_list, with_enclosed}
 use Rattle.merc_terms.specs.Reading.{cell, nil}
@@ -75,10 +76,6 @@ pub pushed_back-all : (before : List Term) (built : Built) → pushed_back befor
 pushed_back-all before built =
     let inner = pushed_back before built in
     built_is (sym (append-nil inner.terms)) (sym (or_false inner.is_great)) ∙ pushed_all-behind before none built
-
-terms_of-list_of : (terms : Terms) → terms_of (list_of terms) ≡ terms
-terms_of-list_of none = refl
-terms_of-list_of (more first rest) = ap (more first) (terms_of-list_of rest)
 
 length-clipped : (terms : Terms) → length (list_of (clipped_all terms)) ≡ length (list_of terms)
 length-clipped none = refl
