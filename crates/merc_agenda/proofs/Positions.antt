@@ -7,11 +7,13 @@ use Rattle.merc_tree.specs.declared.declarations.ModeDecl.{ModeDecl}
 use Rattle.merc_goal_tree.specs.Nodes.{Node, more_nodes, nodes_of}
 use Rattle.merc_goal_tree.specs.Parts.{parts_of, all_parts}
 use Rattle.merc_goal_tree.specs.Variables.{variables, all_variables}
-use Rattle.merc_goal_facts.specs.Facts.{AreKnown, subgoals, all_subgoals}
+use Rattle.merc_goal_facts.specs.Facts.{AreKnown, all_subgoals}
 use Rattle.merc_goal_facts.specs.Outside.{IsStretch}
 use Rattle.merc_goal_facts.specs.declared.facts.Facts.{Facts}
 use Rattle.merc_readiness.specs.Sweeps.{AreKnownFrom}
 use Rattle.merc_readiness.proofs.Marking.{known_split, known_length, all_subgoals_length, parts_length}
+use Rattle.merc_readiness.proofs.Listed.{all_parts_cut, all_subgoals_cut}
+use Rattle.merc_readiness.proofs.Rounds.{head_is}
 use Rattle.merc_agenda.specs.Agenda.{start_at, StandAt}
 use Rattle.merc_agenda.specs.Positions.{IsAt, IsPlaced, IsNext, variables_before}
 use Rattle.merc_agenda.specs.declared.agenda.Start.{Start}
@@ -33,23 +35,6 @@ all_variables_cut [] (suc index) = refl
 all_variables_cut (goal ∷ goals) zero = refl
 all_variables_cut (goal ∷ goals) (suc index) =
     ap (λ l. variables goal ++ l) (all_variables_cut goals index) ∙ sym (append_assoc (variables goal) (variables_before goals index) (all_variables (nodes_of (drop index goals))))
-
-pub all_parts_cut : (goals : List Node) (index : ℕ) → length (all_parts (nodes_of goals)) ≡ length (all_parts (nodes_of (take index goals))) + length (all_parts (nodes_of (drop index goals)))
-all_parts_cut [] zero = refl
-all_parts_cut [] (suc index) = refl
-all_parts_cut (goal ∷ goals) zero = omega arith
-all_parts_cut (goal ∷ goals) (suc index) =
-    omega (arith, all_parts_cut goals index, length-append (parts_of goal) (all_parts (nodes_of goals)), length-append (parts_of goal) (all_parts (nodes_of (take index goals))))
-
-all_subgoals_cut : (goals : List Node) (index : ℕ) → all_subgoals (nodes_of goals) ≡ all_subgoals (nodes_of (take index goals)) ++ all_subgoals (nodes_of (drop index goals))
-all_subgoals_cut [] zero = refl
-all_subgoals_cut [] (suc index) = refl
-all_subgoals_cut (goal ∷ goals) zero = refl
-all_subgoals_cut (goal ∷ goals) (suc index) =
-    ap (λ l. subgoals goal ++ l) (all_subgoals_cut goals index) ∙ sym (append_assoc (subgoals goal) (all_subgoals (nodes_of (take index goals))) (all_subgoals (nodes_of (drop index goals))))
-
-pub head_is : (one other : Node) (rest others : List Node) → one ∷ rest ≡ other ∷ others → one ≡ other
-head_is one other rest others same = cc
 
 pub drop_next : (goals : List Node) (index : ℕ) (goal : Node) (rest : List Node) → drop index goals ≡ goal ∷ rest → drop (suc index) goals ≡ rest
 drop_next [] zero goal rest there = cc

@@ -12,12 +12,12 @@ use Rattle.merc_order.specs.Marks.{Marked, no_marks, more_marks, unless, kept, m
 use Rattle.merc_order.specs.Moves.{Move}
 use Rattle.merc_order.specs.Ordered.{is_ready}
 use Rattle.merc_order.specs.Ways.{AllStuck}
-use Rattle.merc_order.proofs.Marks.{sound-more, left-more}
+use Rattle.merc_order.proofs.Marks.{left-more}
 use Rattle.merc_goal_facts.specs.Outside.{IsStretch}
 use Rattle.merc_readiness.specs.Asking.{flags_of, joined_by, Fits, more}
 use Rattle.merc_goal_facts.proofs.Bounds.{among-append, or_false}
 use Rattle.merc_readiness.proofs.Marking.{marks_length}
-use Rattle.merc_agenda.proofs.Positions.{head_is}
+use Rattle.merc_readiness.proofs.Rounds.{deeper, head_is, kept_front, unless_more}
 use Rattle.merc_agenda.proofs.Stretches.{stretch_front}
 use Rattle.merc_goal_order.specs.Conjuncts.{went_at, AskedAreStuck}
 use Rattle.merc_goal_order.proofs.Agreeing.{Agree}
@@ -46,12 +46,6 @@ agree_by inside bound new variable false f apart inner = sym (ap (λ b. among bo
 pub agrees : (inside bound new after : List ℕ) → after ≡ bound ++ new → ((variable : ℕ) → among new variable ≡ true → among inside variable ≡ true → ⊥) → Agree inside (among bound) (among after)
 agrees inside bound new after longer apart = λ variable inner.
     agree_by inside bound new variable (among new variable) refl apart inner ∙ sym (among-append bound new variable) ∙ ap (λ l. among l variable) (sym longer)
-
--- moves
-
-kept_front : (went : Bool) (move : Move) (front back : List Move) → kept went move (front ++ back) ≡ kept went move front ++ back
-kept_front true move front back = refl
-kept_front false move front back = refl
 
 module _ (total : ℕ → ℕ) (modes : ℕ → List ModeDecl) where
   -- those that are left of the goals before the one of this index
@@ -128,10 +122,6 @@ module _ (total : ℕ → ℕ) (modes : ℕ → List ModeDecl) where
     };
   }
 
-  unless_more : (went : Bool) (goal : Node) (inner : Marked) (now later : Bound) → Holds now later → unless went (IsSound total modes goal inner now) → unless went (IsSound total modes goal inner later)
-  unless_more true goal inner now later holds sound = tt
-  unless_more false goal inner now later holds sound = sound-more total modes goal inner now later holds sound
-
   same_later : (other index : ℕ) (went : Bool) (inner marks behind : Marked) → ((another : ℕ) → (another ≡ index) ⊎ (went_at another marks ≡ went_at another behind))
       → (other ≡ suc index) ⊎ (went_at other (more_marks went inner marks) ≡ went_at other (more_marks went inner behind))
   same_later zero index went inner marks behind same = inr refl
@@ -140,9 +130,6 @@ module _ (total : ℕ → ℕ) (modes : ℕ → List ModeDecl) where
       by : (other ≡ index) ⊎ (went_at other marks ≡ went_at other behind) → (suc other ≡ suc index) ⊎ (went_at other marks ≡ went_at other behind)
       by (inl is) = inl (ap suc is)
       by (inr is) = inr is
-
-  deeper : (front : List Bool) (went : Bool) (those flags back : List Bool) → flags ≡ those ++ back → front ++ went ∷ flags ≡ (front ++ went ∷ those) ++ back
-  deeper front went those flags back is = ap (λ l. front ++ went ∷ l) is ∙ sym (append_assoc front (went ∷ those) back)
 
   apart_later : (first goal : Node) (rest : Nodes) (index at all : ℕ) (now : Bound) (went : Bool) (inner behind : Marked) → Fits (joined_by first) inner → unless went (IsSound total modes first inner now)
       → Apart rest behind index goal at now → all ≡ length (parts_of first) + at → Apart (more_nodes first rest) (more_marks went inner behind) (suc index) goal all now
@@ -165,7 +152,7 @@ module _ (total : ℕ → ℕ) (modes : ℕ → List ModeDecl) where
       left_is = ap (λ l. kept went (move_of total modes first) l) p.left_is ∙ kept_front went (move_of total modes first) (left_before index rest behind) (kept gone (move_of total modes goal) a.others);
       own = p.own;
       same = λ other. same_later other index went inner p.marks behind p.same;
-      sound = λ later holds own. (unless_more went first inner now later holds sound, p.sound later holds own);
+      sound = λ later holds own. (unless_more total modes went first inner now later holds sound, p.sound later holds own);
     };
   }
 

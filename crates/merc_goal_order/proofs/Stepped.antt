@@ -26,7 +26,8 @@ use Rattle.merc_readiness.specs.Sweeps.{Extends, AreKnownFrom}
 use Rattle.merc_simple_goals.specs.Writing.{Gives}
 use Rattle.merc_simple_goals.specs.declared.written.Written.{Written}
 use Rattle.merc_agenda.specs.Agenda.{start_at, Ascends, inside, awaits, IsTaken, AwaitsAgain}
-use Rattle.merc_agenda.proofs.Positions.{at_is, head_is, index_within, variables_next, variables_longer, rest_from}
+use Rattle.merc_readiness.proofs.Rounds.{head_is}
+use Rattle.merc_agenda.proofs.Positions.{at_is, index_within, variables_next, variables_longer, rest_from}
 use Rattle.merc_agenda.proofs.Stretches.{known_next, next_stretch}
 use Rattle.merc_goal_order.specs.Conjuncts.{HasGone, Goes, Stays, GoesIfReady, TellsFirst, Passing, went_at, AskedAreStuck, Amid, AskGives, NextGives}
 use Rattle.merc_agenda.specs.Positions.{variables_before, IsAt, IsPlaced}

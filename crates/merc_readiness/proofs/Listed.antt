@@ -225,7 +225,7 @@ module _ (total : ℕ → ℕ) (modes : ℕ → List ModeDecl) where
 
 -- the facts of the goal of an index
 
-all_subgoals_cut : (goals : List Node) (index : ℕ) → all_subgoals (nodes_of goals) ≡ all_subgoals (nodes_of (take index goals)) ++ all_subgoals (nodes_of (drop index goals))
+pub all_subgoals_cut : (goals : List Node) (index : ℕ) → all_subgoals (nodes_of goals) ≡ all_subgoals (nodes_of (take index goals)) ++ all_subgoals (nodes_of (drop index goals))
 all_subgoals_cut [] zero = refl
 all_subgoals_cut [] (suc index) = refl
 all_subgoals_cut (goal ∷ goals) zero = refl

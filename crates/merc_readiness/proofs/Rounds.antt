@@ -13,14 +13,14 @@ use Rattle.merc_readiness.specs.Asking.{flags_of, joined_by, Fits, more}
 use Rattle.merc_readiness.specs.Sweeps.{new_one, times_left}
 use Rattle.merc_readiness.proofs.Marking.{marks_length}
 
-head_is : (one other : Node) (rest others : List Node) → one ∷ rest ≡ other ∷ others → one ≡ other
+pub head_is : (one other : Node) (rest others : List Node) → one ∷ rest ≡ other ∷ others → one ≡ other
 head_is one other rest others same = cc
 
-kept_front : (went : Bool) (move : Move) (front back : List Move) → kept went move (front ++ back) ≡ kept went move front ++ back
+pub kept_front : (went : Bool) (move : Move) (front back : List Move) → kept went move (front ++ back) ≡ kept went move front ++ back
 kept_front true move front back = refl
 kept_front false move front back = refl
 
-deeper : (front : List Bool) (went : Bool) (those flags back : List Bool) → flags ≡ those ++ back → front ++ went ∷ flags ≡ (front ++ went ∷ those) ++ back
+pub deeper : (front : List Bool) (went : Bool) (those flags back : List Bool) → flags ≡ those ++ back → front ++ went ∷ flags ≡ (front ++ went ∷ those) ++ back
 deeper front went those flags back is = ap (λ l. front ++ went ∷ l) is ∙ sym (append_assoc front (went ∷ those) back)
 
 module _ (total : ℕ → ℕ) (modes : ℕ → List ModeDecl) where
@@ -80,7 +80,7 @@ module _ (total : ℕ → ℕ) (modes : ℕ → List ModeDecl) where
     };
   }
 
-  unless_more : (went : Bool) (goal : Node) (inner : Marked) (now later : Bound) → Holds now later → unless went (IsSound total modes goal inner now) → unless went (IsSound total modes goal inner later)
+  pub unless_more : (went : Bool) (goal : Node) (inner : Marked) (now later : Bound) → Holds now later → unless went (IsSound total modes goal inner now) → unless went (IsSound total modes goal inner later)
   unless_more true goal inner now later holds sound = tt
   unless_more false goal inner now later holds sound = sound-more total modes goal inner now later holds sound
 
