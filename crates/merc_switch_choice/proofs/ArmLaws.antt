@@ -4,7 +4,6 @@ use Rattle.std.specs.List.{position_or_len, slice_index_or, slice_set}
 use Rattle.std.proofs.Common.{◌∙◌, ap, sym, subst, arith, cond, take, drop}
 use Rattle.std.proofs.lemmas.List.{length-append, length-map, length-set}
 use Rattle.std.proofs.Math.Seq.{take-append_seam}
-use Rattle.std.proofs.lemmas.Bool.Decides.{nat_tests}
 use Rattle.merc_goal_tree.specs.declared.goal.Symbol.{Symbol}
 use Rattle.merc_graded_tree.specs.Nodes.{Node}
 use Rattle.merc_grading.specs.Known.{same_symbol, has_symbol}
@@ -12,6 +11,7 @@ use Rattle.merc_grading.specs.Switches.{Group, symbol_at, of_symbol, without_sym
 use Rattle.merc_switch_choice.specs.Arms.{AreArms, joined_in}
 use Rattle.merc_switch_choice.specs.Symbols.{with_symbol}
 use Rattle.merc_switch_choice.proofs.SameSymbols.{symbols_equal, symbol_self}
+use Rattle.merc_switch_choice.proofs.Tests.{next_eq, none_eq}
 
 -- one disjunct more in the groups
 
@@ -106,12 +106,6 @@ symbols_at s groups place = if place == length (seconds groups) then firsts grou
 
 abbrev groups_at : List Group → ℕ → List (List Node)
 groups_at groups place = if place == length (seconds groups) then seconds groups ++ [] ∷ [] else seconds groups
-
-next_eq : (one other : ℕ) → (suc one == suc other) ≡ (one == other)
-next_eq one other = grind (arith, nat_tests)
-
-none_eq : (other : ℕ) → (0 == suc other) ≡ false
-none_eq other = grind (arith, nat_tests)
 
 -- a place is that of a symbol's arm
 record Opened (s : Symbol) (d : Node) (groups : List Group) (place : ℕ) : Type 0 where

@@ -16,18 +16,13 @@ use Rattle.merc_grading.specs.Fitting.{FitsSymbol, Fits, FitsGoal, FitsAll, Fits
 use Rattle.merc_grading.specs.Switches.{beginning, goal_beginning, all_beginning, basic_beginning, symbol_in, symbol_at, is_there, listed, split_variables, lesser, least, or_else, is_complete, choice}
 use Rattle.merc_switch_choice.specs.Choosing.{symbols_in, fellows_of, is_covered, is_open, opened_in, chosen}
 use Rattle.merc_switch_choice.proofs.Members.{among-append, or_false, or_true}
-use Rattle.merc_switch_choice.proofs.SplitVariables.{followed_either}
-
-clash : {A : Type 0} {b : Bool} → b ≡ true → b ≡ false → A
-clash p q = absurd (cc)
+use Rattle.merc_switch_choice.proofs.SplitVariables.{followed_either, no_symbol}
+use Rattle.merc_switch_choice.proofs.Tests.{and_first, and_second, clash, eq_turned}
 
 -- members of lists
 
 eq_self : (n : ℕ) → (n == n) ≡ true
 eq_self n = grind (arith, nat_tests)
-
-eq_turned : (a b : ℕ) → (a == b) ≡ (b == a)
-eq_turned a b = grind (arith, nat_tests)
 
 among_first : (x : ℕ) (xs : List ℕ) → among (x ∷ xs) x ≡ true
 among_first x xs = ap (λ b. b || among xs x) (eq_self x)
@@ -116,14 +111,6 @@ split_there (first ∷ rest) v =
     there_if (first.0 == v) first.1 (symbol_in rest v) (among (flat_map (λ one. one.0 ∷ []) rest) v) (split_there rest v)
     ∙ ap (λ b. b || among (flat_map (λ one. one.0 ∷ []) rest) v) (eq_turned first.0 v)
 
-and_first : (a b : Bool) → (a && b) ≡ true → a ≡ true
-and_first true b h = refl
-and_first false b h = h
-
-and_second : (a b : Bool) → (a && b) ≡ true → b ≡ true
-and_second true b h = h
-and_second false b h = absurd (cc)
-
 open_first : (bound : Bound) (used : List ℕ) (first : Node) (rest : List Node) (v : ℕ) → is_open bound used (first ∷ rest) v ≡ true → is_there (symbol_at v first) ≡ true
 open_first bound used first rest v h =
     and_first (is_there (symbol_at v first)) (list_all (λ d. is_there (symbol_at v d)) rest)
@@ -158,9 +145,6 @@ fits_basic_if : (declared : List TypeDef) (types : ℕ → TypeExpr) (whole v : 
     → (if b then Some here else None) ≡ Some s → FitsSymbol declared types v s
 fits_basic_if declared types whole v here s true same fits h = let e : whole ≡ v = (Decides-eqb whole v).0 same in let k : here ≡ s = cc in subst (λ x. FitsSymbol declared types x s) e (subst (λ x. FitsSymbol declared types whole x) k fits)
 fits_basic_if declared types whole v here s false same fits h = absurd (cc)
-
-no_symbol : {A : Type 0} {s : Symbol} → ◌≡◌ {A = Option Symbol} None (Some s) → A
-no_symbol h = absurd (cc)
 
 sum : {A B C : Type 0} → A ⊎ B → (A → C) → (B → C) → C
 sum (inl a) f g = f a

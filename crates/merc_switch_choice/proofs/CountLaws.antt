@@ -13,6 +13,7 @@ use Rattle.merc_grading.specs.Switches.{Group, symbol_at, is_there, grouped}
 use Rattle.merc_switch_choice.specs.Arms.{joined_in}
 use Rattle.merc_switch_choice.specs.Counting.{one_if, occurrences, counting, all_counting, number_of}
 use Rattle.merc_switch_choice.proofs.ArmLaws.{grouped_some}
+use Rattle.merc_switch_choice.proofs.Tests.{and_first, and_second}
 
 -- a variable that is one key stands once among the keys
 
@@ -104,21 +105,13 @@ symbol_is : {A : Type 0} (o : Option Symbol) → is_there o ≡ true → ((s : S
 symbol_is None there f = absurd (cc)
 symbol_is (Some s) there f = f s refl
 
-first_true : (a b : Bool) → (a && b) ≡ true → a ≡ true
-first_true true b h = refl
-first_true false b h = h
-
-second_true : (a b : Bool) → (a && b) ≡ true → b ≡ true
-second_true true b h = h
-second_true false b h = absurd (cc)
-
 grouped_on : (v : ℕ) (done rest : List Node) (test : Node → Bool) → list_all (λ disjunct. is_there (symbol_at v disjunct)) rest ≡ true
     → all_counting test (lists (grouped v (done ++ rest))) ≡ all_counting test (lists (grouped v done)) + counting test rest
 grouped_on v done [] test all = let same : all_counting test (lists (grouped v (done ++ []))) ≡ all_counting test (lists (grouped v done)) = ap (λ l. all_counting test (lists (grouped v l))) (append-nil done) in omega (arith, same)
 grouped_on v done (d ∷ rest) test all =
-    symbol_is (symbol_at v d) (first_true (is_there (symbol_at v d)) (list_all (λ disjunct. is_there (symbol_at v disjunct)) rest) all) (λ s h.
+    symbol_is (symbol_at v d) (and_first (is_there (symbol_at v d)) (list_all (λ disjunct. is_there (symbol_at v disjunct)) rest) all) (λ s h.
     let moved : all_counting test (lists (grouped v (done ++ d ∷ rest))) ≡ all_counting test (lists (grouped v ((done ++ d ∷ []) ++ rest))) = ap (λ l. all_counting test (lists (grouped v l))) (sym (append_assoc done (d ∷ []) rest)) in
-    let on = grouped_on v (done ++ d ∷ []) rest test (second_true (is_there (symbol_at v d)) (list_all (λ disjunct. is_there (symbol_at v disjunct)) rest) all) in
+    let on = grouped_on v (done ++ d ∷ []) rest test (and_second (is_there (symbol_at v d)) (list_all (λ disjunct. is_there (symbol_at v disjunct)) rest) all) in
     let more : all_counting test (lists (grouped v (done ++ d ∷ []))) ≡ all_counting test (lists (joined_in s d (grouped v done))) = ap (λ l. all_counting test (lists l)) (grouped_some v done d s h) in
     let one = counting_joined s d (grouped v done) test in
     omega (arith, moved, on, more, one))
@@ -148,8 +141,8 @@ last_out (first ∷ rest) last test = let h = last_out rest last test in omega (
 
 pub one_of : (disjuncts : List Node) (index : ℕ) (one : Node) → index < length disjuncts → one ≡ slice_index_or disjuncts index one → (test : Node → Bool) → list_all test disjuncts ≡ true → test one ≡ true
 one_of [] index one within is test all = absurd (omega (arith, within))
-one_of (first ∷ rest) zero one within is test all = ap test is ∙ first_true (test first) (list_all test rest) all
-one_of (first ∷ rest) (suc index) one within is test all = one_of rest index one (omega (arith, within)) is test (second_true (test first) (list_all test rest) all)
+one_of (first ∷ rest) zero one within is test all = ap test is ∙ and_first (test first) (list_all test rest) all
+one_of (first ∷ rest) (suc index) one within is test all = one_of rest index one (omega (arith, within)) is test (and_second (test first) (list_all test rest) all)
 
 pub none_of : (disjuncts : List Node) (index : ℕ) → false ≡ nat_lt index (length disjuncts) → (0 < length disjuncts → index < length disjuncts) → disjuncts ≡ []
 none_of [] index past within = refl

@@ -9,16 +9,11 @@ use Rattle.merc_order.specs.Bound.{among}
 use Rattle.merc_order.specs.Procedures.{bound_at}
 use Rattle.merc_switch_choice.specs.Variables.{behind}
 use Rattle.merc_switch_choice.proofs.Members.{or_false, among-behind}
+use Rattle.merc_switch_choice.proofs.Tests.{next_eq, none_eq}
 
 abbrev pub is_input : Arg → Bool
 is_input Input = true
 is_input Output = false
-
-next_eq : (one other : ℕ) → (suc one == suc other) ≡ (one == other)
-next_eq one other = grind (arith, nat_tests)
-
-none_eq : (other : ℕ) → (zero == suc other) ≡ false
-none_eq other = grind (arith, nat_tests)
 
 past_eq : (one : ℕ) → (suc one == zero) ≡ false
 past_eq one = grind (arith, nat_tests)

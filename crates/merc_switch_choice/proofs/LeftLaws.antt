@@ -11,9 +11,7 @@ use Rattle.merc_switch_choice.specs.declared.choosing.Candidates.{Candidates}
 use Rattle.merc_switch_choice.specs.Choosing.{is_covered, is_open, opened_in, chosen, AreLeft, Takes}
 use Rattle.merc_switch_choice.proofs.Members.{or_assoc, or_false}
 use Rattle.merc_switch_choice.proofs.ChoiceLaws.{among-filter, least_is, least_none, opened_one}
-
-clash : {A : Type 0} {b : Bool} → b ≡ true → b ≡ false → A
-clash p q = absurd (cc)
+use Rattle.merc_switch_choice.proofs.Tests.{clash}
 
 either : {A : Type 0} (a b : Bool) → (a || b) ≡ true → (a ≡ true → A) → (b ≡ true → A) → A
 either true b h f g = f refl

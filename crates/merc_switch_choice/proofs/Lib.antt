@@ -1,4 +1,5 @@
 pub mod Members
+pub mod Tests
 pub mod SplitVariables
 pub mod SameSymbols
 pub mod GroupLaws

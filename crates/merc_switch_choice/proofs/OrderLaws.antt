@@ -5,15 +5,13 @@ use Rattle.std.specs.Cmp.{unsigned_ties, nat_cmp_is}
 use Rattle.std.specs.Ordering.{is_gt, nat_cmp}
 use Rattle.std.specs.BTreeMap.{is_at}
 use Rattle.std.proofs.Common.{◌∙◌, ◌⊎◌, inl, inr, ap, sym, cond, arith, Greater}
-use Rattle.std.proofs.lemmas.Bool.Decides.{Decides-eqb, leb_tells, nat_tests}
+use Rattle.std.proofs.lemmas.Bool.Decides.{Decides-eqb, leb_tells}
 use Rattle.merc_order.specs.Bound.{among}
+use Rattle.merc_switch_choice.proofs.Tests.{clash, eq_turned}
 
 pub keys_among : (keys : List ℕ) (v : ℕ) → list_any (is_at (nat_cmp v)) keys ≡ among keys v
 keys_among [] v = refl
 keys_among (key ∷ keys) v = ap (λ b. b || list_any (is_at (nat_cmp v)) keys) (sym (unsigned_ties v key)) ∙ ap (λ b. (v == key) || b) (keys_among keys v)
-
-turned : (a b : ℕ) → (a == b) ≡ (b == a)
-turned a b = grind (arith, nat_tests)
 
 added_if : (b c : Bool) → cond b true c ≡ (b || c)
 added_if true c = refl
@@ -23,10 +21,7 @@ pub added : (before after : List ℕ) (number v w : ℕ) → number ≡ v → li
     → among after w ≡ ((w == v) || among before w)
 added before after number v w same updated =
     sym (keys_among after w) ∙ updated ∙ ap (λ n. cond (is_at (nat_cmp n) w) true (list_any (is_at (nat_cmp w)) before)) same ∙ added_if (is_at (nat_cmp v) w) (list_any (is_at (nat_cmp w)) before)
-    ∙ ap (λ b. b || list_any (is_at (nat_cmp w)) before) (sym (unsigned_ties v w) ∙ turned v w) ∙ ap (λ b. (w == v) || b) (keys_among before w)
-
-clash : {A : Type 0} {b : Bool} → b ≡ true → b ≡ false → A
-clash p q = absurd (cc)
+    ∙ ap (λ b. b || list_any (is_at (nat_cmp w)) before) (sym (unsigned_ties v w) ∙ eq_turned v w) ∙ ap (λ b. (w == v) || b) (keys_among before w)
 
 sum : {A B C : Type 0} → A ⊎ B → (A → C) → (B → C) → C
 sum (inl a) f g = f a

@@ -1,7 +1,6 @@
 -- A variable that is split at the beginning of a goal occurs in it.
 use Rattle.std.specs.Prelude.{◌≡◌, ℕ, Bool, true, false, ◌==◌, ◌||◌, List, [], ◌∷◌, ◌++◌, Option, Some, None, if◌then◌else◌, refl}
-use Rattle.std.proofs.Common.{◌∙◌, ◌⊎◌, inl, inr, ap, arith}
-use Rattle.std.proofs.lemmas.Bool.Decides.{nat_tests}
+use Rattle.std.proofs.Common.{◌∙◌, ◌⊎◌, inl, inr, ap}
 use Rattle.merc_goal_tree.specs.declared.goal.Symbol.{Symbol}
 use Rattle.merc_graded_tree.specs.declared.basic.BasicGoal.{BasicGoal}
 use Rattle.merc_graded_tree.specs.declared.basic.BasicGoal.TheVariants.{True, Fail, Assign, Test, Build, Split, Arithmetic, Compare, Raise, Call, Wait, Signal}
@@ -10,16 +9,14 @@ use Rattle.merc_graded_tree.specs.Nodes.{Node, node, Goal, Basic, Conjunction, D
 use Rattle.merc_graded_tree.specs.Variables.{in_node, in_goal, in_nodes, variables_of, among}
 use Rattle.merc_grading.specs.Switches.{Beginning, followed, basic_beginning, beginning, goal_beginning, all_beginning, symbol_in, symbol_at}
 use Rattle.merc_switch_choice.proofs.Members.{or_true}
+use Rattle.merc_switch_choice.proofs.Tests.{eq_turned}
 
-no_symbol : {A : Type 0} {s : Symbol} → ◌≡◌ {A = Option Symbol} None (Some s) → A
+pub no_symbol : {A : Type 0} {s : Symbol} → ◌≡◌ {A = Option Symbol} None (Some s) → A
 no_symbol h = absurd (cc)
-
-eq_turned : (one other : ℕ) → (one == other) ≡ true → (other == one) ≡ true
-eq_turned one other h = grind (arith, nat_tests)
 
 split_occurs_if : (whole variable : ℕ) (here : Symbol) (arguments : List ℕ) (symbol : Symbol) (b : Bool) → (whole == variable) ≡ b → (if b then Some here else None) ≡ Some symbol
     → ((variable == whole) || among arguments variable) ≡ true
-split_occurs_if whole variable here arguments symbol true same h = ap (λ b. b || among arguments variable) (eq_turned whole variable same)
+split_occurs_if whole variable here arguments symbol true same h = ap (λ b. b || among arguments variable) (eq_turned variable whole ∙ same)
 split_occurs_if whole variable here arguments symbol false same h = no_symbol h
 
 basic_occurs : (goal : BasicGoal) (variable : ℕ) (symbol : Symbol) → symbol_in (basic_beginning goal).splits variable ≡ Some symbol → among (variables_of goal) variable ≡ true
