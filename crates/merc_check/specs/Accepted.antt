@@ -15,7 +15,7 @@ use Rattle.merc_flat.specs.Flat.{clause_node, clauses_fault, query_fault, query_
 use Rattle.merc_goal_tree.specs.Nodes.{Node}
 use Rattle.merc_graded_tree.specs.Nodes.{Node as OrderedNode}
 use Rattle.merc_answer_variables.specs.AnswerVariables.{answer_variables}
-use Rattle.merc_bodies.specs.Bodies.{asked_body, body_of, numbered, own_variables}
+use Rattle.merc_bodies.specs.Bodies.{asked_body, body_of}
 use Rattle.merc_order.specs.Ordered.{Outcome}
 use Rattle.merc_order.specs.Bound.{nothing}
 use Rattle.merc_order.specs.Procedures.{modes_of, order_fault, query_from}
@@ -23,6 +23,7 @@ use Rattle.merc_modes.specs.Told.{fault_in}
 use Rattle.merc_grading.specs.Faults.{Body, procedures_of, all_finished, finished, category_fault, query_category_fault}
 use Rattle.merc_order_laws.specs.HeadTypes.{declared_arguments}
 use Rattle.merc_order_laws.specs.ProcedureBodies.{AreBodiesOf, IsAskedBody}
+use Rattle.merc_check.specs.Forms.{answers_of}
 
 abbrev pub type_mismatch : Span → Refusal
 type_mismatch span = record { rule = TypeMismatch; place = place_of span; detail = Plain }
@@ -70,8 +71,7 @@ module _ (names : List (List ℕ)) (known : Module) where
 
   -- the answer variables of a goal that is asked, by their numbers in its body
   abbrev pub query_answers : Term → List ℕ
-  query_answers goal =
-      map (numbered 0 0 (own_variables 0 (query_node names known (written 0 goal)))) (map (λ variable. variable.at) (answer_variables names (written 0 goal)))
+  query_answers goal = answers_of (query_node names known (written 0 goal)) (answer_variables names (written 0 goal))
 
   abbrev pub query_order : Term → Outcome
   query_order goal = query_from (modes_of known.preds) (query_answers goal) (asked_body (query_node names known (written 0 goal)))
