@@ -8,9 +8,9 @@ ghost use Rattle.merc_readiness.specs.Sweeps.{Extends};
 ghost use Rattle.merc_goal_order.specs.Walking.{Orders};
 ghost use Rattle.merc_goal_order.specs.Walks.{AddsOne, Adds, OrdersAll, all_settled};
 
-use crate::walking::{Setting, clear, walk};
+use crate::walking::{PlacedGoal, PlacedGoals, Setting, Whole, clear, walk};
 use merc_agenda::{Agenda, Start};
-use merc_base::{Fault, Span};
+use merc_base::Fault;
 use merc_goal_facts::{BoundSet, Facts};
 use merc_goal_tree::NodeRef;
 use merc_graded_tree::Running;
@@ -26,45 +26,41 @@ use merc_simple_goals::{Written, outputs_of};
 pub(crate) fn walk_conjunction(
     setting: &Setting<'_>,
     goals: &[NodeRef<'_>],
-    facts: &[Facts],
-    start: usize,
+    whole: &Whole<'_>,
     marks: &mut [bool],
     bound: &mut BoundSet,
     written: &mut Written,
-    span: Span,
 ) -> Result<(), Fault>
-    requires known { length facts.now ≡ length (all_parts (nodes_of goals.now)) + 1 }
+    requires known { length whole.now.facts.now ≡ length (all_parts (nodes_of goals.now)) + 1 }
     requires marked { length marks.old ≡ length (all_parts (nodes_of goals.now)) + 1 }
     requires seen { written.old.seen ≡ [] }
     ensures same { OnOk result (bound.new ≡ bound.old) }
-    ensures orders { Orders setting.now.predicates.now (Conjunction (nodes_of goals.now) span) facts.now setting.now.all.now start bound.old written.old written.new result }
+    ensures orders { Orders setting.now.predicates.now (Conjunction (nodes_of goals.now) whole.now.span) whole.now.facts.now setting.now.all.now whole.now.start bound.old written.old written.new result }
     ensures adds { OnOk result (AddsOne written.old written.new) }
 {
+    let facts = whole.facts;
     let own = facts.len() - 1;
     let before = written.nodes.len();
     let known = bound.mark();
-    walk_rounds(
-        setting,
-        goals,
-        &facts[..own],
-        start,
-        &mut marks[..own],
-        bound,
-        written,
-    )?;
+    let inside = PlacedGoals {
+        goals: &*goals,
+        facts: &facts[..own],
+        start: whole.start,
+    };
+    walk_rounds(setting, &inside, &mut marks[..own], bound, written)?;
     bound.undo(known);
     let outputs = outputs_of(
         setting.alloc,
         setting.all,
         &facts[own],
-        start,
+        whole.start,
         bound,
         &mut written.seen,
     )?;
     let count = written.nodes.len() - before;
     written
         .nodes
-        .conjoin(Running::Sequential, count, outputs, span)?;
+        .conjoin(Running::Sequential, count, outputs, whole.span)?;
     Ok(())
 }
 
@@ -73,57 +69,65 @@ pub(crate) fn walk_conjunction(
 #[cycle(walking)]
 fn walk_rounds(
     setting: &Setting<'_>,
-    goals: &[NodeRef<'_>],
-    facts: &[Facts],
-    start: usize,
+    placed: &PlacedGoals<'_>,
     marks: &mut [bool],
     bound: &mut BoundSet,
     written: &mut Written,
 ) -> Result<(), Fault>
-    requires known { length facts.now ≡ length (all_parts (nodes_of goals.now)) }
-    requires marked { length marks.old ≡ length (all_parts (nodes_of goals.now)) }
+    requires known { length placed.now.facts.now ≡ length (all_parts (nodes_of placed.now.goals.now)) }
+    requires marked { length marks.old ≡ length (all_parts (nodes_of placed.now.goals.now)) }
     requires seen { written.old.seen ≡ [] }
     ensures extends { OnOk result (Extends bound.old bound.new) }
-    ensures orders { OrdersAll all_settled setting.now.predicates.now (nodes_of goals.now) facts.now setting.now.all.now start bound.old written.old written.new result }
+    ensures orders { OrdersAll all_settled setting.now.predicates.now (nodes_of placed.now.goals.now) placed.now.facts.now setting.now.all.now placed.now.start bound.old written.old written.new result }
     ensures adds { OnOk result (Adds written.old written.new) }
 {
     clear(marks);
-    let mut agenda = Agenda::of(setting.alloc, setting.all, goals, facts, start)?;
-    for _round in 1..goals.len() {
-        if !walk_next(setting, goals, facts, &mut agenda, marks, bound, written)? {
+    let mut agenda = Agenda::of(
+        setting.alloc,
+        setting.all,
+        placed.goals,
+        placed.facts,
+        placed.start,
+    )?;
+    for _round in 1..placed.goals.len() {
+        if !walk_next(setting, placed, &mut agenda, marks, bound, written)? {
             break;
         }
     }
-    walk_first_left(setting, goals, facts, start, marks, bound, written)
+    walk_first_left(setting, placed, marks, bound, written)
 }
 
 // Asks the goals that are to be asked, from the left up to one that is ready, which goes. False where none is ready.
 #[cycle(walking)]
 fn walk_next(
     setting: &Setting<'_>,
-    goals: &[NodeRef<'_>],
-    facts: &[Facts],
+    placed: &PlacedGoals<'_>,
     agenda: &mut Agenda,
     marks: &mut [bool],
     bound: &mut BoundSet,
     written: &mut Written,
 ) -> Result<bool, Fault>
-    requires known { length facts.now ≡ length (all_parts (nodes_of goals.now)) }
-    requires marked { length marks.old ≡ length (all_parts (nodes_of goals.now)) }
+    requires known { length placed.now.facts.now ≡ length (all_parts (nodes_of placed.now.goals.now)) }
+    requires marked { length marks.old ≡ length (all_parts (nodes_of placed.now.goals.now)) }
     requires seen { written.old.seen ≡ [] }
     requires sound { IsSound agenda.old }
-    requires stands { StandAt goals.now agenda.old.starts.items }
+    requires stands { StandAt placed.now.goals.now agenda.old.starts.items }
     ensures extends { OnOk result (Extends bound.old bound.new) }
     ensures sound { OnOk result (IsSound agenda.new) }
     ensures starts { OnOk result (agenda.new.starts ≡ agenda.old.starts) }
-    ensures next { NextOn setting.now.predicates.now goals.now facts.now setting.now.all.now agenda.old agenda.new marks.old marks.new bound.old bound.new written.old written.new result }
+    ensures next { NextOn setting.now.predicates.now placed.now.goals.now placed.now.facts.now setting.now.all.now agenda.old agenda.new marks.old marks.new bound.old bound.new written.old written.new result }
     ensures adds { OnOk result (Adds written.old written.new) }
 {
+    let goals = placed.goals;
     while let Some(index) = agenda.take() {
-        let goal = &goals[index];
         let here = agenda.start(index);
+        let member = Member {
+            goal: &goals[index],
+            facts: placed.facts,
+            here,
+        };
         let known = bound.mark();
-        if walk_member(setting, goal, facts, here, marks, bound, written)? {
+        if walk_member(setting, &member, marks, bound, written)? {
             agenda.await_all(setting.all, index, bound.since(known))?;
             return Ok(true);
         }
@@ -131,63 +135,75 @@ fn walk_next(
     Ok(false)
 }
 
+// A goal of a conjunction.
+#[derive(Clone, Copy)]
+struct Member<'a> {
+    goal: &'a NodeRef<'a>,
+    // what is known of the parts of all goals of the conjunction
+    facts: &'a [Facts],
+    // where it begins
+    here: Start,
+}
+
 // Asks a goal, unless it went, and writes it out if it is ready. Whether it goes now.
 #[cycle(walking)]
 fn walk_member(
     setting: &Setting<'_>,
-    goal: &NodeRef<'_>,
-    facts: &[Facts],
-    here: Start,
+    member: &Member<'_>,
     marks: &mut [bool],
     bound: &mut BoundSet,
     written: &mut Written,
 ) -> Result<bool, Fault>
-    requires known { here.at + length (parts_of goal.now) ≤ length facts.now }
-    requires marked { here.at + length (parts_of goal.now) ≤ length marks.old }
+    requires known { member.now.here.at + length (parts_of member.now.goal.now) ≤ length member.now.facts.now }
+    requires marked { member.now.here.at + length (parts_of member.now.goal.now) ≤ length marks.old }
     requires seen { written.old.seen ≡ [] }
     ensures extends { OnOk result (Extends bound.old bound.new) }
-    ensures asks { AsksOn setting.now.predicates.now goal.now facts.now setting.now.all.now here marks.old marks.new bound.old bound.new written.old written.new result }
+    ensures asks { AsksOn setting.now.predicates.now member.now.goal.now member.now.facts.now setting.now.all.now member.now.here marks.old marks.new bound.old bound.new written.old written.new result }
     ensures adds { OnOk result (Adds written.old written.new) }
 {
-    let end = here.at + goal.part_count();
+    let here = member.here;
+    let end = here.at + member.goal.part_count();
     let own = end - 1;
     if marks[own] {
         return Ok(false);
     }
-    walk_if_ready(
-        setting,
-        goal,
-        &facts[here.at..end],
-        here.place,
-        &mut marks[here.at..end],
-        bound,
-        written,
-    )
+    let placed = PlacedGoal {
+        goal: member.goal,
+        facts: &member.facts[here.at..end],
+        start: here.place,
+    };
+    walk_if_ready(setting, &placed, &mut marks[here.at..end], bound, written)
 }
 
 // Writes a goal out if it is ready, and binds what it binds.
 #[cycle(walking)]
 pub(crate) fn walk_if_ready(
     setting: &Setting<'_>,
-    goal: &NodeRef<'_>,
-    facts: &[Facts],
-    start: usize,
+    placed: &PlacedGoal<'_>,
     marks: &mut [bool],
     bound: &mut BoundSet,
     written: &mut Written,
 ) -> Result<bool, Fault>
-    requires known { length facts.now ≡ length (parts_of goal.now) }
-    requires marked { length marks.old ≡ length (parts_of goal.now) }
+    requires known { length placed.now.facts.now ≡ length (parts_of placed.now.goal.now) }
+    requires marked { length marks.old ≡ length (parts_of placed.now.goal.now) }
     requires seen { written.old.seen ≡ [] }
     ensures extends { OnOk result (Extends bound.old bound.new) }
-    ensures goes { MayGo setting.now.predicates.now goal.now facts.now setting.now.all.now start marks.old marks.new bound.old bound.new written.old written.new result }
+    ensures goes { MayGo setting.now.predicates.now placed.now.goal.now placed.now.facts.now setting.now.all.now placed.now.start marks.old marks.new bound.old bound.new written.old written.new result }
     ensures adds { OnOk result (Adds written.old written.new) }
 {
-    if !advance(setting.alloc, setting.predicates, goal, facts, marks, bound)? {
+    let facts = placed.facts;
+    if !advance(
+        setting.alloc,
+        setting.predicates,
+        placed.goal,
+        facts,
+        marks,
+        bound,
+    )? {
         return Ok(false);
     }
-    walk(setting, goal, facts, start, marks, bound, written)?;
-    let own = goal.part_count() - 1;
+    walk(setting, placed, marks, bound, written)?;
+    let own = placed.goal.part_count() - 1;
     marks[own] = true;
     let found = &facts[own];
     bound.bind_all(found.binds.as_slice())?;
@@ -198,35 +214,31 @@ pub(crate) fn walk_if_ready(
 #[cycle(walking)]
 fn walk_first_left(
     setting: &Setting<'_>,
-    goals: &[NodeRef<'_>],
-    facts: &[Facts],
-    start: usize,
+    placed: &PlacedGoals<'_>,
     marks: &mut [bool],
     bound: &mut BoundSet,
     written: &mut Written,
 ) -> Result<(), Fault>
-    requires known { length facts.now ≡ length (all_parts (nodes_of goals.now)) }
-    requires marked { length marks.old ≡ length (all_parts (nodes_of goals.now)) }
+    requires known { length placed.now.facts.now ≡ length (all_parts (nodes_of placed.now.goals.now)) }
+    requires marked { length marks.old ≡ length (all_parts (nodes_of placed.now.goals.now)) }
     requires seen { written.old.seen ≡ [] }
     ensures same { OnOk result (bound.new ≡ bound.old) }
-    ensures tells { FirstTells setting.now.predicates.now (nodes_of goals.now) facts.now setting.now.all.now start marks.old bound.old written.old written.new result }
+    ensures tells { FirstTells setting.now.predicates.now (nodes_of placed.now.goals.now) placed.now.facts.now setting.now.all.now placed.now.start marks.old bound.old written.old written.new result }
     ensures adds { OnOk result (Adds written.old written.new) }
 {
+    let facts = placed.facts;
     let mut at = 0;
-    let mut place = start;
-    for goal in goals {
+    let mut place = placed.start;
+    for goal in placed.goals {
         let end = at + goal.part_count();
         let own = end - 1;
         if !marks[own] {
-            return walk(
-                setting,
+            let one = PlacedGoal {
                 goal,
-                &facts[at..end],
-                place,
-                &mut marks[at..end],
-                bound,
-                written,
-            );
+                facts: &facts[at..end],
+                start: place,
+            };
+            return walk(setting, &one, &mut marks[at..end], bound, written);
         }
         let found = &facts[own];
         place = setting.all.place_behind(place, found.occurrences);

@@ -5,7 +5,7 @@ ghost use Rattle.merc_goal_order.specs.Linked.{Guards, ClosesOne, Closes, IsCond
 ghost use Rattle.merc_goal_order.specs.Walking.{Orders};
 ghost use Rattle.merc_goal_order.specs.Walks.{AddsOne, AddsTwo};
 
-use crate::walking::{Setting, walk};
+use crate::walking::{PlacedGoal, Setting, walk};
 use merc_base::{Fault, Rule, Span};
 use merc_goal_facts::{BoundSet, Facts};
 use merc_goal_tree::{NodeRef, NodeView};
@@ -28,40 +28,35 @@ pub(crate) struct Link<'a> {
 #[cycle(walking)]
 pub(crate) fn walk_chain(
     setting: &Setting<'_>,
-    goal: &NodeRef<'_>,
-    facts: &[Facts],
-    start: usize,
+    placed: &PlacedGoal<'_>,
     marks: &mut [bool],
     bound: &mut BoundSet,
     written: &mut Written,
 ) -> Result<(), Fault>
-    requires conditional { IsConditional goal.now }
-    requires known { length facts.now ≡ length (parts_of goal.now) }
-    requires marked { length marks.old ≡ length (parts_of goal.now) }
+    requires conditional { IsConditional placed.now.goal.now }
+    requires known { length placed.now.facts.now ≡ length (parts_of placed.now.goal.now) }
+    requires marked { length marks.old ≡ length (parts_of placed.now.goal.now) }
     requires seen { written.old.seen ≡ [] }
     ensures same { OnOk result (bound.new ≡ bound.old) }
-    ensures orders { Orders setting.now.predicates.now goal.now facts.now setting.now.all.now start bound.old written.old written.new result }
+    ensures orders { Orders setting.now.predicates.now placed.now.goal.now placed.now.facts.now setting.now.all.now placed.now.start bound.old written.old written.new result }
     ensures adds { OnOk result (AddsOne written.old written.new) }
 {
     let mut links = Vec::new(setting.alloc);
-    let mut rest = goal.copy();
-    let mut known = facts;
-    let mut place = start;
+    let mut rest = placed.goal.copy();
+    let mut known = placed.facts;
+    let mut place = placed.start;
     while let NodeView::Conditional(condition, then_part, else_part) = rest.view() {
         let count = condition.part_count() + then_part.part_count();
         let last = known.len() - 1;
         let own = &known[last];
-        let next = walk_guard(
-            setting,
-            &condition,
-            &then_part,
-            &known[..count],
+        let guard = Guard {
+            condition: &condition,
+            then_part: &then_part,
+            facts: &known[..count],
             own,
-            place,
-            &mut marks[..count],
-            bound,
-            written,
-        )?;
+            start: place,
+        };
+        let next = walk_guard(setting, &guard, &mut marks[..count], bound, written)?;
         links.push(Link {
             own,
             start: place,
@@ -72,65 +67,66 @@ pub(crate) fn walk_chain(
         rest = else_part;
     }
     let count = known.len();
-    walk(
-        setting,
-        &rest,
-        known,
-        place,
-        &mut marks[..count],
-        bound,
-        written,
-    )?;
+    let ending = PlacedGoal {
+        goal: &rest,
+        facts: known,
+        start: place,
+    };
+    walk(setting, &ending, &mut marks[..count], bound, written)?;
     close_links(setting, links, bound, written)
+}
+
+// The condition and the then part of an if-then-else, which are still to be written.
+#[derive(Clone, Copy)]
+struct Guard<'a> {
+    condition: &'a NodeRef<'a>,
+    then_part: &'a NodeRef<'a>,
+    // what is known of the parts of both
+    facts: &'a [Facts],
+    // what is known of the if-then-else
+    own: &'a Facts,
+    // the place from which on the variables of both occur
+    start: usize,
 }
 
 // Writes the condition and the then part of an if-then-else out. The place behind their variables.
 #[cycle(walking)]
 fn walk_guard(
     setting: &Setting<'_>,
-    condition: &NodeRef<'_>,
-    then_part: &NodeRef<'_>,
-    facts: &[Facts],
-    own: &Facts,
-    start: usize,
+    guard: &Guard<'_>,
     marks: &mut [bool],
     bound: &mut BoundSet,
     written: &mut Written,
 ) -> Result<usize, Fault>
-    requires known { length facts.now ≡ length (parts_of condition.now) + length (parts_of then_part.now) }
-    requires marked { length marks.old ≡ length (parts_of condition.now) + length (parts_of then_part.now) }
+    requires known { length guard.now.facts.now ≡ length (parts_of guard.now.condition.now) + length (parts_of guard.now.then_part.now) }
+    requires marked { length marks.old ≡ length (parts_of guard.now.condition.now) + length (parts_of guard.now.then_part.now) }
     requires seen { written.old.seen ≡ [] }
     ensures same { OnOk result (bound.new ≡ bound.old) }
-    ensures guards { Guards setting.now.predicates.now condition.now then_part.now facts.now own.now setting.now.all.now start bound.old written.old written.new result }
+    ensures guards { Guards setting.now.predicates.now guard.now.condition.now guard.now.then_part.now guard.now.facts.now guard.now.own.now setting.now.all.now guard.now.start bound.old written.old written.new result }
     ensures adds { OnOk result (AddsTwo written.old written.new) }
 {
-    let count = condition.part_count();
-    walk(
-        setting,
-        condition,
-        &facts[..count],
-        start,
-        &mut marks[..count],
-        bound,
-        written,
-    )?;
-    if !bound.are_bound(own.owed_by_condition.as_slice()) {
-        return Err(fault_at(Rule::BindsOuter, condition.span()));
+    let facts = guard.facts;
+    let count = guard.condition.part_count();
+    let condition = PlacedGoal {
+        goal: guard.condition,
+        facts: &facts[..count],
+        start: guard.start,
+    };
+    walk(setting, &condition, &mut marks[..count], bound, written)?;
+    if !bound.are_bound(guard.own.owed_by_condition.as_slice()) {
+        return Err(fault_at(Rule::BindsOuter, guard.condition.span()));
     }
     let last = count - 1;
     let found = &facts[last];
-    let behind = setting.all.place_behind(start, found.occurrences);
+    let behind = setting.all.place_behind(guard.start, found.occurrences);
     let before = bound.mark();
     bound.bind_all(found.binds.as_slice())?;
-    walk(
-        setting,
-        then_part,
-        &facts[count..],
-        behind,
-        &mut marks[count..],
-        bound,
-        written,
-    )?;
+    let then_part = PlacedGoal {
+        goal: guard.then_part,
+        facts: &facts[count..],
+        start: behind,
+    };
+    walk(setting, &then_part, &mut marks[count..], bound, written)?;
     bound.undo(before);
     let end = facts.len() - 1;
     let later = &facts[end];

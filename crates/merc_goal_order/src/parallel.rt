@@ -11,8 +11,8 @@ ghost use Rattle.merc_goal_order.specs.Walking.{Orders};
 ghost use Rattle.merc_goal_order.specs.Walks.{AddsOne, Adds, OrdersAll};
 
 use crate::conjuncts::walk_if_ready;
-use crate::walking::{Setting, clear, walk};
-use merc_base::{Fault, NoMemory, Span};
+use crate::walking::{PlacedGoal, PlacedGoals, Setting, Whole, clear, walk};
+use merc_base::{Fault, NoMemory};
 use merc_goal_facts::{BoundSet, Facts, Occurrences, occurrences_of};
 use merc_goal_tree::{NodeRef, Var};
 use merc_graded_tree::Running;
@@ -28,45 +28,41 @@ use merc_simple_goals::{Written, conjunct_fault, outputs_of};
 pub(crate) fn walk_parallel(
     setting: &Setting<'_>,
     goals: &[NodeRef<'_>],
-    facts: &[Facts],
-    start: usize,
+    whole: &Whole<'_>,
     marks: &mut [bool],
     bound: &mut BoundSet,
     written: &mut Written,
-    span: Span,
 ) -> Result<(), Fault>
-    requires known { length facts.now ≡ length (all_parts (nodes_of goals.now)) + 1 }
+    requires known { length whole.now.facts.now ≡ length (all_parts (nodes_of goals.now)) + 1 }
     requires marked { length marks.old ≡ length (all_parts (nodes_of goals.now)) + 1 }
     requires seen { written.old.seen ≡ [] }
     ensures same { OnOk result (bound.new ≡ bound.old) }
-    ensures orders { Orders setting.now.predicates.now (Parallel (nodes_of goals.now) span) facts.now setting.now.all.now start bound.old written.old written.new result }
+    ensures orders { Orders setting.now.predicates.now (Parallel (nodes_of goals.now) whole.now.span) whole.now.facts.now setting.now.all.now whole.now.start bound.old written.old written.new result }
     ensures adds { OnOk result (AddsOne written.old written.new) }
 {
+    let facts = whole.facts;
     let own = facts.len() - 1;
     let before = written.nodes.len();
     let known = bound.mark();
-    walk_conjuncts(
-        setting,
-        goals,
-        &facts[..own],
-        start,
-        &mut marks[..own],
-        bound,
-        written,
-    )?;
+    let inside = PlacedGoals {
+        goals: &*goals,
+        facts: &facts[..own],
+        start: whole.start,
+    };
+    walk_conjuncts(setting, &inside, &mut marks[..own], bound, written)?;
     bound.undo(known);
     let outputs = outputs_of(
         setting.alloc,
         setting.all,
         &facts[own],
-        start,
+        whole.start,
         bound,
         &mut written.seen,
     )?;
     let count = written.nodes.len() - before;
     written
         .nodes
-        .conjoin(Running::Parallel(None), count, outputs, span)?;
+        .conjoin(Running::Parallel(None), count, outputs, whole.span)?;
     Ok(())
 }
 
@@ -74,46 +70,40 @@ pub(crate) fn walk_parallel(
 #[cycle(walking)]
 fn walk_conjuncts(
     setting: &Setting<'_>,
-    goals: &[NodeRef<'_>],
-    facts: &[Facts],
-    start: usize,
+    placed: &PlacedGoals<'_>,
     marks: &mut [bool],
     bound: &mut BoundSet,
     written: &mut Written,
 ) -> Result<(), Fault>
-    requires known { length facts.now ≡ length (all_parts (nodes_of goals.now)) }
-    requires marked { length marks.old ≡ length (all_parts (nodes_of goals.now)) }
+    requires known { length placed.now.facts.now ≡ length (all_parts (nodes_of placed.now.goals.now)) }
+    requires marked { length marks.old ≡ length (all_parts (nodes_of placed.now.goals.now)) }
     requires seen { written.old.seen ≡ [] }
     ensures extends { OnOk result (Extends bound.old bound.new) }
-    ensures orders { OrdersAll all_beside setting.now.predicates.now (nodes_of goals.now) facts.now setting.now.all.now start bound.old written.old written.new result }
+    ensures orders { OrdersAll all_beside setting.now.predicates.now (nodes_of placed.now.goals.now) placed.now.facts.now setting.now.all.now placed.now.start bound.old written.old written.new result }
     ensures adds { OnOk result (Adds written.old written.new) }
 {
+    let goals = placed.goals;
+    let facts = placed.facts;
     let mut at = 0;
-    let mut place = start;
+    let mut place = placed.start;
     for (index, goal) in goals.iter().enumerate() {
         let end = at + goal.part_count();
         let own = end - 1;
         clear(&mut marks[at..end]);
-        if !walk_if_ready(
-            setting,
+        let one = PlacedGoal {
             goal,
-            &facts[at..end],
-            place,
-            &mut marks[at..end],
-            bound,
-            written,
-        )? {
-            return walk_stuck(
-                setting,
+            facts: &facts[at..end],
+            start: place,
+        };
+        if !walk_if_ready(setting, &one, &mut marks[at..end], bound, written)? {
+            let waiting = Waiting {
                 goal,
-                &goals[index + 1..],
-                &facts[at..],
-                place,
-                &mut marks[at..],
-                bound,
-                written,
-                index + 1,
-            );
+                others: &goals[index + 1..],
+                facts: &facts[at..],
+                start: place,
+                number: index + 1,
+            };
+            return walk_stuck(setting, &waiting, &mut marks[at..], bound, written);
         }
         let found = &facts[own];
         place = setting.all.place_behind(place, found.occurrences);
@@ -122,97 +112,106 @@ fn walk_conjuncts(
     Ok(())
 }
 
-// Walks a goal that is not ready, for its fault. It has this number, and these stand behind it.
+// A goal of a parallel conjunction that is not ready.
+#[derive(Clone, Copy)]
+struct Waiting<'a> {
+    goal: &'a NodeRef<'a>,
+    // the goals that stand behind it
+    others: &'a [NodeRef<'a>],
+    // what is known of its parts, and behind that of those of the others
+    facts: &'a [Facts],
+    // the place from which on its variables occur
+    start: usize,
+    number: usize,
+}
+
+// Walks a goal that is not ready, for its fault.
 #[cycle(walking)]
 fn walk_stuck(
     setting: &Setting<'_>,
-    goal: &NodeRef<'_>,
-    others: &[NodeRef<'_>],
-    facts: &[Facts],
-    start: usize,
+    waiting: &Waiting<'_>,
     marks: &mut [bool],
     bound: &mut BoundSet,
     written: &mut Written,
-    number: usize,
 ) -> Result<(), Fault>
-    requires known { length facts.now ≡ length (parts_of goal.now) + length (all_parts (nodes_of others.now)) }
-    requires marked { length marks.old ≡ length (parts_of goal.now) + length (all_parts (nodes_of others.now)) }
+    requires known { length waiting.now.facts.now ≡ length (parts_of waiting.now.goal.now) + length (all_parts (nodes_of waiting.now.others.now)) }
+    requires marked { length marks.old ≡ length (parts_of waiting.now.goal.now) + length (all_parts (nodes_of waiting.now.others.now)) }
     requires seen { written.old.seen ≡ [] }
-    requires fits { number + length others.now ≤ 18446744073709551615 }
+    requires fits { waiting.now.number + length waiting.now.others.now ≤ 18446744073709551615 }
     ensures same { OnOk result (bound.new ≡ bound.old) }
-    ensures tells { StuckBeside setting.now.predicates.now goal.now (nodes_of others.now) facts.now setting.now.all.now start number bound.old result }
+    ensures tells { StuckBeside setting.now.predicates.now waiting.now.goal.now (nodes_of waiting.now.others.now) waiting.now.facts.now setting.now.all.now waiting.now.start waiting.now.number bound.old result }
     ensures adds { OnOk result (Adds written.old written.new) }
 {
-    let other = needed_by(setting, goal, others, facts, marks, bound, number)?;
-    let own = goal.part_count();
-    let result = walk(
-        setting,
-        goal,
-        &facts[..own],
-        start,
-        &mut marks[..own],
-        bound,
-        written,
-    );
+    let other = needed_by(setting, waiting, marks, bound)?;
+    let facts = waiting.facts;
+    let own = waiting.goal.part_count();
+    let placed = PlacedGoal {
+        goal: waiting.goal,
+        facts: &facts[..own],
+        start: waiting.start,
+    };
+    let result = walk(setting, &placed, &mut marks[..own], bound, written);
     match result {
         Ok(()) => Ok(()),
         Err(fault) => match fault {
             Fault::NoMemory => Err(Fault::NoMemory),
             Fault::Refused(refusal) => {
-                let told = conjunct_fault(number, goal.span(), other, refusal)?;
+                let told = conjunct_fault(waiting.number, waiting.goal.span(), other, refusal)?;
                 Err(Fault::Refused(told))
             }
         },
     }
 }
 
-// The number of the first of these goals behind which the goal with this number is ready.
+// The number of the first of the others behind which the goal is ready.
 fn needed_by(
     setting: &Setting<'_>,
-    goal: &NodeRef<'_>,
-    others: &[NodeRef<'_>],
-    facts: &[Facts],
+    waiting: &Waiting<'_>,
     marks: &mut [bool],
     bound: &mut BoundSet,
-    number: usize,
 ) -> Result<Option<usize>, NoMemory>
-    requires known { length facts.now ≡ length (parts_of goal.now) + length (all_parts (nodes_of others.now)) }
-    requires marked { length marks.old ≡ length (parts_of goal.now) + length (all_parts (nodes_of others.now)) }
-    requires fits { number + length others.now ≤ 18446744073709551615 }
+    requires known { length waiting.now.facts.now ≡ length (parts_of waiting.now.goal.now) + length (all_parts (nodes_of waiting.now.others.now)) }
+    requires marked { length marks.old ≡ length (parts_of waiting.now.goal.now) + length (all_parts (nodes_of waiting.now.others.now)) }
+    requires fits { waiting.now.number + length waiting.now.others.now ≤ 18446744073709551615 }
     ensures same { OnOk result (bound.new ≡ bound.old) }
-    ensures needs { IfOk result (λ other. Needs setting.now.predicates.now goal.now (nodes_of others.now) facts.now number bound.old other) }
+    ensures needs { IfOk result (λ other. Needs setting.now.predicates.now waiting.now.goal.now (nodes_of waiting.now.others.now) waiting.now.facts.now waiting.now.number bound.old other) }
 {
-    let inside = occurrences_of(setting.alloc, &[], goal)?;
-    first_freeing(setting, goal, others, facts, marks, bound, number, &inside)
+    let inside = occurrences_of(setting.alloc, &[], waiting.goal)?;
+    first_freeing(setting, waiting, marks, bound, &inside)
 }
 
-// The number of the first of these goals behind which the goal with this number is ready, in which these variables occur.
+// The number of the first of the others behind which the goal is ready, in which these variables occur.
 fn first_freeing(
     setting: &Setting<'_>,
-    goal: &NodeRef<'_>,
-    others: &[NodeRef<'_>],
-    facts: &[Facts],
+    waiting: &Waiting<'_>,
     marks: &mut [bool],
     bound: &mut BoundSet,
-    number: usize,
     inside: &Occurrences,
 ) -> Result<Option<usize>, NoMemory>
-    requires known { length facts.now ≡ length (parts_of goal.now) + length (all_parts (nodes_of others.now)) }
-    requires marked { length marks.old ≡ length (parts_of goal.now) + length (all_parts (nodes_of others.now)) }
-    requires fits { number + length others.now ≤ 18446744073709551615 }
-    requires occurs { inside.now ≡ variables goal.now }
+    requires known { length waiting.now.facts.now ≡ length (parts_of waiting.now.goal.now) + length (all_parts (nodes_of waiting.now.others.now)) }
+    requires marked { length marks.old ≡ length (parts_of waiting.now.goal.now) + length (all_parts (nodes_of waiting.now.others.now)) }
+    requires fits { waiting.now.number + length waiting.now.others.now ≤ 18446744073709551615 }
+    requires occurs { inside.now ≡ variables waiting.now.goal.now }
     ensures same { OnOk result (bound.new ≡ bound.old) }
-    ensures needs { IfOk result (λ other. Needs setting.now.predicates.now goal.now (nodes_of others.now) facts.now number bound.old other) }
+    ensures needs { IfOk result (λ other. Needs setting.now.predicates.now waiting.now.goal.now (nodes_of waiting.now.others.now) waiting.now.facts.now waiting.now.number bound.old other) }
 {
-    let own = goal.part_count();
-    let ready = is_ready(setting, goal, &facts[..own], &mut marks[..own], bound)?;
+    let others = waiting.others;
+    let facts = waiting.facts;
+    let own = waiting.goal.part_count();
+    let ready = is_ready(
+        setting,
+        waiting.goal,
+        &facts[..own],
+        &mut marks[..own],
+        bound,
+    )?;
     let mut at = own;
     for (index, later) in others.iter().enumerate() {
         let end = at + later.part_count();
         if can_free(ready, inside, &facts[end - 1], bound)
-            && is_freed_by(setting, goal, later, facts, at, marks, bound)?
+            && is_freed_by(setting, waiting, later, at, marks, bound)?
         {
-            return Ok(Some(number + 1 + index));
+            return Ok(Some(waiting.number + 1 + index));
         }
         at = end;
     }
@@ -246,23 +245,22 @@ fn occurs(inside: &Occurrences, variable: Var) -> bool
     inside.is_outside(0, 0, variable)
 }
 
-// Whether another goal is ready, and the goal is ready behind it. The parts of the goal stand first, those of the other
-// from this index on.
+// Whether this one of the others is ready, and the goal is ready behind it. What is known of its parts begins at this index.
 fn is_freed_by(
     setting: &Setting<'_>,
-    goal: &NodeRef<'_>,
+    waiting: &Waiting<'_>,
     later: &NodeRef<'_>,
-    facts: &[Facts],
     at: usize,
     marks: &mut [bool],
     bound: &mut BoundSet,
 ) -> Result<bool, NoMemory>
-    requires first { length (parts_of goal.now) ≤ at }
-    requires known { at + length (parts_of later.now) ≤ length facts.now }
+    requires first { length (parts_of waiting.now.goal.now) ≤ at }
+    requires known { at + length (parts_of later.now) ≤ length waiting.now.facts.now }
     requires marked { at + length (parts_of later.now) ≤ length marks.old }
     ensures same { OnOk result (bound.new ≡ bound.old) }
-    ensures frees { IfOk result (λ freed. FreedBy setting.now.predicates.now goal.now later.now facts.now at bound.old freed) }
+    ensures frees { IfOk result (λ freed. FreedBy setting.now.predicates.now waiting.now.goal.now later.now waiting.now.facts.now at bound.old freed) }
 {
+    let facts = waiting.facts;
     let end = at + later.part_count();
     if !is_ready(setting, later, &facts[at..end], &mut marks[at..end], bound)? {
         return Ok(false);
@@ -270,8 +268,14 @@ fn is_freed_by(
     let known = bound.mark();
     let found = &facts[end - 1];
     bound.bind_all(found.binds.as_slice())?;
-    let own = goal.part_count();
-    let freed = is_ready(setting, goal, &facts[..own], &mut marks[..own], bound)?;
+    let own = waiting.goal.part_count();
+    let freed = is_ready(
+        setting,
+        waiting.goal,
+        &facts[..own],
+        &mut marks[..own],
+        bound,
+    )?;
     bound.undo(known);
     Ok(freed)
 }

@@ -26,6 +26,43 @@ pub(crate) struct Setting<'a> {
     pub(crate) all: &'a Places,
 }
 
+/// A goal of the body.
+#[derive(Clone, Copy)]
+pub(crate) struct PlacedGoal<'a> {
+    pub(crate) goal: &'a NodeRef<'a>,
+    /// What is known of its parts, and last of itself.
+    pub(crate) facts: &'a [Facts],
+    /// The place from which on its variables occur.
+    pub(crate) start: usize,
+}
+
+/// Goals of the body, one behind the other.
+#[derive(Clone, Copy)]
+pub(crate) struct PlacedGoals<'a> {
+    pub(crate) goals: &'a [NodeRef<'a>],
+    /// What is known of their parts.
+    pub(crate) facts: &'a [Facts],
+    /// The place from which on their variables occur.
+    pub(crate) start: usize,
+}
+
+/// A goal of the body, without the goals that it joins.
+#[derive(Clone, Copy)]
+pub(crate) struct Whole<'a> {
+    /// What is known of its parts, and last of itself.
+    pub(crate) facts: &'a [Facts],
+    /// The place from which on its variables occur.
+    pub(crate) start: usize,
+    pub(crate) span: Span,
+}
+
+// Variables that a goal has for itself, and that goal.
+#[derive(Clone, Copy)]
+struct Scope<'a> {
+    own: &'a Vars,
+    inner: &'a NodeRef<'a>,
+}
+
 /// Writes a goal out behind others, in its order from what is bound, with fresh variables and tests. `facts` are those of
 /// the goal's parts, and `all` are the variables of its body: the goal's own occur from `start` on. What is bound is the
 /// same behind it.
@@ -54,12 +91,13 @@ pub fn order_goal(
         predicates,
         all,
     };
+    let placed = PlacedGoal { goal, facts, start };
     let mut marks = vec![in alloc; false; facts.len()]?;
-    walk(&setting, goal, facts, start, &mut marks, bound, written)
+    walk(&setting, &placed, &mut marks, bound, written)
 }
 
-/// Writes a goal out in its order from what is bound. Its variables occur from `start` on. The marks say nothing before
-/// and after; what is bound is the same behind it.
+/// Writes a goal out in its order from what is bound. The marks say nothing before and after; what is bound is the same
+/// behind it.
 ///
 /// It calls itself for the goals that a goal joins. The else parts of an if-then-else are gone through by a loop.
 ///
@@ -69,22 +107,20 @@ pub fn order_goal(
 #[cycle(walking)]
 pub(crate) fn walk(
     setting: &Setting<'_>,
-    goal: &NodeRef<'_>,
-    facts: &[Facts],
-    start: usize,
+    placed: &PlacedGoal<'_>,
     marks: &mut [bool],
     bound: &mut BoundSet,
     written: &mut Written,
 ) -> Result<(), Fault>
-    requires known { length facts.now ≡ length (parts_of goal.now) }
-    requires marked { length marks.old ≡ length (parts_of goal.now) }
+    requires known { length placed.now.facts.now ≡ length (parts_of placed.now.goal.now) }
+    requires marked { length marks.old ≡ length (parts_of placed.now.goal.now) }
     requires seen { written.old.seen ≡ [] }
     ensures same { OnOk result (bound.new ≡ bound.old) }
-    ensures orders { Orders setting.now.predicates.now goal.now facts.now setting.now.all.now start bound.old written.old written.new result }
+    ensures orders { Orders setting.now.predicates.now placed.now.goal.now placed.now.facts.now setting.now.all.now placed.now.start bound.old written.old written.new result }
     ensures adds { OnOk result (AddsOne written.old written.new) }
 {
     bound.enter()?;
-    let walked = walk_parts(setting, goal, facts, start, marks, bound, written);
+    let walked = walk_parts(setting, placed, marks, bound, written);
     bound.leave();
     walked
 }
@@ -93,47 +129,45 @@ pub(crate) fn walk(
 #[cycle(walking)]
 fn walk_parts(
     setting: &Setting<'_>,
-    goal: &NodeRef<'_>,
-    facts: &[Facts],
-    start: usize,
+    placed: &PlacedGoal<'_>,
     marks: &mut [bool],
     bound: &mut BoundSet,
     written: &mut Written,
 ) -> Result<(), Fault>
-    requires known { length facts.now ≡ length (parts_of goal.now) }
-    requires marked { length marks.old ≡ length (parts_of goal.now) }
+    requires known { length placed.now.facts.now ≡ length (parts_of placed.now.goal.now) }
+    requires marked { length marks.old ≡ length (parts_of placed.now.goal.now) }
     requires seen { written.old.seen ≡ [] }
     ensures same { OnOk result (bound.new ≡ bound.old) }
-    ensures orders { Orders setting.now.predicates.now goal.now facts.now setting.now.all.now start bound.old written.old written.new result }
+    ensures orders { Orders setting.now.predicates.now placed.now.goal.now placed.now.facts.now setting.now.all.now placed.now.start bound.old written.old written.new result }
     ensures adds { OnOk result (AddsOne written.old written.new) }
 {
-    let span = goal.span();
-    match goal.view() {
-        NodeView::Simple(simple) => {
-            walk_simple(setting, simple, facts, start, bound, written, span)
-        }
+    let span = placed.goal.span();
+    let whole = Whole {
+        facts: placed.facts,
+        start: placed.start,
+        span,
+    };
+    match placed.goal.view() {
+        NodeView::Simple(simple) => walk_simple(setting, simple, &whole, bound, written),
         NodeView::Conjunction(goals) => {
             let goals = members(setting.alloc, goals)?;
-            walk_conjunction(setting, &goals, facts, start, marks, bound, written, span)
+            walk_conjunction(setting, &goals, &whole, marks, bound, written)
         }
         NodeView::Parallel(goals) => {
             let goals = members(setting.alloc, goals)?;
-            walk_parallel(setting, &goals, facts, start, marks, bound, written, span)
+            walk_parallel(setting, &goals, &whole, marks, bound, written)
         }
         NodeView::Disjunction(arms) => {
             let arms = members(setting.alloc, arms)?;
-            walk_disjunction(setting, &arms, facts, start, marks, bound, written, span)
+            walk_disjunction(setting, &arms, &whole, marks, bound, written)
         }
-        NodeView::Conditional(_, _, _) => {
-            walk_chain(setting, goal, facts, start, marks, bound, written)
-        }
+        NodeView::Conditional(_, _, _) => walk_chain(setting, placed, marks, bound, written),
         NodeView::Negation(inner) => {
-            walk_negation(setting, &inner, facts, start, marks, bound, written, span)
+            walk_negation(setting, &inner, &whole, marks, bound, written)
         }
         NodeView::Quantified(own, inner) => {
-            walk_quantified(
-                setting, own, &inner, facts, start, marks, bound, written, span,
-            )
+            let scope = Scope { own, inner: &inner };
+            walk_quantified(setting, &scope, &whole, marks, bound, written)
         }
     }
 }
@@ -142,23 +176,22 @@ fn walk_parts(
 fn walk_simple(
     setting: &Setting<'_>,
     goal: &SimpleGoal,
-    facts: &[Facts],
-    start: usize,
+    whole: &Whole<'_>,
     bound: &BoundSet,
     written: &mut Written,
-    span: Span,
 ) -> Result<(), Fault>
-    requires known { length facts.now ≡ 1 }
+    requires known { length whole.now.facts.now ≡ 1 }
     requires seen { written.old.seen ≡ [] }
-    ensures orders { Orders setting.now.predicates.now (Simple goal.now span) facts.now setting.now.all.now start bound.now written.old written.new result }
+    ensures orders { Orders setting.now.predicates.now (Simple goal.now whole.now.span) whole.now.facts.now setting.now.all.now whole.now.start bound.now written.old written.new result }
     ensures adds { OnOk result (AddsOne written.old written.new) }
 {
+    let facts = whole.facts;
     let own = &facts[0];
     let outputs = outputs_of(
         setting.alloc,
         setting.all,
         own,
-        start,
+        whole.start,
         bound,
         &mut written.seen,
     )?;
@@ -167,7 +200,7 @@ fn walk_simple(
         setting.predicates,
         goal,
         outputs,
-        span,
+        whole.span,
         bound,
         written,
     )
@@ -178,35 +211,31 @@ fn walk_simple(
 fn walk_negation(
     setting: &Setting<'_>,
     inner: &NodeRef<'_>,
-    facts: &[Facts],
-    start: usize,
+    whole: &Whole<'_>,
     marks: &mut [bool],
     bound: &mut BoundSet,
     written: &mut Written,
-    span: Span,
 ) -> Result<(), Fault>
-    requires known { length facts.now ≡ length (parts_of inner.now) + 1 }
+    requires known { length whole.now.facts.now ≡ length (parts_of inner.now) + 1 }
     requires marked { length marks.old ≡ length (parts_of inner.now) + 1 }
     requires seen { written.old.seen ≡ [] }
     ensures same { OnOk result (bound.new ≡ bound.old) }
-    ensures orders { Orders setting.now.predicates.now (Negation inner.now span) facts.now setting.now.all.now start bound.old written.old written.new result }
+    ensures orders { Orders setting.now.predicates.now (Negation inner.now whole.now.span) whole.now.facts.now setting.now.all.now whole.now.start bound.old written.old written.new result }
     ensures adds { OnOk result (AddsOne written.old written.new) }
 {
+    let facts = whole.facts;
     let own = inner.part_count();
-    walk(
-        setting,
-        inner,
-        &facts[..own],
-        start,
-        &mut marks[..own],
-        bound,
-        written,
-    )?;
+    let inside = PlacedGoal {
+        goal: &*inner,
+        facts: &facts[..own],
+        start: whole.start,
+    };
+    walk(setting, &inside, &mut marks[..own], bound, written)?;
     let found = &facts[own];
     if !bound.are_bound(found.owed.as_slice()) {
-        return Err(fault_at(Rule::BindsOuter, span));
+        return Err(fault_at(Rule::BindsOuter, whole.span));
     }
-    written.nodes.negate(Vars::new(setting.alloc), span)?;
+    written.nodes.negate(Vars::new(setting.alloc), whole.span)?;
     Ok(())
 }
 
@@ -214,42 +243,37 @@ fn walk_negation(
 #[cycle(walking)]
 fn walk_quantified(
     setting: &Setting<'_>,
-    own: &Vars,
-    inner: &NodeRef<'_>,
-    facts: &[Facts],
-    start: usize,
+    scope: &Scope<'_>,
+    whole: &Whole<'_>,
     marks: &mut [bool],
     bound: &mut BoundSet,
     written: &mut Written,
-    span: Span,
 ) -> Result<(), Fault>
-    requires known { length facts.now ≡ length (parts_of inner.now) + 1 }
-    requires marked { length marks.old ≡ length (parts_of inner.now) + 1 }
+    requires known { length whole.now.facts.now ≡ length (parts_of scope.now.inner.now) + 1 }
+    requires marked { length marks.old ≡ length (parts_of scope.now.inner.now) + 1 }
     requires seen { written.old.seen ≡ [] }
     ensures same { OnOk result (bound.new ≡ bound.old) }
-    ensures orders { Orders setting.now.predicates.now (Quantified own.now inner.now span) facts.now setting.now.all.now start bound.old written.old written.new result }
+    ensures orders { Orders setting.now.predicates.now (Quantified scope.now.own.now scope.now.inner.now whole.now.span) whole.now.facts.now setting.now.all.now whole.now.start bound.old written.old written.new result }
     ensures adds { OnOk result (AddsOne written.old written.new) }
 {
-    let last = inner.part_count();
-    walk(
-        setting,
-        inner,
-        &facts[..last],
-        start,
-        &mut marks[..last],
-        bound,
-        written,
-    )?;
+    let facts = whole.facts;
+    let last = scope.inner.part_count();
+    let inside = PlacedGoal {
+        goal: &*scope.inner,
+        facts: &facts[..last],
+        start: whole.start,
+    };
+    walk(setting, &inside, &mut marks[..last], bound, written)?;
     let outputs = outputs_of(
         setting.alloc,
         setting.all,
         &facts[last],
-        start,
+        whole.start,
         bound,
         &mut written.seen,
     )?;
-    let own = own.try_clone(setting.alloc)?;
-    written.nodes.quantify(own, outputs, span)?;
+    let own = scope.own.try_clone(setting.alloc)?;
+    written.nodes.quantify(own, outputs, whole.span)?;
     Ok(())
 }
 

@@ -49,8 +49,8 @@ conjuncts::walk_conjunction-walk_rounds-requires t c =
     let size = length (all_parts (nodes_of c.args.goals.now)) in (
       omega arith,
       (
-        front_length c.args.facts.now (length c.args.facts.now - 1) size 1 c.requires.known (omega (arith, c.requires.known)),
-        (front_length c.args.marks.now (length c.args.facts.now - 1) size 1 c.requires.marked (omega (arith, c.requires.known)), c.requires.seen),
+        front_length c.args.whole.now.facts.now (length c.args.whole.now.facts.now - 1) size 1 c.requires.known (omega (arith, c.requires.known)),
+        (front_length c.args.marks.now (length c.args.whole.now.facts.now - 1) size 1 c.requires.marked (omega (arith, c.requires.known)), c.requires.seen),
       ),
     )
 
@@ -65,7 +65,7 @@ conjuncts::walk_conjunction-returns-clause-adds t c = record {
   more =
       let count = c.len.result - c.len-before.result in
       let long : length c.conjoin.new.self + count ≡ length c.walk_rounds.new.written.nodes + 1 =
-      joined_length (ConjunctionRoot Sequential count) c.in_ok-outputs.outputs c.args.span c.walk_rounds.new.written.nodes c.conjoin.new.self (omega (arith, c.len.ensures)) c.in_ok-conjoin.ensures.ok in
+      joined_length (ConjunctionRoot Sequential count) c.in_ok-outputs.outputs c.args.whole.now.span c.walk_rounds.new.written.nodes c.conjoin.new.self (omega (arith, c.len.ensures)) c.in_ok-conjoin.ensures.ok in
       omega (arith, long, c.len.ensures, c.len-before.ensures, c.in_ok-walk_rounds.ensures.adds.more);
   cleared = c.in_ok-outputs.ensures.cleared;
 }
@@ -79,24 +79,24 @@ conjuncts::walk_conjunction-returns-in_err-walk_rounds-clause-orders t c =
     rw (p.1, p.2) (λ total known stretch.
     let modes = modes_of c.args.setting.now.predicates.now in
     let goals = nodes_of c.args.goals.now in
-    let own : length c.args.facts.now - 1 ≡ length (all_subgoals goals) = omega (arith, c.requires.known, all_subgoals_length goals) in
-    let k = known_parts total modes (all_subgoals goals) (Conjunction goals c.args.span) c.args.facts.now (length c.args.facts.now - 1) known own in
-    conjunction_stuck total modes goals c.args.span (among c.args.bound.now) c.args.written.now c.walk_rounds.new.written c.walk_rounds.new.written c.in_err-walk_rounds.field-0.0
+    let own : length c.args.whole.now.facts.now - 1 ≡ length (all_subgoals goals) = omega (arith, c.requires.known, all_subgoals_length goals) in
+    let k = known_parts total modes (all_subgoals goals) (Conjunction goals c.args.whole.now.span) c.args.whole.now.facts.now (length c.args.whole.now.facts.now - 1) known own in
+    conjunction_stuck total modes goals c.args.whole.now.span (among c.args.bound.now) c.args.written.now c.walk_rounds.new.written c.walk_rounds.new.written c.in_err-walk_rounds.field-0.0
     (c.in_err-walk_rounds.ensures.orders total k stretch))
 
 pub conjuncts::walk_conjunction-returns-clause-orders : goal.conjuncts::walk_conjunction-returns-clause-orders
 conjuncts::walk_conjunction-returns-clause-orders t c = λ total known stretch.
     let modes = modes_of c.args.setting.now.predicates.now in
     let goals = nodes_of c.args.goals.now in
-    let goal : Node = Conjunction goals c.args.span in
-    let own : length c.args.facts.now - 1 ≡ length (all_subgoals goals) = omega (arith, c.requires.known, all_subgoals_length goals) in
-    let k = known_parts total modes (all_subgoals goals) goal c.args.facts.now (length c.args.facts.now - 1) known own in
-    let f = known_own total modes (all_subgoals goals) goal c.args.facts.now (length c.args.facts.now - 1) c.index-facts-own.result known own c.index-facts-own.is in
+    let goal : Node = Conjunction goals c.args.whole.now.span in
+    let own : length c.args.whole.now.facts.now - 1 ≡ length (all_subgoals goals) = omega (arith, c.requires.known, all_subgoals_length goals) in
+    let k = known_parts total modes (all_subgoals goals) goal c.args.whole.now.facts.now (length c.args.whole.now.facts.now - 1) known own in
+    let f = known_own total modes (all_subgoals goals) goal c.args.whole.now.facts.now (length c.args.whole.now.facts.now - 1) c.index-facts-own.result known own c.index-facts-own.is in
     let same : c.undo.new.self ≡ c.args.bound.now = undone_is c.args.bound.now c.walk_rounds.new.bound c.undo.new.self c.mark-known.result c.in_ok-walk_rounds.ensures.extends c.mark-known.ensures c.undo.ensures in
     let outs : c.in_ok-outputs.outputs ≡ outputs_of total modes (among c.args.bound.now) goal =
     c.in_ok-outputs.ensures.outputs total modes goal f stretch ∙ ap (λ b. outputs_of total modes (among b) goal) same in
     let new : Written = record { nodes = c.conjoin.new.self; fresh = c.walk_rounds.new.written.fresh; seen = c.outputs_of.new.seen } in
-    conjunction_ready total modes goals c.args.span (among c.args.bound.now) (c.len.result - c.len-before.result) c.in_ok-outputs.outputs c.args.written.now c.walk_rounds.new.written new
+    conjunction_ready total modes goals c.args.whole.now.span (among c.args.bound.now) (c.len.result - c.len-before.result) c.in_ok-outputs.outputs c.args.written.now c.walk_rounds.new.written new
     c.in_ok-walk_rounds.field-0 (c.in_ok-walk_rounds.ensures.orders total k stretch) outs
     (ap (λ n. n - c.len-before.result) c.len.ensures ∙ ap (λ n. length c.walk_rounds.new.written.nodes - n) c.len-before.ensures)
     c.in_ok-conjoin.ensures.ok refl (c.in_ok-outputs.ensures.cleared ∙ sym c.in_ok-walk_rounds.ensures.adds.cleared)
@@ -113,7 +113,7 @@ conjuncts::walk_rounds-loop-round-init t c = record {
   placed = c.in_ok-agenda.ensures.placed;
   amid = λ total known stretch.
       let modes = modes_of c.args.setting.now.predicates.now in
-      let goals = c.args.goals.now in
+      let goals = c.args.placed.now.goals.now in
       fewer_by total modes goals (all_settled (moves total modes (nodes_of goals)) (among c.args.bound.now)) (awaits c.in_ok-agenda.agenda) c.clear.new.marks (among c.args.bound.now) c.args.written.now c.args.written.now
       (length goals) (length goals + 1 - 1) (omega arith)
       (rounds_first total modes goals (awaits c.in_ok-agenda.agenda) c.clear.new.marks (among c.args.bound.now) c.args.written.now (length c.args.marks.now) c.clear.ensures c.requires.marked c.in_ok-agenda.ensures.fresh);
@@ -124,26 +124,26 @@ conjuncts::walk_rounds-returns-in_err-walk_next-clause-orders t c =
     let p = err_from_is_err_and c.from_residual-in_err-walk_next.result c.from_residual-in_err-walk_next.ensures.1 in
     rw (p.1, p.2) (λ total known stretch.
     let modes = modes_of c.args.setting.now.predicates.now in
-    let goals = c.args.goals.now in
+    let goals = c.args.placed.now.goals.now in
     let whole = all_settled (moves total modes (nodes_of goals)) (among c.args.bound.now) in
     let less = length goals - c.loop-round._round in
     let i = c.loop-round.invariant in
     let now = fewer_by total modes goals whole (awaits c.loop-round.agenda) c.loop-round.marks (among c.loop-round.bound) c.args.written.now c.loop-round.written (length goals + 1 - c.loop-round._round) (suc less)
     (omega (arith, c.loop-round-test.true)) (i.amid total known stretch) in
     rounds_err total modes goals whole (awaits c.walk_next.new.agenda) c.walk_next.new.marks (among c.walk_next.new.bound) c.args.written.now c.walk_next.new.written c.walk_next.new.written less c.in_err-walk_next.field-0.0
-    (c.in_err-walk_next.ensures.next total c.args.start whole c.args.written.now less known stretch i.placed now))
+    (c.in_err-walk_next.ensures.next total c.args.placed.now.start whole c.args.written.now less known stretch i.placed now))
 
 pub conjuncts::walk_rounds-loop-round-preserved : goal.conjuncts::walk_rounds-loop-round-preserved
 conjuncts::walk_rounds-loop-round-preserved t c =
     let i = c.loop-round.invariant in
-    let goals = c.args.goals.now in
+    let goals = c.args.placed.now.goals.now in
     let same = ap (λ (v : Vec Start Global). v.items) (sym c.in_ok-walk_next.ensures.starts) in
     record {
       extends = extends_on c.args.bound.now c.loop-round.bound c.walk_next.new.bound i.extends c.in_ok-walk_next.ensures.extends;
       adds = record { more = omega (arith, i.adds.more, c.in_ok-walk_next.ensures.adds.more); cleared = c.in_ok-walk_next.ensures.adds.cleared };
       sound = c.in_ok-walk_next.ensures.sound;
       stands = subst (λ l. StandAt goals l) same i.stands;
-      placed = subst (λ l. ArePlaced c.args.start goals c.args.facts.now c.args.setting.now.all.now l) same i.placed;
+      placed = subst (λ l. ArePlaced c.args.placed.now.start goals c.args.placed.now.facts.now c.args.setting.now.all.now l) same i.placed;
       amid = λ total known stretch.
           let modes = modes_of c.args.setting.now.predicates.now in
           let whole = all_settled (moves total modes (nodes_of goals)) (among c.args.bound.now) in
@@ -153,13 +153,13 @@ conjuncts::walk_rounds-loop-round-preserved t c =
           fewer_by total modes goals whole (awaits c.walk_next.new.agenda) c.walk_next.new.marks (among c.walk_next.new.bound) c.args.written.now c.walk_next.new.written less
           (length goals + 1 - (c.loop-round._round + 1)) (omega arith)
           (subst (λ b. NextGives total modes goals whole (awaits c.walk_next.new.agenda) c.walk_next.new.marks (among c.walk_next.new.bound) c.args.written.now c.walk_next.new.written less (Ok b)) c.if-not-branch.false
-          (c.in_ok-walk_next.ensures.next total c.args.start whole c.args.written.now less known stretch i.placed now));
+          (c.in_ok-walk_next.ensures.next total c.args.placed.now.start whole c.args.written.now less known stretch i.placed now));
     }
 
 pub conjuncts::walk_rounds-returns-clause-orders : goal.conjuncts::walk_rounds-returns-clause-orders
 conjuncts::walk_rounds-returns-clause-orders t c = λ total known stretch.
     let modes = modes_of c.args.setting.now.predicates.now in
-    let goals = c.args.goals.now in
+    let goals = c.args.placed.now.goals.now in
     let whole = all_settled (moves total modes (nodes_of goals)) (among c.args.bound.now) in
     let i = c.loop-round.invariant in
     let tells = λ (marked : Marked) (fits : Fits (nodes_of goals) marked) (flags : c.loop-round-test.marks ≡ flags_of marked). c.walk_first_left.ensures.tells total marked fits flags known stretch in
@@ -175,7 +175,7 @@ conjuncts::walk_rounds-returns-clause-orders t c = λ total known stretch.
           let now = fewer_by total modes goals whole (awaits c.loop-round.agenda) c.loop-round.marks (among c.loop-round.bound) c.args.written.now c.loop-round.written (length goals + 1 - c.loop-round._round) (suc less)
           (omega (arith, w.loop-round-test.true)) (i.amid total known stretch) in
           let none = subst (λ b. NextGives total modes goals whole (awaits w.walk_next.new.agenda) w.walk_next.new.marks (among w.walk_next.new.bound) c.args.written.now w.walk_next.new.written less (Ok b)) w.if-not-branch.true
-          (w.in_ok-walk_next.ensures.next total c.args.start whole c.args.written.now less known stretch i.placed now) in
+          (w.in_ok-walk_next.ensures.next total c.args.placed.now.start whole c.args.written.now less known stretch i.placed now) in
           end_told total modes goals whole nothing c.loop-round-test.marks (among c.loop-round-test.bound) c.args.written.now c.loop-round-test.written c.walk_first_left.new.written (suc less) c.walk_first_left.result
           (amid_at total modes goals whole nothing w.walk_next.new.marks c.loop-round-test.marks w.walk_next.new.bound c.loop-round-test.bound c.args.written.now w.walk_next.new.written c.loop-round-test.written
           (suc less) w.marks-is w.bound-is w.written-is none)
@@ -195,15 +195,15 @@ conjuncts::walk_next-loop-index-init t c = record {
 
 pub conjuncts::walk_next-bounds-goals-index : goal.conjuncts::walk_next-bounds-goals-index
 conjuncts::walk_next-bounds-goals-index t c =
-    let stands = subst (λ (v : Vec Start Global). StandAt c.args.goals.now v.items) (sym (c.take.ensures.starts ∙ c.loop-index.invariant.starts)) c.requires.stands in
-    within_goals c.args.goals.now c.take.new.self.starts.items c.in-Some.index c.take.new.self.asked stands c.in-Some.ensures.some c.take.ensures.sound.room
+    let stands = subst (λ (v : Vec Start Global). StandAt c.args.placed.now.goals.now v.items) (sym (c.take.ensures.starts ∙ c.loop-index.invariant.starts)) c.requires.stands in
+    within_goals c.args.placed.now.goals.now c.take.new.self.starts.items c.in-Some.index c.take.new.self.asked stands c.in-Some.ensures.some c.take.ensures.sound.room
 
 pub conjuncts::walk_next-start-here-requires : goal.conjuncts::walk_next-start-here-requires
 conjuncts::walk_next-start-here-requires t c = omega (arith, c.in-Some.ensures.some, c.take.ensures.sound.room)
 
 pub conjuncts::walk_next-walk_member-requires : goal.conjuncts::walk_next-walk_member-requires
 conjuncts::walk_next-walk_member-requires t c =
-    let goals = c.args.goals.now in
+    let goals = c.args.placed.now.goals.now in
     let index = c.in-Some.index in
     let stands = subst (λ (v : Vec Start Global). StandAt goals v.items) (sym (c.take.ensures.starts ∙ c.loop-index.invariant.starts)) c.requires.stands in
     let room = within_goals goals c.take.new.self.starts.items index c.take.new.self.asked stands c.in-Some.ensures.some c.take.ensures.sound.room in
@@ -215,7 +215,7 @@ conjuncts::walk_next-walk_member-requires t c =
 pub conjuncts::walk_next-loop-index-preserved : goal.conjuncts::walk_next-loop-index-preserved
 conjuncts::walk_next-loop-index-preserved t c =
     let i = c.loop-index.invariant in
-    let goals = c.args.goals.now in
+    let goals = c.args.placed.now.goals.now in
     let index = c.in-Some.index in
     let goal = c.index-goals-index.result in
     let starts = c.take.ensures.starts ∙ i.starts in
@@ -243,7 +243,7 @@ conjuncts::walk_next-returns-in_err-walk_member-clause-next t c =
     rw (p.1, p.2) (λ total start whole old less known stretch placed amid.
     let i = c.loop-index.invariant in
     let modes = modes_of c.args.setting.now.predicates.now in
-    let goals = c.args.goals.now in
+    let goals = c.args.placed.now.goals.now in
     let index = c.in-Some.index in
     let goal = c.index-goals-index.result in
     let starts = c.take.ensures.starts ∙ i.starts in
@@ -262,7 +262,7 @@ pub conjuncts::walk_next-returns-then-branch-clause-next : goal.conjuncts::walk_
 conjuncts::walk_next-returns-then-branch-clause-next t c = λ total start whole old less known stretch placed amid.
     let i = c.loop-index.invariant in
     let modes = modes_of c.args.setting.now.predicates.now in
-    let goals = c.args.goals.now in
+    let goals = c.args.placed.now.goals.now in
     let index = c.in-Some.index in
     let goal = c.index-goals-index.result in
     let starts = c.take.ensures.starts ∙ i.starts in
@@ -282,7 +282,7 @@ conjuncts::walk_next-returns-then-branch-clause-next t c = λ total start whole 
 pub conjuncts::walk_next-returns-clause-next : goal.conjuncts::walk_next-returns-clause-next
 conjuncts::walk_next-returns-clause-next t c = λ total start whole old less known stretch placed amid.
     let i = c.loop-index.invariant in
-    let goals = c.args.goals.now in
+    let goals = c.args.placed.now.goals.now in
     let long : length c.loop-index.agenda.starts.items ≡ suc (length goals) = ap (λ (v : Vec Start Global). length v.items) i.starts ∙ c.requires.stands.0 in
     none_awaited total (modes_of c.args.setting.now.predicates.now) goals whole (awaits c.loop-index.agenda) c.loop-index.marks (among c.loop-index.bound) old c.loop-index.written (suc less)
     (i.amid total start whole old less known stretch placed amid) (λ index h. c.in_default.ensures.none index (omega (arith, h, long)))
@@ -291,41 +291,41 @@ conjuncts::walk_next-returns-clause-next t c = λ total start whole old less kno
 
 pub conjuncts::walk_member-walk_if_ready-requires : goal.conjuncts::walk_member-walk_if_ready-requires
 conjuncts::walk_member-walk_if_ready-requires t c =
-    let size = length (parts_of c.args.goal.now) in (
+    let size = length (parts_of c.args.member.now.goal.now) in (
       omega arith,
       (
-        part_length c.args.facts.now c.args.here.at c.part_count.result size (omega (arith, c.requires.known, c.part_count.ensures)) c.part_count.ensures,
-        (part_length c.args.marks.now c.args.here.at c.part_count.result size (omega (arith, c.requires.marked, c.part_count.ensures)) c.part_count.ensures, c.requires.seen),
+        part_length c.args.member.now.facts.now c.args.member.now.here.at c.part_count.result size (omega (arith, c.requires.known, c.part_count.ensures)) c.part_count.ensures,
+        (part_length c.args.marks.now c.args.member.now.here.at c.part_count.result size (omega (arith, c.requires.marked, c.part_count.ensures)) c.part_count.ensures, c.requires.seen),
       ),
     )
 
 pub conjuncts::walk_member-overflow_sub-own : goal.conjuncts::walk_member-overflow_sub-own
-conjuncts::walk_member-overflow_sub-own t c = omega (arith, some_parts c.args.goal.now c.part_count.result c.part_count.ensures)
+conjuncts::walk_member-overflow_sub-own t c = omega (arith, some_parts c.args.member.now.goal.now c.part_count.result c.part_count.ensures)
 
 pub conjuncts::walk_member-bounds-marks-own : goal.conjuncts::walk_member-bounds-marks-own
 conjuncts::walk_member-bounds-marks-own t c =
-    let one = some_parts c.args.goal.now c.part_count.result c.part_count.ensures in
+    let one = some_parts c.args.member.now.goal.now c.part_count.result c.part_count.ensures in
     omega (arith, one, c.part_count.ensures, c.requires.marked)
 
 pub conjuncts::walk_member-returns-then-marks-own-clause-asks : goal.conjuncts::walk_member-returns-then-marks-own-clause-asks
 conjuncts::walk_member-returns-then-marks-own-clause-asks t c = λ total goals rest start index whole awaited later old less known stretch there at placed taken amid.
-    let one = some_parts c.args.goal.now c.part_count.result c.part_count.ensures in
-    member_passes total (modes_of c.args.setting.now.predicates.now) goals whole c.args.goal.now rest index c.args.here.at (c.args.here.at + c.part_count.result - 1) awaited later c.args.marks.now (among c.args.bound.now)
+    let one = some_parts c.args.member.now.goal.now c.part_count.result c.part_count.ensures in
+    member_passes total (modes_of c.args.setting.now.predicates.now) goals whole c.args.member.now.goal.now rest index c.args.member.now.here.at (c.args.member.now.here.at + c.part_count.result - 1) awaited later c.args.marks.now (among c.args.bound.now)
     old c.args.written.now (suc less) there at taken amid (omega (arith, one, c.part_count.ensures)) c.if-marks-own.true
 
 pub conjuncts::walk_member-returns-clause-asks : goal.conjuncts::walk_member-returns-clause-asks
 conjuncts::walk_member-returns-clause-asks t c = λ total goals rest start index whole awaited later old less known stretch there at placed taken amid.
     let modes = modes_of c.args.setting.now.predicates.now in
-    let goal = c.args.goal.now in
+    let goal = c.args.member.now.goal.now in
     let one = some_parts goal c.part_count.result c.part_count.ensures in
-    let own : suc (c.args.here.at + c.part_count.result - 1) ≡ c.args.here.at + length (parts_of goal) = omega (arith, one, c.part_count.ensures) in
-    let end : c.args.here.at + c.part_count.result ≡ c.args.here.at + length (parts_of goal) = ap (λ n. c.args.here.at + n) c.part_count.ensures in
-    let from = known_from total modes goals rest index c.args.here.at c.args.facts.now goal there at known in
-    let k = facts_of_next total modes goal (nodes_of rest) c.args.facts.now c.args.here.at (c.args.here.at + c.part_count.result) from end in
-    let s = stretch_from total c.args.setting.now.all.now start goals rest index c.args.here.place goal there placed stretch in
-    let m = member_marks total modes goals whole goal rest index c.args.here.at (c.args.here.at + c.part_count.result - 1) (c.args.here.at + c.part_count.result) awaited c.args.marks.now (among c.args.bound.now)
+    let own : suc (c.args.member.now.here.at + c.part_count.result - 1) ≡ c.args.member.now.here.at + length (parts_of goal) = omega (arith, one, c.part_count.ensures) in
+    let end : c.args.member.now.here.at + c.part_count.result ≡ c.args.member.now.here.at + length (parts_of goal) = ap (λ n. c.args.member.now.here.at + n) c.part_count.ensures in
+    let from = known_from total modes goals rest index c.args.member.now.here.at c.args.member.now.facts.now goal there at known in
+    let k = facts_of_next total modes goal (nodes_of rest) c.args.member.now.facts.now c.args.member.now.here.at (c.args.member.now.here.at + c.part_count.result) from end in
+    let s = stretch_from total c.args.setting.now.all.now start goals rest index c.args.member.now.here.place goal there placed stretch in
+    let m = member_marks total modes goals whole goal rest index c.args.member.now.here.at (c.args.member.now.here.at + c.part_count.result - 1) (c.args.member.now.here.at + c.part_count.result) awaited c.args.marks.now (among c.args.bound.now)
     old c.args.written.now (suc less) there at amid own end c.if-marks-own.false in
-    member_asked total modes goals whole goal rest index c.args.here.at (c.args.here.at + c.part_count.result - 1) (c.args.here.at + c.part_count.result - c.args.here.at) awaited later
+    member_asked total modes goals whole goal rest index c.args.member.now.here.at (c.args.member.now.here.at + c.part_count.result - 1) (c.args.member.now.here.at + c.part_count.result - c.args.member.now.here.at) awaited later
     c.args.marks.now c.walk_if_ready.new.marks c.args.bound.now c.walk_if_ready.new.bound old c.args.written.now c.walk_if_ready.new.written less there at taken amid own c.if-marks-own.false
     (omega (arith, c.part_count.ensures)) c.walk_if_ready.result (c.walk_if_ready.ensures.goes total k s m)
 
@@ -336,20 +336,20 @@ conjuncts::walk_if_ready-walk-requires t c = (omega arith, (c.requires.known, (o
 
 pub conjuncts::walk_if_ready-returns-then-not-branch-clause-goes : goal.conjuncts::walk_if_ready-returns-then-not-branch-clause-goes
 conjuncts::walk_if_ready-returns-then-not-branch-clause-goes t c = λ total known stretch marked.
-    if_stays total (modes_of c.args.setting.now.predicates.now) c.args.goal.now c.advance.new.marks c.args.bound.now c.advance.new.bound c.args.written.now c.in_ok-advance.field-0
+    if_stays total (modes_of c.args.setting.now.predicates.now) c.args.placed.now.goal.now c.advance.new.marks c.args.bound.now c.advance.new.bound c.args.written.now c.in_ok-advance.field-0
     (c.in_ok-advance.ensures.asked total known marked) c.if-not-branch.true c.in_ok-advance.ensures.same
 
 pub conjuncts::walk_if_ready-overflow_sub-own : goal.conjuncts::walk_if_ready-overflow_sub-own
-conjuncts::walk_if_ready-overflow_sub-own t c = some_parts c.args.goal.now c.part_count-own.result c.part_count-own.ensures
+conjuncts::walk_if_ready-overflow_sub-own t c = some_parts c.args.placed.now.goal.now c.part_count-own.result c.part_count-own.ensures
 
 pub conjuncts::walk_if_ready-bounds-marks-own : goal.conjuncts::walk_if_ready-bounds-marks-own
 conjuncts::walk_if_ready-bounds-marks-own t c =
-    let one = some_parts c.args.goal.now c.part_count-own.result c.part_count-own.ensures in
+    let one = some_parts c.args.placed.now.goal.now c.part_count-own.result c.part_count-own.ensures in
     omega (arith, one, c.part_count-own.ensures, c.requires.marked, c.walk.auto.marks, c.advance.auto.marks)
 
 pub conjuncts::walk_if_ready-bounds-facts-own : goal.conjuncts::walk_if_ready-bounds-facts-own
 conjuncts::walk_if_ready-bounds-facts-own t c =
-    let one = some_parts c.args.goal.now c.part_count-own.result c.part_count-own.ensures in
+    let one = some_parts c.args.placed.now.goal.now c.part_count-own.result c.part_count-own.ensures in
     omega (arith, one, c.part_count-own.ensures, c.requires.known)
 
 pub conjuncts::walk_if_ready-returns-clause-extends : goal.conjuncts::walk_if_ready-returns-clause-extends
@@ -360,26 +360,26 @@ conjuncts::walk_if_ready-returns-clause-extends t c =
 pub conjuncts::walk_if_ready-returns-clause-goes : goal.conjuncts::walk_if_ready-returns-clause-goes
 conjuncts::walk_if_ready-returns-clause-goes t c = λ total known stretch marked.
     let modes = modes_of c.args.setting.now.predicates.now in
-    let goal = c.args.goal.now in
+    let goal = c.args.placed.now.goal.now in
     let one = some_parts goal c.part_count-own.result c.part_count-own.ensures in
     let own : suc (c.part_count-own.result - 1) ≡ length (parts_of goal) = omega (arith, one, c.part_count-own.ensures) in
     let same = c.in_ok-walk.ensures.same ∙ c.in_ok-advance.ensures.same in
     let gives = subst (λ b. Gives modes (from total modes goal (among b)) c.args.written.now c.walk.new.written (Ok c.in_ok-walk.field-0)) (sym c.in_ok-walk.ensures.same)
     (c.in_ok-walk.ensures.orders total known stretch) in
     let set : c.bind_all.new.self ≡ all_behind c.walk.new.bound c.index-facts-own.result.binds = c.in_ok-bind_all.ensures ∙ ap (λ l. all_behind c.walk.new.bound l) c.as_slice.ensures in
-    if_goes total modes goal c.args.facts.now c.walk.new.marks c.args.bound.now c.walk.new.bound c.bind_all.new.self (c.part_count-own.result - 1) c.index-facts-own.result c.args.written.now c.walk.new.written
+    if_goes total modes goal c.args.placed.now.facts.now c.walk.new.marks c.args.bound.now c.walk.new.bound c.bind_all.new.self (c.part_count-own.result - 1) c.index-facts-own.result c.args.written.now c.walk.new.written
     c.in_ok-walk.field-0 gives same known own c.index-facts-own.is set (omega (arith, c.requires.marked, c.walk.auto.marks, c.advance.auto.marks))
 
 -- the first goal that is left
 
 pub conjuncts::walk_first_left-walk-requires : goal.conjuncts::walk_first_left-walk-requires
 conjuncts::walk_first_left-walk-requires t c =
-    let within = end_within c.args.goals.now c.loop-goal.goal-index c.goal-item.result c.loop-goal.at c.part_count.result c.loop-goal-test.true c.goal-item.is c.part_count.ensures c.loop-goal.invariant.at_is in
+    let within = end_within c.args.placed.now.goals.now c.loop-goal.goal-index c.goal-item.result c.loop-goal.at c.part_count.result c.loop-goal-test.true c.goal-item.is c.part_count.ensures c.loop-goal.invariant.at_is in
     let size = length (parts_of c.goal-item.result) in
     let long : length c.loop-goal.marks ≡ length c.args.marks.now = ap length c.loop-goal.invariant.same_marks in (
       omega (arith, within, c.part_count.ensures),
       (
-        part_length c.args.facts.now c.loop-goal.at c.part_count.result size (omega (arith, within, c.requires.known)) c.part_count.ensures,
+        part_length c.args.placed.now.facts.now c.loop-goal.at c.part_count.result size (omega (arith, within, c.requires.known)) c.part_count.ensures,
         (
           part_length c.loop-goal.marks c.loop-goal.at c.part_count.result size (omega (arith, within, long, c.requires.marked)) c.part_count.ensures,
           ap (λ (w : Written). w.seen) c.loop-goal.invariant.same_written ∙ c.requires.seen,
@@ -389,7 +389,7 @@ conjuncts::walk_first_left-walk-requires t c =
 
 pub conjuncts::walk_first_left-bounds-facts-own : goal.conjuncts::walk_first_left-bounds-facts-own
 conjuncts::walk_first_left-bounds-facts-own t c =
-    let within = end_within c.args.goals.now c.loop-goal.goal-index c.goal-item.result c.loop-goal.at c.part_count.result c.loop-goal-test.true c.goal-item.is c.part_count.ensures c.loop-goal.invariant.at_is in
+    let within = end_within c.args.placed.now.goals.now c.loop-goal.goal-index c.goal-item.result c.loop-goal.at c.part_count.result c.loop-goal-test.true c.goal-item.is c.part_count.ensures c.loop-goal.invariant.at_is in
     let one = some_parts c.goal-item.result c.part_count.result c.part_count.ensures in
     omega (arith, one, within, c.requires.known)
 
@@ -399,7 +399,7 @@ conjuncts::walk_first_left-overflow_sub-own t c = omega (arith, some_parts c.goa
 pub conjuncts::walk_first_left-bounds-marks-own : goal.conjuncts::walk_first_left-bounds-marks-own
 conjuncts::walk_first_left-bounds-marks-own t c =
     let one = some_parts c.goal-item.result c.part_count.result c.part_count.ensures in
-    let end = end_within c.args.goals.now c.loop-goal.goal-index c.goal-item.result c.loop-goal.at c.part_count.result c.loop-goal-test.true c.goal-item.is c.part_count.ensures c.loop-goal.invariant.at_is in
+    let end = end_within c.args.placed.now.goals.now c.loop-goal.goal-index c.goal-item.result c.loop-goal.at c.part_count.result c.loop-goal-test.true c.goal-item.is c.part_count.ensures c.loop-goal.invariant.at_is in
     let long : length c.loop-goal.marks ≡ length c.args.marks.now = ap length c.loop-goal.invariant.same_marks in
     omega (arith, one, end, long, c.requires.marked)
 
@@ -407,34 +407,34 @@ pub conjuncts::walk_first_left-returns-then-not-marks-own-clause-tells : goal.co
 conjuncts::walk_first_left-returns-then-not-marks-own-clause-tells t c = λ total marked fits flags known stretch.
     let modes = modes_of c.args.setting.now.predicates.now in
     let goal = c.goal-item.result in
-    let rest = drop (c.loop-goal.goal-index + 1) c.args.goals.now in
-    let those = left total modes (nodes_of c.args.goals.now) marked in
+    let rest = drop (c.loop-goal.goal-index + 1) c.args.placed.now.goals.now in
+    let those = left total modes (nodes_of c.args.placed.now.goals.now) marked in
     let one = some_parts goal c.part_count.result c.part_count.ensures in
-    let p = subst (λ l. Passing total modes (nodes_of l) c.args.facts.now c.args.marks.now c.loop-goal.at c.args.setting.now.all.now c.loop-goal.place those)
-    (next_item c.args.goals.now c.loop-goal.goal-index goal c.loop-goal-test.true c.goal-item.is) (c.loop-goal.invariant.passing total marked fits flags known stretch) in
-    let k = facts_of_next total modes goal (nodes_of rest) c.args.facts.now c.loop-goal.at (c.loop-goal.at + c.part_count.result) p.known (ap (λ n. c.loop-goal.at + n) c.part_count.ensures) in
+    let p = subst (λ l. Passing total modes (nodes_of l) c.args.placed.now.facts.now c.args.marks.now c.loop-goal.at c.args.setting.now.all.now c.loop-goal.place those)
+    (next_item c.args.placed.now.goals.now c.loop-goal.goal-index goal c.loop-goal-test.true c.goal-item.is) (c.loop-goal.invariant.passing total marked fits flags known stretch) in
+    let k = facts_of_next total modes goal (nodes_of rest) c.args.placed.now.facts.now c.loop-goal.at (c.loop-goal.at + c.part_count.result) p.known (ap (λ n. c.loop-goal.at + n) c.part_count.ensures) in
     let s = stretch_front total c.args.setting.now.all.now c.loop-goal.place (variables goal) (all_variables (nodes_of rest)) p.stretch in
     let gives = subst (λ b. Gives modes (from total modes goal (among b)) c.args.written.now c.walk.new.written c.walk.result) c.loop-goal.invariant.same
     (subst (λ w. Gives modes (from total modes goal (among c.loop-goal.bound)) w c.walk.new.written c.walk.result) c.loop-goal.invariant.same_written (c.walk.ensures.orders total k s)) in
-    first_tells total modes goal (nodes_of rest) c.args.facts.now c.args.marks.now c.loop-goal.at (c.loop-goal.at + c.part_count.result - 1) c.args.setting.now.all.now c.loop-goal.place those (among c.args.bound.now)
+    first_tells total modes goal (nodes_of rest) c.args.placed.now.facts.now c.args.marks.now c.loop-goal.at (c.loop-goal.at + c.part_count.result - 1) c.args.setting.now.all.now c.loop-goal.place those (among c.args.bound.now)
     c.args.written.now c.walk.new.written c.walk.result p (omega (arith, one, c.part_count.ensures))
     (ap (λ l. slice_index_or l (c.loop-goal.at + c.part_count.result - 1) false) (sym c.loop-goal.invariant.same_marks) ∙ c.if-not-marks-own.true) gives
 
 pub conjuncts::walk_first_left-loop-goal-preserved : goal.conjuncts::walk_first_left-loop-goal-preserved
 conjuncts::walk_first_left-loop-goal-preserved t c = record {
-  at_is = at_behind c.args.goals.now c.loop-goal.goal-index c.goal-item.result c.loop-goal.at c.part_count.result c.loop-goal-test.true c.goal-item.is c.part_count.ensures c.loop-goal.invariant.at_is;
+  at_is = at_behind c.args.placed.now.goals.now c.loop-goal.goal-index c.goal-item.result c.loop-goal.at c.part_count.result c.loop-goal-test.true c.goal-item.is c.part_count.ensures c.loop-goal.invariant.at_is;
   same_marks = c.loop-goal.invariant.same_marks;
   same = c.loop-goal.invariant.same;
   same_written = c.loop-goal.invariant.same_written;
   passing = λ total marked fits flags known stretch.
       let modes = modes_of c.args.setting.now.predicates.now in
       let goal = c.goal-item.result in
-      let rest = drop (c.loop-goal.goal-index + 1) c.args.goals.now in
-      let those = left total modes (nodes_of c.args.goals.now) marked in
+      let rest = drop (c.loop-goal.goal-index + 1) c.args.placed.now.goals.now in
+      let those = left total modes (nodes_of c.args.placed.now.goals.now) marked in
       let one = some_parts goal c.part_count.result c.part_count.ensures in
-      let p = subst (λ l. Passing total modes (nodes_of l) c.args.facts.now c.args.marks.now c.loop-goal.at c.args.setting.now.all.now c.loop-goal.place those)
-      (next_item c.args.goals.now c.loop-goal.goal-index goal c.loop-goal-test.true c.goal-item.is) (c.loop-goal.invariant.passing total marked fits flags known stretch) in
-      passing_on total modes goal (nodes_of rest) c.args.facts.now c.args.marks.now c.loop-goal.at (c.loop-goal.at + c.part_count.result - 1) (c.loop-goal.at + c.part_count.result) c.args.setting.now.all.now
+      let p = subst (λ l. Passing total modes (nodes_of l) c.args.placed.now.facts.now c.args.marks.now c.loop-goal.at c.args.setting.now.all.now c.loop-goal.place those)
+      (next_item c.args.placed.now.goals.now c.loop-goal.goal-index goal c.loop-goal-test.true c.goal-item.is) (c.loop-goal.invariant.passing total marked fits flags known stretch) in
+      passing_on total modes goal (nodes_of rest) c.args.placed.now.facts.now c.args.marks.now c.loop-goal.at (c.loop-goal.at + c.part_count.result - 1) (c.loop-goal.at + c.part_count.result) c.args.setting.now.all.now
       c.loop-goal.place c.place_behind-place.result c.index-facts-own.result those p (omega (arith, one, c.part_count.ensures)) (ap (λ n. c.loop-goal.at + n) c.part_count.ensures)
       (ap (λ l. slice_index_or l (c.loop-goal.at + c.part_count.result - 1) false) (sym c.loop-goal.invariant.same_marks) ∙ c.if-not-marks-own.false) c.index-facts-own.is c.place_behind-place.ensures.within;
 }
@@ -442,8 +442,8 @@ conjuncts::walk_first_left-loop-goal-preserved t c = record {
 pub conjuncts::walk_first_left-returns-clause-tells : goal.conjuncts::walk_first_left-returns-clause-tells
 conjuncts::walk_first_left-returns-clause-tells t c = λ total marked fits flags known stretch.
     let modes = modes_of c.args.setting.now.predicates.now in
-    let none : drop c.loop-goal.goal-index c.args.goals.now ≡ [] = drop_all c.loop-goal.goal-index c.args.goals.now (omega arith) in
-    let those = left total modes (nodes_of c.args.goals.now) marked in
-    let p = subst (λ l. Passing total modes (nodes_of l) c.args.facts.now c.args.marks.now c.loop-goal.at c.args.setting.now.all.now c.loop-goal.place those) none
+    let none : drop c.loop-goal.goal-index c.args.placed.now.goals.now ≡ [] = drop_all c.loop-goal.goal-index c.args.placed.now.goals.now (omega arith) in
+    let those = left total modes (nodes_of c.args.placed.now.goals.now) marked in
+    let p = subst (λ l. Passing total modes (nodes_of l) c.args.placed.now.facts.now c.args.marks.now c.loop-goal.at c.args.setting.now.all.now c.loop-goal.place those) none
     (c.loop-goal.invariant.passing total marked fits flags known stretch) in
-    none_told total modes c.args.facts.now c.args.marks.now c.loop-goal.at c.args.setting.now.all.now c.loop-goal.place those (among c.args.bound.now) c.args.written.now c.loop-goal.written tt p c.loop-goal.invariant.same_written
+    none_told total modes c.args.placed.now.facts.now c.args.marks.now c.loop-goal.at c.args.setting.now.all.now c.loop-goal.place those (among c.args.bound.now) c.args.written.now c.loop-goal.written tt p c.loop-goal.invariant.same_written

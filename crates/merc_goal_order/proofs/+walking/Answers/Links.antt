@@ -25,11 +25,11 @@ use Rattle.merc_goal_order.proofs.+walking.Goals as goal
 
 pub links::walk_guard-walk-requires : goal.links::walk_guard-walk-requires
 links::walk_guard-walk-requires t c =
-    let size = length (parts_of c.args.condition.now) in
-    let more = length (parts_of c.args.then_part.now) in (
+    let size = length (parts_of c.args.guard.now.condition.now) in
+    let more = length (parts_of c.args.guard.now.then_part.now) in (
       omega arith,
       (
-        front_length c.args.facts.now c.part_count-count.result size more c.requires.known c.part_count-count.ensures,
+        front_length c.args.guard.now.facts.now c.part_count-count.result size more c.requires.known c.part_count-count.ensures,
         (front_length c.args.marks.now c.part_count-count.result size more c.requires.marked c.part_count-count.ensures, c.requires.seen),
       ),
     )
@@ -81,40 +81,40 @@ links::walk_guard-returns-in_err-walk-clause-guards t c =
     let p = err_from_is_err_and c.from_residual.result c.from_residual.ensures.1 in
     rw (p.1, p.2) (λ total else_part span known own stretch.
     let modes = modes_of c.args.setting.now.predicates.now in
-    let k = condition_known total modes c.args.condition.now c.args.then_part.now c.args.facts.now c.part_count-count.result known c.part_count-count.ensures in
-    let s = stretch_front total c.args.setting.now.all.now c.args.start (variables c.args.condition.now) (variables c.args.then_part.now) stretch in
-    condition_err total modes c.args.condition.now c.args.then_part.now (among c.args.bound.now) c.args.start c.args.written.now c.walk.new.written c.walk.new.written c.in_err-walk.field-0.0
+    let k = condition_known total modes c.args.guard.now.condition.now c.args.guard.now.then_part.now c.args.guard.now.facts.now c.part_count-count.result known c.part_count-count.ensures in
+    let s = stretch_front total c.args.setting.now.all.now c.args.guard.now.start (variables c.args.guard.now.condition.now) (variables c.args.guard.now.then_part.now) stretch in
+    condition_err total modes c.args.guard.now.condition.now c.args.guard.now.then_part.now (among c.args.bound.now) c.args.guard.now.start c.args.written.now c.walk.new.written c.walk.new.written c.in_err-walk.field-0.0
     (c.in_err-walk.ensures.orders total k s))
 
 pub links::walk_guard-returns-then-not-are_bound-clause-guards : goal.links::walk_guard-returns-then-not-are_bound-clause-guards
 links::walk_guard-returns-then-not-are_bound-clause-guards t c =
-    let place : c.fault_at.result ≡ Refused (binds_outer (span_of c.args.condition.now)) = c.fault_at.ensures ∙ ap (λ s. Refused (binds_outer s)) c.span.ensures in
+    let place : c.fault_at.result ≡ Refused (binds_outer (span_of c.args.guard.now.condition.now)) = c.fault_at.ensures ∙ ap (λ s. Refused (binds_outer s)) c.span.ensures in
     rw place (λ total else_part span known own stretch.
     let modes = modes_of c.args.setting.now.predicates.now in
-    let k = condition_known total modes c.args.condition.now c.args.then_part.now c.args.facts.now c.part_count-count.result known c.part_count-count.ensures in
-    let s = stretch_front total c.args.setting.now.all.now c.args.start (variables c.args.condition.now) (variables c.args.then_part.now) stretch in
-    let owed : are_bound (among c.args.bound.now) c.args.own.now.owed_by_condition ≡ false =
-    ap (λ b. are_bound (among b) c.args.own.now.owed_by_condition) (sym c.in_ok-walk.ensures.same) ∙ ap (λ l. are_bound (among c.walk.new.bound) l) (sym c.as_slice.ensures)
+    let k = condition_known total modes c.args.guard.now.condition.now c.args.guard.now.then_part.now c.args.guard.now.facts.now c.part_count-count.result known c.part_count-count.ensures in
+    let s = stretch_front total c.args.setting.now.all.now c.args.guard.now.start (variables c.args.guard.now.condition.now) (variables c.args.guard.now.then_part.now) stretch in
+    let owed : are_bound (among c.args.bound.now) c.args.guard.now.own.now.owed_by_condition ≡ false =
+    ap (λ b. are_bound (among b) c.args.guard.now.own.now.owed_by_condition) (sym c.in_ok-walk.ensures.same) ∙ ap (λ l. are_bound (among c.walk.new.bound) l) (sym c.as_slice.ensures)
     ∙ sym c.are_bound.ensures ∙ c.if-not-are_bound.true in
-    condition_outer total modes c.args.condition.now c.args.then_part.now (among c.args.bound.now) c.args.own.now else_part span c.args.written.now c.walk.new.written c.in_ok-walk.field-0
+    condition_outer total modes c.args.guard.now.condition.now c.args.guard.now.then_part.now (among c.args.bound.now) c.args.guard.now.own.now else_part span c.args.written.now c.walk.new.written c.in_ok-walk.field-0
     (c.in_ok-walk.ensures.orders total k s) own owed)
 
 pub links::walk_guard-overflow_sub-last : goal.links::walk_guard-overflow_sub-last
-links::walk_guard-overflow_sub-last t c = omega (arith, some_parts c.args.condition.now c.part_count-count.result c.part_count-count.ensures)
+links::walk_guard-overflow_sub-last t c = omega (arith, some_parts c.args.guard.now.condition.now c.part_count-count.result c.part_count-count.ensures)
 
 pub links::walk_guard-bounds-facts-last : goal.links::walk_guard-bounds-facts-last
 links::walk_guard-bounds-facts-last t c =
-    let one = some_parts c.args.condition.now c.part_count-count.result c.part_count-count.ensures in
+    let one = some_parts c.args.guard.now.condition.now c.part_count-count.result c.part_count-count.ensures in
     omega (arith, one, c.part_count-count.ensures, c.requires.known)
 
 pub links::walk_guard-overflow_sub-end : goal.links::walk_guard-overflow_sub-end
 links::walk_guard-overflow_sub-end t c =
-    let one = some_parts c.args.condition.now c.part_count-count.result c.part_count-count.ensures in
+    let one = some_parts c.args.guard.now.condition.now c.part_count-count.result c.part_count-count.ensures in
     omega (arith, one, c.part_count-count.ensures, c.requires.known)
 
 pub links::walk_guard-bounds-facts-end : goal.links::walk_guard-bounds-facts-end
 links::walk_guard-bounds-facts-end t c =
-    let one = some_parts c.args.condition.now c.part_count-count.result c.part_count-count.ensures in
+    let one = some_parts c.args.guard.now.condition.now c.part_count-count.result c.part_count-count.ensures in
     omega (arith, one, c.part_count-count.ensures, c.requires.known)
 
 pub links::walk_guard-returns-clause-same : goal.links::walk_guard-returns-clause-same
@@ -127,27 +127,27 @@ links::walk_guard-returns-clause-same t c =
 pub links::walk_guard-returns-clause-guards : goal.links::walk_guard-returns-clause-guards
 links::walk_guard-returns-clause-guards t c = λ total else_part span known own stretch.
     let modes = modes_of c.args.setting.now.predicates.now in
-    let first = c.args.condition.now in
-    let second = c.args.then_part.now in
+    let first = c.args.guard.now.condition.now in
+    let second = c.args.guard.now.then_part.now in
     let one = some_parts first c.part_count-count.result c.part_count-count.ensures in
-    let k = condition_known total modes first second c.args.facts.now c.part_count-count.result known c.part_count-count.ensures in
-    let s = stretch_front total c.args.setting.now.all.now c.args.start (variables first) (variables second) stretch in
-    let owed : are_bound (among c.args.bound.now) c.args.own.now.owed_by_condition ≡ true =
-    ap (λ b. are_bound (among b) c.args.own.now.owed_by_condition) (sym c.in_ok-walk.ensures.same) ∙ ap (λ l. are_bound (among c.walk.new.bound) l) (sym c.as_slice.ensures)
+    let k = condition_known total modes first second c.args.guard.now.facts.now c.part_count-count.result known c.part_count-count.ensures in
+    let s = stretch_front total c.args.setting.now.all.now c.args.guard.now.start (variables first) (variables second) stretch in
+    let owed : are_bound (among c.args.bound.now) c.args.guard.now.own.now.owed_by_condition ≡ true =
+    ap (λ b. are_bound (among b) c.args.guard.now.own.now.owed_by_condition) (sym c.in_ok-walk.ensures.same) ∙ ap (λ l. are_bound (among c.walk.new.bound) l) (sym c.as_slice.ensures)
     ∙ sym c.are_bound.ensures ∙ c.if-not-are_bound.false in
-    let f = condition_own total modes first second c.args.facts.now (c.part_count-count.result - 1) c.index-facts-last.result known (omega (arith, one, c.part_count-count.ensures)) c.index-facts-last.is in
+    let f = condition_own total modes first second c.args.guard.now.facts.now (c.part_count-count.result - 1) c.index-facts-last.result known (omega (arith, one, c.part_count-count.ensures)) c.index-facts-last.is in
     let set : c.bind_all.new.self ≡ all_behind c.walk.new.bound c.index-facts-last.result.binds = c.in_ok-bind_all.ensures ∙ ap (λ l. all_behind c.walk.new.bound l) c.as_slice-2.ensures in
     let inner : among c.bind_all.new.self ≡ with (among c.args.bound.now) (binds total modes first) =
     ap among set ∙ bound_behind total modes first c.index-facts-last.result c.walk.new.bound f ∙ ap (λ b. with (among b) (binds total modes first)) c.in_ok-walk.ensures.same in
-    let k2 = subst (λ l. AreKnown total modes (subgoals second) l) (sym (take_rest c.args.facts.now c.part_count-count.result))
-    (then_known total modes first second c.args.facts.now c.part_count-count.result known c.part_count-count.ensures) in
-    let s2 = then_stretch total modes first second c.args.setting.now.all.now c.args.start c.place_behind-behind.result c.index-facts-last.result f stretch c.place_behind-behind.ensures.within in
+    let k2 = subst (λ l. AreKnown total modes (subgoals second) l) (sym (take_rest c.args.guard.now.facts.now c.part_count-count.result))
+    (then_known total modes first second c.args.guard.now.facts.now c.part_count-count.result known c.part_count-count.ensures) in
+    let s2 = then_stretch total modes first second c.args.setting.now.all.now c.args.guard.now.start c.place_behind-behind.result c.index-facts-last.result f stretch c.place_behind-behind.ensures.within in
     let gives = subst (λ b. Gives modes (from total modes second b) c.walk.new.written c.walk-2.new.written (Ok c.in_ok-walk-2.field-0)) inner (c.in_ok-walk-2.ensures.orders total k2 s2) in
-    let g = then_own total modes first second c.args.facts.now (length c.args.facts.now - 1) c.index-facts-end.result known
+    let g = then_own total modes first second c.args.guard.now.facts.now (length c.args.guard.now.facts.now - 1) c.index-facts-end.result known
     (omega (arith, one, c.requires.known, c.part_count-count.ensures)) c.index-facts-end.is in
-    let next = place_behind_is total modes first second c.args.setting.now.all.now c.args.start c.place_behind-behind.result c.place_behind-next.result c.index-facts-last.result c.index-facts-end.result f g stretch
+    let next = place_behind_is total modes first second c.args.setting.now.all.now c.args.guard.now.start c.place_behind-behind.result c.place_behind-next.result c.index-facts-last.result c.index-facts-end.result f g stretch
     c.place_behind-behind.ensures.within c.place_behind-next.ensures.within in
-    guarded_by total modes first second (among c.args.bound.now) c.args.own.now else_part span c.args.start c.place_behind-next.result c.args.written.now c.walk.new.written c.walk-2.new.written
+    guarded_by total modes first second (among c.args.bound.now) c.args.guard.now.own.now else_part span c.args.guard.now.start c.place_behind-next.result c.args.written.now c.walk.new.written c.walk-2.new.written
     c.in_ok-walk.field-0 c.in_ok-walk-2.field-0 (c.in_ok-walk.ensures.orders total k s) own owed gives next
 
 pub links::walk_guard-returns-in_err-walk-2-clause-guards : goal.links::walk_guard-returns-in_err-walk-2-clause-guards
@@ -155,23 +155,23 @@ links::walk_guard-returns-in_err-walk-2-clause-guards t c =
     let p = err_from_is_err_and c.from_residual-in_err-walk-2.result c.from_residual-in_err-walk-2.ensures.1 in
     rw (p.1, p.2) (λ total else_part span known own stretch.
     let modes = modes_of c.args.setting.now.predicates.now in
-    let first = c.args.condition.now in
-    let second = c.args.then_part.now in
+    let first = c.args.guard.now.condition.now in
+    let second = c.args.guard.now.then_part.now in
     let one = some_parts first c.part_count-count.result c.part_count-count.ensures in
-    let k = condition_known total modes first second c.args.facts.now c.part_count-count.result known c.part_count-count.ensures in
-    let s = stretch_front total c.args.setting.now.all.now c.args.start (variables first) (variables second) stretch in
-    let owed : are_bound (among c.args.bound.now) c.args.own.now.owed_by_condition ≡ true =
-    ap (λ b. are_bound (among b) c.args.own.now.owed_by_condition) (sym c.in_ok-walk.ensures.same) ∙ ap (λ l. are_bound (among c.walk.new.bound) l) (sym c.as_slice.ensures)
+    let k = condition_known total modes first second c.args.guard.now.facts.now c.part_count-count.result known c.part_count-count.ensures in
+    let s = stretch_front total c.args.setting.now.all.now c.args.guard.now.start (variables first) (variables second) stretch in
+    let owed : are_bound (among c.args.bound.now) c.args.guard.now.own.now.owed_by_condition ≡ true =
+    ap (λ b. are_bound (among b) c.args.guard.now.own.now.owed_by_condition) (sym c.in_ok-walk.ensures.same) ∙ ap (λ l. are_bound (among c.walk.new.bound) l) (sym c.as_slice.ensures)
     ∙ sym c.are_bound.ensures ∙ c.if-not-are_bound.false in
-    let f = condition_own total modes first second c.args.facts.now (c.part_count-count.result - 1) c.index-facts-last.result known (omega (arith, one, c.part_count-count.ensures)) c.index-facts-last.is in
+    let f = condition_own total modes first second c.args.guard.now.facts.now (c.part_count-count.result - 1) c.index-facts-last.result known (omega (arith, one, c.part_count-count.ensures)) c.index-facts-last.is in
     let set : c.bind_all.new.self ≡ all_behind c.walk.new.bound c.index-facts-last.result.binds = c.in_ok-bind_all.ensures ∙ ap (λ l. all_behind c.walk.new.bound l) c.as_slice-2.ensures in
     let inner : among c.bind_all.new.self ≡ with (among c.args.bound.now) (binds total modes first) =
     ap among set ∙ bound_behind total modes first c.index-facts-last.result c.walk.new.bound f ∙ ap (λ b. with (among b) (binds total modes first)) c.in_ok-walk.ensures.same in
-    let k2 = subst (λ l. AreKnown total modes (subgoals second) l) (sym (take_rest c.args.facts.now c.part_count-count.result))
-    (then_known total modes first second c.args.facts.now c.part_count-count.result known c.part_count-count.ensures) in
-    let s2 = then_stretch total modes first second c.args.setting.now.all.now c.args.start c.place_behind-behind.result c.index-facts-last.result f stretch c.place_behind-behind.ensures.within in
+    let k2 = subst (λ l. AreKnown total modes (subgoals second) l) (sym (take_rest c.args.guard.now.facts.now c.part_count-count.result))
+    (then_known total modes first second c.args.guard.now.facts.now c.part_count-count.result known c.part_count-count.ensures) in
+    let s2 = then_stretch total modes first second c.args.setting.now.all.now c.args.guard.now.start c.place_behind-behind.result c.index-facts-last.result f stretch c.place_behind-behind.ensures.within in
     let gives = subst (λ b. Gives modes (from total modes second b) c.walk.new.written c.walk-2.new.written (Err c.in_err-walk-2.field-0.0)) inner (c.in_err-walk-2.ensures.orders total k2 s2) in
-    then_err total modes first second (among c.args.bound.now) c.args.own.now else_part span c.args.start c.args.written.now c.walk.new.written c.walk-2.new.written c.walk-2.new.written
+    then_err total modes first second (among c.args.bound.now) c.args.guard.now.own.now else_part span c.args.guard.now.start c.args.written.now c.walk.new.written c.walk-2.new.written c.walk-2.new.written
     c.in_ok-walk.field-0 c.in_err-walk-2.field-0.0 (c.in_ok-walk.ensures.orders total k s) own owed gives)
 
 pub links::walk_chain-returns-in_err-next-clause-orders : goal.links::walk_chain-returns-in_err-next-clause-orders
@@ -185,17 +185,17 @@ links::walk_chain-returns-in_err-next-clause-orders t c =
     let third = c.in-Conditional.else_part in
     let span = span_of c.loop-condition.rest in
     let links = reverse c.loop-condition.links.items in
-    let w = subst (λ g. Within total modes all (among c.args.bound.now) c.args.goal.now links g c.loop-condition.known.now c.loop-condition.place c.args.written.now c.loop-condition.written) (sym c.in-Conditional.ensures)
+    let w = subst (λ g. Within total modes all (among c.args.bound.now) c.args.placed.now.goal.now links g c.loop-condition.known.now c.loop-condition.place c.args.written.now c.loop-condition.written) (sym c.in-Conditional.ensures)
     (c.loop-condition.invariant.within total known stretch) in
     let count : c.part_count.result + c.part_count-in-Conditional.result ≡ length (parts_of first) + length (parts_of second) = omega (arith, c.part_count.ensures, c.part_count-in-Conditional.ensures) in
     let some = conditional_parts c.loop-condition.rest first second third span c.in-Conditional.ensures in
-    let k = guard_known total modes all (among c.args.bound.now) c.args.goal.now first second third span c.loop-condition.known.now (c.part_count.result + c.part_count-in-Conditional.result) w.known count in
-    let o = own_known total modes all (among c.args.bound.now) c.args.goal.now first second third span c.loop-condition.known.now (length c.loop-condition.known.now - 1) c.index-known-last.result w.known
+    let k = guard_known total modes all (among c.args.bound.now) c.args.placed.now.goal.now first second third span c.loop-condition.known.now (c.part_count.result + c.part_count-in-Conditional.result) w.known count in
+    let o = own_known total modes all (among c.args.bound.now) c.args.placed.now.goal.now first second third span c.loop-condition.known.now (length c.loop-condition.known.now - 1) c.index-known-last.result w.known
     (omega (arith, some, c.loop-condition.invariant.known_is)) c.index-known-last.is in
-    let s = guard_stretch total modes all (among c.args.bound.now) c.args.goal.now first second third span c.loop-condition.place w.stretch in
+    let s = guard_stretch total modes all (among c.args.bound.now) c.args.placed.now.goal.now first second third span c.loop-condition.place w.stretch in
     let gives = subst (λ b. GuardGives total modes first second (among b) c.loop-condition.place c.loop-condition.written c.walk_guard.new.written (Err c.in_err-next.field-0.0)) c.loop-condition.invariant.same
     (c.in_err-next.ensures.guards total third span k o s) in
-    chain_err total modes all (among c.args.bound.now) c.args.goal.now links first second third span c.loop-condition.known.now c.loop-condition.place c.args.written.now c.loop-condition.written c.walk_guard.new.written
+    chain_err total modes all (among c.args.bound.now) c.args.placed.now.goal.now links first second third span c.loop-condition.known.now c.loop-condition.place c.args.written.now c.loop-condition.written c.walk_guard.new.written
     c.walk_guard.new.written c.in_err-next.field-0.0 w gives)
 
 pub links::walk_chain-loop-condition-init : goal.links::walk_chain-loop-condition-init
@@ -203,7 +203,7 @@ links::walk_chain-loop-condition-init t c =
     let modes = modes_of c.args.setting.now.predicates.now in
     let all = c.args.setting.now.all.now in
     let same = c.copy-rest.ensures in
-    let parts : length (parts_of c.copy-rest.result) ≡ length (parts_of c.args.goal.now) = ap (λ g. length (parts_of g)) same in
+    let parts : length (parts_of c.copy-rest.result) ≡ length (parts_of c.args.placed.now.goal.now) = ap (λ g. length (parts_of g)) same in
     record {
       known_is = c.requires.known ∙ sym parts;
       smaller = omega (arith, parts);
@@ -211,17 +211,17 @@ links::walk_chain-loop-condition-init t c =
       same = refl;
       more = omega arith;
       cleared = c.requires.seen;
-      within = λ total known stretch. subst (λ l. Within total modes all (among c.args.bound.now) c.args.goal.now (reverse l) c.copy-rest.result c.args.facts.now c.args.start c.args.written.now c.args.written.now)
+      within = λ total known stretch. subst (λ l. Within total modes all (among c.args.bound.now) c.args.placed.now.goal.now (reverse l) c.copy-rest.result c.args.placed.now.facts.now c.args.placed.now.start c.args.written.now c.args.written.now)
           (sym c.new-links.ensures.items)
-          (subst (λ g. Within total modes all (among c.args.bound.now) c.args.goal.now [] g c.args.facts.now c.args.start c.args.written.now c.args.written.now) (sym same)
-          (first_within total modes all (among c.args.bound.now) c.args.goal.now c.args.facts.now c.args.start c.args.written.now known stretch));
+          (subst (λ g. Within total modes all (among c.args.bound.now) c.args.placed.now.goal.now [] g c.args.placed.now.facts.now c.args.placed.now.start c.args.written.now c.args.written.now) (sym same)
+          (first_within total modes all (among c.args.bound.now) c.args.placed.now.goal.now c.args.placed.now.facts.now c.args.placed.now.start c.args.written.now known stretch));
     }
 
 pub links::walk_chain-loop-condition-preserved : goal.links::walk_chain-loop-condition-preserved
 links::walk_chain-loop-condition-preserved t c =
     let modes = modes_of c.args.setting.now.predicates.now in
     let all = c.args.setting.now.all.now in
-    let whole = c.args.goal.now in
+    let whole = c.args.placed.now.goal.now in
     let first = c.in-Conditional.condition in
     let second = c.in-Conditional.then_part in
     let third = c.in-Conditional.else_part in
@@ -265,14 +265,14 @@ links::walk_chain-returns-in_err-walk-clause-orders t c =
     let w = c.loop-condition.invariant.within total known stretch in
     let gives = subst (λ b. Gives modes (from total modes rest (among b)) c.loop-condition.written c.walk.new.written (Err c.in_err-walk.field-0.0)) c.loop-condition.invariant.same
     (c.in_err-walk.ensures.orders total w.known w.stretch) in
-    rest_err total modes c.args.setting.now.all.now (among c.args.bound.now) c.args.goal.now links rest c.loop-condition.known.now c.loop-condition.place c.args.written.now c.loop-condition.written c.walk.new.written
+    rest_err total modes c.args.setting.now.all.now (among c.args.bound.now) c.args.placed.now.goal.now links rest c.loop-condition.known.now c.loop-condition.place c.args.written.now c.loop-condition.written c.walk.new.written
     c.walk.new.written c.in_err-walk.field-0.0 w gives)
 
 pub links::walk_chain-returns-clause-orders : goal.links::walk_chain-returns-clause-orders
 links::walk_chain-returns-clause-orders t c = λ total known stretch.
     let modes = modes_of c.args.setting.now.predicates.now in
     let all = c.args.setting.now.all.now in
-    let whole = c.args.goal.now in
+    let whole = c.args.placed.now.goal.now in
     let rest = c.loop-condition.rest in
     let links = reverse c.loop-condition.links.items in
     let w = c.loop-condition.invariant.within total known stretch in
