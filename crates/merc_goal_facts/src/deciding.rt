@@ -21,13 +21,31 @@ use crate::facts::{Facts, push_facts};
 use crate::finding::{those_not_in, those_outside};
 use crate::joining::{conjunction_facts, facts_at};
 use crate::needing::needed_by_some;
-use crate::occurrences::Occurrences;
+use crate::stretch::Stretch;
 use merc_base::NoMemory;
 use merc_goal_tree::{Var, Vars};
 use std::alloc::Global;
 
-/// The facts of a disjunction, by those of its arms; it occurs from one place to another. The set has no variables, before
-/// and after.
+// What is bound by the arms that count.
+#[derive(Clone, Copy)]
+struct Bindings<'a> {
+    // whether the end of some arm can be reached
+    reached: bool,
+    // the variables that some of them bind
+    some: &'a [Var],
+    // the variables that all of them bind
+    every: &'a [Var],
+}
+
+/// The goals of an if-then-else.
+#[derive(Clone, Copy)]
+pub(crate) struct Decision {
+    pub(crate) condition: Complete,
+    pub(crate) then_part: Complete,
+    pub(crate) else_part: Complete,
+}
+
+/// The facts of a disjunction, by those of its arms; it occurs in this stretch. The set has no variables, before and after.
 ///
 /// # Errors
 ///
@@ -35,35 +53,27 @@ use std::alloc::Global;
 pub(crate) fn disjunction_facts(
     alloc: Global,
     set: &mut BoundSet,
-    all: &Occurrences,
-    start: usize,
-    end: usize,
+    stretch: Stretch<'_>,
     facts: &[Facts],
     joined: &[Complete],
 ) -> Result<Facts, NoMemory>
     requires { set.old ≡ [] }
-    ensures facts { IfOk result (λ found. (total : ℕ → ℕ) (modes : ℕ → List ModeDecl) (goals : Nodes) (span : Span) → AreKnown total modes facts.now joined.now goals → IsStretch total all.now start end (all_variables goals) → AreFactsOf total modes (Disjunction goals span) found) }
+    ensures facts { IfOk result (λ found. (total : ℕ → ℕ) (modes : ℕ → List ModeDecl) (goals : Nodes) (span : Span) → AreKnown total modes facts.now joined.now goals → IsStretch total stretch.entry.all.now stretch.entry.start stretch.entry.end (all_variables goals) → AreFactsOf total modes (Disjunction goals span) found) }
     ensures cleared { OnOk result (set.new ≡ []) }
 {
     let reached = is_any_reached(facts, joined);
     let some = bound_by_some(alloc, set, facts, joined, reached)?;
     let every = bound_by_all(alloc, set, facts, joined, reached)?;
-    arms_facts(
-        alloc,
-        set,
-        all,
-        start,
-        end,
-        facts,
-        joined,
+    let bindings = Bindings {
         reached,
-        some.as_slice(),
-        those_of_all(some.as_slice(), &every),
-    )
+        some: some.as_slice(),
+        every: those_of_all(some.as_slice(), &every),
+    };
+    arms_facts(alloc, set, stretch, facts, joined, bindings)
 }
 
-/// The facts of an if-then-else, by those of its condition, its then part and its else part; it occurs from one place to
-/// another. The set has no variables and the list has the same facts, before and after.
+/// The facts of an if-then-else, by those of its condition, its then part and its else part; it occurs in this stretch. The
+/// set has no variables and the list has the same facts, before and after.
 ///
 /// # Errors
 ///
@@ -71,31 +81,33 @@ pub(crate) fn disjunction_facts(
 pub(crate) fn conditional_facts(
     alloc: Global,
     set: &mut BoundSet,
-    all: &Occurrences,
-    start: usize,
-    end: usize,
+    stretch: Stretch<'_>,
     facts: &mut Vec<Facts>,
-    condition: Complete,
-    then_part: Complete,
-    else_part: Complete,
+    decision: Decision,
 ) -> Result<Facts, NoMemory>
     requires { set.old ≡ [] }
-    ensures facts { IfOk result (λ found. (total : ℕ → ℕ) (modes : ℕ → List ModeDecl) (first second third : Node) (span : Span) → AreKnown total modes facts.old.items (condition ∷ then_part ∷ else_part ∷ []) (more_nodes first (more_nodes second (more_nodes third no_nodes))) → IsStretch total all.now start end (variables (Conditional first second third span)) → AreFactsOf total modes (Conditional first second third span) found) }
+    ensures facts { IfOk result (λ found. (total : ℕ → ℕ) (modes : ℕ → List ModeDecl) (first second third : Node) (span : Span) → AreKnown total modes facts.old.items (decision.condition ∷ decision.then_part ∷ decision.else_part ∷ []) (more_nodes first (more_nodes second (more_nodes third no_nodes))) → IsStretch total stretch.entry.all.now stretch.entry.start stretch.entry.end (variables (Conditional first second third span)) → AreFactsOf total modes (Conditional first second third span) found) }
     ensures same { OnOk result (facts.new.items ≡ facts.old.items) }
     ensures cleared { OnOk result (set.new ≡ []) }
 {
-    let then_end = end.saturating_sub(occurrences_at(facts, else_part));
-    let goes = [condition, then_part];
+    let start = stretch.start;
+    let else_count = occurrences_at(facts, decision.else_part);
+    let then_end = stretch.end.saturating_sub(else_count);
+    let goes = [decision.condition, decision.then_part];
     let occurrences = then_end.saturating_sub(start);
     let first_arm = conjunction_facts(alloc, set, facts, &goes, occurrences)?;
     let part = facts.len();
     push_facts(facts, first_arm)?;
-    let arms = [Complete { part, start }, else_part];
-    let decided = disjunction_facts(alloc, set, all, start, end, facts, &arms)?;
+    let arms = [Complete { part, start }, decision.else_part];
+    let decided = disjunction_facts(alloc, set, stretch, facts, &arms)?;
     // The needs of the else part are not added: in a long chain each list would be longer than the one before.
     let needs = take_needs(alloc, facts);
-    let condition_binds = binds_at(facts, condition);
-    owing(alloc, all, start, then_end, condition_binds, needs, decided)
+    let condition_binds = binds_at(facts, decision.condition);
+    let first = Stretch {
+        end: then_end,
+        ..stretch
+    };
+    owing(alloc, first, condition_binds, needs, decided)
 }
 
 // Takes the last facts away, and gives what they tell that is needed.
@@ -108,20 +120,18 @@ fn take_needs(alloc: Global, facts: &mut Vec<Facts>) -> Vars
     }
 }
 
-// The facts of a disjunction, with these needs, and with what is owed by a condition that goes from one place to another and
-// binds these variables.
+// The facts of a disjunction, with these needs, and with what is owed by a condition that binds these variables. The
+// stretch is that of the condition and the then part.
 fn owing(
     alloc: Global,
-    all: &Occurrences,
-    start: usize,
-    end: usize,
+    stretch: Stretch<'_>,
     condition_binds: &[Var],
     needs: Vars,
     decided: Facts,
 ) -> Result<Facts, NoMemory>
-    ensures { IfOk result (λ found. found ≡ record { reached = decided.reached; binds = decided.binds; owed = decided.owed; owed_by_condition = filter (λ variable. occurs_outside all.now start end variable) condition_binds.now; needs = needs; occurrences = decided.occurrences }) }
+    ensures { IfOk result (λ found. found ≡ record { reached = decided.reached; binds = decided.binds; owed = decided.owed; owed_by_condition = filter (λ variable. occurs_outside stretch.entry.all.now stretch.entry.start stretch.entry.end variable) condition_binds.now; needs = needs; occurrences = decided.occurrences }) }
 {
-    let owed_by_condition = those_outside(alloc, all, start, end, condition_binds)?;
+    let owed_by_condition = those_outside(alloc, stretch, condition_binds)?;
     Ok(Facts {
         reached: decided.reached,
         binds: decided.binds,
@@ -162,41 +172,36 @@ fn those_of_all<'a>(some: &'a [Var], every: &'a Option<Vars>) -> &'a [Var]
     }
 }
 
-// The facts of a goal with these arms. Some arm that counts binds each of `some`, and each such arm binds all of `every`. The
-// set has no variables, before and after.
+// The facts of a goal by its arms and what they bind. The set has no variables, before and after.
 fn arms_facts(
     alloc: Global,
     set: &mut BoundSet,
-    all: &Occurrences,
-    start: usize,
-    end: usize,
+    stretch: Stretch<'_>,
     facts: &[Facts],
     joined: &[Complete],
-    reached: bool,
-    some: &[Var],
-    every: &[Var],
+    bindings: Bindings<'_>,
 ) -> Result<Facts, NoMemory>
     requires { set.old ≡ [] }
-    ensures reached { IfOk result (λ found. found.reached ≡ reached) }
-    ensures binds { IfOk result (λ found. found.binds ≡ filter (λ variable. occurs_outside all.now start end variable) (those_bound reached some.now (all_behind [] every.now))) }
-    ensures owed { IfOk result (λ found. found.owed ≡ filter (λ variable. occurs_outside all.now start end variable) (those_owed reached some.now (all_behind [] every.now))) }
-    ensures occurrences { IfOk result (λ found. found.occurrences ≡ end - start) }
+    ensures reached { IfOk result (λ found. found.reached ≡ bindings.entry.reached) }
+    ensures binds { IfOk result (λ found. found.binds ≡ filter (λ variable. occurs_outside stretch.entry.all.now stretch.entry.start stretch.entry.end variable) (those_bound bindings.entry.reached bindings.entry.some.now (all_behind [] bindings.entry.every.now))) }
+    ensures owed { IfOk result (λ found. found.owed ≡ filter (λ variable. occurs_outside stretch.entry.all.now stretch.entry.start stretch.entry.end variable) (those_owed bindings.entry.reached bindings.entry.some.now (all_behind [] bindings.entry.every.now))) }
+    ensures occurrences { IfOk result (λ found. found.occurrences ≡ stretch.entry.end - stretch.entry.start) }
     ensures condition { IfOk result (λ found. found.owed_by_condition ≡ []) }
     ensures needs { IfOk result (λ found. (variable : ℕ) → among found.needs variable ≡ is_needed (found_in facts.now joined.now) variable) }
     ensures cleared { OnOk result (set.new ≡ []) }
 {
-    set.bind_all(every)?;
-    let binds = bound_outside(alloc, set, all, start, end, reached, some)?;
-    let owed = owed_outside(alloc, set, all, start, end, reached, some)?;
+    set.bind_all(bindings.every)?;
+    let binds = bound_outside(alloc, set, stretch, bindings.reached, bindings.some)?;
+    let owed = owed_outside(alloc, set, stretch, bindings.reached, bindings.some)?;
     set.undo(0);
     let needs = needed_by_some(alloc, set, facts, joined)?;
     Ok(Facts {
-        reached,
+        reached: bindings.reached,
         binds,
         owed,
         owed_by_condition: Vars::new(alloc),
         needs,
-        occurrences: end.saturating_sub(start),
+        occurrences: stretch.end.saturating_sub(stretch.start),
     })
 }
 
@@ -205,19 +210,17 @@ fn arms_facts(
 fn bound_outside(
     alloc: Global,
     set: &BoundSet,
-    all: &Occurrences,
-    start: usize,
-    end: usize,
+    stretch: Stretch<'_>,
     reached: bool,
     some: &[Var],
 ) -> Result<Vars, NoMemory>
-    ensures { IfOk result (λ bound. bound ≡ filter (λ variable. occurs_outside all.now start end variable) (those_bound reached some.now set.now)) }
+    ensures { IfOk result (λ bound. bound ≡ filter (λ variable. occurs_outside stretch.entry.all.now stretch.entry.start stretch.entry.end variable) (those_bound reached some.now set.now)) }
 {
     if reached {
-        return those_outside(alloc, all, start, end, some);
+        return those_outside(alloc, stretch, some);
     }
     let shared = those_in(alloc, set, some)?;
-    those_outside(alloc, all, start, end, shared.as_slice())
+    those_outside(alloc, stretch, shared.as_slice())
 }
 
 // Of the variables that some arm binds, those that have to be bound before the arms and occur outside. The set has those that
@@ -225,17 +228,15 @@ fn bound_outside(
 fn owed_outside(
     alloc: Global,
     set: &BoundSet,
-    all: &Occurrences,
-    start: usize,
-    end: usize,
+    stretch: Stretch<'_>,
     reached: bool,
     some: &[Var],
 ) -> Result<Vars, NoMemory>
-    ensures { IfOk result (λ owed. owed ≡ filter (λ variable. occurs_outside all.now start end variable) (those_owed reached some.now set.now)) }
+    ensures { IfOk result (λ owed. owed ≡ filter (λ variable. occurs_outside stretch.entry.all.now stretch.entry.start stretch.entry.end variable) (those_owed reached some.now set.now)) }
 {
     if !reached {
         return Ok(Vars::new(alloc));
     }
     let differing = those_not_in(alloc, set, some)?;
-    those_outside(alloc, all, start, end, differing.as_slice())
+    those_outside(alloc, stretch, differing.as_slice())
 }

@@ -17,7 +17,7 @@ use crate::bound::BoundSet;
 use crate::facts::Facts;
 use crate::modes::modes_at;
 use crate::needing::read_by;
-use crate::occurrences::Occurrences;
+use crate::stretch::Stretch;
 use merc_base::{Most, NoMemory};
 use merc_goal_tree::{SimpleGoal, Var, Vars};
 use merc_tree::{ModeDecl, PredDecl};
@@ -52,21 +52,19 @@ pub(crate) fn simple_facts(
     })
 }
 
-/// The facts of a negation, by those of the goal that is negated, which occurs from one place to another.
+/// The facts of a negation, by those of the goal that is negated, which occurs in this stretch.
 ///
 /// # Errors
 ///
 /// `NoMemory` where memory was refused.
 pub(crate) fn negation_facts(
     alloc: Global,
-    all: &Occurrences,
-    start: usize,
-    end: usize,
+    stretch: Stretch<'_>,
     inner: &Facts,
 ) -> Result<Facts, NoMemory>
-    ensures { IfOk result (λ facts. (total : ℕ → ℕ) (modes : ℕ → List ModeDecl) (goal : Node) (span : Span) → IsStretch total all.now start end (variables goal) → AreFactsOf total modes goal inner.now → AreFactsOf total modes (Negation goal span) facts) }
+    ensures { IfOk result (λ facts. (total : ℕ → ℕ) (modes : ℕ → List ModeDecl) (goal : Node) (span : Span) → IsStretch total stretch.entry.all.now stretch.entry.start stretch.entry.end (variables goal) → AreFactsOf total modes goal inner.now → AreFactsOf total modes (Negation goal span) facts) }
 {
-    let owed = those_outside(alloc, all, start, end, inner.binds.as_slice())?;
+    let owed = those_outside(alloc, stretch, inner.binds.as_slice())?;
     let needs = inner.needs.try_clone(alloc)?;
     Ok(Facts {
         reached: true,
@@ -78,21 +76,19 @@ pub(crate) fn negation_facts(
     })
 }
 
-/// The facts of a quantified goal, by those of the goal in it, which occurs from one place to another.
+/// The facts of a quantified goal, by those of the goal in it, which occurs in this stretch.
 ///
 /// # Errors
 ///
 /// `NoMemory` where memory was refused.
 pub(crate) fn quantified_facts(
     alloc: Global,
-    all: &Occurrences,
-    start: usize,
-    end: usize,
+    stretch: Stretch<'_>,
     inner: &Facts,
 ) -> Result<Facts, NoMemory>
-    ensures { IfOk result (λ facts. (total : ℕ → ℕ) (modes : ℕ → List ModeDecl) (own : List ℕ) (goal : Node) (span : Span) → IsStretch total all.now start end (variables goal) → AreFactsOf total modes goal inner.now → AreFactsOf total modes (Quantified own goal span) facts) }
+    ensures { IfOk result (λ facts. (total : ℕ → ℕ) (modes : ℕ → List ModeDecl) (own : List ℕ) (goal : Node) (span : Span) → IsStretch total stretch.entry.all.now stretch.entry.start stretch.entry.end (variables goal) → AreFactsOf total modes goal inner.now → AreFactsOf total modes (Quantified own goal span) facts) }
 {
-    let binds = those_outside(alloc, all, start, end, inner.binds.as_slice())?;
+    let binds = those_outside(alloc, stretch, inner.binds.as_slice())?;
     let needs = inner.needs.try_clone(alloc)?;
     Ok(Facts {
         reached: inner.reached,
@@ -204,19 +200,20 @@ fn put(set: &mut BoundSet, found: &mut Vars, variable: Var) -> Result<(), NoMemo
     Ok(())
 }
 
-/// Those of the variables that occur outside the stretch from one place to another.
+/// Those of the variables that occur outside the stretch.
 pub(crate) fn those_outside(
     alloc: Global,
-    all: &Occurrences,
-    start: usize,
-    end: usize,
+    stretch: Stretch<'_>,
     variables: &[Var],
 ) -> Result<Vars, NoMemory>
-    ensures { IfOk result (λ outer. outer ≡ filter (λ variable. occurs_outside all.now start end variable) variables.now) }
+    ensures { IfOk result (λ outer. outer ≡ filter (λ variable. occurs_outside stretch.entry.all.now stretch.entry.start stretch.entry.end variable) variables.now) }
 {
     let mut outer = Vars::new(alloc);
     for variable in variables {
-        if all.is_outside(start, end, *variable) {
+        if stretch
+            .all
+            .is_outside(stretch.start, stretch.end, *variable)
+        {
             outer.push(*variable)?;
         }
     }

@@ -13,12 +13,13 @@ ghost use Rattle.merc_goal_facts.specs.Outside.{IsStretch};
 
 use crate::bound::BoundSet;
 use crate::complete::Complete;
-use crate::deciding::{conditional_facts, disjunction_facts};
+use crate::deciding::{Decision, conditional_facts, disjunction_facts};
 use crate::facts::{Facts, push_facts};
 use crate::finding::{negation_facts, quantified_facts, simple_facts};
 use crate::joining::conjunction_facts;
 use crate::needing::leave_out;
 use crate::occurrences::Occurrences;
+use crate::stretch::Stretch;
 use merc_base::NoMemory;
 use merc_goal_tree::{NodeRef, Root};
 use merc_tree::PredDecl;
@@ -32,6 +33,14 @@ struct Known {
     complete: Vec<Complete>,
     // the place behind the variables of the parts so far
     end: usize,
+}
+
+// A part, the goals that it joins, and the stretch of their variables.
+#[derive(Clone, Copy)]
+struct Part<'a> {
+    root: &'a Root,
+    joined: &'a [Complete],
+    stretch: Stretch<'a>,
 }
 
 /// The facts of all parts of a body, in their order. `all` are the head variables, so many, and behind them the variables
@@ -85,17 +94,12 @@ fn complete_part(
     let start = start_at(&known.complete, kept, known.end);
     let joined = &known.complete[kept..];
     let end = known.end;
-    let found = part_facts(
-        alloc,
-        set,
-        predicates,
-        all,
-        start,
-        end,
-        &mut known.facts,
-        joined,
+    let next = Part {
         root,
-    )?;
+        joined,
+        stretch: Stretch { all, start, end },
+    };
+    let found = part_facts(alloc, set, predicates, &mut known.facts, next)?;
     known.end = place_behind(all, start, found.occurrences);
     let part = known.facts.len();
     push_facts(&mut known.facts, found)?;
@@ -106,39 +110,41 @@ fn complete_part(
     Ok(())
 }
 
-// The facts of a part by those of the goals that it joins, whose variables occur from one place to another. The list has the
-// same facts and the set no variables, before and after.
+// The facts of a part by those of the goals that it joins. The list has the same facts and the set no variables, before and
+// after.
 fn part_facts(
     alloc: Global,
     set: &mut BoundSet,
     predicates: &[PredDecl],
-    all: &Occurrences,
-    start: usize,
-    end: usize,
     facts: &mut Vec<Facts>,
-    joined: &[Complete],
-    root: &Root,
+    part: Part<'_>,
 ) -> Result<Facts, NoMemory>
     requires cleared { set.old ≡ [] }
-    requires many { length joined.now ≡ arity_of root.now }
-    requires there { AreThere (length facts.old.items) joined.now }
-    ensures facts { IfOk result (λ found. (total : ℕ → ℕ) (goals : List Node) (span : Span) → JoinedAreKnown total (modes_of predicates.now) facts.old.items joined.now (nodes_of goals) → IsStretch total all.now start end (variables_of_all goals) → AreFactsOf total (modes_of predicates.now) (joining root.now span goals) found) }
+    requires many { length part.joined.now ≡ arity_of part.root.now }
+    requires there { AreThere (length facts.old.items) part.joined.now }
+    ensures facts { IfOk result (λ found. (total : ℕ → ℕ) (goals : List Node) (span : Span) → JoinedAreKnown total (modes_of predicates.now) facts.old.items part.entry.joined.now (nodes_of goals) → IsStretch total part.entry.stretch.all.now part.entry.stretch.start part.entry.stretch.end (variables_of_all goals) → AreFactsOf total (modes_of predicates.now) (joining part.entry.root.now span goals) found) }
     ensures same { OnOk result (facts.new.items ≡ facts.old.items) }
     ensures cleared { OnOk result (set.new ≡ []) }
 {
-    match root {
+    let joined = part.joined;
+    let stretch = part.stretch;
+    match part.root {
         Root::Simple(goal) => simple_facts(alloc, set, predicates, goal),
         Root::Conjunction(_) | Root::Parallel(_) => {
-            conjunction_facts(alloc, set, facts, joined, end.saturating_sub(start))
+            let occurrences = stretch.end.saturating_sub(stretch.start);
+            conjunction_facts(alloc, set, facts, joined, occurrences)
         }
-        Root::Disjunction(_) => disjunction_facts(alloc, set, all, start, end, facts, joined),
+        Root::Disjunction(_) => disjunction_facts(alloc, set, stretch, facts, joined),
         Root::Conditional => {
-            conditional_facts(
-                alloc, set, all, start, end, facts, joined[0], joined[1], joined[2],
-            )
+            let decision = Decision {
+                condition: joined[0],
+                then_part: joined[1],
+                else_part: joined[2],
+            };
+            conditional_facts(alloc, set, stretch, facts, decision)
         }
-        Root::Negation => negation_facts(alloc, all, start, end, &facts[joined[0].part]),
-        Root::Quantified(_) => quantified_facts(alloc, all, start, end, &facts[joined[0].part]),
+        Root::Negation => negation_facts(alloc, stretch, &facts[joined[0].part]),
+        Root::Quantified(_) => quantified_facts(alloc, stretch, &facts[joined[0].part]),
     }
 }
 

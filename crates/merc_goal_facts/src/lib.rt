@@ -14,6 +14,7 @@ mod knowing;
 mod modes;
 mod needing;
 mod occurrences;
+mod stretch;
 
 pub use bound::BoundSet;
 pub use choosing::those_in;

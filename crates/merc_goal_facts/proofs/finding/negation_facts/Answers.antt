@@ -6,6 +6,6 @@ use Rattle.merc_goal_facts.proofs.finding.negation_facts.Goals as goal
 
 pub returns : goal.returns
 returns c = λ total modes goal span stretch known.
-    negation_are total modes goal span c.args.all.now c.args.start c.args.end c.args.inner.now _ stretch known refl c.new.ensures
-    (c.in_ok-owed.ensures ∙ ap (filter (λ variable. occurs_outside c.args.all.now c.args.start c.args.end variable)) c.as_slice.ensures) c.new-2.ensures
+    negation_are total modes goal span c.args.stretch.all.now c.args.stretch.start c.args.stretch.end c.args.inner.now _ stretch known refl c.new.ensures
+    (c.in_ok-owed.ensures ∙ ap (filter (λ variable. occurs_outside c.args.stretch.all.now c.args.stretch.start c.args.stretch.end variable)) c.as_slice.ensures) c.new-2.ensures
     c.in_ok-needs.ensures refl
