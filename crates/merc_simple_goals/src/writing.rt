@@ -205,15 +205,8 @@ pub fn order_simple(
         SimpleGoal::Fail => put_if(true, BasicGoal::Fail, frame, written),
         SimpleGoal::Same(one, other) => order_same(*one, *other, frame, bound, written),
         SimpleGoal::Shape(whole, symbol, arguments) => {
-            order_shape(
-                alloc,
-                *whole,
-                *symbol,
-                arguments.as_slice(),
-                frame,
-                bound,
-                written,
-            )
+            let arguments = arguments.as_slice();
+            order_shape(alloc, *whole, *symbol, arguments, frame, bound, written)
         }
         SimpleGoal::Arithmetic(operation, target, left, right) => {
             let operands = (*left, *right);
@@ -225,24 +218,13 @@ pub fn order_simple(
             put_if(is_ready, goal, frame, written)
         }
         SimpleGoal::Raise(text) => {
-            put_if(
-                bound.is_bound(*text),
-                BasicGoal::Raise(*text),
-                frame,
-                written,
-            )
+            let is_ready = bound.is_bound(*text);
+            put_if(is_ready, BasicGoal::Raise(*text), frame, written)
         }
         SimpleGoal::Call(predicate, arguments) => {
             let modes = modes_at(predicates, *predicate);
-            order_call(
-                alloc,
-                modes,
-                *predicate,
-                arguments.as_slice(),
-                frame,
-                bound,
-                written,
-            )
+            let arguments = arguments.as_slice();
+            order_call(alloc, modes, *predicate, arguments, frame, bound, written)
         }
     }
 }

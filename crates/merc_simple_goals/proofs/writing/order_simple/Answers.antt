@@ -17,7 +17,7 @@ returns-in-Same c = λ total. by_goal total (modes_of c.args.predicates.now) c.a
     (c.order_same.ensures total (modes_of c.args.predicates.now))
 
 pub returns-in-Shape : goal.returns-in-Shape
-returns-in-Shape c = λ total. by_goal total (modes_of c.args.predicates.now) c.args.goal.now _ c.args.outputs c.args.span _ c.args.written.now c.order_shape.new.written c.order_shape.result (c.in-Shape.is ∙ ap (Shape c.in-Shape.whole c.in-Shape.symbol) (sym c.as_slice.ensures))
+returns-in-Shape c = λ total. by_goal total (modes_of c.args.predicates.now) c.args.goal.now _ c.args.outputs c.args.span _ c.args.written.now c.order_shape.new.written c.order_shape.result (c.in-Shape.is ∙ ap (Shape c.in-Shape.whole c.in-Shape.symbol) (sym c.as_slice-arguments.ensures))
     (c.order_shape.ensures total (modes_of c.args.predicates.now))
 
 pub returns-in-Arithmetic : goal.returns-in-Arithmetic
@@ -31,8 +31,8 @@ returns-in-Compare c = λ total. by_goal total (modes_of c.args.predicates.now) 
 
 pub returns-in-Raise : goal.returns-in-Raise
 returns-in-Raise c = λ total. by_goal total (modes_of c.args.predicates.now) c.args.goal.now _ c.args.outputs c.args.span _ c.args.written.now c.put_if-in-Raise.new.written c.put_if-in-Raise.result c.in-Raise.is
-    (raised_gives (modes_of c.args.predicates.now) c.in-Raise.text c.args.outputs c.args.span _ _ c.args.written.now c.put_if-in-Raise.new.written c.put_if-in-Raise.result c.is_bound.ensures c.put_if-in-Raise.ensures)
+    (raised_gives (modes_of c.args.predicates.now) c.in-Raise.text c.args.outputs c.args.span _ _ c.args.written.now c.put_if-in-Raise.new.written c.put_if-in-Raise.result c.is_bound-is_ready.ensures c.put_if-in-Raise.ensures)
 
 pub returns-in-Call : goal.returns-in-Call
-returns-in-Call c = λ total. by_goal total (modes_of c.args.predicates.now) c.args.goal.now _ c.args.outputs c.args.span _ c.args.written.now c.order_call.new.written c.order_call.result (c.in-Call.is ∙ ap (Call c.in-Call.predicate) (sym c.as_slice-in-Call.ensures))
+returns-in-Call c = λ total. by_goal total (modes_of c.args.predicates.now) c.args.goal.now _ c.args.outputs c.args.span _ c.args.written.now c.order_call.new.written c.order_call.result (c.in-Call.is ∙ ap (Call c.in-Call.predicate) (sym c.as_slice-arguments-in-Call.ensures))
     (c.order_call.ensures total (modes_of c.args.predicates.now) (sym c.modes_at-modes.ensures))
