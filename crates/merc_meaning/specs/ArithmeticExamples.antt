@@ -161,6 +161,9 @@ at_least-not backwards = cc
 arithmetic_of-example : arithmetic_of Add (Int (pos 1)) (Int (pos 2)) ≡ Some (Int (pos 3))
 arithmetic_of-example = refl
 
+arithmetic_of-order : arithmetic_of Subtract (Int (pos 7)) (Int (pos 9)) ≡ Some (Int (minus (pos 2)))
+arithmetic_of-order = refl
+
 arithmetic_of-zero : arithmetic_of Mod (Int (pos 1)) (Int (pos 0)) ≡ None
 arithmetic_of-zero = refl
 

@@ -1,5 +1,6 @@
--- Worked examples of runs. `number(out)` answers 1 and 2, `twice(in, out)` adds its input to itself, `loop` calls itself.
-use Rattle.std.specs.Prelude.{◌≡◌, ℕ, pos, List, [], ◌∷◌, Option, Some, None, slice_get, refl}
+-- Worked examples of runs. `number(out)` answers 1 and 2, `twice(in, out)` adds its input to itself, `loop` calls itself, `fourfold(in, out)` calls
+-- `twice` twice, and `broken` raises an exception.
+use Rattle.std.specs.Prelude.{◌≡◌, ℕ, pos, negsuc, List, [], ◌∷◌, Option, Some, None, slice_get, refl}
 use Rattle.merc_base.specs.Names.{division_by_zero_name}
 use Rattle.merc_base.specs.declared.category.Category.{Category}
 use Rattle.merc_base.specs.declared.category.Category.TheVariants.{Semidet, Multi, Failure}
@@ -7,7 +8,7 @@ use Rattle.merc_base.specs.declared.place.Span.{Span}
 use Rattle.merc_tree.specs.declared.declarations.Arg.TheVariants.{Input, Output}
 use Rattle.merc_value.specs.Value.{Value, Int, Con, none, more}
 use Rattle.merc_goal_tree.specs.declared.goal.Comparison.TheVariants.{Less}
-use Rattle.merc_goal_tree.specs.declared.goal.Operation.TheVariants.{Add, Quotient}
+use Rattle.merc_goal_tree.specs.declared.goal.Operation.TheVariants.{Add, Subtract, Quotient}
 use Rattle.merc_goal_tree.specs.declared.goal.Symbol.{Symbol}
 use Rattle.merc_goal_tree.specs.declared.goal.Symbol.TheVariants.{Constructor, Integer, Text as TextSymbol}
 use Rattle.merc_graded_tree.specs.declared.basic.BasicGoal.{BasicGoal}
@@ -69,14 +70,29 @@ twice_body = record { places = Input ∷ Output ∷ []; body = basic (Arithmetic
 abbrev loop_body : ProcedureBody
 loop_body = record { places = []; body = basic (Call (procedure 2) []) [] }
 
-abbrev program : Program
-program called = slice_get (number_body ∷ twice_body ∷ loop_body ∷ []) called.predicate
-
 abbrev number : ℕ → Node
 number variable = basic (Call (procedure 0) (variable ∷ [])) (variable ∷ [])
 
 abbrev twice : ℕ → ℕ → Node
 twice from to = basic (Call (procedure 1) (from ∷ to ∷ [])) (to ∷ [])
+
+abbrev raising : Node
+raising = sequence (is_text x 300 ∷ basic (Raise x) [] ∷ []) (x ∷ [])
+
+abbrev fourfold_body : ProcedureBody
+fourfold_body = record { places = Input ∷ Output ∷ []; body = sequence (twice x 2 ∷ twice 2 y ∷ []) (y ∷ []) }
+
+abbrev broken_body : ProcedureBody
+broken_body = record { places = []; body = raising }
+
+abbrev program : Program
+program called = slice_get (number_body ∷ twice_body ∷ loop_body ∷ fourfold_body ∷ broken_body ∷ []) called.predicate
+
+abbrev fourfold : ℕ → ℕ → Node
+fourfold from to = basic (Call (procedure 3) (from ∷ to ∷ [])) (to ∷ [])
+
+abbrev broken : Node
+broken = basic (Call (procedure 4) []) []
 
 abbrev loop : Node
 loop = basic (Call (procedure 2) []) []
@@ -101,6 +117,11 @@ call-absent = refl
 call-not : run program (sequence (is_int x 21 ∷ twice x y ∷ []) (x ∷ y ∷ [])) 10 ≡ Answer (int 21 ∷ int 42 ∷ []) done → ⊥
 call-not is_no_step = cc
 
+-- each call is a step, and a body's own variables are not the caller's
+call-nested : run program (sequence (is_int x 5 ∷ is_int y 6 ∷ fourfold x 3 ∷ []) (x ∷ y ∷ 3 ∷ [])) 10
+    ≡ Tick (Tick (Tick (Answer (int 5 ∷ int 6 ∷ None ∷ int 20 ∷ []) done)))
+call-nested = refl
+
 -- a conjunction goes on from each answer
 
 conjunction-example : run program (sequence (number x ∷ twice x y ∷ []) (x ∷ y ∷ [])) 10
@@ -123,7 +144,7 @@ disjunction-example = refl
 disjunction-not : run program (either (is_int x 7 ∷ is_int x 8 ∷ []) (x ∷ [])) 10 ≡ Answer (int 7 ∷ []) done → ⊥
 disjunction-not stops = cc
 
--- a switch
+-- a switch; of arms of one symbol it is the first
 
 abbrev red : Symbol
 red = Constructor 200 0
@@ -134,14 +155,23 @@ box = Constructor 201 1
 abbrev arms : Arms
 arms = more_arms red (is_int y 1) (more_arms (Integer (pos 5)) (is_int y 2) no_arms)
 
+abbrev switched_over : Arms → Symbol → Node
+switched_over choices symbol = sequence (basic (Build x symbol []) (x ∷ []) ∷ goal (Switch x choices) (y ∷ []) ∷ []) (x ∷ y ∷ [])
+
 abbrev switched : Symbol → Node
-switched symbol = sequence (basic (Build x symbol []) (x ∷ []) ∷ goal (Switch x arms) (y ∷ []) ∷ []) (x ∷ y ∷ [])
+switched symbol = switched_over arms symbol
 
 switch-example : run program (switched red) 10 ≡ Answer (Some (Con 200 none) ∷ int 1 ∷ []) done
 switch-example = refl
 
 switch-literal : run program (switched (Integer (pos 5))) 10 ≡ Answer (int 5 ∷ int 2 ∷ []) done
 switch-literal = refl
+
+switch-first : run program (switched_over (more_arms red (is_int y 1) (more_arms red (is_int y 2) no_arms)) red) 10 ≡ Answer (Some (Con 200 none) ∷ int 1 ∷ []) done
+switch-first = refl
+
+switch-unbound : run program (goal (Switch x arms) (y ∷ [])) 10 ≡ done
+switch-unbound = refl
 
 switch-missing : run program (switched (Constructor 202 0)) 10 ≡ done
 switch-missing = refl
@@ -154,6 +184,10 @@ boxed = sequence (is_int x 3 ∷ basic (Build 1 box (x ∷ [])) (1 ∷ []) ∷ b
 split-example : run program boxed 10 ≡ Answer (int 3 ∷ Some (Con 201 (more (Int (pos 3)) none)) ∷ int 3 ∷ []) done
 split-example = refl
 
+-- what is built of an unbound variable fails
+build-unbound : run program (basic (Build y box (x ∷ [])) (y ∷ [])) 10 ≡ done
+build-unbound = refl
+
 split-other : run program (sequence (is_int x 3 ∷ basic (Split x box (2 ∷ [])) (2 ∷ []) ∷ []) (x ∷ 2 ∷ [])) 10 ≡ done
 split-other = refl
 
@@ -164,6 +198,10 @@ test-example = refl
 
 test-fails : run program (sequence (is_int x 3 ∷ is_int y 4 ∷ basic (Test x y) [] ∷ []) (x ∷ y ∷ [])) 10 ≡ done
 test-fails = refl
+
+arithmetic-order : run program (sequence (is_int x 7 ∷ is_int y 9 ∷ basic (Arithmetic Subtract 2 x y) (2 ∷ []) ∷ []) (x ∷ y ∷ 2 ∷ [])) 10
+    ≡ Answer (int 7 ∷ int 9 ∷ Some (Int (negsuc 1)) ∷ []) done
+arithmetic-order = refl
 
 compare-example : run program (sequence (is_int x 3 ∷ is_int y 4 ∷ basic (Compare Less x y) [] ∷ []) (x ∷ y ∷ [])) 10 ≡ Answer (int 3 ∷ int 4 ∷ []) done
 compare-example = refl
@@ -193,14 +231,15 @@ quantified-example = refl
 
 -- exceptions
 
-abbrev raising : Node
-raising = sequence (is_text x 300 ∷ basic (Raise x) [] ∷ []) (x ∷ [])
-
 raise-example : run program raising 10 ≡ Ends (RunRaised 300)
 raise-example = refl
 
 raise-behind_answer : run program (either (is_int x 1 ∷ raising ∷ is_int x 2 ∷ []) (x ∷ [])) 10 ≡ Answer (int 1 ∷ []) (Ends (RunRaised 300))
 raise-behind_answer = refl
+
+raise-in_call : run program (either (number x ∷ broken ∷ is_int x 3 ∷ []) (x ∷ [])) 10
+    ≡ Tick (Answer (int 1 ∷ []) (Answer (int 2 ∷ []) (Tick (Ends (RunRaised 300)))))
+raise-in_call = refl
 
 raise-in_condition : run program (goal (Conditional raising truth (is_int y 9)) (y ∷ [])) 10 ≡ Ends (RunRaised 300)
 raise-in_condition = refl

@@ -1,11 +1,12 @@
 -- Worked examples of traces, and of what one step does.
-use Rattle.std.specs.Prelude.{◌≡◌, ℕ, pos, [], ◌∷◌, Option, Some, None, refl}
+use Rattle.std.specs.Prelude.{◌≡◌, ℕ, pos, negsuc, [], ◌∷◌, Option, Some, None, refl}
 use Rattle.merc_tree.specs.declared.declarations.Arg.TheVariants.{Input, Output}
-use Rattle.merc_goal_tree.specs.declared.goal.Operation.TheVariants.{Add}
+use Rattle.merc_goal_tree.specs.declared.goal.Operation.TheVariants.{Add, Subtract}
 use Rattle.merc_goal_tree.specs.declared.goal.Symbol.TheVariants.{Constructor}
 use Rattle.merc_value.specs.Value.{Value, Int, Text, none, more}
+use Rattle.merc_meaning.specs.Values.{same}
 use Rattle.merc_meaning.specs.Trace.{Env, Trace, Ends, Tick, Answer, Done, Raised, TooDeep, RunDone, RunRaised, LimitPassed, one_answer, after, each, taken_back, first_alone, choose, negated, cut}
-use Rattle.merc_meaning.specs.Steps.{value_at, with_entry, bound, values_at, filled, split, operated, raised, entered, brought_back}
+use Rattle.merc_meaning.specs.Steps.{value_at, with_entry, bound, binds, compared, values_at, filled, split, operated, raised, entered, brought_back}
 
 abbrev int : ℕ → Option Value
 int number = Some (Int (pos number))
@@ -41,6 +42,13 @@ each-raised = refl
 taken_back-example : taken_back (λ env. two) (step (step done)) ≡ Tick (Answer two (Tick (Answer two done)))
 taken_back-example = refl
 
+-- an exception in a called body is the caller's
+taken_back-raised : taken_back (λ env. two) (step (Ends (Raised 7))) ≡ Tick (Answer two (Ends (Raised 7)))
+taken_back-raised = refl
+
+taken_back-too_deep : taken_back (λ env. two) (Tick (Ends TooDeep)) ≡ Tick (Ends TooDeep)
+taken_back-too_deep = refl
+
 first_alone-example : first_alone (step (step (Ends (Raised 7)))) ≡ step done
 first_alone-example = refl
 
@@ -55,6 +63,12 @@ choose-none = refl
 
 choose-raised : choose (λ env. one_answer two) (one_answer one) (Tick (Ends (Raised 7))) ≡ Tick (Ends (Raised 7))
 choose-raised = refl
+
+choose-too_deep : choose (λ env. one_answer two) (one_answer one) (Tick (Ends TooDeep)) ≡ Tick (Ends TooDeep)
+choose-too_deep = refl
+
+choose-raised_behind : choose (λ env. one_answer two) (one_answer one) (step (Ends (Raised 7))) ≡ Tick (Answer two (Ends (Raised 7)))
+choose-raised_behind = refl
 
 choose-fails_behind : choose (λ env. done) (one_answer one) (step done) ≡ Tick done
 choose-fails_behind = refl
@@ -76,6 +90,10 @@ cut-passed = refl
 
 cut-raised : cut 1 (step (Ends (Raised 7))) ≡ Tick (Answer one (Ends (RunRaised 7)))
 cut-raised = refl
+
+-- what is too deep is behind the limit
+cut-too_deep : cut 3 (step (Ends TooDeep)) ≡ Tick (Answer one (Ends LimitPassed))
+cut-too_deep = refl
 
 cut-not : cut 2 (step (step done)) ≡ Tick (Answer one (Ends LimitPassed)) → ⊥
 cut-not counts_from_zero = cc
@@ -103,16 +121,34 @@ values_at-example = refl
 values_at-unbound : values_at (int 1 ∷ None ∷ []) (0 ∷ 1 ∷ []) ≡ None
 values_at-unbound = refl
 
+values_at-first_unbound : values_at (None ∷ int 1 ∷ []) (0 ∷ 1 ∷ []) ≡ None
+values_at-first_unbound = refl
+
 filled-example : filled [] (1 ∷ 0 ∷ []) (more (Text 7) (more (Text 8) none)) ≡ Some (Text 8) ∷ Some (Text 7) ∷ []
 filled-example = refl
 
 -- an operand that is unbound, or no integer, fails; only a text is raised
+
+binds-unbound : binds one 1 None ≡ done
+binds-unbound = refl
+
+compared-unbound_left : compared one same None (int 1) ≡ done
+compared-unbound_left = refl
+
+compared-unbound_right : compared one same (int 1) None ≡ done
+compared-unbound_right = refl
 
 split-unbound : split [] (Constructor 200 1) (0 ∷ []) None ≡ done
 split-unbound = refl
 
 operated-unbound : operated [] Add 0 (int 1) None ≡ done
 operated-unbound = refl
+
+operated-unbound_left : operated [] Add 0 None (int 1) ≡ done
+operated-unbound_left = refl
+
+operated-order : operated one Subtract 1 (int 7) (int 9) ≡ Answer (int 1 ∷ Some (Int (negsuc 1)) ∷ []) done
+operated-order = refl
 
 operated-text : operated [] Add 0 (Some (Text 7)) (int 1) ≡ done
 operated-text = refl
@@ -130,6 +166,10 @@ entered-example = refl
 
 brought_back-example : brought_back (Input ∷ Output ∷ []) (1 ∷ 2 ∷ []) (value_at (int 6 ∷ int 7 ∷ int 8 ∷ [])) (None ∷ int 5 ∷ []) ≡ None ∷ int 5 ∷ int 7 ∷ []
 brought_back-example = refl
+
+-- of a call `p(out, out)` with the arguments 1 and 0
+brought_back-outputs : brought_back (Output ∷ Output ∷ []) (1 ∷ 0 ∷ []) (value_at (int 6 ∷ int 7 ∷ [])) [] ≡ int 7 ∷ int 6 ∷ []
+brought_back-outputs = refl
 
 brought_back-unbound : brought_back (Output ∷ []) (0 ∷ []) (value_at []) one ≡ None ∷ []
 brought_back-unbound = refl

@@ -46,17 +46,29 @@ fields-other_text = refl
 fields-kinds : fields (TextSymbol 7) (Int (pos 7)) ≡ None
 fields-kinds = refl
 
+fields-text_for_integer : fields (Integer (pos 7)) (Text 7) ≡ None
+fields-text_for_integer = refl
+
+fields-text_for_constructor : fields (Constructor 7 0) (Text 7) ≡ None
+fields-text_for_constructor = refl
+
 fields-not : fields (Constructor 200 2) (Con 200 both) ≡ Some none → ⊥
 fields-not empty = cc
 
 same-example : same (Con 200 both) (Con 200 both) ≡ true
 same-example = refl
 
+same-name : same (Con 200 both) (Con 201 both) ≡ false
+same-name = refl
+
 same-argument : same (Con 200 both) (Con 200 (more (Int (pos 1)) (more (Text 8) none))) ≡ false
 same-argument = refl
 
 same-fewer : same (Con 200 both) (Con 200 (more (Int (pos 1)) none)) ≡ false
 same-fewer = refl
+
+same-more : same (Con 200 (more (Int (pos 1)) none)) (Con 200 both) ≡ false
+same-more = refl
 
 same-kinds : same (Int (pos 7)) (Text 7) ≡ false
 same-kinds = refl
