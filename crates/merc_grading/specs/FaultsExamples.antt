@@ -9,7 +9,7 @@ use Rattle.merc_base.specs.declared.refusal.Rule.TheVariants.{WrongCategory, Par
 use Rattle.merc_tree.specs.declared.declarations.Arg.TheVariants.{Input, Output}
 use Rattle.merc_tree.specs.declared.declarations.ModeDecl.{ModeDecl}
 use Rattle.merc_tree.specs.declared.declarations.PredDecl.{PredDecl}
-use Rattle.merc_graded_tree.specs.declared.basic.BasicGoal.TheVariants.{True, Fail, Raise, Split}
+use Rattle.merc_graded_tree.specs.declared.basic.BasicGoal.TheVariants.{True, Fail, Raise, Split, Call}
 use Rattle.merc_graded_tree.specs.declared.entries.Running.TheVariants.{Sequential, Parallel}
 use Rattle.merc_graded_tree.specs.Nodes.{Node, node, Goal, Basic, Conjunction, Disjunction, Conditional, Negation, Quantified, nodes_of}
 use Rattle.merc_grading.specs.Faults.{allows, runs_beside, Body, category_fault, query_category_fault}
@@ -102,6 +102,15 @@ least_place = refl
 
 first_mode : category_fault declared (predicate None (mode_at 5 Det ∷ mode_at 5 Failure ∷ []) ∷ []) (body is_red ∷ body is_red ∷ []) ≡ Some (wrong 5 Det Semidet)
 first_mode = refl
+
+-- A call has the category that its mode declares: that of the second mode of the second predicate, whose body is det.
+
+abbrev calls : Node
+calls = goal_at 22 (Basic (Call (record { predicate = 1; mode = 1 }) (c ∷ [])))
+
+called : category_fault declared (predicate None (mode_at 5 Det ∷ []) ∷ predicate None (mode_at 9 Det ∷ mode_at 9 Semidet ∷ []) ∷ [])
+    (body calls ∷ body (goal_at 31 (Basic True)) ∷ body (goal_at 31 (Basic True)) ∷ []) ≡ Some (wrong 5 Det Semidet)
+called = refl
 
 -- Parallel conjuncts.
 

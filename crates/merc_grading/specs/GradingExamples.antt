@@ -231,6 +231,9 @@ beside = refl
 out_of_conjunction : gives (both (both (basic (Build c red []) ∷ []) ∷ is_red c ∷ [])) ≡ Det
 out_of_conjunction = refl
 
+out_of_parallel : gives (both (of (Conjunction (Parallel None) (nodes_of (basic (Build c red []) ∷ []))) ∷ is_red c ∷ [])) ≡ Det
+out_of_parallel = refl
+
 out_of_quantified : gives (both (of (Quantified (8 ∷ []) (basic (Build c red []))) ∷ is_red c ∷ [])) ≡ Det
 out_of_quantified = refl
 

@@ -84,6 +84,10 @@ behind_split = refl
 behind_group : IsSwitchBehind (both (basic (Split b box (5 ∷ [])) ∷ basic (Test 5 n) ∷ []))
 behind_group = refl
 
+-- a group that ends otherwise than with a unification
+behind_group_with_truth : IsNoneBehind (both (basic (Test n m) ∷ basic True ∷ []))
+behind_group_with_truth = refl
+
 behind_truth : IsNoneBehind (basic True)
 behind_truth = refl
 
