@@ -11,7 +11,7 @@ use Rattle.merc_goal_tree.specs.declared.goal.Symbol.TheVariants.{Constructor, T
 use Rattle.merc_graded_tree.specs.declared.basic.BasicGoal.{BasicGoal}
 use Rattle.merc_graded_tree.specs.declared.basic.BasicGoal.TheVariants.{True, Fail, Assign, Test, Build, Split, Arithmetic, Compare, Raise, Call, Wait, Signal}
 use Rattle.merc_graded_tree.specs.declared.entries.Running.TheVariants.{Sequential}
-use Rattle.merc_graded_tree.specs.Nodes.{Node, Basic, Conjunction, Disjunction, Switch, Conditional, Negation, Quantified, nodes_of, no_arms, more_arms}
+use Rattle.merc_graded_tree.specs.Nodes.{Node, Basic, Conjunction, Disjunction, Switch, Conditional, Negation, Quantified, no_nodes, nodes_of, no_arms, more_arms}
 use Rattle.merc_graded_tree.specs.Variables.{among, in_node, in_nodes}
 use Rattle.merc_meaning.specs.Runs.{Program, ProcedureBody}
 use Rattle.merc_meaning.specs.Truth.{Assignment, IsAssignment, Outside, with, is_argument, AgreeOn, IsEntered, YesBasic, NoBasic, YesCall, NoCall, YesAt, NoAt}
@@ -255,15 +255,18 @@ neither = goal (Conjunction Sequential (nodes_of (is_not 8 ∷ is_not 9 ∷ []))
 abbrev before_nine : Outside
 before_nine = with nothing (in_nodes (nodes_of (is_not 9 ∷ [])))
 
+abbrev behind_eight : Outside
+behind_eight = with (beside (is_not 8)) (in_nodes no_nodes)
+
 conjunction-shares_yes : YesAt program 0 nothing neither (texts 5)
 conjunction-shares_yes =
-    ((λ h. h), (texts 7, texts-are_values 7, (λ variable outside. absurd cc), (unlike_is_yes 8 (λ equal. cc) before_nine refl, (unlike_is_yes 9 (λ equal. cc) (beside (is_not 8)) refl, tt))))
+    ((λ h. h), (texts 7, texts-are_values 7, (λ variable outside. absurd cc), (unlike_is_yes 8 (λ equal. cc) before_nine refl, (unlike_is_yes 9 (λ equal. cc) behind_eight refl, tt))))
 
 conjunction-shares_not_no : NoAt program 0 nothing neither (texts 5) → ⊥
 conjunction-shares_not_no (inl no_solution) = no_solution
 conjunction-shares_not_no (inr every) = elim (every (texts 7) (texts-are_values 7) (λ variable outside. absurd cc)) as (λ _. ⊥) [
   | inl first ↦ unlike_not_no 8 (λ equal. cc) before_nine refl first
-  | inr others ↦ elim others as (λ _. ⊥) [ inl second ↦ unlike_not_no 9 (λ equal. cc) (beside (is_not 8)) refl second | inr none ↦ none ]
+  | inr others ↦ elim others as (λ _. ⊥) [ inl second ↦ unlike_not_no 9 (λ equal. cc) behind_eight refl second | inr none ↦ none ]
 ]
 
 -- a switch is as its arms are, and its variable occurs outside them
@@ -285,7 +288,9 @@ switch-shares_yes = ((λ h. h), (texts 7, texts-are_values 7, (λ variable outsi
 
 switch-shares_not_no : NoAt program 0 nothing switched (texts 5) → ⊥
 switch-shares_not_no (inl no_solution) = no_solution
-switch-shares_not_no (inr every) = unlike_not_no 8 (λ equal. cc) in_arm refl (every (texts 7) (texts-are_values 7) (λ variable outside. absurd cc)).0
+switch-shares_not_no (inr every) =
+    let arms = every (texts 7) (texts-are_values 7) (λ variable outside. absurd cc) in
+    unlike_not_no 8 (λ equal. cc) in_arm refl arms.0
 
 -- one arm that is yes is enough, and all have to be no
 
@@ -327,7 +332,7 @@ conditional-then_yes =
 
 conditional-then_not_no : NoAt program 0 nothing then_shares (texts 5) → ⊥
 conditional-then_not_no (inl no_solution) = no_solution
-conditional-then_not_no (inr every) = elim (every (texts 7) (texts-are_values 7) (λ variable outside. absurd cc)).0 as (λ _. ⊥) [
+conditional-then_not_no (inr every) = let parts = every (texts 7) (texts-are_values 7) (λ variable outside. absurd cc) in elim parts.0 as (λ _. ⊥) [
   | inl condition ↦ unlike_not_no 8 (λ equal. cc) (beside_both (is_not 9) failure) refl condition
   | inr then_part ↦ unlike_not_no 9 (λ equal. cc) (beside_both (is_not 8) failure) refl then_part
 ]
@@ -350,9 +355,84 @@ conditional-else_yes = (
 
 conditional-else_not_no : NoAt program 0 nothing else_shares (texts 5) → ⊥
 conditional-else_not_no (inl no_solution) = no_solution
-conditional-else_not_no (inr every) = elim (every (texts 7) (texts-are_values 7) (λ variable outside. absurd cc)).1 as (λ _. ⊥) [
+conditional-else_not_no (inr every) = let parts = every (texts 7) (texts-are_values 7) (λ variable outside. absurd cc) in elim parts.1 as (λ _. ⊥) [
   | inl else_part ↦ unlike_not_no 9 (λ equal. cc) (beside_both (is 8) failure) refl else_part
   | inr condition ↦ other_not_yes 8 (λ equal. cc) (beside (is_not 9)) refl condition
+]
+
+-- x in two of the three parts occurs outside each of them
+
+truth_is_yes : (outside : Outside) → YesAt program 0 outside truth (texts 7)
+truth_is_yes outside = ((λ h. h), (texts 7, texts-are_values 7, (λ variable is_outside. refl), tt))
+
+truth_not_no : (outside : Outside) → NoAt program 0 outside truth (texts 7) → ⊥
+truth_not_no outside (inl no_solution) = no_solution
+truth_not_no outside (inr every) = every (texts 7) (texts-are_values 7) (λ variable is_outside. refl)
+
+-- `( if X \= 8 then true else X \= 9 )`
+abbrev condition_and_else : Node
+condition_and_else = goal (Conditional (is_not 8) truth (is_not 9)) []
+
+condition_and_else-yes : YesAt program 0 nothing condition_and_else (texts 5)
+condition_and_else-yes = (
+  (λ h. h),
+  (
+    texts 7,
+    texts-are_values 7,
+    (λ variable outside. absurd cc),
+    inl (unlike_is_yes 8 (λ equal. cc) (beside_both truth (is_not 9)) refl, truth_is_yes (beside_both (is_not 8) (is_not 9))),
+  ),
+)
+
+condition_and_else-not_no : NoAt program 0 nothing condition_and_else (texts 5) → ⊥
+condition_and_else-not_no (inl no_solution) = no_solution
+condition_and_else-not_no (inr every) = let parts = every (texts 7) (texts-are_values 7) (λ variable outside. absurd cc) in elim parts.0 as (λ _. ⊥) [
+  | inl condition ↦ unlike_not_no 8 (λ equal. cc) (beside_both truth (is_not 9)) refl condition
+  | inr then_part ↦ truth_not_no (beside_both (is_not 8) (is_not 9)) then_part
+]
+
+-- `( if true then X \= 8 else X \= 9 )`
+abbrev then_and_else : Node
+then_and_else = goal (Conditional truth (is_not 8) (is_not 9)) []
+
+then_and_else-yes : YesAt program 0 nothing then_and_else (texts 5)
+then_and_else-yes = (
+  (λ h. h),
+  (
+    texts 7,
+    texts-are_values 7,
+    (λ variable outside. absurd cc),
+    inl (truth_is_yes (beside_both (is_not 8) (is_not 9)), unlike_is_yes 8 (λ equal. cc) (beside_both truth (is_not 9)) refl),
+  ),
+)
+
+then_and_else-not_no : NoAt program 0 nothing then_and_else (texts 5) → ⊥
+then_and_else-not_no (inl no_solution) = no_solution
+then_and_else-not_no (inr every) = let parts = every (texts 7) (texts-are_values 7) (λ variable outside. absurd cc) in elim parts.0 as (λ _. ⊥) [
+  | inl condition ↦ truth_not_no (beside_both (is_not 8) (is_not 9)) condition
+  | inr then_part ↦ unlike_not_no 8 (λ equal. cc) (beside_both truth (is_not 9)) refl then_part
+]
+
+-- `( if fail then X \= 8 else X \= 9 )`
+abbrev else_and_then : Node
+else_and_then = goal (Conditional failure (is_not 8) (is_not 9)) []
+
+else_and_then-yes : YesAt program 0 nothing else_and_then (texts 5)
+else_and_then-yes = (
+  (λ h. h),
+  (
+    texts 7,
+    texts-are_values 7,
+    (λ variable outside. absurd cc),
+    inr (unlike_is_yes 9 (λ equal. cc) (beside_both failure (is_not 8)) refl, inr (λ others are agree. tt)),
+  ),
+)
+
+else_and_then-not_no : NoAt program 0 nothing else_and_then (texts 5) → ⊥
+else_and_then-not_no (inl no_solution) = no_solution
+else_and_then-not_no (inr every) = let parts = every (texts 7) (texts-are_values 7) (λ variable outside. absurd cc) in elim parts.1 as (λ _. ⊥) [
+  | inl else_part ↦ unlike_not_no 9 (λ equal. cc) (beside_both failure (is_not 8)) refl else_part
+  | inr condition ↦ condition.1.3
 ]
 
 -- `( if X = 8 then X = 8, fail else true )`: the condition has a solution, whatever x the then part has
