@@ -75,13 +75,13 @@ true-yes : YesOf True numbers
 true-yes = tt
 
 true-not_no : NoOf True numbers → ⊥
-true-not_no no = no
+true-not_no holds = holds
 
 fail-no : NoOf Fail numbers
 fail-no = tt
 
 fail-not_yes : YesOf Fail numbers → ⊥
-fail-not_yes yes = yes
+fail-not_yes holds = holds
 
 assign-yes : YesOf (Assign 0 1) (texts 7)
 assign-yes = refl
@@ -135,19 +135,19 @@ split-no : NoOf (Split 0 (Constructor 200 2) (2 ∷ 1 ∷ [])) parts
 split-no = λ equal. cc
 
 raise-not_yes : YesOf (Raise 0) (texts 7) → ⊥
-raise-not_yes yes = yes
+raise-not_yes holds = holds
 
 wait-yes : YesOf (Wait 0 1) (texts 7)
 wait-yes = tt
 
 wait-not_no : NoOf (Wait 0 1) (texts 7) → ⊥
-wait-not_no no = no
+wait-not_no holds = holds
 
 signal-yes : YesOf (Signal 0 1) (texts 7)
 signal-yes = tt
 
 signal-not_no : NoOf (Signal 0 1) (texts 7) → ⊥
-signal-not_no no = no
+signal-not_no holds = holds
 
 -- a unification is equality
 
@@ -175,7 +175,7 @@ no_solution-erroneous = inl refl
 
 -- one that can fail may be yes
 semidet-yes : YesAt program 0 all (graded Semidet (Basic True) []) (texts 7)
-semidet-yes = ((λ none. cc), (texts 7, texts-are_values 7, (λ variable outside. refl), tt))
+semidet-yes = ((λ is_zero. cc), (texts 7, texts-are_values 7, (λ variable outside. refl), tt))
 
 raise-no : NoAt program 0 all (basic (Raise x) []) (texts 7)
 raise-no = inr (λ others are agree. tt)
@@ -266,7 +266,7 @@ conjunction-shares_not_no : NoAt program 0 nothing neither (texts 5) → ⊥
 conjunction-shares_not_no (inl no_solution) = no_solution
 conjunction-shares_not_no (inr every) = elim (every (texts 7) (texts-are_values 7) (λ variable outside. absurd cc)) as (λ _. ⊥) [
   | inl first ↦ unlike_not_no 8 (λ equal. cc) before_nine refl first
-  | inr others ↦ elim others as (λ _. ⊥) [ inl second ↦ unlike_not_no 9 (λ equal. cc) behind_eight refl second | inr none ↦ none ]
+  | inr others ↦ elim others as (λ _. ⊥) [ inl second ↦ unlike_not_no 9 (λ equal. cc) behind_eight refl second | inr impossible ↦ impossible ]
 ]
 
 -- a switch is as its arms are, and its variable occurs outside them

@@ -46,6 +46,10 @@ backward = refl
 unbound : procedure_from modes 1 (record { args = Output ∷ []; category = Det; span = at 3 }) (Simple True (at 10)) ≡ Stuck (unbound_output (at 3))
 unbound = refl
 
+-- `q(X, Y) :- X = 1.` in the mode `(out, out)`
+second_unbound : procedure_from modes 2 (record { args = Output ∷ Output ∷ []; category = Det; span = at 3 }) (is_one x 10) ≡ Stuck (unbound_output (at 3))
+second_unbound = refl
+
 -- `q(X) :- fail.` has no end that can be reached
 not_reached : procedure_from modes 1 (mode (Output ∷ []) Det) (Simple Fail (at 10)) ≡ Ready (put Failure [] (at 10))
 not_reached = refl
@@ -216,3 +220,8 @@ tree_of_each = refl
 -- `q(X) :- true.` in the same modes: the second leaves the argument unbound
 first_alone : procedure_trees modes (declared (in_at 5 ∷ out_at 6 ∷ []) 5 ∷ []) (Simple True (at 20) ∷ []) ≡ node (Basic TrueGoal) [] None (at 20) ∷ []
 first_alone = refl
+
+-- each predicate has its own body
+trees_of_two : procedure_trees modes (declared (in_at 5 ∷ []) 5 ∷ declared (out_at 6 ∷ []) 6 ∷ []) (is_one x 20 ∷ is_one x 30 ∷ [])
+    ≡ node (Basic (SplitGoal x one [])) [] None (at 20) ∷ node (Basic (BuildGoal x one [])) (x ∷ []) None (at 30) ∷ []
+trees_of_two = refl
