@@ -21,6 +21,7 @@ use Rattle.merc_goal_tree.specs.Variables.{variables, count}
 use Rattle.merc_order.specs.Bound.{Bound, nothing, with, among}
 use Rattle.merc_order.specs.CallModes.{can_succeed}
 use Rattle.merc_order.specs.Faults.{never_ready, binds_outer, unbound_output}
+use Rattle.merc_order.specs.Marks.{Marked, no_marks, more_marks, IsSound}
 use Rattle.merc_order.specs.Moves.{Move}
 use Rattle.merc_order.specs.Ordered.{Ordered, Ordereds, no_goals, more_goals, put, Truth, Failure, Assign, Test, Build, Split, Computed, Compared, Raised, Called, Sequence, Beside, Choice, Decision, Denial, Within, Outcome, Ready, Stuck, is_ready}
 use Rattle.merc_order.specs.Order.{from, reached, binds}
@@ -458,3 +459,39 @@ none_ready move others removed ready = let wrong : is_ready (asks.from nothing) 
 
 cannot_go : CanAll (asks ∷ []) nothing → ⊥
 cannot_go (take move all others bound removed ready rest) = none_ready move others removed ready
+
+-- Marks of parts that went, where nothing was bound before the whole
+
+abbrev Sound : Node → Marked → Type 0
+Sound goal marks = IsSound (λ variable. 9) modes goal marks nothing
+
+abbrev one_mark : Bool → Marked → Marked
+one_mark gone rest = more_marks gone no_marks rest
+
+abbrev both_went : Marked
+both_went = one_mark true (one_mark true no_marks)
+
+abbrev three_went : Marked
+three_went = one_mark true both_went
+
+unmarked : Sound (Negation (call p (x ∷ []) 14) (at 10)) (one_mark false no_marks)
+unmarked = tt
+
+marked_not : Sound (Negation (call p (x ∷ []) 14) (at 10)) (one_mark true no_marks) → ⊥
+marked_not sound = let wrong : false ≡ true = sound in cc
+
+-- `( X = 1 -> p(X) ; true )` and `( X = 1 -> true ; p(X) )`: a then part goes behind the condition, an else part does not
+
+then_marked : Sound (Conditional (is_one x 12) (call p (x ∷ []) 20) (Simple True (at 30)) (at 10)) three_went
+then_marked = (refl, refl, refl)
+
+else_marked_not : Sound (Conditional (is_one x 12) (Simple True (at 20)) (call p (x ∷ []) 30) (at 10)) three_went → ⊥
+else_marked_not sound = let wrong : false ≡ true = sound.2 in cc
+
+-- `X = 1 & p(X)` and `( X = 1 ; p(X) )`
+
+beside_marked : Sound (Parallel (both (is_one x 10) (call p (x ∷ []) 20)) (at 10)) both_went
+beside_marked = (refl, (refl, tt))
+
+arm_marked_not : Sound (Disjunction (both (is_one x 10) (call p (x ∷ []) 20)) (at 10)) both_went → ⊥
+arm_marked_not sound = let wrong : false ≡ true = sound.1.0 in cc
