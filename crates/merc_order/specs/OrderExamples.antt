@@ -372,6 +372,23 @@ none_reached = refl
 none_reached_other : binds (λ variable. 9) modes (Disjunction (both (Conjunction (both (is_one x 10) (Simple Fail (at 12))) (at 10)) (Conjunction (nodes_of (is_one x 20 ∷ is_one y 22 ∷ Simple Fail (at 24) ∷ [])) (at 20))) (at 10)) y ≡ false
 none_reached_other = refl
 
+-- A negation binds nothing, and other goals that join some bind none of their own variables. What a condition binds counts for the arm of its then part.
+
+negation_binds_none : binds (λ variable. 9) modes (Negation (is_one x 14) (at 10)) x ≡ false
+negation_binds_none = refl
+
+quantified_own : binds (λ variable. 1) modes (Quantified (x ∷ []) (is_one x 15) (at 10)) x ≡ false
+quantified_own = refl
+
+own_in_arms : binds (λ variable. 2) modes (Disjunction (both (is_one x 10) (is_one x 20)) (at 10)) x ≡ false
+own_in_arms = refl
+
+arms_bind_both : binds (λ variable. 3) modes (Disjunction (both (is_one x 10) (is_one x 20)) (at 10)) x ≡ true
+arms_bind_both = refl
+
+bound_by_condition : binds (λ variable. 9) modes (Conditional (is_one x 12) holds fails (at 10)) x ≡ true
+bound_by_condition = refl
+
 -- `( X = 1, fail ; fail )`: such arms do not differ, and X is not bound behind them
 none_reached_differ : query (x ∷ []) (Disjunction (both (Conjunction (both (is_one x 10) (Simple Fail (at 12))) (at 10)) (Simple Fail (at 20))) (at 10))
     ≡ Ready (put (Choice (ordereds (
