@@ -1,18 +1,24 @@
 -- Faults of a few clauses and goals, in a module with the constructors `c/0` and `f/1` and the predicate `p/1`.
-use Rattle.std.specs.Prelude.{◌≡◌, ℕ, suc, zero, [], ◌∷◌, Option, Some, None, pos, refl}
+use Rattle.std.specs.Prelude.{◌≡◌, ℕ, suc, zero, ◌+◌, List, [], ◌∷◌, map, Option, Some, None, pos, codes, refl}
 use Rattle.std.proofs.Common.{ap}
-use Rattle.merc_base.specs.Names.{ampersand_name, comma_name, true_name}
+use Rattle.merc_base.specs.Names.{ampersand_name, comma_name, equal_name, minus_name, plus_name, semicolon_name, true_name}
+use Rattle.merc_base.specs.declared.refusal.Refusal.{Refusal}
+use Rattle.merc_base.specs.declared.refusal.Rule.{Rule}
+use Rattle.merc_base.specs.declared.refusal.Rule.TheVariants.{WrongForm, OutsideProfile}
+use Rattle.merc_base.specs.declared.refusal.Detail.{Detail}
+use Rattle.merc_base.specs.declared.refusal.Detail.TheVariants.{Plain, Word}
+use Rattle.merc_base.specs.declared.refusal.Construct.TheVariants.{Goal}
 use Rattle.merc_base.specs.declared.refusal.LimitName.TheVariants.{Conjuncts}
 use Rattle.merc_tree.specs.Term.{Term, Variable, Integer, Application, none, more}
 use Rattle.merc_tree.specs.declared.declarations.Clause.{Clause}
-use Rattle.merc_goals.specs.Written.{written}
+use Rattle.merc_goals.specs.Written.{Called, Truth, written}
 use Rattle.merc_goals.specs.Faults.{outside_profile, wrong_form}
-use Rattle.merc_goal_tree.specs.Nodes.{Simple, Conjunction, nodes_of}
+use Rattle.merc_goal_tree.specs.Nodes.{Simple, Conjunction, Disjunction, nodes_of}
 use Rattle.merc_goal_tree.specs.declared.goal.SimpleGoal.TheVariants.{Shape, Call}
 use Rattle.merc_goal_tree.specs.declared.goal.Symbol.TheVariants.{Constructor}
-use Rattle.merc_flat.specs.GoalFaults.{limit_passed, unknown_name}
+use Rattle.merc_flat.specs.GoalFaults.{limit_passed, unknown_name, variable_count}
 use Rattle.merc_flat.specs.GoalFaultsExamples.{at, byte_of, c_name, f_name, g_name, p_name, q_name, x_name, y_name, example, with_clauses}
-use Rattle.merc_flat.specs.Flat.{clause_node, clauses_fault, query_fault}
+use Rattle.merc_flat.specs.Flat.{arity_of, clause_node, clauses_fault, goal_of, query_fault, query_node}
 
 abbrev x : ℕ → Term
 x first = Variable x_name (at first)
@@ -49,9 +55,9 @@ unknown_at first = clause (over p_name (constant g_name (suc first)) first) None
 abbrev wrong_at : ℕ → ℕ → Clause
 wrong_at first second = clause (over p_name (x first) first) (Some (five second)) first
 
--- `p(X) :- true & .. & true.`, with so many `&`
+-- `p(X) :- true & .. & true.`, with so many `&`, of which the first `true` stands eight bytes behind the clause's front
 abbrev wide_at : ℕ → ℕ → Clause
-wide_at first count = clause (over p_name (x first) first) (Some (trues first count)) first
+wide_at first count = clause (over p_name (x first) first) (Some (trues (first + 8) count)) first
 
 no_fault : clauses_fault [] (with_clauses (sound ∷ clause (over p_name (constant c_name 22) 20) None 20 ∷ [])) ≡ None
 no_fault = refl
@@ -86,6 +92,16 @@ first_clause = refl
 outside : clauses_fault [] (with_clauses (clause (over p_name (x 2) 0) (Some (x 8)) 0 ∷ [])) ≡ Some (outside_profile (at 8))
 outside = refl
 
+-- what is told of both: the rule, and the word for what is left out
+abbrev told : Rule → Detail → ℕ → Option Refusal
+told rule detail first = Some (record { rule = rule; place = record { byte = first; line = 1 }; detail = detail })
+
+wrong_told : clauses_fault [] (with_clauses (wrong_at 0 8 ∷ [])) ≡ told WrongForm Plain 8
+wrong_told = refl
+
+outside_told : clauses_fault [] (with_clauses (clause (over p_name (x 2) 0) (Some (x 8)) 0 ∷ [])) ≡ told OutsideProfile (Word Goal) 8
+outside_told = refl
+
 -- 64 conjuncts, and one more, which is told at the clause
 wide_enough : clauses_fault [] (with_clauses (wide_at 4 63 ∷ [])) ≡ None
 wide_enough = refl
@@ -98,7 +114,71 @@ numbered : clause_node [] example (clause (over p_name (over f_name (x 4) 2) 0) 
     ≡ Conjunction (nodes_of (Simple (Shape 0 (Constructor f_name 1) (5 ∷ [])) (at 0) ∷ Simple (Call 0 (9 ∷ [])) (at 10) ∷ [])) (at 0)
 numbered = refl
 
+-- the goal of `p(f(X)) :- p(X).` by itself, and of a fact
+numbered_body : goal_of (clause (over p_name (over f_name (x 4) 2) 0) (Some (over p_name (x 12) 10)) 0) ≡ Called 7 p_name None (more (x 12) none) (at 10)
+numbered_body = refl
+
+fact : goal_of (clause (constant p_name 6) None 5) ≡ Truth (at 5)
+fact = refl
+
+-- How many variables clauses have. The table of names holds `_` alone.
+
+abbrev texts : List (List ℕ)
+texts = codes "_" ∷ []
+
+abbrev blank : ℕ → Term
+blank first = Variable 0 (at first)
+
+abbrev y : ℕ → Term
+y first = Variable y_name (at first)
+
+-- `X = Y`
+abbrev equation : Term → Term → Term
+equation left right = join equal_name left right 0
+
+abbrev counted : Clause → ℕ
+counted found = variable_count (arity_of found) (clause_node texts example found)
+
+-- `p(X, Y) :- Y = X + 1.`
+abbrev sum : Clause
+sum = clause (join p_name (x 0) (y 0) 0) (Some (equation (y 0) (join plus_name (x 0) (Integer (pos 1) (at 0)) 0))) 0
+
+-- `p(X, Y) :- Y = -X.`
+abbrev opposite : Clause
+opposite = clause (join p_name (x 0) (y 0) 0) (Some (equation (y 0) (over minus_name (x 0) 0))) 0
+
+-- `p(X, Y) :- ( A = X, Y = A ; A = X, Y = A ).`
+abbrev a : Term
+a = Variable q_name (at 0)
+
+abbrev disjunct : Term
+disjunct = join comma_name (equation a (x 0)) (equation (y 0) a) 0
+
+abbrev disjuncts : Clause
+disjuncts = clause (join p_name (x 0) (y 0) 0) (Some (join semicolon_name disjunct disjunct 0)) 0
+
+-- `p(X) :- q(X, _, _).`
+abbrev blanks : Clause
+blanks = clause (over p_name (x 0) 0) (Some (Application q_name None (more (x 0) (more (blank 0) (more (blank 0) none))) (at 0))) 0
+
+-- `p(X, f(_)).`
+abbrev parted : Clause
+parted = clause (join p_name (x 0) (over f_name (blank 0) 0) 0) None 0
+
+counts : map counted (sum ∷ opposite ∷ disjuncts ∷ blanks ∷ parted ∷ []) ≡ 3 ∷ 3 ∷ 4 ∷ 3 ∷ 3 ∷ []
+counts = refl
+
 -- goals that are asked
+
+-- `p(X) ; p(X)`: an answer variable is the same one in both disjuncts
+answers : query_node [] example (written 0 (join semicolon_name (over p_name (x 4) 2) (over p_name (x 12) 10) 1))
+    ≡ Disjunction (nodes_of (Simple (Call 0 (4 ∷ [])) (at 2) ∷ Simple (Call 0 (4 ∷ [])) (at 10) ∷ [])) (at 1)
+answers = refl
+
+-- `p(_), p(_)`: each `_` is a variable of its own
+apart : query_node texts example (written 0 (join comma_name (over p_name (blank 4) 2) (over p_name (blank 12) 10) 1))
+    ≡ Conjunction (nodes_of (Simple (Call 0 (4 ∷ [])) (at 2) ∷ Simple (Call 0 (8 ∷ [])) (at 10) ∷ [])) (at 1)
+apart = refl
 
 asked : query_fault [] example (written 0 (over p_name (x 2) 0)) ≡ None
 asked = refl

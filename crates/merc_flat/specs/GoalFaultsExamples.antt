@@ -1,19 +1,21 @@
 -- Faults of a few goals, in a module with the type `t` of the constructors `c/0` and `f/1` and the predicate `p/1`. `g` and `q` are unknown.
-use Rattle.std.specs.Prelude.{◌≡◌, ℕ, suc, zero, ◌+◌, List, [], ◌∷◌, Option, Some, None, refl}
+use Rattle.std.specs.Prelude.{◌≡◌, ℕ, suc, zero, ◌+◌, List, [], ◌∷◌, Option, Some, None, pos, refl}
 use Rattle.std.proofs.Common.{ap}
-use Rattle.merc_base.specs.Names.{int_name, less_name, minus_name, plus_name}
+use Rattle.merc_base.specs.Names.{div_name, int_name, less_name, minus_name, mod_name, plus_name, rem_name, slash_name, slash_slash_name, star_name}
 use Rattle.merc_base.specs.declared.place.Span.{Span}
 use Rattle.merc_base.specs.declared.refusal.Refusal.{Refusal}
+use Rattle.merc_base.specs.declared.refusal.Rule.TheVariants.{UnknownName, LimitPassed}
+use Rattle.merc_base.specs.declared.refusal.Detail.TheVariants.{Plain, Limit}
 use Rattle.merc_base.specs.declared.refusal.LimitName.TheVariants.{Variables, Conjuncts}
-use Rattle.merc_tree.specs.Term.{Term, Terms, Variable, Application, none, more}
+use Rattle.merc_tree.specs.Term.{Term, Terms, Variable, Integer, Text, Application, none, more, terms_of}
 use Rattle.merc_tree.specs.Types.{IntType}
 use Rattle.merc_tree.specs.declared.declarations.Clause.{Clause}
 use Rattle.merc_tree.specs.declared.declarations.Module.{Module}
 use Rattle.merc_goals.specs.Written.{Written, WrittenGoals, Truth, Equal, Compared, Called, Conjunction, Parallel, Disjunction, Conditional, Negated, Quantified, WrongForm, no_goals, more_goals}
 use Rattle.merc_goals.specs.Faults.{wrong_form}
 use Rattle.merc_goal_tree.specs.declared.goal.SimpleGoal.TheVariants.{True, Same, Call}
-use Rattle.merc_goal_tree.specs.Nodes.{Node, Simple, Conjunction as NodeConjunction, Negation as NodeNegation, nodes_of}
-use Rattle.merc_flat.specs.GoalFaults.{form_fault, limit_passed, name_fault, unknown, unknown_in, unknown_name, variable_count}
+use Rattle.merc_goal_tree.specs.Nodes.{Node, Simple, Conjunction as NodeConjunction, Negation as NodeNegation, Quantified as NodeQuantified, nodes_of}
+use Rattle.merc_flat.specs.GoalFaults.{form_fault, limit_passed, name_fault, unknown, unknown_among, unknown_in, unknown_name, variable_count}
 
 abbrev m_name : ℕ
 m_name = 99
@@ -57,6 +59,17 @@ with_clauses clauses = record {
 
 abbrev pub example : Module
 example = with_clauses []
+
+-- what is told of a limit and of an unknown name: the rule, and the first byte and the line of a span
+
+abbrev there : Span
+there = record { first = 3; past = 9; line = 2 }
+
+limit_told : limit_passed Conjuncts there ≡ record { rule = LimitPassed; place = record { byte = 3; line = 2 }; detail = Limit Conjuncts }
+limit_told = refl
+
+name_told : unknown_name example there ≡ record { rule = UnknownName; place = record { byte = 3; line = 2 }; detail = Plain }
+name_told = refl
 
 -- forms and sizes
 
@@ -111,6 +124,10 @@ variable_behind = refl
 variables_parts : variable_count 0 (NodeConjunction (nodes_of (Simple (Call 0 (1 ∷ [])) (at 0) ∷ NodeNegation (Simple (Same 1 2) (at 0)) (at 0) ∷ [])) (at 0)) ≡ 2
 variables_parts = refl
 
+-- a variable that a quantifier names counts where it occurs
+variables_quantified : variable_count 0 (NodeQuantified (5 ∷ 7 ∷ []) (Simple (Call 0 (5 ∷ 6 ∷ [])) (at 0)) (at 0)) ≡ 2
+variables_quantified = refl
+
 -- an argument counts though it does not occur
 variables_of_arguments : variable_count 2 truth ≡ 2
 variables_of_arguments = refl
@@ -152,6 +169,48 @@ unknown_operand = refl
 
 qualified_arithmetic : unknown_in example (applied plus_name (Some int_name) (more (Variable x_name (at 2)) (more (Variable y_name (at 6)) none)) 2) ≡ at 2 ∷ []
 qualified_arithmetic = refl
+
+abbrev x : ℕ → Term
+x first = Variable x_name (at first)
+
+-- `X name Y`
+abbrev operated : ℕ → ℕ → Term
+operated name first = applied name None (more (x first) (more (Variable y_name (at (first + 4))) none)) first
+
+-- each operation, and `/` and `<`, which are none
+every_operation : unknown_among example (terms_of (operated plus_name 1 ∷ operated minus_name 11 ∷ operated star_name 21 ∷ operated slash_slash_name 31
+    ∷ operated div_name 41 ∷ operated mod_name 51 ∷ operated rem_name 61 ∷ [])) ≡ []
+every_operation = refl
+
+no_operation : unknown_among example (terms_of (operated slash_name 1 ∷ operated less_name 11 ∷ [])) ≡ at 1 ∷ at 11 ∷ []
+no_operation = refl
+
+-- `+` alone and with three arguments, and `int.-(X)`
+other_arithmetic : unknown_among example (terms_of (applied plus_name None none 1 ∷ applied plus_name None (terms_of (x 4 ∷ x 6 ∷ x 8 ∷ [])) 2
+    ∷ applied minus_name (Some int_name) (more (x 19) none) 12 ∷ [])) ≡ at 1 ∷ at 2 ∷ at 12 ∷ []
+other_arithmetic = refl
+
+-- `m.c` is the module's, `int.c` is not there
+qualified_constructor : unknown_among example (terms_of (applied c_name (Some m_name) none 1 ∷ applied c_name (Some int_name) none 5 ∷ [])) ≡ at 5 ∷ []
+qualified_constructor = refl
+
+-- `m.p(X)` is the module's; `int.p(X)` and `p(X, X)` are not there
+abbrev call : Option ℕ → Terms → ℕ → Written
+call qualifier arguments first = Called 0 p_name qualifier arguments (at first)
+
+calls : unknown example (Conjunction (more_goals (call (Some m_name) (more (x 3) none) 1) (more_goals (call (Some int_name) (more (x 9) none) 7)
+    (more_goals (call None (more (x 15) (more (x 17) none)) 13) no_goals))) (at 1)) ≡ at 7 ∷ at 13 ∷ []
+calls = refl
+
+-- a predicate is no constructor, and a constructor no predicate
+predicate_as_term : unknown_in example (applied p_name None (more (x 4) none) 2) ≡ at 2 ∷ []
+predicate_as_term = refl
+
+constructor_as_goal : unknown example (Called 0 f_name None (more (x 4) none) (at 2)) ≡ at 2 ∷ []
+constructor_as_goal = refl
+
+literals : unknown_among example (terms_of (Integer (pos 5) (at 1) ∷ Text g_name (at 3) ∷ [])) ≡ []
+literals = refl
 
 -- `p(g), q`: the earlier of two unknown names is told
 abbrev both : Written
