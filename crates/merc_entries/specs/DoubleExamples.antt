@@ -2,13 +2,14 @@
 use Rattle.std.specs.Prelude.{◌≡◌, ℕ, ◌*◌, Bool, false, true, ◌||◌, List, [], ◌∷◌, ◌++◌, Some, None, refl}
 use Rattle.std.specs.List.{list_any, list_all}
 use Rattle.std.proofs.Common.{ap, ◌∙◌}
-use Rattle.merc_base.specs.Names.{slash_name, less_name, plus_name, minus_name, star_name, slash_slash_name, div_name, mod_name, rem_name, error_name, in_name, int_name, string_name, list_name, bool_name, maybe_name, require_name, det_name, semidet_name}
+use Rattle.merc_base.specs.Names.{slash_name, less_name, plus_name, minus_name, star_name, slash_slash_name, div_name, mod_name, rem_name, error_name, in_name, out_name, int_name, string_name, list_name, bool_name, maybe_name, require_name, det_name, semidet_name, append_name, colon_colon_name}
 use Rattle.merc_base.specs.declared.place.Place.{Place}
 use Rattle.merc_base.specs.declared.place.Span.{Span}
-use Rattle.merc_tree.specs.Term.{Term, Application, none, more}
+use Rattle.merc_tree.specs.Term.{Term, Variable, Application, none, more}
 use Rattle.merc_item_forms.specs.Items.{Item, Import, TypeItem, PredicateItem, ModeItem}
 use Rattle.merc_entries.specs.Entries.{Entry, Declared, is_key, is_same_mode, constructors_of, key}
-use Rattle.merc_entries.specs.DoubleFaults.{IsAgain, HasDouble, type_again, constructor_again, arithmetic, predicate_again, error_again, mode_again, bool_and_maybe, at_start, is_arithmetic}
+use Rattle.merc_entries.specs.DoubleFaults.{IsAgain, HasDouble, type_again, constructor_again, arithmetic, predicate_again, error_again, mode_again, bool_and_maybe, at_start, is_arithmetic, later}
+use Rattle.merc_entries.specs.FirstPlaces.{first_double}
 
 abbrev span : Span
 span = record { first = 0; past = 1; line = 1 }
@@ -46,6 +47,9 @@ shade_name = 103
 
 abbrev dark_name : ℕ
 dark_name = 104
+
+abbrev t_name : ℕ
+t_name = 105
 
 abbrev p_name : ℕ
 p_name = 110
@@ -208,3 +212,76 @@ import-counterexample _ (predicate_again place found) = none_again is_key place 
 import-counterexample _ (error_again front back found place whole passes imported) = cc
 import-counterexample _ (mode_again place found) = none_again is_same_mode place found
 import-counterexample _ (bool_and_maybe bool maybe a b) = cc
+
+-- Where small modules first have something doubled
+
+abbrev of_unit : ℕ → Item → ℕ → Entry
+of_unit unit item number = record { item = item; span = span; place = line number; unit = Some unit }
+
+abbrev import_on : ℕ → ℕ → Entry
+import_on unit number = entry (Import (plain unit ∷ [])) number
+
+-- of two places, whichever comes first, the later
+pub later-second : later (line 1) (line 2) ≡ line 2
+later-second = refl
+
+pub later-first : later (line 2) (line 1) ≡ line 2
+later-first = refl
+
+-- `bool` on the lines 1 and 3, `maybe` on line 2: the later of their first imports
+pub first_double-units : first_double (import_on bool_name 1 ∷ import_on maybe_name 2 ∷ import_on bool_name 3 ∷ []) ≡ Some (line 2)
+first_double-units = refl
+
+-- `:- pred error(string).`, behind `require`, and without it
+
+abbrev error_with : Term → Entry
+error_with head = entry (PredicateItem head None) 2
+
+pub first_double-error : first_double (import_on require_name 1 ∷ error_with (with_one error_name (plain string_name)) ∷ []) ≡ Some (line 2)
+first_double-error = refl
+
+pub first_double-error_alone : first_double (import_on list_name 1 ∷ error_with (with_one error_name (plain string_name)) ∷ []) ≡ None
+first_double-error_alone = refl
+
+-- and with other numbers of arguments
+pub first_double-error_arity : first_double (import_on require_name 1 ∷ error_with (plain error_name) ∷ error_with (with_two error_name (plain string_name) (plain int_name)) ∷ []) ≡ None
+first_double-error_arity = refl
+
+-- a type, constructors and predicates of one name, and those of other numbers of arguments
+pub first_double-apart : first_double (
+    entry (TypeItem (plain p_name) (plain p_name ∷ with_one p_name (plain int_name) ∷ [])) 1
+    ∷ entry (TypeItem (with_one p_name (Variable t_name span)) (plain red_name ∷ [])) 2
+    ∷ entry (PredicateItem (with_one p_name (plain int_name)) None) 3
+    ∷ entry (PredicateItem (with_two p_name (plain int_name) (plain int_name)) None) 4
+    ∷ []) ≡ None
+first_double-apart = refl
+
+abbrev mode_of : ℕ → ℕ → Item
+mode_of first second = ModeItem (with_two p_name (plain first) (plain second)) (Some (plain det_name))
+
+-- `:- pred p(int::in, int::out) is det.`
+abbrev moded_p : Item
+moded_p = PredicateItem (with_two p_name (with_two colon_colon_name (plain int_name) (plain in_name)) (with_two colon_colon_name (plain int_name) (plain out_name))) (Some (plain det_name))
+
+-- the mode that stands with a predicate is one of its modes
+pub first_double-mode : first_double (entry moded_p 1 ∷ entry (mode_of in_name out_name) 2 ∷ []) ≡ Some (line 2)
+first_double-mode = refl
+
+-- each argument tells modes apart
+pub first_double-modes : first_double (entry moded_p 1 ∷ entry (mode_of out_name in_name) 2 ∷ entry (mode_of in_name in_name) 3 ∷ []) ≡ None
+first_double-modes = refl
+
+-- a mode for a unit's predicate is no second one
+pub first_double-unit_mode : first_double (of_unit list_name (mode_of in_name out_name) 1 ∷ entry (mode_of in_name out_name) 2 ∷ []) ≡ None
+first_double-unit_mode = refl
+
+-- `:- import_module list.` and a predicate `append/2` of both: the one that stands later is told, the unit's at its import
+
+abbrev append : Item
+append = PredicateItem (with_two append_name (plain int_name) (plain int_name)) None
+
+pub first_double-own_last : first_double (import_on list_name 1 ∷ of_unit list_name append 1 ∷ entry append 2 ∷ []) ≡ Some (line 2)
+first_double-own_last = refl
+
+pub first_double-own_first : first_double (entry append 1 ∷ import_on list_name 2 ∷ of_unit list_name append 2 ∷ []) ≡ Some (line 2)
+first_double-own_first = refl
