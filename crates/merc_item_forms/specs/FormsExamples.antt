@@ -1,11 +1,11 @@
 -- Items of a module `m`: one of each kind, for each way of being wrong one, with right ones beside it, and for each word of what the profile leaves out one.
-use Rattle.std.specs.Prelude.{◌≡◌, ℕ, Bool, true, false, not, ◌&&◌, List, [], ◌∷◌, Option, Some, None, pos, codes, replicate, refl}
+use Rattle.std.specs.Prelude.{◌≡◌, ℕ, Bool, true, false, not, ◌&&◌, List, [], ◌∷◌, map, Option, Some, None, pos, codes, replicate, refl}
 use Rattle.std.specs.List.{list_any, list_all}
-use Rattle.merc_base.specs.Names.{pragma_name, colon_minus_name, grammar_arrow_name, module_name, end_module_name, import_module_name, mode_name, type_name, type_arrow_name, colon_colon_name, equal_equal_name, else_name, if_name, then_name, semicolon_name, arrow_name, ampersand_name, comma_name, some_name, all_name, implies_name, equivalent_name, not_name, not_provable_name, pred_name, func_name, is_name, equal_name, not_equal_name, less_name, greater_name, at_most_name, at_least_name, plus_name, minus_name, interface_name, implementation_name, true_name, fail_name, false_name, error_name, in_name, int_name, string_name, list_name, bool_name, maybe_name, require_name, det_name, semidet_name, multi_name, nondet_name, erroneous_name, failure_name, cc_multi_name, cc_nondet_name, char_name, float_name, uint_name, int8_name, int16_name, int32_name, int64_name, uint8_name, uint16_name, uint32_name, uint64_name}
+use Rattle.merc_base.specs.Names.{pragma_name, colon_minus_name, grammar_arrow_name, module_name, end_module_name, import_module_name, mode_name, type_name, type_arrow_name, colon_colon_name, equal_equal_name, else_name, if_name, then_name, semicolon_name, arrow_name, ampersand_name, comma_name, some_name, all_name, implies_name, equivalent_name, not_name, not_provable_name, pred_name, func_name, is_name, equal_name, not_equal_name, less_name, greater_name, at_most_name, at_least_name, plus_name, minus_name, interface_name, implementation_name, true_name, fail_name, false_name, error_name, in_name, out_name, int_name, string_name, list_name, bool_name, maybe_name, require_name, det_name, semidet_name, multi_name, nondet_name, erroneous_name, failure_name, cc_multi_name, cc_nondet_name, char_name, float_name, uint_name, int8_name, int16_name, int32_name, int64_name, uint8_name, uint16_name, uint32_name, uint64_name}
 use Rattle.merc_base.specs.declared.category.Category.TheVariants.{Det, Semidet, Multi, Nondet, Erroneous, Failure}
 use Rattle.merc_base.specs.declared.refusal.Construct.TheVariants.{Declaration, Import as ImportWord, ModeName, Category as CategoryWord, «Type» as TypeWord, Function, GrammarRule}
 use Rattle.merc_tree.specs.Shape.{arguments_of}
-use Rattle.merc_tree.specs.Term.{Term, Variable, Integer, Application, none, terms_of, no_span}
+use Rattle.merc_tree.specs.Term.{Term, Variable, Integer, Text, Application, none, terms_of, no_span}
 use Rattle.merc_item_forms.specs.Forms.{IsWrongTypeHead, no_name, qualifier, parameters, parameters_repeat, IsWrong, no_opening, second_opening, early_end, other_end, formless, type_head, other_type_head, constructor_head, constructor_qualifier, constructor_literal, predicate_head, predicate_qualifier, predicate_literal, partly_moded, predicate_mode, predicate_category, mode_head, mode_qualifier, mode_argument, mode_category, clause_head, is_unit, is_outside_type, category_named, is_category, is_reserved, is_application, is_head, is_foreign, is_variable, is_literal, is_moded, has_part, repeats, argument_type, argument_mode, lacks_mode, lacks_category, words, is_too_wide}
 use Rattle.merc_item_forms.specs.FormChecks.{is_wrong}
 use Rattle.merc_item_forms.specs.Items.{Item, Opening, Ending, Section, Import, TypeItem, PredicateItem, ModeItem, ClauseItem, OtherType, OtherFunction, OtherGrammar, OtherDeclaration, Formless, item_of}
@@ -149,6 +149,27 @@ pragma-two = refl
 pub word-alone : item_of (apply colon_minus_name (plain module_name ∷ [])) ≡ Formless
 word-alone = refl
 
+-- The words of declarations with another number of arguments: `:- word.` and `:- word(m, f).`
+
+abbrev alone : ℕ → Item
+alone word = item_of (apply colon_minus_name (plain word ∷ []))
+
+abbrev with_two : ℕ → Item
+with_two word = item_of (apply colon_minus_name (both word (plain m) (plain f) ∷ []))
+
+pub word-each_alone : map alone (module_name ∷ end_module_name ∷ import_module_name ∷ mode_name ∷ type_name ∷ pred_name ∷ []) ≡ replicate 6 Formless
+word-each_alone = refl
+
+pub word-each_two : map with_two
+    (module_name ∷ end_module_name ∷ import_module_name ∷ mode_name ∷ type_name ∷ pred_name ∷ interface_name ∷ implementation_name ∷ []) ≡ replicate 8 Formless
+word-each_two = refl
+
+pub function-each : alone func_name ∷ with_two func_name ∷ [] ≡ OtherFunction ∷ OtherFunction ∷ []
+function-each = refl
+
+pub implementation-applied : declared implementation_name (plain m) ≡ Formless
+implementation-applied = refl
+
 -- `:- module m, f.` is no opening
 pub word-two : item_of (apply colon_minus_name (both comma_name (apply module_name (plain m ∷ [])) (plain f) ∷ [])) ≡ OtherDeclaration
 word-two = refl
@@ -167,6 +188,9 @@ clause-example = refl
 
 pub clause-fact : item_of (apply p (t ∷ [])) ≡ ClauseItem (apply p (t ∷ [])) None
 clause-fact = refl
+
+pub clause-fact_two : item_of (both p t t) ≡ ClauseItem (both p t t) None
+clause-fact_two = refl
 
 pub clause-variable : item_of t ≡ ClauseItem t None
 clause-variable = refl
@@ -229,6 +253,10 @@ right_mode a b c d (mode_category first last head category is) = cc
 pub clause-right : IsRight false false (item_of (plain p))
 clause-right (clause_head first last head body is) = cc
 
+-- that `other.f.` is another module's clause is no fault of its form
+pub clause_qualifier-right : IsRight false false (item_of other_f)
+clause_qualifier-right (clause_head first last head body is) = cc
+
 -- The first item, and the last
 
 pub no_opening-example : IsWrong names m true false (predicate [])
@@ -268,6 +296,9 @@ parameters-right = right_type refl refl refl refl refl refl refl
 
 pub parameters_repeat-example : IsWrong names m false false (type_item (apply f (t ∷ blank ∷ t ∷ [])) (plain p))
 parameters_repeat-example = type_head false false (apply f (t ∷ blank ∷ t ∷ [])) _ (parameters_repeat refl)
+
+pub parameters_repeat-later : IsWrong names m false false (type_item (apply f (blank ∷ t ∷ t ∷ [])) (plain p))
+parameters_repeat-later = type_head false false (apply f (blank ∷ t ∷ t ∷ [])) _ (parameters_repeat refl)
 
 -- each `_` is a variable of its own
 pub parameters_repeat-right : IsRight false false (type_item (apply f (blank ∷ t ∷ blank ∷ [])) (plain p))
@@ -327,6 +358,10 @@ constructor_qualifier-right = right_type refl refl refl refl refl refl refl
 pub constructor_literal-example : IsWrong names m false false (type_item (plain f) (apply p (apply f (three ∷ []) ∷ [])))
 constructor_literal-example = constructor_literal false false (plain f) _ refl
 
+-- `p(int, f(T, "a"))`
+pub constructor_literal-text : IsWrong names m false false (type_item (plain f) (apply p (int ∷ apply f (t ∷ Text t_name no_span ∷ []) ∷ [])))
+constructor_literal-text = constructor_literal false false (plain f) _ refl
+
 -- Predicates
 
 pub predicate_head-example : IsWrong names m false false (declared pred_name (plain true_name))
@@ -355,6 +390,10 @@ partly_moded-right = right_predicate refl refl refl refl refl refl
 
 pub predicate_mode-example : IsWrong names m false false (predicate (moded int t ∷ []))
 predicate_mode-example = predicate_mode false false _ None refl
+
+-- `p(int::in, int::3)`
+pub predicate_mode-literal : IsWrong names m false false (predicate (moded int in_mode ∷ moded int three ∷ []))
+predicate_mode-literal = predicate_mode false false _ None refl
 
 -- another mode's name is no wrong form
 pub predicate_mode-right : IsRight false false (predicate (moded int (plain f) ∷ []))
@@ -397,6 +436,10 @@ clause_head-example = clause_head false false (both less_name t three) _ refl
 pub words-import : words (declared import_module_name (both comma_name (plain list_name) (plain f))) ≡ ImportWord ∷ []
 words-import = refl
 
+-- `m.list` is no plain name
+pub words-qualified_unit : words (declared import_module_name (Application list_name (Some m) none no_span)) ≡ ImportWord ∷ []
+words-qualified_unit = refl
+
 pub words-units : words (declared import_module_name (both comma_name (plain list_name) (plain require_name))) ≡ []
 words-units = refl
 
@@ -410,6 +453,20 @@ words-constructors = refl
 -- a constructor may have the name of a type that is left out
 pub words-constructor_name : words (type_item (plain f) char) ≡ []
 words-constructor_name = refl
+
+-- `p :: int` as a constructor, and types in types
+pub words-moded_constructor : words (type_item (plain f) (moded (plain p) int)) ≡ TypeWord ∷ []
+words-moded_constructor = refl
+
+pub words-constructor_inside : words (type_item (plain f) (apply p (int ∷ apply f (char ∷ []) ∷ []))) ≡ TypeWord ∷ []
+words-constructor_inside = refl
+
+pub words-predicate_inside : words (predicate (int ∷ apply f (int ∷ char ∷ []) ∷ [])) ≡ TypeWord ∷ []
+words-predicate_inside = refl
+
+-- `p(int::f, char::in)`: the words stand in the order of their tokens
+pub words-in_order : words (predicate (moded int (plain f) ∷ moded char in_mode ∷ [])) ≡ ModeName ∷ TypeWord ∷ []
+words-in_order = refl
 
 -- `p(int::in, char::f) is cc_multi`
 pub words-predicate : words (declared pred_name (both is_name (apply p (moded int in_mode ∷ moded char (plain f) ∷ [])) (plain cc_multi_name))) ≡ TypeWord ∷ ModeName ∷ CategoryWord ∷ []
@@ -426,6 +483,21 @@ words-func = refl
 
 pub words-mode : words (declared mode_name (apply p (in_mode ∷ plain f ∷ []))) ≡ ModeName ∷ []
 words-mode = refl
+
+pub words-mode_right : words (declared mode_name (is_det (apply p (in_mode ∷ plain out_name ∷ [])))) ≡ []
+words-mode_right = refl
+
+-- `in(T)` and `m.in` are no modes
+pub words-mode_others : words (declared mode_name (apply p (apply in_name (t ∷ []) ∷ in_mode ∷ Application in_name (Some m) none no_span ∷ []))) ≡ ModeName ∷ ModeName ∷ []
+words-mode_others = refl
+
+-- `:- mode p(f) = in.`
+pub words-mode_function : words (declared mode_name (both equal_name (apply p (plain f ∷ [])) in_mode)) ≡ Function ∷ []
+words-mode_function = refl
+
+-- `=` with three arguments is no function's head
+pub words-equal_three : words (item_of (apply equal_name (t ∷ t ∷ t ∷ []))) ≡ []
+words-equal_three = refl
 
 pub words-clause : words (item_of (both colon_minus_name (both equal_name (plain p) t) (plain true_name))) ≡ Function ∷ []
 words-clause = refl
@@ -544,3 +616,30 @@ is_too_wide-type = refl
 -- but a mode's arguments are not counted
 pub is_too_wide-mode : is_too_wide (predicate (moded int (apply f (replicate 65 t)) ∷ [])) ≡ false
 is_too_wide-mode = refl
+
+-- What may have 64 arguments: the head of a type, a constructor, a type inside of it, a predicate, a type inside of its arguments, and the heads of a mode
+-- and of a clause
+
+abbrev wide : ℕ → ℕ → Term
+wide name count = apply name (replicate count int)
+
+abbrev each_wide : ℕ → List Item
+each_wide count =
+    type_item (wide f count) (plain p)
+    ∷ type_item (plain f) (both semicolon_name (plain p) (wide p count))
+    ∷ type_item (plain f) (apply p (int ∷ apply f (wide f count ∷ []) ∷ []))
+    ∷ predicate (replicate count int)
+    ∷ predicate (int ∷ apply f (wide f count ∷ []) ∷ [])
+    ∷ declared mode_name (wide p count)
+    ∷ item_of (both colon_minus_name (wide p count) (plain true_name))
+    ∷ []
+
+pub is_too_wide-each : list_all is_too_wide (each_wide 65) ≡ true
+is_too_wide-each = refl
+
+pub is_too_wide-none : list_any is_too_wide (each_wide 64) ≡ false
+is_too_wide-none = refl
+
+-- what stands in a clause is not counted
+pub is_too_wide-clause : is_too_wide (item_of (both colon_minus_name (apply p (wide f 65 ∷ [])) (wide p 65))) ≡ false
+is_too_wide-clause = refl
