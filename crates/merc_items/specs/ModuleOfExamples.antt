@@ -3,7 +3,7 @@ use Rattle.std.specs.Prelude.{◌≡◌, ℕ, ◌+◌, List, [], ◌∷◌, None
 use Rattle.merc_base.specs.Names.{colon_minus_name, module_name, mode_name, type_name, type_arrow_name, colon_colon_name, pred_name, is_name, in_name, out_name, int_name, list_name, det_name, multi_name}
 use Rattle.merc_base.specs.declared.place.Span.{Span}
 use Rattle.merc_base.specs.declared.category.Category.TheVariants.{Det, Multi}
-use Rattle.merc_tree.specs.Term.{Term, Variable, Application, terms_of}
+use Rattle.merc_tree.specs.Term.{Term, Variable, Application, none, terms_of}
 use Rattle.merc_tree.specs.Types.{TypeVariable, IntType, TypeApplication, no_types, more_types}
 use Rattle.merc_tree.specs.declared.declarations.Arg.TheVariants.{Input, Output}
 use Rattle.merc_tree.specs.declared.declarations.PredDecl.{PredDecl}
@@ -116,6 +116,29 @@ made = refl
 -- it is not left out
 without_q : whole.preds ≡ declared_p ∷ [] → ⊥
 without_q same = cc
+
+-- `:- mode p(out) is multi.` before `:- pred p(int::in) is det.`, and `:- pred q is det.`: modes stand in the order of the text, and a predicate without
+-- arguments has one too
+
+abbrev moded_items : List Term
+moded_items =
+    opening ∷ declared mode_name (both is_name (apply p_name (name out_name ∷ [])) (name multi_name)) ∷ pred_p ∷
+    declared pred_name (both is_name (name q_name) (name det_name)) ∷ []
+
+modes_in_order : (module_of names moded_items (entries (λ unit. []) moded_items)).preds ≡
+    record {
+      name = p_name;
+      args = IntType ∷ [];
+      modes = record { args = Output ∷ []; category = Multi; span = span } ∷ record { args = Input ∷ []; category = Det; span = span } ∷ [];
+      span = span;
+      unit = None;
+    } ∷
+    record { name = q_name; args = []; modes = record { args = []; category = Det; span = span } ∷ []; span = span; unit = None } ∷ []
+modes_in_order = refl
+
+-- `m.t` is the type t
+qualified_type : declared_type names (Application t_name (Some m_name) none span) ≡ TypeApplication t_name no_types
+qualified_type = refl
 
 -- Type variables: a named one is told by its name, a `_` by its place
 
