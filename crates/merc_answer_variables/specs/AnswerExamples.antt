@@ -130,6 +130,10 @@ quantified_beside = refl
 quantified_negation : answers_of (binary comma_name (unary q_name x) (some_x (unary not_name (unary p_name x)))) ≡ occurrence x_name 4 ∷ []
 quantified_negation = refl
 
+-- `if some [X] p(X) then q(X) else true`: X of the then part, since the one in the condition is another
+quantified_condition : answers_of (if_then_else (some_x (unary p_name x)) (unary q_name x) (nullary true_name)) ≡ occurrence x_name 20 ∷ []
+quantified_condition = refl
+
 -- `p(X) & not q(Y)` and `p(X) ; not q(Y)`: X alone
 negated_beside : answers_of (binary ampersand_name (unary p_name x) (unary not_name (unary q_name y))) ≡ occurrence x_name 4 ∷ []
 negated_beside = refl
