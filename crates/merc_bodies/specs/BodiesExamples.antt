@@ -1,5 +1,5 @@
 -- The predicates p/1, with two clauses, and q/1, with none.
-use Rattle.std.specs.Prelude.{◌≡◌, ℕ, ◌+◌, ◌==◌, [], ◌∷◌, None, refl, if◌then◌else◌}
+use Rattle.std.specs.Prelude.{◌≡◌, ℕ, ◌+◌, ◌==◌, [], ◌∷◌, Some, None, refl, if◌then◌else◌}
 use Rattle.merc_base.specs.declared.place.Span.{Span}
 use Rattle.merc_tree.specs.Term.{Term, Variable, Application, none, more, no_span}
 use Rattle.merc_tree.specs.Types.{IntType}
@@ -62,6 +62,10 @@ joined = refl
 numbered_anew : body_of form (clause p 5 ∷ clause p 7 ∷ []) (predicate p) ≡ Disjunction (nodes_of (first_form 1 ∷ second_form 2 1 ∷ [])) (at 5) → ⊥
 numbered_anew wrong = cc
 
+-- behind two variables of the first clause one of the second, and so on; the body stands where the predicate's first clause does
+three : body_of form (clause q 6 ∷ clause p 7 ∷ clause p 5 ∷ clause p 5 ∷ []) (predicate p) ≡ Disjunction (nodes_of (second_form 2 1 ∷ first_form 3 ∷ first_form 4 ∷ [])) (at 7)
+three = refl
+
 -- as the forms of clauses have them, whose own variables are numbered from the number of arguments on
 from_arity : body_of (λ clause. first_form 1) (clause p 5 ∷ clause p 7 ∷ []) (predicate p) ≡ Disjunction (nodes_of (first_form 1 ∷ first_form 2 ∷ [])) (at 5)
 from_arity = refl
@@ -72,6 +76,13 @@ other_arity = record { head = Application p None none no_span; body = None; span
 
 apart : body_of form (other_arity ∷ clause p 5 ∷ []) (predicate p) ≡ first_form 1
 apart = refl
+
+-- `m.p(X).`, where m has the number 300
+abbrev qualified : Clause
+qualified = record { head = Application p (Some 300) (more (Variable 100 no_span) none) no_span; body = None; span = at 5 }
+
+with_qualifier : body_of form (qualified ∷ []) (predicate p) ≡ first_form 1
+with_qualifier = refl
 
 only_clause : body_of form (clause p 5 ∷ []) (predicate p) ≡ first_form 1
 only_clause = refl
