@@ -90,6 +90,10 @@ opening-example = refl
 pub opening-other : declared module_name (both comma_name (plain m) (plain f)) ≡ Formless
 opening-other = refl
 
+-- a name with a qualifier, one with arguments, an integer and a variable
+pub opening-others : map (declared module_name) (own_f ∷ apply m (t ∷ []) ∷ three ∷ t ∷ []) ≡ replicate 4 Formless
+opening-others = refl
+
 pub ending-example : declared end_module_name (plain m) ≡ Ending m
 ending-example = refl
 
@@ -291,6 +295,9 @@ type_qualifier-right = right_type refl refl refl refl refl refl refl
 pub parameters-example : IsWrong names m false false (type_item (apply f (int ∷ [])) (plain p))
 parameters-example = type_head false false (apply f (int ∷ [])) _ (parameters refl)
 
+pub parameters-second : IsWrong names m false false (type_item (apply f (t ∷ int ∷ [])) (plain p))
+parameters-second = type_head false false (apply f (t ∷ int ∷ [])) _ (parameters refl)
+
 pub parameters-right : IsRight false false (type_item (apply f (t ∷ [])) (apply p (int ∷ [])))
 parameters-right = right_type refl refl refl refl refl refl refl
 
@@ -385,6 +392,9 @@ predicate_literal-right = right_predicate refl refl refl refl refl refl
 pub partly_moded-example : IsWrong names m false false (predicate (moded int in_mode ∷ int ∷ []))
 partly_moded-example = partly_moded false false _ None refl
 
+pub partly_moded-last : IsWrong names m false false (predicate (int ∷ moded int in_mode ∷ []))
+partly_moded-last = partly_moded false false _ None refl
+
 pub partly_moded-right : IsRight false false (predicate (int ∷ int ∷ []))
 partly_moded-right = right_predicate refl refl refl refl refl refl
 
@@ -430,6 +440,10 @@ mode_category-example = mode_category false false (plain p) _ refl
 
 pub clause_head-example : IsWrong names m false false (item_of (both colon_minus_name (both less_name t three) (plain p)))
 clause_head-example = clause_head false false (both less_name t three) _ refl
+
+-- `true(T) :- p.`: with any number of arguments
+pub clause_head-arity : IsWrong names m false false (item_of (both colon_minus_name (apply true_name (t ∷ [])) (plain p)))
+clause_head-arity = clause_head false false (apply true_name (t ∷ [])) _ refl
 
 -- What the profile leaves out
 
