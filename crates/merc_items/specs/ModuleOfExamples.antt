@@ -1,10 +1,10 @@
 -- The module that a few items are.
 use Rattle.std.specs.Prelude.{◌≡◌, ℕ, ◌+◌, List, [], ◌∷◌, None, Some, codes, refl}
-use Rattle.merc_base.specs.Names.{colon_minus_name, module_name, mode_name, type_name, type_arrow_name, colon_colon_name, pred_name, is_name, in_name, out_name, int_name, list_name, det_name, multi_name}
+use Rattle.merc_base.specs.Names.{colon_minus_name, module_name, mode_name, type_name, type_arrow_name, colon_colon_name, pred_name, is_name, in_name, out_name, int_name, string_name, list_name, det_name, multi_name}
 use Rattle.merc_base.specs.declared.place.Span.{Span}
 use Rattle.merc_base.specs.declared.category.Category.TheVariants.{Det, Multi}
 use Rattle.merc_tree.specs.Term.{Term, Variable, Application, none, terms_of}
-use Rattle.merc_tree.specs.Types.{TypeVariable, IntType, TypeApplication, no_types, more_types}
+use Rattle.merc_tree.specs.Types.{TypeVariable, IntType, TextType, TypeApplication, no_types, more_types}
 use Rattle.merc_tree.specs.declared.declarations.Arg.TheVariants.{Input, Output}
 use Rattle.merc_tree.specs.declared.declarations.PredDecl.{PredDecl}
 use Rattle.merc_tree.specs.declared.declarations.Module.{Module}
@@ -139,6 +139,10 @@ modes_in_order = refl
 -- `m.t` is the type t
 qualified_type : declared_type names (Application t_name (Some m_name) none span) ≡ TypeApplication t_name no_types
 qualified_type = refl
+
+-- `t(int, string)`
+type_arguments : declared_type names (apply t_name (name int_name ∷ name string_name ∷ [])) ≡ TypeApplication t_name (more_types IntType (more_types TextType no_types))
+type_arguments = refl
 
 -- Type variables: a named one is told by its name, a `_` by its place
 
