@@ -1,5 +1,5 @@
 -- Faults of a few goals, in a module with the type `t` of the constructors `c/0` and `f/1` and the predicate `p/1`. `g` and `q` are unknown.
-use Rattle.std.specs.Prelude.{◌≡◌, ℕ, suc, zero, ◌+◌, List, [], ◌∷◌, Option, Some, None, pos, refl}
+use Rattle.std.specs.Prelude.{◌≡◌, ℕ, suc, zero, ◌+◌, true, false, List, [], ◌∷◌, map, Option, Some, None, pos, refl}
 use Rattle.std.proofs.Common.{ap}
 use Rattle.merc_base.specs.Names.{div_name, int_name, less_name, minus_name, mod_name, plus_name, rem_name, slash_name, slash_slash_name, star_name}
 use Rattle.merc_base.specs.declared.place.Span.{Span}
@@ -16,6 +16,9 @@ use Rattle.merc_goals.specs.Faults.{wrong_form}
 use Rattle.merc_goal_tree.specs.declared.goal.SimpleGoal.TheVariants.{True, Same, Call}
 use Rattle.merc_goal_tree.specs.Nodes.{Node, Simple, Conjunction as NodeConjunction, Negation as NodeNegation, Quantified as NodeQuantified, nodes_of}
 use Rattle.merc_flat.specs.GoalFaults.{form_fault, limit_passed, name_fault, unknown, unknown_among, unknown_in, unknown_name, variable_count}
+use Rattle.merc_flat.specs.Counted.{own}
+use Rattle.merc_flat.specs.SizeFaults.{first_of_two, size_fault, width_fault}
+use Rattle.merc_flat.specs.UnknownNames.{is_arithmetic_name, is_unknown, stacked, unknown_on}
 
 abbrev m_name : ℕ
 m_name = 99
@@ -264,3 +267,48 @@ unknown_sides = refl
 
 unknown_operands : unknown example (Compared 0 less_name (applied g_name None none 1) (applied g_name None none 2) (at 0)) ≡ at 1 ∷ at 2 ∷ []
 unknown_operands = refl
+
+-- what private functions compute
+
+abbrev g : ℕ → Term
+g first = applied g_name None none first
+
+is_arithmetic_name-minus : map (is_arithmetic_name minus_name None) (0 ∷ 1 ∷ 2 ∷ 3 ∷ []) ≡ false ∷ true ∷ true ∷ false ∷ []
+is_arithmetic_name-minus = refl
+
+is_arithmetic_name-plus : map (is_arithmetic_name plus_name None) (0 ∷ 1 ∷ 2 ∷ 3 ∷ []) ≡ false ∷ false ∷ true ∷ false ∷ []
+is_arithmetic_name-plus = refl
+
+is_arithmetic_name-qualified : map (is_arithmetic_name minus_name (Some int_name)) (1 ∷ 2 ∷ []) ≡ false ∷ false ∷ []
+is_arithmetic_name-qualified = refl
+
+is_unknown-each : map (is_unknown example) (x 1 ∷ Integer (pos 5) (at 1) ∷ Text g_name (at 1) ∷ applied c_name None none 1 ∷ g 1 ∷ []) ≡ false ∷ false ∷ false ∷ false ∷ true ∷ []
+is_unknown-each = refl
+
+-- the top of a stack is its last term
+stacked-example : stacked (x 1 ∷ []) (x 2 ∷ x 3 ∷ []) ≡ x 1 ∷ x 3 ∷ x 2 ∷ []
+stacked-example = refl
+
+unknown_on-example : unknown_on example (g 1 ∷ x 3 ∷ g 5 ∷ []) ≡ at 5 ∷ at 1 ∷ []
+unknown_on-example = refl
+
+own-example : own 2 (1 ∷ 2 ∷ 3 ∷ []) ≡ 2 ∷ 3 ∷ []
+own-example = refl
+
+size_fault-allowed : size_fault 16384 (at 3) truth ≡ None
+size_fault-allowed = refl
+
+size_fault-passed : size_fault 16385 (at 3) truth ≡ Some (limit_passed Variables (at 3))
+size_fault-passed = refl
+
+width_fault-allowed : width_fault (at 3) 64 ≡ None
+width_fault-allowed = refl
+
+width_fault-passed : width_fault (at 3) 65 ≡ Some (limit_passed Conjuncts (at 3))
+width_fault-passed = refl
+
+first_of_two-first : first_of_two (Some (limit_passed Conjuncts (at 3))) (Some (wrong_form (at 5))) ≡ Some (limit_passed Conjuncts (at 3))
+first_of_two-first = refl
+
+first_of_two-second : first_of_two (Some (limit_passed Conjuncts (at 3))) (Some (wrong_form (at 3))) ≡ Some (wrong_form (at 3))
+first_of_two-second = refl
