@@ -21,6 +21,7 @@ use Rattle.merc_declared.specs.ModeFaults.{lacks_mode, has_many_modes, lacks_mod
 use Rattle.merc_declared.specs.AloneItems.{is_alone, IsAlone}
 use Rattle.merc_declared.specs.ClauseHeads.{is_alone_here}
 use Rattle.merc_declared.specs.KnownTypes.{has_unknown_here}
+use Rattle.merc_declared.specs.ModeCounts.{earlier, no_modes, too_few, too_many, with_mode}
 
 abbrev span : Span
 span = record { first = 0; past = 1; line = 1 }
@@ -287,6 +288,24 @@ HasModeFault-missing = missing (line 1) (record { front = []; item = entry split
 
 pub HasModeFault-many : HasModeFault (entry split_p 1 ∷ replicate 17 mode_in) LimitPassed (Limit Modes) (line 1)
 HasModeFault-many = many (line 1) (record { front = []; item = entry split_p 1; back = replicate 17 mode_in; whole = refl; passes = refl; there = refl })
+
+-- of what is missing and what is too many that which stands first, and at one place what is missing
+
+pub earlier-many : earlier (Some (line 2)) (Some (line 1)) ≡ Some (record { rule = LimitPassed; place = line 1; detail = Limit Modes })
+earlier-many = refl
+
+pub earlier-both : earlier (Some (line 1)) (Some (line 1)) ≡ Some (record { rule = MissingMode; place = line 1; detail = Plain })
+earlier-both = refl
+
+pub earlier-missing : earlier (Some (line 1)) (Some (line 2)) ≡ Some (too_few (line 1))
+earlier-missing = refl
+
+pub earlier-alone : earlier None (Some (line 2)) ≡ Some (too_many (line 2))
+earlier-alone = refl
+
+-- one mode without a category is enough
+pub with_mode-example : with_mode (with_mode no_modes true) false ≡ record { count = 2; lacks_category = true }
+with_mode-example = refl
 
 pub HasModeFault-none : {rule : Rule} {detail : Detail} {place : Place} → HasModeFault (entry moded_p 1 ∷ []) rule detail place → ⊥
 HasModeFault-none (missing place found) = let t : false ≡ true = only_passes (lacks_mode_here (entry moded_p 1 ∷ [])) (entry moded_p 1) place found in cc
