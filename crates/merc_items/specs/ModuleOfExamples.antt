@@ -3,14 +3,17 @@ use Rattle.std.specs.Prelude.{◌≡◌, ℕ, ◌+◌, List, [], ◌∷◌, None
 use Rattle.merc_base.specs.Names.{colon_minus_name, module_name, mode_name, type_name, type_arrow_name, colon_colon_name, pred_name, is_name, in_name, out_name, int_name, string_name, list_name, det_name, multi_name}
 use Rattle.merc_base.specs.declared.place.Span.{Span}
 use Rattle.merc_base.specs.declared.category.Category.TheVariants.{Det, Multi}
+use Rattle.merc_tree.specs.declared.term.Shape.TheVariants.{Variable as VariableShape, Application as ApplicationShape}
 use Rattle.merc_tree.specs.Term.{Term, Variable, Application, none, terms_of}
 use Rattle.merc_tree.specs.Types.{TypeVariable, IntType, TextType, TypeApplication, no_types, more_types}
 use Rattle.merc_tree.specs.declared.declarations.Arg.TheVariants.{Input, Output}
 use Rattle.merc_tree.specs.declared.declarations.PredDecl.{PredDecl}
 use Rattle.merc_tree.specs.declared.declarations.Module.{Module}
-use Rattle.merc_item_forms.specs.Items.{TypeItem, PredicateItem}
-use Rattle.merc_entries.specs.Entries.{entries}
+use Rattle.merc_item_forms.specs.Items.{TypeItem, PredicateItem, ModeItem, ClauseItem}
+use Rattle.merc_entries.specs.Entries.{entries, key}
 use Rattle.merc_items.specs.ModuleOf.{declared_type, parameters, type_defs_of, pred_decls_of, module_of}
+use Rattle.merc_items.specs.DeclaredModes.{moded_predicate}
+use Rattle.merc_items.specs.DeclaredTypes.{with_parts}
 
 abbrev span_at : ℕ → Span
 span_at byte = record { first = byte; past = byte + 1; line = 1 }
@@ -169,3 +172,23 @@ same_parameter = refl
 two_arguments : pred_decls_of names [] None span (PredicateItem (apply p_name (blank_at 7 ∷ blank_at 10 ∷ [])) None)
     ≡ record { name = p_name; args = TypeVariable 9 ∷ TypeVariable 12 ∷ []; modes = []; span = span; unit = None } ∷ []
 two_arguments = refl
+
+-- What private functions compute
+
+-- `t(X, string)` by its parts, arguments first
+by_parts : with_parts names ((VariableShape x_name, span) ∷ (ApplicationShape string_name None 0, span) ∷ (ApplicationShape t_name None 2, span) ∷ []) []
+    ≡ TypeApplication t_name (more_types (TypeVariable x_name) (more_types TextType no_types)) ∷ []
+by_parts = refl
+
+-- a predicate with its mode, one without, a mode and a clause
+with_modes : moded_predicate (PredicateItem (apply p_name (both colon_colon_name (name int_name) (name in_name) ∷ [])) (Some (name det_name))) ≡ key p_name 1 ∷ []
+with_modes = refl
+
+without_mode : moded_predicate (PredicateItem (apply p_name (name int_name ∷ [])) None) ≡ []
+without_mode = refl
+
+of_mode : moded_predicate (ModeItem (apply q_name (name in_name ∷ name out_name ∷ [])) None) ≡ key q_name 2 ∷ []
+of_mode = refl
+
+of_clause : moded_predicate (ClauseItem (apply q_name (variable ∷ [])) None) ≡ []
+of_clause = refl
