@@ -1,11 +1,13 @@
 -- The answer variables of a few goals, over the variables X, Y and Z and the predicates p, q and r, whose names have numbers behind those of the constants.
-use Rattle.std.specs.Prelude.{◌≡◌, ℕ, List, [], ◌∷◌, None, codes, refl}
+use Rattle.std.specs.Prelude.{◌≡◌, ℕ, true, false, List, [], ◌∷◌, Some, None, codes, refl}
 use Rattle.merc_base.specs.Names.{ampersand_name, comma_name, cons_name, else_name, equal_name, if_name, less_name, nil_name, not_equal_name, not_name, semicolon_name, some_name, then_name, true_name}
 use Rattle.merc_tree.specs.Term.{Term, Variable, Application, none, more, no_span}
 use Rattle.merc_goals.specs.Written.{written}
 use Rattle.merc_scopes.specs.declared.occurrence.Occurrence.{Occurrence}
 use Rattle.merc_scopes.specs.Scopes.{occurrence}
 use Rattle.merc_answer_variables.specs.AnswerVariables.{answer_variables, underscore}
+use Rattle.merc_answer_variables.specs.Statuses.{Status, bound, decided, hidden, joined, place_among, unseen}
+use Rattle.merc_answer_variables.specs.Reading.{chosen}
 
 abbrev x_name : ℕ
 x_name = 100
@@ -183,3 +185,42 @@ negated_third = refl
 -- `q(X), some [Y, X] not p(X)`: X, since the one in the negation is another, as each variable of the quantifier is
 quantified_second : answers_of (binary comma_name (unary q_name x) (binary some_name (binary cons_name y (binary cons_name x (nullary nil_name))) (unary not_name (unary p_name x)))) ≡ occurrence x_name 4 ∷ []
 quantified_second = refl
+
+-- What is known of a variable that stands before so many others, and is an answer variable of its goal
+
+abbrev shown_at : ℕ → Status
+shown_at place = record { place = Some place; shown = true }
+
+-- in two goals beside each other, also where each hides it: `not p(X), not q(X)`
+joined-hidden : joined (hidden (shown_at 5)) (hidden (shown_at 2)) ≡ shown_at 5
+joined-hidden = refl
+
+joined-once : joined unseen (hidden (shown_at 2)) ≡ record { place = Some 2; shown = false }
+joined-once = refl
+
+-- in the condition and the then part of an if-then-else, in the condition and the else part, and in the then part alone
+decided-then : decided (shown_at 5) (shown_at 2) unseen ≡ record { place = Some 5; shown = false }
+decided-then = refl
+
+decided-else : decided (shown_at 5) unseen (shown_at 2) ≡ shown_at 5
+decided-else = refl
+
+decided-behind : decided unseen (shown_at 2) unseen ≡ shown_at 2
+decided-behind = refl
+
+bound-own : bound (y_name ∷ x_name ∷ []) x_name (shown_at 2) ≡ unseen
+bound-own = refl
+
+bound-other : bound (y_name ∷ []) x_name (shown_at 2) ≡ shown_at 2
+bound-other = refl
+
+-- the first of two, with one behind it and one behind both
+place_among-first : place_among x_name (occurrence y_name 0 ∷ occurrence x_name 2 ∷ occurrence x_name 4 ∷ []) (occurrence z_name 6 ∷ []) ≡ Some 2
+place_among-first = refl
+
+-- the occurrence is taken that stands before so many others, if it is shown
+chosen-first : chosen [] (λ name. shown_at 1) (occurrence x_name 0 ∷ occurrence x_name 2 ∷ occurrence x_name 4 ∷ []) ≡ occurrence x_name 2 ∷ []
+chosen-first = refl
+
+chosen-hidden : chosen [] (λ name. hidden (shown_at 1)) (occurrence x_name 0 ∷ occurrence x_name 2 ∷ []) ≡ []
+chosen-hidden = refl
