@@ -6,9 +6,12 @@ use Rattle.merc_tree.specs.Types.{IntType}
 use Rattle.merc_tree.specs.declared.declarations.PredDecl.{PredDecl}
 use Rattle.merc_tree.specs.declared.declarations.Clause.{Clause}
 use Rattle.merc_goal_tree.specs.Nodes.{Node, Simple, Conjunction, Disjunction, Quantified, nodes_of}
+use Rattle.merc_goal_tree.specs.declared.entries.Root.TheVariants.{Simple as SimpleRoot, Conjunction as ConjunctionRoot, Quantified as QuantifiedRoot}
 use Rattle.merc_goal_tree.specs.declared.goal.SimpleGoal.TheVariants.{Fail, Shape, Call}
 use Rattle.merc_goal_tree.specs.declared.goal.Symbol.TheVariants.{Constructor}
 use Rattle.merc_bodies.specs.Bodies.{rising, numbered, body_of, asked_body}
+use Rattle.merc_bodies.specs.Grouping.{body_of_pairs, headed, paired}
+use Rattle.merc_bodies.specs.Rebuilding.{rebuilt}
 
 abbrev at : ℕ → Span
 at first = record { first = first; past = first + 1; line = 1 }
@@ -110,3 +113,22 @@ nested = refl
 
 nested_as_one : body_of case_form (clause p 5 ∷ clause p 7 ∷ []) (predicate p) ≡ Disjunction (nodes_of (case 210 ∷ case 211 ∷ case 212 ∷ [])) (at 5) → ⊥
 nested_as_one wrong = cc
+
+-- What private functions compute
+
+-- of three clauses the second is one of q
+headed-example : headed (predicate p) (paired (clause p 5 ∷ clause q 6 ∷ clause p 7 ∷ []) (first_form 5 ∷ first_form 6 ∷ first_form 7 ∷ []))
+    ≡ (clause p 5, first_form 5) ∷ (clause p 7, first_form 7) ∷ []
+headed-example = refl
+
+paired-shorter : paired (clause p 5 ∷ clause q 6 ∷ []) (first_form 5 ∷ []) ≡ (clause p 5, first_form 5) ∷ []
+paired-shorter = refl
+
+body_of_pairs-example : body_of_pairs 1 ((clause p 5, first_form 5) ∷ (clause p 7, second_form 9 7) ∷ []) ≡ Disjunction (nodes_of (first_form 1 ∷ second_form 3 2 ∷ [])) (at 5)
+body_of_pairs-example = refl
+
+-- `some [X] ( q(X), q(Y) )` by its parts, each variable ten more
+rebuilt-example : rebuilt (λ variable. 10 + variable)
+    ((SimpleRoot (Call 1 (1 ∷ [])), at 20) ∷ (SimpleRoot (Call 1 (2 ∷ [])), at 22) ∷ (ConjunctionRoot 2, at 20) ∷ (QuantifiedRoot (1 ∷ []), at 18) ∷ []) []
+    ≡ second_form 11 12 ∷ []
+rebuilt-example = refl
