@@ -1,15 +1,43 @@
 -- What texts begin with: for each rule a text that reads, and one that does not.
-use Rattle.std.specs.Prelude.{◌≡◌, ℕ, true, false, List, [], ◌++◌, length, codes, refl}
+use Rattle.std.specs.Prelude.{◌≡◌, ℕ, true, false, List, [], ◌∷◌, ◌++◌, length, map, codes, refl}
 use Rattle.std.proofs.Math.ListN.{replicate}
 use Rattle.merc_base.specs.Characters.{lower_a_code, space_code, star_code, upper_a_code}
+use Rattle.merc_tokens.specs.declared.bytes.Start.TheVariants.{Lower, Upper, Digit, OpenList as OpenListStart, Outside, Graphic as GraphicStart}
 use Rattle.merc_tokens.specs.declared.pieces.Spelling.{Spelling}
 use Rattle.merc_tokens.specs.declared.pieces.Spelling.TheVariants.{Name, Quoted, Var, Int, Text, OpenArgs, Open, Close, OpenList, CloseList, Comma, Bar, Dot, Stop}
 use Rattle.merc_tokens.specs.declared.pieces.Piece.TheVariants.{Gap, Token}
+use Rattle.merc_tokens.specs.Bytes.{is_blank, is_letter, is_word, is_graphic, digit_of, start_of}
 use Rattle.merc_tokens.specs.Pieces.{first_piece}
 
 -- the whole text is this token
 abbrev IsToken : List ℕ → Spelling → Type 0
 IsToken text spelling = first_piece false text ≡ Token spelling (length text)
+
+-- the bytes beside each class, and those at its ends
+
+pub is_blank-example : map is_blank (8 ∷ 9 ∷ 10 ∷ 11 ∷ 12 ∷ 13 ∷ 14 ∷ 31 ∷ 32 ∷ 33 ∷ [])
+    ≡ false ∷ true ∷ true ∷ false ∷ false ∷ true ∷ false ∷ false ∷ true ∷ false ∷ []
+is_blank-example = refl
+
+pub is_word-example : map is_word (codes "/09:@AZ[^_`az{")
+    ≡ false ∷ true ∷ true ∷ false ∷ false ∷ true ∷ true ∷ false ∷ false ∷ true ∷ false ∷ true ∷ true ∷ false ∷ []
+is_word-example = refl
+
+-- a digit is no letter
+pub is_letter-example : map is_letter (codes "/09:@AZ[^_`az{")
+    ≡ false ∷ false ∷ false ∷ false ∷ false ∷ true ∷ true ∷ false ∷ false ∷ true ∷ false ∷ true ∷ true ∷ false ∷ []
+is_letter-example = refl
+
+pub start_of-example : map start_of (codes "/09:@AZ[^_`az{")
+    ≡ GraphicStart ∷ Digit ∷ Digit ∷ GraphicStart ∷ GraphicStart ∷ Upper ∷ Upper ∷ OpenListStart ∷ GraphicStart ∷ Upper ∷ Outside ∷ Lower ∷ Lower ∷ Outside ∷ []
+start_of-example = refl
+
+pub digit_of-example : map digit_of (codes "/09:@AFG`afg") ≡ 255 ∷ 0 ∷ 9 ∷ 255 ∷ 255 ∷ 10 ∷ 15 ∷ 255 ∷ 255 ∷ 10 ∷ 15 ∷ 255 ∷ []
+digit_of-example = refl
+
+-- what is no graphic character
+pub is_graphic-none : map is_graphic (codes "!\"%'(),;[]_`{|} 09AZaz") ≡ replicate 22 false
+is_graphic-none = refl
 
 pub name-example : IsToken (codes "add_1X") (Name (codes "add_1X"))
 name-example = refl
@@ -35,6 +63,13 @@ graphic-counterexample parts = cc
 
 pub quoted-example : IsToken (codes "'it''s'") (Quoted (codes "it's"))
 quoted-example = refl
+
+-- the name without a character, and that of a quote alone
+pub quoted_empty-example : IsToken (codes "''") (Quoted [])
+quoted_empty-example = refl
+
+pub quoted_quote-example : IsToken (codes "''''") (Quoted (codes "'"))
+quoted_quote-example = refl
 
 -- each escape: `\n`, `\t`, `\\`, `\"` and `\'`
 pub quoted_escape-example : IsToken (codes "'a\\n\\t\\\\\\\"\\'b'") (Quoted (codes "a\n\t\\\"'b"))
@@ -69,6 +104,14 @@ integer_marks-example = refl
 
 pub integer_digits-example : IsToken (codes "1234567890") (Int 1234567890)
 integer_digits-example = refl
+
+-- a prefix and a character begin with 0 alone
+pub integer_quote-example : first_piece false (codes "1'a'") ≡ Token (Int 1) 1
+integer_quote-example = refl
+
+-- a `.` and a letter behind it are no fraction, though the letter is a digit of base 16
+pub integer_dot-example : first_piece false (codes "1.a5") ≡ Token (Int 1) 1
+integer_dot-example = refl
 
 -- a `_` stands between digits
 pub integer-counterexample : IsToken (codes "1_") (Int 1) → ⊥
@@ -233,6 +276,17 @@ return-example = refl
 -- up to the line end
 pub line_comment-example : first_piece false (codes "% a\nb") ≡ Gap 3
 line_comment-example = refl
+
+-- a carriage return ends no line
+pub line_comment_return-example : first_piece false (codes "% a\rb\nc") ≡ Gap 5
+line_comment_return-example = refl
+
+-- the shortest one, and one whose last `*` follows another
+pub empty_comment-example : first_piece false (codes "/**/*/") ≡ Gap 4
+empty_comment-example = refl
+
+pub stars_comment-example : first_piece false (codes "/***/*/") ≡ Gap 5
+stars_comment-example = refl
 
 -- up to the first `*/`, which does not share its `*` with the `/*`
 pub comment-example : first_piece false (codes "/*/ a */ */") ≡ Gap 8
