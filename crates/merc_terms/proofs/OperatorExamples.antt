@@ -1,16 +1,16 @@
 -- Each row of the operator table: its priority, how a chain of its operators is read, and which operators are looser and
 -- tighter than they are.
-use Rattle.std.proofs.Common.{◌≡◌, ℕ, List, [], ◌∷◌, false, map, Option, Some, None, refl}
+use Rattle.std.proofs.Common.{◌≡◌, ℕ, pos, negsuc, List, [], ◌∷◌, false, map, Option, Some, None, refl}
 use Rattle.std.specs.List.{AllByRecursion}
 use Rattle.std.specs.Option.{option_map}
-use Rattle.merc_base.specs.Names.{all_name, ampersand_name, arrow_name, at_least_name, at_most_name, colon_colon_name, colon_minus_name, comma_name, div_name, else_name, end_module_name, equal_equal_name, equal_name, equivalent_name, func_name, grammar_arrow_name, greater_name, if_name, implies_name, import_module_name, is_name, less_name, minus_name, mod_name, mode_name, module_name, not_equal_name, not_name, not_provable_name, plus_name, pred_name, rem_name, semicolon_name, slash_slash_name, some_name, star_name, then_name, type_arrow_name, type_name}
+use Rattle.merc_base.specs.Names.{all_name, ampersand_name, arrow_name, at_least_name, at_most_name, colon_colon_name, colon_minus_name, comma_name, cons_name, div_name, else_name, end_module_name, equal_equal_name, equal_name, equivalent_name, func_name, grammar_arrow_name, greater_name, if_name, implies_name, import_module_name, is_name, less_name, minus_name, mod_name, mode_name, module_name, nil_name, not_equal_name, not_name, not_provable_name, plus_name, pred_name, rem_name, semicolon_name, slash_slash_name, some_name, star_name, then_name, type_arrow_name, type_name}
 use Rattle.merc_tokens.specs.declared.token.TokenKind.{TokenKind}
-use Rattle.merc_tokens.specs.declared.token.TokenKind.TheVariants.{Name, Comma}
-use Rattle.merc_tree.specs.Term.{Term}
+use Rattle.merc_tokens.specs.declared.token.TokenKind.TheVariants.{Name, Quoted, Int, Text as TextToken, OpenArgs, Open, Close, OpenList, CloseList, Comma, Bar, Dot, Stop}
+use Rattle.merc_tree.specs.Term.{Term, Integer, Text, Application, none, no_span}
 use Rattle.merc_terms.specs.declared.operators.Operator.{Operator}
 use Rattle.merc_terms.specs.Operators.{operators, infix_named, prefix_named}
 use Rattle.merc_terms.specs.Reader.{reading}
-use Rattle.merc_terms.proofs.ReadingExamples.{Reads, Unread, answer, reads, unread, a, b, c, a', b', c', apply}
+use Rattle.merc_terms.proofs.ReadingExamples.{Reads, Unread, answer, reads, unread, a_name, b_name, a, b, c, a', b', c', apply}
 
 -- priorities
 
@@ -291,3 +291,117 @@ two_quantifiers pair = Name pair.0 ∷ Name pair.1 ∷ a' ∷ b' ∷ c' ∷ []
 quantifiers_do_not_begin : AllByRecursion (λ pair. Unread (two_quantifiers pair)) ((some_name, all_name) ∷ (all_name, some_name) ∷ [])
 unfolding reading operators
 quantifiers_do_not_begin = none_reads two_quantifiers ((some_name, all_name) ∷ (all_name, some_name) ∷ []) refl
+
+-- tokens, and what they are read as
+
+abbrev Reading : Type 0
+Reading = List TokenKind × Term
+
+all_read : (all : List Reading) → map (λ (one : Reading). answer one.0) all ≡ map (λ (one : Reading). Some (one.1 ∷ [], false)) all → AllByRecursion (λ (one : Reading). Reads one.0 one.1) all
+all_read all same = each_reads (λ (one : Reading). one.0) (λ (one : Reading). one.1) all same
+
+none_read : (all : List (List TokenKind)) → map answer all ≡ map (λ (one : List TokenKind). None) all → AllByRecursion Unread all
+none_read all same = none_reads (λ (one : List TokenKind). one) all same
+
+-- A prefix operator's name is a plain name at the end, `a = not`, before a comma, a bar and a bracket that closes, `a(not, mode)` and `[not | mode]`, before a
+-- parenthesis directly behind it, `not(a, b)`, and before an infix operator's name that is no prefix operator, `not = a`.
+
+abbrev plain_names : List Reading
+plain_names =
+    (a' ∷ Name equal_name ∷ Name not_name ∷ [], apply equal_name (a ∷ apply not_name [] ∷ []))
+    ∷ (a' ∷ OpenArgs ∷ Name not_name ∷ Comma ∷ Name mode_name ∷ Close ∷ [], apply a_name (apply not_name [] ∷ apply mode_name [] ∷ []))
+    ∷ (OpenList ∷ Name not_name ∷ Bar ∷ Name mode_name ∷ CloseList ∷ [], apply cons_name (apply not_name [] ∷ apply mode_name [] ∷ []))
+    ∷ (Name not_name ∷ OpenArgs ∷ a' ∷ Comma ∷ b' ∷ Close ∷ [], apply not_name (a ∷ b ∷ []))
+    ∷ (Name not_name ∷ Name equal_name ∷ a' ∷ [], apply equal_name (apply not_name [] ∷ a ∷ []))
+    ∷ []
+
+plain_names_read : AllByRecursion (λ (one : Reading). Reads one.0 one.1) plain_names
+unfolding reading operators
+plain_names_read = all_read plain_names refl
+
+-- Before anything else it is the operator: `not (a, b)`, `not []`, `not 'b'`, `not - a`, `not 5` and `not "b"`.
+
+abbrev operands : List Reading
+operands =
+    (Name not_name ∷ Open ∷ a' ∷ Comma ∷ b' ∷ Close ∷ [], apply not_name (apply comma_name (a ∷ b ∷ []) ∷ []))
+    ∷ (Name not_name ∷ OpenList ∷ CloseList ∷ [], apply not_name (apply nil_name [] ∷ []))
+    ∷ (Name not_name ∷ Quoted b_name ∷ [], apply not_name (b ∷ []))
+    ∷ (Name not_name ∷ Name minus_name ∷ a' ∷ [], apply not_name (apply minus_name (a ∷ []) ∷ []))
+    ∷ (Name not_name ∷ Int 5 ∷ [], apply not_name (Integer (pos 5) no_span ∷ []))
+    ∷ (Name not_name ∷ TextToken b_name ∷ [], apply not_name (Text b_name no_span ∷ []))
+    ∷ []
+
+operands_read : AllByRecursion (λ (one : Reading). Reads one.0 one.1) operands
+unfolding reading operators
+operands_read = all_read operands refl
+
+-- An infix operator's name is a plain name where a term must begin: `a = +`, `a(+)`, `[mod]` and `+(a, b)`. Behind one a term may begin with a parenthesis
+-- that stands directly there, `a =(b ; c)`, and with a sign, `a - - 5`.
+
+abbrev infix_names : List Reading
+infix_names =
+    (a' ∷ Name equal_name ∷ Name plus_name ∷ [], apply equal_name (a ∷ apply plus_name [] ∷ []))
+    ∷ (a' ∷ OpenArgs ∷ Name plus_name ∷ Close ∷ [], apply a_name (apply plus_name [] ∷ []))
+    ∷ (OpenList ∷ Name mod_name ∷ CloseList ∷ [], apply cons_name (apply mod_name [] ∷ apply nil_name [] ∷ []))
+    ∷ (Name plus_name ∷ OpenArgs ∷ a' ∷ Comma ∷ b' ∷ Close ∷ [], apply plus_name (a ∷ b ∷ []))
+    ∷ (a' ∷ Name equal_name ∷ OpenArgs ∷ b' ∷ Name semicolon_name ∷ c' ∷ Close ∷ [], apply equal_name (a ∷ apply semicolon_name (b ∷ c ∷ []) ∷ []))
+    ∷ (a' ∷ Name minus_name ∷ Name minus_name ∷ Int 5 ∷ [], apply minus_name (a ∷ Integer (negsuc 4) no_span ∷ []))
+    ∷ []
+
+infix_names_read : AllByRecursion (λ (one : Reading). Reads one.0 one.1) infix_names
+unfolding reading operators
+infix_names_read = all_read infix_names refl
+
+-- A quoted name is a name like any other, `'-'(5)` and `some a ';'`, and behind a qualifier mark each name is one: `a.not`, `a.mod` and `a.'b'`.
+
+abbrev other_names : List Reading
+other_names =
+    (Quoted minus_name ∷ OpenArgs ∷ Int 5 ∷ Close ∷ [], apply minus_name (Integer (pos 5) no_span ∷ []))
+    ∷ (Name some_name ∷ a' ∷ Quoted semicolon_name ∷ [], apply some_name (a ∷ apply semicolon_name [] ∷ []))
+    ∷ (a' ∷ Dot ∷ Name not_name ∷ [], Application not_name (Some a_name) none no_span)
+    ∷ (a' ∷ Dot ∷ Name mod_name ∷ [], Application mod_name (Some a_name) none no_span)
+    ∷ (a' ∷ Dot ∷ Quoted b_name ∷ [], Application b_name (Some a_name) none no_span)
+    ∷ []
+
+other_names_read : AllByRecursion (λ (one : Reading). Reads one.0 one.1) other_names
+unfolding reading operators
+other_names_read = all_read other_names refl
+
+-- Arguments, list items and a list's tail are read at 1199, `a(mode b, c)` and `[mode a | mode b]`. Commas end them behind an operator too, `a(b ; c, a)`,
+-- but are operators in parentheses, `a((b, c))`.
+
+abbrev arguments : List Reading
+arguments =
+    (a' ∷ OpenArgs ∷ Name mode_name ∷ b' ∷ Comma ∷ c' ∷ Close ∷ [], apply a_name (apply mode_name (b ∷ []) ∷ c ∷ []))
+    ∷ (OpenList ∷ Name mode_name ∷ a' ∷ Bar ∷ Name mode_name ∷ b' ∷ CloseList ∷ [], apply cons_name (apply mode_name (a ∷ []) ∷ apply mode_name (b ∷ []) ∷ []))
+    ∷ (a' ∷ OpenArgs ∷ b' ∷ Name semicolon_name ∷ c' ∷ Comma ∷ a' ∷ Close ∷ [], apply a_name (apply semicolon_name (b ∷ c ∷ []) ∷ a ∷ []))
+    ∷ (a' ∷ OpenArgs ∷ Open ∷ b' ∷ Comma ∷ c' ∷ Close ∷ Close ∷ [], apply a_name (apply comma_name (b ∷ c ∷ []) ∷ []))
+    ∷ []
+
+arguments_read : AllByRecursion (λ (one : Reading). Reads one.0 one.1) arguments
+unfolding reading operators
+arguments_read = all_read arguments refl
+
+-- Nothing is `'-' 5`, `+ 5`, `:- module mod.`, `not.b`, `module.b`, `a.[]`, `[](a)`, `some a - 5`, where the first operand is as long as can be, and `some a ;`.
+
+abbrev wrong_names : List (List TokenKind)
+wrong_names =
+    (Quoted minus_name ∷ Int 5 ∷ []) ∷ (Name plus_name ∷ Int 5 ∷ []) ∷ (Name colon_minus_name ∷ Name module_name ∷ Name mod_name ∷ Stop ∷ [])
+    ∷ (Name not_name ∷ Dot ∷ b' ∷ []) ∷ (Name module_name ∷ Dot ∷ b' ∷ []) ∷ (a' ∷ Dot ∷ OpenList ∷ CloseList ∷ []) ∷ (OpenList ∷ CloseList ∷ Open ∷ a' ∷ Close ∷ [])
+    ∷ (Name some_name ∷ a' ∷ Name minus_name ∷ Int 5 ∷ []) ∷ (Name some_name ∷ a' ∷ Name semicolon_name ∷ []) ∷ []
+
+wrong_names_unread : AllByRecursion Unread wrong_names
+unfolding reading operators
+wrong_names_unread = none_read wrong_names refl
+
+-- Nor is `a()`, `a(b,)`, `[a,]`, `[a :- b]`, `[a | b :- c]`, `(a | b)`, `a b` and `a. b`.
+
+abbrev wrong_brackets : List (List TokenKind)
+wrong_brackets =
+    (a' ∷ OpenArgs ∷ Close ∷ []) ∷ (a' ∷ OpenArgs ∷ b' ∷ Comma ∷ Close ∷ []) ∷ (OpenList ∷ a' ∷ Comma ∷ CloseList ∷ [])
+    ∷ (OpenList ∷ a' ∷ Name colon_minus_name ∷ b' ∷ CloseList ∷ []) ∷ (OpenList ∷ a' ∷ Bar ∷ b' ∷ Name colon_minus_name ∷ c' ∷ CloseList ∷ [])
+    ∷ (Open ∷ a' ∷ Bar ∷ b' ∷ Close ∷ []) ∷ (a' ∷ b' ∷ []) ∷ (a' ∷ Stop ∷ b' ∷ []) ∷ []
+
+wrong_brackets_unread : AllByRecursion Unread wrong_brackets
+unfolding reading operators
+wrong_brackets_unread = none_read wrong_brackets refl

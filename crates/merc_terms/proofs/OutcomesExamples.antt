@@ -1,19 +1,23 @@
 -- Examples of what the reader's functions answer, and of what stands between its moves.
-use Rattle.std.proofs.Common.{◌≡◌, true, false, [], ◌∷◌, Some, None, refl, ap, arith}
+use Rattle.std.proofs.Common.{◌≡◌, ℕ, zero, suc, ◌+◌, pos, negsuc, true, false, nat_lt, [], ◌∷◌, map, Some, None, refl, ap, arith}
+use Rattle.std.specs.Bool.{if◌then◌else◌}
 use Rattle.merc_base.specs.declared.refusal.Rule.TheVariants.{NoTerm}
 use Rattle.merc_base.specs.declared.refusal.Detail.TheVariants.{Plain}
-use Rattle.merc_base.specs.declared.refusal.LimitName.TheVariants.{Integer as IntegerLimit}
-use Rattle.merc_base.specs.Names.{nil_name}
+use Rattle.merc_base.specs.declared.refusal.LimitName.TheVariants.{Integer as IntegerLimit, Nesting as NestingLimit}
+use Rattle.merc_base.specs.Names.{minus_name, nil_name}
 use Rattle.merc_tokens.specs.declared.token.Token.{Token}
 use Rattle.merc_tokens.specs.declared.token.TokenKind.TheVariants.{Stop, Comma}
-use Rattle.merc_tree.specs.Term.{Text, no_span}
+use Rattle.merc_tree.specs.Term.{Term, Variable, Integer, Text, Application, none, more, no_span}
+use Rattle.merc_tree.specs.Nesting.{greater, nesting}
 use Rattle.merc_terms.specs.declared.built.Built.{Built}
-use Rattle.merc_terms.specs.declared.frame.Role.TheVariants.{Argument, Enclosed}
+use Rattle.merc_terms.specs.declared.frame.Role.TheVariants.{Enclosed, Argument, Item, ListTail, Operand, FirstOperand, SecondOperand, RightOperand}
 use Rattle.merc_terms.specs.declared.moving.Move.TheVariants.{Open}
+use Rattle.merc_terms.specs.declared.operators.Fixity.TheVariants.{Yfx}
+use Rattle.merc_terms.specs.declared.operators.Operator.{Operator}
 use Rattle.merc_terms.specs.Reading.{token}
-use Rattle.merc_terms.specs.Items.{stopped}
-use Rattle.merc_terms.specs.Reader.{frame_of, whole_bound, argument_bound}
-use Rattle.merc_terms.specs.Moves.{least_taken}
+use Rattle.merc_terms.specs.Items.{stopped, nesting_limit, place_of}
+use Rattle.merc_terms.specs.Reader.{clipped, fits, frame_of, is_great, whole_bound, argument_bound}
+use Rattle.merc_terms.specs.Moves.{least_taken, pending, counted}
 use Rattle.merc_terms.specs.Standing.{Suffice, pending_all}
 use Rattle.merc_terms.specs.Outcomes.{TakesStop, IsAtEnd, passed_limit, SaysWrong}
 
@@ -60,3 +64,54 @@ suffices_not h = omega (arith, h.0)
 -- where a parenthesis opens, a token was taken
 takes_one : least_taken (Open (Enclosed no_span) whole_bound) ≡ 1
 takes_one = refl
+
+-- the greatest integer, and the least, which is read behind a minus alone
+literals_fit : fits false 9223372036854775807 ∷ fits false 9223372036854775808 ∷ fits true 9223372036854775808 ∷ fits true 9223372036854775809 ∷ [] ≡ true ∷ false ∷ true ∷ false ∷ []
+literals_fit = refl
+
+-- a name with an integer of this value as its second argument
+abbrev holding : ℕ → Term
+holding n = Application nil_name None (more (Integer (negsuc n) no_span) (more (Integer (pos n) no_span) none)) no_span
+
+great_within : is_great (holding 9223372036854775808) ≡ true
+great_within = refl
+
+not_great_within : is_great (holding 9223372036854775807) ≡ false
+not_great_within = refl
+
+-- what does not fit stands as 0, and the least integer stays
+clipped_within : clipped (Application nil_name None (more (Integer (negsuc 9223372036854775807) no_span) (more (Integer (pos 9223372036854775808) no_span) none)) no_span)
+    ≡ Application nil_name None (more (Integer (negsuc 9223372036854775807) no_span) (more (Integer (pos 0) no_span) none)) no_span
+clipped_within = refl
+
+-- a term that nests so many times below its root
+abbrev nested : ℕ → Term
+nested zero = Variable nil_name no_span
+nested (suc n) = Application nil_name None (more (nested n) none) no_span
+
+nesting-nested : (n : ℕ) → nesting (nested n) ≡ suc n
+nesting-nested zero = refl
+nesting-nested (suc n) = ap (λ deep. 1 + greater deep 0) (nesting-nested n)
+
+-- 256 is deep enough, and 257 too deep
+nesting_at_limit : passed_limit false (nested 255) ≡ None
+nesting_at_limit = ap (λ deep. if nat_lt nesting_limit deep then Some NestingLimit else None) (nesting-nested 255)
+
+nesting_past_limit : passed_limit false (nested 256) ≡ Some NestingLimit
+nesting_past_limit = ap (λ deep. if nat_lt nesting_limit deep then Some NestingLimit else None) (nesting-nested 256)
+
+-- a fault of an item stands at its first token
+item_place : place_of (record { kind = Stop; span = record { first = 3; past = 4; line = 2 } } ∷ record { kind = Comma; span = record { first = 5; past = 6; line = 3 } } ∷ []) ≡ record { byte = 3; line = 2 }
+item_place = refl
+
+abbrev minus : Operator
+minus = record { name = minus_name; priority = 500; fixity = Yfx }
+
+-- the third argument or item has two before it, a tail three items, and an operator's second operand the first
+pending_each : map pending (Enclosed no_span ∷ Argument nil_name None no_span 3 ∷ Item no_span 3 ∷ ListTail no_span 3 ∷ Operand minus no_span ∷ FirstOperand minus no_span ∷ SecondOperand minus no_span ∷ RightOperand minus no_span ∷ [])
+    ≡ 0 ∷ 2 ∷ 2 ∷ 3 ∷ 0 ∷ 0 ∷ 1 ∷ 1 ∷ []
+pending_each = refl
+
+counted_each : map counted (Enclosed no_span ∷ Argument nil_name None no_span 3 ∷ Item no_span 3 ∷ ListTail no_span 3 ∷ Operand minus no_span ∷ FirstOperand minus no_span ∷ SecondOperand minus no_span ∷ RightOperand minus no_span ∷ [])
+    ≡ 0 ∷ 3 ∷ 3 ∷ 0 ∷ 0 ∷ 0 ∷ 0 ∷ 0 ∷ []
+counted_each = refl

@@ -474,3 +474,45 @@ quoted_operator = reads _ _ refl
 quoted_infix : Unread (x' ∷ Quoted plus_name ∷ y' ∷ [])
 unfolding reading operators
 quoted_infix = unread _ refl
+
+-- spans: each token is one byte on a line of its own
+
+abbrev lined : ℕ → List TokenKind → List Token
+lined n [] = []
+lined n (kind ∷ kinds) = token kind (record { first = n; past = suc n; line = suc n }) ∷ lined (suc n) kinds
+
+-- from one byte to another, on the line of the former
+abbrev at : ℕ → ℕ → Span
+at first past = record { first = first; past = past; line = suc first }
+
+abbrev spanned : Option Read → Option (List Term)
+spanned None = None
+spanned (Some read) = Some read.built.terms
+
+abbrev read_of : List TokenKind → Option (List Term)
+read_of kinds = spanned (whole_term built_none (lined 0 kinds))
+
+abbrev name_at : ℕ → ℕ → Term
+name_at name first = Application name None none (at first (suc first))
+
+-- `- X = ( a + b )`: an operator's term stands from its first token to its last, and one in parentheses with them
+operators_spanned : read_of (Name minus_name ∷ x' ∷ Name equal_name ∷ Open ∷ a' ∷ Name plus_name ∷ b' ∷ Close ∷ [])
+    ≡ Some (Application equal_name None (more (Application minus_name None (more (Variable x_name (at 1 2)) none) (at 0 2))
+    (more (Application plus_name None (more (name_at a_name 4) (more (name_at b_name 6) none)) (at 3 8)) none)) (at 0 8) ∷ [])
+unfolding reading operators
+operators_spanned = refl
+
+-- `a . b ( - 5 , [ c , a | b ] , [ ] )`: a literal stands with its sign, and each cell of a list where the whole list does
+arguments_spanned : read_of (a' ∷ Dot ∷ b' ∷ OpenArgs ∷ Name minus_name ∷ Int 5 ∷ Comma ∷ OpenList ∷ c' ∷ Comma ∷ a' ∷ Bar ∷ b' ∷ CloseList ∷ Comma ∷ OpenList ∷ CloseList ∷ Close ∷ [])
+    ≡ Some (Application b_name (Some a_name) (more (Integer (negsuc 4) (at 4 6))
+    (more (Application cons_name None (more (name_at c_name 8) (more (Application cons_name None (more (name_at a_name 10) (more (name_at b_name 12) none)) (at 7 14)) none)) (at 7 14))
+    (more (Application nil_name None none (at 15 17)) none))) (at 0 18) ∷ [])
+unfolding reading operators
+arguments_spanned = refl
+
+-- `some [ X ] a . b`: a quantifier stands up to its goal's end, and a list's empty list where the list does
+quantifier_spanned : read_of (Name some_name ∷ OpenList ∷ x' ∷ CloseList ∷ a' ∷ Dot ∷ b' ∷ [])
+    ≡ Some (Application some_name None (more (Application cons_name None (more (Variable x_name (at 2 3)) (more (Application nil_name None none (at 1 4)) none)) (at 1 4))
+    (more (Application b_name (Some a_name) none (at 4 7)) none)) (at 0 7) ∷ [])
+unfolding reading operators
+quantifier_spanned = refl

@@ -1,5 +1,5 @@
 -- Short texts: what is read of them, and what is wrong with them.
-use Rattle.std.proofs.Common.{◌≡◌, ℕ, ◌+◌, true, false, List, [], ◌∷◌, length, refl, arith}
+use Rattle.std.proofs.Common.{◌≡◌, ℕ, ◌+◌, ◌*◌, true, false, List, [], ◌∷◌, length, refl, arith}
 use Rattle.std.specs.Prelude.{codes}
 use Rattle.std.specs.Char.{encode_utf8}
 use Rattle.std.specs.List.{IsDistinct}
@@ -51,6 +51,10 @@ no_goal-example names = wrong_term names [] _ (omega arith) (reads_nothing names
 pub no_goal-counterexample : (names after : List (List ℕ)) (term : Term) → IsDistinct bytes_eq names → ReadsGoal names after [] term → ⊥
 no_goal-counterexample names after term distinct reads =
     RefusesGoalText-excludes names [] distinct (refusal_at NoTerm Plain (record { byte = 0; line = 1 })) after term (no_goal-example names) reads
+
+pub goal_limit-example : goal_limit ≡ 64 * 1024
+unfolding goal_limit
+goal_limit-example = refl
 
 -- a text of one byte too many is no goal, whatever it says
 pub long-example : (names : List (List ℕ)) (text : List ℕ) → length text ≡ goal_limit + 1 → RefusesGoalText names text (refusal_at LimitPassed (Limit GoalText) (record { byte = 0; line = 1 }))
