@@ -1,8 +1,11 @@
 -- What the definitions of Sharing say of a list of seven.
-use Rattle.std.proofs.Common.{◌≡◌, pos, [], ◌∷◌, refl, arith}
+use Rattle.std.proofs.Common.{◌≡◌, ℕ, zero, suc, pos, [], ◌∷◌, Some, slice_get, refl, ap, subst, arith}
+use Rattle.std.specs.List.{All}
+use Rattle.std.proofs.lemmas.List.Elements.{All-cons, All-nil}
+use Rattle.std.proofs.lemmas.Option.{same_Some}
 use Rattle.merc_base.specs.Names.{bang_name, cons_name, nil_name}
 use Rattle.merc_value.specs.Value.{Int, Con, none, more}
-use Rattle.merc_value.specs.Block.{CellData, cell_values}
+use Rattle.merc_value.specs.Block.{CellData, IsBelow, AreLower, cell_values}
 use Rattle.merc_value.specs.Sharing.{AreShared, IsWordFor, moved}
 use Rattle.merc_value.specs.declared.word.Word.TheVariants.{Int as IntWord, Atom as AtomWord, Cell as CellWord}
 
@@ -12,6 +15,32 @@ seven = record { symbol = cons_name; arguments = IntWord (pos 7) ∷ AtomWord ni
 pub IsWordFor-example : IsWordFor (seven ∷ []) (Con cons_name (more (Int (pos 7)) (more (Con nil_name none) none))) (CellWord 0)
 unfolding cell_values
 IsWordFor-example = record { below = omega arith; same = refl }
+
+-- a cell's word is not that of its first argument's value
+pub IsWordFor-counterexample : IsWordFor (seven ∷ []) (Int (pos 7)) (CellWord 0) → ⊥
+unfolding cell_values
+IsWordFor-counterexample is = let same = is.same in cc
+
+seven_lower : AreLower (seven ∷ [])
+seven_lower zero at is =
+    subst (λ (c : CellData). All (IsBelow 0) c.arguments) (same_Some _ _ is) (All-cons (IsBelow 0) (IntWord (pos 7)) (AtomWord nil_name ∷ []) tt (All-cons (IsBelow 0) (AtomWord nil_name) [] tt (All-nil (IsBelow 0))))
+seven_lower (suc place) at is = absurd cc
+
+seven_apart : (one other : ℕ) (at : CellData) → slice_get (seven ∷ []) one ≡ Some at → slice_get (seven ∷ []) other ≡ Some at → one ≡ other
+seven_apart zero zero at is is' = refl
+seven_apart zero (suc other) at is is' = absurd cc
+seven_apart (suc one) other at is is' = absurd cc
+
+seven_applied : (place symbol : ℕ) → slice_get (seven ∷ []) place ≡ Some (record { symbol = symbol; arguments = [] }) → ⊥
+seven_applied zero symbol is = let none_there : seven.arguments ≡ [] = ap (λ (c : CellData). c.arguments) (same_Some _ _ is) in cc
+seven_applied (suc place) symbol is = absurd cc
+
+pub AreShared-example : AreShared (seven ∷ [])
+AreShared-example = record { lower = seven_lower; apart = seven_apart; applied = seven_applied }
+
+-- a cell without arguments
+pub AreShared-atom : AreShared (record { symbol = bang_name; arguments = [] } ∷ []) → ⊥
+AreShared-atom shared = shared.applied 0 bang_name refl
 
 -- a cell that lies there twice
 pub AreShared-counterexample : AreShared (seven ∷ seven ∷ []) → ⊥

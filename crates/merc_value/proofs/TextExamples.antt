@@ -77,6 +77,15 @@ pub value_text-open_applied : value_text some_names (pair one (Con f_name (more 
 unfolding word_operators digits
 value_text-open_applied = refl
 
+pub value_text-open_atom : value_text some_names (pair one (Con red_name none)) ≡ codes "[1 | red_1]"
+unfolding word_operators digits
+value_text-open_atom = refl
+
+-- an item that is a list, behind the first
+pub value_text-nested : value_text some_names (pair one (pair (pair two nil) (pair nil nil))) ≡ codes "[1, [2], []]"
+unfolding digits
+value_text-nested = refl
+
 pub value_text-atom : value_text some_names (Con red_name none) ≡ codes "red_1"
 unfolding word_operators
 value_text-atom = refl
