@@ -13,7 +13,7 @@ use Rattle.merc_tokens.specs.Pieces.{first_piece}
 use Rattle.merc_tokens.specs.Tokens.{SpelledToken, HasTokens, with_names}
 use Rattle.merc_tokens.specs.Tokens.HasTokensFrom.{ends, token as spelled_token}
 use Rattle.merc_tokens.proofs.TokenLaws.{HasTokens-unique}
-use Rattle.merc_tree.specs.Term.{Term, Variable, Text, bare, no_span}
+use Rattle.merc_tree.specs.Term.{Variable, Text, bare, no_span}
 use Rattle.merc_value.specs.Text.{word_operators}
 use Rattle.merc_terms.specs.Operators.{operators}
 use Rattle.merc_terms.specs.Reading.{token}

@@ -6,7 +6,6 @@ use Rattle.std.proofs.lemmas.Option.{same_Some}
 use Rattle.merc_base.specs.Names.{cons_name, nil_name, some_name}
 use Rattle.merc_value.specs.Value.{Value, Int, Text, Con, none, more}
 use Rattle.merc_value.specs.Block.{CellData, BlockData, StandsFor, int, atom, cell, nothing, both, IsBelow, AreLower, IsWhole, with_cell, with_root, cell_values, value_of, root_values}
-use Rattle.merc_value.specs.declared.word.Word.{Word}
 use Rattle.merc_value.specs.declared.word.Word.TheVariants.{Int as IntWord, Text as TextWord, Atom as AtomWord, Cell as CellWord}
 
 -- a name behind the constants
