@@ -1,10 +1,18 @@
 -- Worked examples of terms as goals, which the prover computes, and false statements that it refutes.
-use Rattle.std.specs.Prelude.{◌≡◌, ℕ, ◌+◌, [], ◌∷◌, length, Some, None, pos, refl}
+use Rattle.std.specs.Prelude.{◌≡◌, ◌≤◌, ℕ, ◌+◌, [], ◌∷◌, length, map, replicate, Some, None, pos, refl}
+use Rattle.std.proofs.Common.{lit≤, arith}
 use Rattle.merc_base.specs.Names.{all_name, ampersand_name, arrow_name, at_least_name, at_most_name, colon_colon_name, comma_name, cons_name, else_name, equal_equal_name, equal_name, equivalent_name, fail_name, false_name, greater_name, if_name, implies_name, is_name, less_name, nil_name, not_equal_name, not_name, not_provable_name, semicolon_name, some_name, then_name, true_name}
 use Rattle.merc_base.specs.declared.place.Span.{Span}
+use Rattle.merc_base.specs.declared.refusal.Rule.TheVariants.{WrongForm as WrongFormRule, OutsideProfile as OutsideProfileRule}
+use Rattle.merc_base.specs.declared.refusal.Construct.TheVariants.{Goal}
+use Rattle.merc_base.specs.declared.refusal.Detail.TheVariants.{Plain, Word}
 use Rattle.merc_tree.specs.Term.{Term, Variable, Integer, Text, Application, none, more}
-use Rattle.merc_goals.specs.Written.{Written, WrittenGoals, no_goals, more_goals, Truth, Failure, Equal, Compared, Called, Conjunction, Parallel, Disjunction, Conditional, Negated, Quantified, WrongForm, OutsideProfile, parts, listed_variables, written}
+use Rattle.merc_goals.specs.Written.{Written, WrittenGoals, no_goals, more_goals, Truth, Failure, Equal, Compared, Called, Conjunction, Parallel, Disjunction, Conditional, Negated, Quantified, WrongForm, OutsideProfile, parts, listed_variables, written, written_span}
 use Rattle.merc_goals.specs.Entries.{entries_of, written_of}
+use Rattle.merc_goals.specs.Found.{wrong_spans, outside_spans, widest_of}
+use Rattle.merc_goals.specs.Links.{chain}
+use Rattle.merc_goals.specs.Numbers.{NumberedTerm, Fits, number_limit, first_limit, clause_limit, left_of, right_of, numbered_from}
+use Rattle.merc_goals.specs.declared.roles.ChainKind.TheVariants.{Conjuncts, Disjuncts}
 use Rattle.merc_goals.specs.Faults.{wrong_forms, outside_forms, first_span, wrong_form, outside_profile, first_fault, widest_parallel}
 use Rattle.merc_goals.specs.declared.goal.Form.TheVariants.{Conjunction as ConjunctionForm, Called as CalledForm}
 
@@ -75,6 +83,33 @@ parts-example = refl
 pub parts-not : parts (two comma_name a b) ≡ 3 → ⊥
 parts-not same = cc
 
+-- variables and literals have two as well, and so has a name without arguments
+pub parts-each : map parts (x ∷ Integer (pos 3) here ∷ Text a_name here ∷ a ∷ one a_name x ∷ []) ≡ 2 ∷ 2 ∷ 2 ∷ 2 ∷ 4 ∷ []
+parts-each = refl
+
+abbrev numbered : ℕ → Term → NumberedTerm
+numbered at term = record { term = term; at = at }
+
+-- terms one behind the other, each behind all the parts of the one before, and both arguments of a term
+pub numbered_from-example : numbered_from 4 (two comma_name a b ∷ x ∷ a ∷ []) ≡ numbered 4 (two comma_name a b) ∷ numbered 10 x ∷ numbered 12 a ∷ []
+numbered_from-example = refl
+
+pub left_of-example : left_of 4 x ≡ numbered 6 x
+left_of-example = refl
+
+pub right_of-example : right_of 4 (two comma_name a b) x ≡ numbered 12 x
+right_of-example = refl
+
+pub number_limits-example : number_limit ∷ first_limit ∷ clause_limit ∷ [] ≡ 4611686018427387904 ∷ 2305843009213693952 ∷ 1152921504606846976 ∷ []
+number_limits-example = refl
+
+-- the numbers of a term may come up to the limit
+pub Fits-example : Fits 4611686018427387898 (two comma_name a b)
+Fits-example = lit≤ tt
+
+pub Fits-counterexample : Fits 4611686018427387899 (two comma_name a b) → ⊥
+Fits-counterexample fits = let within : 4611686018427387905 ≤ 4611686018427387904 = fits in omega (arith, within)
+
 -- one goal of each form
 
 pub truth-example : written 0 (plain true_name) ≡ Truth here
@@ -138,6 +173,11 @@ conditional-example = refl
 -- `a -> b ; c`
 pub arrow-example : written 0 (two semicolon_name (two arrow_name a b) c) ≡ Conditional (call 4 a_name) (call 6 b_name) (call 8 c_name) here
 arrow-example = refl
+
+-- `a -> b ; c ; a`: all that follows is the else part
+pub arrow-rest : written 0 (two semicolon_name (two arrow_name a b) (two semicolon_name c a))
+    ≡ Conditional (call 4 a_name) (call 6 b_name) (Disjunction (goals (call 10 c_name) (call 12 a_name)) here) here
+arrow-rest = refl
 
 -- `\+ a`
 pub negated-example : written 0 (one not_provable_name a) ≡ Negated (call 2 a_name) here
@@ -228,6 +268,34 @@ chain-not nested = cc
 pub qualifier-example : written 4 (Application comma_name (Some m_name) (more a (more b none)) here) ≡ Called 4 comma_name (Some m_name) (more a (more b none)) here
 qualifier-example = refl
 
+-- and `m.true` and `m.not(a)`
+pub qualifier-truth : written 4 (Application true_name (Some m_name) none here) ≡ Called 4 true_name (Some m_name) none here
+qualifier-truth = refl
+
+pub qualifier-not : written 4 (Application not_name (Some m_name) (more a none) here) ≡ Called 4 not_name (Some m_name) (more a none) here
+qualifier-not = refl
+
+-- `','(a, b, c)` and `not(a, b)`: with another number of arguments too
+pub three-called : written 4 (Application comma_name None (more a (more b (more c none))) here) ≡ Called 4 comma_name None (more a (more b (more c none))) here
+three-called = refl
+
+pub not-called : written 4 (two not_name a b) ≡ Called 4 not_name None (more a (more b none)) here
+not-called = refl
+
+-- each goal stands at its own span
+pub written_span-example : map written_span (Truth there ∷ Failure there ∷ Equal 0 x y there ∷ Compared 0 less_name x y there ∷ Called 0 a_name None none there
+    ∷ Conjunction no_goals there ∷ Parallel no_goals there ∷ Disjunction no_goals there ∷ Conditional (Truth here) (Truth here) (Truth here) there ∷ Negated (Truth here) there
+    ∷ Quantified [] (Truth here) there ∷ WrongForm there ∷ OutsideProfile there ∷ [])
+    ≡ replicate 13 there
+written_span-example = refl
+
+-- the members of a chain with their numbers: `(a, b), c`, and `a ; (b -> c ; a)`, which ends with the conditional
+pub chain-example : chain Conjuncts 0 (two comma_name (two comma_name a b) c) ≡ numbered 4 a ∷ numbered 6 b ∷ numbered 8 c ∷ []
+chain-example = refl
+
+pub chain-disjuncts : chain Disjuncts 0 (two semicolon_name a (two semicolon_name (two arrow_name b c) a)) ≡ numbered 2 a ∷ numbered 4 (two semicolon_name (two arrow_name b c) a) ∷ []
+chain-disjuncts = refl
+
 -- no goals of a known form
 
 -- `if a then b`
@@ -305,6 +373,13 @@ listed_variables-example = refl
 pub listed_variables-none : listed_variables (two cons_name x a) ≡ None
 listed_variables-none = refl
 
+-- `[]`, and what is built of a variable and `[]` by another name
+pub listed_variables-empty : listed_variables (plain nil_name) ≡ Some []
+listed_variables-empty = refl
+
+pub listed_variables-other : listed_variables (two comma_name x (plain nil_name)) ≡ None
+listed_variables-other = refl
+
 -- `a, b` lies in three entries, of which the first counts all
 
 pub entries-example : entries_of (written 0 (two comma_name a b))
@@ -369,11 +444,46 @@ outside_forms-negated = refl
 pub outside_forms-quantified : outside_forms (Quantified (x_name ∷ []) (outside_at 1) here) ≡ apart 1 ∷ []
 outside_forms-quantified = refl
 
+-- the same in the entries
+abbrev mixed : Written
+mixed = Conjunction (three (wrong_at 1) (outside_at 2) (Parallel (three (wrong_at 3) (outside_at 4) (wrong_at 5)) here)) here
+
+pub wrong_spans-example : wrong_spans (entries_of mixed) ≡ apart 1 ∷ apart 3 ∷ apart 5 ∷ []
+wrong_spans-example = refl
+
+pub outside_spans-example : outside_spans (entries_of mixed) ≡ apart 2 ∷ apart 4 ∷ []
+outside_spans-example = refl
+
+-- three conjuncts of a conjunction do not count
+pub widest_of-example : widest_of (entries_of (Conjunction (three (wrong_at 1) (wrong_at 2) (Parallel (goals (wrong_at 3) (wrong_at 4)) here)) here)) ≡ 2
+widest_of-example = refl
+
+-- the earliest, wherever it stands in the list
+pub first_span-first : first_span (here ∷ there ∷ []) ≡ Some here
+first_span-first = refl
+
+pub first_span-between : first_span (apart 2 ∷ apart 1 ∷ apart 3 ∷ []) ≡ Some (apart 1)
+first_span-between = refl
+
 pub first_span-example : first_span (there ∷ here ∷ []) ≡ Some here
 first_span-example = refl
 
 pub first_span-not : first_span (there ∷ here ∷ []) ≡ Some there → ⊥
 first_span-not leftmost = cc
+
+-- rule 3, and rule 15 with its word, at a part's first byte and its line
+pub wrong_form-example : wrong_form there ≡ record { rule = WrongFormRule; place = record { byte = 8; line = 2 }; detail = Plain }
+wrong_form-example = refl
+
+pub outside_profile-example : outside_profile there ≡ record { rule = OutsideProfileRule; place = record { byte = 8; line = 2 }; detail = Word Goal }
+outside_profile-example = refl
+
+-- one of them alone
+pub first_fault-wrong : first_fault (WrongForm there) ≡ Some (wrong_form there)
+first_fault-wrong = refl
+
+pub first_fault-outside : first_fault (OutsideProfile there) ≡ Some (outside_profile there)
+first_fault-outside = refl
 
 pub first_fault-example : first_fault faulty ≡ Some (wrong_form here)
 first_fault-example = refl
