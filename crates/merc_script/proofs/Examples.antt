@@ -1,9 +1,10 @@
 -- Outcomes that are joined, scripts as items, and places in them.
-use Rattle.std.proofs.Common.{◌≡◌, ◌≢◌, ℕ, [], ◌∷◌, refl, lit≤, arith}
-use Rattle.std.specs.Prelude.{Some, None, pos}
+use Rattle.std.proofs.Common.{◌≡◌, ◌≢◌, ℕ, [], ◌∷◌, map, refl, lit≤, arith}
+use Rattle.std.specs.Prelude.{replicate, Some, None, pos}
 use Rattle.merc_value.specs.Value.{Int}
 use Rattle.merc_value.specs.declared.word.Word.TheVariants.{Int as IntWord}
 use Rattle.merc_script.specs.Cells.{value_shown}
+use Rattle.merc_script.specs.declared.outcome.Outcome.{Outcome}
 use Rattle.merc_script.specs.declared.outcome.Outcome.TheVariants.{Ok as Fine, Raise, Limit, Starved, NoMemory}
 use Rattle.merc_script.specs.declared.items.Item.TheVariants.{Tick, Wait, Signal, Fork, End}
 use Rattle.merc_script.specs.Script.{Script, Ends, TickThen, WaitThen, SignalThen, ForkThen, NoChild, Child, end_of, ends, size}
@@ -57,6 +58,17 @@ starved_last = refl
 lacking : joined 9 (Raise 7 5 ∷ NoMemory ∷ []) ≡ NoMemory
 lacking = refl
 
+-- whatever stands before or behind it
+lacking_behind : map (λ (first : Outcome). joined 9 (first ∷ NoMemory ∷ [])) (Fine 4 ∷ Fine 10 ∷ Raise 7 5 ∷ Limit ∷ Starved ∷ NoMemory ∷ []) ≡ replicate 6 NoMemory
+lacking_behind = refl
+
+lacking_before : map (λ (last : Outcome). joined 9 (NoMemory ∷ last ∷ [])) (Fine 10 ∷ Raise 7 5 ∷ Limit ∷ Starved ∷ []) ≡ replicate 4 NoMemory
+lacking_before = refl
+
+-- the first one that is not fine decides, behind one that is
+first_decides : map (λ (next : Outcome). joined 9 (Fine 4 ∷ next ∷ Raise 8 1 ∷ Starved ∷ Limit ∷ [])) (Fine 4 ∷ Raise 7 1 ∷ Limit ∷ Starved ∷ []) ≡ Raise 8 9 ∷ Raise 7 5 ∷ Limit ∷ Starved ∷ []
+first_decides = refl
+
 nobody : joined 0 [] ≡ Fine 0
 nobody = refl
 
@@ -65,6 +77,9 @@ later_raise = refl
 
 later_ok : later 3 (Fine 5) ≡ Fine 5
 later_ok = refl
+
+later_others : map (later 3) (Limit ∷ Starved ∷ NoMemory ∷ []) ≡ Limit ∷ Starved ∷ NoMemory ∷ []
+later_others = refl
 
 abbrev giver : Script
 giver = TickThen (SignalThen 5 (Ends (Fine 1)))
@@ -101,12 +116,36 @@ two_scripts = refl
 no_end : count_in (Tick ∷ []) ≡ None
 no_end = refl
 
+wait_or_signal_alone : map count_in ((Wait 5 ∷ []) ∷ (Signal 5 ∷ []) ∷ (Fork (record { limit = 9; children = 0; cells = []; moves = [] }) ∷ []) ∷ []) ≡ replicate 3 None
+wait_or_signal_alone = refl
+
+-- what follows a fork is no child of it
+fork_before_two : count_in (Fork (record { limit = 9; children = 1; cells = []; moves = [] }) ∷ End (Fine 1) ∷ End (Fine 2) ∷ End (Fine 3) ∷ []) ≡ Some 2
+fork_before_two = refl
+
 child_lacks : count_in (Fork (record { limit = 9; children = 2; cells = []; moves = [] }) ∷ End (Fine 1) ∷ End (Fine 1) ∷ []) ≡ None
 child_lacks = refl
 
 -- the second child behind its wait
 taker_left : left_of (record { root = root; name = (1, 2) ∷ []; passed = 1 }) ≡ Some (TickThen (Ends (Fine 1)))
 taker_left = refl
+
+-- the first child has the number 1, and none has 0
+giver_left : left_of (record { root = root; name = (1, 1) ∷ []; passed = 0 }) ≡ Some giver
+giver_left = refl
+
+no_zeroth : left_of (record { root = root; name = (1, 0) ∷ []; passed = 0 }) ≡ None
+no_zeroth = refl
+
+-- a name begins at the root
+abbrev above : Script
+above = ForkThen 9 [] [] (Child (Ends (Fine 1)) (Child root NoChild)) (Ends (Fine 4))
+
+taker_below : left_of (record { root = above; name = (0, 2) ∷ (1, 2) ∷ []; passed = 2 }) ≡ Some (Ends (Fine 1))
+taker_below = refl
+
+not_from_the_end : left_of (record { root = above; name = (1, 2) ∷ (0, 2) ∷ []; passed = 2 }) ≡ None
+not_from_the_end = refl
 
 root_left : left_of (record { root = root; name = []; passed = 2 }) ≡ Some (Ends (Fine 3))
 root_left = refl
@@ -131,6 +170,12 @@ no_block = refl
 -- a thousand million steps are few, and one more is not
 few_steps : HasFewSteps (Fine 1000000000)
 few_steps = lit≤ tt
+
+few_steps_raised : HasFewSteps (Raise 7 1000000000)
+few_steps_raised = lit≤ tt
+
+too_many_steps_made : HasFewSteps (Fine 1000000001) → ⊥
+too_many_steps_made few = omega (arith, few)
 
 too_many_steps : HasFewSteps (Raise 7 1000000001) → ⊥
 too_many_steps few = omega (arith, few)
