@@ -1,7 +1,8 @@
 -- Worked examples of writing a whole text: what holds, and what does not.
 use Rattle.std.specs.Prelude.{◌≡◌, ◌<◌, ◌++◌, ℕ, List, [], ◌∷◌, Some, None, Ok, Err, codes, refl}
-use Rattle.std.proofs.Common.{arith, ap, slice_index}
-use Rattle.merc_transfer.specs.Writing.{PutsFront, Puts, text_of}
+use Rattle.std.proofs.Common.{arith, ap, sym, slice_index}
+use Rattle.merc_transfer.specs.Writing.{PutsFront, Puts, Cuts, Writes, text_of}
+use Rattle.merc_transfer.specs.declared.writing.Cut.TheVariants.{Unwritten, NoMemory}
 use Rattle.merc_transfer.specs.declared.writing.WriteFault.{WriteFault}
 
 differ : (m n : ℕ) → m < n → m ≡ n → ⊥
@@ -54,3 +55,32 @@ Puts-uncounted fault puts = let counted : 3 < 3 = puts.err.1 in omega arith
 -- a fault with nothing to write
 pub Puts-nothing : (fault : WriteFault) → Puts [] (Some []) (Some []) 3 4 (Err fault) → ⊥
 Puts-nothing fault puts = let something : 0 < 0 = puts.some in omega arith
+
+-- what is left where writing breaks off
+
+solu : PutsFront (codes "solutions 1\n") (Some []) (Some (codes "solu"))
+solu = record { front = codes "solu"; rest = codes "tions 1\n"; whole = refl; written = refl }
+
+-- a write failed
+pub Cuts-unwritten : Cuts (codes "solutions 1\n") (Some []) (Some (codes "solu")) 3 4 Unwritten
+Cuts-unwritten = (solu, omega arith)
+
+pub Cuts-uncounted : Cuts (codes "solutions 1\n") (Some []) (Some (codes "solu")) 3 3 Unwritten → ⊥
+Cuts-uncounted cuts = let counted : 3 < 3 = cuts.1 in omega arith
+
+-- memory was refused, and no write failed
+pub Cuts-no_memory : Cuts (codes "solutions 1\n") (Some []) (Some (codes "solu")) 3 3 NoMemory
+Cuts-no_memory = (solu, refl)
+
+pub Cuts-counted : Cuts (codes "solutions 1\n") (Some []) (Some (codes "solu")) 3 4 NoMemory → ⊥
+Cuts-counted cuts = differ 3 4 (omega arith) (sym cuts.1)
+
+pub Writes-example : Writes {T = ℕ} (codes "solutions 1\n") (Some (codes ">")) (Some (codes ">solutions 1\n")) 3 3 (Ok 0)
+Writes-example = (refl, refl)
+
+pub Writes-cut : Writes {T = ℕ} (codes "solutions 1\n") (Some []) (Some (codes "solu")) 3 4 (Err Unwritten)
+Writes-cut = Cuts-unwritten
+
+-- a part was left, and nothing says so
+pub Writes-counterexample : Writes {T = ℕ} (codes "solutions 1\n") (Some []) (Some (codes "solu")) 3 3 (Ok 0) → ⊥
+Writes-counterexample writes = let written : Some (codes "solu") ≡ Some (codes "solutions 1\n") = writes.0 in cc
