@@ -28,7 +28,7 @@ use Rattle.merc_solving.specs.Runs.{steps_made}
 use Rattle.merc_top.proofs.Causes.{NamesTooLong, Names, NamesChecked, BreaksModule, BreaksGoal, IsCheckedModule, RunsTo, IsSolved, Succeeds}
 use Rattle.merc_top.proofs.Causes.BreaksModule.{module_rule, checked_rule}
 use Rattle.merc_top.proofs.AnswerLaws.{Answers-front, Answers-checked, Answers-goal_refused}
-use Rattle.merc_top.proofs.CallEnds.{answers-done, asked-unique}
+use Rattle.merc_top.proofs.CallEnds.{answers-done, answers-no_memory, answers-unread, asked-unique}
 use Rattle.merc_top.proofs.OutputLaws.{IsOutput-unique}
 use Rattle.merc_top.proofs.Causes.{solved-exactly, module_refused-exactly, goal_refused-exactly, absent-exactly, status-exactly}
 use Rattle.merc_top.proofs.OutputExamples.{one_answer}
@@ -289,6 +289,35 @@ Answers-cut_short = record {
   cut_short = λ _. bad_front;
   front = inr bad_front;
 }
+
+abbrev two_words : List (List ℕ)
+two_words = words_for (codes "two.m") (codes "add(2, 3, X)")
+
+-- the file is not there, or a read failed
+pub Answers-absent : Answers two_words (Some files) 3 3 (Some (codes ">")) (Some (codes ">")) 2 2 unread_status
+Answers-absent = answers-unread two_words (Some files) 3 3 (Some (codes ">")) (Some (codes ">")) 2 2 (inr (refl, NamesAbsent-example)) refl refl
+
+pub Answers-read_failed : Answers bad_words (Some files) 3 4 (Some []) (Some []) 2 2 unread_status
+Answers-read_failed = answers-unread bad_words (Some files) 3 4 (Some []) (Some []) 2 2 (inl (omega arith)) refl refl
+
+-- then nothing is written, and there is no other status
+pub Answers-unread_writes : Answers two_words (Some files) 3 3 (Some (codes ">")) (Some (codes ">two.m")) 2 2 unread_status → ⊥
+Answers-unread_writes answers = let nothing : Some (codes ">two.m") ≡ Some (codes ">") = answers.nothing_written refl in cc
+
+pub Answers-read_failed_alone : (new : Option (List ℕ)) → Answers bad_words (Some files) 3 4 (Some []) new 2 2 module_status → ⊥
+Answers-read_failed_alone new answers = not_unread (answers.read_failed (omega arith))
+
+-- the file is there, and no read failed
+pub Answers-not_unread : Answers bad_words (Some files) 3 3 (Some []) (Some []) 2 2 unread_status → ⊥
+Answers-not_unread answers = elim (answers.unread refl) [ inl failed ↦ omega (arith, failed) | inr absent ↦ not_unread (absent-exactly bad_words files bad_output module_status IsOutput-refused absent) ]
+
+-- memory may be refused at any time
+pub Answers-no_memory : Answers bad_words (Some files) 3 3 (Some []) (Some []) 2 2 no_memory_status
+Answers-no_memory = answers-no_memory bad_words (Some files) 3 3 (Some []) (Some []) 2 2 refl refl refl
+
+-- a write failed, and the status does not say so
+pub Answers-unsaid : Answers bad_words (Some files) 3 3 (Some []) (Some (codes "bad.m")) 2 3 module_status → ⊥
+Answers-unsaid answers = let said : module_status ≡ unwritten_status = answers.write_failed.1 (omega arith) in omega (arith, said)
 
 -- another line was written
 pub Answers-counterexample : (status : ℕ) → Answers bad_words (Some files) 3 3 (Some []) (Some (codes "bad.m:2: rule 1: bad token\n")) 2 2 status → ⊥

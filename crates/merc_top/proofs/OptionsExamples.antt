@@ -1,5 +1,5 @@
 -- Worked examples of options: what holds, and what does not.
-use Rattle.std.specs.Prelude.{◌≡◌, ◌≤◌, ◌*◌, ℕ, true, List, [], ◌∷◌, length, Option, Some, None, codes, refl}
+use Rattle.std.specs.Prelude.{◌≡◌, ◌≤◌, ◌*◌, ℕ, true, All, List, [], ◌∷◌, length, Option, Some, None, codes, refl}
 use Rattle.std.proofs.Common.{◌∙◌, arith, lit<, lit≤, ap, sym, slice_index}
 use Rattle.std.proofs.lemmas.Bool.{false≢true}
 use Rattle.std.proofs.lemmas.List.Elements.{All-cons, All-nil}
@@ -65,6 +65,22 @@ IsNumberOf-one = record {
   not_more = lit≤ tt;
 }
 
+-- the greatest itself
+pub IsNumberOf-greatest : IsNumberOf Max (codes "1000000000") 1000000000
+unfolding greatest
+IsNumberOf-greatest = record {
+  digits = digit 49 (codes "000000000") refl (digit 48 (codes "00000000") refl (digit 48 (codes "0000000") refl (digit 48 (codes "000000") refl (digit 48 (codes "00000") refl
+      (digit 48 (codes "0000") refl (digit 48 (codes "000") refl (digit 48 (codes "00") refl (digit 48 (codes "0") refl (digit 48 [] refl (All-nil (λ (byte : ℕ). is_digit_of 10 byte ≡ true)))))))))));
+  some = lit≤ tt;
+  few = lit≤ tt;
+  value = refl;
+  not_less = lit≤ tt;
+  not_more = lit≤ tt;
+}
+  where
+    digit : (byte : ℕ) (text : List ℕ) → is_digit_of 10 byte ≡ true → All (λ (byte : ℕ). is_digit_of 10 byte ≡ true) text → All (λ (byte : ℕ). is_digit_of 10 byte ≡ true) (byte ∷ text)
+    digit byte text is all = All-cons (λ (byte : ℕ). is_digit_of 10 byte ≡ true) byte text is all
+
 -- the empty text
 pub IsNumberOf-empty : (setting : Setting) (number : ℕ) → IsNumberOf setting [] number → ⊥
 IsNumberOf-empty setting number is = let some : 1 ≤ 0 = is.some in omega (arith, some)
@@ -124,6 +140,9 @@ no_settings-example = refl
 
 pub with_setting-example : with_setting Max 1 three_steps ≡ record { steps = Some 3; most = Some 1 }
 with_setting-example = refl
+
+pub with_setting-steps : with_setting Steps 7 (with_setting Max 1 no_settings) ≡ record { steps = Some 7; most = Some 1 }
+with_setting-steps = refl
 
 -- each option sets its own
 pub with_setting-counterexample : with_setting Max 1 no_settings ≡ with_setting Steps 1 no_settings → ⊥
