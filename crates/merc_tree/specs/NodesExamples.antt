@@ -9,7 +9,7 @@ use Rattle.merc_tree.specs.declared.term.nesting.Part.{Part}
 use Rattle.merc_tree.specs.declared.term.Shape.{Shape}
 use Rattle.merc_tree.specs.declared.term.Shape.TheVariants.{Variable as VariableShape, Integer as IntegerShape, Application as ApplicationShape}
 use Rattle.merc_tree.specs.Nodes.{arity_of, built, nodes_of, starts_from, AreTerms, IsTerm}
-use Rattle.merc_tree.specs.Parts.{part_of, part_of_root}
+use Rattle.merc_tree.specs.Parts.{part_of, part_of_root, with_root_part}
 
 abbrev here : Span
 here = record { first = 3; past = 4; line = 1 }
@@ -95,3 +95,11 @@ pub part_of_root-not : part_of_root (ApplicationShape semicolon_name None 2) (pa
 part_of_root-not any_chain =
     let nestings : ◌≡◌ {A = ℕ} 3 2 = ap (λ p. p.nesting) any_chain in
     cc
+
+-- a root takes its arguments' from the end
+pub with_root_part-example : with_root_part (ApplicationShape comma_name None 2) (part_of f ∷ part_of x ∷ chain ∷ []) ≡ part_of f ∷ chain ∷ []
+with_root_part-example = refl
+
+-- with three arguments it is no chain
+pub with_root_part-three : with_root_part (ApplicationShape comma_name None 3) (part_of x ∷ part_of x ∷ chain ∷ []) ≡ record { nesting = 3; chain = None } ∷ []
+with_root_part-three = refl
