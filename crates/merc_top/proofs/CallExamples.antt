@@ -1,6 +1,6 @@
 -- Worked examples of whole calls: what holds of them, and what does not.
-use Rattle.std.specs.Prelude.{◌≡◌, ◌≢◌, ◌<◌, ◌≤◌, ◌++◌, ℕ, IsUtf8, replicate, List, [], ◌∷◌, length, Option, Some, None, codes, refl}
-use Rattle.std.proofs.Common.{◌∙◌, arith, slice_index, ap, sym, subst, inl, inr}
+use Rattle.std.specs.Prelude.{◌≡◌, ◌≢◌, ◌<◌, ◌≤◌, ◌++◌, ℕ, IsUtf8, replicate, List, [], ◌∷◌, length, Option, Some, None, Ok, Err, codes, refl}
+use Rattle.std.proofs.Common.{◌∙◌, arith, lit<, slice_index, ap, sym, subst, inl, inr}
 use Rattle.std.proofs.Math.Utf8.{encode}
 use Rattle.std.proofs.lemmas.List.{length-replicate, append-nil}
 use Rattle.merc_base.specs.Outside.{Files, file_named}
@@ -24,6 +24,9 @@ use Rattle.merc_top.specs.Output.{IsAskedRun, IsOutput}
 use Rattle.merc_transfer.specs.Statuses.{accepted_status, solved_status, module_status, goal_status, usage_status, unread_status, unwritten_status, no_memory_status, too_long_status}
 use Rattle.merc_top.specs.Answer.{AreFiles, NamesAbsent, IsStatusDue, WroteFront, Answers}
 use Rattle.merc_top.specs.Counting.{AsksRun, Counts}
+use Rattle.merc_top.specs.declared.answering.Found.TheVariants.{Lines}
+use Rattle.merc_top.specs.declared.answering.Trouble.TheVariants.{Unread, NoMemory}
+use Rattle.merc_top.specs.Due.{Finds}
 use Rattle.merc_solving.specs.Runs.{steps_made}
 use Rattle.merc_top.proofs.Causes.{NamesTooLong, Names, NamesChecked, BreaksModule, BreaksGoal, IsCheckedModule, RunsTo, IsSolved, Succeeds}
 use Rattle.merc_top.proofs.Causes.BreaksModule.{module_rule, checked_rule}
@@ -50,6 +53,9 @@ first_words = words_for (codes "one.m") (codes "add(2, 3, X)")
 
 abbrev closed_words : List (List ℕ)
 closed_words = words_for (codes "one.m") (codes "add(2, 3, 5)")
+
+abbrev two_words : List (List ℕ)
+two_words = words_for (codes "two.m") (codes "add(2, 3, X)")
 
 abbrev bad_words : List (List ℕ)
 bad_words = words_for (codes "bad.m") (codes "add(2, 3, X)")
@@ -254,10 +260,29 @@ module _ (asked : IsAskedRun one_text (codes "add(2, 3, X)") default_steps run_n
       let same : 2 ≡ 1 = found.2 run_names (0 ∷ []) None one_answer (subst (λ some. AsksRun first_words some run_names (0 ∷ []) None one_answer) (sym found.1) AsksRun-example) in
       omega (arith, same)
 
--- ---- what one call has done
-
 not_unread : ◌≡◌ {A = ℕ} module_status unread_status → ⊥
 not_unread same = omega arith
+
+-- ---- what is found before anything is written
+
+pub Finds-example : Finds bad_words (Some files) 3 3 (Ok (Lines (record { status = 4; lines = bad_output })))
+Finds-example = (refl, inl (lit< tt), files, refl, IsOutput-refused, λ _ _ _ _ _. lit< tt)
+
+-- a read failed
+pub Finds-counterexample : Finds bad_words (Some files) 3 4 (Ok (Lines (record { status = 4; lines = bad_output }))) → ⊥
+Finds-counterexample found = differ 3 4 (omega arith) (sym found.0)
+
+pub Finds-absent : Finds two_words (Some files) 3 3 (Err Unread)
+Finds-absent = inr (refl, NamesAbsent-example)
+
+pub Finds-not_absent : Finds bad_words (Some files) 3 3 (Err Unread) → ⊥
+Finds-not_absent (inl failed) = omega arith
+Finds-not_absent (inr absent) = not_unread (absent-exactly bad_words files bad_output module_status IsOutput-refused absent.1)
+
+pub Finds-no_memory : Finds bad_words (Some files) 3 3 (Err NoMemory)
+Finds-no_memory = refl
+
+-- ---- what one call has done
 
 pub Answers-example : Answers bad_words (Some files) 3 3 (Some (codes ">")) (Some (codes ">bad.m:1: rule 1: bad token\n")) 2 2 module_status
 Answers-example = record {
@@ -289,9 +314,6 @@ Answers-cut_short = record {
   cut_short = λ _. bad_front;
   front = inr bad_front;
 }
-
-abbrev two_words : List (List ℕ)
-two_words = words_for (codes "two.m") (codes "add(2, 3, X)")
 
 -- the file is not there, or a read failed
 pub Answers-absent : Answers two_words (Some files) 3 3 (Some (codes ">")) (Some (codes ">")) 2 2 unread_status

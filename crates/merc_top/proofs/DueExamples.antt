@@ -1,6 +1,6 @@
 -- Worked examples of what is due for a file and a goal: what holds, and what does not.
-use Rattle.std.specs.Prelude.{◌≡◌, ◌≤◌, ◌++◌, ℕ, suc, zero, false, List, [], ◌∷◌, length, Option, Some, None, codes, refl}
-use Rattle.std.proofs.Common.{arith, lit≤, slice_index, ap, sym, subst, inl, inr}
+use Rattle.std.specs.Prelude.{◌≡◌, ◌<◌, ◌≤◌, ◌++◌, ℕ, suc, zero, false, List, [], ◌∷◌, length, Option, Some, None, codes, refl}
+use Rattle.std.proofs.Common.{arith, lit<, lit≤, slice_index, ap, sym, subst, inl, inr}
 use Rattle.std.specs.Fmt.{digits}
 use Rattle.std.specs.Str.{IsUtf8, is_utf8, chars}
 use Rattle.std.proofs.lemmas.Bool.{false≢true}
@@ -9,7 +9,7 @@ use Rattle.merc_base.specs.Names.{fixed_names, int_name}
 use Rattle.merc_base.specs.Refusal.{rule_number}
 use Rattle.merc_base.specs.declared.category.Category.TheVariants.{Det}
 use Rattle.merc_base.specs.declared.refusal.Refusal.{Refusal}
-use Rattle.merc_base.specs.declared.refusal.Fault.TheVariants.{Refused}
+use Rattle.merc_base.specs.declared.refusal.Fault.TheVariants.{Refused, NoMemory}
 use Rattle.merc_base.specs.declared.refusal.Rule.{Rule}
 use Rattle.merc_base.specs.declared.refusal.Rule.TheVariants.{BadToken, NoTerm, WrongForm, UnknownType, DeclaredTwice, Undeclared, UnknownName, TypeMismatch, MissingMode, NeverReady, BindsOuter, UnboundOutput, WrongCategory, ParallelCategory, OutsideProfile, LimitPassed}
 use Rattle.merc_base.specs.declared.refusal.Detail.TheVariants.{Plain}
@@ -38,9 +38,13 @@ use Rattle.merc_base.proofs.NameExamples.{HoldsFixed-fixed}
 use Rattle.merc_check.proofs.CheckedLaws.{Refuses-excludes}
 use Rattle.merc_meaning.specs.Trace.{Run}
 use Rattle.merc_top.specs.declared.words.Request.TheVariants.{Solve, Check}
+use Rattle.merc_transfer.specs.declared.due.Due.{Due}
+use Rattle.merc_top.specs.declared.answering.Found.TheVariants.{Lines, Run as Runs}
+use Rattle.merc_top.specs.Due.{IsFaultDue, IsSolveFound, IsCheckFound}
 use Rattle.merc_transfer.specs.Statuses.{accepted_status, solved_status, module_status, goal_status}
 use Rattle.merc_top.specs.Checking.{check_lines}
 use Rattle.merc_transfer.specs.Writing.{text_of}
+use Rattle.merc_solving.specs.declared.solving.Ready.{Ready}
 use Rattle.merc_solving.specs.RunLines.{run_lines}
 use Rattle.merc_top.specs.Output.{IsAskedRun, IsDue, IsCheckDue, IsRequestDue, refusal_line}
 use Rattle.merc_top.specs.Output.IsDue.{module_refused, goal_refused, runs}
@@ -127,6 +131,21 @@ IsDue-refused_no_run name file goal steps most refusal lines refuses due =
 pub IsRequestDue-solve : IsRequestDue (Solve (shown (codes "bad.m")) (shown (codes "p")) 7 (Some 1)) (255 ∷ []) (codes "bad.m:1: rule 1: bad token\n" ∷ []) module_status
 IsRequestDue-solve = IsDue-module_refused (codes "p") 7 (Some 1)
 
+-- a fault is told in one line, and want of memory in none
+pub IsFaultDue-example : IsFaultDue goal_status (codes "goal") (Refused bad_token) (record { status = 5; lines = codes "goal:1: rule 1: bad token\n" ∷ [] })
+unfolding digits
+IsFaultDue-example = (refl, refl)
+
+pub IsFaultDue-counterexample : (due : Due) → IsFaultDue goal_status (codes "goal") NoMemory due → ⊥
+IsFaultDue-counterexample due is = is
+
+-- lines are found for what is refused, not for a run
+pub IsSolveFound-example : IsSolveFound (codes "bad.m") (255 ∷ []) (codes "p") 7 None (Lines (record { status = 4; lines = codes "bad.m:1: rule 1: bad token\n" ∷ [] }))
+IsSolveFound-example = (lit< tt, IsDue-module_refused (codes "p") 7 None)
+
+pub IsSolveFound-counterexample : (lines : List (List ℕ)) → IsSolveFound (codes "one.m") (codes ":- module one.") (codes "p") 7 None (Lines (record { status = 3; lines = lines })) → ⊥
+IsSolveFound-counterexample lines found = let past : 3 < 3 = found.0 in omega (arith, past)
+
 -- a check refuses it too
 pub IsCheckDue-refused : IsCheckDue (codes "bad.m") (255 ∷ []) (codes "bad.m:1: rule 1: bad token\n" ∷ []) module_status
 unfolding digits
@@ -134,6 +153,12 @@ IsCheckDue-refused = check_refused bad_token lone_byte-refused
 
 pub IsRequestDue-check : IsRequestDue (Check (shown (codes "bad.m"))) (255 ∷ []) (codes "bad.m:1: rule 1: bad token\n" ∷ []) module_status
 IsRequestDue-check = IsCheckDue-refused
+
+pub IsCheckFound-example : IsCheckFound (codes "bad.m") (255 ∷ []) (Lines (record { status = 4; lines = codes "bad.m:1: rule 1: bad token\n" ∷ [] }))
+IsCheckFound-example = IsCheckDue-refused
+
+pub IsCheckFound-counterexample : (ready : Ready) → IsCheckFound (codes "bad.m") (255 ∷ []) (Runs ready) → ⊥
+IsCheckFound-counterexample ready is = is
 
 -- and does not accept it
 pub IsCheckDue-counterexample : (lines : List (List ℕ)) → IsCheckDue (codes "bad.m") (255 ∷ []) lines accepted_status → ⊥
