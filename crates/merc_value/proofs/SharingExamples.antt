@@ -1,13 +1,14 @@
 -- What the definitions of Sharing say of a list of seven.
-use Rattle.std.proofs.Common.{◌≡◌, ℕ, zero, suc, pos, [], ◌∷◌, Some, slice_get, refl, ap, subst, arith}
+use Rattle.std.proofs.Common.{◌≡◌, ◌<◌, ℕ, zero, suc, pos, [], ◌∷◌, Some, slice_get, refl, ap, subst, arith}
 use Rattle.std.specs.List.{All}
 use Rattle.std.proofs.lemmas.List.Elements.{All-cons, All-nil}
 use Rattle.std.proofs.lemmas.Option.{same_Some}
 use Rattle.merc_base.specs.Names.{bang_name, cons_name, nil_name}
 use Rattle.merc_value.specs.Value.{Int, Con, none, more}
-use Rattle.merc_value.specs.Block.{CellData, IsBelow, AreLower, cell_values}
-use Rattle.merc_value.specs.Sharing.{AreShared, IsWordFor, moved}
-use Rattle.merc_value.specs.declared.word.Word.TheVariants.{Int as IntWord, Atom as AtomWord, Cell as CellWord}
+use Rattle.merc_value.specs.Block.{CellData, IsBelow, AreLower, cell_values, value_of}
+use Rattle.merc_value.specs.Sharing.{AreMoved, AreShared, IsWordFor, KeepsShared, moved}
+use Rattle.merc_value.specs.declared.word.Word.{Word}
+use Rattle.merc_value.specs.declared.word.Word.TheVariants.{Int as IntWord, Text as TextWord, Atom as AtomWord, Cell as CellWord}
 
 abbrev seven : CellData
 seven = record { symbol = cons_name; arguments = IntWord (pos 7) ∷ AtomWord nil_name ∷ [] }
@@ -51,3 +52,35 @@ moved-example = refl
 
 pub moved-counterexample : moved (AtomWord bang_name ∷ []) (IntWord (pos 0)) ≡ AtomWord bang_name → ⊥
 moved-counterexample same = cc
+
+-- the first cell is put there
+
+keeps_below : (word : Word) → IsBelow 0 word → IsBelow 1 word
+keeps_below (IntWord number) below = tt
+keeps_below (TextWord name) below = tt
+keeps_below (AtomWord symbol) below = tt
+keeps_below (CellWord place) below = absurd (omega (arith, below))
+
+keeps_value : (word : Word) → IsBelow 0 word → value_of (seven ∷ []) word ≡ value_of [] word
+keeps_value (IntWord number) below = refl
+keeps_value (TextWord name) below = refl
+keeps_value (AtomWord symbol) below = refl
+keeps_value (CellWord place) below = absurd (omega (arith, below))
+
+pub KeepsShared-example : KeepsShared [] (seven ∷ [])
+KeepsShared-example = record { shared = AreShared-example; below = keeps_below; same = keeps_value }
+
+-- a cell is taken away
+pub KeepsShared-counterexample : KeepsShared (seven ∷ []) [] → ⊥
+KeepsShared-counterexample keeps = let below : 0 < 0 = keeps.below (CellWord 0) (omega arith) in omega (arith, below)
+
+-- the cell itself stands for its value, and its argument does not
+
+pub AreMoved-example : AreMoved (seven ∷ []) (seven ∷ []) (CellWord 0 ∷ [])
+unfolding cell_values
+AreMoved-example zero less = record { below = omega arith; same = refl }
+AreMoved-example (suc place) less = absurd (omega (arith, less))
+
+pub AreMoved-counterexample : AreMoved (seven ∷ []) (seven ∷ []) (IntWord (pos 7) ∷ []) → ⊥
+unfolding cell_values
+AreMoved-counterexample moved = let same = (moved 0 (omega arith)).same in cc
