@@ -243,6 +243,14 @@ IsNoRequest-other_command =
     (λ solve _. absurd (differ 83 115 (omega arith) (ap (λ (text : List ℕ). slice_index text 0) solve)))
     (λ check _ _. absurd (differ 83 99 (omega arith) (ap (λ (text : List ℕ). slice_index text 0) check)))
 
+-- no goal behind the file
+pub IsNoRequest-no_goal : IsNoRequest (codes "solve" ∷ codes "one.m" ∷ [])
+IsNoRequest-no_goal =
+    no_request (codes "solve" ∷ codes "one.m" ∷ []) (codes "solve") (codes "one.m" ∷ []) (codes "one.m" ∷ []) no_settings refl
+    (plain_word no_settings no_settings (codes "one.m") [] [] refl (no_word no_settings))
+    (λ _ two. absurd (differ 1 2 (omega arith) two))
+    (λ check _ _. absurd (differ 99 115 (omega arith) (sym (ap (λ (text : List ℕ). slice_index text 0) check))))
+
 -- a check of no file
 pub IsNoRequest-no_file : IsNoRequest (codes "check" ∷ [])
 IsNoRequest-no_file =
