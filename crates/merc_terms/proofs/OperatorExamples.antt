@@ -6,7 +6,7 @@ use Rattle.std.specs.Option.{option_map}
 use Rattle.merc_base.specs.Names.{all_name, ampersand_name, arrow_name, at_least_name, at_most_name, colon_colon_name, colon_minus_name, comma_name, cons_name, div_name, else_name, end_module_name, equal_equal_name, equal_name, equivalent_name, func_name, grammar_arrow_name, greater_name, if_name, implies_name, import_module_name, is_name, less_name, minus_name, mod_name, mode_name, module_name, nil_name, not_equal_name, not_name, not_provable_name, plus_name, pred_name, rem_name, semicolon_name, slash_slash_name, some_name, star_name, then_name, type_arrow_name, type_name}
 use Rattle.merc_tokens.specs.declared.token.TokenKind.{TokenKind}
 use Rattle.merc_tokens.specs.declared.token.TokenKind.TheVariants.{Name, Quoted, Int, Text as TextToken, OpenArgs, Open, Close, OpenList, CloseList, Comma, Bar, Dot, Stop}
-use Rattle.merc_tree.specs.Term.{Term, Integer, Text, Application, none, no_span}
+use Rattle.merc_tree.specs.Term.{Term, Integer, Text, Application, none, more, no_span}
 use Rattle.merc_terms.specs.declared.operators.Operator.{Operator}
 use Rattle.merc_terms.specs.Operators.{operators, infix_named, prefix_named}
 use Rattle.merc_terms.specs.Reader.{reading}
@@ -352,7 +352,8 @@ infix_names_read : AllByRecursion (λ (one : Reading). Reads one.0 one.1) infix_
 unfolding reading operators
 infix_names_read = all_read infix_names refl
 
--- A quoted name is a name like any other, `'-'(5)` and `some a ';'`, and behind a qualifier mark each name is one: `a.not`, `a.mod` and `a.'b'`.
+-- A quoted name is a name like any other, `'-'(5)` and `some a ';'`, and behind a qualifier mark each name is one: `a.not`, `a.mod`, `'a'.'b'` and
+-- `a.not(b)`.
 
 abbrev other_names : List Reading
 other_names =
@@ -360,7 +361,8 @@ other_names =
     ∷ (Name some_name ∷ a' ∷ Quoted semicolon_name ∷ [], apply some_name (a ∷ apply semicolon_name [] ∷ []))
     ∷ (a' ∷ Dot ∷ Name not_name ∷ [], Application not_name (Some a_name) none no_span)
     ∷ (a' ∷ Dot ∷ Name mod_name ∷ [], Application mod_name (Some a_name) none no_span)
-    ∷ (a' ∷ Dot ∷ Quoted b_name ∷ [], Application b_name (Some a_name) none no_span)
+    ∷ (Quoted a_name ∷ Dot ∷ Quoted b_name ∷ [], Application b_name (Some a_name) none no_span)
+    ∷ (a' ∷ Dot ∷ Name not_name ∷ OpenArgs ∷ b' ∷ Close ∷ [], Application not_name (Some a_name) (more b none) no_span)
     ∷ []
 
 other_names_read : AllByRecursion (λ (one : Reading). Reads one.0 one.1) other_names
