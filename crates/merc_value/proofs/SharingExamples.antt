@@ -83,4 +83,4 @@ AreMoved-example (suc place) less = absurd (omega (arith, less))
 
 pub AreMoved-counterexample : AreMoved (seven ∷ []) (seven ∷ []) (IntWord (pos 7) ∷ []) → ⊥
 unfolding cell_values
-AreMoved-counterexample moved = let same = (moved 0 (omega arith)).same in cc
+AreMoved-counterexample words = let same = (words 0 (omega arith)).same in cc
