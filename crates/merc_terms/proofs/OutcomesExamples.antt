@@ -100,6 +100,10 @@ nesting_at_limit = ap (λ deep. if nat_lt nesting_limit deep then Some NestingLi
 nesting_past_limit : passed_limit false (nested 256) ≡ Some NestingLimit
 nesting_past_limit = ap (λ deep. if nat_lt nesting_limit deep then Some NestingLimit else None) (nesting-nested 256)
 
+-- what nests too deep and has too great an integer passes the limit on integers
+integers_first : passed_limit true (nested 256) ≡ Some IntegerLimit
+integers_first = refl
+
 -- a fault of an item stands at its first token
 item_place : place_of (record { kind = Stop; span = record { first = 3; past = 4; line = 2 } } ∷ record { kind = Comma; span = record { first = 5; past = 6; line = 3 } } ∷ []) ≡ record { byte = 3; line = 2 }
 item_place = refl
