@@ -329,6 +329,9 @@ Answers-unread_writes answers = let nothing : Some (codes ">two.m") ≡ Some (co
 pub Answers-read_failed_alone : (new : Option (List ℕ)) → Answers bad_words (Some files) 3 4 (Some []) new 2 2 module_status → ⊥
 Answers-read_failed_alone new answers = not_unread (answers.read_failed (omega arith))
 
+pub Answers-absent_solved : (new : Option (List ℕ)) → Answers two_words (Some files) 3 3 (Some []) new 2 2 solved_status → ⊥
+Answers-absent_solved new answers = differ solved_status unread_status (omega arith) (answers.absent NamesAbsent-example (λ same. absurd (omega arith)))
+
 -- the file is there, and no read failed
 pub Answers-not_unread : Answers bad_words (Some files) 3 3 (Some []) (Some []) 2 2 unread_status → ⊥
 Answers-not_unread answers = elim (answers.unread refl) [ inl failed ↦ omega (arith, failed) | inr absent ↦ not_unread (absent-exactly bad_words files bad_output module_status IsOutput-refused absent) ]
