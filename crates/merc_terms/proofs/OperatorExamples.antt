@@ -1,6 +1,6 @@
 -- Each row of the operator table: its priority, how a chain of its operators is read, and which operators are looser and
 -- tighter than they are.
-use Rattle.std.proofs.Common.{◌≡◌, ℕ, pos, negsuc, List, [], ◌∷◌, false, map, Option, Some, None, refl}
+use Rattle.std.proofs.Common.{◌≡◌, ℕ, pos, negsuc, List, [], ◌∷◌, false, length, map, Option, Some, None, refl}
 use Rattle.std.specs.List.{AllByRecursion}
 use Rattle.std.specs.Option.{option_map}
 use Rattle.merc_base.specs.Names.{all_name, ampersand_name, arrow_name, at_least_name, at_most_name, colon_colon_name, colon_minus_name, comma_name, cons_name, div_name, else_name, end_module_name, equal_equal_name, equal_name, equivalent_name, func_name, grammar_arrow_name, greater_name, if_name, implies_name, import_module_name, is_name, less_name, minus_name, mod_name, mode_name, module_name, nil_name, not_equal_name, not_name, not_provable_name, plus_name, pred_name, rem_name, semicolon_name, slash_slash_name, some_name, star_name, then_name, type_arrow_name, type_name}
@@ -51,6 +51,12 @@ prefix_to_200 : prefix_priorities (some_name ∷ all_name ∷ not_name ∷ not_p
     ≡ Some 950 ∷ Some 950 ∷ Some 900 ∷ Some 900 ∷ Some 800 ∷ Some 800 ∷ Some 200 ∷ []
 unfolding operators
 prefix_to_200 = refl
+
+-- these are all rows
+
+row_count : length operators ≡ 41
+unfolding operators
+row_count = refl
 
 -- other names are no operators
 
