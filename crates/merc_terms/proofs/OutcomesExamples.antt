@@ -1,6 +1,7 @@
 -- Examples of what the reader's functions answer, and of what stands between its moves.
-use Rattle.std.proofs.Common.{◌≡◌, ℕ, zero, suc, ◌+◌, pos, negsuc, true, false, nat_lt, [], ◌∷◌, map, Some, None, refl, ap, arith}
+use Rattle.std.proofs.Common.{◌≡◌, ℕ, zero, suc, ◌+◌, pos, negsuc, true, false, nat_lt, [], ◌∷◌, map, Some, None, refl, ap, ◌∙◌, arith}
 use Rattle.std.specs.Bool.{if◌then◌else◌}
+use Rattle.std.proofs.lemmas.Bool.Decides.{nat_tests}
 use Rattle.merc_base.specs.declared.refusal.Rule.TheVariants.{NoTerm}
 use Rattle.merc_base.specs.declared.refusal.Detail.TheVariants.{Plain}
 use Rattle.merc_base.specs.declared.refusal.LimitName.TheVariants.{Integer as IntegerLimit, Nesting as NestingLimit}
@@ -89,9 +90,12 @@ abbrev nested : ℕ → Term
 nested zero = Variable nil_name no_span
 nested (suc n) = Application nil_name None (more (nested n) none) no_span
 
+one_more : (n : ℕ) → 1 + greater (suc n) 0 ≡ suc (suc n)
+one_more n = grind (arith, nat_tests)
+
 nesting-nested : (n : ℕ) → nesting (nested n) ≡ suc n
 nesting-nested zero = refl
-nesting-nested (suc n) = ap (λ deep. 1 + greater deep 0) (nesting-nested n)
+nesting-nested (suc n) = ap (λ deep. 1 + greater deep 0) (nesting-nested n) ∙ one_more n
 
 -- 256 is deep enough, and 257 too deep
 nesting_at_limit : passed_limit false (nested 255) ≡ None

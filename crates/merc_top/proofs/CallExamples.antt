@@ -266,7 +266,7 @@ not_unread same = omega arith
 -- ---- what is found before anything is written
 
 pub Finds-example : Finds bad_words (Some files) 3 3 (Ok (Lines (record { status = 4; lines = bad_output })))
-Finds-example = (refl, inl (lit< tt), files, refl, IsOutput-refused, λ _ _ _ _ _. lit< tt)
+Finds-example = (refl, inl (lit< tt), (files, refl, IsOutput-refused, λ _ _ _ _ _. lit< tt))
 
 -- a read failed
 pub Finds-counterexample : Finds bad_words (Some files) 3 4 (Ok (Lines (record { status = 4; lines = bad_output }))) → ⊥
