@@ -1,7 +1,6 @@
 -- Examples of what the reader's functions answer, and of what stands between its moves.
 use Rattle.std.proofs.Common.{◌≡◌, ℕ, zero, suc, ◌+◌, pos, negsuc, true, false, nat_lt, [], ◌∷◌, map, Some, None, refl, ap, ◌∙◌, arith}
 use Rattle.std.specs.Bool.{if◌then◌else◌}
-use Rattle.std.proofs.lemmas.Bool.Decides.{nat_tests}
 use Rattle.merc_base.specs.declared.refusal.Rule.TheVariants.{NoTerm}
 use Rattle.merc_base.specs.declared.refusal.Detail.TheVariants.{Plain}
 use Rattle.merc_base.specs.declared.refusal.LimitName.TheVariants.{Integer as IntegerLimit, Nesting as NestingLimit}
@@ -10,6 +9,7 @@ use Rattle.merc_tokens.specs.declared.token.Token.{Token}
 use Rattle.merc_tokens.specs.declared.token.TokenKind.TheVariants.{Stop, Comma}
 use Rattle.merc_tree.specs.Term.{Term, Variable, Integer, Text, Application, none, more, no_span}
 use Rattle.merc_tree.specs.Nesting.{greater, nesting}
+use Rattle.merc_tree.proofs.PartLaws.{greater_max}
 use Rattle.merc_terms.specs.declared.built.Built.{Built}
 use Rattle.merc_terms.specs.declared.frame.Role.TheVariants.{Enclosed, Argument, Item, ListTail, Operand, FirstOperand, SecondOperand, RightOperand}
 use Rattle.merc_terms.specs.declared.moving.Move.TheVariants.{Open}
@@ -91,7 +91,7 @@ nested zero = Variable nil_name no_span
 nested (suc n) = Application nil_name None (more (nested n) none) no_span
 
 one_more : (n : ℕ) → 1 + greater (suc n) 0 ≡ suc (suc n)
-one_more n = grind (arith, nat_tests)
+one_more n = ap (λ deep. 1 + deep) (greater_max (suc n) 0) ∙ omega arith
 
 nesting-nested : (n : ℕ) → nesting (nested n) ≡ suc n
 nesting-nested zero = refl
