@@ -97,12 +97,15 @@ nesting-nested : (n : ℕ) → nesting (nested n) ≡ suc n
 nesting-nested zero = refl
 nesting-nested (suc n) = ap (λ deep. 1 + greater deep 0) (nesting-nested n) ∙ one_more n
 
+nested_limit : (n : ℕ) → passed_limit false (nested n) ≡ (if nat_lt nesting_limit (suc n) then Some NestingLimit else None)
+nested_limit n = ap (λ deep. if nat_lt nesting_limit deep then Some NestingLimit else None) (nesting-nested n)
+
 -- 256 is deep enough, and 257 too deep
 nesting_at_limit : passed_limit false (nested 255) ≡ None
-nesting_at_limit = ap (λ deep. if nat_lt nesting_limit deep then Some NestingLimit else None) (nesting-nested 255)
+nesting_at_limit = nested_limit 255
 
 nesting_past_limit : passed_limit false (nested 256) ≡ Some NestingLimit
-nesting_past_limit = ap (λ deep. if nat_lt nesting_limit deep then Some NestingLimit else None) (nesting-nested 256)
+nesting_past_limit = nested_limit 256
 
 -- what nests too deep and has too great an integer passes the limit on integers
 integers_first : passed_limit true (nested 256) ≡ Some IntegerLimit
