@@ -2,9 +2,9 @@
 ghost use Rattle.merc_core.specs.History.{HistoriesAreRuns};
 ghost use Rattle.merc_core.specs.Laws.{AlwaysEnds, EachCarries, EachSingle, EachStands, EachWaiter, EveryInterleaving, EveryLoss, NeverStuck, OwnEventsAlone};
 
-/// Each outcome that is stored is the end of that child's script, each full cell has its script's value, and the
-/// outcome of the whole is the end of the root's script: for every well-formed script, every number of workers and
-/// however their events fall.
+/// Each outcome that is stored is the end of that child's script, each full cell is one that has a value in the root's
+/// script, and the outcome of the whole is the end of the root's script: for every well-formed script, every number of
+/// workers and however their events fall.
 pub fn every_interleaving()
     ensures { EveryInterleaving }
 {}

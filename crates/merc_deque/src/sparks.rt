@@ -35,7 +35,8 @@ impl<T> Sparks<T> {
         self.worker.push_as::<Pushes>(spark)
     }
 
-    /// Takes the spark at the back. `None` only where the deque was empty at this step.
+    /// Takes the spark at the back. `None` where the deque was empty at this step; the clause says that it can have been,
+    /// since others may have taken all that was pushed.
     pub fn pop(&mut self) -> Option<T>
         ensures same { SameWorker self.old.worker self.new.worker × (worker_index self.new.worker ≤ worker_index self.old.worker) }
         ensures popped { MatchOption result ((worker_view self.new.worker ≡ worker_view self.old.worker) × Emptied (worker_view self.old.worker)) (λ spark. Made Popped (worker_view self.old.worker) spark (worker_view self.new.worker)) }
