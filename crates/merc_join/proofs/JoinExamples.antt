@@ -1,7 +1,8 @@
 -- What the definitions of a join say.
-use Rattle.std.proofs.Common.{◌≡◌, ℕ, zero, suc, true, false, List, [], ◌∷◌, inl, inr, refl, sym, ap, ◌∙◌, subst, arith, true≢false, Some, slice_get}
+use Rattle.std.proofs.Common.{◌≡◌, ℕ, zero, suc, true, false, List, [], ◌∷◌, inl, inr, refl, sym, ap, ◌∙◌, subst, arith, true≢false, Some, None, slice_get}
 use mathlib.Core.Option.{Option, none, some, some-injective, some-ne-none}
 use lib.ListN.{get_elem?}
+use Rattle.atomic_table.specs.Table.{Me}
 use Rattle.merc_script.specs.declared.outcome.Outcome.{Outcome}
 use Rattle.merc_script.specs.declared.outcome.Outcome.TheVariants.{Limit, Starved}
 use Rattle.merc_join.specs.declared.stub.Slot.{Slot}
@@ -9,8 +10,8 @@ use Rattle.merc_join.specs.declared.stub.Slot.TheVariants.{Empty, Ended, Parent}
 use Rattle.merc_join.specs.declared.stub.Stage.{Stage}
 use Rattle.merc_join.specs.declared.stub.Stage.TheVariants.{Waiting, Holding, Stopped, Last, Over}
 use Rattle.merc_join.specs.declared.stub.Stub.{Stub}
-use Rattle.merc_join.specs.Join.{Missing, Carried, Here, Mark, mark, to_come, slots_of, left_of, Covers, has_stopped, is_last, stub, begun, Agree, waiting, stopped, Fits, Stands, Reached, running, OneIsLast}
-use Rattle.merc_join.specs.Answers.{IsFinished}
+use Rattle.merc_join.specs.Join.{Missing, Carried, Here, Mark, mark, to_come, slots_of, left_of, Covers, has_stopped, is_last, stub, begun, Agree, waiting, stopped, Fits, Stands, Reached, running, Counted, OneIsLast}
+use Rattle.merc_join.specs.Answers.{IsDone, IsFinished}
 use Rattle.merc_join.proofs.Laws.{one_last}
 
 -- of three children one has ended
@@ -93,6 +94,27 @@ finished-turned = λ finished. absurd (let own = finished.own in let same : Star
 
 pub finished-other : IsFinished ends 7 1 2 Limit record { outcomes = Starved ∷ Limit ∷ []; parent = 8 } → ⊥
 finished-other = λ finished. absurd (let same = finished.same_parent in omega arith)
+
+-- a ticket is given nothing where its seat has stopped, and all where it is the last
+pub done-each : IsDone ends 7 1 2 Limit (stub 7 1 1 Stopped (Ended Limit) 0) None × IsDone ends 7 1 2 Limit (stub 7 1 1 Over (Ended Limit) 2) (Some record { outcomes = Starved ∷ Limit ∷ []; parent = 7 })
+done-each = (refl, (refl, finished-two))
+
+-- the last cannot be given nothing
+pub done-nothing : IsDone ends 7 1 2 Limit (stub 7 1 1 Last (Ended Limit) 0) None → ⊥
+done-nothing done = absurd (let last : Last ≡ Stopped = ap (λ (v : Stub ℕ). v.stage) done in cc)
+
+-- a seat is the last where it found one child to come, its own, and has stopped where it found two
+abbrev counted : Stage → Me (Slot ℕ) (Stub ℕ)
+counted stage = (stub 7 1 1 stage (Ended Limit) 0, [])
+
+abbrev carrying : Me (Slot ℕ) (Stub ℕ)
+carrying = (stub 7 1 1 Holding Empty 0, (1, Ended Limit) ∷ [])
+
+pub counted-each : Counted carrying 1 (counted Last) × Counted carrying 2 (counted Stopped)
+counted-each = ((refl, refl), (refl, refl))
+
+pub counted-two : Counted carrying 2 (counted Last) → ⊥
+counted-two is = absurd (let last : Last ≡ Stopped = ap (λ (v : Stub ℕ). v.stage) is.0 in cc)
 
 -- Of two children the first has ended, and the second is still to come
 waits-second : (i : ℕ) → Covers {P = ℕ} (begun 7 1 1) i → (m : Mark) × (get_elem? (mark 1 (Here Starved) ∷ mark 0 Missing ∷ []) i ≡ some m) × (m.seat ≡ 0) × Agree Waiting m.progress
