@@ -1,9 +1,9 @@
 -- The core on a root script with one Fork: child 1 makes a step and signals cell 5, child 2 waits for it and makes a step.
 use Rattle.std.proofs.Common.{◌≡◌, ℕ, Bool, List, [], ◌∷◌, Some, None, refl, pos, arith}
-use Rattle.std.specs.Prelude.{Option, Ok, Err, filter, map, length}
+use Rattle.std.specs.Prelude.{Option, Ok, Err, ◌++◌, false, filter, map, length}
 use Rattle.merc_value.specs.Value.{Int}
 use Rattle.merc_script.specs.declared.outcome.Outcome.{Outcome}
-use Rattle.merc_script.specs.declared.outcome.Outcome.TheVariants.{Ok as Fine, Raise, Starved, NoMemory}
+use Rattle.merc_script.specs.declared.outcome.Outcome.TheVariants.{Ok as Fine, Raise, Limit, Starved, NoMemory}
 use Rattle.merc_script.specs.Script.{Script, Ends, TickThen, WaitThen, SignalThen, ForkThen, NoChild, Child, Cell}
 use Rattle.merc_core.specs.declared.event.Event.{Event}
 use Rattle.merc_core.specs.declared.event.Event.TheVariants.{Tick, Fork, Pop, Steal, Signal, Wait, End, Resume, Lost}
@@ -150,6 +150,31 @@ idle-end = refl
 empty-steal : refusal (after root (Steal 1 0 ∷ [])) ≡ Some ListEmpty
 empty-steal = refl
 
+-- each event of a worker that there is not, and of one that runs nothing
+abbrev refusals : List Event → List Event → List (Option NotNow)
+refusals before events = map (λ event. refusal (after root (before ++ event ∷ []))) events
+
+no-worker-each : refusals [] (Fork 3 ∷ Pop 3 ∷ Steal 3 0 ∷ Signal 3 ∷ Wait 3 ∷ End 3 ∷ Resume 3 ∷ Lost 3 ∷ [])
+    ≡ Some NoWorker ∷ Some NoWorker ∷ Some NoWorker ∷ Some NoWorker ∷ Some NoWorker ∷ Some NoWorker ∷ Some NoWorker ∷ Some NoWorker ∷ []
+no-worker-each = refl
+
+idle-each : refusals [] (Tick 1 ∷ Fork 1 ∷ Signal 1 ∷ Wait 1 ∷ Lost 1 ∷ Pop 1 ∷ Resume 1 ∷ [])
+    ≡ Some Idle ∷ Some Idle ∷ Some Idle ∷ Some Idle ∷ Some Idle ∷ Some ListEmpty ∷ Some NotHolding ∷ []
+idle-each = refl
+
+-- a branch at a Tick, at a Wait, at a Signal and at its end takes no other event
+tick-each : refusals (Fork 0 ∷ []) (Signal 0 ∷ Wait 0 ∷ End 0 ∷ []) ≡ Some WrongItem ∷ Some WrongItem ∷ Some NotAtEnd ∷ []
+tick-each = refl
+
+wait-each : refusals (Fork 0 ∷ Steal 1 0 ∷ []) (Tick 1 ∷ Fork 1 ∷ Signal 1 ∷ End 1 ∷ []) ≡ Some WrongItem ∷ Some WrongItem ∷ Some WrongItem ∷ Some NotAtEnd ∷ []
+wait-each = refl
+
+signal-each : refusals (Fork 0 ∷ Tick 0 ∷ []) (Tick 0 ∷ Fork 0 ∷ Wait 0 ∷ End 0 ∷ []) ≡ Some WrongItem ∷ Some WrongItem ∷ Some WrongItem ∷ Some NotAtEnd ∷ []
+signal-each = refl
+
+end-each : refusals (Fork 0 ∷ Tick 0 ∷ Signal 0 ∷ []) (Tick 0 ∷ Fork 0 ∷ Signal 0 ∷ Wait 0 ∷ []) ≡ Some WrongItem ∷ Some WrongItem ∷ Some WrongItem ∷ Some WrongItem ∷ []
+end-each = refl
+
 runs-no-parent : refusal (after root (Resume 0 ∷ [])) ≡ Some NotHolding
 runs-no-parent = refl
 
@@ -168,6 +193,9 @@ held-lost = refl
 
 held-pop : refusal (held_then (Pop 0)) ≡ Some Busy
 held-pop = refl
+
+held-steal : refusal (held_then (Steal 0 1)) ≡ Some Busy
+held-steal = refl
 
 -- three children: the first runs, the others go to the back of the list, the last child first
 
@@ -247,6 +275,28 @@ summed-well = record { distinct = Prim.search arith; formed = Prim.search arith 
 
 summed-ends : outcome_of (after summed (Tick 0 ∷ Fork 0 ∷ End 0 ∷ Resume 0 ∷ Fork 0 ∷ End 0 ∷ Resume 0 ∷ End 0 ∷ [])) ≡ Some (Some (Raise 40 3))
 summed-ends = refl
+
+-- children that make more steps together than the Fork's limit
+abbrev limited : Script
+limited = ForkThen 1 [] [] (Child (Ends (Fine 1)) (Child (Ends (Fine 1)) NoChild)) (Ends Limit)
+
+limited-well : WellFormed limited
+limited-well = record { distinct = Prim.search arith; formed = Prim.search arith }
+
+limited-ends : outcome_of (after limited (Fork 0 ∷ End 0 ∷ Pop 0 ∷ End 0 ∷ Resume 0 ∷ End 0 ∷ [])) ≡ Some (Some Limit)
+limited-ends = refl
+
+-- a child that gives its own child the right to wait for what is not signalled: both are starved
+abbrev starved : Script
+starved = ForkThen 9 (owed 5 2 ∷ []) []
+    (Child (Ends (Raise 40 0)) (Child (ForkThen 9 [] ((record { cell = 5; child = 1; signal = false }) ∷ []) (Child (WaitThen 5 (Ends Starved)) NoChild) (Ends Starved)) NoChild)) (Ends (Raise 40 0))
+
+starved-well : WellFormed starved
+starved-well = record { distinct = Prim.search arith; formed = Prim.search arith }
+
+-- the inner parent goes on at its own end, as starved
+starved-inner : outcome_of (after starved (Fork 0 ∷ Steal 1 0 ∷ Fork 1 ∷ Wait 1 ∷ End 0 ∷ Pop 0 ∷ End 0 ∷ Resume 0 ∷ End 0 ∷ Resume 0 ∷ End 0 ∷ [])) ≡ Some (Some (Raise 40 0))
+starved-inner = refl
 
 -- want of memory, wherever the branch stands: what it owed is poisoned, and the parent ends with it
 

@@ -1,6 +1,7 @@
 -- Executions of the script in which the first child hands a value to the second, by two workers.
 use Rattle.std.proofs.Common.{◌≡◌, List, [], ◌∷◌, Some, None, refl}
 use Rattle.std.specs.Prelude.{Ok, Err}
+use Rattle.std.specs.List.{AllByRecursion}
 use Rattle.merc_script.specs.declared.outcome.Outcome.TheVariants.{Ok as Fine, Raise, Limit}
 use Rattle.merc_core.specs.declared.event.Event.{Event}
 use Rattle.merc_core.specs.declared.event.Event.TheVariants.{Tick, Fork, Pop, Steal, Signal, Wait, End, Resume, Lost}
@@ -57,6 +58,10 @@ not-cut-limit cut = cut
 
 not-kept : IsKept (Lost 0) → ⊥
 not-kept kept = kept
+
+-- no other event ends a branch so, of whichever kind it is
+whole-kept : AllByRecursion IsKept whole_run
+whole-kept = (tt, (tt, (tt, (tt, (tt, (tt, (tt, (tt, (tt, (tt, (tt, tt)))))))))))
 
 -- the numbers
 workers-most : most_workers ≡ 64

@@ -1,11 +1,12 @@
 -- A history of a script with Ticks.
-use Rattle.std.proofs.Common.{◌≡◌, List, [], ◌∷◌, Some, None, refl}
+use Rattle.std.proofs.Common.{◌≡◌, List, [], ◌∷◌, Some, None, refl, pos}
 use Rattle.std.specs.Prelude.{Option, Ok, Err}
+use Rattle.merc_value.specs.Value.{Int}
 use Rattle.merc_script.specs.declared.outcome.Outcome.{Outcome}
 use Rattle.merc_script.specs.declared.outcome.Outcome.TheVariants.{Ok as Fine}
-use Rattle.merc_script.specs.Script.{Script, Ends, TickThen, ForkThen, NoChild, Child}
+use Rattle.merc_script.specs.Script.{Script, Ends, TickThen, WaitThen, SignalThen, ForkThen, NoChild, Child}
 use Rattle.merc_core.specs.declared.event.Event.{Event}
-use Rattle.merc_core.specs.declared.event.Event.TheVariants.{Tick, Fork, End, Resume}
+use Rattle.merc_core.specs.declared.event.Event.TheVariants.{Tick, Fork, Pop, Steal, Signal, Wait, End, Resume, Lost}
 use Rattle.merc_core.specs.World.{start, outcome}
 use Rattle.merc_core.specs.Events.{Answer, run}
 use Rattle.merc_core.specs.History.{replay, without_ticks}
@@ -51,3 +52,20 @@ ready-resume = refl
 
 ready-none : ready_after (run events (Ok (start root 1))) ≡ Some None
 ready-none = refl
+
+-- A value that is handed on: child 1 signals cell 5 behind a Tick, and child 2 waits for it behind a Tick.
+abbrev handing : Script
+handing = ForkThen 9 ((record { cell = 5; producer = 1; consumer = 2; value = Some (Int (pos 7)) }) ∷ []) []
+    (Child (TickThen (SignalThen 5 (Ends (Fine 1)))) (Child (TickThen (WaitThen 5 (TickThen (Ends (Fine 2))))) NoChild)) (Ends (Fine 3))
+
+handing-full : outcome_of (replay (Fork 0 ∷ Signal 0 ∷ End 0 ∷ Pop 0 ∷ Wait 0 ∷ End 0 ∷ Resume 0 ∷ End 0 ∷ []) (Ok (start handing 1))) ≡ Some (Some (Fine 3))
+handing-full = refl
+
+-- .. or child 2 is there first, and is woken
+handing-parked : outcome_of (replay (Fork 0 ∷ Steal 1 0 ∷ Wait 1 ∷ Signal 0 ∷ End 0 ∷ Pop 0 ∷ End 0 ∷ Resume 0 ∷ End 0 ∷ []) (Ok (start handing 2))) ≡ Some (Some (Fine 3))
+handing-parked = refl
+
+-- no event is a Tick but one
+ticks-each : without_ticks (Tick 0 ∷ Fork 0 ∷ Pop 0 ∷ Steal 1 0 ∷ Signal 0 ∷ Wait 0 ∷ End 0 ∷ Resume 0 ∷ Lost 0 ∷ [])
+    ≡ Fork 0 ∷ Pop 0 ∷ Steal 1 0 ∷ Signal 0 ∷ Wait 0 ∷ End 0 ∷ Resume 0 ∷ Lost 0 ∷ []
+ticks-each = refl

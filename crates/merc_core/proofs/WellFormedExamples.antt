@@ -4,9 +4,9 @@ use Rattle.std.specs.Prelude.{Option}
 use Rattle.merc_value.specs.Value.{Value, Int}
 use Rattle.merc_script.specs.declared.outcome.Outcome.TheVariants.{Ok as Fine, Raise, Limit, Starved}
 use Rattle.merc_script.specs.declared.cells.Move.{Move}
-use Rattle.merc_script.specs.Script.{Script, Ends, TickThen, WaitThen, SignalThen, ForkThen, Children, NoChild, Child, Cell}
+use Rattle.merc_script.specs.Script.{Script, Ends, TickThen, WaitThen, SignalThen, ForkThen, Children, NoChild, Child, Cell, count}
 use Rattle.merc_core.specs.Rights.{signals_at, waits_at, signals_behind, waits_behind}
-use Rattle.merc_core.specs.WellFormed.{WellFormed}
+use Rattle.merc_core.specs.WellFormed.{WellFormed, ForkFits, FormedAll, cells_of, value_in}
 
 -- a cell by its number, producer, consumer and value, and a right by its cell, child and kind
 abbrev cell : ℕ → ℕ → ℕ → Option Value → Cell
@@ -163,3 +163,14 @@ many (suc n) = Child (Ends (Fine 0)) (many n)
 
 not-many : WellFormed (fork [] [] (many 65) (Ends (Fine 0))) → ⊥
 not-many well = absurd (let few = well.formed.0.few in omega arith)
+
+-- 64 children are few enough
+many-formed : (value : ℕ → Option Value) (child number : ℕ) → FormedAll value [] [] child (many number)
+many-formed value child zero = tt
+many-formed value child (suc number) = ((tt, (refl, omega arith)), many-formed value (suc child) number)
+
+most-fit : ForkFits 0 [] [] 9 [] [] (count (many 64))
+most-fit = record { some = omega arith; few = omega arith; early = omega arith; limited = omega arith; each_cell = tt; each_move = tt; signals_once = tt; waits_once = tt }
+
+most-well : WellFormed (fork [] [] (many 64) (Ends (Fine 0)))
+most-well = record { distinct = tt; formed = (most-fit, many-formed (value_in (cells_of (fork [] [] (many 64) (Ends (Fine 0))))) 1 64, tt, (tt, (refl, omega arith))) }
