@@ -1,5 +1,6 @@
 //! A case through the program's one call, over files and output in memory.
-ghost use Rattle.std.specs.Prelude.{◌≡◌, IfNone, IfOk, IfSome};
+ghost use Rattle.std.specs.Prelude.{◌≡◌, ℕ, [], IfNone, IfOk, IfSome, Some};
+ghost use Rattle.merc_top.specs.Answer.{Answers};
 
 use crate::cases::Case;
 use crate::fault::TableFault;
@@ -13,12 +14,15 @@ use std::mem;
 use std::sync::Wait;
 use std::thread::Threads;
 
-/// Runs a case, which gives its files away. Where something else came than was due, says both.
+/// Runs a case, which gives its files away. Where something else came than was due, says both. Where it says nothing,
+/// the program's one call gave the text and the status that are due, for the case's words over its files.
 pub(crate) fn difference<R: Threads + Wait + AllocGlobal>(
     rt: &R,
     settings: &Settings,
     case: &mut Case,
-) -> Result<Option<String>, TableFault> {
+) -> Result<Option<String>, TableFault>
+    ensures { IfOk result (λ found. IfNone found ((reads writes : ℕ) × Answers case.old.words.items (Some case.old.files.items) 0 reads (Some []) (Some case.old.text) 0 writes case.old.status)) }
+{
     let alloc = rt.alloc();
     let files = mem::replace(&mut case.files, Vec::new(alloc));
     let mut shelf = shelf_of(settings, files)?;
@@ -36,6 +40,7 @@ fn status<R: Threads + Wait + AllocGlobal>(
 ) -> u8
     requires shelf { shelf.old.faults ≡ 0 }
     requires sink { sink.old.sink.faults ≡ 0 }
+    ensures { Answers words.now (Some shelf.old.files) shelf.old.faults shelf.new.faults (Some sink.old.sink.bytes) (Some sink.new.sink.bytes) sink.old.sink.faults sink.new.sink.faults result }
 {
     let alloc = rt.alloc();
     let mut taps: Vec<Box<dyn Tap>> = Vec::new(alloc);
@@ -47,7 +52,7 @@ fn status<R: Threads + Wait + AllocGlobal>(
 
 // These files, of which each read gives as much as is said, and fails where it is said.
 fn shelf_of(settings: &Settings, files: Vec<(Text, Text)>) -> Result<FailingShelf, TableFault>
-    ensures { IfOk result (λ shelf. shelf.faults ≡ 0) }
+    ensures { IfOk result (λ shelf. (shelf.files ≡ files.items) × (shelf.faults ≡ 0)) }
 {
     let fail = settings.failing_reads.clone()?;
     let piece = settings.read_piece.clamp(1, 65_536);
@@ -56,7 +61,7 @@ fn shelf_of(settings: &Settings, files: Vec<(Text, Text)>) -> Result<FailingShel
 
 // An empty sink that takes and fails as is said.
 fn sink_of(alloc: Global, settings: &Settings) -> Result<FailingSink, TableFault>
-    ensures { IfOk result (λ sink. sink.sink.faults ≡ 0) }
+    ensures { IfOk result (λ sink. (sink.sink.bytes ≡ []) × (sink.sink.faults ≡ 0)) }
 {
     let fail = settings.failing_writes.clone()?;
     let room = settings.room;
