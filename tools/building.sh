@@ -109,7 +109,7 @@ build() {
     copy_sources "$1"
     crates=$(grep -c . "$room/tree/crates.txt")
     proved=''
-    echo "${0##*/}: proving and building the program, some 55 minutes on 4 processors where nothing is proved yet" >&2
+    echo "${0##*/}: proving and building the program, some 50 minutes on 4 processors where nothing is proved yet" >&2
     : >"$room/log"
     # In a session of its own, so that one signal ends all of it.
     (cd -- "$room/tree" && exec env TMPDIR="$room" setsid rt ci) >"$room/log" 2>&1 </dev/null 9>&- &
