@@ -1,7 +1,6 @@
 -- What code means: the run that it makes from a state on.
-use Rattle.std.specs.Prelude.{◌≡◌, ℕ, zero, suc, List, [], map}
+use Rattle.std.specs.Prelude.{◌≡◌, ℕ, zero, suc, []}
 use Rattle.merc_meaning.specs.Trace.{Env, Run, RunEnd, Ends, Tick, Answer}
-use Rattle.merc_meaning.specs.Steps.{value_at}
 use Rattle.merc_code.specs.Steps.{Code, Codes, State, At, Stops, Moves, Ticks, Answers, step}
 
 -- The run that a machine makes is what its steps say, one after the other; it has an end.
@@ -20,9 +19,3 @@ pub data Goes (codes : Codes) : ℕ → State → State → Type 0 where
 -- a goal's code at its beginning, with no variable bound, and so many steps that may be made
 abbrev pub start : Code → ℕ → State
 start code limit = At code [] [] [] [] limit
-
--- of each answer of a run the values of these variables
-abbrev pub shown : List ℕ → Run → Run
-shown variables (Ends end) = Ends end
-shown variables (Tick rest) = Tick (shown variables rest)
-shown variables (Answer env rest) = Answer (map (value_at env) variables) (shown variables rest)

@@ -3,7 +3,7 @@ use Rattle.std.specs.Prelude.{◌≡◌, ℕ, pos, [], ◌∷◌, Some, None, re
 use Rattle.merc_meaning.specs.Trace.{Run, Ends, Tick, Answer as AnswerOf, RunDone, LimitPassed}
 use Rattle.merc_code.specs.declared.instruction.Instruction.TheVariants.{Integer, Try, Call, Return, Answer}
 use Rattle.merc_code.specs.Steps.{Code, Codes, caller, GoesOn, State, At}
-use Rattle.merc_code.specs.Meaning.{Yields, stops, moves, ticks, answers, Goes, stays, start, shown}
+use Rattle.merc_code.specs.Meaning.{Yields, stops, moves, ticks, answers, Goes, stays, start}
 use Rattle.merc_code.specs.StepsExamples.{int, procedure}
 
 -- The code answers with 1 and, once it comes back to its choice point, with 2.
@@ -54,8 +54,3 @@ one_step = ticks _ _ _ _ refl (stays _)
 
 one_step-not : Goes calling 0 (start loop 2) inside → ⊥
 one_step-not (moves _ _ next _ e later) = absurd cc
-
--- of a run's answers the values of these variables
-
-shown-example : shown (1 ∷ 2 ∷ []) (Tick (AnswerOf (int 1 ∷ int 2 ∷ []) (Ends RunDone))) ≡ Tick (AnswerOf (int 2 ∷ None ∷ []) (Ends RunDone))
-shown-example = refl

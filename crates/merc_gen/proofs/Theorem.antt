@@ -7,7 +7,8 @@ use Rattle.merc_meaning.specs.Steps.{value_at}
 use Rattle.merc_meaning.specs.Runs.{Program, node_trace, call_trace}
 use Rattle.merc_code.specs.declared.instruction.Instruction.TheVariants.{Answer as AnswerInstruction}
 use Rattle.merc_code.specs.Steps.{Codes, ChoicePoint, State, At, Back}
-use Rattle.merc_code.specs.Meaning.{Yields, stops, answers, shown}
+use Rattle.merc_code.specs.Meaning.{Yields, stops, answers}
+use Rattle.merc_meaning.specs.Shown.{shown}
 use Rattle.merc_gen.specs.Generated.{is_single, node_quiet, codes_of, query_code}
 use Rattle.merc_gen.specs.Following.{Follows}
 use Rattle.merc_gen.proofs.Runs.{bulk, behind, Runs, Keeps, LeavesNone}

@@ -3,7 +3,11 @@ pub mod ValuesExamples
 pub mod Arithmetic
 pub mod ArithmeticExamples
 pub mod Trace
+pub mod Counting
+pub mod CountingExamples
 pub mod Steps
+pub mod Shown
+pub mod ShownExamples
 pub mod TraceExamples
 pub mod Runs
 pub mod Programs

@@ -19,7 +19,7 @@ use Rattle.merc_order_laws.specs.Bindings.{Variables}
 use Rattle.merc_order_laws.specs.GoodTree.{node_ends, GoodNode}
 use Rattle.merc_order_laws.specs.Laws.{Sized, Outer, AllBelow, SpeltIsGood, BindsHeads, ProcedureIsGood, ProcedureBindsHeads, QueryIsGood, QueryBindsAnswers, IsMadeFrom, ProcedureIsMadeFrom, QueryIsMadeFrom}
 use Rattle.merc_order_laws.specs.OrderedVariables.{in_ordered, ordered_outputs}
-use Rattle.merc_order_laws.specs.WrittenGoals.{original, IsMadeOf}
+use Rattle.merc_order_laws.specs.MadeOf.{original, IsMadeOf}
 use Rattle.merc_order_laws.proofs.Facts.{clash, or_left, or_right, or_cases, not_true, either_way, among_append, among_counts, not_counted, lt_is}
 use Rattle.merc_order_laws.proofs.Ordering.{if_ready_is, if_is, Fits, behind_one, list_all_in, from_fits}
 use Rattle.merc_order_laws.proofs.SpeltGood.{spelt_good}

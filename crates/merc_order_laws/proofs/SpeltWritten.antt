@@ -15,7 +15,8 @@ use Rattle.merc_order.specs.Ordered.{Ordered, Step, Ordereds, put, Truth, Failur
 use Rattle.merc_order.specs.Spelt.{replaced, tested_places, untested_places, written, tests_of, with_tests, first_of, inputs_at, twins, step_twins, all_twins, spelt, spelt_step, spelt_all}
 use Rattle.merc_order_laws.specs.Laws.{SpeltIsMadeOf}
 use Rattle.merc_order_laws.specs.OrderedVariables.{in_ordered, in_step, in_ordereds}
-use Rattle.merc_order_laws.specs.WrittenGoals.{simple_goals, basic_goals, all_basic_goals, written_goal, renamed, original, StandsFor, with_itself}
+use Rattle.merc_order_laws.specs.WrittenGoals.{simple_goals, basic_goals, all_basic_goals, written_goal}
+use Rattle.merc_order_laws.specs.MadeOf.{renamed, original, StandsFor, with_itself}
 use Rattle.merc_order_laws.proofs.Facts.{clash, or_left, or_right, not_true}
 use Rattle.merc_order_laws.proofs.Replacing.{first_among, among_places}
 use Rattle.merc_order_laws.proofs.Written.{all_joined, all_stand, turned_stand, EachStep, EachIn, EachOf, from_has}

@@ -21,8 +21,10 @@ use Rattle.merc_known.specs.Known.{constructor_in}
 use Rattle.merc_type_check.specs.Typing.{HaveTypes, IsConstructed, IsCalled, HasSymbol, IsTypedGoal, IsTypedPart}
 use Rattle.merc_order.specs.Procedures.{modes_in, modes_of}
 use Rattle.merc_order_laws.specs.Laws.{SizedSimple, Sized, AllSized}
-use Rattle.merc_order_laws.specs.TypedTree.{TreeIsTyped, ModesFit, TypedIsSized}
-use Rattle.merc_order_laws.specs.WrittenGoals.{simple_goals, all_simple_goals, basic_goals, written_goal, renamed, StandsFor, as_written, turned_round, with_itself}
+use Rattle.merc_order_laws.specs.TypedTree.{ModesFit}
+use Rattle.merc_order_laws.specs.TypedTreeLaws.{TreeIsTyped, TypedIsSized}
+use Rattle.merc_order_laws.specs.WrittenGoals.{simple_goals, all_simple_goals, basic_goals, written_goal}
+use Rattle.merc_order_laws.specs.MadeOf.{renamed, StandsFor, as_written, turned_round, with_itself}
 use Rattle.merc_order_laws.proofs.Written.{all_left, all_right, all_joined}
 
 pub all_at : (P : SimpleGoal → Type 0) (xs : List SimpleGoal) → AllByRecursion P xs → (place : ℕ) (g : SimpleGoal) → place < length xs → slice_index_or xs place g ≡ g → P g

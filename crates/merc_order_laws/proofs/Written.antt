@@ -17,7 +17,8 @@ use Rattle.merc_order.specs.Order.{binds, arms, decision_arms, binds_inside, agr
 use Rattle.merc_order.specs.Ordered.{Ordered, Step, Ordereds, put, Truth, Failure, Assign, Test, Build, Split, Computed, Compared, Raised, Called, Sequence, Beside, Choice, Decision, Denial, Within as Inside, no_goals, more_goals, Outcome, Ready, Stuck, AllReady, if_ready}
 use Rattle.merc_order.specs.Ways.{Removed, here, later}
 use Rattle.merc_order.proofs.MoveLaws.{next_is}
-use Rattle.merc_order_laws.specs.WrittenGoals.{simple_goals, all_simple_goals, StandsFor, as_written, turned_round, with_itself}
+use Rattle.merc_order_laws.specs.WrittenGoals.{simple_goals, all_simple_goals}
+use Rattle.merc_order_laws.specs.MadeOf.{StandsFor, as_written, turned_round, with_itself}
 use Rattle.merc_order_laws.proofs.Ordering.{ready_is, all_ready_is, stuck_not, one_stuck_not, if_ready_is, if_all_ready_is, then_all_is, and_all_is, beside_is, if_is, if_then}
 
 -- Lists.

@@ -17,7 +17,7 @@ use Rattle.merc_order_laws.specs.Bindings.{Variables}
 use Rattle.merc_order_laws.specs.GoodOrdered.{Good}
 use Rattle.merc_order_laws.specs.GoodTree.{node_ends, GoodNode}
 use Rattle.merc_order_laws.specs.OrderedVariables.{in_ordered, ordered_outputs, ends}
-use Rattle.merc_order_laws.specs.WrittenGoals.{original, IsMadeOf}
+use Rattle.merc_order_laws.specs.MadeOf.{original, IsMadeOf}
 
 -- Each call has as many arguments as each mode of its predicate has places.
 

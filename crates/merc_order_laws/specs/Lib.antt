@@ -2,12 +2,14 @@ pub mod Bindings
 pub mod OrderedVariables
 pub mod GoodOrdered
 pub mod WrittenGoals
+pub mod MadeOf
 pub mod WrittenGoalsExamples
 pub mod GoodOrderedExamples
 pub mod GoodTree
 pub mod GoodTreeExamples
 pub mod Laws
 pub mod TypedTree
+pub mod TypedTreeLaws
 pub mod TypedTreeExamples
 pub mod BodyNumbers
 pub mod BodyNumbersExamples

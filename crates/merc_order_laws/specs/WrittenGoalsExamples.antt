@@ -8,7 +8,8 @@ use Rattle.merc_graded_tree.specs.declared.basic.BasicGoal.TheVariants.{Assign, 
 use Rattle.merc_graded_tree.specs.declared.entries.Running.TheVariants.{Sequential}
 use Rattle.merc_graded_tree.specs.Nodes.{Node, node, Basic, Conjunction, nodes_of}
 use Rattle.merc_order.specs.OrderExamples.{at, append, x, y, z, one}
-use Rattle.merc_order_laws.specs.WrittenGoals.{basic_goals, written_goal, renamed, original, StandsFor, as_written, turned_round}
+use Rattle.merc_order_laws.specs.WrittenGoals.{basic_goals, written_goal}
+use Rattle.merc_order_laws.specs.MadeOf.{renamed, original, StandsFor, as_written, turned_round}
 
 fresh : original 7 (z ∷ y ∷ []) 7 ≡ z
 fresh = refl

@@ -1,5 +1,5 @@
 //! What the parts of ordered goals keep to.
-ghost use Rattle.merc_order_laws.specs.TypedTree.{TreeIsTyped, TypedIsSized};
+ghost use Rattle.merc_order_laws.specs.TypedTreeLaws.{TreeIsTyped, TypedIsSized};
 ghost use Rattle.merc_order_laws.specs.Laws.{
   OrderedEnds,
   OrderedIsGood,

@@ -8,7 +8,8 @@ use Rattle.merc_goal_tree.specs.Nodes.{Node}
 use Rattle.merc_graded_tree.specs.declared.basic.BasicGoal.{BasicGoal}
 use Rattle.merc_graded_tree.specs.declared.basic.BasicGoal.TheVariants.{True, Fail, Assign, Test, Build, Split, Arithmetic, Compare, Raise, Call, Wait, Signal}
 use Rattle.merc_graded_tree.specs.Nodes.{Node as OrderedNode}
-use Rattle.merc_order_laws.specs.WrittenGoals.{simple_goals, basic_goals, written_goal, renamed, StandsFor, as_written, turned_round, with_itself, IsMadeOf}
+use Rattle.merc_order_laws.specs.WrittenGoals.{simple_goals, basic_goals, written_goal}
+use Rattle.merc_order_laws.specs.MadeOf.{renamed, StandsFor, as_written, turned_round, with_itself, IsMadeOf}
 use Rattle.merc_order_laws.proofs.TreeTypes.{all_at}
 use Rattle.merc_program_laws.specs.GoodPrograms.{FitsArguments, HasLiteral, HasLiterals}
 use Rattle.merc_program_laws.specs.ProgramBodies.{WrittenLiteral, HasWrittenLiterals}

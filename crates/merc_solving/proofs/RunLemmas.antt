@@ -12,7 +12,8 @@ use Rattle.merc_meaning.specs.Trace.{Env, Run, RunEnd, RunDone, RunRaised, Limit
 use Rattle.merc_machine.specs.declared.machine.Machine.{Machine}
 use Rattle.merc_machine.specs.declared.running.Stop.{Stop}
 use Rattle.merc_machine.specs.declared.running.Stop.TheVariants.{Answer as AnswerStop, Ended, Raised, LimitPassed as LimitStop, SliceOver, NoMemory as NoMemoryStop}
-use Rattle.merc_machine.specs.Running.{Means, Ran, behind_steps, counted}
+use Rattle.merc_machine.specs.Running.{Means, Ran, behind_steps}
+use Rattle.merc_meaning.specs.Counting.{counted}
 use Rattle.merc_transfer.specs.declared.writing.Cut.{Cut}
 use Rattle.merc_transfer.specs.declared.writing.Cut.TheVariants.{Unwritten, NoMemory}
 use Rattle.merc_transfer.specs.Writing.{PutsFront, Cuts, Writes, text_of}

@@ -2,7 +2,7 @@
 use Rattle.std.specs.Prelude.{◌≡◌, ℕ, List, Option, Result, Ok, Err, IfOk}
 use Rattle.merc_base.specs.Outside.{appended}
 use Rattle.merc_meaning.specs.Trace.{Run, RunEnd, RunDone, RunRaised, LimitPassed as PastLimit}
-use Rattle.merc_machine.specs.Running.{counted}
+use Rattle.merc_meaning.specs.Counting.{counted}
 use Rattle.merc_machine.specs.declared.running.Stop.{Stop}
 use Rattle.merc_machine.specs.declared.running.Stop.TheVariants.{Answer, Ended, Raised, LimitPassed, SliceOver, NoMemory as NoMemoryStop}
 use Rattle.merc_transfer.specs.declared.writing.Cut.{Cut}

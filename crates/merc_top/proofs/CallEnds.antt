@@ -5,7 +5,7 @@ use Rattle.std.proofs.lemmas.List.{append-nil}
 use Rattle.std.proofs.lemmas.Option.{same_Some}
 use Rattle.merc_base.specs.Outside.{Files, appended, file_named}
 use Rattle.merc_meaning.specs.Trace.{Run}
-use Rattle.merc_machine.specs.Running.{counted}
+use Rattle.merc_meaning.specs.Counting.{counted}
 use Rattle.merc_transfer.specs.declared.writing.Cut.{Cut}
 use Rattle.merc_transfer.specs.declared.writing.Cut.TheVariants.{Unwritten, NoMemory}
 use Rattle.merc_transfer.specs.Writing.{PutsFront, Writes, text_of}

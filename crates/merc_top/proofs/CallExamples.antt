@@ -14,7 +14,7 @@ use Rattle.merc_graded_tree.specs.Nodes.{Node}
 use Rattle.merc_check.specs.Accepted.{AreGraded}
 use Rattle.merc_check.specs.Checked.{IsAccepted}
 use Rattle.merc_meaning.specs.Trace.{Run, Ends, RunDone}
-use Rattle.merc_machine.specs.Running.{counted}
+use Rattle.merc_meaning.specs.Counting.{counted}
 use Rattle.merc_top.specs.declared.words.Request.{Request}
 use Rattle.merc_top.specs.declared.words.Request.TheVariants.{Solve, Check}
 use Rattle.merc_top.specs.Words.{IsSolve, IsCheck, IsRequest, default_steps, file_of, usage_line}

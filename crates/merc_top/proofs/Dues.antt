@@ -13,7 +13,7 @@ use Rattle.merc_tree.specs.declared.declarations.Module.{Module}
 use Rattle.merc_graded_tree.specs.Nodes.{Node}
 use Rattle.merc_meaning.specs.Programs.{program_with}
 use Rattle.merc_meaning.specs.Runs.{run}
-use Rattle.merc_code.specs.Meaning.{shown}
+use Rattle.merc_meaning.specs.Shown.{shown}
 use Rattle.merc_check.specs.Accepted.{AreGraded, IsGradedGoal, query_answers, query_names}
 use Rattle.merc_terms.specs.Items.{IsRefusal}
 use Rattle.merc_check.specs.Checked.{IsAccepted, IsGoal, Refuses}

@@ -19,7 +19,7 @@ use Rattle.merc_graded_tree.specs.Nodes.{Node, node, Basic, Conjunction, nodes_o
 use Rattle.merc_meaning.specs.Trace.{Run, Ends, Tick, Answer, RunDone, LimitPassed}
 use Rattle.merc_meaning.specs.Programs.{program_with}
 use Rattle.merc_meaning.specs.Runs.{run}
-use Rattle.merc_code.specs.Meaning.{shown}
+use Rattle.merc_meaning.specs.Shown.{shown}
 use Rattle.merc_transfer.specs.Loading.{file_limit}
 use Rattle.merc_top.specs.Words.{default_steps}
 use Rattle.merc_top.specs.Output.{refusal_line, too_long_line}

@@ -17,7 +17,7 @@ use Rattle.merc_check.proofs.CheckedLaws.{AreGraded-unique, IsAccepted-unique, I
 use Rattle.merc_meaning.specs.Trace.{Run}
 use Rattle.merc_meaning.specs.Programs.{program_with}
 use Rattle.merc_meaning.specs.Runs.{run}
-use Rattle.merc_code.specs.Meaning.{shown}
+use Rattle.merc_meaning.specs.Shown.{shown}
 use Rattle.merc_transfer.specs.Statuses.{module_status, goal_status}
 use Rattle.merc_top.specs.declared.words.Request.{Request}
 use Rattle.merc_top.specs.declared.words.Request.TheVariants.{Solve, Check}

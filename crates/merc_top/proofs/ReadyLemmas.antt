@@ -11,7 +11,8 @@ use Rattle.merc_meaning.specs.Programs.{program_with}
 use Rattle.merc_meaning.specs.Runs.{Program, run}
 use Rattle.merc_code.specs.Steps.{Code, Codes}
 use Rattle.merc_code.specs.ProgramCode.{ProgramCode, codes_in}
-use Rattle.merc_code.specs.Meaning.{shown, start}
+use Rattle.merc_code.specs.Meaning.{start}
+use Rattle.merc_meaning.specs.Shown.{shown}
 use Rattle.merc_gen.specs.Generated.{codes_of, query_code}
 use Rattle.merc_gen.proofs.Theorem.{code-follows}
 use Rattle.merc_last_calls.specs.LeanMeaning.{YieldsLean}

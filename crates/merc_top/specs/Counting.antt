@@ -2,7 +2,7 @@
 use Rattle.std.specs.Prelude.{◌≡◌, ◌≤◌, ℕ, List, length, Option, Some}
 use Rattle.merc_base.specs.Outside.{Files, file_named}
 use Rattle.merc_meaning.specs.Trace.{Run}
-use Rattle.merc_machine.specs.Running.{counted}
+use Rattle.merc_meaning.specs.Counting.{counted}
 use Rattle.merc_transfer.specs.Statuses.{limit_status}
 use Rattle.merc_top.specs.Words.{IsSolve}
 use Rattle.merc_transfer.specs.Loading.{file_limit}

@@ -11,7 +11,7 @@ use Rattle.merc_graded_tree.specs.Nodes.{Node}
 use Rattle.merc_meaning.specs.Trace.{Run}
 use Rattle.merc_meaning.specs.Programs.{program_with}
 use Rattle.merc_meaning.specs.Runs.{run}
-use Rattle.merc_code.specs.Meaning.{shown}
+use Rattle.merc_meaning.specs.Shown.{shown}
 use Rattle.merc_check.specs.Accepted.{AreGraded, IsGradedGoal, query_answers, query_names}
 use Rattle.merc_check.specs.Checked.{IsAccepted, IsGoal, Refuses, RefusesQuery}
 use Rattle.merc_transfer.specs.Statuses.{accepted_status, module_status, goal_status, usage_status, unread_status, too_long_status}
