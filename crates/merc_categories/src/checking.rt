@@ -17,7 +17,7 @@ ghost use Rattle.merc_categories.specs.Progress.{IsDone};
 use merc_base::{Fault, NoMemory, Refusal};
 use merc_det::{first_of, grade, procedure_fault, query_fault};
 use merc_graded_tree::{NodeRef, Nodes};
-use merc_known::Known;
+use merc_name_resolution::Known;
 use merc_switch::find_switches;
 use merc_tree::{Arg, ModeDecl, PredDecl};
 use std::alloc::Global;

@@ -13,7 +13,7 @@ use merc_base::{Fault, Name, Names, Sequence, Text};
 use merc_goal_tree::Vars;
 use merc_graded_tree::Nodes;
 use merc_items::module_of_items;
-use merc_known::Known;
+use merc_name_resolution::Known;
 use merc_terms::{read_goal_text, read_text};
 use merc_tree::{Module, Term, TermRef, Terms};
 use std::alloc::Global;

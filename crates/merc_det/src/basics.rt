@@ -11,7 +11,7 @@ use crate::symbols::{is_single, same_symbol};
 use merc_base::{Category, NoMemory};
 use merc_goal_tree::{Symbol, Var};
 use merc_graded_tree::{BasicGoal, Procedure};
-use merc_known::Known;
+use merc_name_resolution::Known;
 
 /// The category of a goal that holds no others, from what is known before it.
 pub(crate) fn basic_category(known: &Known<'_>, seen: &SeenSymbols, goal: &BasicGoal) -> Category

@@ -16,7 +16,7 @@ use merc_base::{Category, NoMemory};
 use merc_goal_tree::Vars;
 use merc_graded_tree::{Label, NodeRef, Nodes, Root};
 use merc_grading::categories::{conditional_category, negation_category, once, switch_category};
-use merc_known::Known;
+use merc_name_resolution::Known;
 use std::alloc::Global;
 
 /// Makes the last goals, as many as a goal joins, that goal, with its category. What it tells of its variables, if it

@@ -11,7 +11,7 @@ use crate::planning::{Task, leave, plan};
 use crate::seen::SeenSymbols;
 use merc_base::NoMemory;
 use merc_graded_tree::{NodeRef, Nodes};
-use merc_known::Known;
+use merc_name_resolution::Known;
 use std::alloc::Global;
 
 /// Puts the goal with the category of each of its parts behind the others. The goal has its switches, and the variables

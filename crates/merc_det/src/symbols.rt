@@ -9,7 +9,7 @@ ghost use Rattle.merc_det.specs.Symbols.{is_complete_by, AreKeys};
 use merc_base::{Groups, Key, NoMemory};
 use merc_goal_tree::Symbol;
 use merc_grading::symbols::fellows;
-use merc_known::Known;
+use merc_name_resolution::Known;
 use merc_tree::Constructor;
 use std::alloc::Global;
 

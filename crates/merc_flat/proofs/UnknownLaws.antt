@@ -12,7 +12,7 @@ use Rattle.merc_goals.specs.Entries.{entries_of, all_entries}
 use Rattle.merc_goals.specs.Faults.{earlier, first_span}
 use Rattle.merc_goals.specs.Entries.{GoalEntry}
 use Rattle.merc_goals.proofs.FoundLaws.{earlier-assoc}
-use Rattle.merc_known.specs.Known.{callee_in, is_callee, is_constructor}
+use Rattle.merc_name_resolution.specs.Known.{callee_in, is_callee, is_constructor}
 use Rattle.merc_flat_form.specs.FlatForm.{argument_terms, operation_of}
 use Rattle.merc_flat.specs.GoalFaults.{all_unknown, is_arithmetic, unknown, unknown_among, unknown_in}
 use Rattle.merc_flat.specs.UnknownNames.{entries_unknown, entry_unknown, is_arithmetic_name, own_span, stacked, unknown_on}

@@ -6,7 +6,7 @@ use Rattle.merc_tree.specs.declared.declarations.Clause.{Clause}
 use Rattle.merc_tree.specs.declared.declarations.Module.{Module}
 use Rattle.merc_goals.specs.Written.{Written, Truth, parts, written, written_span}
 use Rattle.merc_goal_tree.specs.Nodes.{Node}
-use Rattle.merc_known.specs.Known.{callee_in}
+use Rattle.merc_name_resolution.specs.Known.{callee_in}
 use Rattle.merc_value.specs.Text.{is_blank}
 use Rattle.merc_answer_variables.specs.AnswerVariables.{answer_variables}
 use Rattle.merc_flat_form.specs.FlatForm.{argument_terms, clause_goal, flat, one_goal}

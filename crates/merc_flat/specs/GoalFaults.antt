@@ -19,7 +19,7 @@ use Rattle.merc_goal_tree.specs.declared.entries.Root.TheVariants.{Simple}
 use Rattle.merc_goal_tree.specs.Nodes.{Node}
 use Rattle.merc_goal_tree.specs.Parts.{parts_of}
 use Rattle.merc_goal_tree.specs.Variables.{variables_of, distinct}
-use Rattle.merc_known.specs.Known.{callee_in, is_callee, is_constructor}
+use Rattle.merc_name_resolution.specs.Known.{callee_in, is_callee, is_constructor}
 use Rattle.merc_flat_form.specs.FlatForm.{is_negation, operation_of}
 
 -- How many variables a goal has.

@@ -11,7 +11,7 @@ use Rattle.merc_goals.specs.Entries.{GoalEntry}
 use Rattle.merc_goals.specs.declared.goal.Form.{Form}
 use Rattle.merc_goals.specs.declared.goal.Form.TheVariants.{Equal as EqualForm, Compared as ComparedForm, Called as CalledForm}
 use Rattle.merc_base.specs.Places.{place_of}
-use Rattle.merc_known.specs.Known.{callee_in, is_callee, is_constructor}
+use Rattle.merc_name_resolution.specs.Known.{callee_in, is_callee, is_constructor}
 use Rattle.merc_flat_form.specs.FlatForm.{argument_terms, operation_of}
 use Rattle.merc_flat.specs.GoalFaults.{unknown_in, unknown_among}
 

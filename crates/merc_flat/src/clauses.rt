@@ -12,7 +12,7 @@ use crate::unknown::{first_in_arguments, first_unknown, name_fault};
 use merc_base::{NoMemory, Refusal, Span};
 use merc_goal_tree::NodeRef;
 use merc_goals::{WrittenGoal, earlier, has_few_parts, number_behind, written_goal};
-use merc_known::Known;
+use merc_name_resolution::Known;
 use merc_tree::{Clause, Term};
 use std::alloc::Global;
 

@@ -14,7 +14,7 @@ use merc_base::{Fault, Names, Refusal, Sequence};
 use merc_flat_form::{clause_form, goal_form};
 use merc_goal_tree::{NodeRef, Nodes};
 use merc_goals::{WrittenGoal, written_goal};
-use merc_known::Known;
+use merc_name_resolution::Known;
 use merc_scopes::Occurrence;
 use merc_tree::{Clause, TermRef};
 use std::alloc::Global;

@@ -10,7 +10,7 @@ ghost use Rattle.merc_flat.specs.UnknownNames.{call_span, entries_unknown, entry
 use merc_base::{Detail, Name, NoMemory, Refusal, Rule, Span};
 use merc_flat_form::operation_of;
 use merc_goals::{Entry, Form, WrittenGoal, earlier};
-use merc_known::Known;
+use merc_name_resolution::Known;
 use merc_tree::{Shape, TermRef};
 use std::alloc::Global;
 

@@ -8,7 +8,7 @@ use Rattle.merc_goals.specs.declared.goal.Form.{Form}
 use Rattle.merc_goals.specs.declared.goal.Form.TheVariants.{Truth as TruthForm, Failure as FailureForm, Equal as EqualForm, Compared as ComparedForm, Called as CalledForm, Conjunction as ConjunctionForm, Parallel as ParallelForm, Disjunction as DisjunctionForm, Conditional as ConditionalForm, Negated as NegatedForm, Quantified as QuantifiedForm, WrongForm as NoForm, OutsideProfile as OutsideForm}
 use Rattle.merc_goal_tree.specs.Nodes.{Node, Nodes, Parallel as ParallelNode, Disjunction as DisjunctionNode, Conditional as ConditionalNode, Negation, Quantified as QuantifiedNode, more_nodes, nodes_of}
 use Rattle.merc_goal_tree.specs.declared.goal.SimpleGoal.{SimpleGoal}
-use Rattle.merc_known.specs.declared.callee.Callee.{Callee}
+use Rattle.merc_name_resolution.specs.declared.callee.Callee.{Callee}
 use Rattle.merc_scopes.specs.declared.occurrence.Occurrence.{Occurrence}
 use Rattle.merc_scopes.specs.Scopes.{at_of, introduced}
 use Rattle.merc_flat_form.specs.Levels.{or_else, scope_of, shown}

@@ -9,7 +9,7 @@ use Rattle.merc_goal_tree.specs.Roots.{arity_of, joining, joined}
 use Rattle.merc_goal_tree.specs.RootLaws.{joined_last}
 use Rattle.merc_goal_tree.specs.declared.entries.Root.{Root}
 use Rattle.merc_goal_tree.specs.declared.entries.Root.TheVariants.{Parallel as ParallelRoot, Disjunction as DisjunctionRoot, Conditional as ConditionalRoot, Negation as NegationRoot, Quantified as QuantifiedRoot}
-use Rattle.merc_known.specs.declared.callee.Callee.{Callee}
+use Rattle.merc_name_resolution.specs.declared.callee.Callee.{Callee}
 use Rattle.merc_scopes.specs.declared.occurrence.Occurrence.{Occurrence}
 use Rattle.merc_flat_form.specs.Levels.{scope_of}
 use Rattle.merc_flat_form.specs.FlatForm.{flat, one_goal}

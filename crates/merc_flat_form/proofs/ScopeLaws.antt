@@ -5,7 +5,7 @@ use Rattle.merc_base.specs.declared.place.Span.{Span}
 use Rattle.merc_tree.specs.Term.{Term, Terms, Variable, Integer, Text, Application, none, more}
 use Rattle.merc_goals.specs.Written.{parts}
 use Rattle.merc_goal_tree.specs.declared.goal.SimpleGoal.TheVariants.{Same}
-use Rattle.merc_known.specs.declared.callee.Callee.{Callee}
+use Rattle.merc_name_resolution.specs.declared.callee.Callee.{Callee}
 use Rattle.merc_scopes.specs.declared.occurrence.Occurrence.{Occurrence}
 use Rattle.merc_scopes.specs.Scopes.{at_of}
 use Rattle.merc_flat_form.specs.FlatForm.{variable_of, variable_at, variables_at, naming, naming_all, equal, compare, comparison_of, compared, call_of, called, head_goal, head_goals}

@@ -6,7 +6,7 @@ use Rattle.merc_goals.specs.Entries.{goal_list, goals_in, entries_of, all_entrie
 use Rattle.merc_goals.specs.EntryCode.{goals_in-entries_of, goals_in-all_entries}
 use Rattle.merc_goals.specs.Entries.{GoalEntry}
 use Rattle.merc_goal_tree.specs.Nodes.{Node}
-use Rattle.merc_known.specs.declared.callee.Callee.{Callee}
+use Rattle.merc_name_resolution.specs.declared.callee.Callee.{Callee}
 use Rattle.merc_scopes.specs.declared.occurrence.Occurrence.{Occurrence}
 use Rattle.merc_scopes.specs.Bindings.{AreBindings}
 use Rattle.merc_flat_form.specs.Levels.{scope_of}

@@ -6,7 +6,7 @@ use Rattle.merc_tree.specs.Term.{Term}
 use Rattle.merc_goals.specs.Written.{Written, parts, written, written_span}
 use Rattle.merc_goal_tree.specs.Nodes.{Node}
 use Rattle.merc_goal_tree.specs.declared.goal.SimpleGoal.{SimpleGoal}
-use Rattle.merc_known.specs.declared.callee.Callee.{Callee}
+use Rattle.merc_name_resolution.specs.declared.callee.Callee.{Callee}
 use Rattle.merc_scopes.specs.declared.occurrence.Occurrence.{Occurrence}
 use Rattle.merc_scopes.specs.Scopes.{at_of}
 use Rattle.merc_flat_form.specs.Levels.{or_else, scope_of, shown}

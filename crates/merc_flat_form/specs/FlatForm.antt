@@ -13,8 +13,8 @@ use Rattle.merc_goal_tree.specs.declared.goal.Operation.{Operation}
 use Rattle.merc_goal_tree.specs.declared.goal.Operation.TheVariants.{Add, Subtract, Multiply, Quotient, Div, Mod, Rem}
 use Rattle.merc_goal_tree.specs.declared.goal.Comparison.{Comparison}
 use Rattle.merc_goal_tree.specs.declared.goal.Comparison.TheVariants.{Less, Greater, AtMost, AtLeast}
-use Rattle.merc_known.specs.declared.callee.Callee.{Callee}
-use Rattle.merc_known.specs.declared.callee.Callee.TheVariants.{Predicate, Error}
+use Rattle.merc_name_resolution.specs.declared.callee.Callee.{Callee}
+use Rattle.merc_name_resolution.specs.declared.callee.Callee.TheVariants.{Predicate, Error}
 use Rattle.merc_scopes.specs.declared.occurrence.Occurrence.{Occurrence}
 use Rattle.merc_scopes.specs.Scopes.{at_of, introduced, occurrence, occurrences}
 

@@ -5,7 +5,7 @@ use Rattle.merc_goals.specs.Written.{Written, written_span}
 use Rattle.merc_goal_tree.specs.Nodes.{Node}
 use Rattle.merc_goal_tree.specs.Roots.{joined}
 use Rattle.merc_goal_tree.specs.declared.entries.Root.TheVariants.{Parallel, Disjunction, Conditional, Negation, Quantified}
-use Rattle.merc_known.specs.declared.callee.Callee.{Callee}
+use Rattle.merc_name_resolution.specs.declared.callee.Callee.{Callee}
 use Rattle.merc_scopes.specs.declared.occurrence.Occurrence.{Occurrence}
 use Rattle.merc_flat_form.specs.Levels.{scope_of}
 use Rattle.merc_flat_form.specs.FlatForm.{flat, one_goal}

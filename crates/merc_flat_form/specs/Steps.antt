@@ -9,7 +9,7 @@ use Rattle.merc_goals.specs.declared.goal.Form.TheVariants.{Truth, Failure, Equa
 use Rattle.merc_goal_tree.specs.Nodes.{Node}
 use Rattle.merc_goal_tree.specs.declared.goal.SimpleGoal.{SimpleGoal}
 use Rattle.merc_goal_tree.specs.declared.goal.SimpleGoal.TheVariants.{True, Fail}
-use Rattle.merc_known.specs.declared.callee.Callee.{Callee}
+use Rattle.merc_name_resolution.specs.declared.callee.Callee.{Callee}
 use Rattle.merc_scopes.specs.declared.occurrence.Occurrence.{Occurrence}
 use Rattle.merc_scopes.specs.Bindings.{Gives}
 use Rattle.merc_flat_form.specs.FlatForm.{called, compared, equal, one_goal}

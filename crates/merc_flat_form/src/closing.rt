@@ -1,7 +1,7 @@
 //! What becomes of the goals of frames.
 ghost use Rattle.std.specs.Prelude.{◌≡◌, ◌+◌, ◌≤◌, ℕ, Bool, List, Option, length, OnOk};
 ghost use Rattle.merc_goals.specs.Written.{Written};
-ghost use Rattle.merc_known.specs.declared.callee.Callee.{Callee};
+ghost use Rattle.merc_name_resolution.specs.declared.callee.Callee.{Callee};
 ghost use Rattle.merc_flat_form.specs.Frames.{AreComing, AreFilled, IsReady, closed, finished, needed};
 
 use crate::frames::{Closing, Frame, Frames};

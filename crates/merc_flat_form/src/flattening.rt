@@ -3,7 +3,7 @@ ghost use Rattle.std.specs.Prelude.{◌≡◌, ◌≤◌, ◌+◌, ◌++◌, ◌
 ghost use Rattle.merc_goals.specs.Entries.{entries_of};
 ghost use Rattle.merc_goals.specs.Numbers.{clause_limit};
 ghost use Rattle.merc_goals.specs.Written.{parts, written_span};
-ghost use Rattle.merc_known.specs.Known.{callee_in};
+ghost use Rattle.merc_name_resolution.specs.Known.{callee_in};
 ghost use Rattle.merc_value.specs.Text.{is_blank};
 ghost use Rattle.merc_scopes.specs.Scopes.{at_of};
 ghost use Rattle.merc_scopes.specs.Bindings.{AreBindings};
@@ -21,7 +21,7 @@ use crate::simple::{put_all, put_simple};
 use merc_base::{Names, NoMemory, Sequence};
 use merc_goal_tree::Nodes;
 use merc_goals::{Entry, Form, WrittenGoal, number_behind, written_goal};
-use merc_known::Known;
+use merc_name_resolution::Known;
 use merc_scopes::{Occurrence, bindings};
 use merc_tree::Clause;
 use std::alloc::Global;

@@ -16,7 +16,7 @@ use crate::tasks::{
 use merc_base::{Name, Names, NoMemory};
 use merc_goal_tree::{SimpleGoal, Var, Vars};
 use merc_goals::{Numbered, left_of, right_of};
-use merc_known::Callee;
+use merc_name_resolution::Callee;
 use merc_tree::TermRef;
 use std::alloc::Global;
 

@@ -1,7 +1,7 @@
 //! Goals without sub-goals.
 ghost use Rattle.std.specs.Prelude.{◌≡◌, ◌++◌, ◌∷◌, [], ℕ, List, IfOk, OnOk};
 ghost use Rattle.merc_goals.specs.Numbers.{Fits};
-ghost use Rattle.merc_known.specs.Known.{callee_in};
+ghost use Rattle.merc_name_resolution.specs.Known.{callee_in};
 ghost use Rattle.merc_value.specs.Text.{is_blank};
 ghost use Rattle.merc_scopes.specs.Scopes.{at_of};
 ghost use Rattle.merc_scopes.specs.declared.occurrence.Occurrence.{Occurrence as SeenOccurrence};
@@ -16,7 +16,7 @@ use crate::scope_stack::ScopeStack;
 use merc_base::{Names, NoMemory, Span};
 use merc_goal_tree::{Nodes, SimpleGoal};
 use merc_goals::{Entry, Form};
-use merc_known::Known;
+use merc_name_resolution::Known;
 use merc_scopes::Occurrence;
 use merc_tree::{Shape, TermRef};
 use std::alloc::Global;

@@ -5,7 +5,7 @@ ghost use Rattle.merc_grading.specs.Fitting.{fellows};
 ghost use Rattle.merc_grading.specs.Known.{symbol_of};
 
 use merc_goal_tree::Symbol;
-use merc_known::Known;
+use merc_name_resolution::Known;
 use merc_tree::Constructor;
 
 /// The constructors of the type to which a symbol belongs, None where its symbols have no end.

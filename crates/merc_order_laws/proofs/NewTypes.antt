@@ -17,7 +17,7 @@ use Rattle.merc_goal_tree.specs.declared.goal.Symbol.TheVariants.{Constructor as
 use Rattle.merc_goal_tree.specs.Nodes.{Node}
 use Rattle.merc_goal_tree.specs.Parts.{parts_of}
 use Rattle.merc_goal_tree.specs.Variables.{variables_of, variables}
-use Rattle.merc_known.specs.Known.{constructor_in}
+use Rattle.merc_name_resolution.specs.Known.{constructor_in}
 use Rattle.merc_bodies.specs.Occurrences.{part_variables, root_variables}
 use Rattle.merc_bodies.specs.Renamed.{renamed, renamed_goal}
 use Rattle.merc_bodies.specs.Rebuilding.{renamed_root}

@@ -16,11 +16,11 @@ use Rattle.merc_item_forms.specs.Forms.{is_in}
 use Rattle.merc_item_forms.specs.Items.{item_of, place_of}
 use Rattle.merc_entries.specs.DoubleFaults.{HasDouble, error_again, import_place, later, predicate_again}
 use Rattle.merc_entries.specs.Entries.{Entry, declared_by, entries, entries_from, imports, is_key, key, own_entries, predicates_of, unit_entries, units_of, with_units}
-use Rattle.merc_known.specs.Known.{callee_in, is_error, is_predicate}
+use Rattle.merc_name_resolution.specs.Known.{callee_in, is_error, is_predicate}
 use Rattle.merc_items.specs.ModuleOf.{module_of, pred_decls, unit_items}
 use Rattle.merc_items.specs.Phases.{double, doubles_phase}
 use Rattle.merc_items.specs.ReadModule.{IsModule}
-use Rattle.merc_known.specs.declared.callee.Callee.TheVariants.{Predicate, Error}
+use Rattle.merc_name_resolution.specs.declared.callee.Callee.TheVariants.{Predicate, Error}
 use Rattle.merc_type_check.specs.Checked.{head_types}
 use Rattle.merc_order_laws.specs.HeadTypes.{called_arguments}
 use Rattle.merc_order_laws.proofs.ApartKeys.{AreKeysApart, key_self, keys_apart}

@@ -10,7 +10,7 @@ use Rattle.merc_tree.specs.declared.declarations.Module.{Module}
 use Rattle.merc_goal_tree.specs.Nodes.{Node}
 use Rattle.merc_bodies.specs.Bodies.{body_of, clauses_of, is_head}
 use Rattle.merc_order_laws.proofs.JoinedTyping.{body_typed}
-use Rattle.merc_known.specs.Known.{callee_in}
+use Rattle.merc_name_resolution.specs.Known.{callee_in}
 use Rattle.merc_type_check.specs.Typing.{HasTyping}
 use Rattle.merc_order_laws.specs.Existence.{BodiesAreThere}
 use Rattle.merc_order_laws.specs.HeadTypes.{called_arguments, declared_arguments}

@@ -17,7 +17,7 @@ use Rattle.merc_goal_tree.specs.declared.goal.Symbol.TheVariants.{Constructor as
 use Rattle.merc_goal_tree.specs.Nodes.{Node, Nodes, Simple, Conjunction, Parallel, Disjunction, Conditional, Negation, Quantified, no_nodes, more_nodes, list_of}
 use Rattle.merc_goal_tree.specs.Parts.{parts_of, all_parts}
 use Rattle.merc_graded_tree.specs.declared.basic.BasicGoal.{BasicGoal}
-use Rattle.merc_known.specs.Known.{constructor_in}
+use Rattle.merc_name_resolution.specs.Known.{constructor_in}
 use Rattle.merc_type_check.specs.Typing.{HaveTypes, IsConstructed, IsCalled, HasSymbol, IsTypedGoal, IsTypedPart}
 use Rattle.merc_order.specs.Procedures.{modes_in, modes_of}
 use Rattle.merc_order_laws.specs.Laws.{SizedSimple, Sized, AllSized}

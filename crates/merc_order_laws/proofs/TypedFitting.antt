@@ -13,7 +13,7 @@ use Rattle.merc_goal_tree.specs.declared.goal.Symbol.TheVariants.{Constructor as
 use Rattle.merc_graded_tree.specs.declared.basic.BasicGoal.{BasicGoal}
 use Rattle.merc_graded_tree.specs.declared.basic.BasicGoal.TheVariants.{True, Fail, Assign, Test, Build, Split, Arithmetic, Compare, Raise, Call, Wait, Signal}
 use Rattle.merc_graded_tree.specs.Nodes.{Node, node, Goal, Basic, Conjunction, Disjunction, Switch, Conditional, Negation, Quantified, Nodes, no_nodes, more_nodes}
-use Rattle.merc_known.specs.Known.{constructor_in, has_name}
+use Rattle.merc_name_resolution.specs.Known.{constructor_in, has_name}
 use Rattle.merc_grading.specs.Fitting.{are_alike, AreToldApart, FitsSymbol, FitsBasic, Fits, FitsGoal, FitsAll}
 use Rattle.merc_grading.specs.Known.{symbol_of, symbols_named, symbols_of_type}
 use Rattle.merc_type_check.specs.Typing.{IsConstructed, HasSymbol, IsTypedGoal}

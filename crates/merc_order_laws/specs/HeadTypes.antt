@@ -3,9 +3,9 @@ use Rattle.std.specs.Prelude.{List, [], length, None, slice_get}
 use Rattle.merc_tree.specs.Term.{Term, Variable, Integer, Text, Application, list_of}
 use Rattle.merc_tree.specs.Types.{TypeExpr}
 use Rattle.merc_tree.specs.declared.declarations.Module.{Module}
-use Rattle.merc_known.specs.declared.callee.Callee.{Callee}
-use Rattle.merc_known.specs.declared.callee.Callee.TheVariants.{Predicate, Error}
-use Rattle.merc_known.specs.Known.{callee_in}
+use Rattle.merc_name_resolution.specs.declared.callee.Callee.{Callee}
+use Rattle.merc_name_resolution.specs.declared.callee.Callee.TheVariants.{Predicate, Error}
+use Rattle.merc_name_resolution.specs.Known.{callee_in}
 use Rattle.merc_type_check.specs.Checked.{head_types}
 
 abbrev pub called_arguments : Module → Callee → List TypeExpr

@@ -5,7 +5,7 @@ use Rattle.std.proofs.lemmas.Bool.Decides.{Decides-eqb}
 use Rattle.merc_tree.specs.declared.declarations.Constructor.{Constructor}
 use Rattle.merc_tree.specs.declared.declarations.TypeDef.{TypeDef}
 use Rattle.merc_goal_tree.specs.declared.goal.Symbol.TheVariants.{Constructor as ConstructorSymbol}
-use Rattle.merc_known.specs.Known.{has_name, constructor_in}
+use Rattle.merc_name_resolution.specs.Known.{has_name, constructor_in}
 use Rattle.merc_grading.specs.Known.{same_symbol, symbol_of, symbols_named, has_symbol}
 use Rattle.merc_grading.specs.Fitting.{are_alike, AreToldApart}
 use Rattle.merc_order_laws.proofs.Facts.{clash, or_left, or_right}

@@ -12,8 +12,8 @@ use Rattle.merc_goal_tree.specs.declared.goal.Symbol.TheVariants.{Integer as Int
 use Rattle.merc_goal_tree.specs.declared.goal.Operation.{Operation}
 use Rattle.merc_goal_tree.specs.declared.goal.Operation.TheVariants.{Subtract}
 use Rattle.merc_goal_tree.specs.declared.goal.Comparison.{Comparison}
-use Rattle.merc_known.specs.declared.callee.Callee.{Callee}
-use Rattle.merc_known.specs.declared.callee.Callee.TheVariants.{Predicate, Error}
+use Rattle.merc_name_resolution.specs.declared.callee.Callee.{Callee}
+use Rattle.merc_name_resolution.specs.declared.callee.Callee.TheVariants.{Predicate, Error}
 use Rattle.merc_scopes.specs.declared.occurrence.Occurrence.{Occurrence}
 use Rattle.merc_flat_form.specs.FlatForm.{applied, call_of, called, compare, compared, comparison_of, equal, head_goal, head_goals, is_negation, naming, naming_all, operation_of, variable_at, variable_of, variables_at}
 use Rattle.merc_order_laws.proofs.Written.{all_joined}

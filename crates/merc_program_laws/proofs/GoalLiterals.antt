@@ -7,8 +7,8 @@ use Rattle.merc_tree.specs.declared.declarations.Module.{Module}
 use Rattle.merc_goals.specs.Written.{Written, WrittenGoals, Truth, Failure, Equal, Compared, Called, Conjunction as WrittenConjunction, Parallel as WrittenParallel, Disjunction as WrittenDisjunction, Conditional as WrittenConditional, Negated, Quantified as WrittenQuantified, WrongForm, OutsideProfile, no_goals, more_goals, parts, written, written_span}
 use Rattle.merc_goal_tree.specs.Nodes.{Node, nodes_of}
 use Rattle.merc_goal_tree.specs.declared.goal.SimpleGoal.{SimpleGoal}
-use Rattle.merc_known.specs.declared.callee.Callee.{Callee}
-use Rattle.merc_known.specs.Known.{callee_in}
+use Rattle.merc_name_resolution.specs.declared.callee.Callee.{Callee}
+use Rattle.merc_name_resolution.specs.Known.{callee_in}
 use Rattle.merc_scopes.specs.declared.occurrence.Occurrence.{Occurrence}
 use Rattle.merc_value.specs.Text.{is_blank}
 use Rattle.merc_scopes.specs.Scopes.{introduced}

@@ -6,7 +6,7 @@ use Rattle.merc_tree.specs.Term.{Term, Terms, Variable, Integer, Text, Applicati
 use Rattle.merc_tree.specs.declared.declarations.Module.{Module}
 use Rattle.merc_goals.specs.Written.{Written, WrittenGoals, Truth, Failure, Equal, Compared, Called, Conjunction, Parallel, Disjunction, Conditional, Negated, Quantified, WrongForm, OutsideProfile, no_goals, more_goals, parts, joined, conjuncts, parallel_conjuncts, disjuncts, listed_variables, quantified, nullary, conditional, alternatives, binary, written, arrow_parts, if_then_parts, then_parts}
 use Rattle.merc_goals.specs.Faults.{wrong_forms, all_wrong_forms, outside_forms, all_outside_forms}
-use Rattle.merc_known.specs.Known.{callee_in, is_callee, is_constructor}
+use Rattle.merc_name_resolution.specs.Known.{callee_in, is_callee, is_constructor}
 use Rattle.merc_flat.specs.GoalFaults.{is_arithmetic, unknown_in, unknown_among, unknown, all_unknown}
 use Rattle.merc_program_laws.proofs.TermPlaces.{Within, Lies, LieAll}
 

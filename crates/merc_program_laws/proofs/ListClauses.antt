@@ -16,7 +16,7 @@ use Rattle.merc_goals.specs.Written.{Written, WrittenGoals, Truth, Equal, Called
 use Rattle.merc_goals.specs.Faults.{first_span}
 use Rattle.merc_item_forms.specs.Items.{Item, ClauseItem, item_of}
 use Rattle.merc_entries.specs.LibraryItems.{append_cell, append_nil, length_cell, length_nil, list_items, member_first, member_later, onto_cell, onto_nil, reverse_clause}
-use Rattle.merc_known.specs.Known.{callee_in, constructor_in, is_callee, is_constructor}
+use Rattle.merc_name_resolution.specs.Known.{callee_in, constructor_in, is_callee, is_constructor}
 use Rattle.merc_flat_form.specs.FlatForm.{argument_terms}
 use Rattle.merc_flat.specs.GoalFaults.{is_arithmetic, unknown, unknown_among, unknown_in, unknown_name, all_unknown}
 use Rattle.merc_flat.specs.Flat.{clause_name_fault, goal_of}

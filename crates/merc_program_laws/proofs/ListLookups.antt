@@ -25,7 +25,7 @@ use Rattle.merc_entries.specs.Entries.{Entry, constructors_of, declared_by, is_k
 use Rattle.merc_entries.specs.LibraryItems.{append_declaration, length_declaration, list_items, list_type, member_declaration, onto_declaration, reverse_declaration}
 use Rattle.merc_entries.specs.Joining.{unit_entry}
 use Rattle.merc_items.specs.ModuleOf.{constructor_of, declared_type, head_name, modes_in, module_of, pred_decls, pred_decls_of, type_defs, type_defs_of, unit_items}
-use Rattle.merc_known.specs.Known.{constructor_in, has_name, is_constructor, is_predicate}
+use Rattle.merc_name_resolution.specs.Known.{constructor_in, has_name, is_constructor, is_predicate}
 use Rattle.merc_program_laws.specs.ClauseFaults.{IsAmong}
 use Rattle.merc_program_laws.proofs.FirstFaults.{among_either, among_right}
 use Rattle.merc_program_laws.proofs.UnitEntries.{flat_among, flat_mapped, own_among, unique, unit_among, unit_there}

@@ -18,7 +18,7 @@ use Rattle.merc_tree.specs.declared.declarations.PredDecl.{PredDecl}
 use Rattle.merc_tree.specs.declared.declarations.Module.{Module}
 use Rattle.merc_bodies.specs.Bodies.{clauses_of as clauses_for, is_head}
 use Rattle.merc_order.specs.Procedures.{modes_of, modes_in as modes_found}
-use Rattle.merc_known.specs.Known.{is_predicate}
+use Rattle.merc_name_resolution.specs.Known.{is_predicate}
 use Rattle.merc_item_forms.specs.Forms.{is_foreign}
 use Rattle.merc_item_forms.specs.FormFaults.{own_name}
 use Rattle.merc_item_forms.specs.Items.{Item, Opening, Ending, Section, Import, TypeItem, PredicateItem, ModeItem, ClauseItem, OtherType, OtherFunction, OtherGrammar, OtherDeclaration, Formless, item_of}

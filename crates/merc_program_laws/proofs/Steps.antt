@@ -6,7 +6,7 @@ use Rattle.merc_tree.specs.declared.declarations.TypeDef.{TypeDef}
 use Rattle.merc_tree.specs.declared.declarations.Module.{Module}
 use Rattle.merc_goal_tree.specs.declared.goal.Symbol.{Symbol}
 use Rattle.merc_goal_tree.specs.declared.goal.Symbol.TheVariants.{Constructor as ConstructorSymbol, Integer, Text as TextSymbol}
-use Rattle.merc_known.specs.Known.{constructor_in}
+use Rattle.merc_name_resolution.specs.Known.{constructor_in}
 use Rattle.merc_type_check.specs.Typing.{HaveTypes as VariablesHave, IsConstructed, HasSymbol}
 use Rattle.merc_order.specs.Bound.{Bound, among}
 use Rattle.merc_order_laws.specs.Bindings.{AreBound, AreFree}

@@ -4,7 +4,7 @@ use Rattle.std.specs.Int.{w64}
 use Rattle.merc_tree.specs.Types.{TypeExpr, IntType, TextType, TypeApplication, types_of, replaced}
 use Rattle.merc_tree.specs.declared.declarations.Constructor.{Constructor}
 use Rattle.merc_tree.specs.declared.declarations.TypeDef.{TypeDef}
-use Rattle.merc_known.specs.Known.{constructor_in}
+use Rattle.merc_name_resolution.specs.Known.{constructor_in}
 use Rattle.merc_value.specs.Value.{Value, Int, Text, Con, Values, none, more}
 use Rattle.merc_meaning.specs.Values.{count}
 

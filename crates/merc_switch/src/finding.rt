@@ -13,7 +13,7 @@ use crate::planning::plan_goal;
 use crate::tasks::{Task, Tasks};
 use merc_base::NoMemory;
 use merc_graded_tree::{NodeRef, Nodes};
-use merc_known::Known;
+use merc_name_resolution::Known;
 use merc_switch_choice::{VarSet, bound_inputs};
 use merc_tree::Arg;
 use std::alloc::Global;

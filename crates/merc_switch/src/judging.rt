@@ -21,7 +21,7 @@ use crate::whole::Whole;
 use merc_base::{Category, NoMemory, Sequence, Span};
 use merc_goal_tree::{Symbol, Var, Vars};
 use merc_graded_tree::{Label, Root};
-use merc_known::Known;
+use merc_name_resolution::Known;
 use merc_switch_choice::{Candidates, Disjunct, Disjuncts, VarCounts, VarSet};
 use std::alloc::Global;
 use std::mem;

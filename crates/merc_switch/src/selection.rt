@@ -14,7 +14,7 @@ use crate::occurring::outputs_in;
 use crate::whole::Whole;
 use merc_base::{NoMemory, Span};
 use merc_goal_tree::{Symbol, Var, Vars};
-use merc_known::Known;
+use merc_name_resolution::Known;
 use merc_switch_choice::{Candidates, Disjunct, Disjuncts, VarCounts, arms_of};
 use std::alloc::Global;
 use std::marker::Model;

@@ -10,7 +10,7 @@ use crate::ordered::OrderedVars;
 use crate::variables::VarSet;
 use merc_base::NoMemory;
 use merc_goal_tree::Var;
-use merc_known::Known;
+use merc_name_resolution::Known;
 use std::alloc::Global;
 
 /// The variables on which disjuncts can still be a switch. They can be one on a variable that is bound, none of those that

@@ -14,7 +14,7 @@ use crate::symbols::SymbolSet;
 use merc_base::NoMemory;
 use merc_goal_tree::Var;
 use merc_grading::symbols::fellows;
-use merc_known::Known;
+use merc_name_resolution::Known;
 use merc_tree::Constructor;
 use std::alloc::Global;
 

@@ -6,7 +6,7 @@ use merc_base::{Name, Names, NoMemory, Span, Text};
 use merc_goal_tree::{Node, NodeRef, Nodes, Predicate, SimpleGoal, Vars};
 use merc_heap::Heap;
 use merc_items::read_module;
-use merc_known::Known;
+use merc_name_resolution::Known;
 use merc_segments::thaw;
 use merc_term_text::write_term;
 use merc_terms::read_goal_text;

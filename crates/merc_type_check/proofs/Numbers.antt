@@ -7,7 +7,7 @@ use Rattle.std.proofs.lemmas.List.{map-append, append-nil, take_all}
 use Rattle.merc_base.specs.Groups.{kept, is_key}
 use Rattle.merc_base.specs.declared.groups.Key.{Key}
 use Rattle.merc_base.specs.declared.groups.Groups.{Groups}
-use Rattle.merc_known.specs.Known.{constructor_in, has_name}
+use Rattle.merc_name_resolution.specs.Known.{constructor_in, has_name}
 use Rattle.merc_tree.specs.declared.declarations.Constructor.{Constructor}
 use Rattle.merc_tree.specs.declared.declarations.TypeDef.{TypeDef}
 use Rattle.merc_tree.specs.declared.declarations.PredDecl.{PredDecl}

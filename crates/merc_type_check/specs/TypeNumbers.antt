@@ -11,7 +11,7 @@ use Rattle.merc_tree.specs.declared.declarations.PredDecl.{PredDecl}
 use Rattle.merc_tree.specs.declared.declarations.Module.{Module}
 use Rattle.merc_base.specs.Groups.{kept}
 use Rattle.merc_base.specs.declared.groups.Groups.{Groups}
-use Rattle.merc_known.specs.Known.{constructor_in, has_name}
+use Rattle.merc_name_resolution.specs.Known.{constructor_in, has_name}
 use Rattle.merc_type_table.specs.Table.{types_made}
 use Rattle.merc_type_table.specs.Numbering.{Extends, IsNumbering}
 use Rattle.merc_type_table.specs.declared.numbering.TypeNumbering.{TypeNumbering}

@@ -15,7 +15,7 @@ use Rattle.merc_goal_tree.specs.declared.goal.Symbol.{Symbol}
 use Rattle.merc_goal_tree.specs.declared.goal.Symbol.TheVariants.{Constructor as ConstructorSymbol, Integer as IntegerSymbol, Text as TextSymbol}
 use Rattle.merc_goal_tree.specs.Nodes.{Node}
 use Rattle.merc_goal_tree.specs.Parts.{parts_of}
-use Rattle.merc_known.specs.Known.{constructor_in}
+use Rattle.merc_name_resolution.specs.Known.{constructor_in}
 
 -- Given are a module and a type for each variable, by its number.
 module _ (known : Module) (types : ℕ → TypeExpr) where

@@ -15,7 +15,7 @@ use crate::repeats::Repeats;
 use crate::typings::Typing;
 use merc_base::NoMemory;
 use merc_goal_tree::{NodeRef, Predicate};
-use merc_known::Known;
+use merc_name_resolution::Known;
 use merc_type_matching::Matchings;
 use merc_type_table::TypeNumber;
 use std::alloc::Global;

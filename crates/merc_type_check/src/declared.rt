@@ -7,7 +7,7 @@ ghost use Rattle.merc_type_matching.specs.Listed.{AreWithin};
 ghost use Rattle.merc_type_check.specs.TypeNumbers.{numbers_found, AreAllWithin, AreDeclared, Numbered, NumbersConstructors, NumbersPredicates, Renumbers};
 
 use merc_base::{Groups, Key, Name, NoMemory, Sequence};
-use merc_known::Known;
+use merc_name_resolution::Known;
 use merc_tree::{Constructor, PredDecl, TypeDef, TypeExprs};
 use merc_type_matching::ListedTypes;
 use merc_type_table::{TypeNumber, TypeNumbering};

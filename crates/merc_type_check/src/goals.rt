@@ -19,7 +19,7 @@ use crate::checker::{Checker, UsedType};
 use crate::declared::DeclaredTypes;
 use merc_base::NoMemory;
 use merc_goal_tree::{Predicate, Root, SimpleGoal, Symbol, Var};
-use merc_known::Known;
+use merc_name_resolution::Known;
 use merc_tree::{Constructor, TypeDef, TypeExprs};
 use merc_type_matching::NamePair;
 use merc_type_table::TypeNumber;

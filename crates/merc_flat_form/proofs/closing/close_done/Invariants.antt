@@ -1,6 +1,6 @@
 use Rattle.std.proofs.Common.{◌≡◌, ℕ, List, Bool, Option, length}
 use Rattle.merc_goals.specs.Written.{Written}
-use Rattle.merc_known.specs.declared.callee.Callee.{Callee}
+use Rattle.merc_name_resolution.specs.declared.callee.Callee.{Callee}
 use Rattle.merc_flat_form.specs.Frames.{AreComing, AreFilled, finished}
 use Rattle.merc_flat_form.proofs.closing.close_done.Given as goal
 

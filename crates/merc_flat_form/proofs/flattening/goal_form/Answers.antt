@@ -1,5 +1,5 @@
 use Rattle.std.proofs.lemmas.Result.{on_ok_weaker}
-use Rattle.merc_known.specs.Known.{callee_in}
+use Rattle.merc_name_resolution.specs.Known.{callee_in}
 use Rattle.merc_value.specs.Text.{is_blank}
 use Rattle.merc_flat_form.proofs.WholeGoals.{whole_goal}
 use Rattle.merc_flat_form.proofs.flattening.goal_form.Goals as goal

@@ -1,7 +1,7 @@
 use Rattle.std.proofs.Common.{◌+◌, ◌++◌, refl, ap, sym}
 use Rattle.std.proofs.lemmas.Result.{on_ok_weaker}
 use Rattle.merc_goals.specs.Written.{parts}
-use Rattle.merc_known.specs.Known.{callee_in}
+use Rattle.merc_name_resolution.specs.Known.{callee_in}
 use Rattle.merc_value.specs.Text.{is_blank}
 use Rattle.merc_flat_form.specs.FlatForm.{argument_terms, body_goals, head_goals, head_scope, simple}
 use Rattle.merc_flat_form.proofs.WholeGoals.{body_put, head_put, made_one}

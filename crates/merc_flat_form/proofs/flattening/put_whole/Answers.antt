@@ -1,6 +1,6 @@
 use Rattle.std.proofs.lemmas.Result.{on_ok_weaker}
 use Rattle.merc_goals.specs.Written.{written_span}
-use Rattle.merc_known.specs.Known.{callee_in}
+use Rattle.merc_name_resolution.specs.Known.{callee_in}
 use Rattle.merc_value.specs.Text.{is_blank}
 use Rattle.merc_flat_form.specs.Levels.{scope_of}
 use Rattle.merc_flat_form.specs.FlatForm.{flat}

@@ -1,6 +1,6 @@
 use Rattle.std.proofs.Common.{◌≡◌, ◌∷◌, ◌++◌, true, false, if◌then◌else◌, map, Result, Ok, Err, OnOk, ap, subst, ◌∙◌}
 use Rattle.merc_value.specs.Text.{is_blank}
-use Rattle.merc_known.specs.Known.{callee_in}
+use Rattle.merc_name_resolution.specs.Known.{callee_in}
 use Rattle.merc_goals.specs.Entries.{GoalEntry}
 use Rattle.merc_goals.specs.declared.goal.Form.TheVariants.{Parallel, Disjunction, Conditional, Negated, Quantified}
 use Rattle.merc_flat_form.specs.Frames.{keeps_of}

@@ -2,7 +2,7 @@ use Rattle.std.proofs.Common.{◌++◌, ap, ◌∙◌}
 use Rattle.std.proofs.lemmas.Result.{on_ok_weaker}
 use Rattle.merc_goals.specs.Entries.{GoalEntry}
 use Rattle.merc_value.specs.Text.{is_blank}
-use Rattle.merc_known.specs.Known.{callee_in}
+use Rattle.merc_name_resolution.specs.Known.{callee_in}
 use Rattle.merc_flat_form.specs.FlatForm.{simple}
 use Rattle.merc_flat_form.specs.Frames.{closed}
 use Rattle.merc_flat_form.specs.Steps.{simple_goals}

@@ -2,10 +2,10 @@ use Rattle.std.proofs.Common.{List, map, Bor, ap, ◌∙◌}
 use Rattle.merc_tree.specs.declared.declarations.Constructor.{Constructor}
 use Rattle.merc_tree.specs.declared.declarations.TypeDef.{TypeDef}
 use Rattle.merc_tree.specs.declared.declarations.Module.{Module}
-use Rattle.merc_known.specs.Known.{is_constructor}
-use Rattle.merc_known.specs.Indexing.{any_allowed, constructor_seen}
-use Rattle.merc_known.proofs.Looking.{any_place}
-use Rattle.merc_known.proofs.known.Known.is_constructor.Goals as goal
+use Rattle.merc_name_resolution.specs.Known.{is_constructor}
+use Rattle.merc_name_resolution.specs.Indexing.{any_allowed, constructor_seen}
+use Rattle.merc_name_resolution.proofs.Looking.{any_place}
+use Rattle.merc_name_resolution.proofs.known.Known.is_constructor.Goals as goal
 
 pub returns : goal.returns
 returns c =

@@ -7,9 +7,9 @@ use Rattle.merc_tree.specs.declared.declarations.Constructor.{Constructor}
 use Rattle.merc_tree.specs.declared.declarations.TypeDef.{TypeDef}
 use Rattle.merc_tree.specs.declared.declarations.PredDecl.{PredDecl}
 use Rattle.merc_tree.specs.declared.declarations.Module.{Module}
-use Rattle.merc_known.specs.declared.callee.Callee.TheVariants.{Predicate, Error}
-use Rattle.merc_known.specs.Known.{allows, callee_in, constructor_in, has_name, is_error, is_predicate}
-use Rattle.merc_known.specs.Indexing.{any_allowed, constructors_among, constructors_of, first_allowed, is_named, predicates_from}
+use Rattle.merc_name_resolution.specs.declared.callee.Callee.TheVariants.{Predicate, Error}
+use Rattle.merc_name_resolution.specs.Known.{allows, callee_in, constructor_in, has_name, is_error, is_predicate}
+use Rattle.merc_name_resolution.specs.Indexing.{any_allowed, constructors_among, constructors_of, first_allowed, is_named, predicates_from}
 
 -- one predicate more in front
 first_with : (own : ℕ) (qualifier : Option ℕ) (n none : ℕ) (declared : PredDecl) (others : List (ℕ × PredDecl)) (place : ℕ) → first_allowed own qualifier others none ≡ (n + 1) + place

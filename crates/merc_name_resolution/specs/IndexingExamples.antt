@@ -8,8 +8,8 @@ use Rattle.merc_base.specs.declared.groups.Groups.{Groups}
 use Rattle.merc_tree.specs.declared.declarations.Constructor.{Constructor}
 use Rattle.merc_tree.specs.declared.declarations.TypeDef.{TypeDef}
 use Rattle.merc_tree.specs.declared.declarations.PredDecl.{PredDecl}
-use Rattle.merc_known.specs.Indexing.{is_named, predicates_from, first_allowed, any_allowed, constructors_among, constructors_of, predicate_seen, constructor_seen, Indexes}
-use Rattle.merc_known.specs.KnownExamples.{m, p, q, c, d, predicate, plain_constructor, own, of_list, example}
+use Rattle.merc_name_resolution.specs.Indexing.{is_named, predicates_from, first_allowed, any_allowed, constructors_among, constructors_of, predicate_seen, constructor_seen, Indexes}
+use Rattle.merc_name_resolution.specs.KnownExamples.{m, p, q, c, d, predicate, plain_constructor, own, of_list, example}
 
 is_named-each : is_named p 1 (predicate p None) ∷ is_named q 1 (predicate p None) ∷ is_named p 2 (predicate p None) ∷ [] ≡ true ∷ false ∷ false ∷ []
 is_named-each = refl

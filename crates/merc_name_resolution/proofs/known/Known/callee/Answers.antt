@@ -1,10 +1,10 @@
 use Rattle.std.proofs.Common.{ℕ, List, length, map, Bor, ap, sym, ◌∙◌}
 use Rattle.merc_tree.specs.declared.declarations.PredDecl.{PredDecl}
 use Rattle.merc_tree.specs.declared.declarations.Module.{Module}
-use Rattle.merc_known.specs.Known.{callee_in, is_error}
-use Rattle.merc_known.specs.Indexing.{first_allowed, predicate_seen}
-use Rattle.merc_known.proofs.Looking.{callee_at}
-use Rattle.merc_known.proofs.known.Known.callee.Goals as goal
+use Rattle.merc_name_resolution.specs.Known.{callee_in, is_error}
+use Rattle.merc_name_resolution.specs.Indexing.{first_allowed, predicate_seen}
+use Rattle.merc_name_resolution.proofs.Looking.{callee_at}
+use Rattle.merc_name_resolution.proofs.known.Known.callee.Goals as goal
 
 pub returns : goal.returns
 returns c =

@@ -9,7 +9,7 @@ use Rattle.merc_tree.specs.declared.declarations.Module.{Module}
 use Rattle.merc_base.specs.declared.groups.Groups.{Groups}
 use Rattle.merc_base.specs.Groups.{kept}
 use Rattle.merc_base.specs.Names.{require_name}
-use Rattle.merc_known.specs.Known.{allows, has_name}
+use Rattle.merc_name_resolution.specs.Known.{allows, has_name}
 
 abbrev pub is_named : ℕ → ℕ → PredDecl → Bool
 is_named name arity declared = (declared.name == name) && (length declared.args == arity)

@@ -7,8 +7,8 @@ use Rattle.merc_tree.specs.declared.declarations.Constructor.{Constructor}
 use Rattle.merc_tree.specs.declared.declarations.TypeDef.{TypeDef}
 use Rattle.merc_tree.specs.declared.declarations.PredDecl.{PredDecl}
 use Rattle.merc_tree.specs.declared.declarations.Module.{Module}
-use Rattle.merc_known.specs.declared.callee.Callee.{Callee}
-use Rattle.merc_known.specs.declared.callee.Callee.TheVariants.{Predicate, Error}
+use Rattle.merc_name_resolution.specs.declared.callee.Callee.{Callee}
+use Rattle.merc_name_resolution.specs.declared.callee.Callee.TheVariants.{Predicate, Error}
 
 -- Whether a name with this qualifier may be that of an item of this unit, none for the module's own, in the module of this name.
 abbrev pub allows : ℕ → Option ℕ → Option ℕ → Bool

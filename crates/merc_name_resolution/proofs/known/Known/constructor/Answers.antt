@@ -2,10 +2,10 @@ use Rattle.std.proofs.Common.{List, map, slice_get, Bor, ap, ◌∙◌}
 use Rattle.merc_tree.specs.declared.declarations.Constructor.{Constructor}
 use Rattle.merc_tree.specs.declared.declarations.TypeDef.{TypeDef}
 use Rattle.merc_tree.specs.declared.declarations.Module.{Module}
-use Rattle.merc_known.specs.Known.{constructor_in}
-use Rattle.merc_known.specs.Indexing.{constructor_seen}
-use Rattle.merc_known.proofs.Looking.{first_constructor}
-use Rattle.merc_known.proofs.known.Known.constructor.Goals as goal
+use Rattle.merc_name_resolution.specs.Known.{constructor_in}
+use Rattle.merc_name_resolution.specs.Indexing.{constructor_seen}
+use Rattle.merc_name_resolution.proofs.Looking.{first_constructor}
+use Rattle.merc_name_resolution.proofs.known.Known.constructor.Goals as goal
 
 pub returns : goal.returns
 returns c =

@@ -2,8 +2,8 @@
 ghost use Rattle.std.specs.Prelude.{◌≡◌, ◌==◌, map, slice_get, IfOk};
 ghost use Rattle.std.specs.List.{list_any};
 ghost use Rattle.std.specs.Option.{option_copied, option_map};
-ghost use Rattle.merc_known.specs.Indexing.{any_allowed, constructor_seen, first_allowed, predicate_seen};
-ghost use Rattle.merc_known.specs.Known.{allows, callee_in, constructor_in, is_callee, is_constructor, is_error};
+ghost use Rattle.merc_name_resolution.specs.Indexing.{any_allowed, constructor_seen, first_allowed, predicate_seen};
+ghost use Rattle.merc_name_resolution.specs.Known.{allows, callee_in, constructor_in, is_callee, is_constructor, is_error};
 
 use crate::Callee;
 use crate::indexing::{constructors_of, predicates_of};
@@ -36,7 +36,7 @@ impl<'a> Model for Known<'a> {
 
     ghost coded = { Prim.hlevel (codes, term_code, type_code) };
 
-    ghost use Rattle.merc_known.specs.Indexing.{Indexes};
+    ghost use Rattle.merc_name_resolution.specs.Indexing.{Indexes};
 
     ghost view = { λ k. k.source.now };
 

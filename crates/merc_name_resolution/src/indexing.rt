@@ -1,7 +1,7 @@
 //! The predicates and constructors of a module by their names.
 ghost use Rattle.std.specs.Prelude.{◌≡◌, ◌++◌, ℕ, map, IfOk, OnOk};
 ghost use Rattle.merc_base.specs.Groups.{kept};
-ghost use Rattle.merc_known.specs.Indexing.{constructor_seen, constructors_among, constructors_of, predicate_seen, predicates_from};
+ghost use Rattle.merc_name_resolution.specs.Indexing.{constructor_seen, constructors_among, constructors_of, predicate_seen, predicates_from};
 
 use merc_base::{Groups, Key, NoMemory};
 use merc_tree::{Constructor, PredDecl, TypeDef};

@@ -8,8 +8,8 @@ use Rattle.merc_tree.specs.declared.declarations.Constructor.{Constructor}
 use Rattle.merc_tree.specs.declared.declarations.TypeDef.{TypeDef}
 use Rattle.merc_tree.specs.declared.declarations.PredDecl.{PredDecl}
 use Rattle.merc_tree.specs.declared.declarations.Module.{Module}
-use Rattle.merc_known.specs.declared.callee.Callee.TheVariants.{Predicate, Error}
-use Rattle.merc_known.specs.Known.{allows, is_error, is_predicate, callee_in, is_callee, has_name, is_constructor, constructor_in}
+use Rattle.merc_name_resolution.specs.declared.callee.Callee.TheVariants.{Predicate, Error}
+use Rattle.merc_name_resolution.specs.Known.{allows, is_error, is_predicate, callee_in, is_callee, has_name, is_constructor, constructor_in}
 
 abbrev pub m : ℕ
 m = 100

@@ -4,8 +4,8 @@ use Rattle.std.proofs.lemmas.Bool.Decides.{nat_tests}
 use Rattle.std.specs.List.{list_any}
 use Rattle.merc_base.specs.Names.{error_name, require_name}
 use Rattle.merc_tree.specs.declared.declarations.Module.{Module}
-use Rattle.merc_known.specs.declared.callee.Callee.TheVariants.{Predicate, Error}
-use Rattle.merc_known.specs.Known.{allows, callee_in, is_error}
+use Rattle.merc_name_resolution.specs.declared.callee.Callee.TheVariants.{Predicate, Error}
+use Rattle.merc_name_resolution.specs.Known.{allows, callee_in, is_error}
 
 error_by : (test : Bool) (number : ℕ) → (if test then Error else Predicate number) ≡ Error → test ≡ true
 error_by true number is = refl
