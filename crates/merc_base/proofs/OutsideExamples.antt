@@ -1,6 +1,6 @@
 -- Worked examples of the definitions of specs/Outside.antt: what holds, and what does not.
-use Rattle.std.proofs.Common.{◌≡◌, ℕ, true, false, List, [], ◌∷◌, Some, None, unwrap_or, slice_index, codes, refl, ap, arith}
-use Rattle.merc_base.specs.Outside.{piece_limit, Files, file_named, IsPiece, FetchesFrom, CountsFetch, AnswersFetch, appended, AnswersWrite, seen_after, count_after, AnswersTake}
+use Rattle.std.proofs.Common.{◌≡◌, ◌≤◌, ◌<◌, ℕ, true, false, List, [], ◌∷◌, Some, None, unwrap_or, slice_index, codes, refl, ap, arith}
+use Rattle.merc_base.specs.Outside.{piece_limit, Files, file_named, IsPiece, FetchesFrom, CountsFetch, AnswersFetch, SinkState, appended, AnswersWrite, seen_after, count_after, AnswersTake}
 use Rattle.merc_base.specs.declared.outside.Fetched.TheVariants.{Got, End, Absent, Failed as FetchFailed}
 use Rattle.merc_base.specs.declared.outside.Wrote.TheVariants.{Took, Failed as WriteFailed}
 use Rattle.merc_base.specs.declared.outside.TapEvent.{TapEvent}
@@ -73,15 +73,37 @@ appended-untold = refl
 pub appended-in_front : appended (Some (codes "ab")) (codes "c") ≡ Some (codes "cab") → ⊥
 appended-in_front h = let first : ◌≡◌ {A = ℕ} 97 99 = ap (λ bytes. slice_index (unwrap_or bytes []) 0) h in omega arith
 
-pub AnswersWrite-front : AnswersWrite (codes "abc") (Some (codes "x")) (Some (codes "xab")) 0 0 (Took 2)
-AnswersWrite-front = (omega arith, λ _. omega arith, refl, refl)
+-- a sink with `x` in it, which was given in one piece
+abbrev sink_with : List ℕ → List (List ℕ) → ℕ → SinkState
+sink_with written given faults = record { written = Some written; given = Some given; faults = faults }
 
--- a sink that takes nothing has failed
-pub AnswersWrite-nothing : AnswersWrite (codes "abc") (Some (codes "x")) (Some (codes "x")) 0 0 (Took 0) → ⊥
-AnswersWrite-nothing h = let some = h.1 (omega arith) in omega arith
+abbrev sink : SinkState
+sink = sink_with (codes "x") (codes "x" ∷ []) 0
 
-pub AnswersWrite-failed_late : AnswersWrite (codes "abc") (Some (codes "x")) (Some (codes "xa")) 0 1 WriteFailed → ⊥
-AnswersWrite-failed_late h = let same = h.0 in cc
+-- a part of the piece was taken; it counts as it was given
+pub AnswersWrite-front : AnswersWrite (codes "abc") sink (sink_with (codes "xab") (codes "x" ∷ codes "abc" ∷ []) 0) (Took 2)
+AnswersWrite-front = (omega arith, λ _. omega arith, refl, refl, refl)
+
+pub AnswersWrite-part_given : AnswersWrite (codes "abc") sink (sink_with (codes "xab") (codes "x" ∷ codes "ab" ∷ []) 0) (Took 2) → ⊥
+AnswersWrite-part_given h = let given : Some (codes "x" ∷ codes "ab" ∷ []) ≡ Some (codes "x" ∷ codes "abc" ∷ []) = h.3 in cc
+
+-- a part of the piece is taken at least
+pub AnswersWrite-nothing : AnswersWrite (codes "abc") sink sink (Took 0) → ⊥
+AnswersWrite-nothing h = let some : 1 ≤ 0 = h.1 (omega arith) in omega arith
+
+pub AnswersWrite-failed : AnswersWrite (codes "abc") sink (sink_with (codes "x") (codes "x" ∷ []) 1) WriteFailed
+AnswersWrite-failed = (refl, refl, omega arith)
+
+pub AnswersWrite-uncounted : AnswersWrite (codes "abc") sink sink WriteFailed → ⊥
+AnswersWrite-uncounted h = let counted : 0 < 0 = h.2 in omega arith
+
+-- a failed write takes nothing
+pub AnswersWrite-failed_part : AnswersWrite (codes "abc") sink (sink_with (codes "xa") (codes "x" ∷ []) 1) WriteFailed → ⊥
+AnswersWrite-failed_part h = let written : Some (codes "xa") ≡ Some (codes "x") = h.0 in cc
+
+-- a sink that tells nothing but its faults
+pub AnswersWrite-untold : AnswersWrite (codes "abc") (record { written = None; given = None; faults = 2 }) (record { written = None; given = None; faults = 2 }) (Took 3)
+AnswersWrite-untold = (omega arith, λ _. omega arith, refl, refl, refl)
 
 -- a run's end with one answer
 abbrev finish : TapEvent

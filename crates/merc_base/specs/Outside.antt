@@ -60,15 +60,22 @@ pub record AnswersFetch (told : Option Files) (name : List ℕ) (at before now :
   pub content : IfSome told (λ files. FetchesFrom (file_named name files) at answer bytes)
   pub count : CountsFetch told answer before now
 
--- what a sink holds after these bytes, if it tells that
-abbrev pub appended : Option (List ℕ) → List ℕ → Option (List ℕ)
-appended None bytes = None
-appended (Some old) bytes = Some (old ++ bytes)
+-- What is told of a sink: the bytes that it took, and each piece of which it took any, as it was given. How often writing has failed is always told.
+pub record SinkState : Type 0 where
+  pub written : Option (List ℕ)
+  pub given : Option (List (List ℕ))
+  pub faults : ℕ
+
+-- a list that is told with these behind it; one that is not told stays so
+abbrev pub appended : {T : Type 0} → Option (List T) → List T → Option (List T)
+appended None more = None
+appended (Some old) more = Some (old ++ more)
 
 -- of a piece that is not empty at least one byte is taken; a failed write takes nothing and raises the count
-abbrev pub AnswersWrite : List ℕ → Option (List ℕ) → Option (List ℕ) → ℕ → ℕ → Wrote → Type 0
-AnswersWrite bytes old new before now (Took n) = (n ≤ length bytes) × (0 < length bytes → 1 ≤ n) × (new ≡ appended old (take n bytes)) × (now ≡ before)
-AnswersWrite bytes old new before now WriteFailed = (new ≡ old) × (before < now)
+abbrev pub AnswersWrite : List ℕ → SinkState → SinkState → Wrote → Type 0
+AnswersWrite piece old new (Took n) =
+    (n ≤ length piece) × (0 < length piece → 1 ≤ n) × (new.written ≡ appended old.written (take n piece)) × (new.given ≡ appended old.given (piece ∷ [])) × (new.faults ≡ old.faults)
+AnswersWrite piece old new WriteFailed = (new.written ≡ old.written) × (new.given ≡ old.given) × (old.faults < new.faults)
 
 -- what a tap has seen after this event, if it tells that
 abbrev pub seen_after : Option (List TapEvent) → TapEvent → Option (List TapEvent)

@@ -1,7 +1,7 @@
 //! The outside world, as traits: a shelf of files to read, a sink to write to, a gate that conjuncts enter,
 //! and taps that hear of solutions. Each but the gate counts its faults, and the count never falls.
 ghost use Rattle.std.specs.Prelude.{◌≡◌, ◌<◌, ℕ, Bool, List, Option, false};
-ghost use Rattle.merc_base.specs.Outside.{Files, AnswersFetch, AnswersWrite, AnswersTake};
+ghost use Rattle.merc_base.specs.Outside.{Files, SinkState, AnswersFetch, AnswersWrite, AnswersTake};
 
 use crate::{Buffer, Text};
 
@@ -46,16 +46,13 @@ pub enum Wrote {
 
 /// A place that bytes are written to.
 pub trait Sink {
-    /// The bytes so far, if the sink tells them.
-    ghost written: { Self → Option (List ℕ) };
-
-    /// How often writing has failed.
-    ghost write_faults: { Self → ℕ };
+    /// What the sink took so far, as far as it tells that, and how often writing has failed.
+    ghost sink_state: { Self → SinkState };
 
     /// Writes bytes from the front of a piece.
-    fn write(&mut self, bytes: &[u8]) -> Wrote
-        requires { write_faults self.old < 18446744073709551615 }
-        ensures { AnswersWrite bytes.now (written self.old) (written self.new) (write_faults self.old) (write_faults self.new) result };
+    fn write(&mut self, piece: &[u8]) -> Wrote
+        requires { (sink_state self.old).faults < 18446744073709551615 }
+        ensures { AnswersWrite piece.now (sink_state self.old) (sink_state self.new) result };
 }
 
 /// What each conjunct that a worker starts passes once. It carries no clause.
