@@ -14,7 +14,7 @@ use Rattle.merc_top.specs.declared.answering.Trouble.TheVariants.{Unread, NoMemo
 use Rattle.merc_transfer.specs.Statuses.{limit_status, unread_status, too_long_status}
 use Rattle.merc_top.specs.Output.{IsAskedRun, IsCheckDue, IsDue, IsOutput, refusal_line}
 use Rattle.merc_top.specs.Answer.{AreFiles, NamesAbsent}
-use Rattle.merc_top.specs.Counting.{AsksRun}
+use Rattle.merc_top.specs.Asking.{AsksRun}
 use Rattle.merc_solving.specs.Ready.{IsReady}
 
 -- The one line of a refusal, and this status. Where memory was refused, nothing is due.

@@ -2,5 +2,6 @@ pub mod Words
 pub mod Checking
 pub mod Output
 pub mod Answer
-pub mod Counting
+pub mod Asking
+pub mod Truth
 pub mod Due

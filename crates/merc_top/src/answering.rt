@@ -9,7 +9,6 @@ ghost use Rattle.merc_top.specs.Checking.{check_lines};
 ghost use Rattle.merc_top.specs.Output.{IsCheckDue, too_long_line};
 ghost use Rattle.merc_transfer.specs.Statuses.{accepted_status, too_long_status, usage_status};
 ghost use Rattle.merc_top.specs.Words.{usage_line};
-ghost use Rattle.merc_top.specs.Counting.{Counts};
 ghost use Rattle.merc_top.specs.Due.{Finds, IsFaultDue, IsRequestFound, IsSolveFound};
 ghost use Rattle.merc_top.specs.Answer.{Answers};
 
@@ -239,13 +238,12 @@ pub fn answer<R: Threads + Wait, S: Shelf, K: Sink, G: Gate + Sync>(
     ticks: &mut Ticks,
 ) -> u8
     requires shelf { S.read_faults shelf.old < 18446744073709551615 }
-    requires sink { K.write_faults sink.old < 18446744073709551615 }
+    requires sink { (K.sink_state sink.old).faults < 18446744073709551615 }
     requires taps { All (λ tap. is_over tap ≡ false → tap_faults tap < 18446744073709551615) taps.old.items }
     requires ticks { ticks.old ≡ 0 }
     ensures same_files { S.files shelf.new ≡ S.files shelf.old }
     ensures same_taps { taps.new.items ≡ taps.old.items }
-    ensures answers { Answers words.now (S.files shelf.old) (S.read_faults shelf.old) (S.read_faults shelf.new) (K.written sink.old) (K.written sink.new) (K.write_faults sink.old) (K.write_faults sink.new) result }
-    ensures counts { Counts words.now (S.files shelf.old) (S.read_faults shelf.old) (S.read_faults shelf.new) (K.write_faults sink.old) (K.write_faults sink.new) result ticks.new }
+    ensures answers { Answers words.now (S.files shelf.old) (S.read_faults shelf.old) (S.read_faults shelf.new) (K.sink_state sink.old) (K.sink_state sink.new) ticks.new result }
 {
     match find_due(alloc, words, shelf) {
         Ok(Found::Lines(due)) => {
