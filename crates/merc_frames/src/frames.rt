@@ -131,17 +131,6 @@ impl Frames {
         self.saved[self.height - 1].place
     }
 
-    /// The place where the newest caller goes on; `None` without a caller.
-    pub fn newest_place(&self) -> Option<usize>
-        ensures { result ≡ caller_place self.now.stacks.callers }
-    {
-        if self.height == 0 {
-            None
-        } else {
-            Some(self.saved[self.height - 1].place)
-        }
-    }
-
     /// A call: the current frame is the newest caller's, which goes on at `place`, and the current one is new. It has `size`
     /// slots, with what is passed over what is left there, which is nothing where it is emptied. Where memory is refused,
     /// no frame, caller or choice point changes.

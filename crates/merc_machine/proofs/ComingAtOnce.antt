@@ -37,7 +37,7 @@ use Rattle.merc_store.specs.declared.store.Done.TheVariants.{Bound}
 use Rattle.merc_machine.specs.declared.machine.Machine.{Machine}
 use Rattle.merc_machine.specs.declared.machine.Phase.TheVariants.{Running}
 use Rattle.merc_machine.specs.BaseCases.{IsGiven, Tells, given_first}
-use Rattle.merc_machine.specs.Coming.{ComesBy, Proceeds, counts, moves_on, stays}
+use Rattle.merc_machine.specs.Coming.{ComesAtOnce, Proceeds, moves, ticks}
 use Rattle.merc_machine.specs.Event.{Move, Tick}
 use Rattle.merc_machine.specs.Outputs.{FollowsCall}
 use Rattle.merc_machine.proofs.Asking.{AreAsked, condition_fails, condition_holds, integer_asked, number_asked, variables_asked}
@@ -60,7 +60,7 @@ none_delivered : (outs : List ℕ) (slots : List Slot) → delivered outs [] slo
 none_delivered [] slots = refl
 none_delivered (out ∷ outs) slots = refl
 
-pub first_delivered : (outs : List ℕ) (slot : Slot) (slots : List Slot) → delivered outs (slot ∷ []) slots ≡ given_first outs slot slots
+first_delivered : (outs : List ℕ) (slot : Slot) (slots : List Slot) → delivered outs (slot ∷ []) slots ≡ given_first outs slot slots
 first_delivered [] slot slots = refl
 first_delivered (out ∷ outs) slot slots = none_delivered outs (slice_set slots out slot)
 
@@ -219,11 +219,11 @@ module _ (machine : Machine) (place : ℕ) (entry : Entry) (passes : List Pass) 
     pub enters_at_once : (not entry.is_clean ≡ true → left ≡ empty_frame entry.size) → slice_get ops place ≡ Some (CallSum entry passes sum) → TellsSum machine.store sum.variable sum.from sum.number (Some integer)
         → machine.left ≡ suc remaining → (base : BaseCase) → IsBaseCase ops (CallSum entry passes sum) base → Tells integer slots base.test false
         → (there : ℕ) → drop there ops ≡ drop (suc (entry.place + suc base.skipped)) ops → (after : StoreData) → after ≡ entered_store
-        → ComesBy (running_at machine place) 1 (record machine { store = after; phase = Running there; left = remaining })
+        → ComesAtOnce (running_at machine place) (record machine { store = after; phase = Running there; left = remaining })
     enters_at_once emptied found told some_left base case tells there further after after_is =
         let b = begins_so ops entry passes sum (CallSum entry passes sum) base case refl in
-        subst (λ store. ComesBy (running_at machine place) 1 (record machine { store = store; phase = Running there; left = remaining })) (sym after_is)
-        (moves_on 1 (entered_at entry.place) (entered_at there) (counts 0 (running_at machine place) (entered_at entry.place) stays (calls room emptied found told some_left)) (test_fails base.test b.0 base.skipped b.1 tells there further))
+        subst (λ store. ComesAtOnce (running_at machine place) (record machine { store = store; phase = Running there; left = remaining })) (sym after_is)
+        (moves (entered_at entry.place) (entered_at there) (ticks (entered_at entry.place) (calls room emptied found told some_left)) (test_fails base.test b.0 base.skipped b.1 tells there further))
 
 -- a store of these, with an integer in a slot of the frame
 abbrev store_with : ℕ → ℤ → List CellData → List Slot → List Caller → List ChoicePoint → StoreData
@@ -247,7 +247,7 @@ pub comes_back_at_once : (machine : Machine) (place : ℕ) (entry : Entry) (pass
     → machine.left ≡ suc remaining → (base : BaseCase) → IsBaseCase machine.program.now.ops.items (CallSum entry passes sum) base → Tells integer machine.store.stacks.current base.test true
     → (word : Word) → IsGiven integer machine.store.stacks.current base.given word → (outs : List ℕ) → ((behind : FollowsCall machine.program.now.ops.items (place + 3)) → outs ≡ behind.outs)
     → (after : StoreData) → after ≡ with_current machine.store (given_first outs (holding word) machine.store.stacks.current)
-    → ComesBy (running_at machine place) 1 (record machine { store = after; phase = Running (place + 3); left = remaining })
+    → ComesAtOnce (running_at machine place) (record machine { store = after; phase = Running (place + 3); left = remaining })
 comes_back_at_once machine place entry passes sum integer remaining received slot_there sound found told some_left base case tells word given_is outs given_to after after_is =
     let left : List Slot = empty_frame entry.size in
     let room = empty_length entry.size in
@@ -255,7 +255,7 @@ comes_back_at_once machine place entry passes sum integer remaining received slo
     let entered : ℕ → Machine = entered_at machine place entry passes sum integer remaining left in
     let b = begins_so machine.program.now.ops.items entry passes sum (CallSum entry passes sum) base case refl in
     let behind : Machine = record machine { store = after; phase = Running (place + 3); left = remaining } in
-    moves_on 1 (entered b.0) behind
-    (moves_on 1 (entered entry.place) (entered b.0) (counts 0 (running_at machine place) (entered entry.place) stays (calls machine place entry passes sum integer remaining left room (λ emptied. refl) found told some_left))
+    moves (entered b.0) behind
+    (moves (entered entry.place) (entered b.0) (ticks (entered entry.place) (calls machine place entry passes sum integer remaining left room (λ emptied. refl) found told some_left))
     (test_holds machine place entry passes sum integer remaining left room received slot_there base.test b.0 base.skipped b.1 tells))
     (gives_back machine place entry passes sum integer remaining left room received slot_there sound below b.0 base.given word b.2 given_is outs given_to after after_is)

@@ -29,11 +29,11 @@ use Rattle.merc_store.specs.Performing.{TellsSum}
 use Rattle.merc_store.proofs.NumberLemmas.{operate_number_does}
 use Rattle.merc_machine.specs.declared.machine.Machine.{Machine}
 use Rattle.merc_machine.specs.declared.machine.Phase.TheVariants.{Running}
-use Rattle.merc_machine.specs.Coming.{Acts, ComesBy, IsStanding}
+use Rattle.merc_machine.specs.Coming.{Acts, ComesAtOnce, IsStanding, Proceeds, ticks as ticks_at_once, moves as moves_at_once}
+use Rattle.merc_machine.specs.Event.{Tick}
 use Rattle.merc_machine.specs.declared.machine.Next.TheVariants.{Tick as TickNext}
 use Rattle.merc_machine.specs.Outputs.{FollowsCall}
 use Rattle.merc_machine.proofs.ComingAtOnce.{comes_back_at_once, enters_at_once}
-use Rattle.merc_machine.proofs.ComingByExamples.{comes_by-not, counts_not}
 
 -- The code at place 4 is entered with a sum that is one less than the caller's first variable, and with its second variable.
 abbrev base : Entry
@@ -95,7 +95,7 @@ module _ (machine : Machine) where
   there test fifth sixth same place op is = ap (λ (those : List Op). slice_get those place) same ∙ is
 
   -- As 1 is less than 2, the sum is the result.
-  sum-comes_back : Holds (IfCompareNumber Less 0 (pos 2) 9) FailOp (ReturnCopy 2 0) → ComesBy (record before { phase = Running 0 }) 1 (behind (IntSlot (pos 1)))
+  sum-comes_back : Holds (IfCompareNumber Less 0 (pos 2) 9) FailOp (ReturnCopy 2 0) → ComesAtOnce (record before { phase = Running 0 }) (behind (IntSlot (pos 1)))
   sum-comes_back same =
       let test : Op = IfCompareNumber Less 0 (pos 2) 9 in
       let last : Op = ReturnCopy 2 0 in
@@ -105,7 +105,7 @@ module _ (machine : Machine) where
       (outputs_of test FailOp last machine.program.now.ops.items same) (store_of (IntSlot (pos 1))) refl
 
   -- As 1 is at most 6, the second variable's value is.
-  variable-comes_back : Holds (IfCompareVariables AtMost 0 1 9) (ReturnCopy 2 1) FailOp → ComesBy (record before { phase = Running 0 }) 1 (behind (IntSlot (pos 6)))
+  variable-comes_back : Holds (IfCompareVariables AtMost 0 1 9) (ReturnCopy 2 1) FailOp → ComesAtOnce (record before { phase = Running 0 }) (behind (IntSlot (pos 6)))
   variable-comes_back same =
       let test : Op = IfCompareVariables AtMost 0 1 9 in
       let last : Op = ReturnCopy 2 1 in
@@ -128,7 +128,7 @@ module _ (machine : Machine) where
   entered = record machine { store = entered_store; phase = Running 9; left = 6 }
 
   -- As 1 is not less than 1, the code goes on three instructions further than behind the mark and the choice point.
-  sum-enters : Holds (IfCompareNumber Less 0 (pos 1) 3) FailOp (ReturnCopy 2 0) → ComesBy (record before { phase = Running 0 }) 1 entered
+  sum-enters : Holds (IfCompareNumber Less 0 (pos 1) 3) FailOp (ReturnCopy 2 0) → ComesAtOnce (record before { phase = Running 0 }) entered
   sum-enters same =
       let test : Op = IfCompareNumber Less 0 (pos 1) 3 in
       let last : Op = ReturnCopy 2 0 in
@@ -137,7 +137,7 @@ module _ (machine : Machine) where
       case (begins base second less case 9 (compares_number Less (pos 1) 3 (there test FailOp last same 4 test refl)) (the_sum 2 (there test FailOp last same 9 last refl))) refl 9 refl entered_store refl
 
   -- As 1 is not 0, the code goes on there too behind such a test, which stands for one instruction less.
-  integer-enters : Holds (IfInteger 0 (pos 0) 3) (ReturnCopy 2 0) FailOp → ComesBy (record before { phase = Running 0 }) 1 entered
+  integer-enters : Holds (IfInteger 0 (pos 0) 3) (ReturnCopy 2 0) FailOp → ComesAtOnce (record before { phase = Running 0 }) entered
   integer-enters same =
       let test : Op = IfInteger 0 (pos 0) 3 in
       let last : Op = ReturnCopy 2 0 in
@@ -146,7 +146,7 @@ module _ (machine : Machine) where
       case (begins base second less case 8 (tests_integer (pos 0) 3 (there test last FailOp same 4 test refl)) (the_sum 2 (there test last FailOp same 8 last refl))) refl 9 refl entered_store refl
 
   -- 1 is not at least 6, the second variable's value.
-  variable-enters : Holds (IfCompareVariables AtLeast 0 1 3) (ReturnCopy 2 1) FailOp → ComesBy (record before { phase = Running 0 }) 1 entered
+  variable-enters : Holds (IfCompareVariables AtLeast 0 1 3) (ReturnCopy 2 1) FailOp → ComesAtOnce (record before { phase = Running 0 }) entered
   variable-enters same =
       let test : Op = IfCompareVariables AtLeast 0 1 3 in
       let last : Op = ReturnCopy 2 1 in
@@ -157,18 +157,48 @@ module _ (machine : Machine) where
 
   -- The call comes to the place behind it, as a step that counts.
   sum-acts : Holds (IfCompareNumber Less 0 (pos 2) 9) FailOp (ReturnCopy 2 0) → Acts before 0 (TickNext 3) (behind (IntSlot (pos 1)))
-  sum-acts same = inr (3, 0, refl, sum-comes_back same)
+  sum-acts same = inr (3, refl, sum-comes_back same)
 
   -- The other comes to the place where the code goes on.
   enters-acts : Holds (IfCompareNumber Less 0 (pos 1) 3) FailOp (ReturnCopy 2 0) → Acts before 0 (TickNext 9) entered
-  enters-acts same = inr (9, 0, refl, sum-enters same)
+  enters-acts same = inr (9, refl, sum-enters same)
 
--- An instruction comes to no step that counts, neither by itself nor by several at once, where the machine stands for code that answers.
+-- Code that answers comes by moves to no other state ..
+
+stays_there : (codes : Codes) (count : ℕ) (state last : State) (values : Env) (next : State) → step_lean codes state ≡ Answers values next → GoesLean codes count state last → count ≡ zero → state ≡ last
+stays_there codes _ _ _ values next answering (stays state) none = refl
+stays_there codes _ _ _ values next answering (goes_moves count state other last step goes) none = absurd cc
+stays_there codes _ _ _ values next answering (goes_ticks count state other last step goes) none = absurd cc
+
+answers_not_ticks : (codes : Codes) (made step : Step) (values : Env) (next other : State) → StepsAgree codes made step → step ≡ Answers values next → made ≡ Ticks other → ⊥
+answers_not_ticks codes _ _ values next other (stops end) is made = absurd cc
+answers_not_ticks codes _ _ values next other (moves state agreeing a) is made = absurd cc
+answers_not_ticks codes _ _ values next other (ticks state agreeing a) is made = absurd cc
+answers_not_ticks codes _ _ values next other (answers given state agreeing a) is made = absurd cc
+answers_not_ticks codes _ _ values next other stuck is made = absurd cc
+
+-- .. so that no step of a machine counts that stands for such code ..
+answers_first : (before after : Machine) (codes : Codes) (entry_of : Procedure → Entry) (query : Code) → IsLoaded before.program.now codes entry_of query
+    → (state : State) → IsStanding codes entry_of before state → (values : Env) (next : State) → step_lean codes state ≡ Answers values next → Proceeds before Tick after → ⊥
+answers_first before after codes entry_of query loaded state stands values next answering proceeds =
+    let here : (last : State) → GoesLean codes zero state last → step_lean codes last ≡ Answers values next
+    = λ last goes. ap (step_lean codes) (sym (stays_there codes zero state last values next answering goes refl)) ∙ answering in
+    let made = proceeds codes entry_of query loaded state stands (λ last goes is. let e = here last goes in absurd cc) in
+    let to = made.1.1 in
+    answers_not_ticks codes made.1.0 (step_lean codes to.before) values next made.1.2.0 to.agrees (here to.before to.goes) made.1.2.1
+
+-- .. and the machine does not come at once to where such a step would bring it.
+pub answer-not : (before after : Machine) (codes : Codes) (entry_of : Procedure → Entry) (query : Code) → IsLoaded before.program.now codes entry_of query
+    → (state : State) → IsStanding codes entry_of before state → (values : Env) (next : State) → step_lean codes state ≡ Answers values next → ComesAtOnce before after → ⊥
+answer-not before _ codes entry_of query loaded state stands values next answering (ticks_at_once after calls) = answers_first before after codes entry_of query loaded state stands values next answering calls
+answer-not before _ codes entry_of query loaded state stands values next answering (moves_at_once between after comes proceeds) =
+    answer-not before between codes entry_of query loaded state stands values next answering comes
+
+-- Its instruction comes to no step that counts, neither by itself nor by several at once.
 pub acts-not : (machine after : Machine) (place there : ℕ) (codes : Codes) (entry_of : Procedure → Entry) (query : Code) → IsLoaded machine.program.now codes entry_of query
     → (state : State) → IsStanding codes entry_of (record machine { phase = Running place }) state → (values : Env) (next : State) → step_lean codes state ≡ Answers values next
     → Acts machine place (TickNext there) after → ⊥
 acts-not machine after place there codes entry_of query loaded state stands values next answering (inl proceeds) =
-    counts_not (record machine { phase = Running place }) codes entry_of query loaded state stands values next answering (record after { phase = Running there }) proceeds
+    answers_first (record machine { phase = Running place }) (record after { phase = Running there }) codes entry_of query loaded state stands values next answering proceeds
 acts-not machine after place there codes entry_of query loaded state stands values next answering (inr once) =
-    let none = (comes_by-not (record machine { phase = Running place }) codes entry_of query loaded state stands values next answering (suc once.1) (record after { phase = Running once.0 }) once.3).0 in
-    absurd (omega (arith, none))
+    answer-not (record machine { phase = Running place }) (record after { phase = Running once.0 }) codes entry_of query loaded state stands values next answering once.2

@@ -1,6 +1,4 @@
-pub mod Acting
 pub mod Advancing
-pub mod Appending
 pub mod Asking
 pub mod Attempts
 pub mod BaseSlots
@@ -13,16 +11,10 @@ pub mod Combining
 pub mod ComingAtOnce
 pub mod ComingAtOnceExamples
 pub mod ComingBack
-pub mod ComingBy
-pub mod ComingByExamples
 pub mod Continuing
 pub mod Counting
 pub mod Deciding
 pub mod Delivering
-pub mod Dividing
-pub mod DividingAtOnce
-pub mod DividingExamples
-pub mod DividingSteps
 pub mod Entering
 pub mod Fitting
 pub mod Going
@@ -38,7 +30,6 @@ pub mod Leaving
 pub mod LeftOver
 pub mod Linking
 pub mod LookedAt
-pub mod MakingCalls
 pub mod Marking
 pub mod Passing
 pub mod Pausing
@@ -54,13 +45,10 @@ pub mod Separate
 pub mod Shown
 pub mod Silent
 pub mod Slots
-pub mod SoundSteps
 pub mod Standings
 pub mod Starting
 pub mod Superinstructions
 pub mod Switching
 pub mod SwitchingFields
 pub mod TakingApart
-pub mod WalkingAtOnce
-pub mod WalkingExamples
 pub mod Weighing

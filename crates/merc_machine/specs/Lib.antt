@@ -2,7 +2,6 @@ pub mod BaseCases
 pub mod BaseCasesExamples
 pub mod Coming
 pub mod ComingExamples
-pub mod Dividing
 pub mod Event
 pub mod EventExamples
 pub mod Outputs
@@ -11,6 +10,5 @@ pub mod Running
 pub mod RunningExamples
 pub mod Standing
 pub mod StandingExamples
-pub mod Walking
 pub mod Weight
 pub mod WeightExamples

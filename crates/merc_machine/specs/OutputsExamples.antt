@@ -10,7 +10,7 @@ use Rattle.merc_frames.specs.Stacks.{Caller}
 use Rattle.merc_layout.specs.declared.entries.Entry.{Entry}
 use Rattle.merc_load.specs.declared.loaded.Op.{Op}
 use Rattle.merc_load.specs.declared.loaded.Sum.{Sum}
-use Rattle.merc_load.specs.declared.loaded.Op.TheVariants.{Call as CallOp, CallSum, Fail as FailOp, Return as ReturnOp, SwitchList}
+use Rattle.merc_load.specs.declared.loaded.Op.TheVariants.{Call as CallOp, CallSum, Fail as FailOp, Return as ReturnOp}
 use Rattle.merc_machine.specs.Outputs.{FitsCallers, FitsSum, FollowsCall, HasCaller}
 
 abbrev called : Entry
@@ -86,14 +86,6 @@ fits-example = tt
 
 fits-not : FitsCallers ops [] (ReturnOp []) → ⊥
 fits-not has = has-none has
-
--- A switch on a list may stand in the goal that is asked, which nobody called; a caller behind whom no call stands does not fit it.
-
-switch-alone : FitsCallers ops [] (SwitchList 0 1 2 0 1)
-switch-alone some = absurd (some refl)
-
-switch-not : FitsCallers ops (waiting 2 two) (SwitchList 0 1 2 0 1) → ⊥
-switch-not fits = has-elsewhere (fits (λ none. absurd cc))
 
 -- A call that passes a sum, which stands over two instructions, and the call behind these.
 abbrev less : Sum

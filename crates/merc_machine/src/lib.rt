@@ -13,7 +13,6 @@ mod results;
 pub mod running;
 mod stepping;
 mod trying;
-mod walking;
 
 pub use machine::Machine;
 pub use running::{Stop, Ticks};

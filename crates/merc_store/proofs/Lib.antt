@@ -7,9 +7,6 @@ pub mod SoundLemmas
 pub mod DoingLemmas
 pub mod EffectLemmas
 pub mod KindLemmas
-pub mod AppendingLemmas
-pub mod AppendingExamples
-pub mod AppendingLaws
 pub mod ArmLemmas
 pub mod ReadingLemmas
 pub mod FillLemmas
@@ -20,9 +17,6 @@ pub mod ReturningLemmas
 pub mod ResultsExamples
 pub mod TryingLemmas
 pub mod DifferingLemmas
-pub mod DividingLemmas
-pub mod DividingExamples
-pub mod DividingLaws
 pub mod SeveralLemmas
 pub mod RestoringLemmas
 pub mod StayingLemmas

@@ -1,4 +1,3 @@
-pub mod Appending
 pub mod Arms
 pub mod ArmsExamples
 pub mod Data
@@ -11,7 +10,6 @@ pub mod MovesExamples
 pub mod DataExamples
 pub mod Differing
 pub mod DifferingExamples
-pub mod Dividing
 pub mod Performing
 pub mod PerformingExamples
 pub mod Results

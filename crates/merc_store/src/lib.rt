@@ -1,12 +1,10 @@
 //! The memory of a run: a heap, and frames whose slots stand for values over it.
 #![tactic(auto)]
 
-pub mod appending;
 pub mod arms;
 mod building;
 mod carrying;
 pub mod constants;
-pub mod dividing;
 pub mod moving;
 pub mod performing;
 pub mod returning;
@@ -16,5 +14,4 @@ pub mod store;
 mod testing;
 pub mod trying;
 
-pub use dividing::Divided;
 pub use store::{Backed, Done, Store};

@@ -76,13 +76,6 @@ impl Store {
         self.frames.caller_place()
     }
 
-    /// Where the newest caller goes on; `None` without a caller.
-    pub fn newest_place(&self) -> Option<usize>
-        ensures { result ≡ caller_place self.now.stacks.callers }
-    {
-        self.frames.newest_place()
-    }
-
     /// Goes back to the newest caller. There has to be one. What these own slots hold is put into its slots, one for one.
     ///
     /// # Errors

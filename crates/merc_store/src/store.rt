@@ -1,6 +1,5 @@
 //! The store of a run: its heap and its frames.
 ghost use Rattle.std.specs.Prelude.{◌≡◌, []};
-ghost use Rattle.merc_value.specs.Block.{AreLower};
 ghost use Rattle.merc_store.specs.Data.{IsSound};
 
 use merc_base::Name;
@@ -40,10 +39,8 @@ pub struct Store {
     pub(crate) heap: Heap,
     // what slots held before several instructions, which have it again where one of them fails
     pub(crate) carried: Vec<Slot>,
-    // the words of the arguments of what is built, and of the items of a list
+    // the words of the arguments of what is built
     pub(crate) words: Vec<Word>,
-    // the items of a list that is divided
-    pub(crate) integers: Vec<i64>,
 }
 
 impl Model for Store {
@@ -68,7 +65,6 @@ impl Store {
             frames: Frames::new(alloc),
             carried: Vec::new(alloc),
             words: Vec::new(alloc),
-            integers: Vec::new(alloc),
         }
     }
 
@@ -78,13 +74,5 @@ impl Store {
         ensures { IsSound self.now.cells self.now.stacks }
     {
         self.frames.held();
-    }
-
-    /// A law for proofs, which does nothing at run time: each cell leads to lower ones alone.
-    #[inline(always)]
-    pub fn lower(&self)
-        ensures { AreLower self.now.cells }
-    {
-        let _ = self.heap.arity(Word::Int(0));
     }
 }
