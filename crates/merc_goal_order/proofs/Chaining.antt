@@ -23,7 +23,7 @@ use Rattle.merc_simple_goals.specs.Writing.{IsWritten, Gives}
 use Rattle.merc_goal_facts.specs.Outside.{IsStretch}
 use Rattle.merc_readiness.specs.Sweeps.{AreKnownFrom}
 use Rattle.merc_simple_goals.specs.declared.written.Written.{Written}
-use Rattle.merc_agenda.proofs.Stretches.{stretch_front, stretch_back, known_next, next_stretch, place_is}
+use Rattle.merc_goal_order.proofs.Stretches.{stretch_front, stretch_back, known_next, next_stretch, place_is}
 use Rattle.merc_goal_order.specs.Linked.{ending, Guarded, GuardGives, Chain, outermost, inside, Within, Closing, CloseGives}
 use Rattle.merc_goal_order.specs.Walks.{AreWritten}
 use Rattle.merc_goal_facts.specs.declared.facts.Facts.{Facts}

@@ -13,7 +13,7 @@ use Rattle.merc_order.specs.Ordered.{is_ready}
 use Rattle.merc_goal_facts.specs.Facts.{AreFactsOf, all_subgoals}
 use Rattle.merc_goal_facts.specs.declared.facts.Facts.{Facts}
 use Rattle.merc_readiness.specs.Sweeps.{AreKnownFrom}
-use Rattle.merc_agenda.proofs.Stretches.{known_next}
+use Rattle.merc_goal_order.proofs.Stretches.{known_next}
 use Rattle.merc_goal_order.proofs.Agreeing.{Agree, from_same}
 
 none_passes : (test : ℕ → Bool) (list : List ℕ) (variable : ℕ) → list_any test list ≡ false → among list variable ≡ true → test variable ≡ false

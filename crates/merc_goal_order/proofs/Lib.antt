@@ -1,3 +1,6 @@
+pub mod Stretches
+pub mod Positions
+pub mod Awaiting
 pub mod Emitted
 pub mod Walked
 pub mod Settling

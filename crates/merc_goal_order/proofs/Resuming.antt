@@ -18,7 +18,7 @@ use Rattle.merc_readiness.specs.Asking.{flags_of, joined_by, Fits, more}
 use Rattle.merc_goal_facts.proofs.Bounds.{among-append, or_false}
 use Rattle.merc_readiness.proofs.Marking.{marks_length}
 use Rattle.merc_readiness.proofs.Rounds.{deeper, head_is, kept_front, unless_more}
-use Rattle.merc_agenda.proofs.Stretches.{stretch_front}
+use Rattle.merc_goal_order.proofs.Stretches.{stretch_front}
 use Rattle.merc_goal_order.specs.Conjuncts.{went_at, AskedAreStuck}
 use Rattle.merc_goal_order.proofs.Agreeing.{Agree}
 

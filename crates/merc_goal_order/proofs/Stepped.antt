@@ -25,15 +25,15 @@ use Rattle.merc_readiness.specs.Asking.{flags_of, joined_by, Fits, more, IsMarke
 use Rattle.merc_readiness.specs.Sweeps.{Extends, AreKnownFrom}
 use Rattle.merc_simple_goals.specs.Writing.{Gives}
 use Rattle.merc_simple_goals.specs.declared.written.Written.{Written}
-use Rattle.merc_agenda.specs.Agenda.{start_at, Ascends, inside, awaits, IsTaken, AwaitsAgain}
+use Rattle.merc_goal_order.specs.Agenda.{start_at, Ascends, inside, awaits, IsTaken, AwaitsAgain}
 use Rattle.merc_readiness.proofs.Rounds.{head_is}
-use Rattle.merc_agenda.proofs.Positions.{at_is, index_within, variables_next, variables_longer, rest_from}
-use Rattle.merc_agenda.proofs.Stretches.{known_next, next_stretch}
+use Rattle.merc_goal_order.proofs.Positions.{at_is, index_within, variables_next, variables_longer, rest_from}
+use Rattle.merc_goal_order.proofs.Stretches.{known_next, next_stretch}
 use Rattle.merc_goal_order.specs.Conjuncts.{HasGone, Goes, Stays, GoesIfReady, TellsFirst, Passing, went_at, AskedAreStuck, Amid, AskGives, NextGives}
-use Rattle.merc_agenda.specs.Positions.{variables_before, IsAt, IsPlaced}
+use Rattle.merc_goal_order.specs.Positions.{variables_before, IsAt, IsPlaced}
 use Rattle.merc_goal_order.specs.Walks.{GivesAll, behind_them, all_settled}
-use Rattle.merc_agenda.specs.declared.agenda.Agenda.{Agenda}
-use Rattle.merc_agenda.specs.declared.agenda.Start.{Start}
+use Rattle.merc_goal_order.specs.declared.agenda.Agenda.{Agenda}
+use Rattle.merc_goal_order.specs.declared.agenda.Start.{Start}
 use Rattle.merc_readiness.proofs.Binding.{next_known, bound_behind}
 use Rattle.merc_readiness.proofs.Blank.{inner_marks, all_blank, all_blank_fits, all_blank_flags, all_left, left_sound}
 use Rattle.merc_readiness.proofs.Conjunctions.{left_length}

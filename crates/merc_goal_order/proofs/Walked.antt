@@ -16,7 +16,7 @@ use Rattle.merc_readiness.specs.Sweeps.{AreKnownFrom}
 use Rattle.merc_simple_goals.specs.Writing.{IsWritten, Gives}
 use Rattle.merc_simple_goals.specs.declared.written.Written.{Written}
 use Rattle.merc_goal_facts.specs.declared.facts.Facts.{Facts}
-use Rattle.merc_agenda.proofs.Stretches.{known_next, next_stretch}
+use Rattle.merc_goal_order.proofs.Stretches.{known_next, next_stretch}
 use Rattle.merc_goal_order.specs.Walks.{behind_them, GivesAll, Walked}
 use Rattle.merc_readiness.proofs.Binding.{next_known}
 use Rattle.merc_goal_order.proofs.Emitted.{behind_on, behind_ready, behind_stuck, none_written, written_on}

@@ -23,7 +23,7 @@ use Rattle.merc_readiness.specs.Sweeps.{Extends}
 use Rattle.merc_simple_goals.specs.Writing.{Gives}
 use Rattle.merc_simple_goals.specs.declared.written.Written.{Written}
 use Rattle.merc_goal_facts.specs.declared.facts.Facts.{Facts}
-use Rattle.merc_agenda.proofs.Positions.{next_item}
+use Rattle.merc_goal_order.proofs.Positions.{next_item}
 use Rattle.merc_goal_order.specs.Walks.{GivesAll, ordereds_of, all_settled}
 use Rattle.merc_goal_order.proofs.Emitted.{choice_written, sequence_written, beside_written, denial_written, within_written}
 use Rattle.merc_readiness.proofs.Marking.{known_split, known_length}

@@ -18,12 +18,12 @@ use Rattle.merc_readiness.specs.Asking.{IsMarked, Fits, flags_of, joined_by}
 use Rattle.merc_readiness.specs.Sweeps.{AreKnownFrom}
 use Rattle.merc_simple_goals.specs.Writing.{IsWritten, Gives}
 use Rattle.merc_simple_goals.specs.declared.written.Written.{Written}
-use Rattle.merc_agenda.specs.Agenda.{ArePlaced, awaits, IsTaken}
-use Rattle.merc_agenda.specs.Positions.{IsAt, IsPlaced}
+use Rattle.merc_goal_order.specs.Agenda.{ArePlaced, awaits, IsTaken}
+use Rattle.merc_goal_order.specs.Positions.{IsAt, IsPlaced}
 use Rattle.merc_goal_order.specs.Walks.{behind_them, AreWritten, all_settled}
-use Rattle.merc_agenda.specs.declared.agenda.Agenda.{Agenda}
+use Rattle.merc_goal_order.specs.declared.agenda.Agenda.{Agenda}
 use Rattle.merc_goal_facts.specs.declared.facts.Facts.{Facts}
-use Rattle.merc_agenda.specs.declared.agenda.Start.{Start}
+use Rattle.merc_goal_order.specs.declared.agenda.Start.{Start}
 
 -- A goal that went: its own mark says so, those of its parts say nothing.
 pub record HasGone (goal : Node) (flags : List Bool) : Type 0 where

@@ -9,7 +9,7 @@ use Rattle.merc_order.specs.Order.{from, moves}
 use Rattle.merc_order.specs.Ordered.{AllReady, OneStuck, is_ready}
 use Rattle.merc_readiness.specs.Asking.{Fits, none, more, flags_of}
 use Rattle.merc_simple_goals.specs.declared.written.Written.{Written}
-use Rattle.merc_agenda.specs.GoalsExamples.{no_modes, body, in_body, truth, unready, true_facts, true_known, no_stretch}
+use Rattle.merc_goal_order.specs.GoalsExamples.{no_modes, body, in_body, truth, unready, true_facts, true_known, no_stretch}
 use Rattle.merc_goal_order.specs.Conjuncts.{HasGone, Goes, Stays, GoesIfReady, TellsFirst, Passing, went_at, AskedAreStuck, Amid, AskGives, NextGives}
 use Rattle.merc_goal_order.specs.Walks.{ordereds_of}
 use Rattle.merc_goal_order.specs.WalksExamples.{never, done, clean, one, none_written, one_written}

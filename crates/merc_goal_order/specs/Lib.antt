@@ -1,3 +1,8 @@
+pub mod GoalsExamples
+pub mod Positions
+pub mod PositionsExamples
+pub mod Agenda
+pub mod AgendaExamples
 pub mod Walking
 pub mod WalkingExamples
 pub mod Walks

@@ -8,7 +8,7 @@ use Rattle.merc_order.specs.Faults.{unbound_output}
 use Rattle.merc_order.specs.Order.{from}
 use Rattle.merc_order.specs.Ordered.{Ordered, put, Decision, Ready, Stuck}
 use Rattle.merc_goal_facts.specs.Facts.{AreFactsOf}
-use Rattle.merc_agenda.specs.GoalsExamples.{no_modes, body, in_body, truth, unready, true_facts, true_known, no_stretch}
+use Rattle.merc_goal_order.specs.GoalsExamples.{no_modes, body, in_body, truth, unready, true_facts, true_known, no_stretch}
 use Rattle.merc_goal_order.specs.Linked.{IsConditional, ending, Guarded, GuardGives, Chain, outermost, inside, Within, Closing, CloseGives}
 use Rattle.merc_goal_facts.specs.Outside.{IsStretch}
 use Rattle.merc_goal_order.specs.WalksExamples.{never, done, clean, one, two, none_written, one_written}

@@ -4,7 +4,7 @@ use Rattle.merc_base.specs.declared.refusal.Fault.TheVariants.{Refused}
 use Rattle.merc_order.specs.Procedures.{modes_of}
 use Rattle.merc_goal_facts.specs.Facts.{AreFactsOf}
 use Rattle.merc_goal_facts.specs.declared.facts.Facts.{Facts}
-use Rattle.merc_agenda.specs.GoalsExamples.{body, in_body, truth, unready, true_facts, no_stretch}
+use Rattle.merc_goal_order.specs.GoalsExamples.{body, in_body, truth, unready, true_facts, no_stretch}
 use Rattle.merc_goal_order.specs.Walking.{Orders}
 use Rattle.merc_goal_order.specs.WalksExamples.{never, done, clean, one}
 

@@ -13,7 +13,7 @@ use Rattle.merc_order.specs.Ordered.{Ordered, put, Truth, Split, no_goals, more_
 use Rattle.merc_order.specs.Spelt.{spelt}
 use Rattle.merc_readiness.specs.Sweeps.{AreKnownFrom}
 use Rattle.merc_simple_goals.specs.declared.written.Written.{Written}
-use Rattle.merc_agenda.specs.GoalsExamples.{no_modes, body, in_body, truth, unready, true_facts, true_known, no_stretch}
+use Rattle.merc_goal_order.specs.GoalsExamples.{no_modes, body, in_body, truth, unready, true_facts, true_known, no_stretch}
 use Rattle.merc_goal_order.specs.Walks.{ordereds_of, behind_them, twins_in, spelt_list, AreWritten, AddsOne, AddsTwo, Adds, GivesAll, all_settled, OrdersAll, Walked}
 
 abbrev pub never : Refusal

@@ -2,14 +2,14 @@
 ghost use Rattle.std.specs.Prelude.{◌≡◌, ◌+◌, ◌≤◌, [], length, OnOk};
 ghost use Rattle.merc_goal_tree.specs.Nodes.{Conjunction, nodes_of};
 ghost use Rattle.merc_goal_tree.specs.Parts.{parts_of, all_parts};
-ghost use Rattle.merc_agenda.specs.Agenda.{IsSound, StandAt};
+ghost use Rattle.merc_goal_order.specs.Agenda.{IsSound, StandAt};
 ghost use Rattle.merc_goal_order.specs.Conjuncts.{MayGo, FirstTells, AsksOn, NextOn};
 ghost use Rattle.merc_readiness.specs.Sweeps.{Extends};
 ghost use Rattle.merc_goal_order.specs.Walking.{Orders};
 ghost use Rattle.merc_goal_order.specs.Walks.{AddsOne, Adds, OrdersAll, all_settled};
 
+use crate::agenda::{Agenda, Start};
 use crate::walking::{PlacedGoal, PlacedGoals, Setting, Whole, clear, walk};
-use merc_agenda::{Agenda, Start};
 use merc_base::Fault;
 use merc_goal_facts::{BoundSet, Facts};
 use merc_goal_tree::NodeRef;

@@ -1,6 +1,7 @@
 //! The order of a goal from what is bound, written out.
 #![tactic(auto)]
 
+mod agenda;
 mod conjuncts;
 mod disjuncts;
 mod links;

@@ -18,8 +18,8 @@ use Rattle.merc_order.specs.Procedures.{modes_of}
 use Rattle.merc_goal_facts.specs.Facts.{AreKnown, subgoals, all_subgoals}
 use Rattle.merc_simple_goals.specs.Writing.{Gives}
 use Rattle.merc_simple_goals.specs.declared.written.Written.{Written}
-use Rattle.merc_agenda.proofs.Positions.{next_item, some_parts}
-use Rattle.merc_agenda.proofs.Stretches.{stretch_front}
+use Rattle.merc_goal_order.proofs.Positions.{next_item, some_parts}
+use Rattle.merc_goal_order.proofs.Stretches.{stretch_front}
 use Rattle.merc_goal_order.specs.Beside.{all_beside, TellsStuck}
 use Rattle.merc_goal_order.specs.Conjuncts.{GoesIfReady}
 use Rattle.merc_goal_order.specs.Walking.{Orders}

@@ -16,7 +16,7 @@ use Rattle.merc_goal_order.specs.Beside.{all_beside}
 use Rattle.merc_goal_order.specs.Conjuncts.{Passing, Amid}
 use Rattle.merc_goal_facts.specs.Outside.{IsStretch}
 use Rattle.merc_readiness.specs.Sweeps.{Extends}
-use Rattle.merc_agenda.specs.Agenda.{StandAt, ArePlaced, awaits, awaited_count, IsSound}
+use Rattle.merc_goal_order.specs.Agenda.{StandAt, ArePlaced, awaits, awaited_count, IsSound}
 use Rattle.merc_goal_order.specs.Walks.{Adds, Walked, all_settled}
 use Rattle.merc_goal_order.proofs.+walking.Given as goal
 

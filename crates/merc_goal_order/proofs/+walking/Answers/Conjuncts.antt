@@ -18,14 +18,14 @@ use Rattle.merc_goal_facts.specs.Bounds.{all_behind}
 use Rattle.std.specs.declared.alloc.Global.{Global}
 use Rattle.std.specs.declared.vec.Vec.{Vec}
 use Rattle.merc_simple_goals.specs.declared.written.Written.{Written}
-use Rattle.merc_agenda.proofs.Positions.{parts_within, known_from, stretch_from, within_goals, at_start, placed_start, next_item, some_parts}
-use Rattle.merc_agenda.proofs.Stretches.{stretch_front}
-use Rattle.merc_agenda.specs.Agenda.{start_at, StandAt, ArePlaced, awaits, AwaitsAgain}
+use Rattle.merc_goal_order.proofs.Positions.{parts_within, known_from, stretch_from, within_goals, at_start, placed_start, next_item, some_parts}
+use Rattle.merc_goal_order.proofs.Stretches.{stretch_front}
+use Rattle.merc_goal_order.specs.Agenda.{start_at, StandAt, ArePlaced, awaits, AwaitsAgain}
 use Rattle.merc_readiness.specs.Sweeps.{Extends}
 use Rattle.merc_goal_order.specs.Conjuncts.{Passing, AskGives, NextGives}
-use Rattle.merc_agenda.specs.Positions.{IsPlaced}
+use Rattle.merc_goal_order.specs.Positions.{IsPlaced}
 use Rattle.merc_goal_order.specs.Walks.{all_settled}
-use Rattle.merc_agenda.specs.declared.agenda.Start.{Start}
+use Rattle.merc_goal_order.specs.declared.agenda.Start.{Start}
 use Rattle.merc_readiness.proofs.Binding.{extends_same, extends_on, extends_all}
 use Rattle.merc_readiness.proofs.Lengths.{front_length}
 use Rattle.merc_readiness.proofs.Marking.{all_subgoals_length}

@@ -14,8 +14,8 @@ use Rattle.merc_goal_facts.specs.Facts.{AreKnown, subgoals}
 use Rattle.merc_goal_facts.specs.Bounds.{all_behind}
 use Rattle.merc_simple_goals.specs.Writing.{Gives}
 use Rattle.merc_readiness.specs.Sweeps.{Extends}
-use Rattle.merc_agenda.proofs.Positions.{some_parts}
-use Rattle.merc_agenda.proofs.Stretches.{stretch_front}
+use Rattle.merc_goal_order.proofs.Positions.{some_parts}
+use Rattle.merc_goal_order.proofs.Stretches.{stretch_front}
 use Rattle.merc_goal_order.specs.Linked.{Guarded, GuardGives, Within, Closing}
 use Rattle.merc_readiness.proofs.Binding.{extends_all, bound_behind}
 use Rattle.merc_readiness.proofs.Lengths.{front_length}

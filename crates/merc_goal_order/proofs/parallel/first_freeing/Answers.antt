@@ -11,7 +11,7 @@ use Rattle.merc_order.specs.Ordered.{is_ready}
 use Rattle.merc_order.specs.Procedures.{modes_of}
 use Rattle.merc_goal_facts.specs.Facts.{all_subgoals}
 use Rattle.merc_readiness.specs.Sweeps.{AreKnownFrom}
-use Rattle.merc_agenda.proofs.Positions.{next_item, some_parts}
+use Rattle.merc_goal_order.proofs.Positions.{next_item, some_parts}
 use Rattle.merc_goal_order.proofs.Beside.{facts_behind, facts_next, facts_of_first, needs_later}
 use Rattle.merc_goal_order.proofs.Freeing.{still_stuck}
 use Rattle.merc_goal_order.proofs.parallel.first_freeing.Goals as goal

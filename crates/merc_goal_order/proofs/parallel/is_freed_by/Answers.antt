@@ -8,7 +8,7 @@ use Rattle.merc_order.specs.Ordered.{is_ready}
 use Rattle.merc_order.specs.Procedures.{modes_of}
 use Rattle.merc_goal_facts.specs.Bounds.{all_behind}
 use Rattle.merc_readiness.specs.Sweeps.{Extends}
-use Rattle.merc_agenda.proofs.Positions.{some_parts}
+use Rattle.merc_goal_order.proofs.Positions.{some_parts}
 use Rattle.merc_goal_order.proofs.Beside.{facts_of_first}
 use Rattle.merc_readiness.proofs.Binding.{extends_all}
 use Rattle.merc_readiness.proofs.Stepping.{facts_of_next, bound_by_next}

@@ -1,8 +1,8 @@
 use Rattle.std.proofs.Common.{◌∙◌, take, slice_index_or, ap, sym, subst, refl, arith}
 use Rattle.merc_simple_goals.specs.Places.{places_within}
-use Rattle.merc_agenda.specs.Agenda.{AwaitsAgain}
-use Rattle.merc_agenda.proofs.Awaiting.{none_more, item_is, take_item, start_is, variables_more}
-use Rattle.merc_agenda.proofs.agenda.Agenda.await_all.Goals as goal
+use Rattle.merc_goal_order.specs.Agenda.{AwaitsAgain}
+use Rattle.merc_goal_order.proofs.Awaiting.{none_more, item_is, take_item, start_is, variables_more}
+use Rattle.merc_goal_order.proofs.agenda.Agenda.await_all.Goals as goal
 
 pub loop-variable-init : goal.loop-variable-init
 loop-variable-init c = record { sound = c.requires.sound; starts = refl; asked = refl; awaits = none_more c.args.all.now c.args.binding c.args.self.now }

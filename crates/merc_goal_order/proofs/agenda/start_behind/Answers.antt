@@ -1,7 +1,7 @@
 use Rattle.std.proofs.Common.{◌+◌, ◌-◌, arith}
-use Rattle.merc_agenda.proofs.Positions.{some_parts}
-use Rattle.merc_agenda.proofs.Stretches.{next_place}
-use Rattle.merc_agenda.proofs.agenda.start_behind.Goals as goal
+use Rattle.merc_goal_order.proofs.Positions.{some_parts}
+use Rattle.merc_goal_order.proofs.Stretches.{next_place}
+use Rattle.merc_goal_order.proofs.agenda.start_behind.Goals as goal
 
 pub overflow_sub-own : goal.overflow_sub-own
 overflow_sub-own c = omega (arith, some_parts c.args.goal.now c.part_count.result c.part_count.ensures)

@@ -3,8 +3,8 @@ use Rattle.std.specs.Prelude.{◌≡◌, List, [], ◌∷◌, refl}
 use Rattle.std.proofs.Common.{arith}
 use Rattle.merc_goal_tree.specs.Nodes.{Node, no_nodes}
 use Rattle.merc_readiness.specs.Sweeps.{AreKnownFrom}
-use Rattle.merc_agenda.specs.Positions.{IsAt, variables_before, IsPlaced, IsNext}
-use Rattle.merc_agenda.specs.GoalsExamples.{no_modes, body, in_body, truth, unready, true_facts, true_known}
+use Rattle.merc_goal_order.specs.Positions.{IsAt, variables_before, IsPlaced, IsNext}
+use Rattle.merc_goal_order.specs.GoalsExamples.{no_modes, body, in_body, truth, unready, true_facts, true_known}
 
 abbrev goals : List Node
 goals = truth ∷ unready ∷ truth ∷ []

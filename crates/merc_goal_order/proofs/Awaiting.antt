@@ -9,9 +9,9 @@ use Rattle.std.proofs.lemmas.Bool.{eqb-true, cases_lt}
 use Rattle.std.proofs.lemmas.Bool.Decides.{nat_tests}
 use Rattle.merc_order.specs.Bound.{among}
 use Rattle.merc_simple_goals.specs.Places.{places_from, places_within}
-use Rattle.merc_agenda.specs.Agenda.{start_at, Ascends, Holds, inside, awaits, IsSound, AwaitsPlaces, AwaitsAgain}
-use Rattle.merc_agenda.specs.declared.agenda.Agenda.{Agenda}
-use Rattle.merc_agenda.specs.declared.agenda.Start.{Start}
+use Rattle.merc_goal_order.specs.Agenda.{start_at, Ascends, Holds, inside, awaits, IsSound, AwaitsPlaces, AwaitsAgain}
+use Rattle.merc_goal_order.specs.declared.agenda.Agenda.{Agenda}
+use Rattle.merc_goal_order.specs.declared.agenda.Start.{Start}
 use Rattle.merc_goal_facts.proofs.Bounds.{among-append}
 
 -- tests

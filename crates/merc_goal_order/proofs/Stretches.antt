@@ -12,7 +12,7 @@ use Rattle.merc_goal_facts.specs.Outside.{IsStretch}
 use Rattle.merc_goal_facts.specs.declared.facts.Facts.{Facts}
 use Rattle.merc_readiness.specs.Sweeps.{AreKnownFrom}
 use Rattle.merc_readiness.proofs.Binding.{next_known, own_facts}
-use Rattle.merc_agenda.specs.Positions.{IsNext}
+use Rattle.merc_goal_order.specs.Positions.{IsNext}
 
 -- a stretch cut in two
 

@@ -1,6 +1,6 @@
 use Rattle.std.proofs.Common.{◌-◌, ◌≤◌, ◌<◌}
-use Rattle.merc_agenda.specs.Agenda.{start_at}
-use Rattle.merc_agenda.proofs.agenda.Agenda.goal_at.Given as goal
+use Rattle.merc_goal_order.specs.Agenda.{start_at}
+use Rattle.merc_goal_order.proofs.agenda.Agenda.goal_at.Given as goal
 
 abbrev pub invariant-loop-low : goal.invariant-loop-low
 invariant-loop-low l = record {

@@ -14,10 +14,10 @@ use Rattle.merc_readiness.specs.Sweeps.{AreKnownFrom}
 use Rattle.merc_readiness.proofs.Marking.{known_split, known_length, all_subgoals_length, parts_length}
 use Rattle.merc_readiness.proofs.Listed.{all_parts_cut, all_subgoals_cut}
 use Rattle.merc_readiness.proofs.Rounds.{head_is}
-use Rattle.merc_agenda.specs.Agenda.{start_at, StandAt}
-use Rattle.merc_agenda.specs.Positions.{IsAt, IsPlaced, IsNext, variables_before}
-use Rattle.merc_agenda.specs.declared.agenda.Start.{Start}
-use Rattle.merc_agenda.proofs.Stretches.{stretch_front, stretch_back, stretch_within}
+use Rattle.merc_goal_order.specs.Agenda.{start_at, StandAt}
+use Rattle.merc_goal_order.specs.Positions.{IsAt, IsPlaced, IsNext, variables_before}
+use Rattle.merc_goal_order.specs.declared.agenda.Start.{Start}
+use Rattle.merc_goal_order.proofs.Stretches.{stretch_front, stretch_back, stretch_within}
 
 -- the next of a list
 pub next_item : {X : Type 0} (items : List X) (index : ℕ) (item : X) → index < length items → item ≡ slice_index_or items index item → drop index items ≡ item ∷ drop (index + 1) items

@@ -1,11 +1,11 @@
 use Rattle.std.proofs.Common.{◌≡◌, ◌+◌, ◌<◌, ◌∙◌, ◌++◌, ◌∷◌, ℕ, List, [], suc, length, drop, ap, sym, subst, arith}
 use Rattle.std.proofs.lemmas.List.{length-append}
-use Rattle.merc_agenda.specs.Agenda.{start_at, StandAt}
-use Rattle.merc_agenda.specs.Positions.{IsAt, IsPlaced}
-use Rattle.merc_agenda.specs.declared.agenda.Start.{Start}
-use Rattle.merc_agenda.proofs.Awaiting.{pushed}
-use Rattle.merc_agenda.proofs.Positions.{at_next, parts_within, placed_next, next_item}
-use Rattle.merc_agenda.proofs.agenda.starts_of.Goals as goal
+use Rattle.merc_goal_order.specs.Agenda.{start_at, StandAt}
+use Rattle.merc_goal_order.specs.Positions.{IsAt, IsPlaced}
+use Rattle.merc_goal_order.specs.declared.agenda.Start.{Start}
+use Rattle.merc_goal_order.proofs.Awaiting.{pushed}
+use Rattle.merc_goal_order.proofs.Positions.{at_next, parts_within, placed_next, next_item}
+use Rattle.merc_goal_order.proofs.agenda.starts_of.Goals as goal
 
 pub loop-goal-preserved : goal.loop-goal-preserved
 loop-goal-preserved c =

@@ -2,8 +2,8 @@
 ghost use Rattle.std.specs.Prelude.{◌≡◌, ◌+◌, ◌≤◌, ◌<◌, ℕ, suc, true, false, length, IfOk, OnOk, IfSome, IfNone};
 ghost use Rattle.merc_goal_tree.specs.Nodes.{nodes_of};
 ghost use Rattle.merc_goal_tree.specs.Parts.{parts_of, all_parts};
-ghost use Rattle.merc_agenda.specs.Agenda.{start_at, StandAt, ArePlaced, Holds, awaits, awaited_count, IsSound, IsTaken, AwaitsPlaces, AwaitsAgain};
-ghost use Rattle.merc_agenda.specs.Positions.{IsNext};
+ghost use Rattle.merc_goal_order.specs.Agenda.{start_at, StandAt, ArePlaced, Holds, awaits, awaited_count, IsSound, IsTaken, AwaitsPlaces, AwaitsAgain};
+ghost use Rattle.merc_goal_order.specs.Positions.{IsNext};
 
 use merc_base::NoMemory;
 use merc_goal_facts::Facts;
@@ -14,16 +14,16 @@ use std::collections::BTreeSet;
 
 /// Where a goal of a conjunction begins.
 #[derive(Clone, Copy)]
-pub struct Start {
+pub(crate) struct Start {
     /// The index of its first part among those of all goals.
-    pub at: usize,
+    pub(crate) at: usize,
     /// The first place of its variables among those of the body.
-    pub place: usize,
+    pub(crate) place: usize,
 }
 
 /// The goals of a conjunction that are to be asked, by their index.
 #[derive(Drop)]
-pub struct Agenda {
+pub(crate) struct Agenda {
     // Where each goal begins, and behind the last where they end.
     starts: Vec<Start>,
     // So many were asked, from the first on.
@@ -39,7 +39,7 @@ impl Agenda {
     /// # Errors
     ///
     /// `NoMemory` where memory was refused.
-    pub fn of(
+    pub(crate) fn of(
         alloc: Global,
         all: &Places,
         goals: &[NodeRef<'_>],
@@ -60,7 +60,7 @@ impl Agenda {
     }
 
     /// Where a goal begins.
-    pub fn start(&self, index: usize) -> Start
+    pub(crate) fn start(&self, index: usize) -> Start
         requires { index < length self.now.starts.items }
         ensures { result ≡ start_at self.now.starts.items index }
     {
@@ -68,7 +68,7 @@ impl Agenda {
     }
 
     /// The first goal that is to be asked, which then is not any more; `None` where there is none.
-    pub fn take(&mut self) -> Option<usize>
+    pub(crate) fn take(&mut self) -> Option<usize>
         requires sound { IsSound self.old }
         ensures sound { IsSound self.new }
         ensures starts { self.new.starts ≡ self.old.starts }
@@ -94,7 +94,7 @@ impl Agenda {
     /// # Errors
     ///
     /// `NoMemory` where memory was refused.
-    pub fn await_all(
+    pub(crate) fn await_all(
         &mut self,
         all: &Places,
         binding: usize,

@@ -10,9 +10,9 @@ use Rattle.merc_order.specs.Bound.{among}
 use Rattle.merc_goal_facts.specs.Facts.{AreKnown, all_subgoals}
 use Rattle.merc_goal_facts.specs.Outside.{IsStretch}
 use Rattle.merc_goal_facts.specs.declared.facts.Facts.{Facts}
-use Rattle.merc_agenda.specs.Positions.{IsAt, IsPlaced}
-use Rattle.merc_agenda.specs.declared.agenda.Agenda.{Agenda}
-use Rattle.merc_agenda.specs.declared.agenda.Start.{Start}
+use Rattle.merc_goal_order.specs.Positions.{IsAt, IsPlaced}
+use Rattle.merc_goal_order.specs.declared.agenda.Agenda.{Agenda}
+use Rattle.merc_goal_order.specs.declared.agenda.Start.{Start}
 
 -- where the goal of an index begins
 abbrev pub start_at : List Start → ℕ → Start

@@ -4,9 +4,9 @@ use Rattle.merc_goal_tree.specs.Nodes.{nodes_of}
 use Rattle.merc_goal_tree.specs.Variables.{all_variables}
 use Rattle.merc_goal_facts.specs.Facts.{AreKnown, all_subgoals}
 use Rattle.merc_goal_facts.specs.Outside.{IsStretch}
-use Rattle.merc_agenda.specs.Agenda.{start_at}
-use Rattle.merc_agenda.specs.Positions.{IsAt, IsPlaced}
-use Rattle.merc_agenda.proofs.agenda.starts_of.Given as goal
+use Rattle.merc_goal_order.specs.Agenda.{start_at}
+use Rattle.merc_goal_order.specs.Positions.{IsAt, IsPlaced}
+use Rattle.merc_goal_order.proofs.agenda.starts_of.Given as goal
 
 abbrev pub invariant-loop-goal : goal.invariant-loop-goal
 invariant-loop-goal l = record {

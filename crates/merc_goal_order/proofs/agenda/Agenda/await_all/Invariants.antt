@@ -1,6 +1,6 @@
 use Rattle.std.proofs.Common.{◌≡◌, take}
-use Rattle.merc_agenda.specs.Agenda.{IsSound, AwaitsAgain}
-use Rattle.merc_agenda.proofs.agenda.Agenda.await_all.Given as goal
+use Rattle.merc_goal_order.specs.Agenda.{IsSound, AwaitsAgain}
+use Rattle.merc_goal_order.proofs.agenda.Agenda.await_all.Given as goal
 
 abbrev pub invariant-loop-variable : goal.invariant-loop-variable
 invariant-loop-variable l = record {

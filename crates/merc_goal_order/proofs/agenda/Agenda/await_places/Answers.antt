@@ -1,9 +1,9 @@
 use Rattle.std.proofs.Common.{◌≡◌, ◌+◌, ◌<◌, ◌∙◌, suc, take, slice_index_or, ap, sym, subst, refl, arith}
-use Rattle.merc_agenda.specs.Agenda.{Holds, IsSound, AwaitsPlaces}
-use Rattle.merc_agenda.specs.declared.agenda.Agenda.{Agenda}
-use Rattle.merc_agenda.proofs.Awaiting.{take_item, start_is, places_more, place_own, place_other, put_below, put_more, put_there}
-use Rattle.merc_agenda.proofs.agenda.Agenda.await_places.Goals as goal
-use Rattle.merc_agenda.proofs.agenda.Agenda.await_places.Goals.{then-place-own+in_ok-insert, else-place-own+else-next-place}
+use Rattle.merc_goal_order.specs.Agenda.{Holds, IsSound, AwaitsPlaces}
+use Rattle.merc_goal_order.specs.declared.agenda.Agenda.{Agenda}
+use Rattle.merc_goal_order.proofs.Awaiting.{take_item, start_is, places_more, place_own, place_other, put_below, put_more, put_there}
+use Rattle.merc_goal_order.proofs.agenda.Agenda.await_places.Goals as goal
+use Rattle.merc_goal_order.proofs.agenda.Agenda.await_places.Goals.{then-place-own+in_ok-insert, else-place-own+else-next-place}
 
 pub loop-place-preserved : goal.loop-place-preserved
 loop-place-preserved c =

@@ -11,11 +11,11 @@ use Rattle.std.proofs.lemmas.Bool.{eqb-true}
 use Rattle.std.proofs.lemmas.Bool.Decides.{nat_tests}
 use Rattle.merc_goal_tree.specs.Nodes.{Node}
 use Rattle.merc_order.specs.Bound.{among}
-use Rattle.merc_agenda.specs.Agenda.{start_at, StandAt, ArePlaced, Ascends, Holds, inside, awaits, awaited_count, IsSound, IsTaken, AwaitsPlaces, AwaitsAgain}
-use Rattle.merc_agenda.specs.Positions.{IsAt}
-use Rattle.merc_agenda.specs.GoalsExamples.{no_modes, body, in_body, truth, unready, true_facts, true_known, no_stretch}
-use Rattle.merc_agenda.specs.declared.agenda.Agenda.{Agenda}
-use Rattle.merc_agenda.specs.declared.agenda.Start.{Start}
+use Rattle.merc_goal_order.specs.Agenda.{start_at, StandAt, ArePlaced, Ascends, Holds, inside, awaits, awaited_count, IsSound, IsTaken, AwaitsPlaces, AwaitsAgain}
+use Rattle.merc_goal_order.specs.Positions.{IsAt}
+use Rattle.merc_goal_order.specs.GoalsExamples.{no_modes, body, in_body, truth, unready, true_facts, true_known, no_stretch}
+use Rattle.merc_goal_order.specs.declared.agenda.Agenda.{Agenda}
+use Rattle.merc_goal_order.specs.declared.agenda.Start.{Start}
 
 -- `true, X = Y, true`, whose variables occur from the place 5 on
 

@@ -1,6 +1,6 @@
 use Rattle.std.proofs.Common.{◌≡◌, take}
-use Rattle.merc_agenda.specs.Agenda.{IsSound, AwaitsPlaces}
-use Rattle.merc_agenda.proofs.agenda.Agenda.await_places.Given as goal
+use Rattle.merc_goal_order.specs.Agenda.{IsSound, AwaitsPlaces}
+use Rattle.merc_goal_order.proofs.agenda.Agenda.await_places.Given as goal
 
 abbrev pub invariant-loop-place : goal.invariant-loop-place
 invariant-loop-place l = record {

@@ -1,3 +1,0 @@
-pub mod Stretches
-pub mod Positions
-pub mod Awaiting
