@@ -9,3 +9,4 @@ mod words;
 
 pub use answering::answer;
 pub use merc_transfer::statuses;
+pub use words::{Request, read_words};
