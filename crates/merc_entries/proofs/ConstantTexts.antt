@@ -4,7 +4,7 @@ use Rattle.std.proofs.lemmas.Option.{same_Some}
 use Rattle.std.specs.Borrow.{Bor}
 use Rattle.std.specs.Option.{IsSome, option_copied, unwrap_or}
 use Rattle.merc_base.specs.Names.{fixed_names, HoldsFixed}
-use Rattle.merc_prelude.specs.Units.{units, unit_text}
+use Rattle.merc_entries.specs.Library.{units, unit_text}
 use Rattle.merc_entries.specs.Units.{constant_text}
 
 -- no unit's name is empty

@@ -6,6 +6,7 @@ pub mod FirstDoubles
 pub mod Joined
 pub mod KeyLaws
 pub mod SameKeys
+mod UnitLaws
 pub mod UnitReading
 pub mod LibraryReads
 pub mod ConstantTexts

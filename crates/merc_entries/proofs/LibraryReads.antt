@@ -8,7 +8,7 @@ use Rattle.std.specs.Option.{IfSome, option_map}
 use Rattle.std.specs.Str.{bytes_eq}
 use Rattle.merc_base.specs.Names.{bool_name, fixed_names, list_name, maybe_name, HoldsFixed}
 use Rattle.merc_base.specs.declared.refusal.Refusal.{Refusal}
-use Rattle.merc_prelude.specs.Units.{units, unit_text, lines, list_lines}
+use Rattle.merc_entries.specs.Library.{units, unit_text, lines, list_lines}
 use Rattle.merc_tree.specs.Term.{Term}
 use Rattle.merc_terms.specs.Operators.{operators}
 use Rattle.merc_terms.specs.Reader.{reading}

@@ -1,7 +1,7 @@
 -- The items of the units, read one text behind the other.
 use Rattle.std.proofs.Common.{◌≡◌, ◌≢◌, ℕ, true, List, [], is_some, refl, codes, ne_eqb}
 use Rattle.merc_base.specs.Names.{list_name, bool_name, maybe_name, fixed_names}
-use Rattle.merc_prelude.specs.Units.{units, unit_text}
+use Rattle.merc_entries.specs.Library.{units, unit_text}
 use Rattle.merc_tree.specs.Term.{Term}
 use Rattle.merc_entries.specs.declared.units.Units.{Units}
 use Rattle.merc_entries.specs.Units.{constant_text, items_of, AreUnits, IsUnit}

@@ -2,12 +2,14 @@ pub mod Entries
 pub mod EntryValue
 pub mod ModeValue
 pub mod KeySets
+pub mod Library
 pub mod Units
 pub mod Joining
 pub mod DoubleFaults
 pub mod FirstPlaces
 pub mod EntriesExamples
 pub mod DoubleExamples
+pub mod LibraryExamples
 pub mod UnitsExamples
 pub mod LibraryItems
 pub mod LibraryItemsExamples

@@ -2,7 +2,7 @@
 use Rattle.std.specs.Prelude.{◌≡◌, ◌≢◌, ℕ, ◌==◌, List, [], Some, codes, slice_get, if◌then◌else◌}
 use Rattle.std.specs.Option.{unwrap_or}
 use Rattle.merc_base.specs.Names.{list_name, bool_name, maybe_name, fixed_names}
-use Rattle.merc_prelude.specs.Units.{unit_text}
+use Rattle.merc_entries.specs.Library.{unit_text}
 use Rattle.merc_tree.specs.Term.{Term}
 use Rattle.merc_terms.specs.Texts.{ReadsItems}
 use Rattle.merc_entries.specs.declared.units.Units.{Units}

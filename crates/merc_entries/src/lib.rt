@@ -6,6 +6,7 @@ mod doubles;
 mod entry;
 mod joining;
 mod key_set;
+mod library;
 mod moded;
 mod units;
 

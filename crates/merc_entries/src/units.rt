@@ -4,11 +4,11 @@ ghost use Rattle.std.specs.List.{IsDistinct};
 ghost use Rattle.std.specs.Option.{option_copied, unwrap_or};
 ghost use Rattle.std.specs.Str.{bytes_eq};
 ghost use Rattle.merc_base.specs.Names.{HoldsFixed};
-ghost use Rattle.merc_prelude.specs.Units.{unit_text};
+ghost use Rattle.merc_entries.specs.Library.{unit_text};
 ghost use Rattle.merc_entries.specs.Units.{constant_text, items_of, AreUnits, IsUnit};
 
+use crate::library::text_of;
 use merc_base::{Fault, Name, Names, NoMemory};
-use merc_prelude::unit as text_of;
 use merc_terms::read_text;
 use merc_tree::Terms;
 use std::alloc::Global;

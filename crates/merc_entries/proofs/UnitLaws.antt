@@ -3,7 +3,7 @@ use Rattle.std.proofs.Common.{◌≡◌, ℕ, ◌≤◌, length, true, false, Li
 use Rattle.std.specs.Borrow.{Bor}
 use Rattle.std.specs.Option.{IfSome, option_copied, option_map}
 use Rattle.std.specs.Str.{bytes_eq}
-use Rattle.merc_prelude.specs.Units.{units, unit_text}
+use Rattle.merc_entries.specs.Library.{units, unit_text}
 
 -- An entry of the code's table, as a name and a text.
 abbrev plain_unit : Bor (List ℕ) × Bor (List ℕ) → List ℕ × List ℕ

@@ -1,6 +1,6 @@
 use Rattle.std.proofs.Common.{◌∙◌}
-use Rattle.merc_prelude.proofs.UnitLaws.{found_unit, short_behind}
-use Rattle.merc_prelude.proofs.units.unit.Goals as goal
+use Rattle.merc_entries.proofs.UnitLaws.{found_unit, short_behind}
+use Rattle.merc_entries.proofs.library.text_of.Goals as goal
 
 pub returns-clause-value : goal.returns-clause-value
 returns-clause-value c = c.text_in.ensures ∙ found_unit c.args.name.now c.unit_table.result.now c.unit_table.ensures

@@ -1,6 +1,6 @@
 -- The units and their lines, one by one.
 use Rattle.std.specs.Prelude.{◌≡◌, ℕ, List, refl, [], ◌∷◌, ◌++◌, Option, Some, None, map, length, slice_get, codes}
-use Rattle.merc_prelude.specs.Units.{line_feed, lines, list_lines, units, unit_text}
+use Rattle.merc_entries.specs.Library.{line_feed, lines, list_lines, units, unit_text}
 
 pub lines-example : lines (codes "a." ∷ codes "b." ∷ []) ≡ codes "a." ++ line_feed ∷ codes "b." ++ line_feed ∷ []
 lines-example = refl

@@ -2,7 +2,7 @@
 ghost use Rattle.std.specs.Prelude.{◌≡◌, ◌≤◌, map, find, length, IfSome};
 ghost use Rattle.std.specs.Option.{option_copied, option_map};
 ghost use Rattle.std.specs.Str.{bytes_eq};
-ghost use Rattle.merc_prelude.specs.Units.{units, unit_text};
+ghost use Rattle.merc_entries.specs.Library.{units, unit_text};
 
 // The units with their texts.
 const UNITS: [(&[u8], &[u8]); 6] = [
@@ -38,7 +38,7 @@ list_reverse_onto([X | Xs], A, Ys) :- list_reverse_onto(Xs, [X | A], Ys).
 
 /// The text of a library unit, of at most 1,000 bytes; `None` exactly where the name is none of the six units. `int`,
 /// `string` and `require` have an empty text: their items are built in.
-pub fn unit(name: &[u8]) -> Option<&'static [u8]>
+pub fn text_of(name: &[u8]) -> Option<&'static [u8]>
     ensures value { option_copied result ≡ unit_text name.now }
     ensures short { IfSome result (λ text. length text.now ≤ 1000) }
 {
