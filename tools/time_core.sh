@@ -15,7 +15,7 @@ trap 'exit 2' INT TERM HUP
 
 # The program's crate, which is no crate of crates.txt, and those that it stands on. `rt ci` wants each file of a crate to be one
 # that it reads, so the program's files have other names here.
-uses='merc_base merc_value merc_script merc_queues merc_core'
+uses='merc_base merc_value merc_script merc_core'
 mkdir "$room/crates" && cp HANDLES "$room" && cp -R benches/executions "$room/crates" || fail "$room cannot be written"
 find "$room/crates" -name '*.txt' | while read -r file; do
     mv "$file" "${file%.txt}" || fail "$file cannot be named"

@@ -7,8 +7,8 @@ use Rattle.std.specs.Prelude.{Option, Err, slice_get, filter, if◌then◌else�
 use Rattle.std.specs.List.{AllByRecursion}
 use Rattle.merc_script.specs.declared.items.Item.{Item}
 use Rattle.merc_script.specs.Script.{Cell as ScriptCell, Move}
-use Rattle.merc_queues.specs.declared.branch.Branch.{Branch as CoreBranch}
-use Rattle.merc_queues.specs.declared.worker.Worker.{Worker}
+use Rattle.merc_core.specs.declared.branch.Branch.{Branch as CoreBranch}
+use Rattle.merc_core.specs.declared.worker.Worker.{Worker}
 use Rattle.merc_core.specs.declared.event.NotNow.TheVariants.{NoWorker, Idle}
 use Rattle.merc_core.specs.World.{Branch, Runs, Spot, spot, World}
 use Rattle.merc_core.specs.Events.{Answer, in_hand, running, if_found, if_runs}

@@ -10,16 +10,16 @@ use Rattle.merc_script.specs.declared.outcome.Outcome.{Outcome}
 use Rattle.merc_script.specs.declared.items.Item.{Item}
 use Rattle.merc_script.specs.Script.{Children, NoChild, Child, Cell as ScriptCell, Move}
 use Rattle.merc_script.specs.Joining.{HasFewSteps}
-use Rattle.merc_queues.specs.declared.branch.Branch.{Branch as CoreBranch}
-use Rattle.merc_queues.specs.declared.cell.Cell.{Cell as CoreCell}
-use Rattle.merc_queues.specs.declared.join.Join.{Join as CoreJoin}
-use Rattle.merc_queues.specs.declared.worker.Worker.{Worker}
+use Rattle.merc_core.specs.declared.branch.Branch.{Branch as CoreBranch}
+use Rattle.merc_core.specs.declared.cell.Cell.{Cell as CoreCell}
+use Rattle.merc_core.specs.declared.join.Join.{Join as CoreJoin}
+use Rattle.merc_core.specs.declared.worker.Worker.{Worker}
 use Rattle.merc_core.specs.World.{Spot, Join, Stored, World, stored_at, gathered, outcomes_of}
 use Rattle.merc_core.specs.Events.{in_hand, finished, stored_with, poison, hold_if, hold}
 use Rattle.merc_script.specs.Items.{script_of}
 use Rattle.merc_core.specs.Given.{IsSettled, IsGone, AreLeft, HasLeft, IsOpenAt}
-use Rattle.merc_queues.specs.Outcomes.{with_first, all_stored, joined_if, joined_at}
-use Rattle.merc_queues.specs.Queues.{waiting_of, cells_after, list_after, stored_from}
+use Rattle.merc_core.specs.Outcomes.{with_first, all_stored, joined_if, joined_at}
+use Rattle.merc_core.specs.Queues.{waiting_of, cells_after, list_after, stored_from}
 use Rattle.merc_core.specs.Mirror.{Key, Hand, Row, Waiting, Parent, queue, held, held_of, hand_of, row_of, parents_of, stored_for, FewIf, IsJoin, ShowsJoin, Parts, ShowsPool, ShowsCell, Mirrors, AreFit, still_made, HasRoom, branches_made, rights_made, joins_made}
 use Rattle.merc_core.proofs.Pool.{each_way, takes-one, takes-others}
 use Rattle.merc_core.proofs.Givings.{left-weaker, acting-settled, poison-left}

@@ -3,7 +3,7 @@ use Rattle.std.proofs.Common.{◌≡◌, ℕ, zero, suc, ◌+◌, ◌-◌, ◌�
 use Rattle.std.proofs.lemmas.Bool.Decides.{nat_tests}
 use Rattle.std.specs.Prelude.{nat_eq, ◌&&◌, filter, if◌then◌else◌}
 use Rattle.merc_script.specs.Script.{Cell, Move}
-use Rattle.merc_queues.specs.declared.branch.Branch.{Branch as CoreBranch}
+use Rattle.merc_core.specs.declared.branch.Branch.{Branch as CoreBranch}
 use Rattle.merc_core.specs.Rights.{numbers_of, cells_moved, made_by, moved_to, signals_at}
 use Rattle.merc_core.specs.Forking.{past_script, past_scripts, newborn, born_from, rights_wanted}
 

@@ -6,7 +6,7 @@ use Rattle.merc_script.specs.declared.outcome.Outcome.{Outcome}
 use Rattle.merc_script.specs.declared.items.Item.{Item}
 use Rattle.merc_script.specs.Script.{Script, Children, NoChild, Child, Cell, Move, count, size, sizes}
 use Rattle.merc_script.specs.Items.{items_of, items_in, script_of}
-use Rattle.merc_queues.specs.declared.branch.Branch.{Branch as CoreBranch}
+use Rattle.merc_core.specs.declared.branch.Branch.{Branch as CoreBranch}
 use Rattle.merc_core.specs.World.{Branch, Listed, Spot, spot, Stored, stored_at}
 use Rattle.merc_core.specs.Events.{spawned, listed_backwards}
 use Rattle.merc_core.specs.Standing.{StandsAt, StandAt}

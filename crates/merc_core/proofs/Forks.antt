@@ -10,10 +10,10 @@ use Rattle.merc_script.specs.declared.outcome.Outcome.{Outcome}
 use Rattle.merc_script.specs.declared.items.Item.{Item}
 use Rattle.merc_script.specs.declared.items.Fork.{Fork as ForkData}
 use Rattle.merc_script.specs.Script.{Script, Ends, TickThen, WaitThen, SignalThen, ForkThen, Children, NoChild, Child, Cell, Move, count, size, sizes}
-use Rattle.merc_queues.specs.declared.branch.Branch.{Branch as CoreBranch}
-use Rattle.merc_queues.specs.declared.cell.Cell.{Cell as CoreCell}
-use Rattle.merc_queues.specs.declared.join.Join.{Join as CoreJoin}
-use Rattle.merc_queues.specs.declared.worker.Worker.{Worker}
+use Rattle.merc_core.specs.declared.branch.Branch.{Branch as CoreBranch}
+use Rattle.merc_core.specs.declared.cell.Cell.{Cell as CoreCell}
+use Rattle.merc_core.specs.declared.join.Join.{Join as CoreJoin}
+use Rattle.merc_core.specs.declared.worker.Worker.{Worker}
 use Rattle.merc_core.specs.declared.course.Next.{Next}
 use Rattle.merc_core.specs.declared.course.Next.TheVariants.{Tick as TickNext, Wait as WaitNext, Signal as SignalNext, Fork as ForkNext, End as EndNext}
 use Rattle.merc_core.specs.declared.event.Event.TheVariants.{Fork}
@@ -297,7 +297,7 @@ module _ (items : List Item) (parts : Parts) (w : World) (mirrors : Mirrors item
                 ∙ sym (ap (λ t. if t then k'.list else queue parts (Row u)) apart)
           ]
           ∙ replaced parts v k' (worker-there items parts w mirrors v k stands) (Row u) ∙ sym (ap (λ ws. row_of (slice_get ws u)) workers)
-      new-queue parts' workers cells joins (Waiting cell) = sym (ap (λ cs. Rattle.merc_queues.specs.Queues.waiting_of (cs cell)) cells)
+      new-queue parts' workers cells joins (Waiting cell) = sym (ap (λ cs. Rattle.merc_core.specs.Queues.waiting_of (cs cell)) cells)
       new-queue parts' workers cells joins (Parent j) =
           ap (λ l. if nat_eq n j then l else queue parts (Parent j)) (ap (λ l. l ++ (parent' ∷ [])) nobody ∙ sym parent-is)
           ∙ pushed-parent parts.joins j' n j (sym mirrors.count) ∙ sym (ap (λ js. parents_of (slice_get js j)) joins)

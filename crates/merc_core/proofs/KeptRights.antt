@@ -10,7 +10,7 @@ use Rattle.merc_script.specs.declared.cells.Move.{Move}
 use Rattle.merc_script.specs.Script.{Script, SignalThen, ForkThen, Children, NoChild, Child, Cell, count, size, sizes}
 use Rattle.merc_script.specs.Places.{left_in, script_named}
 use Rattle.merc_script.specs.Joining.{joined}
-use Rattle.merc_queues.specs.Outcomes.{with_first}
+use Rattle.merc_core.specs.Outcomes.{with_first}
 use Rattle.merc_core.specs.declared.event.Event.{Event}
 use Rattle.merc_core.specs.World.{Branch, Location, Listed, Runs, Holds, AtCell, AtJoin, Spot, spot, Join, Stored, World, start, stored_at, gathered, outcomes_of}
 use Rattle.merc_core.specs.Events.{parked, parked_at, awaits, awaits_at, past_tick, past_signal, past_wait, ended, go_behind, spawned, listed_backwards, placed, parent_behind, woken, wake, unchanged, poison, hold_one, hold_if, forked, signalled, finished, stored_with}

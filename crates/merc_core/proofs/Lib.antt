@@ -1,3 +1,7 @@
+pub mod QueueLists
+mod StoredOutcomes
+mod QueuesExamples
+mod OutcomesExamples
 pub mod Pool
 pub mod Steps
 pub mod Measure

@@ -6,7 +6,7 @@ use Rattle.std.specs.List.{AllByRecursion}
 use Rattle.merc_script.specs.declared.outcome.Outcome.{Outcome}
 use Rattle.merc_script.specs.declared.outcome.Outcome.TheVariants.{Starved}
 use Rattle.merc_script.specs.Script.{Script, Children, NoChild, Child, count}
-use Rattle.merc_queues.specs.Outcomes.{with_first}
+use Rattle.merc_core.specs.Outcomes.{with_first}
 use Rattle.merc_core.specs.Rights.{has, has_in}
 use Rattle.merc_core.specs.World.{Branch, Location, Listed, Runs, Holds, AtCell, AtJoin, Spot, spot, Join, Stored, stored_at, gathered, outcomes_of}
 use Rattle.merc_core.specs.Events.{parked, parked_at, awaits, awaits_at, ended, listed_backwards, placed, woken, wake, unchanged, poison, hold_one, hold_if}

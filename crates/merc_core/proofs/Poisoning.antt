@@ -7,13 +7,13 @@ use Rattle.merc_script.specs.declared.outcome.Outcome.{Outcome}
 use Rattle.merc_script.specs.declared.outcome.Outcome.TheVariants.{Starved}
 use Rattle.merc_script.specs.declared.items.Item.{Item}
 use Rattle.merc_script.specs.Script.{Children, NoChild, Child, Cell as ScriptCell, Move}
-use Rattle.merc_queues.specs.declared.branch.Branch.{Branch as CoreBranch}
-use Rattle.merc_queues.specs.declared.cell.Cell.{Cell}
+use Rattle.merc_core.specs.declared.branch.Branch.{Branch as CoreBranch}
+use Rattle.merc_core.specs.declared.cell.Cell.{Cell}
 use Rattle.merc_core.specs.World.{Branch, Holds, Spot, spot, Stored, stored_at}
 use Rattle.merc_core.specs.Rights.{has, has_in}
 use Rattle.merc_core.specs.Events.{ended, wake, poison, hold, hold_one, awaits}
 use Rattle.merc_core.specs.Given.{IsSettled, AreLeft}
-use Rattle.merc_queues.specs.Queues.{meeting_at, waiting_of, starved, spoiled, spoil_at, cells_after, list_after, first_stored, stored_from}
+use Rattle.merc_core.specs.Queues.{meeting_at, waiting_of, starved, spoiled, spoil_at, cells_after, list_after, first_stored, stored_from}
 use Rattle.merc_core.specs.Mirror.{Key, Hand, Row, Waiting, Parent, ShowsPool, ShowsCell, stored_for, FewIf, made, still_made}
 use Rattle.merc_core.proofs.Pool.{each_way}
 use Rattle.merc_core.proofs.Givings.{left-has}

@@ -5,7 +5,7 @@ use Rattle.std.proofs.lemmas.Bool.Decides.{nat_tests}
 use Rattle.std.specs.Prelude.{Option, filter, map, if◌then◌else◌, nat_eq}
 use Rattle.std.specs.List.{AllByRecursion}
 use Rattle.merc_script.specs.declared.items.Item.{Item}
-use Rattle.merc_queues.specs.declared.branch.Branch.{Branch as CoreBranch}
+use Rattle.merc_core.specs.declared.branch.Branch.{Branch as CoreBranch}
 use Rattle.merc_core.specs.World.{Branch, Location, Listed, Runs, Holds, AtCell, AtJoin, Spot, spot}
 use Rattle.merc_core.specs.Events.{first_from, last_from, taken}
 use Rattle.merc_core.specs.Mirror.{Key, Hand, Row, Waiting, Parent, same_key, stands_in, in_hand_at, Shows, AllShow, IsEarly, IsSingle, ShowsPool}

@@ -5,7 +5,7 @@ use Rattle.std.specs.List.{AllByRecursion, remove}
 use Rattle.merc_script.specs.declared.outcome.Outcome.{Outcome}
 use Rattle.merc_script.specs.Script.{Script, Ends, TickThen, WaitThen, SignalThen, ForkThen, Children, NoChild, Child, size, count}
 use Rattle.merc_script.specs.Joining.{joined}
-use Rattle.merc_queues.specs.Outcomes.{with_first}
+use Rattle.merc_core.specs.Outcomes.{with_first}
 use Rattle.merc_core.specs.declared.event.Event.{Event}
 use Rattle.merc_core.specs.declared.event.Event.TheVariants.{Tick, Fork, Pop, Signal, Wait, End, Resume}
 use Rattle.merc_core.specs.Rights.{has, has_in}

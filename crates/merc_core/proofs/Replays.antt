@@ -10,7 +10,7 @@ use Rattle.merc_script.specs.Items.{script_of}
 use Rattle.merc_script.specs.ScriptCode.{script_of-items_of}
 use Rattle.merc_core.specs.declared.event.Event.{Event}
 use Rattle.merc_core.specs.declared.event.NotNow.{NotNow}
-use Rattle.merc_queues.specs.declared.join.Join.{Join as CoreJoin}
+use Rattle.merc_core.specs.declared.join.Join.{Join as CoreJoin}
 use Rattle.merc_core.specs.declared.state.State.{State}
 use Rattle.merc_core.specs.World.{Join, Stored, World, start, outermost, outcome}
 use Rattle.merc_core.specs.Events.{Answer, happens, run}
@@ -19,7 +19,7 @@ use Rattle.merc_core.specs.Laws.{IsKept, IsCutEnd, GoesOn}
 use Rattle.merc_core.specs.Mirror.{Parts, Mirrors, IsCourse, AreFit, ShowsJoin}
 use Rattle.merc_core.specs.Stepping.{parts_of, IsKept as IsKeptState, Answers, Keeps}
 use Rattle.merc_core.specs.Execution.{Execution, state_of, with_event, told, outcome_of, IsAccepted}
-use Rattle.merc_queues.specs.Outcomes.{stored_first, outermost_outcome}
+use Rattle.merc_core.specs.Outcomes.{stored_first, outermost_outcome}
 use Rattle.merc_core.specs.Replaying.{Replays, IsFirstTurn, first_pop}
 use Rattle.merc_core.proofs.Steps.{Step, ticked, forks, signals, passes, starves, parks, finishes, takes_up, resumes, step_of}
 use Rattle.merc_core.proofs.StandingLaws.{length-items_of}

@@ -8,16 +8,16 @@ use Rattle.merc_script.specs.declared.outcome.Outcome.TheVariants.{Ok as Fine, R
 use Rattle.merc_script.specs.declared.items.Item.{Item}
 use Rattle.merc_script.specs.Script.{Ends, Children, NoChild, Child, Cell as ScriptCell, Move}
 use Rattle.merc_script.specs.Joining.{joined, walk, lacks_memory, HasFewSteps}
-use Rattle.merc_queues.specs.declared.branch.Branch.{Branch as CoreBranch}
-use Rattle.merc_queues.specs.declared.join.Join.{Join as CoreJoin}
-use Rattle.merc_queues.specs.declared.worker.Worker.{Worker}
+use Rattle.merc_core.specs.declared.branch.Branch.{Branch as CoreBranch}
+use Rattle.merc_core.specs.declared.join.Join.{Join as CoreJoin}
+use Rattle.merc_core.specs.declared.worker.Worker.{Worker}
 use Rattle.merc_core.specs.declared.event.Event.TheVariants.{Resume}
 use Rattle.merc_core.specs.declared.event.NotNow.TheVariants.{NoWorker, NotHolding}
 use Rattle.merc_core.specs.World.{Branch, Location, Runs, Join, Stored, World, stored_at, gathered, outcomes_of}
 use Rattle.merc_core.specs.Events.{in_hand, if_held, if_holds, resume_on, run_on, go_behind, happens}
 use Rattle.merc_core.specs.WellFormed.{most_steps}
-use Rattle.merc_queues.specs.Outcomes.{with_first, all_stored, joined_if, joined_at}
-use Rattle.merc_queues.specs.Queues.{behind_with}
+use Rattle.merc_core.specs.Outcomes.{with_first, all_stored, joined_if, joined_at}
+use Rattle.merc_core.specs.Queues.{behind_with}
 use Rattle.merc_core.specs.Mirror.{Hand, queue, held_of, hand_of, in_hand_at, stored_for, IsJoin, ShowsJoin, Parts, Shows, IsEarly, Mirrors, AreFit, made}
 use Rattle.merc_core.proofs.Pool.{takes-one}
 use Rattle.merc_core.proofs.Steps.{put_back}

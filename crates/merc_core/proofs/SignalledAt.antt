@@ -3,9 +3,9 @@ use Rattle.std.proofs.Common.{◌≡◌, ℕ, suc, ◌+◌, ◌^◌, ◌≤◌, 
 use Rattle.std.specs.Prelude.{Option, Ok, Err, slice_get, filter, map, if◌then◌else◌, nat_eq, IsSome}
 use Rattle.merc_script.specs.declared.items.Item.{Item}
 use Rattle.merc_script.specs.Script.{Script, Ends, TickThen, WaitThen, SignalThen, ForkThen, Cell as ScriptCell, Move}
-use Rattle.merc_queues.specs.declared.branch.Branch.{Branch as CoreBranch}
-use Rattle.merc_queues.specs.declared.cell.Cell.{Cell as CoreCell}
-use Rattle.merc_queues.specs.declared.worker.Worker.{Worker}
+use Rattle.merc_core.specs.declared.branch.Branch.{Branch as CoreBranch}
+use Rattle.merc_core.specs.declared.cell.Cell.{Cell as CoreCell}
+use Rattle.merc_core.specs.declared.worker.Worker.{Worker}
 use Rattle.merc_core.specs.declared.course.Next.{Next}
 use Rattle.merc_core.specs.declared.course.Next.TheVariants.{Tick as TickNext, Wait as WaitNext, Signal as SignalNext, Fork as ForkNext, End as EndNext}
 use Rattle.merc_core.specs.declared.event.Event.TheVariants.{Signal}
@@ -14,7 +14,7 @@ use Rattle.merc_core.specs.World.{Branch, Runs, Spot, spot, World}
 use Rattle.merc_core.specs.Rights.{has, has_in}
 use Rattle.merc_core.specs.Events.{signal_on, signalled, past_signal, unchanged, wake, happens}
 use Rattle.merc_core.specs.Standing.{StandsAt, IsLeft, IsNext, IsSignal}
-use Rattle.merc_queues.specs.Queues.{filled, meeting_at, waiting_of}
+use Rattle.merc_core.specs.Queues.{filled, meeting_at, waiting_of}
 use Rattle.merc_core.specs.Mirror.{Key, Hand, Row, Waiting, Parent, stands_in, queue, held, held_of, row_of, in_hand_at, Parts, Shows, ShowsPool, ShowsCell, Mirrors, AreFit, made, still_made, branches_made, rights_made, joins_made}
 use Rattle.merc_core.specs.Stepping.{RunsNext}
 use Rattle.merc_core.proofs.Pool.{each_way}

@@ -7,8 +7,8 @@ use Rattle.merc_script.specs.declared.outcome.Outcome.{Outcome}
 use Rattle.merc_script.specs.declared.items.Item.{Item}
 use Rattle.merc_script.specs.Script.{Script, Ends, TickThen, WaitThen, SignalThen, ForkThen}
 use Rattle.merc_script.specs.Items.{items_of}
-use Rattle.merc_queues.specs.declared.branch.Branch.{Branch as CoreBranch}
-use Rattle.merc_queues.specs.declared.worker.Worker.{Worker}
+use Rattle.merc_core.specs.declared.branch.Branch.{Branch as CoreBranch}
+use Rattle.merc_core.specs.declared.worker.Worker.{Worker}
 use Rattle.merc_core.specs.declared.course.Next.{Next}
 use Rattle.merc_core.specs.declared.course.Next.TheVariants.{Tick as TickNext, Wait as WaitNext, Signal as SignalNext, Fork as ForkNext, End as EndNext}
 use Rattle.merc_core.specs.declared.event.Event.TheVariants.{Tick}

@@ -6,11 +6,11 @@ use Rattle.std.specs.Prelude.{Option, filter, map, if◌then◌else◌, nat_eq}
 use Rattle.merc_script.specs.declared.outcome.Outcome.{Outcome}
 use Rattle.merc_script.specs.declared.outcome.Outcome.TheVariants.{Starved}
 use Rattle.merc_script.specs.declared.items.Item.{Item}
-use Rattle.merc_queues.specs.declared.branch.Branch.{Branch as CoreBranch}
-use Rattle.merc_queues.specs.declared.cell.Cell.{Cell}
+use Rattle.merc_core.specs.declared.branch.Branch.{Branch as CoreBranch}
+use Rattle.merc_core.specs.declared.cell.Cell.{Cell}
 use Rattle.merc_core.specs.World.{Branch}
 use Rattle.merc_core.specs.Events.{ended, wake}
-use Rattle.merc_queues.specs.Queues.{waiting_of, starved, spoiled, spoil_at, cells_after, list_after, first_stored, stored_from}
+use Rattle.merc_core.specs.Queues.{waiting_of, starved, spoiled, spoil_at, cells_after, list_after, first_stored, stored_from}
 use Rattle.merc_core.specs.Roomy.{IsRoomy}
 use Rattle.merc_core.specs.Mirror.{Key, Row, Waiting, stands_in, Shows}
 use Rattle.merc_core.proofs.Pool.{each_way}

@@ -4,7 +4,7 @@ use Rattle.std.specs.Prelude.{Option, slice_get, IsSome}
 use Rattle.std.proofs.lemmas.Option.{slice_get_within}
 use Rattle.merc_script.specs.declared.items.Item.{Item}
 use Rattle.merc_script.specs.declared.items.Item.TheVariants.{Wait}
-use Rattle.merc_queues.specs.declared.cell.Cell.{Cell}
+use Rattle.merc_core.specs.declared.cell.Cell.{Cell}
 use Rattle.merc_core.specs.Starting.{open_cell, IsOpen, AreOpen}
 use Rattle.merc_core.proofs.StartPlaces.{here-or-behind}
 

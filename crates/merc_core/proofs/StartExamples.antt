@@ -5,7 +5,7 @@ use Rattle.merc_script.specs.declared.items.Item.{Item}
 use Rattle.merc_script.specs.declared.items.Item.TheVariants.{Tick, Wait, Signal, End}
 use Rattle.merc_script.specs.Script.{Script, Ends, TickThen, WaitThen, SignalThen, ForkThen, NoChild, Child}
 use Rattle.merc_script.specs.Items.{items_of}
-use Rattle.merc_queues.specs.declared.cell.Cell.{Cell}
+use Rattle.merc_core.specs.declared.cell.Cell.{Cell}
 use Rattle.merc_core.specs.Mirror.{branches_made, rights_made, joins_made}
 use Rattle.merc_core.specs.Starting.{past_item, made_among, root_branch, worker_with, first_workers, open_cell, IsOpen, AreOpen, IsPast}
 use Rattle.merc_core.proofs.StartPlaces.{past-nowhere, past-everywhere, past-more}

@@ -6,12 +6,12 @@ use Rattle.std.specs.Prelude.{Option, slice_get, replicate, if◌then◌else◌,
 use Rattle.merc_script.specs.declared.items.Item.{Item}
 use Rattle.merc_script.specs.Script.{Script}
 use Rattle.merc_script.specs.Items.{items_of}
-use Rattle.merc_queues.specs.declared.branch.Branch.{Branch as CoreBranch}
-use Rattle.merc_queues.specs.declared.cell.Cell.{Cell as CoreCell}
-use Rattle.merc_queues.specs.declared.join.Join.{Join as CoreJoin}
-use Rattle.merc_queues.specs.declared.worker.Worker.{Worker}
+use Rattle.merc_core.specs.declared.branch.Branch.{Branch as CoreBranch}
+use Rattle.merc_core.specs.declared.cell.Cell.{Cell as CoreCell}
+use Rattle.merc_core.specs.declared.join.Join.{Join as CoreJoin}
+use Rattle.merc_core.specs.declared.worker.Worker.{Worker}
 use Rattle.merc_core.specs.World.{Runs, spot, first_branch, outermost, start}
-use Rattle.merc_queues.specs.Queues.{meeting_at, waiting_of}
+use Rattle.merc_core.specs.Queues.{meeting_at, waiting_of}
 use Rattle.merc_core.specs.Mirror.{Key, Hand, Row, Waiting, Parent, Parts, queue, held, hand_of, row_of, held_of, parents_of, in_hand_at, Shows, ShowsPool, ShowsCell, ShowsJoin, Mirrors, branches_made, rights_made, joins_made}
 use Rattle.merc_core.specs.Starting.{made_among, IsOpen, AreOpen, root_branch, worker_with, first_workers, outermost_join}
 use Rattle.merc_core.proofs.StandingLaws.{length-items_of, size-some}

@@ -5,8 +5,8 @@ use Rattle.std.proofs.lemmas.Option.{slice_get_within}
 use Rattle.std.proofs.lemmas.Bool.Decides.{nat_tests}
 use Rattle.std.specs.Prelude.{Ok, Err, slice_get, if◌then◌else◌, nat_eq, nat_lt}
 use Rattle.merc_script.specs.declared.items.Item.{Item}
-use Rattle.merc_queues.specs.declared.branch.Branch.{Branch as CoreBranch}
-use Rattle.merc_queues.specs.declared.worker.Worker.{Worker}
+use Rattle.merc_core.specs.declared.branch.Branch.{Branch as CoreBranch}
+use Rattle.merc_core.specs.declared.worker.Worker.{Worker}
 use Rattle.merc_core.specs.declared.event.Event.TheVariants.{Pop, Steal}
 use Rattle.merc_core.specs.declared.event.NotNow.TheVariants.{NoWorker, Busy, ListEmpty, SameWorker}
 use Rattle.merc_core.specs.World.{Branch, Runs, Spot, spot, World}
@@ -14,7 +14,7 @@ use Rattle.merc_core.specs.Events.{Answer, in_hand, back_of, front_of, if_worker
 use Rattle.merc_core.specs.Mirror.{Key, Hand, Row, same_key, in_hand_at, queue, held, held_of, hand_of, row_of, Parts, Shows, ShowsPool, Mirrors}
 use Rattle.merc_core.proofs.Pool.{each_way}
 use Rattle.merc_core.proofs.Steps.{put_back}
-use Rattle.merc_queues.proofs.QueueLists.{Begins, begins}
+use Rattle.merc_core.proofs.QueueLists.{Begins, begins}
 use Rattle.merc_core.proofs.PoolShows.{key-runs, same-key-is, with_queue, same-queues, Gone, gone-first, gone-last, gone-none, gone-no-last, put, held-changed}
 use Rattle.merc_core.proofs.Rooms.{room-back}
 use Rattle.merc_core.proofs.Acting.{with_worker, replaced, held-there, held-here, worker-known, nat-is, room-worker}

@@ -8,7 +8,7 @@ use Rattle.merc_script.specs.declared.outcome.Outcome.TheVariants.{Ok as Fine, R
 use Rattle.merc_script.specs.declared.cells.Move.{Move}
 use Rattle.merc_script.specs.Script.{Script, Ends, TickThen, WaitThen, SignalThen, ForkThen, Children, NoChild, Child, Cell, end_of, ends, size, sizes}
 use Rattle.merc_script.specs.Joining.{joined, walk, lacks_memory, later}
-use Rattle.merc_queues.specs.Outcomes.{with_first}
+use Rattle.merc_core.specs.Outcomes.{with_first}
 use Rattle.merc_core.specs.Rights.{has, has_in}
 use Rattle.merc_core.specs.declared.event.Event.{Event}
 use Rattle.merc_core.specs.declared.event.Event.TheVariants.{Tick, Fork, Pop, Steal, Signal, Wait, End, Resume, Lost}

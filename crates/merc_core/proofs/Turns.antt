@@ -5,12 +5,12 @@ use Rattle.std.specs.Prelude.{Option, slice_get, filter}
 use Rattle.std.specs.List.{AllByRecursion}
 use Rattle.merc_script.specs.declared.items.Item.{Item}
 use Rattle.merc_script.specs.Script.{Script, Ends, TickThen, WaitThen, SignalThen, ForkThen}
-use Rattle.merc_queues.specs.declared.branch.Branch.{Branch as CoreBranch}
+use Rattle.merc_core.specs.declared.branch.Branch.{Branch as CoreBranch}
 use Rattle.merc_core.specs.declared.course.Next.{Next}
 use Rattle.merc_core.specs.declared.course.Next.TheVariants.{Tick as TickNext, Wait as WaitNext, Signal as SignalNext, Fork as ForkNext, End as EndNext}
 use Rattle.merc_core.specs.declared.event.Event.{Event}
 use Rattle.merc_core.specs.declared.event.Event.TheVariants.{Pop, Resume}
-use Rattle.merc_queues.specs.declared.worker.Worker.{Worker}
+use Rattle.merc_core.specs.declared.worker.Worker.{Worker}
 use Rattle.merc_core.specs.World.{Branch, Runs, Holds, Location, Spot, spot, World}
 use Rattle.merc_core.specs.Ready.{event_at}
 use Rattle.merc_core.specs.Laws.{GoesOn, IsKept}

@@ -4,11 +4,11 @@ use Rattle.std.specs.Prelude.{Option, Ok, Err, slice_get, filter, if◌then◌el
 use Rattle.merc_script.specs.declared.outcome.Outcome.TheVariants.{Starved}
 use Rattle.merc_script.specs.declared.items.Item.{Item}
 use Rattle.merc_script.specs.Script.{Script, Ends, TickThen, WaitThen, SignalThen, ForkThen}
-use Rattle.merc_queues.specs.declared.branch.Branch.{Branch as CoreBranch}
-use Rattle.merc_queues.specs.declared.cell.Cell.{Cell as CoreCell}
-use Rattle.merc_queues.specs.declared.cell.Meeting.{Meeting}
-use Rattle.merc_queues.specs.declared.cell.Meeting.TheVariants.{Full, Poisoned, Open}
-use Rattle.merc_queues.specs.declared.worker.Worker.{Worker}
+use Rattle.merc_core.specs.declared.branch.Branch.{Branch as CoreBranch}
+use Rattle.merc_core.specs.declared.cell.Cell.{Cell as CoreCell}
+use Rattle.merc_core.specs.declared.cell.Meeting.{Meeting}
+use Rattle.merc_core.specs.declared.cell.Meeting.TheVariants.{Full, Poisoned, Open}
+use Rattle.merc_core.specs.declared.worker.Worker.{Worker}
 use Rattle.merc_core.specs.declared.course.Next.{Next}
 use Rattle.merc_core.specs.declared.course.Next.TheVariants.{Tick as TickNext, Wait as WaitNext, Signal as SignalNext, Fork as ForkNext, End as EndNext}
 use Rattle.merc_core.specs.declared.event.Event.TheVariants.{Wait}
@@ -17,7 +17,7 @@ use Rattle.merc_core.specs.World.{Branch, Runs, AtCell, Spot, spot, World}
 use Rattle.merc_core.specs.Rights.{has, has_in}
 use Rattle.merc_core.specs.Events.{wait_on, wait_at, past_wait, ended, happens}
 use Rattle.merc_core.specs.Standing.{StandsAt, IsLeft, IsNext, IsWait}
-use Rattle.merc_queues.specs.Queues.{meeting_of, meeting_at, parked_at, waiting_of}
+use Rattle.merc_core.specs.Queues.{meeting_of, meeting_at, parked_at, waiting_of}
 use Rattle.merc_core.specs.Mirror.{Key, Hand, Row, Waiting, Parent, stands_in, queue, held, held_of, Parts, Shows, ShowsPool, ShowsCell, Mirrors, AreFit, made}
 use Rattle.merc_core.specs.Stepping.{RunsNext}
 use Rattle.merc_core.proofs.Pool.{each_way}

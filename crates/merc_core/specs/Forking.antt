@@ -3,7 +3,7 @@ use Rattle.std.specs.Prelude.{ℕ, zero, suc, ◌+◌, List, ◌∷◌, length, 
 use Rattle.merc_script.specs.declared.outcome.Outcome.{Outcome}
 use Rattle.merc_script.specs.declared.cells.Move.{Move}
 use Rattle.merc_script.specs.Script.{Cell}
-use Rattle.merc_queues.specs.declared.branch.Branch.{Branch}
+use Rattle.merc_core.specs.declared.branch.Branch.{Branch}
 use Rattle.merc_core.specs.Rights.{signals_at}
 
 abbrev pub place_or : ℕ → Option ℕ → ℕ

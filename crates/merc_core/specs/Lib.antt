@@ -1,3 +1,5 @@
+pub mod Queues
+pub mod Outcomes
 pub mod Rights
 pub mod World
 pub mod Events

@@ -7,16 +7,16 @@ use Rattle.merc_script.specs.declared.items.Item.TheVariants.{Wait as WaitItem}
 use Rattle.merc_script.specs.Script.{Script, Ends, TickThen, WaitThen, SignalThen, ForkThen, Children, NoChild, Child, Cell as ScriptCell, Move, count, size}
 use Rattle.merc_script.specs.Items.{items_of, script_of}
 use Rattle.merc_script.specs.Joining.{HasFewSteps}
-use Rattle.merc_queues.specs.declared.branch.Branch.{Branch as CoreBranch}
-use Rattle.merc_queues.specs.declared.cell.Cell.{Cell as CoreCell}
-use Rattle.merc_queues.specs.declared.join.Join.{Join as CoreJoin}
-use Rattle.merc_queues.specs.declared.worker.Worker.{Worker}
+use Rattle.merc_core.specs.declared.branch.Branch.{Branch as CoreBranch}
+use Rattle.merc_core.specs.declared.cell.Cell.{Cell as CoreCell}
+use Rattle.merc_core.specs.declared.join.Join.{Join as CoreJoin}
+use Rattle.merc_core.specs.declared.worker.Worker.{Worker}
 use Rattle.merc_core.specs.World.{Branch, Location, Listed, Runs, Holds, AtCell, AtJoin, Spot, Join, Stored, World, stored_at}
 use Rattle.merc_core.specs.Events.{acts, listed, parked, awaits}
 use Rattle.merc_core.specs.Rights.{has, has_in}
 use Rattle.merc_core.specs.WellFormed.{most_children, most_steps}
 use Rattle.merc_core.specs.Standing.{StandsAt, IsLeft}
-use Rattle.merc_queues.specs.Queues.{meeting_at, waiting_of}
+use Rattle.merc_core.specs.Queues.{meeting_at, waiting_of}
 use Rattle.merc_core.specs.Given.{given, HasLeft, IsOpenAt}
 use Rattle.merc_core.specs.Laws.{AllStand}
 

@@ -7,7 +7,7 @@ use Rattle.merc_core.specs.declared.event.Event.{Event}
 use Rattle.merc_core.specs.declared.event.Event.TheVariants.{Tick as TickEvent, Fork as ForkEvent, Pop, Signal as SignalEvent, Wait as WaitEvent, End as EndEvent, Resume}
 use Rattle.merc_core.specs.declared.course.Next.{Next}
 use Rattle.merc_core.specs.declared.course.Next.TheVariants.{Tick, Wait, Signal, Fork, End}
-use Rattle.merc_queues.specs.declared.worker.Worker.{Worker}
+use Rattle.merc_core.specs.declared.worker.Worker.{Worker}
 use Rattle.merc_core.specs.World.{World}
 use Rattle.merc_core.specs.WellFormed.{WellFormed, most_workers}
 use Rattle.merc_core.specs.Laws.{LeadsTo}

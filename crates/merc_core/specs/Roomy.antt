@@ -1,10 +1,10 @@
 -- Room for branches that are woken.
 use Rattle.std.specs.Prelude.{◌≡◌, ℕ, ◌<◌, ◌^◌, List, length, Option}
 use Rattle.merc_script.specs.declared.items.Item.{Item}
-use Rattle.merc_queues.specs.declared.branch.Branch.{Branch}
-use Rattle.merc_queues.specs.declared.cell.Cell.{Cell}
+use Rattle.merc_core.specs.declared.branch.Branch.{Branch}
+use Rattle.merc_core.specs.declared.cell.Cell.{Cell}
 use Rattle.merc_core.specs.World.{Spot}
-use Rattle.merc_queues.specs.Queues.{waiting_of}
+use Rattle.merc_core.specs.Queues.{waiting_of}
 use Rattle.merc_core.specs.Mirror.{Key, Row, Waiting, ShowsPool}
 
 -- a list and those that wait for cells are branches of a pool, of which there are not too many

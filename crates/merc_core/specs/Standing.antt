@@ -6,7 +6,7 @@ use Rattle.merc_script.specs.declared.items.Item.TheVariants.{Wait as WaitItem}
 use Rattle.merc_script.specs.declared.items.Fork.{Fork as ForkData}
 use Rattle.merc_script.specs.Script.{Script, Ends, TickThen, WaitThen, SignalThen, ForkThen, Children, count, sizes}
 use Rattle.merc_script.specs.Items.{items_of, items_in}
-use Rattle.merc_queues.specs.declared.branch.Branch.{Branch}
+use Rattle.merc_core.specs.declared.branch.Branch.{Branch}
 use Rattle.merc_core.specs.declared.course.Next.{Next}
 use Rattle.merc_core.specs.declared.course.Next.TheVariants.{Tick, Wait, Signal, Fork, End}
 

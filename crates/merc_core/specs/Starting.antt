@@ -5,11 +5,11 @@ use Rattle.std.specs.declared.vec.Vec.{Vec}
 use Rattle.merc_script.specs.declared.items.Item.{Item}
 use Rattle.merc_script.specs.declared.items.Item.TheVariants.{Tick, Wait, Signal, Fork, End}
 use Rattle.merc_script.specs.Script.{Script, Cell as ScriptCell, Move, size}
-use Rattle.merc_queues.specs.declared.branch.Branch.{Branch}
-use Rattle.merc_queues.specs.declared.cell.Cell.{Cell}
-use Rattle.merc_queues.specs.declared.join.Join.{Join}
+use Rattle.merc_core.specs.declared.branch.Branch.{Branch}
+use Rattle.merc_core.specs.declared.cell.Cell.{Cell}
+use Rattle.merc_core.specs.declared.join.Join.{Join}
 use Rattle.merc_core.specs.declared.state.Spare.{Spare}
-use Rattle.merc_queues.specs.declared.worker.Worker.{Worker}
+use Rattle.merc_core.specs.declared.worker.Worker.{Worker}
 use Rattle.merc_core.specs.Standing.{StandsAt}
 use Rattle.merc_core.specs.Forking.{past_script, past_scripts, newborn}
 use Rattle.merc_core.specs.Mirror.{branches_made, rights_made}

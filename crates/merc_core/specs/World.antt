@@ -3,7 +3,7 @@ use Rattle.std.specs.Prelude.{ℕ, suc, ◌&&◌, List, [], ◌∷◌, Option, S
 use Rattle.merc_script.specs.declared.outcome.Outcome.{Outcome}
 use Rattle.merc_script.specs.Places.{Name}
 use Rattle.merc_script.specs.Script.{Script, Children, NoChild, Child, size}
-use Rattle.merc_queues.specs.Outcomes.{with_first}
+use Rattle.merc_core.specs.Outcomes.{with_first}
 
 -- A branch is on its way through one script, that of a child of a join. `name` leads to this script from the root's: for each Fork on the way the number of
 -- items before it, and the child. `passed` counts the items that the branch has passed, `steps` its steps so far. `at` counts the items and ends that come

@@ -4,7 +4,7 @@ ghost use Rattle.merc_script.specs.Script.{Script};
 ghost use Rattle.merc_core.specs.Forking.{past_script, past_scripts};
 ghost use Rattle.merc_core.specs.Standing.{IsLeft, IsNext};
 
-use merc_queues::Branch;
+use crate::branch::Branch;
 use merc_script::{CellId, Fork, Item, Outcome};
 
 // The root's items, and for each place the place past the script that starts there.

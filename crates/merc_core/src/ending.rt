@@ -2,18 +2,18 @@
 ghost use Rattle.std.specs.Prelude.{◌≡◌, ◌<◌, ◌∷◌, ℕ, Some, length, slice_get};
 ghost use Rattle.std.specs.Ordering.{nat_cmp};
 ghost use Rattle.std.specs.BTreeMap.{get};
-ghost use Rattle.merc_queues.specs.Queues.{cells_after, first_stored, list_after, stored_from};
+ghost use Rattle.merc_core.specs.Queues.{cells_after, first_stored, list_after, stored_from};
 ghost use Rattle.merc_core.specs.Roomy.{IsRoomy};
 ghost use Rattle.merc_script.specs.Joining.{HasFewSteps};
 ghost use Rattle.merc_core.specs.Stepping.{parts_of, Finishes, IsKept, Keeps, RunsNext};
 
+use crate::branch::Branch;
+use crate::cell::{Cell, spoil};
 use crate::course::{Course, Next};
+use crate::lists::move_all;
 use crate::running::next_of;
 use crate::state::State;
 use crate::{Event, NotNow};
-use merc_queues::cell::spoil;
-use merc_queues::lists::move_all;
-use merc_queues::{Branch, Cell};
 use merc_script::{CellId, Outcome};
 use std::collections::{BTreeMap, LinkedList};
 

@@ -9,12 +9,12 @@ ghost use Rattle.merc_core.specs.Execution.{IsAccepted, outcome_of, state_of, to
 
 use crate::course::Course;
 use crate::happening::happen;
+use crate::join::outermost_outcome;
 use crate::making::{Started, begin};
 use crate::readying::{first_pop, first_turn};
 use crate::state::State;
 use crate::{Event, NotNow};
 use merc_base::NoMemory;
-use merc_queues::join::outermost_outcome;
 use merc_script::{Outcome, Script};
 use std::alloc::Global;
 use std::marker::Model;

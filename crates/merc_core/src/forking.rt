@@ -1,16 +1,17 @@
 //! A fork.
 ghost use Rattle.std.specs.Prelude.{◌≡◌, ◌+◌, ◌≤◌, ◌<◌, ◌^◌, ◌∷◌, ◌++◌, [], Some, true, length, slice_get};
-ghost use Rattle.merc_queues.specs.declared.branch.Branch.{Branch as CoreBranch};
+ghost use Rattle.merc_core.specs.declared.branch.Branch.{Branch as CoreBranch};
 ghost use Rattle.merc_core.specs.Forking.{born_from, not_stored, rights_wanted};
 ghost use Rattle.merc_core.specs.Stepping.{parts_of, ForksTo, IsForkNext, IsKept, Keeps, RunsNext};
 ghost use Rattle.merc_core.specs.Rights.{made_by, moved_to, signals_at};
 
+use crate::branch::Branch;
 use crate::course::{Course, Next};
+use crate::join::Join;
+use crate::lists::{move_all, put_first, put_last};
 use crate::running::next_of;
 use crate::state::{Spare, State};
 use crate::{Event, NotNow};
-use merc_queues::lists::{move_all, put_first, put_last};
-use merc_queues::{Branch, Join};
 use merc_script::{CellId, Fork, Move, Outcome, ScriptCell};
 use std::alloc::Global;
 use std::collections::LinkedList;

@@ -11,10 +11,13 @@ ghost use Rattle.merc_script.specs.Items.{items_of};
 ghost use Rattle.merc_script.specs.declared.items.Item.{Item as MeantItem};
 ghost use Rattle.merc_script.specs.Script.{Script as MeantScript};
 
+use crate::branch::Branch;
+use crate::cell::Cell;
 use crate::course::Course;
+use crate::join::Join;
 use crate::state::{Spare, State};
+use crate::worker::Worker;
 use merc_base::NoMemory;
-use merc_queues::{Branch, Cell, Join, Worker};
 use merc_script::{CellId, Fork, Item, Script};
 use std::alloc::Global;
 use std::collections::{BTreeMap, LinkedList};

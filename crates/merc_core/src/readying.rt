@@ -7,7 +7,7 @@ ghost use Rattle.merc_core.specs.Replaying.{IsFirstTurn, IsTurn, first_pop};
 use crate::Event;
 use crate::course::{Course, Next};
 use crate::running::next_of;
-use merc_queues::Worker;
+use crate::worker::Worker;
 
 // The next event of a worker, if it has a branch in its hand.
 fn turn_of(course: &Course, worker: &Worker, number: u32) -> Option<Event>

@@ -4,7 +4,7 @@ ghost use Rattle.std.specs.List.{AllByRecursion};
 ghost use Rattle.merc_core.specs.Stepping.{IsIdle, RunsNext};
 
 use crate::course::{Course, Next};
-use merc_queues::Worker;
+use crate::worker::Worker;
 
 // What the branch comes to next that a worker runs; `None` where it runs none.
 pub(crate) fn next_of<'a>(course: &'a Course, worker: &Worker) -> Option<Next<'a>>

@@ -2,12 +2,12 @@
 ghost use Rattle.std.specs.Prelude.{◌<◌, length};
 ghost use Rattle.merc_core.specs.Stepping.{parts_of, IsKept, Keeps};
 
+use crate::branch::pass_item;
+use crate::cell::fill;
 use crate::course::{Course, Next};
 use crate::running::next_of;
 use crate::state::State;
 use crate::{Event, NotNow};
-use merc_queues::branch::pass_item;
-use merc_queues::cell::fill;
 
 // The branch that a worker runs fills a cell. One that is parked there goes to the back of the worker's list.
 pub(crate) fn signal(course: &Course, state: &mut State, worker: usize) -> Result<(), NotNow>

@@ -2,11 +2,11 @@
 ghost use Rattle.std.specs.Prelude.{◌<◌, length};
 ghost use Rattle.merc_core.specs.Stepping.{parts_of, IsKept, Keeps};
 
+use crate::branch::pass_tick;
 use crate::course::{Course, Next};
 use crate::running::next_of;
 use crate::state::State;
 use crate::{Event, NotNow};
-use merc_queues::branch::pass_tick;
 
 // The branch that a worker runs goes past a tick.
 pub(crate) fn tick(course: &Course, state: &mut State, worker: usize) -> Result<(), NotNow>

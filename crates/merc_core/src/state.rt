@@ -1,6 +1,9 @@
 //! The state of the core.
 
-use merc_queues::{Branch, Cell, Join, Worker};
+use crate::branch::Branch;
+use crate::cell::Cell;
+use crate::join::Join;
+use crate::worker::Worker;
 use merc_script::{CellId, Outcome};
 use std::alloc::Global;
 use std::collections::{BTreeMap, LinkedList};

@@ -3,9 +3,9 @@ ghost use Rattle.std.specs.Prelude.{◌<◌, length};
 ghost use Rattle.merc_core.specs.Stepping.{parts_of, IsKept, Keeps};
 
 use crate::course::Course;
+use crate::lists::{move_first, move_last};
 use crate::state::State;
 use crate::{Event, NotNow};
-use merc_queues::lists::{move_first, move_last};
 use std::collections::LinkedList;
 
 // A worker runs the branch at the back of its list.

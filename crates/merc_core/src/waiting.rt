@@ -2,13 +2,12 @@
 ghost use Rattle.std.specs.Prelude.{◌<◌, length};
 ghost use Rattle.merc_core.specs.Stepping.{parts_of, IsKept, Keeps};
 
+use crate::branch::{end_first, pass_item};
+use crate::cell::{Meeting, find_cell, park};
 use crate::course::{Course, Next};
 use crate::running::next_of;
 use crate::state::State;
 use crate::{Event, NotNow};
-use merc_queues::Meeting;
-use merc_queues::branch::{end_first, pass_item};
-use merc_queues::cell::{find_cell, park};
 use merc_script::Outcome;
 
 // The branch that a worker runs goes past a wait, ends as starved, or parks at the cell.

@@ -1,6 +1,6 @@
 use Rattle.std.proofs.Common.{◌≡◌, ◌∙◌, ◌<◌, ◌++◌, [], ◌∷◌, length, refl, sym, ap, arith}
 use Rattle.merc_core.specs.Stepping.{parts_of}
-use Rattle.merc_queues.specs.declared.worker.Worker.{Worker}
+use Rattle.merc_core.specs.declared.worker.Worker.{Worker}
 use Rattle.merc_core.proofs.StandingLaws.{there}
 use Rattle.merc_core.proofs.Acting.{same-worker}
 use Rattle.merc_core.proofs.FinishedAt.{taken-out, done-past, done-waits, done-held, found-same, one-in-hand, roomy-of, few-parents}

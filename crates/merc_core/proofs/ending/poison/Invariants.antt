@@ -2,7 +2,7 @@
 use Rattle.std.proofs.Common.{◌≡◌, length}
 use Rattle.std.specs.Ordering.{nat_cmp}
 use Rattle.std.specs.BTreeMap.{get}
-use Rattle.merc_queues.specs.Queues.{cells_after, list_after}
+use Rattle.merc_core.specs.Queues.{cells_after, list_after}
 use Rattle.merc_core.specs.Roomy.{IsRoomy}
 use Rattle.merc_core.proofs.ending.poison.Given as goal
 

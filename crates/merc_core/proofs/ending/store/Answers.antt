@@ -1,5 +1,5 @@
 use Rattle.std.proofs.Common.{◌≡◌, ◌∙◌, ◌+◌, ◌-◌, ◌<◌, ◌++◌, length, sym, ap, arith}
-use Rattle.merc_queues.specs.Queues.{stored_from}
+use Rattle.merc_core.specs.Queues.{stored_from}
 use Rattle.merc_core.proofs.Spoiling.{stored-before, stored-behind, stored-there, stored-room}
 use Rattle.merc_core.proofs.ending.store.Goals as goal
 use Rattle.merc_core.proofs.ending.store.Goals.{then-child-eq0-via-then-child-eq0, then-child-eq0-via-else-child-eq0+then-child-len}

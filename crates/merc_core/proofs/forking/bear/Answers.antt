@@ -1,5 +1,5 @@
 use Rattle.std.proofs.Common.{◌∙◌, ◌<◌, ◌+◌, ◌-◌, ◌∷◌, List, length, sym, ap, arith}
-use Rattle.merc_queues.specs.declared.branch.Branch.{Branch as CoreBranch}
+use Rattle.merc_core.specs.declared.branch.Branch.{Branch as CoreBranch}
 use Rattle.merc_core.specs.Rights.{signals_at}
 use Rattle.merc_core.specs.Forking.{born_from, newborn}
 use Rattle.merc_core.proofs.ForkParts.{born-on, rights-on}

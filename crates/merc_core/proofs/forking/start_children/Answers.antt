@@ -5,7 +5,7 @@ use Rattle.std.specs.Ordering.{nat_cmp}
 use Rattle.std.specs.BTreeMap.{get}
 use Rattle.merc_core.specs.Forking.{born_from, past_scripts}
 use Rattle.merc_core.specs.Stepping.{parts_of, RunsNext}
-use Rattle.merc_queues.specs.declared.worker.Worker.{Worker}
+use Rattle.merc_core.specs.declared.worker.Worker.{Worker}
 use Rattle.merc_core.proofs.StandingLaws.{there}
 use Rattle.merc_core.proofs.Acting.{same-worker}
 use Rattle.merc_core.proofs.Simple.{hand-room}

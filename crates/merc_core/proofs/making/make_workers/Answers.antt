@@ -1,5 +1,5 @@
 use Rattle.std.proofs.Common.{[], ◌∷◌, ◌++◌, ◌∙◌, List, ap}
-use Rattle.merc_queues.specs.declared.branch.Branch.{Branch}
+use Rattle.merc_core.specs.declared.branch.Branch.{Branch}
 use Rattle.merc_core.proofs.Starts.{workers-first, workers-more}
 use Rattle.merc_core.proofs.making.make_workers.Goals as goal
 

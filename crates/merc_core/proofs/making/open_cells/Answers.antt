@@ -4,7 +4,7 @@ use Rattle.std.specs.Ordering.{nat_cmp, is_eq}
 use Rattle.std.specs.BTreeMap.{BTreeMap, get}
 use Rattle.std.proofs.lemmas.Option.{slice_get_read}
 use Rattle.merc_script.specs.declared.items.Item.{Item}
-use Rattle.merc_queues.specs.declared.cell.Cell.{Cell}
+use Rattle.merc_core.specs.declared.cell.Cell.{Cell}
 use Rattle.merc_core.proofs.StartCells.{AreOpenTo, open-more, open-still, all-open}
 use Rattle.merc_core.proofs.making.open_cells.Goals as goal
 use Rattle.merc_core.proofs.making.open_cells.Goals.{in-Wait+in_ok-insert+in-Some-1, in-Wait+in_ok-insert+in-None-1, in_default}

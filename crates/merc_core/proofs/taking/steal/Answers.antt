@@ -1,5 +1,5 @@
 use Rattle.std.proofs.Common.{◌≡◌, ◌==◌, ◌<◌, ◌∙◌, ◌++◌, take, false, length, length-set, refl, subst, sym, ap, arith}
-use Rattle.merc_queues.specs.declared.worker.Worker.{Worker}
+use Rattle.merc_core.specs.declared.worker.Worker.{Worker}
 use Rattle.merc_core.specs.Stepping.{parts_of}
 use Rattle.std.proofs.Math.ListN.{set}
 use Rattle.merc_core.proofs.StandingLaws.{there}

@@ -2,7 +2,7 @@ use Rattle.std.proofs.Common.{◌≡◌, length, refl, subst, sym, ap, arith}
 use Rattle.std.specs.Prelude.{IsSome}
 use Rattle.std.specs.Ordering.{nat_cmp}
 use Rattle.std.specs.BTreeMap.{get}
-use Rattle.merc_queues.specs.declared.worker.Worker.{Worker}
+use Rattle.merc_core.specs.declared.worker.Worker.{Worker}
 use Rattle.merc_core.specs.Stepping.{parts_of, RunsNext}
 use Rattle.merc_core.proofs.StandingLaws.{there}
 use Rattle.merc_core.proofs.Acting.{runs-none, same-worker}

@@ -1,7 +1,7 @@
 use Rattle.std.proofs.Common.{◌∙◌, ap}
 use Rattle.std.specs.Prelude.{vec_capacity}
 use Rattle.merc_core.specs.Stepping.{parts_of}
-use Rattle.merc_queues.specs.Outcomes.{outermost_outcome}
+use Rattle.merc_core.specs.Outcomes.{outermost_outcome}
 use Rattle.merc_core.proofs.Replays.{outcome-is, whole-so, nearly-so}
 use Rattle.merc_core.proofs.executing.Core.outcome.Goals as goal
 

@@ -2,7 +2,7 @@
 use Rattle.std.specs.Prelude.{ℕ, List, [], ◌∷◌, Option, Some, None}
 use Rattle.merc_script.specs.declared.outcome.Outcome.{Outcome}
 use Rattle.merc_script.specs.Joining.{joined, joined_with}
-use Rattle.merc_queues.specs.declared.join.Join.{Join}
+use Rattle.merc_core.specs.declared.join.Join.{Join}
 
 -- an outcome in front of others, if both are there
 abbrev pub with_first : Option Outcome → Option (List Outcome) → Option (List Outcome)

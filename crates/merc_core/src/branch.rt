@@ -1,6 +1,6 @@
 //! Branches, and what becomes of the first of a list.
 ghost use Rattle.std.specs.Prelude.{◌≡◌, ◌+◌, ◌-◌, ◌<◌, ◌^◌, [], ◌∷◌, Some};
-ghost use Rattle.merc_queues.specs.declared.branch.Branch.{Branch as CoreBranch};
+ghost use Rattle.merc_core.specs.declared.branch.Branch.{Branch as CoreBranch};
 
 use merc_script::{CellId, Outcome};
 use std::collections::LinkedList;

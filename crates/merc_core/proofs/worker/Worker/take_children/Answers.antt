@@ -1,6 +1,6 @@
 use Rattle.std.proofs.Common.{◌∙◌, ◌-◌, ◌++◌, length, drop, ap, arith}
-use Rattle.merc_queues.proofs.QueueLists.{take-less}
-use Rattle.merc_queues.proofs.worker.Worker.take_children.Goals as goal
+use Rattle.merc_core.proofs.QueueLists.{take-less}
+use Rattle.merc_core.proofs.worker.Worker.take_children.Goals as goal
 
 pub move_all-requires : goal.move_all-requires
 move_all-requires c =

@@ -2,8 +2,8 @@
 use Rattle.std.proofs.Common.{◌≡◌, ℕ, List, [], ◌∷◌, Option, Some, None, refl}
 use Rattle.merc_script.specs.declared.outcome.Outcome.{Outcome}
 use Rattle.merc_script.specs.declared.outcome.Outcome.TheVariants.{Ok as Fine, Raise, Limit}
-use Rattle.merc_queues.specs.declared.join.Join.{Join}
-use Rattle.merc_queues.specs.Outcomes.{with_first, all_stored, joined_if, joined_at, joined_on, stored_first, outermost_outcome}
+use Rattle.merc_core.specs.declared.join.Join.{Join}
+use Rattle.merc_core.specs.Outcomes.{with_first, all_stored, joined_if, joined_at, joined_on, stored_first, outermost_outcome}
 
 abbrev join : ℕ → List (Option Outcome) → Join
 join limit outcomes = record { limit = limit; outcomes = outcomes; parent = [] }

@@ -5,7 +5,7 @@ use Rattle.merc_script.specs.declared.outcome.Outcome.{Outcome}
 use Rattle.merc_script.specs.declared.outcome.Outcome.TheVariants.{Ok as Fine}
 use Rattle.merc_script.specs.Joining.{joined_with, joined_behind}
 use Rattle.merc_script.proofs.JoiningLaws.{joined-in-order}
-use Rattle.merc_queues.specs.Outcomes.{with_first, all_stored, joined_if, joined_on}
+use Rattle.merc_core.specs.Outcomes.{with_first, all_stored, joined_if, joined_on}
 
 behind_if : ℕ → Outcome → Option (List Outcome) → Option Outcome
 behind_if limit before None = None

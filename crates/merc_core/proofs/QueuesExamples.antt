@@ -2,10 +2,10 @@
 use Rattle.std.proofs.Common.{◌≡◌, ℕ, zero, suc, Bool, true, false, List, [], ◌∷◌, length, Option, Some, None, refl, ap, arith}
 use Rattle.merc_script.specs.declared.outcome.Outcome.{Outcome}
 use Rattle.merc_script.specs.declared.outcome.Outcome.TheVariants.{Ok as Fine, Raise, Limit, Starved, NoMemory}
-use Rattle.merc_queues.specs.declared.branch.Branch.{Branch}
-use Rattle.merc_queues.specs.declared.cell.Cell.{Cell}
-use Rattle.merc_queues.specs.declared.cell.Meeting.TheVariants.{Full, Poisoned, Open}
-use Rattle.merc_queues.specs.Queues.{waiting_of, starved, filled, spoiled, parked_at, meeting_at, meeting_of, behind_with, spoil_at, cells_after, list_after, first_stored, stored_from}
+use Rattle.merc_core.specs.declared.branch.Branch.{Branch}
+use Rattle.merc_core.specs.declared.cell.Cell.{Cell}
+use Rattle.merc_core.specs.declared.cell.Meeting.TheVariants.{Full, Poisoned, Open}
+use Rattle.merc_core.specs.Queues.{waiting_of, starved, filled, spoiled, parked_at, meeting_at, meeting_of, behind_with, spoil_at, cells_after, list_after, first_stored, stored_from}
 
 -- a first child with this end and so many steps
 abbrev first_child : Option Outcome → ℕ → Branch

@@ -2,10 +2,10 @@
 use Rattle.std.specs.Prelude.{ℕ, suc, ◌+◌, Bool, true, false, List, [], ◌∷◌, ◌++◌, map, Option, Some, None, if◌then◌else◌, nat_eq}
 use Rattle.merc_script.specs.declared.outcome.Outcome.{Outcome}
 use Rattle.merc_script.specs.declared.outcome.Outcome.TheVariants.{Ok as Fine, Raise, Limit, Starved, NoMemory}
-use Rattle.merc_queues.specs.declared.branch.Branch.{Branch}
-use Rattle.merc_queues.specs.declared.cell.Cell.{Cell}
-use Rattle.merc_queues.specs.declared.cell.Meeting.{Meeting}
-use Rattle.merc_queues.specs.declared.cell.Meeting.TheVariants.{Full, Poisoned, Open}
+use Rattle.merc_core.specs.declared.branch.Branch.{Branch}
+use Rattle.merc_core.specs.declared.cell.Cell.{Cell}
+use Rattle.merc_core.specs.declared.cell.Meeting.{Meeting}
+use Rattle.merc_core.specs.declared.cell.Meeting.TheVariants.{Full, Poisoned, Open}
 
 -- the branches that wait for a cell
 abbrev pub waiting_of : Option Cell → List Branch

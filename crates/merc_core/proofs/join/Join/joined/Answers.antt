@@ -1,8 +1,8 @@
 use Rattle.std.proofs.Common.{◌≡◌, ◌∙◌, ap}
 use Rattle.merc_script.specs.declared.outcome.Outcome.TheVariants.{Ok as Fine}
-use Rattle.merc_queues.specs.Outcomes.{joined_on}
-use Rattle.merc_queues.proofs.StoredOutcomes.{joined_on-all}
-use Rattle.merc_queues.proofs.join.Join.joined.Goals as goal
+use Rattle.merc_core.specs.Outcomes.{joined_on}
+use Rattle.merc_core.proofs.StoredOutcomes.{joined_on-all}
+use Rattle.merc_core.proofs.join.Join.joined.Goals as goal
 
 pub loop-stored-init : goal.loop-stored-init
 loop-stored-init c =

@@ -2,7 +2,7 @@
 ghost use Rattle.std.specs.Prelude.{◌≡◌, ◌+◌, ◌<◌, ◌^◌, ◌++◌, ℕ, [], map, length, if◌then◌else◌, nat_eq, None, IsSome};
 ghost use Rattle.std.specs.Ordering.{nat_cmp};
 ghost use Rattle.std.specs.BTreeMap.{get};
-ghost use Rattle.merc_queues.specs.Queues.{filled, meeting_of, parked_at, spoiled, starved as starved_branch, waiting_of};
+ghost use Rattle.merc_core.specs.Queues.{filled, meeting_of, parked_at, spoiled, starved as starved_branch, waiting_of};
 
 use crate::branch::{Branch, end_first};
 use crate::lists::{move_all, move_first};

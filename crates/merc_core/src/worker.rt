@@ -1,8 +1,8 @@
 //! Workers, each with its branches.
 ghost use Rattle.std.specs.Prelude.{◌≡◌, ◌+◌, ◌-◌, ◌<◌, ◌≤◌, ◌^◌, ◌++◌, [], ◌∷◌, None, length, take, drop};
 ghost use Rattle.merc_script.specs.Joining.{HasFewSteps, most_steps};
-ghost use Rattle.merc_queues.specs.declared.branch.Branch.{Branch as CoreBranch};
-ghost use Rattle.merc_queues.specs.Queues.{behind_with};
+ghost use Rattle.merc_core.specs.declared.branch.Branch.{Branch as CoreBranch};
+ghost use Rattle.merc_core.specs.Queues.{behind_with};
 
 use crate::branch::Branch;
 use crate::lists::{move_all, move_last};

@@ -1,7 +1,7 @@
 use Rattle.std.proofs.Common.{◌<◌, length, arith}
 use Rattle.std.proofs.lemmas.List.{length-drop}
-use Rattle.merc_queues.proofs.QueueLists.{not-empty, starve-some, starve-kept, starve-room}
-use Rattle.merc_queues.proofs.cell.starve_all.Goals as goal
+use Rattle.merc_core.proofs.QueueLists.{not-empty, starve-some, starve-kept, starve-room}
+use Rattle.merc_core.proofs.cell.starve_all.Goals as goal
 
 pub move_first-requires-clause-some : goal.move_first-requires-clause-some
 move_first-requires-clause-some c =

@@ -1,6 +1,6 @@
 //! Joins, each with its parent.
 ghost use Rattle.std.specs.Prelude.{◌≡◌};
-ghost use Rattle.merc_queues.specs.Outcomes.{joined_at, outermost_outcome};
+ghost use Rattle.merc_core.specs.Outcomes.{joined_at, outermost_outcome};
 
 use crate::branch::Branch;
 use merc_script::{Outcome, join_next};

@@ -1,7 +1,7 @@
 use Rattle.std.proofs.Common.{◌≡◌, ◌++◌, length}
 use Rattle.std.specs.Prelude.{map}
-use Rattle.merc_queues.specs.Queues.{starved}
-use Rattle.merc_queues.proofs.cell.starve_all.Given as goal
+use Rattle.merc_core.specs.Queues.{starved}
+use Rattle.merc_core.proofs.cell.starve_all.Given as goal
 
 abbrev pub invariant-loop-branches : goal.invariant-loop-branches
 invariant-loop-branches l = l.list ++ map starved l.branches ≡ l.fn.list ++ map starved l.fn.branches

@@ -1,4 +1,0 @@
-pub mod QueueLists
-mod StoredOutcomes
-mod QueuesExamples
-mod OutcomesExamples
