@@ -8,8 +8,10 @@ use Rattle.merc_goal_tree.specs.declared.goal.Comparison.TheVariants.{AtLeast, A
 use Rattle.merc_goal_tree.specs.declared.goal.Operation.TheVariants.{Add}
 use Rattle.merc_value.specs.declared.word.Word.TheVariants.{Int as IntWord}
 use Rattle.merc_meaning.specs.Trace.{Env}
-use Rattle.merc_code.specs.Steps.{Code, Codes, State, Answers}
+use Rattle.merc_code.specs.Steps.{Code, Codes, State, Step, Answers, Ticks}
 use Rattle.merc_last_calls.specs.LastCalls.{step_lean}
+use Rattle.merc_last_calls.specs.LeanMeaning.{GoesLean, stays, moves as goes_moves, ticks as goes_ticks}
+use Rattle.merc_live.specs.Agreeing.{StepsAgree, stops, moves, ticks, answers, stuck}
 use Rattle.merc_frames.specs.declared.passing.Pass.{Pass}
 use Rattle.merc_frames.specs.declared.slot.Slot.{Slot}
 use Rattle.merc_frames.specs.declared.slot.Slot.TheVariants.{Empty, Int as IntSlot}
