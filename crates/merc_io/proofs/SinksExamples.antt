@@ -1,7 +1,11 @@
 -- Worked examples of what the sinks in memory hold.
 use Rattle.std.proofs.Common.{◌≡◌, true, false, [], ◌∷◌, Some, None, refl, ap}
 use Rattle.merc_base.specs.declared.outside.Wrote.TheVariants.{Took, Failed}
-use Rattle.merc_io.specs.Sinks.{MemSinkState, FailingSinkState, empty_sink, room_left, sink_after, front_of, OutSinkState, told_if}
+use Rattle.std.specs.Prelude.{List, ℕ}
+use Rattle.merc_base.specs.Outside.{SinkState}
+use Rattle.merc_io.specs.Sinks.{
+  MemSinkState, FailingSinkState, empty_sink, room_left, sink_after, front_of, memory_told, OutSinkState, writer_told, told_if, PieceSinkState, pieces_told, pieces_after
+}
 
 -- two bytes written, in a room of three
 pub MemSinkState-example : MemSinkState
@@ -14,6 +18,16 @@ empty_sink-example = refl
 -- it has no room more
 pub empty_sink-counterexample : room_left (empty_sink 3) ≡ 4 → ⊥
 empty_sink-counterexample more = cc
+
+-- its two bytes are told
+pub memory_told-example : memory_told MemSinkState-example ≡ record { written = Some (7 ∷ 8 ∷ []); given = None; faults = 0 }
+unfolding MemSinkState-example
+memory_told-example = refl
+
+-- that they came as one piece is not
+pub memory_told-counterexample : memory_told MemSinkState-example ≡ record { written = Some (7 ∷ 8 ∷ []); given = Some ((7 ∷ 8 ∷ []) ∷ []); faults = 0 } → ⊥
+unfolding MemSinkState-example
+memory_told-counterexample same = cc (ap (λ (s : SinkState). s.given) same)
 
 -- one more fits
 pub room_left-example : room_left MemSinkState-example ≡ 1
@@ -58,3 +72,37 @@ told_if-example = refl
 -- standard output tells none
 pub told_if-counterexample : told_if false (Some (7 ∷ [])) ≡ Some (7 ∷ []) → ⊥
 told_if-counterexample told = cc
+
+-- the byte and the fault
+pub writer_told-example : writer_told OutSinkState-example ≡ record { written = Some (7 ∷ []); given = None; faults = 1 }
+unfolding OutSinkState-example
+writer_told-example = refl
+
+-- the fault is not passed over
+pub writer_told-counterexample : writer_told OutSinkState-example ≡ record { written = Some (7 ∷ []); given = None; faults = 0 } → ⊥
+unfolding OutSinkState-example
+writer_told-counterexample same = cc (ap (λ (s : SinkState). s.faults) same)
+
+-- two pieces, and no write failed
+pub PieceSinkState-example : PieceSinkState
+PieceSinkState-example = record { pieces = (7 ∷ 8 ∷ []) ∷ (9 ∷ []) ∷ []; faults = 0 }
+
+-- their three bytes and both pieces are told
+pub pieces_told-example : pieces_told PieceSinkState-example ≡ record { written = Some (7 ∷ 8 ∷ 9 ∷ []); given = Some ((7 ∷ 8 ∷ []) ∷ (9 ∷ []) ∷ []); faults = 0 }
+unfolding PieceSinkState-example
+pieces_told-example = refl
+
+-- they did not come as one piece
+pub pieces_told-counterexample : pieces_told PieceSinkState-example ≡ record { written = Some (7 ∷ 8 ∷ 9 ∷ []); given = Some ((7 ∷ 8 ∷ 9 ∷ []) ∷ []); faults = 0 } → ⊥
+unfolding PieceSinkState-example
+pieces_told-counterexample same = cc (ap (λ (s : SinkState). s.given) same)
+
+-- a piece that was taken stands behind the others
+pub pieces_after-example : pieces_after (5 ∷ []) (Took 1) PieceSinkState-example ≡ record { pieces = (7 ∷ 8 ∷ []) ∷ (9 ∷ []) ∷ (5 ∷ []) ∷ []; faults = 0 }
+unfolding PieceSinkState-example
+pieces_after-example = refl
+
+-- a write that failed left no piece
+pub pieces_after-counterexample : pieces_after (5 ∷ []) Failed PieceSinkState-example ≡ record { pieces = (7 ∷ 8 ∷ []) ∷ (9 ∷ []) ∷ (5 ∷ []) ∷ []; faults = 1 } → ⊥
+unfolding PieceSinkState-example
+pieces_after-counterexample same = cc (ap (λ (s : PieceSinkState). s.pieces) same)

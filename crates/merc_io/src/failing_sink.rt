@@ -2,7 +2,7 @@
 ghost use Rattle.std.specs.Prelude.{◌≡◌, ◌≢◌, ◌↔◌, ◌⊎◌, ◌<◌, ◌≤◌, length, Some, None, IfOk, Contains};
 ghost use Rattle.merc_base.specs.Outside.{AnswersWrite};
 ghost use Rattle.merc_io.specs.Numbers.{number_after};
-ghost use Rattle.merc_io.specs.Sinks.{empty_sink, room_left, sink_after, front_of};
+ghost use Rattle.merc_io.specs.Sinks.{empty_sink, room_left, sink_after, front_of, memory_told};
 
 use crate::MemSink;
 use merc_base::{NoMemory, Sink, Wrote};
@@ -82,15 +82,12 @@ impl FailingSink {
 }
 
 impl Sink for FailingSink {
-    ghost written = { λ s. Some s.sink.bytes };
-
-    ghost write_faults = { λ s. s.sink.faults };
+    ghost sink_state = { λ s. memory_told s.sink };
 
     /// A write whose number is listed fails, and so does one for which there is no room. It takes no memory.
     fn write(&mut self, bytes: &[u8]) -> Wrote
         requires { self.old.sink.faults < 18446744073709551615 }
-        ensures answer { AnswersWrite bytes.now (Some self.old.sink.bytes) (Some self.new.sink.bytes)
-            self.old.sink.faults self.new.sink.faults result }
+        ensures answer { AnswersWrite bytes.now (memory_told self.old.sink) (memory_told self.new.sink) result }
         ensures failed { (result ≡ Wrote.Failed) ↔ (Contains self.old.fail self.old.next_write
             ⊎ (room_left self.old.sink < length (front_of self.old.most bytes.now))) }
         ensures took { result ≢ Wrote.Failed → result ≡ Wrote.Took (length (front_of self.old.most bytes.now)) }

@@ -10,6 +10,7 @@ pub mod mem_sink;
 pub mod open_gate;
 pub mod opening;
 pub mod out_sink;
+pub mod piece_sink;
 
 pub use failing_shelf::FailingShelf;
 pub use failing_sink::FailingSink;
@@ -19,3 +20,4 @@ pub use mem_sink::MemSink;
 pub use open_gate::OpenGate;
 pub use opening::{Opener, ReadFault, SystemFiles};
 pub use out_sink::{OutSink, SystemOutput};
+pub use piece_sink::PieceSink;

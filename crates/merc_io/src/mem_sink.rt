@@ -1,7 +1,7 @@
 //! A sink in memory.
-ghost use Rattle.std.specs.Prelude.{◌≡◌, ◌↔◌, ◌+◌, ◌<◌, ◌≤◌, length, Some, IfOk};
+ghost use Rattle.std.specs.Prelude.{◌≡◌, ◌↔◌, ◌+◌, ◌<◌, ◌≤◌, length, IfOk};
 ghost use Rattle.merc_base.specs.Outside.{AnswersWrite};
-ghost use Rattle.merc_io.specs.Sinks.{empty_sink, room_left, sink_after};
+ghost use Rattle.merc_io.specs.Sinks.{empty_sink, room_left, sink_after, memory_told};
 
 use merc_base::{NoMemory, Sink, Wrote};
 use std::alloc::Global;
@@ -62,15 +62,12 @@ impl MemSink {
 }
 
 impl Sink for MemSink {
-    ghost written = { λ s. Some s.bytes };
-
-    ghost write_faults = { λ s. s.faults };
+    ghost sink_state = { memory_told };
 
     /// A piece that is longer than the room left fails, and any other is taken whole. It takes no memory.
     fn write(&mut self, bytes: &[u8]) -> Wrote
         requires { self.old.faults < 18446744073709551615 }
-        ensures answer { AnswersWrite bytes.now (Some self.old.bytes) (Some self.new.bytes)
-            self.old.faults self.new.faults result }
+        ensures answer { AnswersWrite bytes.now (memory_told self.old) (memory_told self.new) result }
         ensures failed { (result ≡ Wrote.Failed) ↔ (room_left self.old < length bytes.now) }
         ensures took { length bytes.now ≤ room_left self.old → result ≡ Wrote.Took (length bytes.now) }
         ensures state { self.new ≡ sink_after bytes.now result self.old }

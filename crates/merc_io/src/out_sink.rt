@@ -2,6 +2,7 @@
 ghost use Rattle.std.specs.Prelude.{◌≡◌, ◌+◌, ◌<◌, ◌≤◌, None, length, take, true, IfSome, IfNone, is_some};
 ghost use Rattle.std.specs.Io.KnownBytes.{Appends, Keeps};
 ghost use Rattle.merc_base.specs.Outside.{AnswersWrite};
+ghost use Rattle.merc_io.specs.Sinks.{writer_told};
 
 use merc_base::{Sink, Wrote};
 use std::io;
@@ -56,15 +57,13 @@ impl<W: Write + Drop> OutSink<W> {
 }
 
 impl<W: Write + Drop> Sink for OutSink<W> {
-    ghost written = { λ s. s.written };
-
-    ghost write_faults = { λ s. s.faults };
+    ghost sink_state = { writer_told };
 
     /// One write. The count of faults rises by one where it fails, and where it takes nothing of a piece that
     /// is not empty.
     fn write(&mut self, bytes: &[u8]) -> Wrote
         requires { self.old.faults < 18446744073709551615 }
-        ensures answer { AnswersWrite bytes.now self.old.written self.new.written self.old.faults self.new.faults result }
+        ensures answer { AnswersWrite bytes.now (writer_told self.old) (writer_told self.new) result }
         ensures by_one { self.new.faults ≤ self.old.faults + 1 }
     {
         match write_once(&mut self.writer, bytes) {
