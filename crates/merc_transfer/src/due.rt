@@ -1,7 +1,7 @@
 //! Lines that are due with a status.
 ghost use Rattle.std.specs.Prelude.{◌≡◌, ◌<◌, IfOk};
 ghost use Rattle.merc_transfer.specs.Statuses.{status_told};
-ghost use Rattle.merc_transfer.specs.Writing.{Writes, text_of};
+ghost use Rattle.merc_transfer.specs.Writing.{Writes};
 
 use crate::statuses;
 use crate::writing::{Cut, WriteFault, put_lines};
@@ -20,8 +20,8 @@ pub struct Due {
 ///
 /// `Unwritten` where a write failed. A front of the lines was written.
 pub fn put_due<K: Sink>(sink: &mut K, due: &Due) -> Result<u8, Cut>
-    requires { K.write_faults sink.old < 18446744073709551615 }
-    ensures writes { Writes (text_of due.now.lines) (K.written sink.old) (K.written sink.new) (K.write_faults sink.old) (K.write_faults sink.new) result }
+    requires { (K.sink_state sink.old).faults < 18446744073709551615 }
+    ensures writes { Writes due.now.lines (K.sink_state sink.old) (K.sink_state sink.new) result }
     ensures status { IfOk result (λ status. status ≡ due.now.status) }
 {
     match put_lines(sink, due.lines.as_slice()) {

@@ -1,7 +1,6 @@
 //! Writes whole texts to a sink that may take less than it is given.
-ghost use Rattle.std.specs.Prelude.{◌<◌, ℕ};
-ghost use Rattle.std.specs.List.{flat_map};
-ghost use Rattle.merc_transfer.specs.Writing.{Puts, Writes};
+ghost use Rattle.std.specs.Prelude.{◌<◌, [], ◌∷◌};
+ghost use Rattle.merc_transfer.specs.Writing.{PutsLines, Writes};
 
 use merc_base::{NoMemory, Sink, Text, Wrote};
 
@@ -29,15 +28,15 @@ impl From<NoMemory> for Cut {
     }
 }
 
-/// Writes a text, and the rest of it again where less was taken. No write follows one that failed. The count of faults of the
+/// Writes a text as one piece, and the rest of it again where less was taken. No write follows one that failed. The count of faults of the
 /// sink can still rise.
 ///
 /// # Errors
 ///
 /// A write failed. A front of the text was written.
 pub fn put<K: Sink>(sink: &mut K, bytes: &[u8]) -> Result<(), WriteFault>
-    requires { K.write_faults sink.old < 18446744073709551615 }
-    ensures { Puts bytes.now (K.written sink.old) (K.written sink.new) (K.write_faults sink.old) (K.write_faults sink.new) result }
+    requires { (K.sink_state sink.old).faults < 18446744073709551615 }
+    ensures { PutsLines (bytes.now ∷ []) (K.sink_state sink.old) (K.sink_state sink.new) result }
 {
     let mut rest = bytes;
     while !rest.is_empty() {
@@ -49,14 +48,14 @@ pub fn put<K: Sink>(sink: &mut K, bytes: &[u8]) -> Result<(), WriteFault>
     Ok(())
 }
 
-/// Writes lines in order, each as a piece of its own. The count of faults of the sink can still rise.
+/// Writes lines in order, each as one piece, and the rest of it again where less was taken. The count of faults of the sink can still rise.
 ///
 /// # Errors
 ///
 /// A write failed. A front of the text was written.
 pub fn put_lines<K: Sink>(sink: &mut K, lines: &[Text]) -> Result<(), WriteFault>
-    requires { K.write_faults sink.old < 18446744073709551615 }
-    ensures { Puts (flat_map (λ line. line) lines.now) (K.written sink.old) (K.written sink.new) (K.write_faults sink.old) (K.write_faults sink.new) result }
+    requires { (K.sink_state sink.old).faults < 18446744073709551615 }
+    ensures { PutsLines lines.now (K.sink_state sink.old) (K.sink_state sink.new) result }
 {
     for line in lines {
         if let Err(fault) = put(sink, line.bytes()) {
@@ -66,14 +65,14 @@ pub fn put_lines<K: Sink>(sink: &mut K, lines: &[Text]) -> Result<(), WriteFault
     Ok(())
 }
 
-/// Writes a line. The count of faults of the sink can still rise.
+/// Writes a line as one piece, and the rest of it again where less was taken. The count of faults of the sink can still rise.
 ///
 /// # Errors
 ///
 /// `Unwritten` where a write failed. A front of the line was written.
 pub fn put_line<K: Sink>(sink: &mut K, line: &Text) -> Result<(), Cut>
-    requires { K.write_faults sink.old < 18446744073709551615 }
-    ensures { Writes line.now (K.written sink.old) (K.written sink.new) (K.write_faults sink.old) (K.write_faults sink.new) result }
+    requires { (K.sink_state sink.old).faults < 18446744073709551615 }
+    ensures { Writes (line.now ∷ []) (K.sink_state sink.old) (K.sink_state sink.new) result }
 {
     match put(sink, line.bytes()) {
         Ok(()) => Ok(()),
