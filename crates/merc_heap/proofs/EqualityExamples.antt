@@ -3,7 +3,7 @@ use Rattle.std.proofs.Common.{◌≡◌, pos, List, [], ◌∷◌, inl, inr, ref
 use Rattle.merc_base.specs.Names.{cons_name}
 use Rattle.merc_value.specs.Block.{CellData, cell_values, value_of}
 use Rattle.merc_value.specs.declared.word.Word.TheVariants.{Int as IntWord, Cell as CellWord}
-use Rattle.merc_heap.specs.Equality.{size, AreSame, IsSplit, IsMet, Meets, Notes}
+use Rattle.merc_heap.specs.Equality.{size, AreSame, IsSplit, AreAlike, IsMet, Meets, Notes}
 
 abbrev cells : List CellData
 cells =
@@ -34,13 +34,21 @@ pub IsSplit-counterexample : IsSplit cells (CellWord 0) (CellWord 2) [] → ⊥
 unfolding cell_values
 IsSplit-counterexample split = let same = split.whole tt in cc
 
+pub AreAlike-example : AreAlike cells (CellWord 0) (CellWord 2)
+unfolding cell_values
+AreAlike-example = record { symbol = cons_name; is_one = refl; is_other = refl; count = refl }
+
+-- other numbers of arguments
+pub AreAlike-counterexample : AreAlike cells (CellWord 0) (CellWord 3) → ⊥
+AreAlike-counterexample alike = let count = alike.count in cc
+
 pub IsMet-example : IsMet cells (0, 2)
 unfolding cell_values
-IsMet-example = record { symbol = cons_name; one = refl; other = refl; count = refl; below = omega arith; other_below = omega arith }
+IsMet-example = record { alike = AreAlike-example; below = omega arith; other_below = omega arith }
 
--- cells with other numbers of arguments
-pub IsMet-counterexample : IsMet cells (0, 3) → ⊥
-IsMet-counterexample met = let count = met.count in cc
+-- a cell that is not there
+pub IsMet-counterexample : IsMet cells (0, 4) → ⊥
+IsMet-counterexample met = omega (arith, met.other_below)
 
 pub Meets-example : Meets cells ((CellWord 0, CellWord 1) ∷ []) [] ((0, 1) ∷ [])
 unfolding cell_values
@@ -49,7 +57,7 @@ Meets-example = record {
   grown = refl;
   whole = λ place start same. (refl, tt);
   each = λ same. same;
-  met = (record { symbol = cons_name; one = refl; other = refl; count = refl; below = omega arith; other_below = omega arith }, tt);
+  met = (record { alike = record { symbol = cons_name; is_one = refl; is_other = refl; count = refl }; below = omega arith; other_below = omega arith }, tt);
   light = omega arith;
 }
 

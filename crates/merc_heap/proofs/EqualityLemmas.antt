@@ -9,7 +9,7 @@ use Rattle.merc_value.specs.declared.word.Word.TheVariants.{Int as IntWord, Text
 use Rattle.merc_value.proofs.Values.{All-first, All-rest, cell_value_at}
 use Rattle.merc_value.proofs.BlockLaws.{all_raised, found_below}
 use Rattle.merc_heap.specs.Heap.{symbol_of, arguments_in}
-use Rattle.merc_heap.specs.Equality.{size, sizes, pairs, AreSame, weight, IsSplit}
+use Rattle.merc_heap.specs.Equality.{size, sizes, pairs, AreSame, weight, IsSplit, AreAlike}
 
 size_some : (value : Value) → 0 < size value
 size_some (Int number) = omega arith
@@ -115,16 +115,15 @@ pairs_weight cells (x ∷ xs) [] = omega arith
 pairs_weight cells (x ∷ xs) (y ∷ ys) = omega (arith, pairs_weight cells xs ys)
 
 -- two words of one constructor with as many arguments
-pub split_pairs : (cells : List CellData) → AreLower cells → (one other : Word) (symbol : ℕ) → IsBelow (length cells) one → IsBelow (length cells) other
-    → symbol_of (value_of cells one) ≡ Some symbol → symbol_of (value_of cells other) ≡ Some symbol → length (arguments_in cells one) ≡ length (arguments_in cells other)
-    → IsSplit cells one other (pairs (arguments_in cells one) (arguments_in cells other))
-split_pairs cells lower one other symbol below below' is is' count =
-    let value = value_applied cells lower one symbol below is in
-    let value' = value_applied cells lower other symbol below' is' in
+pub split_pairs : (cells : List CellData) → AreLower cells → (one other : Word) → IsBelow (length cells) one → IsBelow (length cells) other
+    → AreAlike cells one other → IsSplit cells one other (pairs (arguments_in cells one) (arguments_in cells other))
+split_pairs cells lower one other below below' alike =
+    let value = value_applied cells lower one alike.symbol below alike.is_one in
+    let value' = value_applied cells lower other alike.symbol below' alike.is_other in
     record {
-      whole = λ same. value ∙ ap (Con symbol) (pairs_whole cells (arguments_in cells one) (arguments_in cells other) count same) ∙ sym value';
+      whole = λ same. value ∙ ap (Con alike.symbol) (pairs_whole cells (arguments_in cells one) (arguments_in cells other) alike.count same) ∙ sym value';
       each = λ same.
-          let con : Con symbol (word_values (cell_values cells) (arguments_in cells one)) ≡ Con symbol (word_values (cell_values cells) (arguments_in cells other)) = sym value ∙ same ∙ value' in
+          let con : Con alike.symbol (word_values (cell_values cells) (arguments_in cells one)) ≡ Con alike.symbol (word_values (cell_values cells) (arguments_in cells other)) = sym value ∙ same ∙ value' in
           pairs_each cells (arguments_in cells one) (arguments_in cells other) (cc);
       lighter = omega (arith, pairs_weight cells (arguments_in cells one) (arguments_in cells other), ap size value);
     }

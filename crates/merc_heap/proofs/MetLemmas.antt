@@ -11,7 +11,7 @@ use Rattle.merc_value.specs.declared.word.Word.TheVariants.{Int as IntWord, Text
 use Rattle.merc_value.proofs.Values.{All-first, All-rest}
 use Rattle.merc_value.proofs.BlockLaws.{found_below}
 use Rattle.merc_heap.specs.Heap.{arguments_in, symbol_of}
-use Rattle.merc_heap.specs.Equality.{pairs, AreSame, weight, IsSplit, words_at, IsMet, AreMet, StartBelow, SameBelow, Meets, IsAdded, Notes}
+use Rattle.merc_heap.specs.Equality.{pairs, AreSame, weight, IsSplit, AreAlike, words_at, IsMet, AreMet, StartBelow, SameBelow, Meets, IsAdded, Notes}
 use Rattle.merc_heap.proofs.EqualityLemmas.{same_front, same_back, same_both, weight_both, split_pairs}
 
 -- members of lists one behind the other
@@ -183,21 +183,20 @@ pairs_none [] none = refl
 pairs_none (x ∷ xs) none = absurd (omega (arith, none))
 
 -- two words of one constructor with as many arguments are met
-pub meets_noted : (cells : List CellData) → AreLower cells → (one other : Word) (symbol : ℕ) (old new : List (ℕ × ℕ)) → IsBelow (length cells) one → IsBelow (length cells) other
-    → symbol_of (value_of cells one) ≡ Some symbol → symbol_of (value_of cells other) ≡ Some symbol → length (arguments_in cells one) ≡ length (arguments_in cells other)
-    → Notes one other old new → Meets cells ((one, other) ∷ []) old new
-meets_noted cells lower (IntWord number) other symbol old new below below' is is' count notes = absurd (cc)
-meets_noted cells lower (TextWord name) other symbol old new below below' is is' count notes = absurd (cc)
-meets_noted cells lower (AtomWord name) other symbol old new below below' is is' count notes =
-    meets_same cells (AtomWord name) other old new ((split_pairs cells lower (AtomWord name) other symbol below below' is is' count).whole tt) notes
-meets_noted cells lower (CellWord place) (IntWord number) symbol old new below below' is is' count notes = absurd (cc)
-meets_noted cells lower (CellWord place) (TextWord name) symbol old new below below' is is' count notes = absurd (cc)
-meets_noted cells lower (CellWord place) (AtomWord name) symbol old new below below' is is' count notes =
+pub meets_noted : (cells : List CellData) → AreLower cells → (one other : Word) (old new : List (ℕ × ℕ)) → IsBelow (length cells) one → IsBelow (length cells) other
+    → AreAlike cells one other → Notes one other old new → Meets cells ((one, other) ∷ []) old new
+meets_noted cells lower (IntWord number) other old new below below' alike notes = let is = alike.is_one in absurd (cc (is))
+meets_noted cells lower (TextWord name) other old new below below' alike notes = let is = alike.is_one in absurd (cc (is))
+meets_noted cells lower (AtomWord name) other old new below below' alike notes =
+    meets_same cells (AtomWord name) other old new ((split_pairs cells lower (AtomWord name) other below below' alike).whole tt) notes
+meets_noted cells lower (CellWord place) (IntWord number) old new below below' alike notes = let is = alike.is_other in absurd (cc (is))
+meets_noted cells lower (CellWord place) (TextWord name) old new below below' alike notes = let is = alike.is_other in absurd (cc (is))
+meets_noted cells lower (CellWord place) (AtomWord name) old new below below' alike notes =
     meets_same cells (CellWord place) (AtomWord name) old new
-    ((split_pairs cells lower (CellWord place) (AtomWord name) symbol below below' is is' count).whole
-    (subst (AreSame cells) (sym (pairs_none (arguments_at cells place) count)) tt)) notes
-meets_noted cells lower (CellWord place) (CellWord other) symbol old new below below' is is' count notes =
-    meets_added cells place other old new (record { symbol = symbol; one = is; other = is'; count = count; below = below; other_below = below' }) notes
+    ((split_pairs cells lower (CellWord place) (AtomWord name) below below' alike).whole
+    (subst (AreSame cells) (sym (pairs_none (arguments_at cells place) alike.count)) tt)) notes
+meets_noted cells lower (CellWord place) (CellWord other) old new below below' alike notes =
+    meets_added cells place other old new (record { alike = alike; below = below; other_below = below' }) notes
 
 -- The pairs before this one have cells that stand for one value where those of lower pairs do.
 abbrev pub Covered : List CellData → List (ℕ × ℕ) → ℕ → Type 0
@@ -225,7 +224,7 @@ module _ (cells : List CellData) (lower : AreLower cells) (old new : List (ℕ �
   is_met = met_found cells old next (place, other) are found
 
   split : IsSplit cells (CellWord place) (CellWord other) parts
-  split = split_pairs cells lower (CellWord place) (CellWord other) is_met.symbol is_met.below is_met.other_below is_met.one is_met.other is_met.count
+  split = split_pairs cells lower (CellWord place) (CellWord other) is_met.below is_met.other_below is_met.alike
 
   -- the arguments are the same where all pairs are
   pub round_parts : AreSame cells (map words_at old) → AreSame cells parts

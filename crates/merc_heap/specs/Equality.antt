@@ -39,16 +39,20 @@ pub record IsSplit (cells : List CellData) (one other : Word) (parts : List (Wor
   pub each : value_of cells one ≡ value_of cells other → AreSame cells parts
   pub lighter : weight cells parts < size (value_of cells one)
 
+-- two words' values have one constructor, and as many arguments
+pub record AreAlike (cells : List CellData) (one other : Word) : Type 0 where
+  pub symbol : ℕ
+  pub is_one : symbol_of (value_of cells one) ≡ Some symbol
+  pub is_other : symbol_of (value_of cells other) ≡ Some symbol
+  pub count : length (arguments_in cells one) ≡ length (arguments_in cells other)
+
 -- the words of a pair of cells, which are given by their places
 abbrev pub words_at : ℕ × ℕ → Word × Word
 words_at pair = (CellWord pair.0, CellWord pair.1)
 
--- two cells have one constructor, and as many arguments
+-- the cells at two places have one constructor, and as many arguments
 pub record IsMet (cells : List CellData) (pair : ℕ × ℕ) : Type 0 where
-  pub symbol : ℕ
-  pub one : symbol_of (value_of cells (CellWord pair.0)) ≡ Some symbol
-  pub other : symbol_of (value_of cells (CellWord pair.1)) ≡ Some symbol
-  pub count : length (arguments_in cells (CellWord pair.0)) ≡ length (arguments_in cells (CellWord pair.1))
+  pub alike : AreAlike cells (CellWord pair.0) (CellWord pair.1)
   pub below : pair.0 < length cells
   pub other_below : pair.1 < length cells
 

@@ -3,3 +3,4 @@ pub mod Slots
 pub mod Functors
 pub mod Heap
 pub mod Equality
+pub mod Comparison

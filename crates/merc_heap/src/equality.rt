@@ -5,15 +5,20 @@ ghost use Rattle.merc_heap.specs.Heap.{arguments_in};
 ghost use Rattle.merc_heap.specs.Equality.{AreSame, Meets, Notes, pairs};
 
 use crate::Heap;
+use crate::comparison::{Outcome, are_alike, compare_words};
 use indexmap::IndexSet;
-use merc_base::{Name, NoMemory};
+use merc_base::NoMemory;
 use merc_value::Word;
+
+// How many pairs of cells are compared without being remembered, which takes much longer than to compare them.
+const FEW: u32 = 256;
 
 impl Heap {
     /// Whether two words stand for one value.
     ///
     /// Equal words are told at once. Else the cost is the number of arguments of the pairs of cells that are met, in
-    /// which a pair counts once however often it is met: for two values without sharing, at most their size.
+    /// which a pair counts once however often it is met, but for the first few: for two values without sharing, at most
+    /// their size.
     ///
     /// # Errors
     ///
@@ -30,11 +35,26 @@ impl Heap {
         if is_no_cell(one) && is_no_cell(other) {
             return Ok(false);
         }
-        self.equal_cells(one, other)
+        self.equal_cells(&one, &other)
     }
 
     #[inline(never)]
-    fn equal_cells(&self, one: Word, other: Word) -> Result<bool, NoMemory>
+    fn equal_cells(&self, one: &Word, other: &Word) -> Result<bool, NoMemory>
+        requires one { IsBelow (length self.now) one.now }
+        requires other { IsBelow (length self.now) other.now }
+        ensures { IfOk result (λ same. IsTrue same ↔ (value_of self.now one.now ≡ value_of self.now other.now)) }
+    {
+        match compare_words(self, *one, *other, FEW) {
+            Outcome::Same(_) => Ok(true),
+            Outcome::Apart => Ok(false),
+            Outcome::Open => self.equal_shared(*one, *other),
+        }
+    }
+
+    // Whether two words stand for one value, where each pair of cells that is met is remembered.
+    #[cold]
+    #[inline(never)]
+    fn equal_shared(&self, one: Word, other: Word) -> Result<bool, NoMemory>
         requires one { IsBelow (length self.now) one }
         requires other { IsBelow (length self.now) other }
         ensures { IfOk result (λ same. IsTrue same ↔ (value_of self.now one ≡ value_of self.now other)) }
@@ -95,31 +115,15 @@ fn meet(
     requires other { IsBelow (length heap.now) other }
     ensures yes { IfOk result (λ same. IsTrue same → Meets heap.now ((one, other) ∷ []) met.old.keys met.new.keys) }
     ensures no { IfOk result (λ same. IsFalse same → value_of heap.now one ≡ value_of heap.now other → ⊥) }
-    ensures lower { AreLower heap.now }
 {
-    let count = heap.arity(one);
-    let other_count = heap.arity(other);
     if one == other {
         return Ok(true);
     }
-    let Some(symbol) = heap.symbol(one) else {
-        return Ok(false);
-    };
-    let Some(other_symbol) = heap.symbol(other) else {
-        return Ok(false);
-    };
-    if !is_one_header(symbol, other_symbol, count, other_count) {
+    if !are_alike(heap, &one, &other) {
         return Ok(false);
     }
     note(one, other, met)?;
     Ok(true)
-}
-
-// Whether two constructors are one, and have as many arguments.
-fn is_one_header(symbol: Name, other: Name, count: usize, other_count: usize) -> bool
-    ensures { IsTrue result ↔ ((symbol ≡ other) × (count ≡ other_count)) }
-{
-    symbol == other && count == other_count
 }
 
 // Puts the pair of two words' cells behind those that were met, unless it is one of them.

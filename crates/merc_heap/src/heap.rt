@@ -1,5 +1,5 @@
 //! The heap: one flat list of cells.
-ghost use Rattle.std.specs.Prelude.{◌≡◌, ◌+◌, ◌++◌, ◌∷◌, ◌<◌, ◌≤◌, [], Some, length, map, take, slice_get, IfOk, OnOk, OnErr};
+ghost use Rattle.std.specs.Prelude.{◌≡◌, ◌+◌, ◌++◌, ◌∷◌, ◌<◌, ◌≤◌, [], Some, length, map, take, slice_get, IfOk, IsTrue, OnOk, OnErr};
 ghost use Rattle.std.specs.List.{All};
 ghost use Rattle.std.specs.Vec.{vec_len, vec_capacity};
 ghost use Rattle.merc_value.specs.Value.{Con};
@@ -122,6 +122,17 @@ impl Heap {
         cell_at(&self.functors, &self.slots, place)
     }
 
+    // Whether the constructors of the cells at two places have one number, so that they are one with as many fields.
+    #[inline(always)]
+    pub(crate) fn are_numbered_alike(&self, place: usize, other: usize) -> bool
+        requires one { place < length self.now }
+        requires other { other < length self.now }
+        ensures symbol { IsTrue result → symbol_of (value_of self.now (Word.Cell place)) ≡ symbol_of (value_of self.now (Word.Cell other)) }
+        ensures count { IsTrue result → length (arguments_in self.now (Word.Cell place)) ≡ length (arguments_in self.now (Word.Cell other)) }
+    {
+        have_one_number(&self.functors, &self.slots, place, other)
+    }
+
     /// The number of the fields of a word, 0 for all but a cell.
     pub fn arity(&self, word: Word) -> usize
         requires { IsBelow (length self.now) word }
@@ -176,6 +187,18 @@ fn functor_at(functors: &Functors, slots: &[Slot], place: usize) -> Functor
     ensures arity { result.arity ≡ length (cell_ending functors.now slots.now place).arguments }
 {
     functors.functor(slots[place].number())
+}
+
+// Whether the constructors of the cells that end at two places have one number.
+#[inline(always)]
+fn have_one_number(functors: &Functors, slots: &[Slot], place: usize, other: usize) -> bool
+    requires one { place < length slots.now }
+    requires other { other < length slots.now }
+    requires flat { IsFlat functors.now slots.now }
+    ensures symbol { IsTrue result → (cell_ending functors.now slots.now place).symbol ≡ (cell_ending functors.now slots.now other).symbol }
+    ensures count { IsTrue result → length (cell_ending functors.now slots.now place).arguments ≡ length (cell_ending functors.now slots.now other).arguments }
+{
+    slots[place].number() == slots[other].number()
 }
 
 // The constructor of the cell that ends at a place, and its fields.

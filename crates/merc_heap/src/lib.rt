@@ -1,6 +1,7 @@
 //! The heap of a running program: values as cells, each of which lies behind the cells that it uses.
 #![tactic(auto)]
 
+mod comparison;
 mod equality;
 mod functors;
 pub mod heap;

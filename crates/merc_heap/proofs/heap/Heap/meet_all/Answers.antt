@@ -13,27 +13,27 @@ meet_arguments-requires-clause-other c =
 
 pub meet_arguments-requires-clause-count : goal.meet_arguments-requires-clause-count
 meet_arguments-requires-clause-count c =
-    (met_found c.args.self.now c.loop-next.met.keys c.loop-next.next (c.index.result.now.0, c.index.result.now.1) c.loop-next.invariant.met c.index.ensures).count
+    (met_found c.args.self.now c.loop-next.met.keys c.loop-next.next (c.index.result.now.0, c.index.result.now.1) c.loop-next.invariant.met c.index.ensures).alike.count
 
 pub returns-then-not-branch-2 : goal.returns-then-not-branch-2
 returns-then-not-branch-2 c = (
   (λ yes. absurd (cc (yes))),
   (λ same. absurd (c.in_ok-meet_arguments.ensures.no c.if-not-branch-2.true
-      (round_parts c.args.self.now c.in_ok-meet.ensures.lower c.loop-next.met.keys c.loop-next.met.keys c.loop-next.next c.index.result.now.0 c.index.result.now.1 c.index.ensures c.loop-next.invariant.met (c.loop-next.invariant.each same)))),
+      (round_parts c.args.self.now c.in_ok-meet_arguments.ensures.lower c.loop-next.met.keys c.loop-next.met.keys c.loop-next.next c.index.result.now.0 c.index.result.now.1 c.index.ensures c.loop-next.invariant.met (c.loop-next.invariant.each same)))),
 )
 
 pub loop-next-smaller : goal.loop-next-smaller
 loop-next-smaller c =
-    round_falls c.args.self.now c.in_ok-meet.ensures.lower c.loop-next.met.keys c.meet_arguments.new.met.keys c.loop-next.next c.index.result.now.0 c.index.result.now.1 c.index.ensures c.loop-next.invariant.met (c.in_ok-meet_arguments.ensures.yes c.if-not-branch-2.false)
+    round_falls c.args.self.now c.in_ok-meet_arguments.ensures.lower c.loop-next.met.keys c.meet_arguments.new.met.keys c.loop-next.next c.index.result.now.0 c.index.result.now.1 c.index.ensures c.loop-next.invariant.met (c.in_ok-meet_arguments.ensures.yes c.if-not-branch-2.false)
 
 pub loop-next-preserved : goal.loop-next-preserved
 loop-next-preserved c =
     let meets = c.in_ok-meet_arguments.ensures.yes c.if-not-branch-2.false in
     record {
-      whole = λ same. c.loop-next.invariant.whole (round_before c.args.self.now c.in_ok-meet.ensures.lower c.loop-next.met.keys c.meet_arguments.new.met.keys c.loop-next.next c.index.result.now.0 c.index.result.now.1 c.index.ensures c.loop-next.invariant.met meets (length c.args.self.now) same);
-      each = λ same. round_each c.args.self.now c.in_ok-meet.ensures.lower c.loop-next.met.keys c.meet_arguments.new.met.keys c.loop-next.next c.index.result.now.0 c.index.result.now.1 c.index.ensures c.loop-next.invariant.met meets (c.loop-next.invariant.each same);
-      met = round_met c.args.self.now c.in_ok-meet.ensures.lower c.loop-next.met.keys c.meet_arguments.new.met.keys c.loop-next.next c.index.result.now.0 c.index.result.now.1 c.index.ensures c.loop-next.invariant.met meets;
-      covered = round_covered c.args.self.now c.in_ok-meet.ensures.lower c.loop-next.met.keys c.meet_arguments.new.met.keys c.loop-next.next c.index.result.now.0 c.index.result.now.1 c.index.ensures c.loop-next.invariant.met meets c.loop-next.invariant.covered;
+      whole = λ same. c.loop-next.invariant.whole (round_before c.args.self.now c.in_ok-meet_arguments.ensures.lower c.loop-next.met.keys c.meet_arguments.new.met.keys c.loop-next.next c.index.result.now.0 c.index.result.now.1 c.index.ensures c.loop-next.invariant.met meets (length c.args.self.now) same);
+      each = λ same. round_each c.args.self.now c.in_ok-meet_arguments.ensures.lower c.loop-next.met.keys c.meet_arguments.new.met.keys c.loop-next.next c.index.result.now.0 c.index.result.now.1 c.index.ensures c.loop-next.invariant.met meets (c.loop-next.invariant.each same);
+      met = round_met c.args.self.now c.in_ok-meet_arguments.ensures.lower c.loop-next.met.keys c.meet_arguments.new.met.keys c.loop-next.next c.index.result.now.0 c.index.result.now.1 c.index.ensures c.loop-next.invariant.met meets;
+      covered = round_covered c.args.self.now c.in_ok-meet_arguments.ensures.lower c.loop-next.met.keys c.meet_arguments.new.met.keys c.loop-next.next c.index.result.now.0 c.index.result.now.1 c.index.ensures c.loop-next.invariant.met meets c.loop-next.invariant.covered;
     }
 
 pub returns : goal.returns
