@@ -1,27 +1,31 @@
 -- Accepted modules are good programs, and accepted goals good ones, of which the laws of answers and categories hold.
-use Rattle.std.proofs.Common.{◌≡◌, ℕ, List, [], ◌∷◌, map, refl, sym, ap, subst, ◌∙◌}
+use Rattle.std.proofs.Common.{◌≡◌, ℕ, suc, List, [], ◌∷◌, map, refl, sym, ap, subst, ◌∙◌}
 use Rattle.merc_tree.specs.Term.{Term}
 use Rattle.merc_tree.specs.declared.declarations.Module.{Module}
 use Rattle.merc_graded_tree.specs.Nodes.{Node}
 use Rattle.merc_order.specs.Bound.{nothing}
 use Rattle.merc_order.specs.Procedures.{bound_at}
 use Rattle.merc_grading.specs.Faults.{Body, Procedure, all_finished, procedures_of}
-use Rattle.merc_meaning.specs.Runs.{Program, call_trace, run}
+use Rattle.merc_meaning.specs.Runs.{Program, call_trace, node_trace, run}
 use Rattle.merc_meaning.specs.Programs.{program_with}
 use Rattle.merc_program_laws.specs.Answers.{Each, KeepsTo}
-use Rattle.merc_program_laws.specs.GoodPrograms.{IsGoodProgram, program_of}
-use Rattle.merc_program_laws.specs.CategoryLaws.{Leaves}
-use Rattle.merc_program_laws.proofs.Programs.{category_law, type_law}
+use Rattle.merc_program_laws.specs.GoodPrograms.{IsGoodProgram, IsGoodQuery, program_of}
+use Rattle.merc_program_laws.specs.CategoryLaws.{GivesAll, Leaves}
+use Rattle.merc_program_laws.specs.Instances.{EachOfRun}
+use Rattle.merc_program_laws.proofs.Programs.{category_law, query_type_law, type_law}
 use Rattle.merc_program_laws.specs.OrderedBodies.{finished_body}
 use Rattle.merc_program_laws.specs.ProgramBodies.{finished_bodies}
 use Rattle.merc_program_laws.specs.AnswerLaws.{AnswersAreYes, OthersAreNo, AnswersAreWhole, RunAnswersAreYes, RunOthersAreNo}
 use Rattle.merc_program_laws.proofs.CallLaw.{answers_law, others_law}
-use Rattle.merc_program_laws.proofs.RunLaw.{whole_answers_law, run_answers_law, run_others_law}
+use Rattle.merc_program_laws.proofs.RunLaw.{cut_each, whole_answers_law, run_answers_law, run_others_law}
 use Rattle.merc_program_laws.specs.ModuleLaws.{BecomesGood, BecomesGoodQuery}
 use Rattle.merc_program_laws.proofs.AcceptedGood.{accepted_becomes_good, accepted_goal_becomes_good}
-use Rattle.merc_check.specs.Accepted.{query_answers}
+use Rattle.merc_order_laws.proofs.ModesFitting.{module_modes_fit}
+use Rattle.merc_program_laws.proofs.Bodies.{query_becomes_good}
+use Rattle.merc_program_laws.proofs.GoodModules.{asked_is_ordered}
+use Rattle.merc_check.specs.Accepted.{HasBody, query_answers}
 use Rattle.merc_check.specs.Checked.{IsGoal}
-use Rattle.merc_program_laws.specs.AcceptedLaws.{CallsAnswerInTypes, CallsAnswerTruly, CallsKeepToCategories, IsChecked, IsGradedGoal, RunsAnswerTruly}
+use Rattle.merc_program_laws.specs.AcceptedLaws.{CallsAnswerInTypes, CallsAnswerTruly, CallsKeepToCategories, IsChecked, IsGradedGoal, RunsAnswerInTypes, RunsAnswerTruly}
 
 finished_trees : (known : Module) (procedures : List Procedure) (bodies : List Body)
     → map (λ (body : Body). body.tree) (finished_bodies known procedures bodies) ≡ all_finished known.types known.preds procedures bodies
@@ -54,6 +58,11 @@ module _ (before after : List (List ℕ)) (text : List ℕ) (items : List Term) 
 
     tree_is : (finished_body found nothing asks.body).tree ≡ tree
     tree_is = sym (graded asks.body asks.is)
+
+    body_is_good : (body : Body) → HasBody names found goal body → IsGoodQuery found (query_answers names found goal) (finished_body found nothing body)
+    body_is_good body has =
+        query_becomes_good found (query_answers names found goal) body
+        (asked_is_ordered after names asked goal found (query_answers names found goal) (module_modes_fit before after text items found is.accepted.module_is) accepted.reads accepted.accepted.typed body has)
 
 pub calls_keep_to_categories : CallsKeepToCategories
 calls_keep_to_categories before after text items found trees is procedure declared mode there instance env enters depth =
@@ -92,3 +101,14 @@ runs_answer_truly before after text items found trees is names asked goal accept
       run_answers_law found bodies good answers (finished_body found nothing query.body) query.good limit stage within,
       run_others_law found bodies good answers (finished_body found nothing query.body) query.good limit stage within,
     ))
+
+pub runs_answer_in_types : RunsAnswerInTypes
+runs_answer_in_types before after text items found trees is names asked goal accepted tree graded body has instance limit =
+    let bodies = good_bodies before after text items found trees is in
+    let good = is_good before after text items found trees is in
+    let answers = query_answers names found goal in
+    let query : Body = finished_body found nothing body in
+    subst (λ (program : Program). EachOfRun (GivesAll found.types instance body.types answers) (run program tree limit)) (program_is before after text items found trees is)
+    (subst (λ (t : Node). EachOfRun (GivesAll found.types instance body.types answers) (run (program_of found.preds bodies) t limit)) (sym (graded body has))
+    (cut_each (GivesAll found.types instance body.types answers) limit (node_trace (program_of found.preds bodies) (call_trace (program_of found.preds bodies) (suc limit)) query.tree [])
+    (query_type_law found bodies good answers query (body_is_good before after text items found trees is names asked goal accepted tree graded body has) instance (suc limit))))

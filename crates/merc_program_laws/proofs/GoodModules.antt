@@ -1,9 +1,17 @@
 -- A module without faults becomes a good program, and a goal that is asked a good one.
+use Rattle.std.proofs.Common.{ℕ, List, []}
+use Rattle.merc_tree.specs.Term.{Term}
+use Rattle.merc_tree.specs.declared.declarations.Module.{Module}
+use Rattle.merc_terms.specs.Texts.{ReadsGoal}
 use Rattle.merc_goals.specs.Written.{written}
 use Rattle.merc_bodies.specs.Bodies.{asked_body}
 use Rattle.merc_order_laws.proofs.JoinedTyping.{asked_typed}
 use Rattle.merc_flat.specs.Flat.{clause_node, query_node}
 use Rattle.merc_grading.specs.Faults.{Body}
+use Rattle.merc_order_laws.specs.ProcedureBodies.{IsAskedBody}
+use Rattle.merc_order_laws.specs.TypedTree.{ModesFit}
+use Rattle.merc_type_check.specs.Typing.{HasTyping}
+use Rattle.merc_program_laws.specs.OrderedBodies.{IsOrderedQuery}
 use Rattle.merc_program_laws.proofs.Bodies.{query_becomes_good}
 use Rattle.merc_program_laws.proofs.OrderedGoals.{query_is_ordered}
 use Rattle.merc_program_laws.proofs.GoodTrees.{program_becomes_good}
@@ -28,6 +36,22 @@ module_becomes_good before after text terms found fixed distinct is faultless un
       are = ordered.1;
       good = program_becomes_good found ordered.0 (module_has_good_types before after text terms found fixed distinct is) ordered.2 (units ordered.0 ordered.1)
           (faultless.categories ordered.0 ordered.1);
+    }
+
+-- a goal's body is ordered, whatever types by which it is typed its variables have
+pub asked_is_ordered : (before after : List (List ℕ)) (text : List ℕ) (term : Term) (known : Module) (answers : List ℕ) → ModesFit known.preds → ReadsGoal before after text term
+    → HasTyping known [] (query_node after known (written 0 term)) → (body : Body) → IsAskedBody known answers (asked_body (query_node after known (written 0 term))) body
+    → IsOrderedQuery known answers body
+asked_is_ordered before after text term known answers fit reads typing body is =
+    let form = query_node after known (written 0 term) in
+    let typed = asked_typed known form typing in
+    let ordered = query_is_ordered known answers typed.0 (asked_body form) body.tree fit typed.1 (query_has_literals before after text term known reads) is.tree in
+    record {
+      typed = is.typed;
+      literals = ordered.1.literals;
+      binds = ordered.1.binds;
+      binds_answers = ordered.1.binds_answers;
+      guarded = ordered.1.guarded;
     }
 
 pub asked_becomes_good : AskedBecomesGood

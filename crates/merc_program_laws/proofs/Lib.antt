@@ -25,6 +25,7 @@ pub mod Held
 pub mod Ordering
 pub mod OrderTruth
 pub mod Carried
+pub mod Stages
 pub mod Regrouping
 pub mod Switching
 pub mod SwitchTruth

@@ -30,7 +30,7 @@ use Rattle.merc_program_laws.proofs.CallLaw.{truthful_calls}
 
 -- Traces and runs.
 
-cut_each : (P : Env → Type 0) (limit : ℕ) (t : Trace) → Each P t → EachOfRun P (cut limit t)
+pub cut_each : (P : Env → Type 0) (limit : ℕ) (t : Trace) → Each P t → EachOfRun P (cut limit t)
 cut_each P limit (Ends Done) h = tt
 cut_each P limit (Ends (Raised x)) h = tt
 cut_each P limit (Ends TooDeep) h = tt

@@ -16,7 +16,8 @@ use Rattle.merc_meaning.specs.Trace.{Env, Trace}
 use Rattle.merc_meaning.specs.Runs.{Program, call_trace, run}
 use Rattle.merc_meaning.specs.Programs.{program_with}
 use Rattle.merc_program_laws.specs.Answers.{Each, KeepsTo}
-use Rattle.merc_program_laws.specs.CategoryLaws.{Enters, Leaves, IsProcedure}
+use Rattle.merc_program_laws.specs.CategoryLaws.{Enters, GivesAll, Leaves, IsProcedure}
+use Rattle.merc_program_laws.specs.Instances.{EachOfRun}
 use Rattle.merc_program_laws.specs.AnswerLaws.{AnswersAreYes, OthersAreNo, AnswersAreWhole, RunAnswersAreYes, RunOthersAreNo}
 use Rattle.merc_check.specs.Accepted.{AreGraded, HasBody, query_answers}
 use Rattle.merc_check.specs.Checked.{IsAccepted, IsGoal}
@@ -66,3 +67,12 @@ RunsAnswerTruly =
     → AnswersAreWhole (query_answers names found goal) (run (program_with found.preds trees) tree limit)
     × RunAnswersAreYes (program_with found.preds trees) stage (query_answers names found goal) tree (run (program_with found.preds trees) tree limit)
     × RunOthersAreNo (program_with found.preds trees) stage (query_answers names found goal) tree (run (program_with found.preds trees) tree limit)
+
+-- Each of these answers gives all answer variables values of their types, whatever types by which the goal is typed its variables have, and whatever the type
+-- variables among these stand for.
+abbrev pub RunsAnswerInTypes : Type 0
+RunsAnswerInTypes =
+    (before after : List (List ℕ)) (text : List ℕ) (items : List Term) (found : Module) (trees : List Node) → IsChecked before after text items found trees
+    → (names : List (List ℕ)) (asked : List ℕ) (goal : Term) → IsGoal after names found asked goal → (tree : Node) → IsGradedGoal names found goal tree
+    → (body : Body) → HasBody names found goal body → (instance : (ℕ → TypeExpr)) (limit : ℕ)
+    → EachOfRun (GivesAll found.types instance body.types (query_answers names found goal)) (run (program_with found.preds trees) tree limit)

@@ -6,6 +6,8 @@ pub mod Options
 pub mod Requests
 pub mod OutputLaws
 pub mod Causes
+pub mod Truthful
+pub mod TruthExamples
 pub mod CallEnds
 pub mod AnswerLaws
 pub mod WordsExamples

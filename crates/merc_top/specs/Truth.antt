@@ -1,5 +1,5 @@
 -- That the answers of a run are true of the clauses, and that nothing else is.
-use Rattle.std.specs.Prelude.{◌≡◌, ◌<◌, ◌×◌, ◌⊎◌, ℕ, List, map, Option, Some}
+use Rattle.std.specs.Prelude.{◌≡◌, ◌<◌, ◌⊎◌, ℕ, List, map, Option, Some}
 use Rattle.merc_base.specs.Outside.{Files}
 use Rattle.merc_graded_tree.specs.Variables.{among}
 use Rattle.merc_meaning.specs.Trace.{Env, Run}
