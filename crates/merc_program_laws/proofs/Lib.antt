@@ -96,3 +96,4 @@ pub mod ListCategories
 pub mod Allowed
 pub mod AcceptedGood
 pub mod Accepted
+pub mod KeptTruth

@@ -25,7 +25,7 @@ pub record Found (known : Module) (declared : PredDecl) (mode : ModeDecl) (place
   pub good : IsGoodProcedure known declared mode body
   pub there : place ≡ Some (record { places = mode.args; body = body.tree })
 
-abbrev trees : List Body → List Node
+abbrev pub trees : List Body → List Node
 trees bodies = map (λ (body : Body). body.tree) bodies
 
 in_modes : (known : Module) (declared : PredDecl) (modes : List ModeDecl) (rest : List Procedure) (bodies : List Body) (number : ℕ) (mode : ModeDecl) → AreGoodProcedures known (with_modes declared modes ++ rest) bodies
@@ -42,7 +42,7 @@ behind_modes known declared [] rest bodies good = good
 behind_modes known declared (m ∷ modes) rest [] good = absurd good
 behind_modes known declared (m ∷ modes) rest (body ∷ bodies) good = behind_modes known declared modes rest bodies good.1
 
-trees_behind : (n : ℕ) (bodies : List Body) → trees (drop n bodies) ≡ drop n (trees bodies)
+pub trees_behind : (n : ℕ) (bodies : List Body) → trees (drop n bodies) ≡ drop n (trees bodies)
 trees_behind zero bodies = refl
 trees_behind (suc n) [] = refl
 trees_behind (suc n) (body ∷ bodies) = trees_behind n bodies

@@ -36,3 +36,5 @@ pub mod UnitCategories
 pub mod AllowedUnits
 pub mod GoodModules
 pub mod AcceptedLaws
+pub mod KeptTruth
+pub mod KeptTruthExamples

@@ -24,16 +24,16 @@ use Rattle.merc_program_laws.specs.ModuleLaws.{BecomesGood, BecomesGoodQuery, Ha
 abbrev p : ℕ
 p = 200
 
-abbrev word : ℕ → Term
+abbrev pub word : ℕ → Term
 word name = Application name None none no_span
 
-abbrev mode : Category → ModeDecl
+abbrev pub mode : Category → ModeDecl
 mode category = record { args = []; category = category; span = no_span }
 
-abbrev predicate : Option ℕ → Category → PredDecl
+abbrev pub predicate : Option ℕ → Category → PredDecl
 predicate unit category = record { name = p; args = []; modes = mode category ∷ []; span = no_span; unit = unit }
 
-abbrev example : Option ℕ → Category → Module
+abbrev pub example : Option ℕ → Category → Module
 example unit category = record {
   name = 99;
   units = [];
@@ -43,16 +43,16 @@ example unit category = record {
   clauses = record { head = word p; body = None; span = no_span } ∷ [];
 }
 
-abbrev tree : Node
+abbrev pub tree : Node
 tree = node (Basic True) [] None no_span
 
 abbrev body_with : (ℕ → TypeExpr) → Body
 body_with types = record { types = types; tree = tree }
 
-abbrev body : Body
+abbrev pub body : Body
 body = body_with (λ variable. IntType)
 
-has_body : (unit : Option ℕ) (category : Category) → HaveBodies [] (example unit category) (body ∷ [])
+pub has_body : (unit : Option ℕ) (category : Category) → HaveBodies [] (example unit category) (body ∷ [])
 has_body unit category = (record { tree = (_, refl, refl); typed = (tt, tt) }, tt)
 
 ready_same : (one other : Ordered) → Ready one ≡ Ready other → one ≡ other

@@ -17,10 +17,10 @@ use Rattle.merc_program_laws.specs.Switches.{IsSwitched}
 abbrev no_modes : ℕ → List ModeDecl
 no_modes predicate = []
 
-abbrev goal : Goal → Node
+abbrev pub goal : Goal → Node
 goal inner = node inner [] None (at 20)
 
-abbrev is : Symbol → Node
+abbrev pub is : Symbol → Node
 is symbol = goal (Basic (Split c symbol []))
 
 abbrev procedure : Goal → Option ProcedureBody
