@@ -1,4 +1,5 @@
 pub mod Combined
+pub mod FirstArms
 pub mod FittingEntries
 pub mod FittingOps
 pub mod FittingSums

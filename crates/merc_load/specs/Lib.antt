@@ -1,3 +1,5 @@
+pub mod Arms
+pub mod ArmsExamples
 pub mod Combined
 pub mod CombinedExamples
 pub mod FittingOps

@@ -1,6 +1,7 @@
 //! Code as the machine runs it.
 #![tactic(auto)]
 
+mod arms;
 mod combining;
 mod constants;
 mod copying;
@@ -13,5 +14,6 @@ mod loading;
 mod passing;
 mod taking;
 
+pub use arms::Arms;
 pub use loaded::{Arm, Loaded, Op, Sum};
 pub use loading::load;
