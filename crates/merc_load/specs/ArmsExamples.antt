@@ -19,6 +19,10 @@ pair = record { symbol = Constructor 20 2; fields = Some (4 ∷ 5 ∷ []); skipp
 abbrev seven_again : Arm
 seven_again = record { symbol = Integer (pos 7); fields = None; skipped = 9 }
 
+abbrev skipped_at : Option Arm → ℕ
+skipped_at None = 0
+skipped_at (Some arm) = arm.skipped
+
 first_arm-example : first_arm (Integer (pos 7)) (pair ∷ seven ∷ seven_again ∷ []) ≡ Some seven
 first_arm-example = refl
 
@@ -28,7 +32,7 @@ first_arm-none = refl
 
 -- an arm behind the first one of its symbol
 first_arm-not : first_arm (Integer (pos 7)) (pair ∷ seven ∷ seven_again ∷ []) ≡ Some seven_again → ⊥
-first_arm-not same = absurd cc
+first_arm-not same = let skipped : ◌≡◌ {A = ℕ} 0 9 = ap skipped_at same in absurd (omega arith)
 
 key_of-example : key_of (Constructor 20 2) ≡ ConstructorKey 20 2
 key_of-example = refl
@@ -51,7 +55,7 @@ arm_found-none : (arm_found (pair ∷ seven ∷ []) (Some 2) ≡ None) × (arm_f
 arm_found-none = (refl, refl)
 
 arm_found-not : arm_found (pair ∷ seven ∷ []) (Some 0) ≡ Some seven → ⊥
-arm_found-not same = absurd cc
+arm_found-not same = let skipped : ◌≡◌ {A = ℕ} 2 0 = ap skipped_at same in absurd (omega arith)
 
 -- an arm for the text 5
 
@@ -83,7 +87,7 @@ module _ (places : BTreeMap Key ℕ) (are : places.entries ≡ (TextKey 5, 0) �
 
   -- another arm stands there
   finds_first-not : FindsFirst places (seven ∷ five ∷ []) (five ∷ []) → ⊥
-  finds_first-not finds = let other : ◌≡◌ {A = Option Arm} (Some seven) (Some five) = sym (found (seven ∷ five ∷ []) (Text 5)) ∙ finds (Text 5) in absurd cc
+  finds_first-not finds = let other : ◌≡◌ {A = Option Arm} (Some seven) (Some five) = sym (found (seven ∷ five ∷ []) (Text 5)) ∙ finds (Text 5) in let skipped : ◌≡◌ {A = ℕ} 0 3 = ap skipped_at other in absurd (omega arith)
 
   are_first-example : AreFirst places (five ∷ [])
   are_first-example symbol = found (five ∷ []) symbol ∙ five_found (five ∷ []) refl symbol
