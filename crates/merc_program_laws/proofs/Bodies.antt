@@ -3,7 +3,7 @@ use Rattle.std.proofs.Common.{inl, inr, ℕ, ◌||◌, List, [], length, refl, a
 use Rattle.merc_tree.specs.declared.declarations.ModeDecl.{ModeDecl}
 use Rattle.merc_tree.specs.declared.declarations.Module.{Module}
 use Rattle.merc_graded_tree.specs.Nodes.{Node}
-use Rattle.merc_order.specs.Bound.{Bound, Holds, nothing, with, among}
+use Rattle.merc_order.specs.Bound.{Bound, Holds, nothing, among}
 use Rattle.merc_order.specs.Procedures.{bound_at, numbers_below, modes_of}
 use Rattle.merc_grading.specs.Switches.{find}
 use Rattle.merc_grading.specs.Faults.{Body}
