@@ -1,13 +1,12 @@
 -- Runs behind steps, and the lines of a run written one by one.
 use Rattle.std.proofs.Common.{◌≡◌, ◌+◌, ◌<◌, ◌≤◌, ◌⊎◌, ◌∙◌, ℕ, zero, suc, List, [], ◌∷◌, ◌++◌, ap, sym, refl, subst, length, map, append_assoc, arith, inl, inr}
 use Rattle.std.specs.Prelude.{◌==◌, Bool, true, false, nat_eq, nat_le, take, Option, Some, None, Result, Ok, Err, IfOk, if◌then◌else◌}
-use Rattle.std.proofs.lemmas.Grind.{flat_map-append}
 use Rattle.std.specs.Option.{option_eq}
 use Rattle.std.proofs.lemmas.Bool.{false≢true, le-leb, lt-leb}
 use Rattle.std.proofs.lemmas.Bool.Decides.{leb_tells, nat_tests}
 use Rattle.std.proofs.lemmas.Option.{same_Some}
 use Rattle.std.proofs.lemmas.List.{append-nil, length-append, map-append}
-use Rattle.merc_base.specs.Outside.{appended}
+use Rattle.merc_base.specs.Outside.{SinkState}
 use Rattle.merc_meaning.specs.Trace.{Env, Run, RunEnd, RunDone, RunRaised, LimitPassed, Ends, Answer}
 use Rattle.merc_machine.specs.declared.machine.Machine.{Machine}
 use Rattle.merc_machine.specs.declared.running.Stop.{Stop}
@@ -15,13 +14,13 @@ use Rattle.merc_machine.specs.declared.running.Stop.TheVariants.{Answer as Answe
 use Rattle.merc_machine.specs.Running.{Means, Ran, behind_steps}
 use Rattle.merc_meaning.specs.Counting.{counted}
 use Rattle.merc_transfer.specs.declared.writing.Cut.{Cut}
-use Rattle.merc_transfer.specs.declared.writing.Cut.TheVariants.{Unwritten, NoMemory}
-use Rattle.merc_transfer.specs.Writing.{PutsFront, Cuts, Writes, text_of}
+use Rattle.merc_transfer.specs.declared.writing.Cut.TheVariants.{NoMemory}
+use Rattle.merc_transfer.specs.Writing.{PutsAll, PutsFront, Cuts, Writes}
 use Rattle.merc_solving.specs.Runs.{answers_of, answers_told, end_of, is_stopped, steps_before, steps_made, steps_of}
 use Rattle.merc_transfer.specs.Statuses.{solved_status, raised_status, limit_status}
 use Rattle.merc_solving.specs.RunLines.{solution_line, end_line, end_status, last_line, run_lines, run_status, stopped_line}
 use Rattle.merc_solving.specs.Solving.{PutsStop, Solves}
-use Rattle.merc_transfer.proofs.WritingLemmas.{appended-append, appended-empty}
+use Rattle.merc_transfer.proofs.WritingLemmas.{cuts-within, puts_all-none, puts_all-behind, puts_front-all, puts_front-before}
 
 -- ---- runs behind steps
 
@@ -198,44 +197,14 @@ counted-behind bound number number' made before rest wanted is counts =
 -- ---- lines
 
 -- the lines of some answers, and those of others and a last line behind them
-lines-split : (f : Env → List ℕ) (done rest : List Env) (last : List ℕ) → text_of (map f done) ++ text_of (map f rest ++ last ∷ []) ≡ text_of (map f (done ++ rest) ++ last ∷ [])
-lines-split f done rest last =
-    sym (flat_map-append (λ line. line) (map f done) (map f rest ++ last ∷ []))
-    ∙ ap (λ (lines : List (List ℕ)). text_of lines) (sym (append_assoc (map f done) (map f rest) (last ∷ [])))
-    ∙ ap (λ (lines : List (List ℕ)). text_of (lines ++ last ∷ [])) (sym (map-append f done rest))
-
--- the line of one answer more
-lines-more : (f : Env → List ℕ) (done : List Env) (values : Env) → text_of (map f (done ++ values ∷ [])) ≡ text_of (map f done) ++ f values
-lines-more f done values =
-    ap (λ (lines : List (List ℕ)). text_of lines) (map-append f done (values ∷ []))
-    ∙ flat_map-append (λ line. line) (map f done) (f values ∷ [])
-    ∙ ap (λ (text : List ℕ). text_of (map f done) ++ text) (append-nil (f values))
-
--- a front of one text within another, behind what was written before
-front-within : (whole before line behind : List ℕ) (old mid new : Option (List ℕ)) → before ++ (line ++ behind) ≡ whole → mid ≡ appended old before
-    → PutsFront line mid new → PutsFront whole old new
-front-within whole before line behind old mid new parts written puts = record {
-  front = before ++ puts.front;
-  rest = puts.rest ++ behind;
-  whole =
-      append_assoc before puts.front (puts.rest ++ behind)
-      ∙ ap (λ (bytes : List ℕ). before ++ bytes) (sym (append_assoc puts.front puts.rest behind))
-      ∙ ap (λ (bytes : List ℕ). before ++ (bytes ++ behind)) puts.whole ∙ parts;
-  written = puts.written ∙ ap (λ (held : Option (List ℕ)). appended held puts.front) written ∙ appended-append old before puts.front;
-}
-
-cuts-within : (whole before line behind : List ℕ) (old mid new : Option (List ℕ)) (start now now' : ℕ) (cut : Cut) → before ++ (line ++ behind) ≡ whole → mid ≡ appended old before
-    → now ≡ start → Cuts line mid new now now' cut → Cuts whole old new start now' cut
-cuts-within whole before line behind old mid new start now now' Unwritten parts written same cuts =
-    (front-within whole before line behind old mid new parts written cuts.0, subst (λ (n : ℕ). n < now') same cuts.1)
-cuts-within whole before line behind old mid new start now now' NoMemory parts written same cuts =
-    (front-within whole before line behind old mid new parts written cuts.0, cuts.1 ∙ same)
+lines-split : (f : Env → List ℕ) (done rest : List Env) (last : List ℕ) → map f done ++ (map f rest ++ last ∷ []) ≡ map f (done ++ rest) ++ last ∷ []
+lines-split f done rest last = sym (append_assoc (map f done) (map f rest) (last ∷ [])) ∙ ap (λ (lines : List (List ℕ)). lines ++ last ∷ []) (sym (map-append f done rest))
 
 -- ---- a run whose lines are written so far
 
 -- Of a run some answers are written and the rest is left to a machine, of which a bound may leave so many to be told; what the counter held at the beginning and
--- holds, and what the sink held and holds.
-pub record Progress (names : List (List ℕ)) (variables : List ℕ) (most : Option ℕ) (asked : Run) (machine : Machine) (old now : Option (List ℕ)) (before after : ℕ) (begun ticks count : ℕ) : Type 0 where
+-- holds, and what was told of the sink and is.
+pub record Progress (names : List (List ℕ)) (variables : List ℕ) (most : Option ℕ) (asked : Run) (machine : Machine) (old now : SinkState) (begun ticks count : ℕ) : Type 0 where
   pub done : List Env
   pub rest : Run
   pub bound : Option ℕ
@@ -247,13 +216,12 @@ pub record Progress (names : List (List ℕ)) (variables : List ℕ) (most : Opt
   pub stops : is_stopped bound rest ≡ is_stopped most asked
   pub end : end_of rest ≡ end_of asked
   pub steps : counted ticks (steps_made bound rest) ≡ counted begun (steps_made most asked)
-  pub written : now ≡ appended old (text_of (map (solution_line names variables) done))
-  pub faults : after ≡ before
+  pub puts : PutsAll (map (solution_line names variables) done) old now
 
 -- at the beginning
-pub progress-begins : (names : List (List ℕ)) (variables : List ℕ) (most : Option ℕ) (asked : Run) (machine : Machine) (held : Option (List ℕ)) (faults begun : ℕ) → Means machine asked
-    → Progress names variables most asked machine held held faults faults begun begun 0
-progress-begins names variables most asked machine held faults begun means = record {
+pub progress-begins : (names : List (List ℕ)) (variables : List ℕ) (most : Option ℕ) (asked : Run) (machine : Machine) (held : SinkState) (begun : ℕ) → Means machine asked
+    → Progress names variables most asked machine held held begun begun 0
+progress-begins names variables most asked machine held begun means = record {
   done = [];
   rest = asked;
   bound = most;
@@ -265,38 +233,31 @@ progress-begins names variables most asked machine held faults begun means = rec
   stops = refl;
   end = refl;
   steps = refl;
-  written = sym (appended-empty held);
-  faults = refl;
+  puts = puts_all-none held;
 }
 
 -- Given is a run that is written so far.
-module _ (names : List (List ℕ)) (variables : List ℕ) (most : Option ℕ) (asked : Run) (machine : Machine) (old now : Option (List ℕ)) (before after begun ticks count : ℕ)
-    (so_far : Progress names variables most asked machine old now before after begun ticks count) where
-  abbrev done_text : List ℕ
-  done_text = text_of (map (solution_line names variables) so_far.done)
+module _ (names : List (List ℕ)) (variables : List ℕ) (most : Option ℕ) (asked : Run) (machine : Machine) (old now : SinkState) (begun ticks count : ℕ)
+    (so_far : Progress names variables most asked machine old now begun ticks count) where
+  abbrev done_lines : List (List ℕ)
+  done_lines = map (solution_line names variables) so_far.done
 
   abbrev last : List ℕ
   last = last_line names most asked
 
-  abbrev whole : List ℕ
-  whole = text_of (run_lines names variables most asked)
+  abbrev whole : List (List ℕ)
+  whole = run_lines names variables most asked
 
-  -- what is written and what is left are all lines
-  parts : done_text ++ text_of (map (solution_line names variables) (answers_told so_far.bound so_far.rest) ++ last ∷ []) ≡ whole
+  -- the lines that are written and those that are left are all lines
+  parts : done_lines ++ (map (solution_line names variables) (answers_told so_far.bound so_far.rest) ++ last ∷ []) ≡ whole
   parts =
       lines-split (solution_line names variables) so_far.done (answers_told so_far.bound so_far.rest) last
-      ∙ ap (λ (all : List Env). text_of (map (solution_line names variables) all ++ last ∷ [])) so_far.told
+      ∙ ap (λ (all : List Env). map (solution_line names variables) all ++ last ∷ []) so_far.told
 
-  pub progress-front : PutsFront whole old now
-  progress-front = record {
-    front = done_text;
-    rest = text_of (map (solution_line names variables) (answers_told so_far.bound so_far.rest) ++ last ∷ []);
-    whole = parts;
-    written = so_far.written;
-  }
-
-  pub progress-cut : Cuts whole old now before after NoMemory
-  progress-cut = (progress-front, so_far.faults)
+  pub progress-cut : Cuts whole old now NoMemory
+  progress-cut =
+      let left = map (solution_line names variables) (answers_told so_far.bound so_far.rest) ++ last ∷ [] in
+      (subst (λ (lines : List (List ℕ)). PutsFront lines old now) parts (puts_front-before done_lines left old now (puts_front-all done_lines old now so_far.puts)), so_far.puts.faults)
 
   -- No answer is left to be told, and a last line is written.
   module _ (none_left : answers_told so_far.bound so_far.rest ≡ []) where
@@ -306,24 +267,18 @@ module _ (names : List (List ℕ)) (variables : List ℕ) (most : Option ℕ) (a
     count_told : count ≡ length (answers_told most asked)
     count_told = so_far.count_is ∙ ap (λ (all : List Env). length all) all_told
 
-    end_parts : (line : List ℕ) → line ≡ last → done_text ++ (line ++ []) ≡ whole
+    end_parts : (line : List ℕ) → line ≡ last → done_lines ++ (line ∷ []) ≡ whole
     end_parts line told =
-        ap (λ (text : List ℕ). done_text ++ (text ++ [])) told
-        ∙ ap (λ (all : List Env). done_text ++ text_of (map (solution_line names variables) all ++ last ∷ [])) (sym none_left)
+        ap (λ (text : List ℕ). done_lines ++ (text ∷ [])) told
+        ∙ ap (λ (all : List Env). done_lines ++ (map (solution_line names variables) all ++ last ∷ [])) (sym none_left)
         ∙ parts
 
-    end-written : (line : List ℕ) (new : Option (List ℕ)) → line ≡ last → new ≡ appended now line → new ≡ appended old whole
-    end-written line new told written =
-        written ∙ ap (λ (held : Option (List ℕ)). appended held line) so_far.written ∙ appended-append old done_text line
-        ∙ ap (λ (text : List ℕ). appended old (done_text ++ text)) (sym (append-nil line))
-        ∙ ap (λ (text : List ℕ). appended old text) (end_parts line told)
-
-    solves-last : (line : List ℕ) (status ticks' : ℕ) (new : Option (List ℕ)) (after' : ℕ) (result : Result ℕ Cut) → line ≡ last → status ≡ run_status most asked
-        → ticks' ≡ counted begun (steps_made most asked) → Writes line now new after after' result → IfOk result (λ told. told ≡ status) → Solves names variables most asked old new before after' begun ticks' result
-    solves-last line status ticks' new after' (Ok told) line_told status_told counts writes same =
-        (same ∙ status_told, end-written line new line_told writes.0, writes.1 ∙ so_far.faults, counts)
-    solves-last line status ticks' new after' (Err cut) line_told status_told counts writes same =
-        cuts-within whole done_text line [] old now new before after after' cut (end_parts line line_told) so_far.written so_far.faults writes
+    solves-last : (line : List ℕ) (status ticks' : ℕ) (new : SinkState) (result : Result ℕ Cut) → line ≡ last → status ≡ run_status most asked
+        → ticks' ≡ counted begun (steps_made most asked) → Writes (line ∷ []) now new result → IfOk result (λ told. told ≡ status) → Solves names variables most asked old new begun ticks' result
+    solves-last line status ticks' new (Ok told) line_told status_told counts writes same =
+        (same ∙ status_told, subst (λ (lines : List (List ℕ)). PutsAll lines old new) (end_parts line line_told) (puts_all-behind done_lines (line ∷ []) old now new so_far.puts writes), counts)
+    solves-last line status ticks' new (Err cut) line_told status_told counts writes same =
+        subst (λ (lines : List (List ℕ)). Cuts lines old new cut) (end_parts line line_told) (cuts-within done_lines (line ∷ []) [] old now new cut so_far.puts writes)
 
   -- As many answers are told as the bound says.
   module _ (enough : most ≡ Some count) where
@@ -348,10 +303,10 @@ module _ (names : List (List ℕ)) (variables : List ℕ) (most : Option ℕ) (a
     stopped_steps =
         ap (λ (n : ℕ). counted ticks n) (sym (none-made so_far.rest)) ∙ ap (λ (some : Option ℕ). counted ticks (steps_made some so_far.rest)) (sym bound_none) ∙ so_far.steps
 
-    pub solves-stopped : (line : List ℕ) (status : ℕ) (new : Option (List ℕ)) (after' : ℕ) (result : Result ℕ Cut) → line ≡ stopped_line names count → status ≡ solved_status
-        → Writes line now new after after' result → IfOk result (λ told. told ≡ status) → Solves names variables most asked old new before after' begun ticks result
-    solves-stopped line status new after' result line_told status_told =
-        solves-last none_told line status ticks new after' result (line_told ∙ sym stopped_last) (status_told ∙ sym stopped_status) stopped_steps
+    pub solves-stopped : (line : List ℕ) (status : ℕ) (new : SinkState) (result : Result ℕ Cut) → line ≡ stopped_line names count → status ≡ solved_status
+        → Writes (line ∷ []) now new result → IfOk result (λ told. told ≡ status) → Solves names variables most asked old new begun ticks result
+    solves-stopped line status new result line_told status_told =
+        solves-last none_told line status ticks new result (line_told ∙ sym stopped_last) (status_told ∙ sym stopped_status) stopped_steps
 
   -- The bound leaves an answer to be told, or there is none.
   module _ (more : most ≡ Some count → ⊥) where
@@ -360,7 +315,7 @@ module _ (names : List (List ℕ)) (variables : List ℕ) (most : Option ℕ) (a
 
     -- Steps were made, and no answer came.
     pub progress-moved : (machine' : Machine) (rest : Run) (made ticks' : ℕ) → so_far.rest ≡ behind_steps made rest → Means machine' rest → ticks' ≡ counted ticks made
-        → Progress names variables most asked machine' old now before after begun ticks' count
+        → Progress names variables most asked machine' old now begun ticks' count
     progress-moved machine' rest made ticks' is means counts = record {
       done = so_far.done;
       rest = rest;
@@ -373,8 +328,7 @@ module _ (names : List (List ℕ)) (variables : List ℕ) (most : Option ℕ) (a
       stops = sym (stopped-behind so_far.bound made rest) ∙ ap (λ (run : Run). is_stopped so_far.bound run) (sym is) ∙ so_far.stops;
       end = sym (end-behind made rest) ∙ ap (λ (run : Run). end_of run) (sym is) ∙ so_far.end;
       steps = counted-behind so_far.bound ticks ticks' made so_far.rest rest wanted is counts ∙ so_far.steps;
-      written = so_far.written;
-      faults = so_far.faults;
+      puts = so_far.puts;
     }
 
     -- An answer came.
@@ -391,19 +345,18 @@ module _ (names : List (List ℕ)) (variables : List ℕ) (most : Option ℕ) (a
           ap (λ (run : Run). answers_told so_far.bound run) is ∙ told-behind so_far.bound made (Answer values rest)
           ∙ told-answered so_far.bound values rest wanted
 
-      answer_parts : done_text ++ (line ++ text_of (map (solution_line names variables) (answers_told (one_less so_far.bound) rest) ++ last ∷ [])) ≡ whole
+      answer_parts : done_lines ++ ((line ∷ []) ++ (map (solution_line names variables) (answers_told (one_less so_far.bound) rest) ++ last ∷ [])) ≡ whole
       answer_parts =
-          ap (λ (all : List Env). done_text ++ text_of (map (solution_line names variables) all ++ last ∷ [])) (sym told_are)
+          ap (λ (all : List Env). done_lines ++ (map (solution_line names variables) all ++ last ∷ [])) (sym told_are)
           ∙ parts
 
-      pub answer-cut : (new : Option (List ℕ)) (after' : ℕ) (cut : Cut) → Cuts line now new after after' cut → Cuts whole old new before after' cut
-      answer-cut new after' cut cuts =
-          cuts-within whole done_text line (text_of (map (solution_line names variables) (answers_told (one_less so_far.bound) rest) ++ last ∷ [])) old now new before after after' cut
-          answer_parts so_far.written so_far.faults cuts
+      pub answer-cut : (new : SinkState) (cut : Cut) → Cuts (line ∷ []) now new cut → Cuts whole old new cut
+      answer-cut new cut cuts =
+          subst (λ (lines : List (List ℕ)). Cuts lines old new cut) answer_parts
+          (cuts-within done_lines (line ∷ []) (map (solution_line names variables) (answers_told (one_less so_far.bound) rest) ++ last ∷ []) old now new cut so_far.puts cuts)
 
-      pub progress-answered : (new : Option (List ℕ)) (after' : ℕ) → new ≡ appended now line → after' ≡ after
-          → Progress names variables most asked machine' old new before after' begun ticks' (suc count)
-      progress-answered new after' written same = record {
+      pub progress-answered : (new : SinkState) → PutsAll (line ∷ []) now new → Progress names variables most asked machine' old new begun ticks' (suc count)
+      progress-answered new puts = record {
         done = so_far.done ++ values ∷ [];
         rest = rest;
         bound = one_less so_far.bound;
@@ -423,10 +376,9 @@ module _ (names : List (List ℕ)) (variables : List ℕ) (most : Option ℕ) (a
         steps =
             ap (λ (n : ℕ). counted ticks' n) (sym (made-answered so_far.bound values rest wanted))
             ∙ counted-behind so_far.bound ticks ticks' made so_far.rest (Answer values rest) wanted is counts ∙ so_far.steps;
-        written =
-            written ∙ ap (λ (held : Option (List ℕ)). appended held line) so_far.written ∙ appended-append old done_text line
-            ∙ ap (λ (text : List ℕ). appended old text) (sym (lines-more (solution_line names variables) so_far.done values));
-        faults = same ∙ so_far.faults;
+        puts =
+            subst (λ (lines : List (List ℕ)). PutsAll lines old new) (sym (map-append (solution_line names variables) so_far.done (values ∷ [])))
+            (puts_all-behind done_lines (line ∷ []) old now new so_far.puts puts);
       }
 
     -- The run ended.
@@ -465,24 +417,23 @@ module _ (names : List (List ℕ)) (variables : List ℕ) (most : Option ℕ) (a
           ap (λ (n : ℕ). counted ticks' n) (sym (ended-made so_far.bound end))
           ∙ counted-behind so_far.bound ticks ticks' made so_far.rest (Ends end) wanted is counts ∙ so_far.steps
 
-      pub solves-end : (line : List ℕ) (status : ℕ) (new : Option (List ℕ)) (after' : ℕ) (result : Result ℕ Cut) → line ≡ end_line names count end → status ≡ end_status count end
-          → Writes line now new after after' result → IfOk result (λ told. told ≡ status) → Solves names variables most asked old new before after' begun ticks' result
-      solves-end line status new after' result line_told status_told =
-          solves-last none_left_told line status ticks' new after' result (line_told ∙ end_last) (status_told ∙ end_status_is) end_steps
+      pub solves-end : (line : List ℕ) (status : ℕ) (new : SinkState) (result : Result ℕ Cut) → line ≡ end_line names count end → status ≡ end_status count end
+          → Writes (line ∷ []) now new result → IfOk result (λ told. told ≡ status) → Solves names variables most asked old new begun ticks' result
+      solves-end line status new result line_told status_told =
+          solves-last none_left_told line status ticks' new result (line_told ∙ end_last) (status_told ∙ end_status_is) end_steps
 
     -- Nothing was written behind the steps.
-    not_put : (ticks' : ℕ) (new : Option (List ℕ)) (after' : ℕ) (result : Result ℕ Cut) → (result ≡ Err NoMemory) × (new ≡ now) × (after' ≡ after)
-        → Solves names variables most asked old new before after' begun ticks' result
-    not_put ticks' new after' result puts =
-        subst (λ (some : Result ℕ Cut). Solves names variables most asked old new before after' begun ticks' some) (sym puts.0)
-        (subst (λ (held : Option (List ℕ)). PutsFront whole old held) (sym puts.1) progress-front, puts.2 ∙ so_far.faults)
+    not_put : (ticks' : ℕ) (new : SinkState) (result : Result ℕ Cut) → (result ≡ Err NoMemory) × (new ≡ now) → Solves names variables most asked old new begun ticks' result
+    not_put ticks' new result puts =
+        subst (λ (some : Result ℕ Cut). Solves names variables most asked old new begun ticks' some) (sym puts.0)
+        (subst (λ (held : SinkState). Cuts whole old held NoMemory) (sym puts.1) progress-cut)
 
     -- The machine stopped, and the line of its stop was put behind the others.
-    pub solves-stop : (stop : Stop) (machine' : Machine) (slice ticks' : ℕ) (new : Option (List ℕ)) (after' : ℕ) (result : Result ℕ Cut) → Ran stop so_far.rest machine' ticks ticks' slice
-        → PutsStop names count stop now new after after' result → Solves names variables most asked old new before after' begun ticks' result
-    solves-stop Ended machine' slice ticks' new after' result ran puts = solves-end RunDone ran.0 ticks' ran.2.whole ran.2.counts _ _ new after' result refl refl puts.0 puts.1
-    solves-stop (Raised text) machine' slice ticks' new after' result ran puts = solves-end (RunRaised text) ran.0 ticks' ran.2.whole ran.2.counts _ _ new after' result refl refl puts.0 puts.1
-    solves-stop LimitStop machine' slice ticks' new after' result ran puts = solves-end LimitPassed ran.0 ticks' ran.2.whole ran.2.counts _ _ new after' result refl refl puts.0 puts.1
-    solves-stop AnswerStop machine' slice ticks' new after' result ran puts = not_put ticks' new after' result puts
-    solves-stop SliceOver machine' slice ticks' new after' result ran puts = not_put ticks' new after' result puts
-    solves-stop NoMemoryStop machine' slice ticks' new after' result ran puts = not_put ticks' new after' result puts
+    pub solves-stop : (stop : Stop) (machine' : Machine) (slice ticks' : ℕ) (new : SinkState) (result : Result ℕ Cut) → Ran stop so_far.rest machine' ticks ticks' slice
+        → PutsStop names count stop now new result → Solves names variables most asked old new begun ticks' result
+    solves-stop Ended machine' slice ticks' new result ran puts = solves-end RunDone ran.0 ticks' ran.2.whole ran.2.counts _ _ new result refl refl puts.0 puts.1
+    solves-stop (Raised text) machine' slice ticks' new result ran puts = solves-end (RunRaised text) ran.0 ticks' ran.2.whole ran.2.counts _ _ new result refl refl puts.0 puts.1
+    solves-stop LimitStop machine' slice ticks' new result ran puts = solves-end LimitPassed ran.0 ticks' ran.2.whole ran.2.counts _ _ new result refl refl puts.0 puts.1
+    solves-stop AnswerStop machine' slice ticks' new result ran puts = not_put ticks' new result puts
+    solves-stop SliceOver machine' slice ticks' new result ran puts = not_put ticks' new result puts
+    solves-stop NoMemoryStop machine' slice ticks' new result ran puts = not_put ticks' new result puts

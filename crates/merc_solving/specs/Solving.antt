@@ -1,6 +1,6 @@
 -- What writing the lines of a run answers.
-use Rattle.std.specs.Prelude.{◌≡◌, ℕ, List, Option, Result, Ok, Err, IfOk}
-use Rattle.merc_base.specs.Outside.{appended}
+use Rattle.std.specs.Prelude.{◌≡◌, ℕ, List, [], ◌∷◌, Option, Result, Ok, Err, IfOk}
+use Rattle.merc_base.specs.Outside.{SinkState}
 use Rattle.merc_meaning.specs.Trace.{Run, RunEnd, RunDone, RunRaised, LimitPassed as PastLimit}
 use Rattle.merc_meaning.specs.Counting.{counted}
 use Rattle.merc_machine.specs.declared.running.Stop.{Stop}
@@ -9,23 +9,23 @@ use Rattle.merc_transfer.specs.declared.writing.Cut.{Cut}
 use Rattle.merc_transfer.specs.declared.writing.Cut.TheVariants.{NoMemory}
 use Rattle.merc_solving.specs.Runs.{steps_made}
 use Rattle.merc_solving.specs.RunLines.{end_line, end_status, run_lines, run_status}
-use Rattle.merc_transfer.specs.Writing.{Cuts, Writes, text_of}
+use Rattle.merc_transfer.specs.Writing.{Cuts, PutsAll, Writes}
 
 -- All lines of the run were written, up to a bound where one is given, and each step counted; or a front of the lines was written.
-abbrev pub Solves : List (List ℕ) → List ℕ → Option ℕ → Run → Option (List ℕ) → Option (List ℕ) → ℕ → ℕ → ℕ → ℕ → Result ℕ Cut → Type 0
-Solves names variables most asked old new before now ticks ticks' (Ok status) =
-    (status ≡ run_status most asked) × (new ≡ appended old (text_of (run_lines names variables most asked))) × (now ≡ before) × (ticks' ≡ counted ticks (steps_made most asked))
-Solves names variables most asked old new before now ticks ticks' (Err cut) = Cuts (text_of (run_lines names variables most asked)) old new before now cut
+abbrev pub Solves : List (List ℕ) → List ℕ → Option ℕ → Run → SinkState → SinkState → ℕ → ℕ → Result ℕ Cut → Type 0
+Solves names variables most asked old new ticks ticks' (Ok status) =
+    (status ≡ run_status most asked) × PutsAll (run_lines names variables most asked) old new × (ticks' ≡ counted ticks (steps_made most asked))
+Solves names variables most asked old new ticks ticks' (Err cut) = Cuts (run_lines names variables most asked) old new cut
 
 -- The line of this end of a run was written, or a front of it, and the answer is the run's status.
-abbrev pub PutsEnd : List (List ℕ) → ℕ → RunEnd → Option (List ℕ) → Option (List ℕ) → ℕ → ℕ → Result ℕ Cut → Type 0
-PutsEnd names count end old new before now result = Writes (end_line names count end) old new before now result × IfOk result (λ status. status ≡ end_status count end)
+abbrev pub PutsEnd : List (List ℕ) → ℕ → RunEnd → SinkState → SinkState → Result ℕ Cut → Type 0
+PutsEnd names count end old new result = Writes (end_line names count end ∷ []) old new result × IfOk result (λ status. status ≡ end_status count end)
 
 -- The same of the end at which a machine stopped, where it did; else nothing was written, as where memory is refused.
-abbrev pub PutsStop : List (List ℕ) → ℕ → Stop → Option (List ℕ) → Option (List ℕ) → ℕ → ℕ → Result ℕ Cut → Type 0
-PutsStop names count Ended old new before now result = PutsEnd names count RunDone old new before now result
-PutsStop names count (Raised text) old new before now result = PutsEnd names count (RunRaised text) old new before now result
-PutsStop names count LimitPassed old new before now result = PutsEnd names count PastLimit old new before now result
-PutsStop names count Answer old new before now result = (result ≡ Err NoMemory) × (new ≡ old) × (now ≡ before)
-PutsStop names count SliceOver old new before now result = (result ≡ Err NoMemory) × (new ≡ old) × (now ≡ before)
-PutsStop names count NoMemoryStop old new before now result = (result ≡ Err NoMemory) × (new ≡ old) × (now ≡ before)
+abbrev pub PutsStop : List (List ℕ) → ℕ → Stop → SinkState → SinkState → Result ℕ Cut → Type 0
+PutsStop names count Ended old new result = PutsEnd names count RunDone old new result
+PutsStop names count (Raised text) old new result = PutsEnd names count (RunRaised text) old new result
+PutsStop names count LimitPassed old new result = PutsEnd names count PastLimit old new result
+PutsStop names count Answer old new result = (result ≡ Err NoMemory) × (new ≡ old)
+PutsStop names count SliceOver old new result = (result ≡ Err NoMemory) × (new ≡ old)
+PutsStop names count NoMemoryStop old new result = (result ≡ Err NoMemory) × (new ≡ old)

@@ -1,5 +1,5 @@
 //! Runs of goals, whose lines are written as the answers come.
-ghost use Rattle.std.specs.Prelude.{◌≡◌, ◌<◌, ℕ, List, suc, IfOk};
+ghost use Rattle.std.specs.Prelude.{◌≡◌, ◌<◌, ℕ, List, [], ◌∷◌, suc, IfOk};
 ghost use Rattle.merc_meaning.specs.Trace.{Env, Run, RunDone};
 ghost use Rattle.merc_machine.specs.Running.{HasAnswered, Means};
 ghost use Rattle.merc_transfer.specs.Writing.{Writes};
@@ -44,9 +44,9 @@ pub fn run<K: Sink>(
     sink: &mut K,
     ticks: &mut Ticks,
 ) -> Result<u8, Cut>
-    requires sink { K.write_faults sink.old < 18446744073709551615 }
+    requires sink { (K.sink_state sink.old).faults < 18446744073709551615 }
     requires makes { (asked : Run) × Makes ready.now asked }
-    ensures { (asked : Run) → Makes ready.now asked → Solves ready.now.names ready.now.variables ready.now.most asked (K.written sink.old) (K.written sink.new) (K.write_faults sink.old) (K.write_faults sink.new) ticks.old ticks.new result }
+    ensures { (asked : Run) → Makes ready.now asked → Solves ready.now.names ready.now.variables ready.now.most asked (K.sink_state sink.old) (K.sink_state sink.new) ticks.old ticks.new result }
 {
     let mut machine = Machine::start(alloc, &ready.program, ready.steps)?;
     put_run(alloc, ready, &mut machine, sink, ticks)
@@ -60,9 +60,9 @@ fn put_run<K: Sink>(
     sink: &mut K,
     ticks: &mut Ticks,
 ) -> Result<u8, Cut>
-    requires sink { K.write_faults sink.old < 18446744073709551615 }
+    requires sink { (K.sink_state sink.old).faults < 18446744073709551615 }
     requires means { (asked : Run) × Means machine.old asked }
-    ensures { (asked : Run) → Means machine.old asked → Solves ready.now.names ready.now.variables ready.now.most asked (K.written sink.old) (K.written sink.new) (K.write_faults sink.old) (K.write_faults sink.new) ticks.old ticks.new result }
+    ensures { (asked : Run) → Means machine.old asked → Solves ready.now.names ready.now.variables ready.now.most asked (K.sink_state sink.old) (K.sink_state sink.new) ticks.old ticks.new result }
 {
     let mut count = 0;
     for _ in 0..u64::MAX {
@@ -88,8 +88,8 @@ fn put_answer<K: Sink>(
     machine: &Machine<'_>,
     sink: &mut K,
 ) -> Result<(), Cut>
-    requires { K.write_faults sink.old < 18446744073709551615 }
-    ensures { (values : Env) → HasAnswered machine.now values → Writes (solution_line ready.now.names ready.now.variables values) (K.written sink.old) (K.written sink.new) (K.write_faults sink.old) (K.write_faults sink.new) result }
+    requires { (K.sink_state sink.old).faults < 18446744073709551615 }
+    ensures { (values : Env) → HasAnswered machine.now values → Writes (solution_line ready.now.names ready.now.variables values ∷ []) (K.sink_state sink.old) (K.sink_state sink.new) result }
 {
     let values = machine.answer(alloc)?;
     let line = solution_line(alloc, &ready.names, ready.variables.as_slice(), &values)?;
@@ -104,8 +104,8 @@ fn put_stop<K: Sink>(
     count: u64,
     sink: &mut K,
 ) -> Result<u8, Cut>
-    requires { K.write_faults sink.old < 18446744073709551615 }
-    ensures { PutsStop names.now count stop (K.written sink.old) (K.written sink.new) (K.write_faults sink.old) (K.write_faults sink.new) result }
+    requires { (K.sink_state sink.old).faults < 18446744073709551615 }
+    ensures { PutsStop names.now count stop (K.sink_state sink.old) (K.sink_state sink.new) result }
 {
     match stop {
         Stop::Ended => put_end(sink, ended_status(count), solutions_line(alloc, count)),
@@ -117,8 +117,8 @@ fn put_stop<K: Sink>(
 
 // Writes the line that ends a run of this status, where there was memory for it.
 fn put_end<K: Sink>(sink: &mut K, status: u8, line: Result<Text, NoMemory>) -> Result<u8, Cut>
-    requires { K.write_faults sink.old < 18446744073709551615 }
-    ensures writes { (text : List ℕ) → IfOk line (λ made. made ≡ text) → Writes text (K.written sink.old) (K.written sink.new) (K.write_faults sink.old) (K.write_faults sink.new) result }
+    requires { (K.sink_state sink.old).faults < 18446744073709551615 }
+    ensures writes { (text : List ℕ) → IfOk line (λ made. made ≡ text) → Writes (text ∷ []) (K.sink_state sink.old) (K.sink_state sink.new) result }
     ensures status { IfOk result (λ told. told ≡ status) }
 {
     put_line(sink, &line?)?;

@@ -6,24 +6,24 @@ use Rattle.merc_solving.proofs.solving.put_run.Goals as goal
 
 pub loop-init : goal.loop-init
 loop-init g c = λ asked means.
-    progress-begins c.args.ready.now.names c.args.ready.now.variables c.args.ready.now.most asked c.args.machine.now (g.K.Sink.written c.args.sink.now) (g.K.Sink.write_faults c.args.sink.now) c.args.ticks.now means
+    progress-begins c.args.ready.now.names c.args.ready.now.variables c.args.ready.now.most asked c.args.machine.now (g.K.Sink.sink_state c.args.sink.now) c.args.ticks.now means
 
 pub run-requires-clause-means : goal.run-requires-clause-means
 run-requires-clause-means g c = λ running. let kept = c.loop.invariant c.requires.means.0 c.requires.means.1 in (kept.rest, kept.means)
 
 -- As many answers are told as are wanted.
 pub put_end-requires : goal.put_end-requires
-put_end-requires g c = let kept = c.loop.invariant c.requires.means.0 c.requires.means.1 in omega (arith, kept.faults, c.requires.sink)
+put_end-requires g c = let kept = c.loop.invariant c.requires.means.0 c.requires.means.1 in omega (arith, kept.puts.faults, c.requires.sink)
 
 pub returns-then-eq : goal.returns-then-eq
 returns-then-eq g c = λ asked means.
-    solves-stopped c.args.ready.now.names c.args.ready.now.variables c.args.ready.now.most asked c.loop.machine (g.K.Sink.written c.args.sink.now) (g.K.Sink.written c.loop.sink)
-    (g.K.Sink.write_faults c.args.sink.now) (g.K.Sink.write_faults c.loop.sink) c.args.ticks.now c.loop.ticks c.loop.count
-    (c.loop.invariant asked means) (enough c.args.ready.now.most c.loop.count c.if-eq.ensures) _ _ _ _ c.put_end.result
+    solves-stopped c.args.ready.now.names c.args.ready.now.variables c.args.ready.now.most asked c.loop.machine (g.K.Sink.sink_state c.args.sink.now) (g.K.Sink.sink_state c.loop.sink)
+    c.args.ticks.now c.loop.ticks c.loop.count
+    (c.loop.invariant asked means) (enough c.args.ready.now.most c.loop.count c.if-eq.ensures) _ _ _ c.put_end.result
     refl refl (c.put_end.ensures.writes _ (c.stopped_line.ensures c.args.ready.now.names)) c.put_end.ensures.status
 
 pub put_answer-requires : goal.put_answer-requires
-put_answer-requires g c = let kept = c.loop.invariant c.requires.means.0 c.requires.means.1 in omega (arith, kept.faults, c.requires.sink)
+put_answer-requires g c = let kept = c.loop.invariant c.requires.means.0 c.requires.means.1 in omega (arith, kept.puts.faults, c.requires.sink)
 
 pub returns-in_err-put_answer-in-Answer : goal.returns-in_err-put_answer-in-Answer
 returns-in_err-put_answer-in-Answer g c =
@@ -31,9 +31,9 @@ returns-in_err-put_answer-in-Answer g c =
     rw (cut.1, cut.2) (λ asked means.
     let kept = c.loop.invariant asked means in
     let ran = c.in-Answer.ensures.ran kept.rest kept.means in
-    answer-cut c.args.ready.now.names c.args.ready.now.variables c.args.ready.now.most asked c.loop.machine (g.K.Sink.written c.args.sink.now) (g.K.Sink.written c.loop.sink)
-    (g.K.Sink.write_faults c.args.sink.now) (g.K.Sink.write_faults c.loop.sink) c.args.ticks.now c.loop.ticks c.loop.count
-    kept (not_enough c.args.ready.now.most c.loop.count c.if-eq.ensures) c.run.new.self ran.1 ran.2 ran.0 c.run.new.ticks ran.4.whole ran.5 ran.4.counts _ _ c.in_err-put_answer-in-Answer.field-0.0
+    answer-cut c.args.ready.now.names c.args.ready.now.variables c.args.ready.now.most asked c.loop.machine (g.K.Sink.sink_state c.args.sink.now) (g.K.Sink.sink_state c.loop.sink)
+    c.args.ticks.now c.loop.ticks c.loop.count
+    kept (not_enough c.args.ready.now.most c.loop.count c.if-eq.ensures) c.run.new.self ran.1 ran.2 ran.0 c.run.new.ticks ran.4.whole ran.5 ran.4.counts _ c.in_err-put_answer-in-Answer.field-0.0
     (c.in_err-put_answer-in-Answer.ensures ran.1 ran.6))
 
 pub returns-in_err-count-in-Answer : goal.returns-in_err-count-in-Answer
@@ -43,21 +43,21 @@ returns-in_err-count-in-Answer g c =
     let kept = c.loop.invariant asked means in
     let ran = c.in-Answer.ensures.ran kept.rest kept.means in
     let wrote = c.in_ok-put_answer-in-Answer.ensures ran.1 ran.6 in
-    progress-cut c.args.ready.now.names c.args.ready.now.variables c.args.ready.now.most asked c.run.new.self (g.K.Sink.written c.args.sink.now) (g.K.Sink.written c.put_answer.new.sink)
-    (g.K.Sink.write_faults c.args.sink.now) (g.K.Sink.write_faults c.put_answer.new.sink) c.args.ticks.now c.run.new.ticks _
-    (progress-answered c.args.ready.now.names c.args.ready.now.variables c.args.ready.now.most asked c.loop.machine (g.K.Sink.written c.args.sink.now) (g.K.Sink.written c.loop.sink)
-    (g.K.Sink.write_faults c.args.sink.now) (g.K.Sink.write_faults c.loop.sink) c.args.ticks.now c.loop.ticks c.loop.count
-    kept (not_enough c.args.ready.now.most c.loop.count c.if-eq.ensures) c.run.new.self ran.1 ran.2 ran.0 c.run.new.ticks ran.4.whole ran.5 ran.4.counts _ _ wrote.0 wrote.1))
+    progress-cut c.args.ready.now.names c.args.ready.now.variables c.args.ready.now.most asked c.run.new.self (g.K.Sink.sink_state c.args.sink.now) (g.K.Sink.sink_state c.put_answer.new.sink)
+    c.args.ticks.now c.run.new.ticks _
+    (progress-answered c.args.ready.now.names c.args.ready.now.variables c.args.ready.now.most asked c.loop.machine (g.K.Sink.sink_state c.args.sink.now) (g.K.Sink.sink_state c.loop.sink)
+    c.args.ticks.now c.loop.ticks c.loop.count
+    kept (not_enough c.args.ready.now.most c.loop.count c.if-eq.ensures) c.run.new.self ran.1 ran.2 ran.0 c.run.new.ticks ran.4.whole ran.5 ran.4.counts _ wrote))
 
 pub put_stop-requires : goal.put_stop-requires
-put_stop-requires g c = let kept = c.loop.invariant c.requires.means.0 c.requires.means.1 in omega (arith, kept.faults, c.requires.sink)
+put_stop-requires g c = let kept = c.loop.invariant c.requires.means.0 c.requires.means.1 in omega (arith, kept.puts.faults, c.requires.sink)
 
 pub returns-in_default : goal.returns-in_default
 returns-in_default g c = λ asked means.
     let kept = c.loop.invariant asked means in
-    solves-stop c.args.ready.now.names c.args.ready.now.variables c.args.ready.now.most asked c.loop.machine (g.K.Sink.written c.args.sink.now) (g.K.Sink.written c.loop.sink)
-    (g.K.Sink.write_faults c.args.sink.now) (g.K.Sink.write_faults c.loop.sink) c.args.ticks.now c.loop.ticks c.loop.count
-    kept (not_enough c.args.ready.now.most c.loop.count c.if-eq.ensures) c.run.result c.run.new.self 4294967295 c.run.new.ticks _ _ c.put_stop.result
+    solves-stop c.args.ready.now.names c.args.ready.now.variables c.args.ready.now.most asked c.loop.machine (g.K.Sink.sink_state c.args.sink.now) (g.K.Sink.sink_state c.loop.sink)
+    c.args.ticks.now c.loop.ticks c.loop.count
+    kept (not_enough c.args.ready.now.most c.loop.count c.if-eq.ensures) c.run.result c.run.new.self 4294967295 c.run.new.ticks _ c.put_stop.result
     (c.run.ensures.ran kept.rest kept.means) c.put_stop.ensures
 
 pub loop-preserved : goal.loop-preserved
@@ -66,18 +66,18 @@ loop-preserved g c = λ asked means.
     let ran = c.in-Answer.ensures.ran kept.rest kept.means in
     let wrote = c.in_ok-put_answer-in-Answer.ensures ran.1 ran.6 in
     rw c.in_ok-count-in-Answer.ensures
-    (progress-answered c.args.ready.now.names c.args.ready.now.variables c.args.ready.now.most asked c.loop.machine (g.K.Sink.written c.args.sink.now) (g.K.Sink.written c.loop.sink)
-    (g.K.Sink.write_faults c.args.sink.now) (g.K.Sink.write_faults c.loop.sink) c.args.ticks.now c.loop.ticks c.loop.count
-    kept (not_enough c.args.ready.now.most c.loop.count c.if-eq.ensures) c.run.new.self ran.1 ran.2 ran.0 c.run.new.ticks ran.4.whole ran.5 ran.4.counts _ _ wrote.0 wrote.1)
+    (progress-answered c.args.ready.now.names c.args.ready.now.variables c.args.ready.now.most asked c.loop.machine (g.K.Sink.sink_state c.args.sink.now) (g.K.Sink.sink_state c.loop.sink)
+    c.args.ticks.now c.loop.ticks c.loop.count
+    kept (not_enough c.args.ready.now.most c.loop.count c.if-eq.ensures) c.run.new.self ran.1 ran.2 ran.0 c.run.new.ticks ran.4.whole ran.5 ran.4.counts _ wrote)
 
 pub loop-preserved-in-SliceOver : goal.loop-preserved-in-SliceOver
 loop-preserved-in-SliceOver g c = λ asked means.
     let kept = c.loop.invariant asked means in
     let ran = c.in-SliceOver.ensures.ran kept.rest kept.means in
-    progress-moved c.args.ready.now.names c.args.ready.now.variables c.args.ready.now.most asked c.loop.machine (g.K.Sink.written c.args.sink.now) (g.K.Sink.written c.loop.sink)
-    (g.K.Sink.write_faults c.args.sink.now) (g.K.Sink.write_faults c.loop.sink) c.args.ticks.now c.loop.ticks c.loop.count
+    progress-moved c.args.ready.now.names c.args.ready.now.variables c.args.ready.now.most asked c.loop.machine (g.K.Sink.sink_state c.args.sink.now) (g.K.Sink.sink_state c.loop.sink)
+    c.args.ticks.now c.loop.ticks c.loop.count
     kept (not_enough c.args.ready.now.most c.loop.count c.if-eq.ensures) c.run.new.self ran.0 4294967295 c.run.new.ticks ran.1.whole ran.2 ran.1.counts
 
 pub returns : goal.returns
-returns g c = λ asked means. progress-cut c.args.ready.now.names c.args.ready.now.variables c.args.ready.now.most asked c.loop.machine (g.K.Sink.written c.args.sink.now) (g.K.Sink.written c.loop.sink)
-    (g.K.Sink.write_faults c.args.sink.now) (g.K.Sink.write_faults c.loop.sink) c.args.ticks.now c.loop.ticks c.loop.count (c.loop.invariant asked means)
+returns g c = λ asked means. progress-cut c.args.ready.now.names c.args.ready.now.variables c.args.ready.now.most asked c.loop.machine (g.K.Sink.sink_state c.args.sink.now) (g.K.Sink.sink_state c.loop.sink)
+    c.args.ticks.now c.loop.ticks c.loop.count (c.loop.invariant asked means)

@@ -7,5 +7,5 @@ use Rattle.merc_solving.proofs.solving.put_run.Given as goal
 abbrev pub invariant-loop : goal.invariant-loop
 invariant-loop g l =
     (asked : Run) → Means l.fn.machine asked
-    → Progress l.ready.names l.ready.variables l.ready.most asked l.machine (g.K.Sink.written l.fn.sink) (g.K.Sink.written l.sink)
-    (g.K.Sink.write_faults l.fn.sink) (g.K.Sink.write_faults l.sink) l.fn.ticks l.ticks l.count
+    → Progress l.ready.names l.ready.variables l.ready.most asked l.machine (g.K.Sink.sink_state l.fn.sink) (g.K.Sink.sink_state l.sink)
+    l.fn.ticks l.ticks l.count
