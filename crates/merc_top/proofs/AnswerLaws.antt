@@ -1,13 +1,13 @@
 -- What a call shows of each status by itself, and of what was written.
-use Rattle.std.proofs.Common.{◌≡◌, ◌≢◌, ◌∙◌, ◌↔◌, ℕ, List, [], sym, refl, subst, inl, inr}
+use Rattle.std.proofs.Common.{◌≡◌, ◌≢◌, ◌↔◌, ℕ, List, sym, subst, inl, inr}
 use Rattle.std.specs.Prelude.{Option, Some, None, IfSome}
-use Rattle.merc_base.specs.Outside.{Files}
+use Rattle.merc_base.specs.Outside.{Files, SinkState}
 use Rattle.merc_transfer.specs.Statuses.{accepted_status, solved_status, unsolved_status, raised_status, limit_status, module_status, goal_status, usage_status, too_long_status, no_memory_status}
 use Rattle.merc_top.specs.Words.{IsNoRequest}
-use Rattle.merc_transfer.specs.Writing.{PutsFront, text_of}
+use Rattle.merc_transfer.specs.Writing.{PutsFront}
 use Rattle.merc_top.specs.Output.{IsOutput}
 use Rattle.merc_top.specs.Answer.{Answers, AreFiles, WroteFront}
-use Rattle.merc_transfer.proofs.WritingLemmas.{appended-empty}
+use Rattle.merc_transfer.proofs.WritingLemmas.{puts_front-none}
 use Rattle.merc_top.proofs.OutputLaws.{IsOutput-unique}
 use Rattle.merc_top.proofs.Causes.{NamesChecked, IsCheckedModule, RunsTo, Succeeds, IsUnsolved, IsRaised, IsCutAtLimit, BreaksModule, BreaksGoal, NamesTooLong, solved-exactly, checked-exactly, unsolved-exactly, raised-exactly, limit-exactly, module_refused-exactly, goal_refused-exactly, usage-exactly, too_long-exactly}
 
@@ -27,34 +27,34 @@ checked_told words (Some told) status files fit lines output =
     checked-exactly words told lines status (subst (λ some. IsOutput words some lines status) fit output)
 
 -- what was written is a front of whatever is due over files that are told
-front_of_due : (words : List (List ℕ)) (told : Option Files) (old new : Option (List ℕ)) → WroteFront words told old new
-    → (lines : List (List ℕ)) (due : ℕ) → IfSome told (λ files. IsOutput words files lines due → PutsFront (text_of lines) old new)
-front_of_due words None old new wrote lines due = tt
-front_of_due words (Some told) old new (files, fit, lines', due', output, front) lines due = λ also.
-    let same = IsOutput-unique words told lines' lines due' due (subst (λ some. IsOutput words some lines' due') fit output) also in
-    subst (λ some. PutsFront (text_of some) old new) same.0 front
+front_of_due : (words : List (List ℕ)) (told : Option Files) (files : Files) → AreFiles told files → (old new : SinkState) → WroteFront words files old new
+    → (lines : List (List ℕ)) (due : ℕ) → IfSome told (λ files. IsOutput words files lines due → PutsFront lines old new)
+front_of_due words None files fit old new wrote lines due = tt
+front_of_due words (Some told) files fit old new (lines', due', output, front) lines due = λ also.
+    let same = IsOutput-unique words told lines' lines due' due (subst (λ (some : Files). IsOutput words some lines' due') fit output) also in
+    subst (λ (some : List (List ℕ)). PutsFront some old new) same.0 front
 
-nothing_of_due : (words : List (List ℕ)) (told : Option Files) (old new : Option (List ℕ)) → new ≡ old
-    → (lines : List (List ℕ)) (due : ℕ) → IfSome told (λ files. IsOutput words files lines due → PutsFront (text_of lines) old new)
+nothing_of_due : (words : List (List ℕ)) (told : Option Files) (old new : SinkState) → new ≡ old
+    → (lines : List (List ℕ)) (due : ℕ) → IfSome told (λ files. IsOutput words files lines due → PutsFront lines old new)
 nothing_of_due words None old new same lines due = tt
-nothing_of_due words (Some told) old new same lines due = λ _. record { front = []; rest = text_of lines; whole = refl; written = same ∙ sym (appended-empty old) }
+nothing_of_due words (Some told) old new same lines due = λ _. subst (λ (sink : SinkState). PutsFront lines old sink) (sym same) (puts_front-none lines old)
 
 -- one call without a fault
-module _ (words : List (List ℕ)) (told : Option Files) (reads reads' : ℕ) (old new : Option (List ℕ)) (writes writes' status : ℕ)
-    (answers : Answers words told reads reads' old new writes writes' status) where
+module _ (words : List (List ℕ)) (told : Option Files) (reads reads' : ℕ) (old new : SinkState) (count status : ℕ)
+    (answers : Answers words told reads reads' old new count status) where
   -- Whatever is due over the files that are told, what was written is a front of it.
-  pub Answers-front : (lines : List (List ℕ)) (due : ℕ) → IfSome told (λ files. IsOutput words files lines due → PutsFront (text_of lines) old new)
-  Answers-front lines due = elim answers.front as (λ _. IfSome told (λ files. IsOutput words files lines due → PutsFront (text_of lines) old new)) [
+  pub Answers-front : (lines : List (List ℕ)) (due : ℕ) → IfSome told (λ files. IsOutput words files lines due → PutsFront lines old new)
+  Answers-front lines due = elim answers.front as (λ _. IfSome told (λ files. IsOutput words files lines due → PutsFront lines old new)) [
     | inl same ↦ nothing_of_due words told old new same lines due
-    | inr wrote ↦ front_of_due words told old new wrote lines due
+    | inr wrote ↦ front_of_due words told answers.files answers.files_are old new wrote lines due
   ]
 
-  module _ (read : reads' ≡ reads) (wrote : writes' ≡ writes) (free : status ≢ no_memory_status) where
+  module _ (read : reads' ≡ reads) (wrote : new.faults ≡ old.faults) (free : status ≢ no_memory_status) where
     exactly : (due : ℕ) (Why : Files → Type 0) → ((files : Files) (lines : List (List ℕ)) → IsOutput words files lines status → (status ≡ due) ↔ Why files)
         → IfSome told (λ files. (status ≡ due) ↔ Why files)
     exactly due Why cause =
         let output = answers.output read wrote free in
-        over_told words told status due Why cause output.0 output.1 output.2 output.3
+        over_told words told status due Why cause answers.files answers.files_are output.0 output.1
 
     pub Answers-solved : IfSome told (λ files. (status ≡ solved_status) ↔ Succeeds words files)
     Answers-solved = exactly solved_status (λ files. Succeeds words files) (λ files lines. solved-exactly words files lines status)
@@ -63,7 +63,7 @@ module _ (words : List (List ℕ)) (told : Option Files) (reads reads' : ℕ) (o
     pub Answers-checked : IfSome told (λ files. (text : List ℕ) → NamesChecked words files text → (status ≡ accepted_status) ↔ IsCheckedModule words files)
     Answers-checked =
         let output = answers.output read wrote free in
-        checked_told words told status output.0 output.1 output.2 output.3
+        checked_told words told status answers.files answers.files_are output.0 output.1
 
     pub Answers-unsolved : IfSome told (λ files. (status ≡ unsolved_status) ↔ RunsTo words files IsUnsolved)
     Answers-unsolved = exactly unsolved_status (λ files. RunsTo words files IsUnsolved) (λ files lines. unsolved-exactly words files lines status)
@@ -82,7 +82,7 @@ module _ (words : List (List ℕ)) (told : Option Files) (reads reads' : ℕ) (o
 
     -- of any shelf
     pub Answers-usage : (status ≡ usage_status) ↔ IsNoRequest words
-    Answers-usage = let output = answers.output read wrote free in usage-exactly words output.0 output.2 status output.3
+    Answers-usage = let output = answers.output read wrote free in usage-exactly words answers.files output.0 status output.1
 
     pub Answers-too_long : IfSome told (λ files. (status ≡ too_long_status) ↔ NamesTooLong words files)
     Answers-too_long = exactly too_long_status (λ files. NamesTooLong words files) (λ files lines. too_long-exactly words files lines status)

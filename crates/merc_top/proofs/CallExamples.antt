@@ -2,8 +2,8 @@
 use Rattle.std.specs.Prelude.{◌≡◌, ◌≢◌, ◌<◌, ◌≤◌, ◌++◌, ℕ, IsUtf8, replicate, List, [], ◌∷◌, length, Option, Some, None, Ok, Err, codes, refl}
 use Rattle.std.proofs.Common.{◌∙◌, arith, lit<, slice_index, ap, sym, subst, inl, inr}
 use Rattle.std.proofs.Math.Utf8.{encode}
-use Rattle.std.proofs.lemmas.List.{length-replicate, append-nil}
-use Rattle.merc_base.specs.Outside.{Files, file_named}
+use Rattle.std.proofs.lemmas.List.{append-nil, length-replicate}
+use Rattle.merc_base.specs.Outside.{Files, SinkState, file_named}
 use Rattle.merc_base.specs.Names.{fixed_names}
 use Rattle.merc_base.specs.declared.category.Category.TheVariants.{Det}
 use Rattle.merc_tree.specs.Term.{Term}
@@ -19,11 +19,14 @@ use Rattle.merc_top.specs.declared.words.Request.{Request}
 use Rattle.merc_top.specs.declared.words.Request.TheVariants.{Solve, Check}
 use Rattle.merc_top.specs.Words.{IsSolve, IsCheck, IsRequest, default_steps, file_of, usage_line}
 use Rattle.merc_transfer.specs.Loading.{file_limit}
-use Rattle.merc_transfer.specs.Writing.{PutsFront, text_of}
+use Rattle.merc_transfer.specs.Writing.{Gives, PutsFront, text_of}
+use Rattle.merc_transfer.specs.Writing.Gives.{stops, piece}
+use Rattle.merc_transfer.proofs.WritingExamples.{puts_whole, told}
+use Rattle.merc_transfer.proofs.WritingLemmas.{puts_front-all}
 use Rattle.merc_top.specs.Output.{IsAskedRun, IsOutput}
-use Rattle.merc_transfer.specs.Statuses.{accepted_status, solved_status, module_status, goal_status, usage_status, unread_status, unwritten_status, no_memory_status, too_long_status}
-use Rattle.merc_top.specs.Answer.{AreFiles, NamesAbsent, IsStatusDue, WroteFront, Answers}
-use Rattle.merc_top.specs.Counting.{AsksRun, Counts}
+use Rattle.merc_transfer.specs.Statuses.{accepted_status, solved_status, limit_status, module_status, goal_status, usage_status, unread_status, unwritten_status, no_memory_status, too_long_status}
+use Rattle.merc_top.specs.Answer.{AreFiles, NamesAbsent, IsStatusDue, WroteFront, CountsSteps, Answers}
+use Rattle.merc_top.specs.Asking.{AsksRun}
 use Rattle.merc_top.specs.declared.answering.Found.TheVariants.{Lines}
 use Rattle.merc_top.specs.declared.answering.Trouble.TheVariants.{Unread, NoMemory}
 use Rattle.merc_top.specs.Due.{Finds}
@@ -31,7 +34,8 @@ use Rattle.merc_solving.specs.Runs.{steps_made}
 use Rattle.merc_top.proofs.Causes.{NamesTooLong, Names, NamesChecked, BreaksModule, BreaksGoal, IsCheckedModule, RunsTo, IsSolved, Succeeds}
 use Rattle.merc_top.proofs.Causes.BreaksModule.{module_rule, checked_rule}
 use Rattle.merc_top.proofs.AnswerLaws.{Answers-front, Answers-checked, Answers-goal_refused}
-use Rattle.merc_top.proofs.CallEnds.{answers-done, answers-no_memory, answers-unread, asked-unique}
+use Rattle.merc_top.proofs.CallEnds.{answers-cut_short, answers-done, answers-no_memory, answers-unread, asked-unique}
+use Rattle.merc_top.proofs.Truthful.{truthful}
 use Rattle.merc_top.proofs.OutputLaws.{IsOutput-unique}
 use Rattle.merc_top.proofs.Causes.{solved-exactly, module_refused-exactly, goal_refused-exactly, absent-exactly, status-exactly}
 use Rattle.merc_top.proofs.OutputExamples.{one_answer}
@@ -245,20 +249,18 @@ module _ (asked : IsAskedRun one_text (codes "add(2, 3, X)") default_steps run_n
       differ solved_status module_status (omega arith) ((module_refused-exactly first_words files first_output solved_status IsOutput-runs).1 breaks)
 
   -- and one step is counted.
-  pub Counts-example : Counts first_words (Some files) 3 3 2 2 solved_status 1
-  Counts-example = λ _ _ _. (
-    files,
-    refl,
-    λ names variables most other asks.
-        let same = asked-unique first_words files run_names names (0 ∷ []) variables None most one_answer other AsksRun-example asks in
-        ap (λ (some : Option ℕ). counted 0 (steps_made some one_answer)) same.0 ∙ ap (λ (run : Run). counted 0 (steps_made most run)) same.1,
-  )
+  pub CountsSteps-example : CountsSteps first_words files 1
+  CountsSteps-example = λ names variables most other asks.
+      let same = asked-unique first_words files run_names names (0 ∷ []) variables None most one_answer other AsksRun-example asks in
+      ap (λ (some : Option ℕ). counted 0 (steps_made some one_answer)) same.0 ∙ ap (λ (run : Run). counted 0 (steps_made most run)) same.1
 
-  pub Counts-counterexample : Counts first_words (Some files) 3 3 2 2 solved_status 2 → ⊥
-  Counts-counterexample counts =
-      let found = counts refl refl (omega arith) in
-      let same : 2 ≡ 1 = found.2 run_names (0 ∷ []) None one_answer (subst (λ some. AsksRun first_words some run_names (0 ∷ []) None one_answer) (sym found.1) AsksRun-example) in
-      omega (arith, same)
+  pub CountsSteps-counterexample : CountsSteps first_words files 2 → ⊥
+  CountsSteps-counterexample counts = let same : 2 ≡ 1 = counts run_names (0 ∷ []) None one_answer AsksRun-example in omega (arith, same)
+
+  -- So a call that counts another number is refused.
+  pub Answers-miscounted : (new : List ℕ) (pieces : List (List ℕ)) → Answers first_words (Some files) 3 3 (told [] [] 2) (told new pieces 2) 2 solved_status → ⊥
+  Answers-miscounted new pieces answers =
+      CountsSteps-counterexample (subst (λ (some : Files). CountsSteps first_words some 2) answers.files_are (answers.counts refl refl (omega arith)))
 
 not_unread : ◌≡◌ {A = ℕ} module_status unread_status → ⊥
 not_unread same = omega arith
@@ -284,87 +286,121 @@ Finds-no_memory = refl
 
 -- ---- what one call has done
 
-pub Answers-example : Answers bad_words (Some files) 3 3 (Some (codes ">")) (Some (codes ">bad.m:1: rule 1: bad token\n")) 2 2 module_status
+abbrev bad_line : List ℕ
+bad_line = codes "bad.m:1: rule 1: bad token\n"
+
+no_run : (status : ℕ) → status ≡ module_status → status ≤ limit_status → CountsSteps bad_words files 0
+no_run status same low = absurd (omega (arith, same, low))
+
+pub Answers-example : Answers bad_words (Some files) 3 3 (told (codes ">") [] 2) (told (codes ">bad.m:1: rule 1: bad token\n") (bad_line ∷ []) 2) 0 module_status
 Answers-example = record {
-  output = λ _ _ _. (files, refl, bad_output, IsOutput-refused, refl);
-  exact = λ _ _ _. (files, refl, λ due. status-exactly bad_words files bad_output module_status due IsOutput-refused);
+  files = files;
+  files_are = refl;
+  reads_rise = omega arith;
+  writes_rise = omega arith;
+  output = λ _ _ _. (bad_output, IsOutput-refused, puts_whole bad_output (told (codes ">") [] 2) (omega arith, tt));
+  exact = λ _ _ _ due. status-exactly bad_words files bad_output module_status due IsOutput-refused;
+  counts = λ _ _ low. no_run module_status refl low;
   unread = λ same. absurd (not_unread same);
   read_failed = λ failed. absurd (omega arith);
   absent = λ absent _. absent-exactly bad_words files bad_output module_status IsOutput-refused absent;
   nothing_written = λ same. absurd (not_unread same);
   write_failed = (λ same. absurd (omega arith), λ failed. absurd (omega arith));
   cut_short = λ same. absurd (omega arith);
-  front = inr (files, refl, bad_output, module_status, IsOutput-refused, record { front = text_of bad_output; rest = []; whole = append-nil (text_of bad_output); written = refl });
+  front = inr (bad_output, module_status, IsOutput-refused, puts_front-all bad_output _ _ (puts_whole bad_output (told (codes ">") [] 2) (omega arith, tt)));
+  truth = truthful bad_words files;
 }
+
+-- a sink that took five bytes of the line
+abbrev cut_sink : ℕ → SinkState
+cut_sink faults = told (codes "bad.m") (bad_line ∷ []) faults
+
+cut_gives : Gives bad_output (bad_line ∷ []) (codes ":1: rule 1: bad token\n")
+cut_gives = piece bad_line [] [] (codes ":1: rule 1: bad token\n") 5 (omega arith) (omega arith) (stops (codes ":1: rule 1: bad token\n" ∷ []))
+
+cut_puts : (faults : ℕ) → PutsFront bad_output (told [] [] 2) (cut_sink faults)
+cut_puts faults = record { left = codes ":1: rule 1: bad token\n"; puts = record { front = codes "bad.m"; whole = refl; written = refl; pieces = bad_line ∷ []; gives = cut_gives; given = refl } }
 
 -- the file's name alone
-pub bad_front : WroteFront bad_words (Some files) (Some []) (Some (codes "bad.m"))
-bad_front = (files, refl, bad_output, module_status, IsOutput-refused, record { front = codes "bad.m"; rest = codes ":1: rule 1: bad token\n"; whole = refl; written = refl })
+pub WroteFront-example : WroteFront bad_words files (told [] [] 2) (cut_sink 3)
+WroteFront-example = (bad_output, module_status, IsOutput-refused, cut_puts 3)
+
+-- of another line
+pub WroteFront-counterexample : WroteFront bad_words files (told [] [] 2) (told (codes "one.m") (bad_line ∷ []) 3) → ⊥
+WroteFront-counterexample (lines, due, output, front) =
+    let same = IsOutput-unique bad_words files lines bad_output due module_status output IsOutput-refused in
+    let puts : PutsFront bad_output (told [] [] 2) (told (codes "one.m") (bad_line ∷ []) 3) = subst (λ (some : List (List ℕ)). PutsFront some (told [] [] 2) (told (codes "one.m") (bad_line ∷ []) 3)) same.0 front in
+    let written = some_injective (codes "one.m") puts.puts.front puts.puts.written in
+    let whole : codes "one.m" ++ puts.left ≡ text_of bad_output = subst (λ (front : List ℕ). front ++ puts.left ≡ text_of bad_output) (sym written) puts.puts.whole in
+    differ 98 111 (omega arith) (sym (ap (λ (text : List ℕ). slice_index text 0) whole))
 
 -- a write failed behind the file's name
-pub Answers-cut_short : Answers bad_words (Some files) 3 3 (Some []) (Some (codes "bad.m")) 2 3 unwritten_status
-Answers-cut_short = record {
-  output = λ _ same _. absurd (omega arith);
-  exact = λ _ same _. absurd (omega arith);
-  unread = λ same. absurd (omega arith);
-  read_failed = λ failed. absurd (omega arith);
-  absent = λ absent _. absurd (not_unread (absent-exactly bad_words files bad_output module_status IsOutput-refused absent));
-  nothing_written = λ same. absurd (omega arith);
-  write_failed = (λ _. omega arith, λ _. refl);
-  cut_short = λ _. bad_front;
-  front = inr bad_front;
-}
+pub Answers-cut_short : Answers bad_words (Some files) 3 3 (told [] [] 2) (cut_sink 3) 0 unwritten_status
+Answers-cut_short = answers-cut_short bad_words (Some files) files refl 3 3 (told [] [] 2) (cut_sink 3) 0 bad_output module_status refl (inl (omega arith)) IsOutput-refused (cut_puts 3) (omega arith)
 
 -- the file is not there, or a read failed
-pub Answers-absent : Answers two_words (Some files) 3 3 (Some (codes ">")) (Some (codes ">")) 2 2 unread_status
-Answers-absent = answers-unread two_words (Some files) 3 3 (Some (codes ">")) (Some (codes ">")) 2 2 (inr (refl, NamesAbsent-example)) refl refl
+pub Answers-absent : (sink : SinkState) → Answers two_words (Some files) 3 3 sink sink 0 unread_status
+Answers-absent sink = answers-unread two_words (Some files) files refl 3 3 sink sink 0 (inr (refl, NamesAbsent-example)) refl
 
-pub Answers-read_failed : Answers bad_words (Some files) 3 4 (Some []) (Some []) 2 2 unread_status
-Answers-read_failed = answers-unread bad_words (Some files) 3 4 (Some []) (Some []) 2 2 (inl (omega arith)) refl refl
+pub Answers-read_failed : (sink : SinkState) → Answers bad_words (Some files) 3 4 sink sink 0 unread_status
+Answers-read_failed sink = answers-unread bad_words (Some files) files refl 3 4 sink sink 0 (inl (omega arith)) refl
 
 -- then nothing is written, and there is no other status
-pub Answers-unread_writes : Answers two_words (Some files) 3 3 (Some (codes ">")) (Some (codes ">two.m")) 2 2 unread_status → ⊥
-Answers-unread_writes answers = let nothing : Some (codes ">two.m") ≡ Some (codes ">") = answers.nothing_written refl in cc
+pub Answers-unread_writes : Answers two_words (Some files) 3 3 (told (codes ">") [] 2) (told (codes ">two.m") (codes "two.m" ∷ []) 2) 0 unread_status → ⊥
+Answers-unread_writes answers =
+    let nothing : Some (codes ">two.m") ≡ Some (codes ">") = ap (λ (sink : SinkState). sink.written) (answers.nothing_written refl) in cc
 
-pub Answers-read_failed_alone : (new : Option (List ℕ)) → Answers bad_words (Some files) 3 4 (Some []) new 2 2 module_status → ⊥
-Answers-read_failed_alone new answers = not_unread (answers.read_failed (omega arith))
+pub Answers-read_failed_alone : (old new : SinkState) → Answers bad_words (Some files) 3 4 old new 0 module_status → ⊥
+Answers-read_failed_alone old new answers = not_unread (answers.read_failed (omega arith))
 
-pub Answers-absent_solved : (new : Option (List ℕ)) → Answers two_words (Some files) 3 3 (Some []) new 2 2 solved_status → ⊥
-Answers-absent_solved new answers = differ solved_status unread_status (omega arith) (answers.absent NamesAbsent-example (λ same. absurd (omega arith)))
+pub Answers-absent_solved : (old new : SinkState) → Answers two_words (Some files) 3 3 old new 0 solved_status → ⊥
+Answers-absent_solved old new answers = differ solved_status unread_status (omega arith) (answers.absent NamesAbsent-example (λ same. absurd (omega arith)))
 
 -- the file is there, and no read failed
-pub Answers-not_unread : Answers bad_words (Some files) 3 3 (Some []) (Some []) 2 2 unread_status → ⊥
-Answers-not_unread answers = elim (answers.unread refl) [ inl failed ↦ omega (arith, failed) | inr absent ↦ not_unread (absent-exactly bad_words files bad_output module_status IsOutput-refused absent) ]
+pub Answers-not_unread : (old new : SinkState) → Answers bad_words (Some files) 3 3 old new 0 unread_status → ⊥
+Answers-not_unread old new answers = elim (answers.unread refl) [ inl failed ↦ omega (arith, failed) | inr absent ↦ not_unread (absent-exactly bad_words files bad_output module_status IsOutput-refused absent) ]
 
 -- memory may be refused at any time
-pub Answers-no_memory : Answers bad_words (Some files) 3 3 (Some []) (Some []) 2 2 no_memory_status
-Answers-no_memory = answers-no_memory bad_words (Some files) 3 3 (Some []) (Some []) 2 2 refl refl refl
+pub Answers-no_memory : (sink : SinkState) → Answers bad_words (Some files) 3 3 sink sink 0 no_memory_status
+Answers-no_memory sink = answers-no_memory bad_words (Some files) files refl 3 3 sink sink 0 refl refl
 
 -- a write failed, and the status does not say so
-pub Answers-unsaid : Answers bad_words (Some files) 3 3 (Some []) (Some (codes "bad.m")) 2 3 module_status → ⊥
+pub Answers-unsaid : Answers bad_words (Some files) 3 3 (told [] [] 2) (cut_sink 3) 0 module_status → ⊥
 Answers-unsaid answers = let said : module_status ≡ unwritten_status = answers.write_failed.1 (omega arith) in omega (arith, said)
 
+-- a count of faults fell
+pub Answers-reads_fell : (old new : SinkState) (count status : ℕ) → Answers bad_words (Some files) 3 2 old new count status → ⊥
+Answers-reads_fell old new count status answers = let rise : 3 ≤ 2 = answers.reads_rise in omega (arith, rise)
+
+pub Answers-writes_fell : (status : ℕ) → Answers bad_words (Some files) 3 3 (told [] [] 2) (cut_sink 1) 0 status → ⊥
+Answers-writes_fell status answers = let rise : 2 ≤ 1 = answers.writes_rise in omega (arith, rise)
+
+-- the answers are of other files than those that are told
+pub Answers-other_files : (old new : SinkState) (status : ℕ) (answers : Answers bad_words (Some files) 3 3 old new 0 status) → answers.files ≡ [] → ⊥
+Answers-other_files old new status answers none = let same : ◌≡◌ {A = Files} [] files = sym none ∙ answers.files_are in cc
+
 -- another line was written
-pub Answers-counterexample : (status : ℕ) → Answers bad_words (Some files) 3 3 (Some []) (Some (codes "bad.m:2: rule 1: bad token\n")) 2 2 status → ⊥
-Answers-counterexample status answers =
-    let puts : PutsFront (text_of bad_output) (Some []) (Some (codes "bad.m:2: rule 1: bad token\n")) = Answers-front bad_words (Some files) 3 3 (Some []) (Some (codes "bad.m:2: rule 1: bad token\n")) 2 2 status answers bad_output module_status IsOutput-refused in
-    let written = some_injective (codes "bad.m:2: rule 1: bad token\n") puts.front puts.written in
-    let whole : codes "bad.m:2: rule 1: bad token\n" ++ puts.rest ≡ text_of bad_output =
-    subst (λ front. front ++ puts.rest ≡ text_of bad_output) (sym written) puts.whole in
+pub Answers-counterexample : (pieces : List (List ℕ)) (status : ℕ) → Answers bad_words (Some files) 3 3 (told [] [] 2) (told (codes "bad.m:2: rule 1: bad token\n") pieces 2) 0 status → ⊥
+Answers-counterexample pieces status answers =
+    let puts : PutsFront bad_output (told [] [] 2) (told (codes "bad.m:2: rule 1: bad token\n") pieces 2) = Answers-front bad_words (Some files) 3 3 (told [] [] 2) (told (codes "bad.m:2: rule 1: bad token\n") pieces 2) 0 status answers bad_output module_status IsOutput-refused in
+    let written = some_injective (codes "bad.m:2: rule 1: bad token\n") puts.puts.front puts.puts.written in
+    let whole : codes "bad.m:2: rule 1: bad token\n" ++ puts.left ≡ text_of bad_output =
+    subst (λ (front : List ℕ). front ++ puts.left ≡ text_of bad_output) (sym written) puts.puts.whole in
     differ 49 50 (omega arith) (sym (ap (λ (text : List ℕ). slice_index text 6) whole))
 
 -- the last line was left, and no write failed
-pub Answers-uncounted : Answers bad_words (Some files) 3 3 (Some []) (Some (codes "bad.m")) 2 2 unwritten_status → ⊥
+pub Answers-uncounted : Answers bad_words (Some files) 3 3 (told [] [] 2) (cut_sink 2) 0 unwritten_status → ⊥
 Answers-uncounted answers = let failed : 2 < 2 = answers.write_failed.0 refl in omega arith
 
 -- a bad text is the file's fault and not the goal's
-pub Answers-of_the_goal : Answers bad_words (Some files) 3 3 (Some []) (Some (codes "bad.m:1: rule 1: bad token\n")) 2 2 goal_status → ⊥
-Answers-of_the_goal answers = BreaksGoal-counterexample ((Answers-goal_refused bad_words (Some files) 3 3 (Some []) (Some (codes "bad.m:1: rule 1: bad token\n")) 2 2 goal_status answers refl refl (λ same. absurd (omega arith))).0 refl)
+pub Answers-of_the_goal : (bytes : List ℕ) (pieces : List (List ℕ)) → Answers bad_words (Some files) 3 3 (told [] [] 2) (told bytes pieces 2) 0 goal_status → ⊥
+Answers-of_the_goal bytes pieces answers =
+    BreaksGoal-counterexample ((Answers-goal_refused bad_words (Some files) 3 3 (told [] [] 2) (told bytes pieces 2) 0 goal_status answers refl refl (λ same. absurd (omega arith))).0 refl)
 
 -- a check of a bad text comes to no good end
-pub Answers-check_refused : (new : Option (List ℕ)) → Answers checked_bad_words (Some files) 3 3 (Some []) new 2 2 accepted_status → ⊥
-Answers-check_refused new answers =
-    IsCheckedModule-counterexample ((Answers-checked checked_bad_words (Some files) 3 3 (Some []) new 2 2 accepted_status answers refl refl (λ same. absurd (omega arith)) (255 ∷ []) NamesChecked-bad).0 refl)
+pub Answers-check_refused : (bytes : List ℕ) (pieces : List (List ℕ)) → Answers checked_bad_words (Some files) 3 3 (told [] [] 2) (told bytes pieces 2) 0 accepted_status → ⊥
+Answers-check_refused bytes pieces answers =
+    IsCheckedModule-counterexample ((Answers-checked checked_bad_words (Some files) 3 3 (told [] [] 2) (told bytes pieces 2) 0 accepted_status answers refl refl (λ same. absurd (omega arith)) (255 ∷ []) NamesChecked-bad).0 refl)
 
 -- ---- a module that is checked and accepted
 
@@ -395,16 +431,17 @@ module _ (others : List (List ℕ)) (items : List Term) (library : List PredDecl
   BreaksModule-not_checked breaks =
       differ accepted_status module_status (omega arith) ((module_refused-exactly check_words files one_lines accepted_status IsOutput-check).1 breaks)
 
-  pub Answers-check : Answers check_words (Some files) 3 3 (Some (codes ">")) (Some (codes ">add(in, in, out) is det, inferred det\nprocedures 1\n")) 2 2 accepted_status
+  pub Answers-check : Answers check_words (Some files) 3 3 (told (codes ">") [] 2) (told (codes ">add(in, in, out) is det, inferred det\nprocedures 1\n") one_lines 2) 0 accepted_status
   Answers-check =
-      answers-done check_words (Some files) 3 3 (Some (codes ">")) (Some (codes ">add(in, in, out) is det, inferred det\nprocedures 1\n")) 2 2 one_lines accepted_status
-      refl (inl (omega arith)) (files, refl, IsOutput-check) refl refl
+      answers-done check_words (Some files) files refl 3 3 (told (codes ">") [] 2) (told (codes ">add(in, in, out) is det, inferred det\nprocedures 1\n") one_lines 2) 0 one_lines accepted_status
+      refl (inl (omega arith)) IsOutput-check (puts_whole one_lines (told (codes ">") [] 2) (omega arith, (omega arith, tt))) (λ _ names variables most asked asks. absurd (solve-no_check check_words asks.file asks.goal (codes "one.m") asks.steps most asks.request IsCheck-example))
 
   -- the count was left out
-  pub Answers-uncounted_procedures : (status : ℕ) → Answers check_words (Some files) 3 3 (Some []) (Some (codes "add(in, in, out) is det, inferred det\n")) 2 2 status → status ≢ no_memory_status → ⊥
+  pub Answers-uncounted_procedures : (status : ℕ) → Answers check_words (Some files) 3 3 (told [] [] 2) (told (codes "add(in, in, out) is det, inferred det\n") (codes "add(in, in, out) is det, inferred det\n" ∷ []) 2) 0 status → status ≢ no_memory_status → ⊥
   Answers-uncounted_procedures status answers free =
       let output = answers.output refl refl free in
-      let same = IsOutput-unique check_words files output.2 one_lines status accepted_status (subst (λ some. IsOutput check_words some output.2 status) output.1 output.3) IsOutput-check in
-      let written : Some (codes "add(in, in, out) is det, inferred det\n") ≡ Some (text_of one_lines) =
-      output.4 ∙ ap (λ (lines : List (List ℕ)). Some (text_of lines)) same.0 in
-      differ 38 51 (omega arith) (ap (λ (text : List ℕ). length text) (some_injective (codes "add(in, in, out) is det, inferred det\n") (text_of one_lines) written))
+      let same = IsOutput-unique check_words files output.0 one_lines status accepted_status (subst (λ (some : Files). IsOutput check_words some output.0 status) answers.files_are output.1) IsOutput-check in
+      let puts = output.2.puts in
+      let written : codes "add(in, in, out) is det, inferred det\n" ≡ puts.front = some_injective (codes "add(in, in, out) is det, inferred det\n") puts.front puts.written in
+      let whole : puts.front ≡ text_of one_lines = sym (append-nil puts.front) ∙ puts.whole ∙ ap (λ (lines : List (List ℕ)). text_of lines) same.0 in
+      differ 38 51 (omega arith) (ap (λ (text : List ℕ). length text) (written ∙ whole))

@@ -22,7 +22,7 @@ use Rattle.merc_top.specs.Output.{IsDue, IsCheckDue, IsRequestDue, IsOutput, Fil
 use Rattle.merc_top.specs.Output.IsDue.{module_refused as due_module_refused, goal_refused as due_goal_refused, runs as due_runs}
 use Rattle.merc_top.specs.Output.IsCheckDue.{check_refused as due_check_refused, check_accepted as due_check_accepted}
 use Rattle.merc_top.specs.Answer.{IsStatusDue, NamesAbsent}
-use Rattle.merc_top.specs.Counting.{AsksRun}
+use Rattle.merc_top.specs.Asking.{AsksRun}
 use Rattle.merc_solving.proofs.RunLemmas.{end_status-limit, end_status-raised}
 use Rattle.merc_top.proofs.Requests.{shown, solve-no_check}
 use Rattle.merc_top.proofs.OutputLaws.{IsOutput-unique}

@@ -43,10 +43,6 @@ use Rattle.merc_top.proofs.OutputLaws.{module-distinct}
 abbrev pub IsDueStatus : ℕ → Type 0
 IsDueStatus status = (status < unread_status) ⊎ (status ≡ too_long_status)
 
--- what is due over the files that are told
-abbrev pub IsDueOver : List (List ℕ) → Option Files → List (List ℕ) → ℕ → Type 0
-IsDueOver words told lines status = (files : Files) × AreFiles told files × IsOutput words files lines status
-
 pub end_status-small : (count : ℕ) (end : RunEnd) → end_status count end < unread_status
 end_status-small zero RunDone = lit< tt
 end_status-small (suc count) RunDone = lit< tt
@@ -93,7 +89,7 @@ longer-past : file_limit < length longer
 unfolding longer
 longer-past = omega (arith, length-replicate {A = ℕ} (suc file_limit) 32)
 
-some_files : (told : Option Files) → (files : Files) × AreFiles told files
+pub some_files : (told : Option Files) → (files : Files) × AreFiles told files
 some_files None = ([], tt)
 some_files (Some files) = (files, refl)
 

@@ -223,7 +223,7 @@ fn find_due<S: Shelf>(alloc: Global, words: &[Text], shelf: &mut S) -> Result<Fo
 /// - 10: the file has more than 1,048,576 bytes.
 ///
 /// The counter, which is at 0 before, counts the steps of the run: where no read and no write failed and the status is
-/// that of a run, all of them up to its last answer that is told where it is stopped there, which specs/Counting.antt says.
+/// that of a run, all of them up to its last answer that is told where it is stopped there, as specs/Answer.antt says.
 ///
 /// The taps get no event yet, and no conjunct enters the gate. The runtime is for runs with several workers. Under its bounds
 /// the call need not return.
