@@ -1,5 +1,5 @@
 -- Worked examples of writing whole lines: what holds, and what does not.
-use Rattle.std.specs.Prelude.{◌≡◌, ◌<◌, ◌≤◌, ◌++◌, ℕ, List, [], ◌∷◌, Option, Some, None, Ok, Err, codes, refl, drop, length}
+use Rattle.std.specs.Prelude.{◌≡◌, ◌<◌, ◌≤◌, ◌++◌, ℕ, List, [], ◌∷◌, Some, None, Ok, Err, codes, refl, length}
 use Rattle.std.specs.List.{AllByRecursion}
 use Rattle.std.proofs.Common.{arith, ap, sym, slice_index}
 use Rattle.std.proofs.lemmas.List.{append-nil, drop_all}

@@ -1,6 +1,6 @@
 -- Lines given to a sink, piece by piece.
 use Rattle.std.proofs.Common.{◌≡◌, ◌+◌, suc, add-one, get_or, drop-cons, ◌<◌, ◌≤◌, ◌-◌, ◌∙◌, ap, sym, refl, subst, List, [], ◌∷◌, ◌++◌, ℕ, length, take, drop, append_assoc, arith, length-append}
-use Rattle.std.specs.Prelude.{◌==◌, false, Option, Some, None, Result, Ok, Err}
+use Rattle.std.specs.Prelude.{◌==◌, false, Option, Some, None, Err}
 use Rattle.std.proofs.Math.Seq.{take-suc}
 use Rattle.std.proofs.lemmas.List.{take-append-drop, take_rest, append-nil}
 use Rattle.std.proofs.lemmas.Grind.{flat_map-append}
@@ -175,6 +175,6 @@ pub puts_lines-fault : (lines : List (List ℕ)) (k : ℕ) (line : List ℕ) (ol
 puts_lines-fault lines k line old mid new fault below same all puts =
     let cut = cuts-within (take k lines) (line ∷ []) (drop (suc k) lines) old mid new Unwritten all puts.err in
     let some : 0 < length (text_of (take k lines ++ ((line ∷ []) ++ drop (suc k) lines))) =
-        rw (text_of-append (take k lines) ((line ∷ []) ++ drop (suc k) lines), text_of-append (line ∷ []) (drop (suc k) lines))
-        (omega (arith, puts.some, length-append (text_of (take k lines)) (text_of (line ∷ []) ++ text_of (drop (suc k) lines)), length-append (text_of (line ∷ [])) (text_of (drop (suc k) lines)))) in
+    rw (text_of-append (take k lines) ((line ∷ []) ++ drop (suc k) lines), text_of-append (line ∷ []) (drop (suc k) lines))
+    (omega (arith, puts.some, length-append (text_of (take k lines)) (text_of (line ∷ []) ++ text_of (drop (suc k) lines)), length-append (text_of (line ∷ [])) (text_of (drop (suc k) lines)))) in
     subst (λ (whole : List (List ℕ)). PutsLines whole old new (Err fault)) (lines_parts lines k line below same) (record { ok = tt; err = cut; some = some })
