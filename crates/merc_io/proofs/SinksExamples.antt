@@ -1,10 +1,21 @@
 -- Worked examples of what the sinks in memory hold.
 use Rattle.std.proofs.Common.{◌≡◌, true, false, [], ◌∷◌, Some, None, refl, ap}
 use Rattle.merc_base.specs.declared.outside.Wrote.TheVariants.{Took, Failed}
-use Rattle.std.specs.Prelude.{List, ℕ}
 use Rattle.merc_base.specs.Outside.{SinkState}
 use Rattle.merc_io.specs.Sinks.{
-  MemSinkState, FailingSinkState, empty_sink, room_left, sink_after, front_of, memory_told, OutSinkState, writer_told, told_if, PieceSinkState, pieces_told, pieces_after
+  MemSinkState,
+  FailingSinkState,
+  empty_sink,
+  room_left,
+  sink_after,
+  front_of,
+  memory_told,
+  OutSinkState,
+  writer_told,
+  told_if,
+  PieceSinkState,
+  pieces_told,
+  pieces_after,
 }
 
 -- two bytes written, in a room of three
