@@ -1,6 +1,7 @@
 pub mod Stretches
 pub mod Positions
 pub mod Awaiting
+pub mod Watched
 pub mod Emitted
 pub mod Walked
 pub mod Settling

@@ -241,6 +241,21 @@ module _ (total : ℕ → ℕ) (modes : ℕ → List ModeDecl) where
           fewer = d.fewer;
         }
 
+    -- It is not asked, since it surely is not ready.
+    pub member_waits : (goal : Node) (rest : List Node) (index : ℕ) (awaited later : ℕ → Bool) (flags : List Bool) (now : Bound) (old written : Written) (count : ℕ) → drop index goals ≡ goal ∷ rest
+        → IsTaken index awaited later → is_ready (from total modes goal now) ≡ false → Amid total modes goals whole awaited flags now now old written count → Amid total modes goals whole later flags now now old written count
+    member_waits goal rest index awaited later flags now old written count there taken stuck d = record {
+      marked = d.marked;
+      done = d.done;
+      fits = d.fits;
+      flags_are = d.flags_are;
+      sound = d.sound;
+      stuck = stuck_on goal rest index awaited later d.marked d.marked now there taken d.stuck (λ other. inr refl) (λ left. stuck);
+      whole_is = d.whole_is;
+      are_written = d.are_written;
+      fewer = d.fewer;
+    }
+
     -- its marks, as they are handed on
     pub member_marks : (goal : Node) (rest : List Node) (index at own end : ℕ) (awaited : ℕ → Bool) (flags : List Bool) (now : Bound) (old written : Written) (count : ℕ) → drop index goals ≡ goal ∷ rest → IsAt goals index at
         → Amid total modes goals whole awaited flags now now old written count → suc own ≡ at + length (parts_of goal) → end ≡ at + length (parts_of goal) → slice_index_or flags own false ≡ false

@@ -21,6 +21,7 @@ use Rattle.merc_simple_goals.specs.declared.written.Written.{Written}
 use Rattle.merc_goal_order.specs.Agenda.{ArePlaced, awaits, IsTaken}
 use Rattle.merc_goal_order.specs.Positions.{IsAt, IsPlaced}
 use Rattle.merc_goal_order.specs.Walks.{behind_them, AreWritten, all_settled}
+use Rattle.merc_goal_order.specs.Watching.{IsWatch, AreWatches, watched_at}
 use Rattle.merc_goal_order.specs.declared.agenda.Agenda.{Agenda}
 use Rattle.merc_goal_facts.specs.declared.facts.Facts.{Facts}
 use Rattle.merc_goal_order.specs.declared.agenda.Start.{Start}
@@ -122,18 +123,20 @@ module _ (total : ℕ → ℕ) (modes : ℕ → List ModeDecl) where
   NextGives goals whole awaited flags now old written less (Err NoMemory) = Unit {0}
 
 -- The first goal that is awaited is asked.
-abbrev pub AsksOn : List PredDecl → Node → List Facts → List ℕ → Start → List Bool → List Bool → List ℕ → List ℕ → Written → Written → Result Bool Fault → Type 0
-AsksOn predicates goal facts all here flags flags_after bound after mid new result =
+abbrev pub AsksOn : List PredDecl → Node → List Facts → List ℕ → Start → ℕ → List (List ℕ) → List Bool → List Bool → List ℕ → List ℕ → Written → Written → Result Bool Fault → Type 0
+AsksOn predicates goal facts all here number watched flags flags_after bound after mid new result =
     (total : ℕ → ℕ) (goals rest : List Node) (start index : ℕ) (whole : Outcomes) (awaited later : ℕ → Bool) (old : Written) (less : ℕ) → AreKnown total (modes_of predicates) (all_subgoals (nodes_of goals)) facts
     → IsStretch total all start (start + length (all_variables (nodes_of goals))) (all_variables (nodes_of goals)) → drop index goals ≡ goal ∷ rest
+    → IsWatch total (modes_of predicates) goal (watched_at watched number)
     → IsAt goals index here.at → IsPlaced start goals index here.place → IsTaken index awaited later
     → Amid total (modes_of predicates) goals whole awaited flags (among bound) (among bound) old mid (suc less)
     → AskGives total (modes_of predicates) goals whole index later flags_after (among bound) (among after) old new less result
 
 -- Goals that are awaited are asked, up to one that goes.
-abbrev pub NextOn : List PredDecl → List Node → List Facts → List ℕ → Agenda → Agenda → List Bool → List Bool → List ℕ → List ℕ → Written → Written → Result Bool Fault → Type 0
-NextOn predicates goals facts all agenda later flags flags_after bound after mid new result =
+abbrev pub NextOn : List PredDecl → List Node → List Facts → List ℕ → Agenda → Agenda → List (List ℕ) → List Bool → List Bool → List ℕ → List ℕ → Written → Written → Result Bool Fault → Type 0
+NextOn predicates goals facts all agenda later watched flags flags_after bound after mid new result =
     (total : ℕ → ℕ) (start : ℕ) (whole : Outcomes) (old : Written) (less : ℕ) → AreKnown total (modes_of predicates) (all_subgoals (nodes_of goals)) facts
     → IsStretch total all start (start + length (all_variables (nodes_of goals))) (all_variables (nodes_of goals)) → ArePlaced start goals facts all agenda.starts.items
+    → AreWatches total (modes_of predicates) goals watched
     → Amid total (modes_of predicates) goals whole (awaits agenda) flags (among bound) (among bound) old mid (suc less)
     → NextGives total (modes_of predicates) goals whole (awaits later) flags_after (among after) old new less result

@@ -3,6 +3,8 @@ pub mod Positions
 pub mod PositionsExamples
 pub mod Agenda
 pub mod AgendaExamples
+pub mod Watching
+pub mod WatchingExamples
 pub mod Walking
 pub mod WalkingExamples
 pub mod Walks

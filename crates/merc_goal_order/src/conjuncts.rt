@@ -7,9 +7,11 @@ ghost use Rattle.merc_goal_order.specs.Conjuncts.{MayGo, FirstTells, AsksOn, Nex
 ghost use Rattle.merc_readiness.specs.Sweeps.{Extends};
 ghost use Rattle.merc_goal_order.specs.Walking.{Orders};
 ghost use Rattle.merc_goal_order.specs.Walks.{AddsOne, Adds, OrdersAll, all_settled};
+ghost use Rattle.merc_goal_order.specs.Watching.{KeepsWatchAt, KeepsWatches};
 
 use crate::agenda::{Agenda, Start};
 use crate::walking::{PlacedGoal, PlacedGoals, Setting, Whole, clear, walk};
+use crate::watching::Watches;
 use merc_base::Fault;
 use merc_goal_facts::{BoundSet, Facts};
 use merc_goal_tree::NodeRef;
@@ -89,8 +91,17 @@ fn walk_rounds(
         placed.facts,
         placed.start,
     )?;
+    let mut watches = Watches::new(setting.alloc);
     for _round in 1..placed.goals.len() {
-        if !walk_next(setting, placed, &mut agenda, marks, bound, written)? {
+        if !walk_next(
+            setting,
+            placed,
+            &mut agenda,
+            &mut watches,
+            marks,
+            bound,
+            written,
+        )? {
             break;
         }
     }
@@ -103,6 +114,7 @@ fn walk_next(
     setting: &Setting<'_>,
     placed: &PlacedGoals<'_>,
     agenda: &mut Agenda,
+    watches: &mut Watches,
     marks: &mut [bool],
     bound: &mut BoundSet,
     written: &mut Written,
@@ -115,7 +127,8 @@ fn walk_next(
     ensures extends { OnOk result (Extends bound.old bound.new) }
     ensures sound { OnOk result (IsSound agenda.new) }
     ensures starts { OnOk result (agenda.new.starts ≡ agenda.old.starts) }
-    ensures next { NextOn setting.now.predicates.now placed.now.goals.now placed.now.facts.now setting.now.all.now agenda.old agenda.new marks.old marks.new bound.old bound.new written.old written.new result }
+    ensures watches { OnOk result (KeepsWatches setting.now.predicates.now placed.now.goals.now placed.now.facts.now watches.old.variables.items watches.new.variables.items) }
+    ensures next { NextOn setting.now.predicates.now placed.now.goals.now placed.now.facts.now setting.now.all.now agenda.old agenda.new watches.old.variables.items marks.old marks.new bound.old bound.new written.old written.new result }
     ensures adds { OnOk result (Adds written.old written.new) }
 {
     let goals = placed.goals;
@@ -124,10 +137,11 @@ fn walk_next(
         let member = Member {
             goal: &goals[index],
             facts: placed.facts,
+            index,
             here,
         };
         let known = bound.mark();
-        if walk_member(setting, &member, marks, bound, written)? {
+        if walk_member(setting, &member, watches, marks, bound, written)? {
             agenda.await_all(setting.all, index, bound.since(known))?;
             return Ok(true);
         }
@@ -141,15 +155,17 @@ struct Member<'a> {
     goal: &'a NodeRef<'a>,
     // what is known of the parts of all goals of the conjunction
     facts: &'a [Facts],
+    index: usize,
     // where it begins
     here: Start,
 }
 
-// Asks a goal, unless it went, and writes it out if it is ready. Whether it goes now.
+// Asks a goal, unless it went or surely is not ready, and writes it out if it is ready. Whether it goes now.
 #[cycle(walking)]
 fn walk_member(
     setting: &Setting<'_>,
     member: &Member<'_>,
+    watches: &mut Watches,
     marks: &mut [bool],
     bound: &mut BoundSet,
     written: &mut Written,
@@ -158,7 +174,8 @@ fn walk_member(
     requires marked { member.now.here.at + length (parts_of member.now.goal.now) ≤ length marks.old }
     requires seen { written.old.seen ≡ [] }
     ensures extends { OnOk result (Extends bound.old bound.new) }
-    ensures asks { AsksOn setting.now.predicates.now member.now.goal.now member.now.facts.now setting.now.all.now member.now.here marks.old marks.new bound.old bound.new written.old written.new result }
+    ensures watches { OnOk result (KeepsWatchAt setting.now.predicates.now member.now.goal.now member.now.facts.now member.now.here.at member.now.index watches.old.variables.items watches.new.variables.items) }
+    ensures asks { AsksOn setting.now.predicates.now member.now.goal.now member.now.facts.now setting.now.all.now member.now.here member.now.index watches.old.variables.items marks.old marks.new bound.old bound.new written.old written.new result }
     ensures adds { OnOk result (Adds written.old written.new) }
 {
     let here = member.here;
@@ -167,12 +184,19 @@ fn walk_member(
     if marks[own] {
         return Ok(false);
     }
+    if watches.is_shut(member.index, bound) {
+        return Ok(false);
+    }
     let placed = PlacedGoal {
         goal: member.goal,
         facts: &member.facts[here.at..end],
         start: here.place,
     };
-    walk_if_ready(setting, &placed, &mut marks[here.at..end], bound, written)
+    if walk_if_ready(setting, &placed, &mut marks[here.at..end], bound, written)? {
+        return Ok(true);
+    }
+    watches.watch(setting, &placed, member.index, bound)?;
+    Ok(false)
 }
 
 // Writes a goal out if it is ready, and binds what it binds.

@@ -7,5 +7,6 @@ mod disjuncts;
 mod links;
 mod parallel;
 mod walking;
+mod watching;
 
 pub use walking::order_goal;

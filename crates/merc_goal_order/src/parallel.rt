@@ -280,8 +280,12 @@ fn is_freed_by(
     Ok(freed)
 }
 
-// Whether a goal is ready from what is bound. Its marks may say anything before.
-fn is_ready(
+/// Whether a goal is ready from what is bound. Its marks may say anything before.
+///
+/// # Errors
+///
+/// As for `advance`.
+pub(crate) fn is_ready(
     setting: &Setting<'_>,
     goal: &NodeRef<'_>,
     facts: &[Facts],

@@ -360,6 +360,9 @@ conjuncts::walk_next-returns-then-branch-clause-next = conjuncts_of.conjuncts::w
 pub conjuncts::walk_next-returns-clause-next : goal.conjuncts::walk_next-returns-clause-next
 conjuncts::walk_next-returns-clause-next = conjuncts_of.conjuncts::walk_next-returns-clause-next
 
+pub conjuncts::walk_next-returns-then-branch-clause-watches : goal.conjuncts::walk_next-returns-then-branch-clause-watches
+conjuncts::walk_next-returns-then-branch-clause-watches = conjuncts_of.conjuncts::walk_next-returns-then-branch-clause-watches
+
 pub conjuncts::walk_member-walk_if_ready-requires : goal.conjuncts::walk_member-walk_if_ready-requires
 conjuncts::walk_member-walk_if_ready-requires = conjuncts_of.conjuncts::walk_member-walk_if_ready-requires
 
@@ -371,6 +374,18 @@ conjuncts::walk_member-bounds-marks-own = conjuncts_of.conjuncts::walk_member-bo
 
 pub conjuncts::walk_member-returns-then-marks-own-clause-asks : goal.conjuncts::walk_member-returns-then-marks-own-clause-asks
 conjuncts::walk_member-returns-then-marks-own-clause-asks = conjuncts_of.conjuncts::walk_member-returns-then-marks-own-clause-asks
+
+pub conjuncts::walk_member-returns-then-is_shut-clause-asks : goal.conjuncts::walk_member-returns-then-is_shut-clause-asks
+conjuncts::walk_member-returns-then-is_shut-clause-asks = conjuncts_of.conjuncts::walk_member-returns-then-is_shut-clause-asks
+
+pub conjuncts::walk_member-returns-then-branch-clause-asks : goal.conjuncts::walk_member-returns-then-branch-clause-asks
+conjuncts::walk_member-returns-then-branch-clause-asks = conjuncts_of.conjuncts::walk_member-returns-then-branch-clause-asks
+
+pub conjuncts::walk_member-returns-in_err-walk_if_ready-clause-asks : goal.conjuncts::walk_member-returns-in_err-walk_if_ready-clause-asks
+conjuncts::walk_member-returns-in_err-walk_if_ready-clause-asks = conjuncts_of.conjuncts::walk_member-returns-in_err-walk_if_ready-clause-asks
+
+pub conjuncts::walk_member-returns-clause-watches : goal.conjuncts::walk_member-returns-clause-watches
+conjuncts::walk_member-returns-clause-watches = conjuncts_of.conjuncts::walk_member-returns-clause-watches
 
 pub conjuncts::walk_member-returns-clause-asks : goal.conjuncts::walk_member-returns-clause-asks
 conjuncts::walk_member-returns-clause-asks = conjuncts_of.conjuncts::walk_member-returns-clause-asks

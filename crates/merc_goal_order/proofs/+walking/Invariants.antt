@@ -18,6 +18,7 @@ use Rattle.merc_goal_facts.specs.Outside.{IsStretch}
 use Rattle.merc_readiness.specs.Sweeps.{Extends}
 use Rattle.merc_goal_order.specs.Agenda.{StandAt, ArePlaced, awaits, awaited_count, IsSound}
 use Rattle.merc_goal_order.specs.Walks.{Adds, Walked, all_settled}
+use Rattle.merc_goal_order.specs.Watching.{AreWatches, KeepsWatches}
 use Rattle.merc_goal_order.proofs.+walking.Given as goal
 
 -- the size of the goal
@@ -79,6 +80,8 @@ invariant-conjuncts::walk_rounds-loop-round l = record {
   sound : IsSound l.agenda;
   stands : StandAt l.placed.goals.now l.agenda.starts.items;
   placed : ArePlaced l.placed.start l.placed.goals.now l.placed.facts.now l.setting.all.now l.agenda.starts.items;
+  watches : (total : ℕ → ℕ) → AreKnown total (modes_of l.setting.predicates.now) (all_subgoals (nodes_of l.placed.goals.now)) l.placed.facts.now
+      → AreWatches total (modes_of l.setting.predicates.now) l.placed.goals.now l.watches.variables.items;
   amid : (total : ℕ → ℕ) → AreKnown total (modes_of l.setting.predicates.now) (all_subgoals (nodes_of l.placed.goals.now)) l.placed.facts.now
       → IsStretch total l.setting.all.now l.placed.start (l.placed.start + length (all_variables (nodes_of l.placed.goals.now))) (all_variables (nodes_of l.placed.goals.now))
       → Amid total (modes_of l.setting.predicates.now) l.placed.goals.now (all_settled (moves total (modes_of l.setting.predicates.now) (nodes_of l.placed.goals.now)) (among l.fn.bound)) (awaits l.agenda)
@@ -91,8 +94,10 @@ invariant-conjuncts::walk_next-loop-index l = record {
   adds : Adds l.fn.written l.written;
   sound : IsSound l.agenda;
   starts : l.agenda.starts ≡ l.fn.agenda.starts;
+  watches : KeepsWatches l.setting.predicates.now l.placed.goals.now l.placed.facts.now l.fn.watches.variables.items l.watches.variables.items;
   amid : (total : ℕ → ℕ) (start : ℕ) (whole : Outcomes) (old : Written) (count : ℕ) → AreKnown total (modes_of l.setting.predicates.now) (all_subgoals (nodes_of l.placed.goals.now)) l.placed.facts.now
       → IsStretch total l.setting.all.now start (start + length (all_variables (nodes_of l.placed.goals.now))) (all_variables (nodes_of l.placed.goals.now)) → ArePlaced start l.placed.goals.now l.placed.facts.now l.setting.all.now l.fn.agenda.starts.items
+      → AreWatches total (modes_of l.setting.predicates.now) l.placed.goals.now l.fn.watches.variables.items
       → Amid total (modes_of l.setting.predicates.now) l.placed.goals.now whole (awaits l.fn.agenda) l.fn.marks (among l.fn.bound) (among l.fn.bound) old l.fn.written (suc count)
       → Amid total (modes_of l.setting.predicates.now) l.placed.goals.now whole (awaits l.agenda) l.marks (among l.bound) (among l.bound) old l.written (suc count);
 }

@@ -1,7 +1,8 @@
 -- The answers on conjunctions: those of the functions of `conjuncts` that take part in the walk.
-use Rattle.std.proofs.Common.{◌≡◌, ◌+◌, ◌-◌, ◌<◌, ◌∙◌, ℕ, suc, false, [], Ok, inl, inr, drop, length, ap, sym, subst, refl, arith, slice_index_or}
+use Rattle.std.proofs.Common.{◌≡◌, ◌+◌, ◌-◌, ◌<◌, ◌∙◌, ℕ, suc, true, false, List, [], Ok, Err, inl, inr, drop, length, ap, sym, subst, refl, arith, slice_index_or}
 use Rattle.std.proofs.lemmas.List.{drop_all}
 use Rattle.std.proofs.lemmas.Result.{err_from_is_err_and}
+use borrow.Rule.Slice.PartMut.{put_mid}
 use Rattle.merc_goal_tree.specs.Nodes.{Node, Conjunction, nodes_of}
 use Rattle.merc_goal_tree.specs.Parts.{parts_of, all_parts}
 use Rattle.merc_graded_tree.specs.declared.entries.Root.TheVariants.{Conjunction as ConjunctionRoot}
@@ -22,7 +23,8 @@ use Rattle.merc_goal_order.proofs.Positions.{parts_within, known_from, stretch_f
 use Rattle.merc_goal_order.proofs.Stretches.{stretch_front}
 use Rattle.merc_goal_order.specs.Agenda.{start_at, StandAt, ArePlaced, awaits, AwaitsAgain}
 use Rattle.merc_readiness.specs.Sweeps.{Extends}
-use Rattle.merc_goal_order.specs.Conjuncts.{Passing, AskGives, NextGives}
+use Rattle.merc_goal_order.specs.Conjuncts.{GoesIfReady, Passing, AskGives, NextGives}
+use Rattle.merc_goal_order.specs.Watching.{AreWatches, watched_at}
 use Rattle.merc_goal_order.specs.Positions.{IsPlaced}
 use Rattle.merc_goal_order.specs.Walks.{all_settled}
 use Rattle.merc_goal_order.specs.declared.agenda.Start.{Start}
@@ -31,7 +33,8 @@ use Rattle.merc_readiness.proofs.Lengths.{front_length}
 use Rattle.merc_readiness.proofs.Marking.{all_subgoals_length}
 use Rattle.merc_readiness.proofs.Stepping.{facts_of_next}
 use Rattle.merc_goal_order.proofs.Lengths.{part_length, joined_length}
-use Rattle.merc_goal_order.proofs.Stepped.{if_stays, if_goes, first_tells, passing_on, none_told, member_passes, member_marks, member_asked, awaited_on, none_awaited, amid_at, end_told, next_err, rounds_first, fewer_by, rounds_err}
+use Rattle.merc_goal_order.proofs.Stepped.{if_stays, if_goes, first_tells, passing_on, none_told, member_passes, member_waits, member_marks, member_asked, awaited_on, none_awaited, amid_at, end_told, next_err, rounds_first, fewer_by, rounds_err}
+use Rattle.merc_goal_order.proofs.Watched.{none_watched, shut_stuck, watches_on, kept_or}
 use Rattle.merc_goal_order.proofs.Wholes.{end_within, at_behind, undone_is, known_parts, known_own, conjunction_stuck, conjunction_ready}
 use Rattle.merc_goal_order.proofs.+walking.Goals as goal
 use Rattle.merc_goal_order.proofs.+walking.Goals.{conjuncts::walk_rounds-else-loop-round-test, conjuncts::walk_rounds-then-loop-round-test+in_ok-walk_next+then-not-branch}
@@ -111,6 +114,7 @@ conjuncts::walk_rounds-loop-round-init t c = record {
   sound = c.in_ok-agenda.ensures.sound;
   stands = c.in_ok-agenda.ensures.stands;
   placed = c.in_ok-agenda.ensures.placed;
+  watches = λ total known. none_watched total (modes_of c.args.setting.now.predicates.now) c.args.placed.now.goals.now c.new-watches.result.variables.items c.new-watches.ensures;
   amid = λ total known stretch.
       let modes = modes_of c.args.setting.now.predicates.now in
       let goals = c.args.placed.now.goals.now in
@@ -131,7 +135,7 @@ conjuncts::walk_rounds-returns-in_err-walk_next-clause-orders t c =
     let now = fewer_by total modes goals whole (awaits c.loop-round.agenda) c.loop-round.marks (among c.loop-round.bound) c.args.written.now c.loop-round.written (length goals + 1 - c.loop-round._round) (suc less)
     (omega (arith, c.loop-round-test.true)) (i.amid total known stretch) in
     rounds_err total modes goals whole (awaits c.walk_next.new.agenda) c.walk_next.new.marks (among c.walk_next.new.bound) c.args.written.now c.walk_next.new.written c.walk_next.new.written less c.in_err-walk_next.field-0.0
-    (c.in_err-walk_next.ensures.next total c.args.placed.now.start whole c.args.written.now less known stretch i.placed now))
+    (c.in_err-walk_next.ensures.next total c.args.placed.now.start whole c.args.written.now less known stretch i.placed (i.watches total known) now))
 
 pub conjuncts::walk_rounds-loop-round-preserved : goal.conjuncts::walk_rounds-loop-round-preserved
 conjuncts::walk_rounds-loop-round-preserved t c =
@@ -144,6 +148,7 @@ conjuncts::walk_rounds-loop-round-preserved t c =
       sound = c.in_ok-walk_next.ensures.sound;
       stands = subst (λ l. StandAt goals l) same i.stands;
       placed = subst (λ l. ArePlaced c.args.placed.now.start goals c.args.placed.now.facts.now c.args.setting.now.all.now l) same i.placed;
+      watches = λ total known. c.in_ok-walk_next.ensures.watches total known (i.watches total known);
       amid = λ total known stretch.
           let modes = modes_of c.args.setting.now.predicates.now in
           let whole = all_settled (moves total modes (nodes_of goals)) (among c.args.bound.now) in
@@ -153,7 +158,7 @@ conjuncts::walk_rounds-loop-round-preserved t c =
           fewer_by total modes goals whole (awaits c.walk_next.new.agenda) c.walk_next.new.marks (among c.walk_next.new.bound) c.args.written.now c.walk_next.new.written less
           (length goals + 1 - (c.loop-round._round + 1)) (omega arith)
           (subst (λ b. NextGives total modes goals whole (awaits c.walk_next.new.agenda) c.walk_next.new.marks (among c.walk_next.new.bound) c.args.written.now c.walk_next.new.written less (Ok b)) c.if-not-branch.false
-          (c.in_ok-walk_next.ensures.next total c.args.placed.now.start whole c.args.written.now less known stretch i.placed now));
+          (c.in_ok-walk_next.ensures.next total c.args.placed.now.start whole c.args.written.now less known stretch i.placed (i.watches total known) now));
     }
 
 pub conjuncts::walk_rounds-returns-clause-orders : goal.conjuncts::walk_rounds-returns-clause-orders
@@ -175,7 +180,7 @@ conjuncts::walk_rounds-returns-clause-orders t c = λ total known stretch.
           let now = fewer_by total modes goals whole (awaits c.loop-round.agenda) c.loop-round.marks (among c.loop-round.bound) c.args.written.now c.loop-round.written (length goals + 1 - c.loop-round._round) (suc less)
           (omega (arith, w.loop-round-test.true)) (i.amid total known stretch) in
           let none = subst (λ b. NextGives total modes goals whole (awaits w.walk_next.new.agenda) w.walk_next.new.marks (among w.walk_next.new.bound) c.args.written.now w.walk_next.new.written less (Ok b)) w.if-not-branch.true
-          (w.in_ok-walk_next.ensures.next total c.args.placed.now.start whole c.args.written.now less known stretch i.placed now) in
+          (w.in_ok-walk_next.ensures.next total c.args.placed.now.start whole c.args.written.now less known stretch i.placed (i.watches total known) now) in
           end_told total modes goals whole nothing c.loop-round-test.marks (among c.loop-round-test.bound) c.args.written.now c.loop-round-test.written c.walk_first_left.new.written (suc less) c.walk_first_left.result
           (amid_at total modes goals whole nothing w.walk_next.new.marks c.loop-round-test.marks w.walk_next.new.bound c.loop-round-test.bound c.args.written.now w.walk_next.new.written c.loop-round-test.written
           (suc less) w.marks-is w.bound-is w.written-is none)
@@ -190,7 +195,8 @@ conjuncts::walk_next-loop-index-init t c = record {
   adds = record { more = omega arith; cleared = c.requires.seen };
   sound = c.requires.sound;
   starts = refl;
-  amid = λ total start whole old count known stretch placed amid. amid;
+  watches = λ total known watches. watches;
+  amid = λ total start whole old count known stretch placed watches amid. amid;
 }
 
 pub conjuncts::walk_next-bounds-goals-index : goal.conjuncts::walk_next-bounds-goals-index
@@ -228,19 +234,20 @@ conjuncts::walk_next-loop-index-preserved t c =
       adds = record { more = omega (arith, i.adds.more, c.in_ok-walk_member.ensures.adds.more); cleared = c.in_ok-walk_member.ensures.adds.cleared };
       sound = c.take.ensures.sound;
       starts = starts;
-      amid = λ total start whole old count known stretch placed amid.
+      watches = λ total known watches. c.in_ok-walk_member.ensures.watches goals (drop (index + 1) goals) there at total known (i.watches total known watches);
+      amid = λ total start whole old count known stretch placed watches amid.
           let modes = modes_of c.args.setting.now.predicates.now in
           let places = subst (λ (v : Vec Start Global). (other : ℕ) → other < length v.items → IsPlaced start goals other (start_at v.items other).place) (sym starts) (placed total modes known stretch) in
           let here = placed_start goals c.take.new.self.starts.items start index c.take.new.self.asked c.start-here.result places c.in-Some.ensures.some c.take.ensures.sound.room c.start-here.ensures in
           subst (λ b. AskGives total modes goals whole index (awaits c.take.new.self) c.walk_member.new.marks (among c.loop-index.bound) (among c.walk_member.new.bound) old c.walk_member.new.written count (Ok b)) c.if-branch.false
-          (c.in_ok-walk_member.ensures.asks total goals (drop (index + 1) goals) start index whole (awaits c.loop-index.agenda) (awaits c.take.new.self) old count known stretch there at here c.in-Some.ensures.taken
-          (i.amid total start whole old count known stretch placed amid));
+          (c.in_ok-walk_member.ensures.asks total goals (drop (index + 1) goals) start index whole (awaits c.loop-index.agenda) (awaits c.take.new.self) old count known stretch there (i.watches total known watches index c.index-goals-index.result (drop (index + 1) goals) there) at here c.in-Some.ensures.taken
+          (i.amid total start whole old count known stretch placed watches amid));
     }
 
 pub conjuncts::walk_next-returns-in_err-walk_member-clause-next : goal.conjuncts::walk_next-returns-in_err-walk_member-clause-next
 conjuncts::walk_next-returns-in_err-walk_member-clause-next t c =
     let p = err_from_is_err_and c.from_residual.result c.from_residual.ensures.1 in
-    rw (p.1, p.2) (λ total start whole old less known stretch placed amid.
+    rw (p.1, p.2) (λ total start whole old less known stretch placed watches amid.
     let i = c.loop-index.invariant in
     let modes = modes_of c.args.setting.now.predicates.now in
     let goals = c.args.placed.now.goals.now in
@@ -255,11 +262,11 @@ conjuncts::walk_next-returns-in_err-walk_member-clause-next t c =
     let here = placed_start goals c.take.new.self.starts.items start index c.take.new.self.asked c.start-here.result places c.in-Some.ensures.some c.take.ensures.sound.room c.start-here.ensures in
     next_err total modes goals whole index (awaits c.take.new.self) (awaits c.take.new.self) c.walk_member.new.marks c.walk_member.new.marks (among c.loop-index.bound) (among c.walk_member.new.bound) (among c.walk_member.new.bound)
     old c.walk_member.new.written c.walk_member.new.written less c.in_err-walk_member.field-0.0
-    (c.in_err-walk_member.ensures.asks total goals (drop (index + 1) goals) start index whole (awaits c.loop-index.agenda) (awaits c.take.new.self) old less known stretch there at here c.in-Some.ensures.taken
-    (i.amid total start whole old less known stretch placed amid)))
+    (c.in_err-walk_member.ensures.asks total goals (drop (index + 1) goals) start index whole (awaits c.loop-index.agenda) (awaits c.take.new.self) old less known stretch there (i.watches total known watches index c.index-goals-index.result (drop (index + 1) goals) there) at here c.in-Some.ensures.taken
+    (i.amid total start whole old less known stretch placed watches amid)))
 
 pub conjuncts::walk_next-returns-then-branch-clause-next : goal.conjuncts::walk_next-returns-then-branch-clause-next
-conjuncts::walk_next-returns-then-branch-clause-next t c = λ total start whole old less known stretch placed amid.
+conjuncts::walk_next-returns-then-branch-clause-next t c = λ total start whole old less known stretch placed watches amid.
     let i = c.loop-index.invariant in
     let modes = modes_of c.args.setting.now.predicates.now in
     let goals = c.args.placed.now.goals.now in
@@ -273,19 +280,32 @@ conjuncts::walk_next-returns-then-branch-clause-next t c = λ total start whole 
     let places = subst (λ (v : Vec Start Global). (other : ℕ) → other < length v.items → IsPlaced start goals other (start_at v.items other).place) (sym starts) (placed total modes known stretch) in
     let here = placed_start goals c.take.new.self.starts.items start index c.take.new.self.asked c.start-here.result places c.in-Some.ensures.some c.take.ensures.sound.room c.start-here.ensures in
     let step = subst (λ b. AskGives total modes goals whole index (awaits c.take.new.self) c.walk_member.new.marks (among c.loop-index.bound) (among c.walk_member.new.bound) old c.walk_member.new.written less (Ok b)) c.if-branch.true
-    (c.in_ok-walk_member.ensures.asks total goals (drop (index + 1) goals) start index whole (awaits c.loop-index.agenda) (awaits c.take.new.self) old less known stretch there at here c.in-Some.ensures.taken
-    (i.amid total start whole old less known stretch placed amid)) in
+    (c.in_ok-walk_member.ensures.asks total goals (drop (index + 1) goals) start index whole (awaits c.loop-index.agenda) (awaits c.take.new.self) old less known stretch there (i.watches total known watches index c.index-goals-index.result (drop (index + 1) goals) there) at here c.in-Some.ensures.taken
+    (i.amid total start whole old less known stretch placed watches amid)) in
     let again = subst (λ l. AwaitsAgain c.args.setting.now.all.now index l c.take.new.self c.await_all.new.self) c.since.ensures c.in_ok-await_all.ensures.awaits in
     awaited_on total modes goals whole index start c.mark-known.result c.args.setting.now.all.now c.walk_member.new.marks c.loop-index.bound c.walk_member.new.bound c.take.new.self c.await_all.new.self
     old c.walk_member.new.written less stretch stands.0 places again c.in_ok-walk_member.ensures.extends c.mark-known.ensures step.0 step.1
 
 pub conjuncts::walk_next-returns-clause-next : goal.conjuncts::walk_next-returns-clause-next
-conjuncts::walk_next-returns-clause-next t c = λ total start whole old less known stretch placed amid.
+conjuncts::walk_next-returns-clause-next t c = λ total start whole old less known stretch placed watches amid.
     let i = c.loop-index.invariant in
     let goals = c.args.placed.now.goals.now in
     let long : length c.loop-index.agenda.starts.items ≡ suc (length goals) = ap (λ (v : Vec Start Global). length v.items) i.starts ∙ c.requires.stands.0 in
     none_awaited total (modes_of c.args.setting.now.predicates.now) goals whole (awaits c.loop-index.agenda) c.loop-index.marks (among c.loop-index.bound) old c.loop-index.written (suc less)
-    (i.amid total start whole old less known stretch placed amid) (λ index h. c.in_default.ensures.none index (omega (arith, h, long)))
+    (i.amid total start whole old less known stretch placed watches amid) (λ index h. c.in_default.ensures.none index (omega (arith, h, long)))
+
+pub conjuncts::walk_next-returns-then-branch-clause-watches : goal.conjuncts::walk_next-returns-then-branch-clause-watches
+conjuncts::walk_next-returns-then-branch-clause-watches t c =
+    let i = c.loop-index.invariant in
+    let goals = c.args.placed.now.goals.now in
+    let index = c.in-Some.index in
+    let goal = c.index-goals-index.result in
+    let starts = c.take.ensures.starts ∙ i.starts in
+    let stands = subst (λ (v : Vec Start Global). StandAt goals v.items) (sym starts) c.requires.stands in
+    let room = within_goals goals c.take.new.self.starts.items index c.take.new.self.asked stands c.in-Some.ensures.some c.take.ensures.sound.room in
+    let there = next_item goals index goal room c.index-goals-index.is in
+    let at = at_start goals c.take.new.self.starts.items index c.take.new.self.asked c.start-here.result stands c.in-Some.ensures.some c.take.ensures.sound.room c.start-here.ensures in
+    λ total known watches. c.in_ok-walk_member.ensures.watches goals (drop (index + 1) goals) there at total known (i.watches total known watches)
 
 -- a goal that is asked
 
@@ -308,13 +328,24 @@ conjuncts::walk_member-bounds-marks-own t c =
     omega (arith, one, c.part_count.ensures, c.requires.marked)
 
 pub conjuncts::walk_member-returns-then-marks-own-clause-asks : goal.conjuncts::walk_member-returns-then-marks-own-clause-asks
-conjuncts::walk_member-returns-then-marks-own-clause-asks t c = λ total goals rest start index whole awaited later old less known stretch there at placed taken amid.
+conjuncts::walk_member-returns-then-marks-own-clause-asks t c = λ total goals rest start index whole awaited later old less known stretch there watch at placed taken amid.
     let one = some_parts c.args.member.now.goal.now c.part_count.result c.part_count.ensures in
     member_passes total (modes_of c.args.setting.now.predicates.now) goals whole c.args.member.now.goal.now rest index c.args.member.now.here.at (c.args.member.now.here.at + c.part_count.result - 1) awaited later c.args.marks.now (among c.args.bound.now)
     old c.args.written.now (suc less) there at taken amid (omega (arith, one, c.part_count.ensures)) c.if-marks-own.true
 
-pub conjuncts::walk_member-returns-clause-asks : goal.conjuncts::walk_member-returns-clause-asks
-conjuncts::walk_member-returns-clause-asks t c = λ total goals rest start index whole awaited later old less known stretch there at placed taken amid.
+-- it surely is not ready
+
+pub conjuncts::walk_member-returns-then-is_shut-clause-asks : goal.conjuncts::walk_member-returns-then-is_shut-clause-asks
+conjuncts::walk_member-returns-then-is_shut-clause-asks t c = λ total goals rest start index whole awaited later old less known stretch there watch at placed taken amid.
+    let modes = modes_of c.args.setting.now.predicates.now in
+    let goal = c.args.member.now.goal.now in
+    let shut = shut_stuck total modes goal (watched_at c.args.watches.now.variables.items c.args.member.now.index) c.args.bound.now watch (sym c.is_shut.ensures.shut ∙ c.if-is_shut.true) in
+    member_waits total modes goals whole goal rest index awaited later c.args.marks.now (among c.args.bound.now) old c.args.written.now (suc less) there taken shut amid
+
+-- it was asked
+
+pub conjuncts::walk_member-returns-then-branch-clause-asks : goal.conjuncts::walk_member-returns-then-branch-clause-asks
+conjuncts::walk_member-returns-then-branch-clause-asks t c = λ total goals rest start index whole awaited later old less known stretch there watch at placed taken amid.
     let modes = modes_of c.args.setting.now.predicates.now in
     let goal = c.args.member.now.goal.now in
     let one = some_parts goal c.part_count.result c.part_count.ensures in
@@ -327,7 +358,55 @@ conjuncts::walk_member-returns-clause-asks t c = λ total goals rest start index
     old c.args.written.now (suc less) there at amid own end c.if-marks-own.false in
     member_asked total modes goals whole goal rest index c.args.member.now.here.at (c.args.member.now.here.at + c.part_count.result - 1) (c.args.member.now.here.at + c.part_count.result - c.args.member.now.here.at) awaited later
     c.args.marks.now c.walk_if_ready.new.marks c.args.bound.now c.walk_if_ready.new.bound old c.args.written.now c.walk_if_ready.new.written less there at taken amid own c.if-marks-own.false
-    (omega (arith, c.part_count.ensures)) c.walk_if_ready.result (c.walk_if_ready.ensures.goes total k s m)
+    (omega (arith, c.part_count.ensures)) (Ok true)
+    (subst (λ b. GoesIfReady total modes goal c.walk_if_ready.new.marks c.args.bound.now c.walk_if_ready.new.bound c.args.written.now c.walk_if_ready.new.written (Ok b)) c.if-branch.true (c.in_ok-walk_if_ready.ensures.goes total k s m))
+
+pub conjuncts::walk_member-returns-in_err-walk_if_ready-clause-asks : goal.conjuncts::walk_member-returns-in_err-walk_if_ready-clause-asks
+conjuncts::walk_member-returns-in_err-walk_if_ready-clause-asks t c =
+    let p = err_from_is_err_and c.from_residual.result c.from_residual.ensures.1 in
+    rw (p.1, p.2) (λ total goals rest start index whole awaited later old less known stretch there watch at placed taken amid.
+    let modes = modes_of c.args.setting.now.predicates.now in
+    let goal = c.args.member.now.goal.now in
+    let one = some_parts goal c.part_count.result c.part_count.ensures in
+    let own : suc (c.args.member.now.here.at + c.part_count.result - 1) ≡ c.args.member.now.here.at + length (parts_of goal) = omega (arith, one, c.part_count.ensures) in
+    let end : c.args.member.now.here.at + c.part_count.result ≡ c.args.member.now.here.at + length (parts_of goal) = ap (λ n. c.args.member.now.here.at + n) c.part_count.ensures in
+    let from = known_from total modes goals rest index c.args.member.now.here.at c.args.member.now.facts.now goal there at known in
+    let k = facts_of_next total modes goal (nodes_of rest) c.args.member.now.facts.now c.args.member.now.here.at (c.args.member.now.here.at + c.part_count.result) from end in
+    let s = stretch_from total c.args.setting.now.all.now start goals rest index c.args.member.now.here.place goal there placed stretch in
+    let m = member_marks total modes goals whole goal rest index c.args.member.now.here.at (c.args.member.now.here.at + c.part_count.result - 1) (c.args.member.now.here.at + c.part_count.result) awaited c.args.marks.now (among c.args.bound.now)
+    old c.args.written.now (suc less) there at amid own end c.if-marks-own.false in
+    member_asked total modes goals whole goal rest index c.args.member.now.here.at (c.args.member.now.here.at + c.part_count.result - 1) (c.args.member.now.here.at + c.part_count.result - c.args.member.now.here.at) awaited later
+    c.args.marks.now c.walk_if_ready.new.marks c.args.bound.now c.walk_if_ready.new.bound old c.args.written.now c.walk_if_ready.new.written less there at taken amid own c.if-marks-own.false
+    (omega (arith, c.part_count.ensures)) (Err c.in_err-walk_if_ready.field-0.0) (c.in_err-walk_if_ready.ensures.goes total k s m))
+
+pub conjuncts::walk_member-returns-clause-watches : goal.conjuncts::walk_member-returns-clause-watches
+conjuncts::walk_member-returns-clause-watches t c = λ goals rest there at total known watches.
+    let modes = modes_of c.args.setting.now.predicates.now in
+    let goal = c.args.member.now.goal.now in
+    let end : c.args.member.now.here.at + c.part_count.result ≡ c.args.member.now.here.at + length (parts_of goal) = ap (λ n. c.args.member.now.here.at + n) c.part_count.ensures in
+    let from = known_from total modes goals rest c.args.member.now.index c.args.member.now.here.at c.args.member.now.facts.now goal there at known in
+    let k = facts_of_next total modes goal (nodes_of rest) c.args.member.now.facts.now c.args.member.now.here.at (c.args.member.now.here.at + c.part_count.result) from end in
+    let before = subst (λ (v : Vec (List ℕ) Global). AreWatches total modes goals v.items) (sym c.is_shut.ensures.same) watches in
+    watches_on total modes goals rest goal c.is_shut.new.self.variables.items c.watch.new.self.variables.items c.args.member.now.index there (λ other. kept_or (c.in_ok-watch.ensures.keeps other) (λ right. right total k)) before
+
+pub conjuncts::walk_member-returns-clause-asks : goal.conjuncts::walk_member-returns-clause-asks
+conjuncts::walk_member-returns-clause-asks t c = λ total goals rest start index whole awaited later old less known stretch there watch at placed taken amid.
+    let modes = modes_of c.args.setting.now.predicates.now in
+    let goal = c.args.member.now.goal.now in
+    let one = some_parts goal c.part_count.result c.part_count.ensures in
+    let own : suc (c.args.member.now.here.at + c.part_count.result - 1) ≡ c.args.member.now.here.at + length (parts_of goal) = omega (arith, one, c.part_count.ensures) in
+    let end : c.args.member.now.here.at + c.part_count.result ≡ c.args.member.now.here.at + length (parts_of goal) = ap (λ n. c.args.member.now.here.at + n) c.part_count.ensures in
+    let from = known_from total modes goals rest index c.args.member.now.here.at c.args.member.now.facts.now goal there at known in
+    let k = facts_of_next total modes goal (nodes_of rest) c.args.member.now.facts.now c.args.member.now.here.at (c.args.member.now.here.at + c.part_count.result) from end in
+    let s = stretch_from total c.args.setting.now.all.now start goals rest index c.args.member.now.here.place goal there placed stretch in
+    let m = member_marks total modes goals whole goal rest index c.args.member.now.here.at (c.args.member.now.here.at + c.part_count.result - 1) (c.args.member.now.here.at + c.part_count.result) awaited c.args.marks.now (among c.args.bound.now)
+    old c.args.written.now (suc less) there at amid own end c.if-marks-own.false in
+    subst (λ b. AskGives total modes goals whole index later (put_mid c.args.member.now.here.at (c.args.member.now.here.at + c.part_count.result - c.args.member.now.here.at) c.args.marks.now c.walk_if_ready.new.marks) (among c.args.bound.now) (among b)
+    old c.walk_if_ready.new.written less (Ok false)) (sym c.in_ok-watch.ensures.same)
+    (member_asked total modes goals whole goal rest index c.args.member.now.here.at (c.args.member.now.here.at + c.part_count.result - 1) (c.args.member.now.here.at + c.part_count.result - c.args.member.now.here.at) awaited later
+    c.args.marks.now c.walk_if_ready.new.marks c.args.bound.now c.walk_if_ready.new.bound old c.args.written.now c.walk_if_ready.new.written less there at taken amid own c.if-marks-own.false
+    (omega (arith, c.part_count.ensures)) (Ok false)
+    (subst (λ b. GoesIfReady total modes goal c.walk_if_ready.new.marks c.args.bound.now c.walk_if_ready.new.bound c.args.written.now c.walk_if_ready.new.written (Ok b)) c.if-branch.false (c.in_ok-walk_if_ready.ensures.goes total k s m)))
 
 -- a goal that goes if it is ready
 
