@@ -1,5 +1,5 @@
 -- What is passed from a frame with a sum in it.
-use Rattle.std.proofs.Common.{◌≡◌, ℕ, zero, suc, ◌<◌, List, [], ◌∷◌, ◌++◌, length, Some, slice_get, slice_set, refl, sym, ap, ◌∙◌, subst, arith}
+use Rattle.std.proofs.Common.{◌≡◌, ℕ, zero, suc, ◌<◌, List, [], ◌∷◌, ◌++◌, length, slice_get, slice_set, refl, sym, ap, ◌∙◌, subst}
 use Rattle.std.specs.List.{All}
 use Rattle.std.proofs.lemmas.List.Elements.{All-head, All-tail}
 use Rattle.merc_frames.specs.declared.passing.Pass.{Pass}
@@ -7,7 +7,6 @@ use Rattle.merc_frames.specs.declared.slot.Slot.{Slot}
 use Rattle.merc_frames.specs.Handing.{passed, slot_or_empty}
 use Rattle.merc_load.specs.PassingSum.{IsTakenOut}
 use Rattle.merc_store.proofs.FrameLemmas.{get_set_same, get_set_other}
-use Rattle.merc_machine.proofs.Passing.{passed_length}
 
 -- It is not passed to the slot, and not from the variable.
 
@@ -40,16 +39,6 @@ set_behind (pass ∷ passes) from to slot held alone =
     let apart : pass.to ≡ slot → ⊥ = All-head (NotTo slot) pass passes alone in
     ap (passed passes from) (set_turned to slot pass.to held given (λ e. apart (sym e)))
     ∙ set_behind passes from (slice_set to pass.to given) slot held (All-tail (NotTo slot) pass passes alone)
-
--- What is passed to a slot, and to which nothing is passed behind it, stands there.
-pub passed_there : (before behind : List Pass) (from to : List Slot) (variable slot : ℕ) → slot < length to → All (NotTo slot) behind
-    → slice_get (passed (before ++ record { from = variable; to = slot } ∷ behind) from to) slot ≡ Some (slot_or_empty (slice_get from variable))
-passed_there before behind from to variable slot within alone =
-    let given : Slot = slot_or_empty (slice_get from variable) in
-    let others : List Slot = passed behind from (passed before from to) in
-    let same : length others ≡ length to = passed_length behind from (passed before from to) ∙ passed_length before from to in
-    ap (λ slots. slice_get slots slot) (passed_append before (record { from = variable; to = slot } ∷ behind) from to ∙ set_behind behind from (passed before from to) slot given alone)
-    ∙ get_set_same others slot given (omega (arith, within, same))
 
 -- Given is a variable of the old frame, and what it comes to hold.
 module _ (variable : ℕ) (held : Slot) where

@@ -1,15 +1,12 @@
 pub mod Advancing
 pub mod Asking
 pub mod Attempts
-pub mod BaseSlots
 pub mod CallSteps
 pub mod Callers
 pub mod CallingWithSum
 pub mod ChoicePoints
 pub mod Choosing
 pub mod Combining
-pub mod ComingAtOnce
-pub mod ComingAtOnceExamples
 pub mod ComingBack
 pub mod Continuing
 pub mod Counting

@@ -1,5 +1,3 @@
-pub mod BaseCases
-pub mod BaseCasesExamples
 pub mod Coming
 pub mod ComingExamples
 pub mod Event

@@ -1,5 +1,5 @@
 -- Worked examples of callers to which an instruction returns.
-use Rattle.std.specs.Prelude.{◌≡◌, ℕ, zero, suc, ◌<◌, false, List, [], ◌∷◌, length, Some, negsuc, pos, slice_get, refl}
+use Rattle.std.specs.Prelude.{◌≡◌, ℕ, zero, suc, ◌<◌, false, List, [], ◌∷◌, length, Some, pos, slice_get, refl}
 use Rattle.std.proofs.Common.{ap, sym, ◌∙◌, subst, arith}
 use Rattle.std.proofs.lemmas.List.Elements.{All-from_recursion}
 use Rattle.merc_frames.specs.declared.passing.Pass.{Pass}
@@ -9,9 +9,8 @@ use Rattle.merc_frames.specs.Rooms.{AreSlots}
 use Rattle.merc_frames.specs.Stacks.{Caller}
 use Rattle.merc_layout.specs.declared.entries.Entry.{Entry}
 use Rattle.merc_load.specs.declared.loaded.Op.{Op}
-use Rattle.merc_load.specs.declared.loaded.Sum.{Sum}
-use Rattle.merc_load.specs.declared.loaded.Op.TheVariants.{Call as CallOp, CallSum, Fail as FailOp, Return as ReturnOp}
-use Rattle.merc_machine.specs.Outputs.{FitsCallers, FitsSum, FollowsCall, HasCaller}
+use Rattle.merc_load.specs.declared.loaded.Op.TheVariants.{Call as CallOp, Fail as FailOp, Return as ReturnOp}
+use Rattle.merc_machine.specs.Outputs.{FitsCallers, FollowsCall, HasCaller}
 
 abbrev called : Entry
 called = record { place = 2; size = 1; is_clean = false }
@@ -86,39 +85,3 @@ fits-example = tt
 
 fits-not : FitsCallers ops [] (ReturnOp []) → ⊥
 fits-not has = has-none has
-
--- A call that passes a sum, which stands over two instructions, and the call behind these.
-abbrev less : Sum
-less = record { variable = 1; from = 0; number = negsuc 0; to = 0 }
-
-abbrev with_sum : List Op
-with_sum = CallSum called [] less ∷ FailOp ∷ CallOp called [] (1 ∷ []) ∷ FailOp ∷ []
-
-fits_sum-example : FitsSum with_sum 2 0 (CallSum called [] less)
-fits_sum-example entry passes sum is = (record { before = 2; next = refl; entry = called; inputs = []; outs = 1 ∷ []; call = refl }, All-from_recursion (λ (slot : ℕ). slot < 2) (1 ∷ []) (omega arith, tt))
-
--- A frame of one slot does not have the slot of the output.
-fits_sum-no_room : FitsSum with_sum 1 0 (CallSum called [] less) → ⊥
-fits_sum-no_room fits =
-    let fitting = fits called [] less refl in
-    let behind = fitting.0 in
-    let next = behind.next in
-    let two_before : 2 ≡ behind.before = omega (arith, next) in
-    let same : Some (CallOp called [] (1 ∷ [])) ≡ Some (CallOp behind.entry behind.inputs behind.outs) = ap (slice_get with_sum) two_before ∙ behind.call in
-    let outs : behind.outs ≡ 1 ∷ [] = cc in
-    let room : AreSlots 1 (1 ∷ []) = subst (AreSlots 1) outs fitting.1 in
-    let h : 1 < 1 = room 0 1 (omega arith) in
-    absurd (omega (arith, h))
-
--- What is no such call fits anywhere.
-fits_sum-other : FitsSum ops 0 0 FailOp
-fits_sum-other entry passes sum is = absurd cc
-
--- A fail stands there.
-fits_sum-not : FitsSum (CallSum called [] less ∷ FailOp ∷ FailOp ∷ FailOp ∷ []) 2 0 (CallSum called [] less) → ⊥
-fits_sum-not fits =
-    let behind = (fits called [] less refl).0 in
-    let next = behind.next in
-    let two_before : 2 ≡ behind.before = omega (arith, next) in
-    let found = ap (slice_get (CallSum called [] less ∷ FailOp ∷ FailOp ∷ FailOp ∷ [])) two_before ∙ behind.call in
-    absurd cc

@@ -5,7 +5,6 @@ mod answering;
 mod branching;
 mod calling;
 mod combined;
-mod coming_back;
 mod conditions;
 mod controlling;
 pub mod machine;
