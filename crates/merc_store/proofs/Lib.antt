@@ -15,7 +15,6 @@ pub mod ConstantLemmas
 pub mod NumberLemmas
 pub mod ReturningLemmas
 pub mod ResultsExamples
-pub mod TryingLemmas
 pub mod DifferingLemmas
 pub mod SeveralLemmas
 pub mod RestoringLemmas

@@ -16,14 +16,13 @@ use Rattle.merc_code.specs.declared.instruction.Instruction.TheVariants.{Integer
 use Rattle.merc_code.specs.Steps.{Effect, Fails, Raises, compares, operates}
 use Rattle.merc_layout.specs.Frames.{FitsInstruction}
 use Rattle.merc_layout.specs.FramesExamples.{fits}
-use Rattle.merc_frames.specs.Stacks.{GoesOn}
 use Rattle.merc_frames.specs.declared.slot.Slot.{Slot}
 use Rattle.merc_frames.specs.declared.slot.Slot.TheVariants.{Empty, Int as IntSlot, Text as TextSlot, Cell as CellSlot, Mark}
 use Rattle.merc_store.specs.Data.{StoreData, with_current}
 use Rattle.merc_store.specs.Fitting.{FitsFrame, slot_mark, slot_value}
 use Rattle.merc_store.specs.FittingExamples.{frame, frame-example}
 use Rattle.merc_store.specs.Effects.{compares_number, operates_number, effect_of_both, Performs, effect_of_all, Grows, PerformsAll}
-use Rattle.merc_store.specs.Performing.{word_at, words_at, integer_at, text_in, head_of, stored, tested, tried, TriesBoth, DoesBoth, DoesEffect, DoesAll, TellsSum}
+use Rattle.merc_store.specs.Performing.{word_at, words_at, integer_at, text_in, head_of, stored, tested, DoesBoth, DoesEffect, DoesAll, TellsSum}
 use Rattle.merc_store.specs.declared.store.Done.TheVariants.{Bound, Raised, Failed}
 
 word_at-example : word_at (Empty ∷ CellSlot 3 ∷ []) 1 ≡ Some (CellWord 3)
@@ -101,24 +100,6 @@ does_both-not does =
 
 pub store-grows : Grows store store
 store-grows = record { room = refl; callers = refl; choices = refl; cells = ([], refl) }
-
-tried-holds : tried Bound store 5 ≡ GoesOn 5 0 store.stacks.current [] ∷ []
-tried-holds = refl
-
--- nothing was made where it fails
-tried-fails : tried Failed store 5 ≡ GoesOn 5 0 store.stacks.current [] ∷ [] → ⊥
-tried-fails made = absurd (cc)
-
--- where an exception is raised no choice point is made
-tries_both-example : TriesBoth store store 5 (Integer 1 (pos 0)) (Arithmetic Div 1 0 1) (Raised division_by_zero_name)
-tries_both-example = does_both-example
-
--- where the comparison holds one is made
-tries_both-not : TriesBoth store (with_current store (IntSlot (pos 7) ∷ IntSlot (pos 9) ∷ Mark 3 ∷ [])) 5 (Integer 1 (pos 9)) (Compare Less 0 1) Bound → ⊥
-tries_both-not does =
-    let done = does.performs 2 (Some (Int (pos 7)) ∷ []) (3 ∷ []) _ frame-example integer_fits compare_fits refl in
-    let made : [] ≡ GoesOn 5 0 store.stacks.current [] ∷ [] = done.0.choices in
-    absurd (cc)
 
 tested-holds : tested true ≡ Bound
 tested-holds = refl
