@@ -14,7 +14,7 @@ use Rattle.merc_load.specs.Combined.{StandsThere}
 use Rattle.merc_load.specs.FittingOps.{FitsEntry}
 use Rattle.merc_load.specs.LeavingOut.{LeavesOut, decides_number, decides_test, decides_comparison, decides_integer, decides_result, operates_number, adds_number, subtracts_number}
 use Rattle.merc_load.specs.Loaded.{IsLoaded, StandsAt, call_op, entered_at, inputs, is_last_of, op_of, ops_of}
-use Rattle.merc_load.specs.Superinstructions.{IsSuperinstruction, operates, builds, splits, decides, operates_with, compares_with, jumps_back, returns_result, returns_built, returns_copy, decides_all, switches, switches_list, tries_test}
+use Rattle.merc_load.specs.Superinstructions.{IsSuperinstruction, operates, builds, splits, decides, compares_with, jumps_back, returns_result, returns_built, returns_copy, decides_all, switches, switches_list, tries_test}
 use Rattle.merc_layout.specs.declared.entries.Entry.{Entry}
 use Rattle.merc_load.specs.declared.loaded.Loaded.{Loaded}
 use Rattle.merc_load.specs.declared.loaded.Op.{Op}
@@ -31,7 +31,6 @@ superinstruction_received _ _ (builds to symbol arguments ops) = tt
 superinstruction_received _ _ (splits whole symbol arguments ops) = tt
 superinstruction_received _ _ (decides slot skipped test ops) = tt
 superinstruction_received _ _ (tries_test skipped test ops is) = tt
-superinstruction_received _ _ (operates_with operation to one constant number ops apart) = tt
 superinstruction_received _ _ (compares_with comparison one constant number ops apart) = tt
 superinstruction_received _ _ (jumps_back skipped results ops behind there) = tt
 superinstruction_received _ _ (returns_result operation to one other ops following) = tt

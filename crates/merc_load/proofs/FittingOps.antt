@@ -22,7 +22,7 @@ use Rattle.merc_layout.specs.Frames.{FitsCode, FitsInstruction, written}
 use Rattle.merc_load.specs.LeavingOut.{LeavesOut, decides_number, decides_test, decides_comparison, decides_integer, decides_result, operates_number, adds_number, subtracts_number}
 use Rattle.merc_load.specs.Loaded.{StandsAt, call_op, entered_at, inputs, is_last_of, op_of, ops_of, results_of}
 use Rattle.merc_load.specs.PassingSum.{PassesSum, calls, calls_last}
-use Rattle.merc_load.specs.Superinstructions.{AreListArms, IsArm, IsSuperinstruction, SkipsTo, cell_arm, empty_arm, operates, builds, splits, decides, operates_with, compares_with, jumps_back, returns_result, returns_built, returns_copy, decides_all, switches, switches_list, tries_test}
+use Rattle.merc_load.specs.Superinstructions.{AreListArms, IsArm, IsSuperinstruction, SkipsTo, cell_arm, empty_arm, operates, builds, splits, decides, compares_with, jumps_back, returns_result, returns_built, returns_copy, decides_all, switches, switches_list, tries_test}
 use Rattle.merc_load.specs.declared.loaded.Arm.{Arm}
 use Rattle.merc_load.specs.declared.loaded.Op.{Op}
 use Rattle.merc_load.specs.declared.loaded.Op.TheVariants.{Do, Jump as JumpOp, Switch as SwitchOp, Try as TryOp, Mark as MarkOp, Commit as CommitOp, Call as CallOp, LastCall, Return as ReturnOp, SumNumber}
@@ -125,8 +125,6 @@ module _ (size : ℕ) where
   superinstruction_fits _ _ (splits whole symbol arguments ops) fits = All-head (FitsOp size) (Do (Split whole symbol arguments)) ops fits
   superinstruction_fits _ _ (decides slot skipped test ops) fits = let each = each_of (MarkOp slot ∷ TryOp skipped ∷ Do test ∷ CommitOp slot ∷ ops) fits in (each.1.1.0, each.0)
   superinstruction_fits _ _ (tries_test skipped test ops is) fits = let each = each_of (TryOp skipped ∷ Do test ∷ ops) fits in each.1.0
-  superinstruction_fits _ _ (operates_with operation to one constant number ops apart) fits =
-      let each = each_of (Do (Integer constant number) ∷ Do (Arithmetic operation to one constant) ∷ ops) fits in each.1.0
   superinstruction_fits _ _ (compares_with comparison one constant number ops apart) fits =
       let each = each_of (Do (Integer constant number) ∷ Do (Compare comparison one constant) ∷ ops) fits in each.1.0
   superinstruction_fits _ _ (jumps_back skipped results ops behind there) fits =

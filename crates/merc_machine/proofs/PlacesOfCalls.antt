@@ -15,7 +15,7 @@ use Rattle.merc_load.specs.Combined.{StandsThere}
 use Rattle.merc_load.specs.LeavingOut.{LeavesOut, decides_number, operates_number, adds_number, subtracts_number, decides_test, decides_comparison, decides_integer, decides_result}
 use Rattle.merc_load.specs.Loaded.{StandsAt, op_of, ops_of}
 use Rattle.merc_load.specs.PassingSum.{IsTakenOut, PassesSum, calls as calls_with, calls_last as calls_last_with}
-use Rattle.merc_load.specs.Superinstructions.{IsSuperinstruction, operates, builds, splits, tries_test, decides, operates_with, compares_with, jumps_back, decides_all, switches as switches_fields, switches_list, returns_result, returns_built, returns_copy}
+use Rattle.merc_load.specs.Superinstructions.{IsSuperinstruction, operates, builds, splits, tries_test, decides, compares_with, jumps_back, decides_all, switches as switches_fields, switches_list, returns_result, returns_built, returns_copy}
 use Rattle.merc_machine.proofs.Leaving.{left_out}
 use Rattle.merc_machine.proofs.Linking.{Links, links, does, jumps, switches, tries, marks, commits, softens, calls_none, calls, calls_last, returns, fails, answers}
 use Rattle.merc_machine.proofs.Places.{stands_first}
@@ -34,7 +34,6 @@ never_call _ _ others entry inputs outs (builds to symbol arguments ops) e = abs
 never_call _ _ others entry inputs outs (splits whole symbol arguments ops) e = absurd cc
 never_call _ _ others entry inputs outs (decides slot skipped test ops) e = absurd cc
 never_call _ _ others entry inputs outs (tries_test skipped test ops is) e = absurd cc
-never_call _ _ others entry inputs outs (operates_with operation to one constant number ops apart) e = absurd cc
 never_call _ _ others entry inputs outs (compares_with comparison one constant number ops apart) e = absurd cc
 never_call _ _ others entry inputs outs (jumps_back skipped given ops behind there) e = absurd cc
 never_call _ _ others entry inputs outs (returns_result operation to one other ops next) e = absurd cc
