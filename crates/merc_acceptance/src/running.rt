@@ -1,5 +1,6 @@
 //! A case through the program's one call, over files and output in memory.
-ghost use Rattle.std.specs.Prelude.{◌≡◌, ℕ, [], IfNone, IfOk, IfSome, Some};
+ghost use Rattle.std.specs.Prelude.{◌≡◌, ℕ, [], IfNone, IfOk, IfSome, Some, None};
+ghost use Rattle.merc_io.specs.Sinks.{memory_told};
 ghost use Rattle.merc_top.specs.Answer.{Answers};
 
 use crate::cases::Case;
@@ -15,20 +16,25 @@ use std::sync::Wait;
 use std::thread::Threads;
 
 /// Runs a case, which gives its files away. Where something else came than was due, says both. Where it says nothing,
-/// the program's one call gave the text and the status that are due, for the case's words over its files.
+/// the program's one call gave the text and the status that are due, for the case's words over its files, and counted as
+/// many steps as are said.
 pub(crate) fn difference<R: Threads + Wait + AllocGlobal>(
     rt: &R,
     settings: &Settings,
     case: &mut Case,
 ) -> Result<Option<String>, TableFault>
-    ensures { IfOk result (λ found. IfNone found ((reads writes : ℕ) × Answers case.old.words.items (Some case.old.files.items) 0 reads (Some []) (Some case.old.text) 0 writes case.old.status)) }
+    ensures { IfOk result (λ found. IfNone found ((reads writes count : ℕ) × IfSome settings.now.steps (λ steps. count ≡ steps) × Answers case.old.words.items (Some case.old.files.items) 0 reads (record { written = Some []; given = None; faults = 0 }) (record { written = Some case.old.text; given = None; faults = writes }) count case.old.status)) }
 {
     let alloc = rt.alloc();
     let files = mem::replace(&mut case.files, Vec::new(alloc));
     let mut shelf = shelf_of(settings, files)?;
     let mut sink = sink_of(alloc, settings)?;
-    let status = status(rt, &case.words, &mut shelf, &mut sink);
-    compared(alloc, case.status, case.text.bytes(), status, sink.bytes())
+    let mut ticks = Ticks::new();
+    let status = status(rt, &case.words, &mut shelf, &mut sink, &mut ticks);
+    match compared(alloc, case.status, case.text.bytes(), status, sink.bytes())? {
+        None => miscounted(alloc, settings.steps, ticks.count()),
+        Some(both) => Ok(Some(both)),
+    }
 }
 
 // The status that the program's one call gives for words.
@@ -37,17 +43,16 @@ fn status<R: Threads + Wait + AllocGlobal>(
     words: &[Text],
     shelf: &mut FailingShelf,
     sink: &mut FailingSink,
+    ticks: &mut Ticks,
 ) -> u8
     requires shelf { shelf.old.faults ≡ 0 }
     requires sink { sink.old.sink.faults ≡ 0 }
-    ensures { Answers words.now (Some shelf.old.files) shelf.old.faults shelf.new.faults (Some sink.old.sink.bytes) (Some sink.new.sink.bytes) sink.old.sink.faults sink.new.sink.faults result }
+    requires ticks { ticks.old ≡ 0 }
+    ensures { Answers words.now (Some shelf.old.files) shelf.old.faults shelf.new.faults (memory_told sink.old.sink) (memory_told sink.new.sink) ticks.new result }
 {
     let alloc = rt.alloc();
     let mut taps: Vec<Box<dyn Tap>> = Vec::new(alloc);
-    let mut ticks = Ticks::new();
-    answer(
-        rt, alloc, words, shelf, sink, &mut taps, &OpenGate, &mut ticks,
-    )
+    answer(rt, alloc, words, shelf, sink, &mut taps, &OpenGate, ticks)
 }
 
 // These files, of which each read gives as much as is said, and fails where it is said.
@@ -90,6 +95,21 @@ fn compared(
     push_shown("  due:  ", wanted, due, &mut both)?;
     push_shown("\n  came: ", status, came, &mut both)?;
     Ok(Some(both))
+}
+
+// The numbers of steps that are due and that were counted, where one is due and they are not the same.
+fn miscounted(alloc: Global, due: Option<u64>, came: u64) -> Result<Option<String>, TableFault>
+    ensures same { IfOk result (λ found. IfNone found (IfSome due (λ steps. came ≡ steps))) }
+    ensures differs { IfOk result (λ found. IfSome found (λ both. IfSome due (λ steps. came ≡ steps → ⊥))) }
+{
+    match due {
+        Some(due) if due != came => {
+            let mut both = String::new(alloc);
+            write!(both, "  due:  {due} steps\n  came: {came} steps")?;
+            Ok(Some(both))
+        }
+        _ => Ok(None),
+    }
 }
 
 // Adds these words, a status, and a text as a table has it.

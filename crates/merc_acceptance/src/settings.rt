@@ -29,6 +29,8 @@ pub struct Settings {
     pub write_piece: Option<usize>,
     /// The most bytes that the sink takes in all.
     pub room: usize,
+    /// How many steps are counted, if that is said.
+    pub steps: Option<u64>,
 }
 
 impl Settings {
@@ -43,6 +45,7 @@ impl Settings {
             read_piece: READ_PIECE,
             write_piece: None,
             room: ROOM,
+            steps: None,
         };
         settings.set_file(alloc, "m.m", ":- module m.\\n")?;
         settings.set_goal(alloc, "X = 1")?;
@@ -60,6 +63,7 @@ impl Settings {
             "read piece" => set_number(value, &mut self.read_piece),
             "write piece" => self.set_write_piece(value),
             "room" => set_number(value, &mut self.room),
+            "counted steps" => self.set_steps(value),
             _ => self.set_named(alloc, key, value),
         }
     }
@@ -83,6 +87,14 @@ impl Settings {
 
     fn set_write_piece(&mut self, value: &str) -> Result<(), TableFault> {
         self.write_piece = Some(number(value, READ_PIECE)?);
+        Ok(())
+    }
+
+    fn set_steps(&mut self, value: &str) -> Result<(), TableFault> {
+        let Ok(steps) = value.parse() else {
+            return Err(TableFault::WrongNumber);
+        };
+        self.steps = Some(steps);
         Ok(())
     }
 
