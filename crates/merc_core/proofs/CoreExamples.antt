@@ -55,6 +55,11 @@ abbrev names : Answer → Option (List (List (ℕ × ℕ) × ℕ))
 names (Ok w) = Some (map (λ one. (one.branch.name, one.branch.passed)) w.pool)
 names (Err refused) = None
 
+-- the steps of all branches
+abbrev steps_in : Answer → Option (List ℕ)
+steps_in (Ok w) = Some (map (λ one. one.branch.steps) w.pool)
+steps_in (Err refused) = None
+
 -- a value handed on
 
 abbrev pub seven : Cell
@@ -275,6 +280,13 @@ summed-well = record { distinct = Prim.search arith; formed = Prim.search arith 
 
 summed-ends : outcome_of (after summed (Tick 0 ∷ Fork 0 ∷ End 0 ∷ Resume 0 ∷ Fork 0 ∷ End 0 ∷ Resume 0 ∷ End 0 ∷ [])) ≡ Some (Some (Raise 40 3))
 summed-ends = refl
+
+-- a child's steps begin at 0, whatever steps its parent has made
+child-starts : steps_in (after summed (Tick 0 ∷ Fork 0 ∷ [])) ≡ Some (1 ∷ 0 ∷ [])
+child-starts = refl
+
+child-starts-behind : steps_in (after summed (Tick 0 ∷ Fork 0 ∷ [])) ≡ Some (1 ∷ 1 ∷ []) → ⊥
+child-starts-behind same = cc
 
 -- children that make more steps together than the Fork's limit
 abbrev limited : Script

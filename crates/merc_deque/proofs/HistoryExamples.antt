@@ -1,5 +1,5 @@
 -- What the definitions of a deque's history say.
-use Rattle.std.proofs.Common.{◌≡◌, ℕ, List, [], ◌∷◌, refl, arith}
+use Rattle.std.proofs.Common.{◌≡◌, ◌≤◌, ℕ, length, List, [], ◌∷◌, refl, arith}
 use Rattle.merc_deque.specs.declared.moves.Kind.TheVariants.{Pushed, Popped, Stole}
 use Rattle.merc_deque.specs.declared.moves.Move.{Move}
 use Rattle.merc_deque.proofs.Keeping.{lost_none}
@@ -54,3 +54,15 @@ lost-pushed kept = absurd (let weights = kept (λ _. 1) in omega arith)
 -- .. and one that was taken and never pushed came from nowhere
 pub lost-taken : NothingIsLost {T = ℕ} (move 1 Stole 7 ∷ []) [] → ⊥
 lost-taken kept = absurd (let weights = kept (λ _. 1) in omega arith)
+
+-- two sparks that lie in a deque are not few
+abbrev two_pushed : List (Move ℕ)
+two_pushed = move 0 Pushed 7 ∷ move 0 Pushed 8 ∷ []
+
+pub leaves-two : Leaves two_pushed (7 ∷ 8 ∷ [])
+leaves-two = pushes pushed (7 ∷ []) 0 8 leaves-pushed
+
+pub few-two : (sparks : List ℕ) → Leaves two_pushed sparks → length sparks ≤ 1 → ⊥
+few-two [] after few = absurd (let weights = lost_none _ [] after (λ _. 1) in omega arith)
+few-two (one ∷ []) after few = absurd (let weights = lost_none _ (one ∷ []) after (λ _. 1) in omega arith)
+few-two (one ∷ other ∷ rest) after few = absurd (omega arith)

@@ -229,6 +229,11 @@ negation-fails = refl
 quantified-example : run program (goal (Quantified (x ∷ []) (is_int x 1)) []) 10 ≡ Answer (int 1 ∷ []) done
 quantified-example = refl
 
+-- a quantified goal answers as often as the goal in it
+quantified-twice : run program (goal (Quantified (y ∷ []) (goal (Disjunction (nodes_of (is_int x 1 ∷ is_int x 2 ∷ []))) (x ∷ []))) (x ∷ [])) 10
+    ≡ Answer (int 1 ∷ []) (Answer (int 2 ∷ []) done)
+quantified-twice = refl
+
 -- exceptions
 
 raise-example : run program raising 10 ≡ Ends (RunRaised 300)

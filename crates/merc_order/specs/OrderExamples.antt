@@ -288,6 +288,15 @@ conditional_differs = refl
 conditional_fails : decided (Simple Fail (at 30)) ≡ decides (put Failure [] (at 30))
 conditional_fails = refl
 
+-- `( p(X) -> fail ; Y = 1 )`: the end of the then part cannot be reached, so the else part alone says what is bound
+then_not_reached : behind (λ variable. (variable == x)) (x ∷ y ∷ []) (Conditional (call p (x ∷ []) 12) (Simple Fail (at 20)) (is_one y 30) (at 10))
+    ≡ Ready (put (Decision (put (Called p 0 (x ∷ []) (false ∷ [])) [] (at 12)) (put Failure [] (at 20)) (built y (y ∷ []) 30)) (y ∷ []) (at 10))
+then_not_reached = refl
+
+-- `( p(X) -> true ; Y = 1 )`: here it can
+then_reached : behind (λ variable. (variable == x)) (x ∷ y ∷ []) (Conditional (call p (x ∷ []) 12) (Simple True (at 20)) (is_one y 30) (at 10)) ≡ Stuck (unbound_output (at 10))
+then_reached = refl
+
 -- `( true -> p(Y) ; p(Z) )`
 then_before_else : query (y ∷ z ∷ []) (Conditional (Simple True (at 12)) (call p (y ∷ []) 20) (call p (z ∷ []) 30) (at 10)) ≡ Stuck (never_ready (at 20))
 then_before_else = refl
