@@ -12,7 +12,7 @@ use Rattle.merc_frames.specs.Rooms.{AreReceived}
 use Rattle.merc_last_calls.specs.LastCalls.{outputs}
 use Rattle.merc_load.specs.Combined.{StandsThere}
 use Rattle.merc_load.specs.FittingOps.{FitsEntry}
-use Rattle.merc_load.specs.LeavingOut.{LeavesOut, decides_number, decides_test, decides_comparison, decides_integer, decides_result, operates_number, adds_number, subtracts_number}
+use Rattle.merc_load.specs.LeavingOut.{LeavesOut, decides_number, decides_test, decides_integer, decides_result, operates_number, adds_number, subtracts_number}
 use Rattle.merc_load.specs.Loaded.{IsLoaded, StandsAt, call_op, entered_at, inputs, is_last_of, op_of, ops_of}
 use Rattle.merc_load.specs.Superinstructions.{IsSuperinstruction, operates, builds, splits, decides, compares_with, jumps_back, returns_result, returns_built, returns_copy, decides_all, switches, switches_list, tries_test}
 use Rattle.merc_layout.specs.declared.entries.Entry.{Entry}
@@ -43,7 +43,6 @@ superinstruction_received _ _ (switches_list whole head tail empty_skipped cell_
 leaving_received : (codes : Codes) (own : Option (List Arg)) (code : Code) (new : Op) → LeavesOut codes own code new → FitsEntry new
 leaving_received codes own _ _ (decides_number mark skipped comparison one constant number rest apart unread held failed) = tt
 leaving_received codes own _ _ (decides_test mark skipped test rest is held failed) = tt
-leaving_received codes own _ _ (decides_comparison mark skipped comparison one other rest held failed) = tt
 leaving_received codes own _ _ (decides_integer mark skipped whole number rest held failed) = tt
 leaving_received codes own _ _ (decides_result mark skipped operation to one constant number due rest apart unread unread_result held failed) = tt
 leaving_received codes own _ _ (operates_number operation to one constant number rest apart unread) = tt

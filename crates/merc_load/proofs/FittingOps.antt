@@ -19,7 +19,7 @@ use Rattle.merc_frames.specs.declared.passing.Pass.{Pass}
 use Rattle.merc_frames.specs.Rooms.{AreSlots}
 use Rattle.merc_load.specs.FittingOps.{FitsOp, HasSlots}
 use Rattle.merc_layout.specs.Frames.{FitsCode, FitsInstruction, written}
-use Rattle.merc_load.specs.LeavingOut.{LeavesOut, decides_number, decides_test, decides_comparison, decides_integer, decides_result, operates_number, adds_number, subtracts_number}
+use Rattle.merc_load.specs.LeavingOut.{LeavesOut, decides_number, decides_test, decides_integer, decides_result, operates_number, adds_number, subtracts_number}
 use Rattle.merc_load.specs.Loaded.{StandsAt, call_op, entered_at, inputs, is_last_of, op_of, ops_of, results_of}
 use Rattle.merc_load.specs.PassingSum.{PassesSum, calls, calls_last}
 use Rattle.merc_load.specs.Superinstructions.{AreListArms, IsArm, IsSuperinstruction, SkipsTo, cell_arm, empty_arm, operates, builds, splits, decides, compares_with, jumps_back, returns_result, returns_built, returns_copy, decides_all, switches, switches_list, tries_test}
@@ -149,8 +149,6 @@ module _ (size : ℕ) where
       compared.0
   leaving_fits codes own _ _ (decides_test mark skipped test rest is held failed) slots =
       let each = recursion_from_All (HasSlots size) (Mark mark ∷ Try skipped ∷ test ∷ Commit mark ∷ rest) slots in each.1.1.0
-  leaving_fits codes own _ _ (decides_comparison mark skipped comparison one other rest held failed) slots =
-      let each = recursion_from_All (HasSlots size) (Mark mark ∷ Try skipped ∷ Compare comparison one other ∷ Commit mark ∷ rest) slots in each.1.1.0
   leaving_fits codes own _ _ (decides_integer mark skipped whole number rest held failed) slots =
       let each = recursion_from_All (HasSlots size) (Mark mark ∷ Try skipped ∷ Literal whole (IntegerSymbol number) ∷ Commit mark ∷ rest) slots in each.1.1.0
   leaving_fits codes own _ _ (decides_result mark skipped operation to one constant number due rest apart unread unread_result held failed) slots =

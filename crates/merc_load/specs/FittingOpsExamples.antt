@@ -13,7 +13,7 @@ use Rattle.merc_load.specs.Superinstructions.{cell_arm, empty_arm}
 use Rattle.merc_load.specs.declared.loaded.Arm.{Arm}
 use Rattle.merc_load.specs.declared.loaded.Sum.{Sum}
 use Rattle.merc_layout.specs.declared.entries.Entry.{Entry}
-use Rattle.merc_load.specs.declared.loaded.Op.TheVariants.{Do, Call, LastCall, CallSum, LastCallSum, If, IfCompareVariables, SumNumber, SwitchFields, Fail, Arithmetic as ArithmeticOp, Build as BuildOp, Split as SplitOp}
+use Rattle.merc_load.specs.declared.loaded.Op.TheVariants.{Do, Call, LastCall, CallSum, LastCallSum, If, SumNumber, SwitchFields, Fail, Arithmetic as ArithmeticOp, Build as BuildOp, Split as SplitOp}
 
 -- a frame of three slots
 
@@ -51,12 +51,6 @@ sum-example = (omega arith, omega arith)
 
 sum-not : FitsOp 3 (SumNumber 3 0 (pos 1)) → ⊥
 sum-not f = let h : 3 < 3 = f.0 in absurd (omega (arith, h))
-
-comparison-example : FitsOp 3 (IfCompareVariables Less 0 2 9)
-comparison-example = (omega arith, omega arith)
-
-comparison-not : FitsOp 3 (IfCompareVariables Less 0 3 1) → ⊥
-comparison-not f = let h : 3 < 3 = f.1 in absurd (omega (arith, h))
 
 fail-example : FitsOp 0 Fail
 fail-example = tt

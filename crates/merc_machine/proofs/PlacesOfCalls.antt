@@ -12,7 +12,7 @@ use Rattle.merc_load.specs.declared.loaded.Op.{Op}
 use Rattle.merc_load.specs.declared.loaded.Op.TheVariants.{Call as CallOp, LastCall, CallSum, LastCallSum, SumNumber}
 use Rattle.merc_load.specs.declared.loaded.Sum.{Sum}
 use Rattle.merc_load.specs.Combined.{StandsThere}
-use Rattle.merc_load.specs.LeavingOut.{LeavesOut, decides_number, operates_number, adds_number, subtracts_number, decides_test, decides_comparison, decides_integer, decides_result}
+use Rattle.merc_load.specs.LeavingOut.{LeavesOut, decides_number, operates_number, adds_number, subtracts_number, decides_test, decides_integer, decides_result}
 use Rattle.merc_load.specs.Loaded.{StandsAt, op_of, ops_of}
 use Rattle.merc_load.specs.PassingSum.{IsTakenOut, PassesSum, calls as calls_with, calls_last as calls_last_with}
 use Rattle.merc_load.specs.Superinstructions.{IsSuperinstruction, operates, builds, splits, tries_test, decides, compares_with, jumps_back, decides_all, switches as switches_fields, switches_list, returns_result, returns_built, returns_copy}
@@ -49,7 +49,6 @@ module _ (codes : Codes) (own : Option (List Arg)) where
   leaves_no_call : (code : Code) (op : Op) (procedure : Procedure) (arguments : List ℕ) (behind : Code) → LeavesOut codes own code op → code ≡ Call procedure arguments ∷ behind → ⊥
   leaves_no_call _ _ procedure arguments behind (decides_number mark skipped comparison one constant number rest apart unread held failed) e = absurd cc
   leaves_no_call _ _ procedure arguments behind (decides_test mark skipped test rest is held failed) e = absurd cc
-  leaves_no_call _ _ procedure arguments behind (decides_comparison mark skipped comparison one other rest held failed) e = absurd cc
   leaves_no_call _ _ procedure arguments behind (decides_integer mark skipped whole number rest held failed) e = absurd cc
   leaves_no_call _ _ procedure arguments behind (decides_result mark skipped operation to one constant number due rest apart unread unread_result held failed) e = absurd cc
   leaves_no_call _ _ procedure arguments behind (operates_number operation to one constant number rest apart unread) e = absurd cc

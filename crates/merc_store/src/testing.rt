@@ -55,9 +55,9 @@ impl Store {
         tested(self.compare_variables(comparison, one, other))
     }
 
-    /// Whether a comparison of two variables' integers holds. It does not where one of them is no integer.
+    // Whether a comparison of two variables' integers holds. It does not where one of them is no integer.
     #[inline(always)]
-    pub fn compare_variables(&self, comparison: Comparison, one: Var, other: Var) -> bool
+    fn compare_variables(&self, comparison: Comparison, one: Var, other: Var) -> bool
         requires slots { (one < length self.now.stacks.current) × (other < length self.now.stacks.current) }
         ensures { Does self.now self.now (Instruction.Compare comparison one other) (tested result) }
     {
