@@ -16,8 +16,8 @@ use std::alloc::Global;
 /// asking takes. It is twice as often each time that watching did not pay.
 const PRICE: usize = 128;
 
-/// So often the variables that are watched are halved at most.
-const MOST_HALVES: usize = 64;
+/// So often it is tried at most to leave some of the variables out that are watched.
+const MOST_CUTS: usize = 64;
 
 /// For goals of a conjunction, by their index, variables of which one has to be bound before the goal is ready. A goal for
 /// which there are none may be ready at any time.
@@ -227,10 +227,17 @@ fn narrowed(
     if !is_stuck(setting, placed, free, watched, bound)? {
         return Ok(Vars::new(setting.alloc));
     }
-    for round in 0..MOST_HALVES {
-        match half(setting, placed, free, watched, round, bound)? {
-            Some(part) => watched = part,
-            None => return taken(setting.alloc, free, watched),
+    let mut cut = free.len() / 2;
+    for round in 0..MOST_CUTS {
+        if cut == 0 {
+            return taken(setting.alloc, free, watched);
+        }
+        match shorter(setting, placed, free, watched, cut, round, bound)? {
+            Some(part) => {
+                watched = part;
+                cut = cut.min(part.high.saturating_sub(part.low) / 2);
+            }
+            None => cut /= 2,
         }
     }
     taken(setting.alloc, free, watched)
@@ -245,12 +252,14 @@ fn taken(alloc: Global, free: &[Var], watched: Stretch) -> Result<Vars, NoMemory
     Ok(Vars::from_vec(Vec::from_slice(alloc, variables)?))
 }
 
-// A half of these variables of which one has to be bound, too; in turn the one half is tried first and the other.
-fn half(
+// Fewer of these variables of which one has to be bound, too: so many are left out, in turn the first are tried before the
+// last and behind them.
+fn shorter(
     setting: &Setting<'_>,
     placed: &PlacedGoal<'_>,
     free: &[Var],
     watched: Stretch,
+    cut: usize,
     round: usize,
     bound: &mut BoundSet,
 ) -> Result<Option<Stretch>, NoMemory>
@@ -259,10 +268,7 @@ fn half(
     ensures same { OnOk result (bound.new ≡ bound.old) }
     ensures part { IfOk result (λ part. IfSome part (λ part. LiesIn part free.now × TellsWatch setting.now.predicates.now placed.now.goal.now placed.now.facts.now free.now (among bound.old) (slice_range free.now part.low part.high))) }
 {
-    if watched.high - watched.low < 2 {
-        return Ok(None);
-    }
-    let (one, other) = halves(watched, round);
+    let (one, other) = ends(watched, cut, round);
     if is_stuck(setting, placed, free, one, bound)? {
         return Ok(Some(one));
     }
@@ -272,20 +278,22 @@ fn half(
     Ok(None)
 }
 
-// Both halves of a stretch; in turn the one is the first and the other.
-fn halves(whole: Stretch, round: usize) -> (Stretch, Stretch)
+// A stretch without its first items, so many, and without its last; in turn the one and the other stands first.
+fn ends(whole: Stretch, cut: usize, round: usize) -> (Stretch, Stretch)
     requires { whole.low ≤ whole.high }
     ensures one { (result.0.low ≤ result.0.high) × (result.0.high ≤ whole.high) }
     ensures other { (result.1.low ≤ result.1.high) × (result.1.high ≤ whole.high) }
 {
-    let middle = whole.low + (whole.high - whole.low) / 2;
+    if whole.high - whole.low < cut {
+        return (whole, whole);
+    }
+    let upper = Stretch {
+        low: whole.low + cut,
+        high: whole.high,
+    };
     let lower = Stretch {
         low: whole.low,
-        high: middle,
-    };
-    let upper = Stretch {
-        low: middle,
-        high: whole.high,
+        high: whole.high - cut,
     };
     if round % 2 == 0 {
         (upper, lower)
