@@ -16,7 +16,6 @@ use Rattle.merc_goal_facts.specs.Bounds.{all_behind}
 use Rattle.merc_goal_facts.specs.Facts.{AreKnown, AreFactsOf, subgoals, all_subgoals}
 use Rattle.merc_goal_facts.specs.declared.facts.Facts.{Facts}
 use Rattle.merc_goal_facts.proofs.Bounds.{among-append}
-use Rattle.merc_readiness.specs.Sweeps.{Extends}
 use Rattle.merc_readiness.proofs.Binding.{among_all}
 use Rattle.merc_readiness.proofs.Marking.{known_split, subgoals_end}
 use Rattle.merc_readiness.proofs.Rounds.{head_is}
@@ -235,6 +234,15 @@ put_watch (first ∷ rest) (suc index) (suc other) watched = by (put_watch rest 
     by (inl same) = inl same
     by (inr (is, put)) = inr (ap suc is, put)
 
+pub put_keeps : (right : List ℕ → Type 0) (old now : List (List ℕ)) (index other : ℕ) (watched : List ℕ) → ((other : ℕ) → watched_at now other ≡ watched_at old other) → right watched
+    → (watched_at (set now index watched) other ≡ watched_at old other) ⊎ ((other ≡ index) × right (watched_at (set now index watched) other))
+put_keeps right old now index other watched same is_right = by (put_watch now index other watched)
+  where
+    by : (watched_at (set now index watched) other ≡ watched_at now other) ⊎ ((other ≡ index) × (watched_at (set now index watched) other ≡ watched))
+        → (watched_at (set now index watched) other ≡ watched_at old other) ⊎ ((other ≡ index) × right (watched_at (set now index watched) other))
+    by (inl kept) = inl (kept ∙ same other)
+    by (inr (is, put)) = inr (is, subst right (sym put) is_right)
+
 -- the variables that goals bind, put behind what is bound
 
 pub binds_more : (facts rest : List Facts) (found : Facts) (now new : List ℕ) → facts ≡ found ∷ rest → new ≡ all_behind now found.binds
@@ -246,16 +254,3 @@ binds_more facts rest found now new is put = λ variable.
     regroup : (a b c : Bool) → (a || (b || c)) ≡ ((a || b) || c)
     regroup true b c = refl
     regroup false b c = refl
-
-pub free_since : (facts : List Facts) (bound after : List ℕ) (mark : ℕ) → Extends bound after → mark ≡ length bound
-    → ((variable : ℕ) → (among bound variable || some_binds facts variable) ≡ among after variable) → AreFree facts (among bound) (drop mark after)
-free_since facts bound after mark (more, is) long reach = λ variable there.
-    let cut : drop mark after ≡ more = ap (λ l. drop mark l) is ∙ drop_front bound more mark long in
-    ap (λ l. among bound variable || among l variable) cut ∙ sym (among-append bound more variable) ∙ ap (λ l. among l variable) (sym is) ∙ sym (reach variable)
-    ∙ or_second (among bound variable) (some_binds facts variable) there
-  where
-    drop_front : (front back : List ℕ) (count : ℕ) → count ≡ length front → drop count (front ++ back) ≡ back
-    drop_front [] back zero h = refl
-    drop_front [] back (suc count) h = absurd (omega (arith, h))
-    drop_front (first ∷ rest) back zero h = absurd (omega (arith, h))
-    drop_front (first ∷ rest) back (suc count) h = drop_front rest back count (omega (arith, h))

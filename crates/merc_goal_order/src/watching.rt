@@ -268,37 +268,35 @@ fn shorter(
     ensures same { OnOk result (bound.new ≡ bound.old) }
     ensures part { IfOk result (λ part. IfSome part (λ part. LiesIn part free.now × TellsWatch setting.now.predicates.now placed.now.goal.now placed.now.facts.now free.now (among bound.old) (slice_range free.now part.low part.high))) }
 {
-    let (one, other) = ends(watched, cut, round);
+    let first = round % 2 == 0;
+    let one = without(watched, cut, first);
     if is_stuck(setting, placed, free, one, bound)? {
         return Ok(Some(one));
     }
+    let other = without(watched, cut, !first);
     if is_stuck(setting, placed, free, other, bound)? {
         return Ok(Some(other));
     }
     Ok(None)
 }
 
-// A stretch without its first items, so many, and without its last; in turn the one and the other stands first.
-fn ends(whole: Stretch, cut: usize, round: usize) -> (Stretch, Stretch)
+// A stretch without so many of its items, the first or the last.
+fn without(whole: Stretch, count: usize, first: bool) -> Stretch
     requires { whole.low ≤ whole.high }
-    ensures one { (result.0.low ≤ result.0.high) × (result.0.high ≤ whole.high) }
-    ensures other { (result.1.low ≤ result.1.high) × (result.1.high ≤ whole.high) }
+    ensures { (result.low ≤ result.high) × (result.high ≤ whole.high) }
 {
-    if whole.high - whole.low < cut {
-        return (whole, whole);
-    }
-    let upper = Stretch {
-        low: whole.low + cut,
-        high: whole.high,
-    };
-    let lower = Stretch {
-        low: whole.low,
-        high: whole.high - cut,
-    };
-    if round % 2 == 0 {
-        (upper, lower)
+    if whole.high - whole.low < count {
+        whole
+    } else if first {
+        Stretch {
+            low: whole.low + count,
+            high: whole.high,
+        }
     } else {
-        (lower, upper)
+        Stretch {
+            low: whole.low,
+            high: whole.high - count,
+        }
     }
 }
 
