@@ -64,7 +64,7 @@ fn compare_fields(heap: &Heap, fields: &[Slot], others: &[Slot], bound: u32) -> 
     Outcome::Same(left)
 }
 
-// Compares the constructors of two other words, and the numbers of their arguments.
+// Compares the constructors of two other words, and the numbers of their arguments. Words without cells need no look at them.
 #[inline(never)]
 fn compare_headers(heap: &Heap, one: Word, other: Word) -> Outcome
     requires one { IsBelow (length heap.now) one }
@@ -72,6 +72,9 @@ fn compare_headers(heap: &Heap, one: Word, other: Word) -> Outcome
     requires apart { one ≡ other → ⊥ }
     ensures { (bound : ℕ) → Tells (value_of heap.now one ≡ value_of heap.now other) bound result }
 {
+    if is_no_cell(one) && is_no_cell(other) {
+        return Outcome::Apart;
+    }
     if are_alike(heap, &one, &other) {
         Outcome::Open
     } else {
@@ -97,6 +100,17 @@ pub(crate) fn are_alike(heap: &Heap, one: &Word, other: &Word) -> bool
         return false;
     };
     is_one_header(symbol, other_symbol, count, other_count)
+}
+
+// Whether a word leads to no cell. Two such words stand for one value only where they are one.
+#[inline(always)]
+pub(crate) fn is_no_cell(word: Word) -> bool
+    ensures { IsTrue result → (place : ℕ) → word ≡ Word.Cell place → ⊥ }
+{
+    match word {
+        Word::Cell(_) => false,
+        _ => true,
+    }
 }
 
 // Whether two constructors are one, and have as many arguments.

@@ -5,7 +5,7 @@ ghost use Rattle.merc_heap.specs.Heap.{arguments_in};
 ghost use Rattle.merc_heap.specs.Equality.{AreSame, Meets, Notes, pairs};
 
 use crate::Heap;
-use crate::comparison::{Outcome, are_alike, compare_words};
+use crate::comparison::{Outcome, are_alike, compare_words, is_no_cell};
 use indexmap::IndexSet;
 use merc_base::NoMemory;
 use merc_value::Word;
@@ -89,17 +89,6 @@ impl Heap {
             next += 1;
         }
         Ok(true)
-    }
-}
-
-// Whether a word leads to no cell. Two such words stand for one value only where they are one.
-#[inline(always)]
-fn is_no_cell(word: Word) -> bool
-    ensures { IsTrue result → (place : ℕ) → word ≡ Word.Cell place → ⊥ }
-{
-    match word {
-        Word::Cell(_) => false,
-        _ => true,
     }
 }
 
