@@ -359,6 +359,9 @@ module _ (fs : List Functor) (slots : List Field) (place arity : ℕ) (flat : Is
   arity_there : arity ≡ functor_there.arity
   arity_there = omega (arith, count, ap length fields_there, room_there, count_up_to, length-map (drop (place + 1 - functor_there.arity) (take (place + 1) slots)) word_of, length-drop (place + 1 - functor_there.arity) (take (place + 1) slots))
 
+  pub arity_within : arity ≤ place + 1
+  arity_within = omega (arith, arity_there, room_there)
+
   pub fields_ending : map word_of (slice_range slots (place + 1 - arity) (place + 1)) ≡ (cell_ending fs slots place).arguments
   fields_ending =
       ap (map word_of) (sym (range_is slots (place + 1 - arity) (place + 1) (omega arith)))

@@ -37,7 +37,7 @@ pub(crate) fn compare_words(heap: &Heap, one: Word, other: Word, bound: u32) -> 
         if let Word::Cell(other_place) = other {
             if bound > 0 && heap.are_numbered_alike(place, other_place) {
                 let (_, fields) = heap.cell(place);
-                let (_, others) = heap.cell(other_place);
+                let others = heap.fields(other_place, fields.len());
                 return compare_fields(heap, fields, others, bound - 1);
             }
         }
@@ -65,7 +65,7 @@ fn compare_fields(heap: &Heap, fields: &[Slot], others: &[Slot], bound: u32) -> 
 }
 
 // Compares the constructors of two other words, and the numbers of their arguments. Words without cells need no look at them.
-#[inline(never)]
+#[inline(always)]
 fn compare_headers(heap: &Heap, one: Word, other: Word) -> Outcome
     requires one { IsBelow (length heap.now) one }
     requires other { IsBelow (length heap.now) other }
@@ -82,7 +82,8 @@ fn compare_headers(heap: &Heap, one: Word, other: Word) -> Outcome
     }
 }
 
-// Whether two other words are those of one constructor with as many arguments.
+// Whether two other words are those of one constructor with as many arguments. That is seldom asked.
+#[inline(never)]
 pub(crate) fn are_alike(heap: &Heap, one: &Word, other: &Word) -> bool
     requires one { IsBelow (length heap.now) one.now }
     requires other { IsBelow (length heap.now) other.now }

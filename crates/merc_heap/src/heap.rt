@@ -1,5 +1,5 @@
 //! The heap: one flat list of cells.
-ghost use Rattle.std.specs.Prelude.{◌≡◌, ◌+◌, ◌++◌, ◌∷◌, ◌<◌, ◌≤◌, [], Some, length, map, take, slice_get, IfOk, IsTrue, OnOk, OnErr};
+ghost use Rattle.std.specs.Prelude.{◌≡◌, ◌+◌, ◌-◌, ◌++◌, ◌∷◌, ◌<◌, ◌≤◌, [], Some, length, map, take, slice_get, slice_range, IfOk, IsTrue, OnOk, OnErr};
 ghost use Rattle.std.specs.List.{All};
 ghost use Rattle.std.specs.Vec.{vec_len, vec_capacity};
 ghost use Rattle.merc_value.specs.Value.{Con};
@@ -133,6 +133,16 @@ impl Heap {
         have_one_number(&self.functors, &self.slots, place, other)
     }
 
+    // The fields of the cell at a place, which has so many.
+    #[inline(always)]
+    pub(crate) fn fields(&self, place: usize, count: usize) -> &[Slot]
+        requires place { place < length self.now }
+        requires count { count ≡ length (arguments_in self.now (Word.Cell place)) }
+        ensures { map word_of result.now ≡ arguments_in self.now (Word.Cell place) }
+    {
+        slots_ending(&self.slots, place, count)
+    }
+
     /// The number of the fields of a word, 0 for all but a cell.
     pub fn arity(&self, word: Word) -> usize
         requires { IsBelow (length self.now) word }
@@ -210,8 +220,18 @@ fn cell_at<'a>(functors: &Functors, slots: &'a [Slot], place: usize) -> (Name, &
     ensures fields { map word_of result.1.now ≡ (cell_ending functors.now slots.now place).arguments }
 {
     let functor = functor_at(functors, slots, place);
+    (functor.symbol, slots_ending(slots, place, functor.arity))
+}
+
+// So many slots, of which the last is the one at a place.
+#[inline(always)]
+fn slots_ending(slots: &[Slot], place: usize, count: usize) -> &[Slot]
+    requires within { place < length slots.now }
+    requires count { count ≤ place + 1 }
+    ensures { result.now ≡ slice_range slots.now (place + 1 - count) (place + 1) }
+{
     let end = place + 1;
-    (functor.symbol, &slots[end - functor.arity..end])
+    &slots[end - count..end]
 }
 
 // The field of this number of the cell that ends at a place, from 0.

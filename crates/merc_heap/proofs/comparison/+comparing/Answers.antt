@@ -49,14 +49,18 @@ compare_fields-returns t c = (
   c.loop-index.invariant.left,
 )
 
+pub compare_words-fields-others-requires-clause-count : goal.compare_words-fields-others-requires-clause-count
+compare_words-fields-others-requires-clause-count t c =
+    sym (length-map c.cell.result.1.now word_of) ∙ ap length c.cell.ensures.fields ∙ c.if-are_numbered_alike.ensures.count refl
+
 pub compare_words-returns-then-are_numbered_alike : goal.compare_words-returns-then-are_numbered_alike
 compare_words-returns-then-are_numbered_alike t c =
     told_of_fields c.args.heap.now c.cell.ensures.lower c.args.one c.args.other c.requires.one c.requires.other
     (cells_alike c.args.heap.now c.args.one c.args.other c.in-Cell.place c.in-Cell-other.other_place c.cell.result.0 c.in-Cell.is c.in-Cell-other.is c.cell.ensures.symbol
     (c.if-are_numbered_alike.ensures.symbol refl) (c.if-are_numbered_alike.ensures.count refl))
-    (map word_of c.cell.result.1.now) (map word_of c.cell-then-are_numbered_alike.result.1.now) (c.args.bound - 1) c.args.bound c.compare_fields.result
+    (map word_of c.cell.result.1.now) (map word_of c.fields-others.result.now) (c.args.bound - 1) c.args.bound c.compare_fields.result
     (c.cell.ensures.fields ∙ ap (arguments_in c.args.heap.now) (sym c.in-Cell.is))
-    (c.cell-then-are_numbered_alike.ensures.fields ∙ ap (arguments_in c.args.heap.now) (sym c.in-Cell-other.is))
+    (c.fields-others.ensures ∙ ap (arguments_in c.args.heap.now) (sym c.in-Cell-other.is))
     (omega arith) c.compare_fields.ensures
 
 pub compare_words-returns : goal.compare_words-returns
