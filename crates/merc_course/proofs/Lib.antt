@@ -1,0 +1,5 @@
+pub mod Wholes
+pub mod Replies
+pub mod Alike
+pub mod Depths
+pub mod Beginnings

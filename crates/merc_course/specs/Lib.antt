@@ -1,0 +1,13 @@
+pub mod Course
+pub mod CourseExamples
+pub mod Known
+pub mod KnownExamples
+pub mod Shown
+pub mod ShownExamples
+pub mod Variables
+pub mod VariablesExamples
+pub mod Courses
+pub mod CoursesExamples
+pub mod ForkExamples
+pub mod Alone
+pub mod AloneExamples
