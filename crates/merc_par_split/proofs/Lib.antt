@@ -1,0 +1,5 @@
+pub mod SameTraces
+pub mod Erasing
+pub mod Counting
+pub mod Numbering
+pub mod Agreeing
