@@ -2,6 +2,7 @@ pub mod Rights
 pub mod RightsExamples
 pub mod Forks
 pub mod Split
+pub mod Sites
 pub mod Tasks
 pub mod SplitLaws
 pub mod SplitLawsExamples

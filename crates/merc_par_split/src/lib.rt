@@ -6,7 +6,9 @@ pub mod laws;
 mod members;
 mod occurrences;
 mod rights;
+pub mod sites;
 pub mod splitting;
 mod tasks;
 
+pub use sites::{CellInfo, Moved, SiteInfo};
 pub use splitting::split;

@@ -9,8 +9,8 @@ use merc_base::NoMemory;
 use merc_graded_tree::{NodeRef, Nodes};
 use std::alloc::Global;
 
-/// Puts the split tree of a goal behind the others, and answers the number of the next site. The parallel conjunctions of
-/// the goal have the sites from `site` on, in the order of the text.
+/// Puts the split tree of a goal behind the others, and its sites behind the others. The parallel conjunctions of the goal
+/// have the sites from the number of those before on, in the order of the text.
 ///
 /// Where waits and signals stand: docs/LANGUAGE.md, “Parallel conjunction”. With n the number of the goal's parts and of the
 /// variables in them, and for each variable that conjuncts hand on the number of goals through which its waits and signals go,
@@ -21,19 +21,18 @@ use std::alloc::Global;
 /// `NoMemory` where memory was refused.
 pub fn split(
     alloc: Global,
-    site: usize,
     goal: &NodeRef<'_>,
     nodes: &mut Nodes,
-) -> Result<usize, NoMemory>
-    ensures tree { OnOk result (nodes.new ≡ nodes.old ++ split site goal.now ∷ []) }
-    ensures next { IfOk result (λ next. next ≡ site + forks goal.now) }
+    sites: &mut Vec<SiteInfo>,
+) -> Result<(), NoMemory>
+    ensures tree { OnOk result (nodes.new ≡ nodes.old ++ split (length sites.old.items) goal.now ∷ []) }
+    ensures sites { OnOk result (sites.new.items ≡ sites.old.items ++ sites goal.now) }
 {
     let occurrences = Occurrences::of(alloc, goal)?;
-    let mut next = site;
     let mut tasks = Vec::new(alloc);
     tasks.push(Task::alone(alloc, goal.copy(), 0))?;
     while let Some(task) = tasks.pop() {
-        perform(alloc, &occurrences, task, &mut next, &mut tasks, nodes)?;
+        perform(alloc, &occurrences, task, &mut tasks, nodes, sites)?;
     }
-    Ok(next)
+    Ok(())
 }
