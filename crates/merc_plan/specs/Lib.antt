@@ -1,0 +1,6 @@
+pub mod Branch
+pub mod Hold
+pub mod Branches
+pub mod BranchScript
+pub mod Plays
+pub mod Stands

@@ -1,0 +1,4 @@
+//! Laws of the courses and scripts of branches.
+
+/// Nothing yet.
+pub fn nothing() {}
