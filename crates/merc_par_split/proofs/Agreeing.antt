@@ -63,12 +63,12 @@ mutual
       ap (λ all. node (Conjunction Sequential all) outputs category span) (in_turn_agrees goals site later other waits signals h)
   goal_agrees (Conjunction (Parallel unknown) goals) site later other waits signals outputs category span h =
       let behind = map (λ variable. wait_at span (right_to 0 variable)) outputs in
-      let fork = λ moved. node (Conjunction (Parallel (Some (record { number = site }))) (placed_conjuncts (suc site) 1 outputs moved signals [] goals)) outputs category span in
+      let fork : List Right → Node = λ moved. node (Conjunction (Parallel (Some (record { number = site }))) (placed_conjuncts (suc site) 1 outputs moved signals [] goals)) outputs category span in
       ap (λ staying. between staying (fork (those (moves_in later goals) waits)) behind) (staying_same later other goals waits h)
       ∙ ap (λ moved. between (those (λ variable. not (moves_in other goals variable)) waits) (fork moved) behind) (moving_same later other goals waits h)
   goal_agrees (Disjunction goals) site later other waits signals outputs category span h = refl
   goal_agrees (Switch variable arms) site later other waits signals outputs category span h =
-      let is_other = λ x. not (x == variable) in
+      let is_other : ℕ → Bool = λ x. not (x == variable) in
       ap (λ all. around (those (λ x. x == variable) waits) [] (node (Switch variable all) outputs category span))
       (arms_agree arms site later other (those is_other waits) signals (agree_those is_other later other waits h))
   goal_agrees (Conditional condition then_part else_part) site later other waits signals outputs category span h =
@@ -96,8 +96,8 @@ mutual
       → placed_in_turn site later waits signals goals ≡ placed_in_turn site other waits signals goals
   in_turn_agrees no_nodes site later other waits signals h = refl
   in_turn_agrees (more_nodes first rest) site later other waits signals h =
-      let here = λ variable. later variable || in_nodes rest variable in
-      let there = λ variable. other variable || in_nodes rest variable in
+      let here : ℕ → Bool = λ variable. later variable || in_nodes rest variable in
+      let there : ℕ → Bool = λ variable. other variable || in_nodes rest variable in
       let used = agree_or (in_nodes rest) later other (used_in first waits) (agree_those (in_node first) later other waits h) in
       ap (λ n. more_nodes n (placed_in_turn (site + forks first) later (unused_in first waits) (unbound_in first signals) rest))
       (placed_agrees first site here there (used_in first waits) (bound_in first signals) used)

@@ -149,7 +149,7 @@ mutual
   in_turn_alike : (goals : Nodes) (site : ℕ) (later : ℕ → Bool) (waits signals : List Right) → AllAlike goals (placed_in_turn site later waits signals goals)
   in_turn_alike no_nodes site later waits signals = record { as_many = refl; same_calls = refl }
   in_turn_alike (more_nodes first rest) site later waits signals =
-      let here = λ variable. later variable || in_nodes rest variable in
+      let here : ℕ → Bool = λ variable. later variable || in_nodes rest variable in
       more_alike first (placed site here (used_in first waits) (bound_in first signals) first) rest
       (placed_in_turn (site + forks first) later (unused_in first waits) (unbound_in first signals) rest)
       (placed_alike first site here (used_in first waits) (bound_in first signals)) (in_turn_alike rest (site + forks first) later (unused_in first waits) (unbound_in first signals))

@@ -165,7 +165,7 @@ mutual
   in_turn_stand : (goals : Nodes) (site : ℕ) (later : ℕ → Bool) (waits signals : List Right) → AllUnsplit goals → StandFor goals (placed_in_turn site later waits signals goals)
   in_turn_stand no_nodes site later waits signals h = record { no_marks = refl; same = refl }
   in_turn_stand (more_nodes first rest) site later waits signals (h, k) =
-      let here = λ variable. later variable || in_nodes rest variable in
+      let here : ℕ → Bool = λ variable. later variable || in_nodes rest variable in
       more_stand first (placed site here (used_in first waits) (bound_in first signals) first) rest
       (placed_in_turn (site + forks first) later (unused_in first waits) (unbound_in first signals) rest)
       (placed_stands first site here (used_in first waits) (bound_in first signals) h)

@@ -107,7 +107,7 @@ mutual
   in_turn_sites : (goals : Nodes) (site : ℕ) (later : ℕ → Bool) (waits signals : List Right) → all_sites (placed_in_turn site later waits signals goals) ≡ sites_from site (all_forks goals)
   in_turn_sites no_nodes site later waits signals = refl
   in_turn_sites (more_nodes first rest) site later waits signals =
-      let here = λ variable. later variable || in_nodes rest variable in
+      let here : ℕ → Bool = λ variable. later variable || in_nodes rest variable in
       both_sites site (forks first) (all_forks rest) (sites_of (placed site here (used_in first waits) (bound_in first signals) first))
       (all_sites (placed_in_turn (site + forks first) later (unused_in first waits) (unbound_in first signals) rest))
       (placed_sites first site here (used_in first waits) (bound_in first signals)) (in_turn_sites rest (site + forks first) later (unused_in first waits) (unbound_in first signals))

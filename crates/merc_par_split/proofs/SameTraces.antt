@@ -185,7 +185,7 @@ module _ (program other : Program) (call : Procedure → Env → Trace) (calls :
         → all (placed_in_turn site later waits signals goals) env ≡ all_trace program call goals env
     in_turn_same no_nodes site later waits signals env = refl
     in_turn_same (more_nodes first rest) site later waits signals env =
-        let here = λ variable. later variable || in_nodes rest variable in
+        let here : ℕ → Bool = λ variable. later variable || in_nodes rest variable in
         each_same (λ inner. all (placed_in_turn (site + forks first) later (unused_in first waits) (unbound_in first signals) rest) inner) (λ inner. all_trace program call rest inner)
         (λ inner. in_turn_same rest (site + forks first) later (unused_in first waits) (unbound_in first signals) inner)
         (new (placed site here (used_in first waits) (bound_in first signals) first) env)
