@@ -12,7 +12,7 @@ use Rattle.merc_par_split.specs.Forks.{forks}
 use Rattle.merc_par_split.specs.Split.{may_fail, nothing, moves_in, placed, placed_goal, placed_in_turn, placed_conjuncts, placed_arms, placed_alone}
 
 -- two ways to say what is used behind, which are the same at the variables of rights
-pub Agree : (ℕ → Bool) → (ℕ → Bool) → List Right → Type 0
+abbrev pub Agree : (ℕ → Bool) → (ℕ → Bool) → List Right → Type 0
 Agree later other [] = Unit {0}
 Agree later other (first ∷ rest) = (later first.variable ≡ other first.variable) × Agree later other rest
 
@@ -49,6 +49,15 @@ staying_same later other goals (first ∷ rest) (h, k) =
         else those (λ variable. not (moves_in later goals variable)) rest) h
     ∙ ap (λ l. if not (moves_in other goals first.variable) then first ∷ l else l) (staying_same later other goals rest k)
 
+-- an arm, and a part of a conditional, with the waits at its end
+arm_agrees : (body : Node) (site : ℕ) (later other : ℕ → Bool) (waits signals : List Right) → Agree later other waits
+    → placed site later (used_in body waits) (bound_in body signals) body ≡ placed site other (used_in body waits) (bound_in body signals) body
+    → ahead_of (placed site later (used_in body waits) (bound_in body signals) body) (passed_by later body waits)
+    ≡ ahead_of (placed site other (used_in body waits) (bound_in body signals) body) (passed_by other body waits)
+arm_agrees body site later other waits signals h same =
+    ap (λ n. ahead_of n (passed_by later body waits)) same
+    ∙ ap (λ l. ahead_of (placed site other (used_in body waits) (bound_in body signals) body) l) (passed_same later other body waits h)
+
 mutual
   pub placed_agrees : (n : Node) (site : ℕ) (later other : ℕ → Bool) (waits signals : List Right) → Agree later other waits
       → placed site later waits signals n ≡ placed site other waits signals n
@@ -75,8 +84,11 @@ mutual
       let inner = unused_in condition waits in
       let k = agree_those (λ variable. not (in_node condition variable)) later other waits h in
       let first = placed site nothing [] [] condition in
-      let one = arm_agrees then_part (site + forks condition) later other inner signals k in
-      let two = arm_agrees else_part (site + forks condition + forks then_part) later other inner signals k in
+      let one = arm_agrees then_part (site + forks condition) later other inner signals k
+          (placed_agrees then_part (site + forks condition) later other (used_in then_part inner) (bound_in then_part signals) (agree_those (in_node then_part) later other inner k)) in
+      let two = arm_agrees else_part (site + forks condition + forks then_part) later other inner signals k
+          (placed_agrees else_part (site + forks condition + forks then_part) later other (used_in else_part inner) (bound_in else_part signals)
+          (agree_those (in_node else_part) later other inner k)) in
       ap (λ n. around (used_in condition waits) [] (node (Conditional first n
           (ahead_of (placed (site + forks condition + forks then_part) later (used_in else_part inner) (bound_in else_part signals) else_part) (passed_by later else_part inner))) outputs category span)) one
       ∙ ap (λ n. around (used_in condition waits) [] (node (Conditional first
@@ -84,13 +96,6 @@ mutual
   goal_agrees (Negation goal) site later other waits signals outputs category span h = refl
   goal_agrees (Quantified own goal) site later other waits signals outputs category span h =
       ap (λ n. node (Quantified own n) outputs category span) (placed_agrees goal site later other waits signals h)
-
-  arm_agrees : (body : Node) (site : ℕ) (later other : ℕ → Bool) (waits signals : List Right) → Agree later other waits
-      → ahead_of (placed site later (used_in body waits) (bound_in body signals) body) (passed_by later body waits)
-      ≡ ahead_of (placed site other (used_in body waits) (bound_in body signals) body) (passed_by other body waits)
-  arm_agrees body site later other waits signals h =
-      ap (λ n. ahead_of n (passed_by later body waits)) (placed_agrees body site later other (used_in body waits) (bound_in body signals) (agree_those (in_node body) later other waits h))
-      ∙ ap (λ l. ahead_of (placed site other (used_in body waits) (bound_in body signals) body) l) (passed_same later other body waits h)
 
   in_turn_agrees : (goals : Nodes) (site : ℕ) (later other : ℕ → Bool) (waits signals : List Right) → Agree later other waits
       → placed_in_turn site later waits signals goals ≡ placed_in_turn site other waits signals goals
@@ -108,6 +113,8 @@ mutual
       → placed_arms site later waits signals arms ≡ placed_arms site other waits signals arms
   arms_agree no_arms site later other waits signals h = refl
   arms_agree (more_arms symbol body rest) site later other waits signals h =
-      ap (λ n. more_arms symbol n (placed_arms (site + forks body) later waits signals rest)) (arm_agrees body site later other waits signals h)
+      ap (λ n. more_arms symbol n (placed_arms (site + forks body) later waits signals rest))
+      (arm_agrees body site later other waits signals h
+      (placed_agrees body site later other (used_in body waits) (bound_in body signals) (agree_those (in_node body) later other waits h)))
       ∙ ap (λ a. more_arms symbol (ahead_of (placed site other (used_in body waits) (bound_in body signals) body) (passed_by other body waits)) a)
       (arms_agree rest (site + forks body) later other waits signals h)

@@ -2,6 +2,7 @@
 -- det, `test(in)` is semidet. V is bound before, to `red` or `green`; E is a text. The other variables occur nowhere else, but for those that are said to be
 -- used behind. A goal with waits before it, or waits and signals behind it, is one conjunction with them, in its place.
 use Rattle.std.specs.Prelude.{◌≡◌, ℕ, pos, List, [], ◌∷◌, Option, Some, None, refl}
+use Rattle.std.proofs.Common.{◌∙◌, sym}
 use Rattle.merc_base.specs.declared.category.Category.{Category}
 use Rattle.merc_base.specs.declared.category.Category.TheVariants.{Det, Semidet, Erroneous, Failure}
 use Rattle.merc_base.specs.declared.place.Span.{Span}
@@ -343,9 +344,13 @@ wait_at_end_of_else_part : split 0 (beside [] (is_one x ∷ seq [] (if_test [] v
 wait_at_end_of_else_part = refl
 
 -- not before the conditional
+parts_or_before : fork 0 [] (one_for x (signal x 2 ∷ []) ∷ seq [] (if_test [] v (waits_and_uses x 2) (seq [] (uses v ∷ wait x 2 ∷ [])) ∷ uses x ∷ []) ∷ [])
+    ≡ fork 0 [] (one_for x (signal x 2 ∷ []) ∷ seq [] (seq [] (wait x 2 ∷ if_test [] v (uses x) (uses v) ∷ []) ∷ uses x ∷ []) ∷ []) → ⊥
+parts_or_before same = cc
+
 no_wait_before_conditional : split 0 (beside [] (is_one x ∷ seq [] (if_test [] v (uses x) (uses v) ∷ uses x ∷ []) ∷ []))
     ≡ fork 0 [] (one_for x (signal x 2 ∷ []) ∷ seq [] (seq [] (wait x 2 ∷ if_test [] v (uses x) (uses v) ∷ []) ∷ uses x ∷ []) ∷ []) → ⊥
-no_wait_before_conditional wrong = cc
+no_wait_before_conditional wrong = parts_or_before (sym wait_at_end_of_else_part ∙ wrong)
 
 -- `X = 1 & ( if test(V) then error(E) else use(X) ), use(X)`: so does a part whose end is never reached
 wait_at_end_of_erroneous_part : split 0 (beside [] (is_one x ∷ seq [] (if_test [] v raises (uses x) ∷ uses x ∷ []) ∷ []))
