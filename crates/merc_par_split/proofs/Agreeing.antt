@@ -1,15 +1,14 @@
 -- A goal's split tree hangs on what is used behind it only at the variables for which it waits.
-use Rattle.std.specs.Prelude.{◌≡◌, ℕ, suc, ◌+◌, Bool, true, false, ◌==◌, ◌&&◌, ◌||◌, not, List, [], ◌∷◌, ◌++◌, length, map, Option, Some, None, if◌then◌else◌, refl}
+use Rattle.std.specs.Prelude.{◌≡◌, ℕ, suc, ◌+◌, Bool, true, false, ◌==◌, ◌&&◌, ◌||◌, not, List, [], ◌∷◌, length, map, Option, Some, if◌then◌else◌, refl}
 use Rattle.std.proofs.Common.{◌∙◌, ap}
 use Rattle.merc_base.specs.declared.category.Category.{Category}
 use Rattle.merc_base.specs.declared.place.Span.{Span}
-use Rattle.merc_graded_tree.specs.declared.entries.Running.{Running}
 use Rattle.merc_graded_tree.specs.declared.entries.Running.TheVariants.{Sequential, Parallel}
 use Rattle.merc_graded_tree.specs.Nodes.{Node, node, Goal, Basic, Conjunction, Disjunction, Switch, Conditional, Negation, Quantified, Nodes, no_nodes, more_nodes, Arms, no_arms, more_arms}
 use Rattle.merc_graded_tree.specs.Variables.{in_node, in_nodes}
 use Rattle.merc_par_split.specs.Rights.{Right, right_to, those, used_in, unused_in, passed_by, bound_in, unbound_in, wait_at, between, around, ahead_of, users}
 use Rattle.merc_par_split.specs.Forks.{forks}
-use Rattle.merc_par_split.specs.Split.{may_fail, nothing, moves_in, placed, placed_goal, placed_in_turn, placed_conjuncts, placed_arms, placed_alone}
+use Rattle.merc_par_split.specs.Split.{may_fail, nothing, moves_in, placed, placed_goal, placed_in_turn, placed_conjuncts, placed_arms}
 
 -- two ways to say what is used behind, which are the same at the variables of rights
 abbrev pub Agree : (ℕ → Bool) → (ℕ → Bool) → List Right → Type 0
@@ -46,7 +45,7 @@ staying_same : (later other : ℕ → Bool) (goals : Nodes) (rights : List Right
 staying_same later other goals [] h = refl
 staying_same later other goals (first ∷ rest) (h, k) =
     ap (λ b. if not (not b && (length (users 1 goals first.variable) == 1)) then first ∷ those (λ variable. not (moves_in later goals variable)) rest
-        else those (λ variable. not (moves_in later goals variable)) rest) h
+    else those (λ variable. not (moves_in later goals variable)) rest) h
     ∙ ap (λ l. if not (moves_in other goals first.variable) then first ∷ l else l) (staying_same later other goals rest k)
 
 -- an arm, and a part of a conditional, with the waits at its end
@@ -85,14 +84,14 @@ mutual
       let k = agree_those (λ variable. not (in_node condition variable)) later other waits h in
       let first = placed site nothing [] [] condition in
       let one = arm_agrees then_part (site + forks condition) later other inner signals k
-          (placed_agrees then_part (site + forks condition) later other (used_in then_part inner) (bound_in then_part signals) (agree_those (in_node then_part) later other inner k)) in
+      (placed_agrees then_part (site + forks condition) later other (used_in then_part inner) (bound_in then_part signals) (agree_those (in_node then_part) later other inner k)) in
       let two = arm_agrees else_part (site + forks condition + forks then_part) later other inner signals k
-          (placed_agrees else_part (site + forks condition + forks then_part) later other (used_in else_part inner) (bound_in else_part signals)
-          (agree_those (in_node else_part) later other inner k)) in
+      (placed_agrees else_part (site + forks condition + forks then_part) later other (used_in else_part inner) (bound_in else_part signals)
+      (agree_those (in_node else_part) later other inner k)) in
       ap (λ n. around (used_in condition waits) [] (node (Conditional first n
-          (ahead_of (placed (site + forks condition + forks then_part) later (used_in else_part inner) (bound_in else_part signals) else_part) (passed_by later else_part inner))) outputs category span)) one
+      (ahead_of (placed (site + forks condition + forks then_part) later (used_in else_part inner) (bound_in else_part signals) else_part) (passed_by later else_part inner))) outputs category span)) one
       ∙ ap (λ n. around (used_in condition waits) [] (node (Conditional first
-          (ahead_of (placed (site + forks condition) other (used_in then_part inner) (bound_in then_part signals) then_part) (passed_by other then_part inner)) n) outputs category span)) two
+      (ahead_of (placed (site + forks condition) other (used_in then_part inner) (bound_in then_part signals) then_part) (passed_by other then_part inner)) n) outputs category span)) two
   goal_agrees (Negation goal) site later other waits signals outputs category span h = refl
   goal_agrees (Quantified own goal) site later other waits signals outputs category span h =
       ap (λ n. node (Quantified own n) outputs category span) (placed_agrees goal site later other waits signals h)

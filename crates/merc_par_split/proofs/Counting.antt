@@ -1,14 +1,13 @@
 -- The split tree has as many parallel conjunctions as the graded one, and calls the same procedures.
-use Rattle.std.specs.Prelude.{◌≡◌, ℕ, suc, ◌+◌, Bool, true, false, ◌==◌, ◌&&◌, ◌||◌, not, List, [], ◌∷◌, ◌++◌, map, Option, Some, None, if◌then◌else◌, refl}
+use Rattle.std.specs.Prelude.{◌≡◌, ℕ, suc, ◌+◌, Bool, true, false, ◌==◌, ◌||◌, not, List, [], ◌∷◌, ◌++◌, map, Option, Some, if◌then◌else◌, refl}
 use Rattle.std.specs.List.{flat_map}
 use Rattle.std.proofs.Common.{◌∙◌, ap, add-zero, zero-add}
 use Rattle.std.proofs.lemmas.List.{append-nil}
 use Rattle.merc_base.specs.declared.category.Category.{Category}
 use Rattle.merc_base.specs.declared.place.Span.{Span}
-use Rattle.merc_graded_tree.specs.declared.entries.Running.{Running}
 use Rattle.merc_graded_tree.specs.declared.entries.Running.TheVariants.{Sequential, Parallel}
 use Rattle.merc_graded_tree.specs.Nodes.{Node, node, Goal, Basic, Conjunction, Disjunction, Switch, Conditional, Negation, Quantified, Nodes, no_nodes, more_nodes, Arms, no_arms, more_arms, nodes_of, outputs_of}
-use Rattle.merc_graded_tree.specs.Variables.{in_node, in_nodes}
+use Rattle.merc_graded_tree.specs.Variables.{in_nodes}
 use Rattle.merc_par_split.specs.Rights.{Right, right_to, those, used_in, unused_in, passed_by, bound_in, unbound_in, wait_at, signal_at, between, around, ahead_of, signals_of}
 use Rattle.merc_par_split.specs.Forks.{forks, all_forks, arm_forks}
 use Rattle.merc_par_split.specs.Split.{may_fail, nothing, moves_in, placed, placed_goal, placed_in_turn, placed_conjuncts, placed_arms, placed_alone, split}
@@ -131,7 +130,7 @@ mutual
       let first = placed_alike condition site nothing [] [] in
       let second = ahead_alike (passed_by later then_part inner) then_part two (placed_alike then_part (site + forks condition) later (used_in then_part inner) (bound_in then_part signals)) in
       let third = ahead_alike (passed_by later else_part inner) else_part three
-          (placed_alike else_part (site + forks condition + forks then_part) later (used_in else_part inner) (bound_in else_part signals)) in
+      (placed_alike else_part (site + forks condition + forks then_part) later (used_in else_part inner) (bound_in else_part signals)) in
       around_alike (used_in condition waits) [] (node (Conditional condition then_part else_part) outputs category span) (node (Conditional one two_ahead three_ahead) outputs category span)
       (record {
         as_many = ap (λ n. n + (forks two_ahead + forks three_ahead)) first.as_many ∙ ap (λ n. forks condition + (n + forks three_ahead)) second.as_many
@@ -169,7 +168,7 @@ mutual
       let arm = ahead_of (placed site later (used_in body waits) (bound_in body signals) body) (passed_by later body waits) in
       let others = placed_arms (site + forks body) later waits signals rest in
       let first = ahead_alike (passed_by later body waits) body (placed site later (used_in body waits) (bound_in body signals) body)
-          (placed_alike body site later (used_in body waits) (bound_in body signals)) in
+      (placed_alike body site later (used_in body waits) (bound_in body signals)) in
       let inner = arms_alike rest (site + forks body) later waits signals in
       record {
         as_many = ap (λ n. n + arm_forks others) first.as_many ∙ ap (λ n. forks body + n) inner.as_many;

@@ -1,18 +1,17 @@
 -- Without its waits, signals and sites the split tree is the graded one.
-use Rattle.std.specs.Prelude.{◌≡◌, ℕ, suc, ◌+◌, Bool, true, false, ◌==◌, ◌&&◌, ◌||◌, not, List, [], ◌∷◌, ◌++◌, map, Option, Some, None, if◌then◌else◌, refl}
+use Rattle.std.specs.Prelude.{◌≡◌, ℕ, suc, ◌+◌, Bool, true, false, ◌==◌, ◌||◌, not, List, [], ◌∷◌, ◌++◌, map, Option, Some, if◌then◌else◌, refl}
 use Rattle.std.specs.List.{flat_map}
 use Rattle.std.proofs.Common.{◌∙◌, ap}
 use Rattle.merc_base.specs.declared.category.Category.{Category}
 use Rattle.merc_base.specs.declared.place.Span.{Span}
-use Rattle.merc_graded_tree.specs.declared.basic.BasicGoal.{BasicGoal}
 use Rattle.merc_graded_tree.specs.declared.entries.Running.{Running}
 use Rattle.merc_graded_tree.specs.declared.entries.Running.TheVariants.{Sequential, Parallel}
 use Rattle.merc_graded_tree.specs.Nodes.{Node, node, Goal, Basic, Conjunction, Disjunction, Switch, Conditional, Negation, Quantified, Nodes, no_nodes, more_nodes, Arms, no_arms, more_arms, nodes_of, outputs_of}
-use Rattle.merc_graded_tree.specs.Variables.{in_node, in_nodes}
+use Rattle.merc_graded_tree.specs.Variables.{in_nodes}
 use Rattle.merc_par_split.specs.Rights.{Right, right_to, those, used_in, unused_in, passed_by, bound_in, unbound_in, wait_at, signal_at, between, around, ahead_of, signals_of}
 use Rattle.merc_par_split.specs.Forks.{forks}
 use Rattle.merc_par_split.specs.Split.{may_fail, nothing, moves_in, placed, placed_goal, placed_in_turn, placed_conjuncts, placed_arms, placed_alone, split}
-use Rattle.merc_par_split.specs.SplitLaws.{is_mark, is_marked_goal, marks, any_marks, unsited, first_if, erased, erased_all, erased_arms, Unsplit, UnsplitGoal, AllUnsplit, ArmsUnsplit}
+use Rattle.merc_par_split.specs.SplitLaws.{marks, any_marks, unsited, first_if, erased, erased_all, erased_arms, Unsplit, UnsplitGoal, AllUnsplit, ArmsUnsplit}
 
 -- A goal of the split tree stands for one of the graded tree: it is no wait and no signal, and without those it is that goal.
 pub record StandsFor (tree whole : Node) : Type 0 where
@@ -143,7 +142,7 @@ mutual
       let first = placed_stands condition site nothing [] [] h in
       let second = ahead_stands (passed_by later then_part inner) then_part two (placed_stands then_part (site + forks condition) later (used_in then_part inner) (bound_in then_part signals) k) in
       let third = ahead_stands (passed_by later else_part inner) else_part three
-          (placed_stands else_part (site + forks condition + forks then_part) later (used_in else_part inner) (bound_in else_part signals) l) in
+      (placed_stands else_part (site + forks condition + forks then_part) later (used_in else_part inner) (bound_in else_part signals) l) in
       let then_erased = erased (ahead_of two (passed_by later then_part inner)) in
       let else_erased = erased (ahead_of three (passed_by later else_part inner)) in
       around_stands (used_in condition waits) [] (node (Conditional condition then_part else_part) outputs category span)

@@ -1,5 +1,5 @@
 -- The split tree has the graded tree's trace.
-use Rattle.std.specs.Prelude.{◌≡◌, ℕ, suc, zero, ◌+◌, Bool, true, false, ◌==◌, ◌&&◌, ◌||◌, not, List, [], ◌∷◌, ◌++◌, map, Option, Some, None, if◌then◌else◌, refl}
+use Rattle.std.specs.Prelude.{◌≡◌, ℕ, suc, zero, ◌+◌, Bool, true, false, ◌==◌, ◌||◌, not, List, [], ◌∷◌, ◌++◌, map, Option, Some, None, if◌then◌else◌, refl}
 use Rattle.std.specs.Option.{option_map}
 use Rattle.std.specs.List.{flat_map}
 use Rattle.std.proofs.Common.{◌∙◌, ap}
@@ -10,12 +10,11 @@ use Rattle.merc_value.specs.Value.{Value, Values}
 use Rattle.merc_graded_tree.specs.declared.basic.BasicGoal.{BasicGoal}
 use Rattle.merc_graded_tree.specs.declared.basic.BasicGoal.TheVariants.{True, Fail, Assign, Test, Build, Split, Arithmetic, Compare, Raise, Call, Wait, Signal}
 use Rattle.merc_graded_tree.specs.declared.basic.Procedure.{Procedure}
-use Rattle.merc_graded_tree.specs.declared.entries.Running.{Running}
 use Rattle.merc_graded_tree.specs.declared.entries.Running.TheVariants.{Sequential, Parallel}
 use Rattle.merc_graded_tree.specs.Nodes.{Node, node, Goal, Basic, Conjunction, Disjunction, Switch, Conditional, Negation, Quantified, Nodes, no_nodes, more_nodes, Arms, no_arms, more_arms, nodes_of, outputs_of}
-use Rattle.merc_graded_tree.specs.Variables.{in_node, in_nodes}
+use Rattle.merc_graded_tree.specs.Variables.{in_nodes}
 use Rattle.merc_meaning.specs.Values.{fields}
-use Rattle.merc_meaning.specs.Trace.{Env, Trace, End, Ends, Tick, Answer, Done, Raised, TooDeep, one_answer, after, each, first_alone, choose, negated, cut}
+use Rattle.merc_meaning.specs.Trace.{Env, Trace, Ends, Tick, Answer, Done, Raised, TooDeep, one_answer, after, each, first_alone, choose, negated, cut}
 use Rattle.merc_meaning.specs.Steps.{value_at}
 use Rattle.merc_meaning.specs.Runs.{Program, ProcedureBody, answers_once, once_if, called, where_some, basic_trace, goal_trace, node_trace, all_trace, any_trace, arms_trace, body_trace, call_trace, run}
 use Rattle.merc_par_split.specs.Rights.{Right, right_to, those, used_in, unused_in, passed_by, bound_in, unbound_in, wait_at, signal_at, between, around, ahead_of, signals_of}
@@ -169,11 +168,11 @@ module _ (program other : Program) (call : Procedure → Env → Trace) (calls :
         ∙ ap (once_if (answers_once outputs category))
         (choose_same (λ answer. new second answer) (λ answer. old then_part answer)
         (λ answer. ahead_same (placed (site + forks condition) later (used_in then_part inner) (bound_in then_part signals) then_part) (passed_by later then_part inner) answer
-            ∙ placed_same then_part (site + forks condition) later (used_in then_part inner) (bound_in then_part signals) answer)
+        ∙ placed_same then_part (site + forks condition) later (used_in then_part inner) (bound_in then_part signals) answer)
         (new third env) (new first env)
         ∙ ap (λ u. choose (λ answer. old then_part answer) u (new first env))
         (ahead_same (placed (site + forks condition + forks then_part) later (used_in else_part inner) (bound_in else_part signals) else_part) (passed_by later else_part inner) env
-            ∙ placed_same else_part (site + forks condition + forks then_part) later (used_in else_part inner) (bound_in else_part signals) env)
+        ∙ placed_same else_part (site + forks condition + forks then_part) later (used_in else_part inner) (bound_in else_part signals) env)
         ∙ ap (λ u. choose (λ answer. old then_part answer) (old else_part env) u) (placed_same condition site nothing [] [] env))
     goal_same (Negation goal) site later waits signals outputs category span env =
         around_same waits signals (Negation (placed site nothing [] [] goal)) outputs category span env

@@ -1,11 +1,11 @@
 -- Worked examples of rights.
-use Rattle.std.specs.Prelude.{◌≡◌, ℕ, Bool, true, false, ◌==◌, List, [], ◌∷◌, map, Some, None, refl}
+use Rattle.std.specs.Prelude.{◌≡◌, ℕ, true, ◌==◌, List, [], ◌∷◌, map, Some, None, refl}
 use Rattle.std.proofs.Common.{ap}
 use Rattle.merc_base.specs.declared.category.Category.TheVariants.{Det}
 use Rattle.merc_base.specs.declared.place.Span.{Span}
-use Rattle.merc_graded_tree.specs.declared.basic.BasicGoal.TheVariants.{True, Test, Assign, Wait, Signal}
+use Rattle.merc_graded_tree.specs.declared.basic.BasicGoal.TheVariants.{Test, Assign, Wait, Signal}
 use Rattle.merc_graded_tree.specs.declared.entries.Running.TheVariants.{Sequential}
-use Rattle.merc_graded_tree.specs.Nodes.{Node, node, Basic, Conjunction, Nodes, nodes_of}
+use Rattle.merc_graded_tree.specs.Nodes.{Node, node, Basic, Conjunction, nodes_of}
 use Rattle.merc_par_split.specs.Rights.{Right, right_to, those, used_in, unused_in, passed_by, bound_in, unbound_in, in_place_of, between, around, ahead_of, users, is_sooner, with_right, with_rights, signals_of}
 
 abbrev nowhere : Span

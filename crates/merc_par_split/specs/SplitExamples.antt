@@ -1,18 +1,16 @@
 -- Small goals with their split trees, each worked out by hand from the rules of the language. `use(in)`, `both(in, in)`, `f(in, out)` and `two(out, out)` are
 -- det, `test(in)` is semidet. V is bound before, to `red` or `green`; E is a text. The other variables occur nowhere else, but for those that are said to be
 -- used behind. A goal with waits before it, or waits and signals behind it, is one conjunction with them, in its place.
-use Rattle.std.specs.Prelude.{◌≡◌, ℕ, pos, List, [], ◌∷◌, Option, Some, None, refl}
+use Rattle.std.specs.Prelude.{◌≡◌, ℕ, pos, List, [], ◌∷◌, Some, None, refl}
 use Rattle.std.proofs.Common.{◌∙◌, sym}
 use Rattle.merc_base.specs.declared.category.Category.{Category}
 use Rattle.merc_base.specs.declared.category.Category.TheVariants.{Det, Semidet, Erroneous, Failure}
 use Rattle.merc_base.specs.declared.place.Span.{Span}
 use Rattle.merc_goal_tree.specs.declared.goal.Symbol.{Symbol}
 use Rattle.merc_goal_tree.specs.declared.goal.Symbol.TheVariants.{Constructor, Integer}
-use Rattle.merc_graded_tree.specs.declared.basic.BasicGoal.{BasicGoal}
 use Rattle.merc_graded_tree.specs.declared.basic.BasicGoal.TheVariants.{Fail, Assign, Build, Split, Raise, Call, Wait, Signal}
-use Rattle.merc_graded_tree.specs.declared.entries.Running.{Running}
 use Rattle.merc_graded_tree.specs.declared.entries.Running.TheVariants.{Sequential, Parallel}
-use Rattle.merc_graded_tree.specs.Nodes.{Node, node, Goal, Basic, Conjunction, Disjunction, Switch, Conditional, Negation, Quantified, Nodes, nodes_of, Arms, no_arms, more_arms}
+use Rattle.merc_graded_tree.specs.Nodes.{Node, node, Goal, Basic, Conjunction, Disjunction, Switch, Conditional, Negation, Quantified, nodes_of, no_arms, more_arms}
 use Rattle.merc_par_split.specs.Split.{split, all_split}
 
 abbrev nowhere : Span

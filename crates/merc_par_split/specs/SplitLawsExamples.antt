@@ -3,14 +3,12 @@ use Rattle.std.specs.Prelude.{◌≡◌, ℕ, true, false, List, [], ◌∷◌, 
 use Rattle.merc_base.specs.declared.category.Category.TheVariants.{Det, Semidet}
 use Rattle.merc_base.specs.declared.place.Span.{Span}
 use Rattle.merc_tree.specs.declared.declarations.Arg.TheVariants.{Input}
-use Rattle.merc_graded_tree.specs.declared.basic.BasicGoal.{BasicGoal}
 use Rattle.merc_graded_tree.specs.declared.basic.BasicGoal.TheVariants.{Test, Call, Wait, Signal}
 use Rattle.merc_graded_tree.specs.declared.basic.Procedure.{Procedure}
 use Rattle.merc_graded_tree.specs.declared.basic.Site.{Site}
-use Rattle.merc_graded_tree.specs.declared.entries.Running.{Running}
 use Rattle.merc_graded_tree.specs.declared.entries.Running.TheVariants.{Sequential, Parallel}
-use Rattle.merc_graded_tree.specs.Nodes.{Node, node, Goal, Basic, Conjunction, Conditional, Nodes, no_nodes, more_nodes, nodes_of}
-use Rattle.merc_meaning.specs.Runs.{Program, ProcedureBody}
+use Rattle.merc_graded_tree.specs.Nodes.{Node, node, Goal, Basic, Conjunction, nodes_of}
+use Rattle.merc_meaning.specs.Runs.{ProcedureBody}
 use Rattle.merc_par_split.specs.Forks.{forks}
 use Rattle.merc_par_split.specs.Split.{may_fail, nothing, moves_in}
 use Rattle.merc_par_split.specs.SplitLaws.{is_mark, marks, any_marks, unsited, first_if, erased, Unsplit, calls_of, sites_of, sites_from, split_body, split_program}
