@@ -1,5 +1,5 @@
 -- The script of a branch: what its course does with so many steps left, each fork with the scripts of its conjuncts.
-use Rattle.std.specs.Prelude.{ℕ, suc, zero, ◌+◌, ◌-◌, ◌==◌, Bool, List, [], ◌∷◌, ◌++◌, length, map, Option, Some, None, if◌then◌else◌}
+use Rattle.std.specs.Prelude.{ℕ, suc, zero, ◌+◌, ◌-◌, ◌==◌, Bool, true, false, List, [], ◌∷◌, ◌++◌, length, map, Option, Some, None, if◌then◌else◌}
 use Rattle.merc_value.specs.Value.{Value}
 use Rattle.merc_meaning.specs.Trace.{Run, Ends as RunEnds, Tick, Answer, RunDone, RunRaised, LimitPassed}
 use Rattle.merc_meaning.specs.Runs.{Program}
@@ -11,8 +11,13 @@ use Rattle.merc_script.specs.Script.{Script, Ends, TickThen, WaitThen, SignalThe
 use Rattle.merc_script.specs.Joining.{joined}
 use Rattle.merc_core.specs.Rights.{has, without, moved}
 use Rattle.merc_core.specs.WellFormed.{cells_of}
-use Rattle.merc_plan.specs.Branch.{NamedCell, Fork, BranchCourse, BranchCourses, Over, Breaks, Steps, Finds, Awaits, Gives, Forks, no_branches, more_branches, Raised, TooDeep, Starving, Gift, gift_at, value_given, all_give, closed, names}
+use Rattle.merc_plan.specs.Branch.{NamedCell, Fork, BranchCourse, BranchCourses, Over, Breaks, Steps, Finds, Awaits, Gives, Forks, no_branches, more_branches, Raised, TooDeep, Starving, Gift, gift_at, value_given, all_give, names}
 use Rattle.merc_plan.specs.Branches.{Plan, root_branch}
+
+-- those of cells that are among others
+abbrev pub those_of : List ℕ → List ℕ → List ℕ
+those_of others [] = []
+those_of others (cell ∷ cells) = if has cell others then cell ∷ those_of others cells else those_of others cells
 
 -- The cells from outside that a script signals, its descendants with it: of a fork it is those whose right moved into it.
 abbrev mutual
@@ -26,10 +31,6 @@ abbrev mutual
   pub all_signalled : Children → List ℕ
   all_signalled NoChild = []
   all_signalled (Child first others) = signalled first ++ all_signalled others
-
-  pub those_of : List ℕ → List ℕ → List ℕ
-  those_of signals [] = []
-  those_of signals (cell ∷ cells) = if has cell signals then cell ∷ those_of signals cells else those_of signals cells
 
 -- a fork's cell with its value, where a script signals it
 abbrev pub valued : List ℕ → List Gift → NamedCell → Cell
@@ -48,29 +49,30 @@ going Limit made next = Ends Limit
 going Starved made next = Ends Starved
 going NoMemory made next = Ends NoMemory
 
--- So many steps are left, and were made; these cells are signalled by scripts to the left. A fork's own cells are new. Cells are told by their names.
+-- So many steps are left, and were made; these cells are signalled by scripts to the left. The root of all goes on behind its answers, and a conjunct ends at
+-- its first one. A fork's own cells are new. Cells are told by their names.
 abbrev mutual
-  pub script : ℕ → ℕ → List ℕ → BranchCourse → Script
-  script left made given Over = Ends (Fine made)
-  script left made given (Breaks (Raised text)) = Ends (Raise text made)
-  script left made given (Breaks TooDeep) = Ends Limit
-  script left made given (Breaks Starving) = Ends Starved
-  script zero made given (Steps rest) = Ends Limit
-  script (suc left) made given (Steps rest) = TickThen (script left (suc made) given rest)
-  script left made given (Finds hold rest) = script left made given rest
-  script left made given (Awaits cell value rest) = WaitThen cell (if has cell given then script left made given rest else Ends Starved)
-  script left made given (Gives cell value rest) = SignalThen cell (script left made given rest)
-  script left made given (Forks site fork branches rest) =
-      let children = scripts left (without (names fork.cells) given) branches in
-      ForkThen left (map (valued (all_signalled children) (all_give branches)) fork.cells) fork.moves children
-      (going (joined left (ends children)) made
-      (λ steps. script (left - steps) (made + steps) (without (names fork.cells) given ++ all_signalled children) rest))
+  pub script : Bool → ℕ → ℕ → List ℕ → BranchCourse → Script
+  script root left made given Over = Ends (Fine made)
+  script root left made given (Breaks (Raised text)) = Ends (Raise text made)
+  script root left made given (Breaks TooDeep) = Ends Limit
+  script root left made given (Breaks Starving) = Ends Starved
+  script root zero made given (Steps rest) = Ends Limit
+  script root (suc left) made given (Steps rest) = TickThen (script root left (suc made) given rest)
+  script true left made given (Finds hold rest) = script true left made given rest
+  script false left made given (Finds hold rest) = Ends (Fine made)
+  script root left made given (Awaits cell value rest) = WaitThen cell (if has cell given then script root left made given rest else Ends Starved)
+  script root left made given (Gives cell value rest) = SignalThen cell (script root left made given rest)
+  script root left made given (Forks site fork branches rest) =
+      ForkThen left (map (valued (all_signalled (scripts left (without (names fork.cells) given) branches)) (all_give branches)) fork.cells) fork.moves
+      (scripts left (without (names fork.cells) given) branches)
+      (going (joined left (ends (scripts left (without (names fork.cells) given) branches))) made
+      (λ steps. script root (left - steps) (made + steps) (without (names fork.cells) given ++ all_signalled (scripts left (without (names fork.cells) given) branches)) rest))
 
-  -- those of conjuncts, each of which ends at its first answer
   pub scripts : ℕ → List ℕ → BranchCourses → Children
   scripts left given no_branches = NoChild
   scripts left given (more_branches first rest) =
-      Child (script left 0 given (closed first)) (scripts left (given ++ signalled (script left 0 given (closed first))) rest)
+      Child (script false left 0 given first) (scripts left (given ++ signalled (script false left 0 given first)) rest)
 
 -- The cells of a script by numbers in place of names: a fork's cells have the numbers from a first one on, then come those of the forks in its children, one
 -- child after the other, and then those behind the fork. So no two cells have one number.
@@ -114,7 +116,7 @@ no_numbers name = name
 
 -- the script of a goal that is asked, with so many steps
 abbrev pub root_script : Plan → Program → Node → ℕ → Script
-root_script plan program goal limit = numbered no_numbers 0 (script limit 0 [] (root_branch plan program (suc limit) goal))
+root_script plan program goal limit = numbered no_numbers 0 (script true limit 0 [] (root_branch plan program (suc limit) goal))
 
 -- What a run shows of a script: how it ends, and after how many steps.
 abbrev pub shown_by : ℕ → Run → Outcome

@@ -1,4 +1,6 @@
 //! Laws of the courses and scripts of branches.
 
 /// Nothing yet.
-pub fn nothing() {}
+pub fn nothing() -> bool {
+    true
+}
