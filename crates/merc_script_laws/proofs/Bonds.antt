@@ -1,5 +1,5 @@
 -- What a branch has of variables and rights, before a goal and behind it.
-use Rattle.std.proofs.Common.{◌≡◌, ℕ, zero, suc, ◌+◌, ◌≤◌, ◌<◌, ◌⊎◌, inl, inr, Bool, true, false, ◌==◌, ◌||◌, ◌&&◌, not, if◌then◌else◌, is_some, List, [], ◌∷◌, ◌++◌, length, map, Option, Some, None, refl, ap, sym, subst, ◌∙◌, arith}
+use Rattle.std.proofs.Common.{◌≡◌, ℕ, zero, suc, ◌+◌, ◌≤◌, ◌<◌, ◌⊎◌, inl, inr, Bool, true, false, ◌==◌, ◌||◌, ◌&&◌, not, if◌then◌else◌, is_some, List, [], ◌∷◌, ◌++◌, length, map, Option, Some, None, slice_get, refl, ap, sym, subst, ◌∙◌, arith}
 use Rattle.std.specs.List.{AllByRecursion, filter}
 use Rattle.merc_base.specs.Category.{can_fail_of, most_of}
 use Rattle.merc_base.specs.declared.category.Most.TheVariants.{Zero}
@@ -31,6 +31,7 @@ use Rattle.merc_core.specs.Rights.{has}
 use Rattle.merc_core.specs.WellFormed.{AreDistinct}
 use Rattle.merc_par_split.specs.Rights.{Right}
 use Rattle.merc_par_split.specs.Sites.{are_for}
+use Rattle.merc_par_split.specs.declared.sites.SiteInfo.{SiteInfo}
 use Rattle.merc_plan.specs.Branch.{HeldWait, HeldSignal, Hold, Gift, gift_at, BranchCourse}
 use Rattle.merc_plan.specs.Hold.{wait_for}
 use Rattle.merc_plan.specs.Branches.{Plan, node_branch}
@@ -165,6 +166,10 @@ pub record Rightful (w s : List Right) (outs : List ℕ) (rights : ℕ → Bool)
   pub low : (c : ℕ) → rights c ≡ true → c < hold.next
   pub once : AreDistinct (map (λ (right : Right). right.variable) w)
 
+-- the plan has these at the sites from a number on
+abbrev pub Planned : Plan → ℕ → List SiteInfo → Type 0
+Planned plan site infos = (number : ℕ) (info : SiteInfo) → slice_get infos number ≡ Some info → plan (site + number) ≡ Some info
+
 -- A sound goal: good, with its categories and types, and with what parallel conjunctions need.
 module _ (known : Module) (types i : Instance) where
   pub record Sound (out : Variables) (b : Bound) (seen : Known) (n : Node) : Type 0 where
@@ -175,18 +180,19 @@ module _ (known : Module) (types i : Instance) where
 
   -- Given are the program of the graded trees with the traces of its calls, and the plan and the program of the split trees with the courses of its calls.
   module _ (program : Program) (calls : Procedure → Env → Trace) (plan : Plan) (split : Program) (course : Procedure → Hold → BranchCourse) where
-    -- What a goal does that is made of another by putting rights into it: along the trace of the other, up to its first answer, and where there are no rights.
-    pub record Goes (n : Node) (make : (ℕ → Bool) → List Right → List Right → Node) : Type 1 where
-      pub along : (later : ℕ → Bool) (w s : List Right) (out : Variables) (b : Bound) (seen : Known) (here : Set) (hold : Hold) (full : Env) → AllUsed w (in_node n) → Within s (outputs_of n)
+    -- What a goal does that is made of another by putting rights into it, where the plan has what is due for these rights: along the trace of the other, up to its
+    -- first answer, and where there are no rights.
+    pub record Goes (n : Node) (make : (ℕ → Bool) → List Right → List Right → Node) (fits : (ℕ → Bool) → List Right → List Right → Type 0) : Type 1 where
+      pub along : (later : ℕ → Bool) (w s : List Right) (out : Variables) (b : Bound) (seen : Known) (here : Set) (hold : Hold) (full : Env) → fits later w s → AllUsed w (in_node n) → Within s (outputs_of n)
         → Sound out b seen n → Fits known types i out b (in_node n) seen full → Fit b here w hold → Match w hold full → Ready here w b (in_node n) → Names hold
         → Like (Ends b full here w later (outputs_of n) hold) (flat (node_branch plan split course (make later w s) hold)) (events (node_trace program calls n full))
         × Sure (node_branch plan split course (make later w s) hold)
-      pub uses : (later : ℕ → Bool) (w s : List Right) (out : Variables) (b : Bound) (seen : Known) (here : Set) (hold : Hold) (rights : ℕ → Bool) (held : List ℕ) (g : List Gift) → AllUsed w (in_node n)
+      pub uses : (later : ℕ → Bool) (w s : List Right) (out : Variables) (b : Bound) (seen : Known) (here : Set) (hold : Hold) (rights : ℕ → Bool) (held : List ℕ) (g : List Gift) → fits later w s → AllUsed w (in_node n)
         → Sound out b seen n → can_fail_of (category_at n) ≡ false → Fine known types i out b (in_node n) seen hold → Fit b here w hold → Ready here w b (in_node n) → Names hold
         → Rightful w s (outputs_of n) rights held g hold
         → Keeps (Used (After known types i out b (outputs_of n) (in_node n) seen (known_behind n seen) hold) (most_of (category_at n) ≡ Zero) here w s later (outputs_of n) hold held g) rights held g
           (node_branch plan split course (make later w s) hold)
-      pub quiet : (later : ℕ → Bool) (out : Variables) (b : Bound) (seen : Known) (here : Set) (hold : Hold) → Sound out b seen n → Fine known types i out b (in_node n) seen hold → Fit b here [] hold
+      pub quiet : (later : ℕ → Bool) (out : Variables) (b : Bound) (seen : Known) (here : Set) (hold : Hold) → fits later [] [] → Sound out b seen n → Fine known types i out b (in_node n) seen hold → Fit b here [] hold
         → Ready here [] b (in_node n) → Names hold → Quiet hold.next [] (node_branch plan split course (make later [] []) hold)
       pub rated : (later : ℕ → Bool) (w s : List Right) → category_of (make later w s) ≡ category_of n
       pub shaped : (later : ℕ → Bool) (w s : List Right) → outputs_of (make later w s) ≡ outputs_of n
