@@ -1,2 +1,5 @@
 pub mod Flat
 pub mod Judging
+pub mod Likes
+pub mod Flats
+pub mod Events
