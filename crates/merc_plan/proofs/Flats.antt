@@ -103,8 +103,8 @@ flat_each f (Finds env t) s a = flat_after (f env) (c_each f t) s.0 ∙ ap (λ x
 flat_each f (Awaits c o t) s a = flat_each f t s a
 flat_each f (Gives c v t) s a = flat_each f t s a
 flat_each f (Forks i x ks t) s a =
-  flats_same ks (flat (c_each f t)) (each (λ env. flat (f env)) (flat t)) (λ q. flat_each f t (each_flats (λ env. Sure (f env)) ks (flat t) s q) (a.1 q))
-  ∙ sym (past (λ w. each (λ env. flat (f env)) w) (λ b d w. behind_each b d (λ env. flat (f env)) w) ks a.0 (flat t))
+    flats_same ks (flat (c_each f t)) (each (λ env. flat (f env)) (flat t)) (λ q. flat_each f t (each_flats (λ env. Sure (f env)) ks (flat t) s q) (a.1 q))
+    ∙ sym (past (λ w. each (λ env. flat (f env)) w) (λ b d w. behind_each b d (λ env. flat (f env)) w) ks a.0 (flat t))
 
 pub flat_taken : (f : Hold → Hold) (t : BranchCourse) → Sure t → flat (c_taken f t) ≡ taken f (flat t)
 flat_taken f Over a = refl
@@ -150,8 +150,8 @@ flat_choose f u (Finds env t) s a = flat_after (f env) (c_each f t) s.0 ∙ ap (
 flat_choose f u (Awaits c o t) s a = flat_choose f u t s a
 flat_choose f u (Gives c v t) s a = flat_choose f u t s a
 flat_choose f u (Forks i x ks t) s a =
-  flats_same ks (flat (c_choose f u t)) (choose (λ env. flat (f env)) (flat u) (flat t)) (λ q. flat_choose f u t (each_flats (λ env. Sure (f env)) ks (flat t) s q) (a.1 q))
-  ∙ sym (past (λ w. choose (λ env. flat (f env)) (flat u) w) (λ b d w. behind_choose b d (λ env. flat (f env)) (flat u) w) ks a.0 (flat t))
+    flats_same ks (flat (c_choose f u t)) (choose (λ env. flat (f env)) (flat u) (flat t)) (λ q. flat_choose f u t (each_flats (λ env. Sure (f env)) ks (flat t) s q) (a.1 q))
+    ∙ sym (past (λ w. choose (λ env. flat (f env)) (flat u) w) (λ b d w. behind_choose b d (λ env. flat (f env)) (flat u) w) ks a.0 (flat t))
 
 pub sure_choose : (f : Hold → BranchCourse) (u t : BranchCourse) → Each (λ env. Sure (f env)) (flat t) → Sure u → Sure t → Sure (c_choose f u t)
 sure_choose f u Over s b a = b

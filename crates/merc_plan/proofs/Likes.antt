@@ -12,7 +12,7 @@ like_after R (Answer a t) (Answer b t') u u' h k = (h.0, like_after R t t' u u' 
 like_after R t t' u u' h k = absurd h
 
 pub like_each : {A B C D : Type 0} (R : A → B → Type 0) (Q : C → D → Type 0) (f : A → Flat C) (f' : B → Flat D) → ((a : A) (b : B) → R a b → Like Q (f a) (f' b))
-  → (t : Flat A) (t' : Flat B) → Like R t t' → Like Q (each f t) (each f' t')
+    → (t : Flat A) (t' : Flat B) → Like R t t' → Like Q (each f t) (each f' t')
 like_each R Q f f' s Done Done h = tt
 like_each R Q f f' s (Halts g) (Halts g') h = h
 like_each R Q f f' s (Tick t) (Tick t') h = like_each R Q f f' s t t' h
@@ -20,7 +20,7 @@ like_each R Q f f' s (Answer a t) (Answer b t') h = like_after Q (f a) (f' b) (e
 like_each R Q f f' s t t' h = absurd h
 
 pub like_taken : {A B C D : Type 0} (R : A → B → Type 0) (Q : C → D → Type 0) (f : A → C) (f' : B → D) → ((a : A) (b : B) → R a b → Q (f a) (f' b))
-  → (t : Flat A) (t' : Flat B) → Like R t t' → Like Q (taken f t) (taken f' t')
+    → (t : Flat A) (t' : Flat B) → Like R t t' → Like Q (taken f t) (taken f' t')
 like_taken R Q f f' s Done Done h = tt
 like_taken R Q f f' s (Halts g) (Halts g') h = h
 like_taken R Q f f' s (Tick t) (Tick t') h = like_taken R Q f f' s t t' h
@@ -39,7 +39,7 @@ like_once R true t t' h = like_first R t t' h
 like_once R false t t' h = h
 
 pub like_choose : {A B C D : Type 0} (R : A → B → Type 0) (Q : C → D → Type 0) (f : A → Flat C) (f' : B → Flat D) → ((a : A) (b : B) → R a b → Like Q (f a) (f' b))
-  → (u : Flat C) (u' : Flat D) → Like Q u u' → (t : Flat A) (t' : Flat B) → Like R t t' → Like Q (choose f u t) (choose f' u' t')
+    → (u : Flat C) (u' : Flat D) → Like Q u u' → (t : Flat A) (t' : Flat B) → Like R t t' → Like Q (choose f u t) (choose f' u' t')
 like_choose R Q f f' s u u' k Done Done h = k
 like_choose R Q f f' s u u' k (Halts g) (Halts g') h = h
 like_choose R Q f f' s u u' k (Tick t) (Tick t') h = like_choose R Q f f' s u u' k t t' h
@@ -145,7 +145,7 @@ after_done (Answer a t) = ap (λ x. Answer a x) (after_done t)
 
 -- behind the first answer of a det trace, against the answers replaced
 pub like_behind : {A B C D : Type 0} (R : A → B → Type 0) (Q : C → D → Type 0) (f' : B → Flat D) (t : Flat A) (t' : Flat B) → Det t' → (w : Flat C) → Like R t t'
-  → ((a : A) (b : B) → R a b → Answers t → Like Q w (f' b)) → Like Q (behind t w) (each f' t')
+    → ((a : A) (b : B) → R a b → Answers t → Like Q w (f' b)) → Like Q (behind t w) (each f' t')
 like_behind R Q f' Done Done d w h s = tt
 like_behind R Q f' (Halts g) (Halts g') d w h s = h
 like_behind R Q f' (Tick t) (Tick t') d w h s = like_behind R Q f' t t' d w h s
