@@ -1,3 +1,4 @@
 pub mod Flat
 pub mod Judging
 pub mod Sets
+pub mod Holds

@@ -108,6 +108,7 @@ in_either c (x ∷ xs) ys h = on (front_or c x (xs ++ ys) h) (λ k. in_either c 
     more : (has c xs ≡ true) ⊎ (has c ys ≡ true) → (has c (x ∷ xs) ≡ true) ⊎ (has c ys ≡ true)
     more (inl e) = inl (rest_in c x xs e)
     more (inr e) = inr e
+
     on : (c ≡ x) ⊎ (has c (xs ++ ys) ≡ true) → (has c (xs ++ ys) ≡ true → (has c xs ≡ true) ⊎ (has c ys ≡ true)) → (has c (x ∷ xs) ≡ true) ⊎ (has c ys ≡ true)
     on (inl e) rec = inl (or_in c x xs (inl e))
     on (inr e) rec = more (rec e)
@@ -301,6 +302,7 @@ pick_on {A} cell test P c x xs b e p h rec = on b e h
       found = λ other q. later_found cell (other x) c x (filter other xs) (k.found other q);
       listed = rest_in c (cell x) (map cell xs) k.listed;
     }
+
     front : test x ≡ true → (c ≡ cell x) ⊎ (has c (map cell (filter test xs)) ≡ true) → Picked A cell test P c (x ∷ xs)
     front t (inl q) = record {
       one = x;
@@ -311,6 +313,7 @@ pick_on {A} cell test P c x xs b e p h rec = on b e h
       listed = or_in c (cell x) (map cell xs) (inl q);
     }
     front t (inr q) = further (rec q)
+
     on : (b : Bool) → test x ≡ b → has c (map cell (if b then x ∷ filter test xs else filter test xs)) ≡ true → Picked A cell test P c (x ∷ xs)
     on true t q = front t (front_or c (cell x) (map cell (filter test xs)) q)
     on false t q = further (rec q)
