@@ -14,16 +14,19 @@ use Rattle.merc_plan.proofs.Sets.{clash, tell, same_number, only_one, front_or, 
 
 -- the rights to wait behind a fork
 abbrev pub waits_past : Fork → List ℕ → List ℕ
-waits_past x w = uses 0 x.cells ++ without (moved false x.moves) w
+waits_past x w = uses 0 x.cells ++ without (names x.cells) (without (moved false x.moves) w)
 
 abbrev pub pending_past : Fork → List ℕ → List ℕ
-pending_past x p = uses 0 x.cells ++ p
+pending_past x p = uses 0 x.cells ++ without (names x.cells) p
 
 pub waits_more : (x : Fork) (w ws : List ℕ) → ((c : ℕ) → has c w ≡ true → has c ws ≡ true) → (c : ℕ) → has c (waits_past x w) ≡ true → has c (waits_past x ws) ≡ true
-waits_more x w ws a c h = append_more (uses 0 x.cells) (without (moved false x.moves) w) (without (moved false x.moves) ws) (λ d k. minus_more (moved false x.moves) w ws a d k) c h
+waits_more x w ws a c h =
+    append_more (uses 0 x.cells) (without (names x.cells) (without (moved false x.moves) w)) (without (names x.cells) (without (moved false x.moves) ws))
+    (λ d k. minus_more (names x.cells) (without (moved false x.moves) w) (without (moved false x.moves) ws) (λ e i. minus_more (moved false x.moves) w ws a e i) d k) c h
 
 pub pending_more : (x : Fork) (p q : List ℕ) → ((c : ℕ) → has c p ≡ true → has c q ≡ true) → (c : ℕ) → has c (pending_past x p) ≡ true → has c (pending_past x q) ≡ true
-pending_more x p q a c h = append_more (uses 0 x.cells) p q a c h
+pending_more x p q a c h =
+    append_more (uses 0 x.cells) (without (names x.cells) p) (without (names x.cells) q) (λ d k. minus_more (names x.cells) p q a d k) c h
 
 each_behind : (P : Hold → Type 0) (t w : Flat Hold) → Each P (behind t w) → Answers t → Each P w
 each_behind P Done w e a = absurd a
@@ -219,10 +222,14 @@ own_fits n next rights g w x lowr e o = record {
 -- rights from before stay past such a fork, and what is pending is among the rights
 still_past : (next : ℕ) (x : Fork) (w0 w : List ℕ) → x.moves ≡ [] → ((d : ℕ) → has d (names x.cells) ≡ true → next ≤ d) → ((d : ℕ) → d < next → has d w0 ≡ true → has d w ≡ true)
     → (d : ℕ) → d < next → has d w0 ≡ true → has d (waits_past x w) ≡ true
-still_past next x w0 w e low s d l h = in_right d (uses 0 x.cells) (without (moved false x.moves) w) (no_gone x.moves d w e (s d l h))
+still_past next x w0 w e low s d l h =
+    in_right d (uses 0 x.cells) (without (names x.cells) (without (moved false x.moves) w))
+    (minus_keeps d (names x.cells) (without (moved false x.moves) w) (own_above next x.cells d l low) (no_gone x.moves d w e (s d l h)))
 
 pending_still : (x : Fork) (p w : List ℕ) → x.moves ≡ [] → ((d : ℕ) → has d p ≡ true → has d w ≡ true) → (d : ℕ) → has d (pending_past x p) ≡ true → has d (waits_past x w) ≡ true
-pending_still x p w e a d h = append_more (uses 0 x.cells) p (without (moved false x.moves) w) (λ c k. no_gone x.moves c w e (a c k)) d h
+pending_still x p w e a d h =
+    append_more (uses 0 x.cells) (without (names x.cells) p) (without (names x.cells) (without (moved false x.moves) w))
+    (λ c k. minus_more (names x.cells) p (without (moved false x.moves) w) (λ b i. no_gone x.moves b w e (a b i)) c k) d h
 
 module _ (end : List ℕ → List Gift → Hold → Type 0) (rights : ℕ → Bool) (next : ℕ) (w0 : List ℕ) (g0 : List Gift) (lowr : (c : ℕ) → rights c ≡ true → c < next) where
   pub quiet_ends : (t : BranchCourse) (p w : List ℕ) (g : List Gift) → Quiet next p t → ((c : ℕ) → has c p ≡ true → has c w ≡ true) → ((c : ℕ) → c < next → has c w0 ≡ true → has c w ≡ true) → ((c : ℕ) → gift_at c g ≡ gift_at c g0)
