@@ -1,2 +1,5 @@
 pub mod Flat
 pub mod Judging
+pub mod Walks
+pub mod Joins
+pub mod Items
