@@ -1,5 +1,5 @@
 -- The items of a script account for its end's number.
-use Rattle.std.proofs.Common.{◌≡◌, ℕ, zero, suc, ◌+◌, ◌-◌, ◌≤◌, Bool, true, false, if◌then◌else◌, List, [], ◌∷◌, ◌++◌, refl, ap, sym, subst, ◌∙◌, arith}
+use Rattle.std.proofs.Common.{◌≡◌, ℕ, zero, suc, ◌+◌, ◌-◌, ◌≤◌, Bool, true, false, if◌then◌else◌, List, ◌++◌, ap, arith}
 use Rattle.merc_script.specs.declared.outcome.Outcome.{Outcome}
 use Rattle.merc_script.specs.declared.outcome.Outcome.TheVariants.{Ok as Fine, Raise, Limit, Starved, NoMemory}
 use Rattle.merc_script.specs.Script.{Script, Ends, ends, end_of}
@@ -35,7 +35,7 @@ ticked : (l s n : ℕ) → n ≡ suc s + l → n ≡ s + suc l
 ticked l s n h = omega (arith, h)
 
 forked : (o : Outcome) (l s : ℕ) (next : ℕ → Script) → WithinLimit l o → ((u : ℕ) → u ≤ l → Accounts (l - u) (s + u) (next u))
-  → (gain o + gained (going o s next) ≤ l) × ((n : ℕ) → end_of (going o s next) ≡ Fine n → n ≡ s + (gain o + gained (going o s next)))
+    → (gain o + gained (going o s next) ≤ l) × ((n : ℕ) → end_of (going o s next) ≡ Fine n → n ≡ s + (gain o + gained (going o s next)))
 forked (Fine u) l s next w h = let a = h u w in (let p = a.0 in omega (arith, w, p), λ n e. let q = a.1 n e in omega (arith, q))
 forked (Raise e k) l s next w h = (omega arith, λ n q. absurd (cc))
 forked Limit l s next w h = (omega arith, λ n q. absurd (cc))
@@ -49,13 +49,13 @@ accounts root (Breaks TooDeep) l s g = none_left l s Limit (λ n q. absurd (cc))
 accounts root (Breaks Starving) l s g = none_left l s Starved (λ n q. absurd (cc))
 accounts root (Steps t) zero s g = none_left zero s Limit (λ n q. absurd (cc))
 accounts root (Steps t) (suc l) s g =
-  let a = accounts root t l (suc s) g in (let p = a.0 in omega (arith, p), λ n e. ticked (gained (script root l (suc s) g t)) s n (a.1 n e))
+    let a = accounts root t l (suc s) g in (let p = a.0 in omega (arith, p), λ n e. ticked (gained (script root l (suc s) g t)) s n (a.1 n e))
 accounts true (Finds hold t) l s g = accounts true t l s g
 accounts false (Finds hold t) l s g = none_left l s (Fine s) (λ n e. fine_same s n e)
 accounts root (Awaits c v t) l s g = waited (has c g) l s (script root l s g t) (accounts root t l s g)
 accounts root (Gives c v t) l s g = accounts root t l s g
 accounts root (Forks i x ks t) l s g =
-  forked (joined l (ends (scripts l (without (names x.cells) g) ks))) l s
+    forked (joined l (ends (scripts l (without (names x.cells) g) ks))) l s
     (λ u. script root (l - u) (s + u) (without (names x.cells) g ++ all_signalled (scripts l (without (names x.cells) g) ks)) t)
     (joined_limit l (ends (scripts l (without (names x.cells) g) ks)))
     (λ u h. accounts root t (l - u) (s + u) (without (names x.cells) g ++ all_signalled (scripts l (without (names x.cells) g) ks)))

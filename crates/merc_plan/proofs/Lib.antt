@@ -3,3 +3,4 @@ pub mod Judging
 pub mod Walks
 pub mod Joins
 pub mod Items
+pub mod Depths

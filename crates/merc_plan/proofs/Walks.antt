@@ -1,5 +1,5 @@
 -- The walk over the outcomes of conjuncts, one conjunct at a time.
-use Rattle.std.proofs.Common.{◌≡◌, ◌≢◌, ℕ, zero, suc, ◌+◌, ◌<◌, ◌≤◌, Bool, true, false, if◌then◌else◌, List, [], ◌∷◌, refl, ap, sym, subst, ◌∙◌, arith}
+use Rattle.std.proofs.Common.{◌≡◌, ◌≢◌, ℕ, zero, suc, ◌+◌, ◌<◌, ◌≤◌, Bool, true, false, if◌then◌else◌, List, [], ◌∷◌, refl, ap, subst, ◌∙◌, arith}
 use Rattle.std.specs.Prelude.{⊤, nat_le}
 use Rattle.std.proofs.lemmas.Bool.Decides.{nat_tests}
 use Rattle.merc_script.specs.declared.outcome.Outcome.{Outcome}
@@ -53,9 +53,10 @@ one_more : (s u n : ℕ) → s + (u + suc n) ≡ suc (s + (u + n))
 one_more s u n = omega arith
 
 -- a conjunct that made n steps, with c left, and what the trace behind it shows
-pub step : {A : Type 0} (root : Bool) (t : Flat A) → Det t → (m n c u l : ℕ) → (u + n) + m ≡ l → n + c ≡ l → (os : List Outcome) (s : ℕ) (k : ℕ → Outcome) (w : Flat A)
-  → ((a b : ℕ) → seen false c n t ≡ Fine a → (u + a) + b ≡ l → onward (walk l (u + a) os) s k ≡ seen root b (s + (u + a)) w)
-  → onward (walk l u (seen false c n t ∷ os)) s k ≡ seen root m (s + (u + n)) (behind t w)
+pub step : {A : Type 0} (root : Bool) (t : Flat A) → Det t → (m n c u l : ℕ) → (u + n) + m ≡ l → n + c ≡ l
+    → (os : List Outcome) (s : ℕ) (k : ℕ → Outcome) (w : Flat A)
+    → ((a b : ℕ) → seen false c n t ≡ Fine a → (u + a) + b ≡ l → onward (walk l (u + a) os) s k ≡ seen root b (s + (u + a)) w)
+    → onward (walk l u (seen false c n t ∷ os)) s k ≡ seen root m (s + (u + n)) (behind t w)
 step root Done d m n c u l e f os s k w h = absurd d
 step root (Halts (Raised v)) d m n c u l e f os s k w h = ap (λ o. onward o s k) (stays (u + n) l (Raise v (u + n)) Limit (omega (arith, e)))
 step root (Halts TooDeep) d m n c u l e f os s k w h = refl
@@ -64,16 +65,18 @@ step root (Tick t) d zero n zero u l e f os s k w h = refl
 step root (Tick t) d zero n (suc c) u l e f os s k w h = ap (λ o. onward o s k) (over t d c (suc n) u l (omega (arith, e)) os)
 step root (Tick t) d (suc m) n zero u l e f os s k w h = absurd (omega (arith, e, f))
 step root (Tick t) d (suc m) n (suc c) u l e f os s k w h =
-  step root t d m (suc n) c u l (omega (arith, e)) (omega (arith, f)) os s k w h ∙ ap (λ x. seen root m x (behind t w)) (one_more s u n)
+    step root t d m (suc n) c u l (omega (arith, e)) (omega (arith, f)) os s k w h ∙ ap (λ x. seen root m x (behind t w)) (one_more s u n)
 step root (Answer a t) d m n c u l e f os s k w h = ap (λ o. onward o s k) (stays (u + n) l (walk l (u + n) os) Limit (omega (arith, e))) ∙ h n m refl e
 
 no_more : (s u : ℕ) → s + (u + 0) ≡ s + u
 no_more s u = omega arith
 
-pub first_step : {A : Type 0} (root : Bool) (t : Flat A) → Det t → (m u l : ℕ) → u + m ≡ l → (os : List Outcome) (s : ℕ) (k : ℕ → Outcome) (w : Flat A)
-  → ((a b : ℕ) → seen false l 0 t ≡ Fine a → (u + a) + b ≡ l → onward (walk l (u + a) os) s k ≡ seen root b (s + (u + a)) w)
-  → onward (walk l u (seen false l 0 t ∷ os)) s k ≡ seen root m (s + u) (behind t w)
-first_step root t d m u l e os s k w h = step root t d m 0 l u l (omega (arith, e)) (omega arith) os s k w h ∙ ap (λ x. seen root m x (behind t w)) (no_more s u)
+pub first_step : {A : Type 0} (root : Bool) (t : Flat A) → Det t → (m u l : ℕ) → u + m ≡ l
+    → (os : List Outcome) (s : ℕ) (k : ℕ → Outcome) (w : Flat A)
+    → ((a b : ℕ) → seen false l 0 t ≡ Fine a → (u + a) + b ≡ l → onward (walk l (u + a) os) s k ≡ seen root b (s + (u + a)) w)
+    → onward (walk l u (seen false l 0 t ∷ os)) s k ≡ seen root m (s + u) (behind t w)
+first_step root t d m u l e os s k w h =
+    step root t d m 0 l u l (omega (arith, e)) (omega arith) os s k w h ∙ ap (λ x. seen root m x (behind t w)) (no_more s u)
 
 pub answers_of : {A : Type 0} (t : Flat A) → Det t → (l s n : ℕ) → seen false l s t ≡ Fine n → Answers t
 answers_of Done d l s n h = absurd d
