@@ -76,7 +76,8 @@ enough_each zero f (Tick t) k h = tt
 enough_each (suc l) f (Tick t) k h = enough_each l f t (λ env. fewer l (f env) (k env)) h
 enough_each l f (Answer env t) k h = enough_after l (f env) (each f t) (k env) (enough_each l f t k h)
 
-enough_choose : (l : ℕ) (f : Env → Trace) (u t : Trace) → ((env : Env) → Enough l (events (f env))) → Enough l (events u) → Enough l (events t) → Enough l (events (choose f u t))
+enough_choose : (l : ℕ) (f : Env → Trace) (u t : Trace) → ((env : Env) → Enough l (events (f env))) → Enough l (events u) → Enough l (events t)
+    → Enough l (events (choose f u t))
 enough_choose l f u (Ends Done) k w h = w
 enough_choose l f u (Ends (Raised v)) k w h = tt
 enough_choose l f u (Ends TooDeep) k w h = absurd h
@@ -160,7 +161,8 @@ module _ (program : Program) (l : ℕ) (call : Procedure → Env → Trace) (cal
   enough_called : (p : Procedure) (o : Option ProcedureBody) (arguments : List ℕ) (env : Env) → Enough l (events (called (call p) o arguments env))
   enough_called p None arguments env = tt
   enough_called p (Some q) arguments env =
-      enough_taken l (λ inner. brought_back q.places arguments (value_at inner) env) (call p (entered q.places arguments env)) (calls p (entered q.places arguments env))
+      enough_taken l (λ inner. brought_back q.places arguments (value_at inner) env) (call p (entered q.places arguments env))
+      (calls p (entered q.places arguments env))
 
   enough_basic : (g : BasicGoal) (env : Env) → Enough l (events (basic_trace program call g env))
   enough_basic True env = tt
@@ -183,7 +185,8 @@ module _ (program : Program) (l : ℕ) (call : Procedure → Env → Trace) (cal
     enough_goal (Disjunction ns) env = enough_disj ns env
     enough_goal (Switch x arms) env = enough_arms arms (value_at env x) env
     enough_goal (Conditional c t e) env =
-        enough_choose l (λ inner. node_trace program call t inner) (node_trace program call e env) (node_trace program call c env) (λ inner. enough_node t inner) (enough_node e env) (enough_node c env)
+        enough_choose l (λ inner. node_trace program call t inner) (node_trace program call e env) (node_trace program call c env)
+        (λ inner. enough_node t inner) (enough_node e env) (enough_node c env)
     enough_goal (Negation n) env = enough_negated l env (node_trace program call n env) (enough_node n env)
     enough_goal (Quantified own n) env = enough_node n env
 
@@ -212,7 +215,8 @@ module _ (program : Program) (l : ℕ) (call : Procedure → Env → Trace) (cal
 pub enough_calls : (program : Program) (l d : ℕ) → l < d → (p : Procedure) (env : Env) → Enough l (events (call_trace program d p env))
 enough_calls program l zero h p env = absurd (omega (arith, h))
 enough_calls program zero (suc d) h p env = tt
-enough_calls program (suc l) (suc d) h p env = enough_body program l (call_trace program d) (λ q inner. enough_calls program l d (omega (arith, h)) q inner) (program p) env
+enough_calls program (suc l) (suc d) h p env =
+    enough_body program l (call_trace program d) (λ q inner. enough_calls program l d (omega (arith, h)) q inner) (program p) env
 
 -- the trace of any goal with such calls
 pub enough_trace : (program : Program) (l d : ℕ) → l < d → (n : Node) (env : Env) → Enough l (events (node_trace program (call_trace program d) n env))

@@ -167,7 +167,7 @@ mutual
       let a = answers_of (flat t) su.1.0 l 0 f.steps (sym (end_law false t l 0 g sv.0 su.0) ∙ f.is_fine) in
       let p = fine_law t l 0 f.steps g sv.0 su.0 f.is_fine in
       let q = fine_kids more l (u + f.steps) n (g ++ signalled (script false l 0 g t)) (subst (λ x. AllServed (g ++ x) more) (sym p) (sv.1 a))
-        (su.1.1 a) f.rest in
+      (su.1.1 a) f.rest in
       (ap (λ x. x ++ all_signalled (scripts l (g ++ signalled (script false l 0 g t)) more)) p ∙ ap (λ x. marks t ++ x) q.0, (a, q.1))
 
 -- a fork that joins well has conjuncts that all answer and signal what they are to signal
