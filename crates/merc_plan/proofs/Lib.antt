@@ -3,3 +3,7 @@ pub mod Judging
 pub mod Sets
 pub mod Holds
 pub mod Serves
+pub mod Walks
+pub mod Joins
+pub mod Items
+pub mod Depths

@@ -1,0 +1,6 @@
+//! Laws of the scripts of accepted goals.
+
+/// Nothing yet.
+pub fn nothing() -> bool {
+    true
+}
