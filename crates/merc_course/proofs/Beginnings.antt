@@ -1,5 +1,5 @@
 -- What a conjunct begins with.
-use Rattle.std.proofs.Common.{◌≡◌, ℕ, Bool, true, false, ◌==◌, ◌||◌, if◌then◌else◌, List, [], ◌∷◌, ◌++◌, Option, None, refl, ap, sym, ◌∙◌}
+use Rattle.std.proofs.Common.{◌≡◌, ℕ, Bool, true, false, ◌==◌, ◌||◌, if◌then◌else◌, List, [], ◌∷◌, ◌++◌, None, refl, ap, sym, ◌∙◌}
 use Rattle.std.proofs.lemmas.Bool.Decides.{Decides-eqb}
 use Rattle.merc_graded_tree.specs.Nodes.{Node, node, Goal, Basic, Conjunction, Disjunction, Switch, Conditional, Negation, Quantified, Nodes, no_nodes, more_nodes, Arms, no_arms, more_arms}
 use Rattle.merc_graded_tree.specs.Variables.{among, in_goal, in_node, in_nodes, in_arms}
@@ -33,7 +33,7 @@ mutual
   goal-among (Conditional c t e) v =
       among_append (node_variables c) (node_variables t ++ node_variables e) v
       ∙ both (among (node_variables c) v) (among (node_variables t ++ node_variables e) v) (in_node c v) (in_node t v || in_node e v) (node-among c v)
-        (among_append (node_variables t) (node_variables e) v ∙ both (among (node_variables t) v) (among (node_variables e) v) (in_node t v) (in_node e v) (node-among t v) (node-among e v))
+      (among_append (node_variables t) (node_variables e) v ∙ both (among (node_variables t) v) (among (node_variables e) v) (in_node t v) (in_node e v) (node-among t v) (node-among e v))
   goal-among (Negation n) v = node-among n v
   goal-among (Quantified own n) v = node-among n v
 

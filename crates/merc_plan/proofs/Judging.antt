@@ -135,6 +135,7 @@ abbrev pub Whole : (ℕ → Bool) → List ℕ → List Gift → Hold → Type 0
 Whole rights waits given hold = (c : ℕ) → rights c ≡ true → gift_at c given ≢ None
 
 -- Up to its first answer, at which `end` holds, a course that cannot fail before it signals and waits with the right alone.
+-- A right to wait is gone where a fork names an own cell as its cell, as it is for scripts.
 -- rights: to signal, at the start; given: those that are used up; waits: rights to wait that are left.
 abbrev mutual
   pub Keeps : (List ℕ → List Gift → Hold → Type 0) → (ℕ → Bool) → List ℕ → List Gift → BranchCourse → Type 0
@@ -148,7 +149,7 @@ abbrev mutual
   Keeps end rights waits given (Forks i x kids t) =
     SiteFits (kid_count kids) rights given waits x
     × (AllKeep x 1 kids
-    × (AllAnswer kids → Keeps end rights (uses 0 x.cells ++ without (moved false x.moves) waits) (given ++ gifts_through (moved true x.moves) (all_give kids)) t))
+    × (AllAnswer kids → Keeps end rights (uses 0 x.cells ++ without (names x.cells) (without (moved false x.moves) waits)) (given ++ gifts_through (moved true x.moves) (all_give kids)) t))
 
   pub AllKeep : Fork → ℕ → BranchCourses → Type 0
   AllKeep x k no_branches = ⊤
@@ -164,7 +165,7 @@ Quiet next pending (Finds hold t) = Quiet next [] t
 Quiet next pending (Awaits c v t) = (has c pending ≡ true) × ((next ≤ c) × Quiet next (without (c ∷ []) pending) t)
 Quiet next pending (Gives c v t) = ⊥
 Quiet next pending (Forks i x kids t) =
-  (x.moves ≡ []) × (OwnFits (kid_count kids) next x × (AllKeep x 1 kids × (AllAnswer kids → Quiet next (uses 0 x.cells ++ pending) t)))
+  (x.moves ≡ []) × (OwnFits (kid_count kids) next x × (AllKeep x 1 kids × (AllAnswer kids → Quiet next (uses 0 x.cells ++ without (names x.cells) pending) t)))
 
 -- Scripts of which cells are told by names.
 

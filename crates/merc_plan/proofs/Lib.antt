@@ -3,3 +3,10 @@ pub mod Judging
 pub mod Likes
 pub mod Flats
 pub mod Events
+pub mod Sets
+pub mod Holds
+pub mod Serves
+pub mod Walks
+pub mod Joins
+pub mod Items
+pub mod Depths
