@@ -67,12 +67,13 @@ Within s outs = (x : ℕ) → are_for s x ≡ true → among outs x ≡ true
 abbrev pub AllUsed : List Right → (ℕ → Bool) → Type 0
 AllUsed w uses = (x : ℕ) → are_for w x ≡ true → uses x ≡ true
 
--- owed: the variables in w are owed, or here; known: what is owed is bound, as the trace has it
+-- owed: each variable in w is owed, since nobody waits without a right; known: what is owed is bound, as the trace has it; once: w has one right for each variable
 pub record Fit (b : Bound) (here : Set) (w : List Right) (hold : Hold) : Type 0 where
   pub held : (x : ℕ) → here x → (v : Value) × Here hold x v
   pub below : (x : ℕ) → here x → b x ≡ true
-  pub owed : (x : ℕ) → are_for w x ≡ true → here x ⊎ ((c : ℕ) × ((o : Option Value) × Owed hold x c o))
+  pub owed : (x : ℕ) → are_for w x ≡ true → (c : ℕ) × ((o : Option Value) × Owed hold x c o)
   pub known : (x c : ℕ) (o : Option Value) → Owed hold x c o → b x ≡ true
+  pub once : AreDistinct (map (λ (right : Right). right.variable) w)
 
 -- the values that are here are of their types and symbols, and so are those that are owed; what occurs in a goal and has a value is bound
 module _ (known : Module) (types i : Instance) where
@@ -83,7 +84,7 @@ module _ (known : Module) (types i : Instance) where
     pub typed_owed : (x c : ℕ) (v : Value) → Owed hold x c (Some v) → HasType known.types v (replaced i (types x))
     pub bound : (x : ℕ) (s : Symbol) → occurs x ≡ true → known_of seen x ≡ Some s → b x ≡ true
     pub knows : (x : ℕ) (s : Symbol) (v : Value) → known_of seen x ≡ Some s → Here hold x v → (vs : Values) × (fields s v ≡ Some vs)
-    pub knows_owed : (x c : ℕ) (s : Symbol) (v : Value) → known_of seen x ≡ Some s → Owed hold x c (Some v) → (vs : Values) × (fields s v ≡ Some vs)
+    pub knows_owed : (x c : ℕ) (s : Symbol) (v : Value) → occurs x ≡ true → known_of seen x ≡ Some s → Owed hold x c (Some v) → (vs : Values) × (fields s v ≡ Some vs)
 
   -- behind a goal with these outputs
   pub record After (out : Variables) (b : Bound) (outs : List ℕ) (occurs : Variables) (seen seen' : Known) (hold hold' : Hold) : Type 0 where
@@ -99,7 +100,7 @@ pub record Match (w : List Right) (hold : Hold) (full : Env) : Type 0 where
   pub same : (x : ℕ) (v : Value) → Here hold x v → value_at full x ≡ Some v
   pub comes : (x c : ℕ) (o : Option Value) → are_for w x ≡ true → Owed hold x c o → (v : Value) × ((o ≡ Some v) × (value_at full x ≡ Some v))
 
--- The names of cells: below next, each with one right.
+-- The names of cells: below next, each with one right. What is owed has no value yet.
 pub record Names (hold : Hold) : Type 0 where
   pub low : (x c : ℕ) → has c (signs x hold) ≡ true → c < hold.next
   pub apart : (x y c : ℕ) → has c (signs x hold) ≡ true → has c (signs y hold) ≡ true → x ≡ y
@@ -110,6 +111,7 @@ pub record Names (hold : Hold) : Type 0 where
   pub cells : AreDistinct (map (λ (right : HeldSignal). right.cell) hold.signals)
   pub wait_cells : AreDistinct (map (λ (right : HeldWait). right.cell) hold.waits)
   pub wait_variables : AreDistinct (map (λ (right : HeldWait). right.variable) hold.waits)
+  pub valueless : (x c : ℕ) (o : Option Value) (v : Value) → Owed hold x c o → Here hold x v → ⊥
 
 -- From before a goal to one of its answers. later: the variables that are used behind the goal on its path.
 pub record Moves (here : Set) (w : List Right) (later : ℕ → Bool) (outs : List ℕ) (hold hold' : Hold) : Type 0 where
@@ -164,7 +166,6 @@ pub record Rightful (w s : List Right) (outs : List ℕ) (rights : ℕ → Bool)
   pub to_wait : (x c : ℕ) (o : Option Value) → are_for w x ≡ true → Owed hold x c o → has c held ≡ true
   pub within : Within s outs
   pub low : (c : ℕ) → rights c ≡ true → c < hold.next
-  pub once : AreDistinct (map (λ (right : Right). right.variable) w)
 
 -- the plan has these at the sites from a number on
 abbrev pub Planned : Plan → ℕ → List SiteInfo → Type 0
@@ -184,15 +185,15 @@ module _ (known : Module) (types i : Instance) where
     -- first answer, and where there are no rights.
     pub record Goes (n : Node) (make : (ℕ → Bool) → List Right → List Right → Node) (fits : (ℕ → Bool) → List Right → List Right → Type 0) : Type 1 where
       pub along : (later : ℕ → Bool) (w s : List Right) (out : Variables) (b : Bound) (seen : Known) (here : Set) (hold : Hold) (full : Env) → fits later w s → AllUsed w (in_node n) → Within s (outputs_of n)
-        → Sound out b seen n → Fits known types i out b (in_node n) seen full → Fit b here w hold → Match w hold full → Ready here w b (in_node n) → Names hold
-        → Like (Ends b full here w later (outputs_of n) hold) (flat (node_branch plan split course (make later w s) hold)) (events (node_trace program calls n full))
-        × Sure (node_branch plan split course (make later w s) hold)
+          → Sound out b seen n → Fits known types i out b (in_node n) seen full → Fit b here w hold → Match w hold full → Ready here w b (in_node n) → Names hold
+          → Like (Ends b full here w later (outputs_of n) hold) (flat (node_branch plan split course (make later w s) hold)) (events (node_trace program calls n full))
+          × Sure (node_branch plan split course (make later w s) hold)
       pub uses : (later : ℕ → Bool) (w s : List Right) (out : Variables) (b : Bound) (seen : Known) (here : Set) (hold : Hold) (rights : ℕ → Bool) (held : List ℕ) (g : List Gift) → fits later w s → AllUsed w (in_node n)
-        → Sound out b seen n → can_fail_of (category_at n) ≡ false → Fine known types i out b (in_node n) seen hold → Fit b here w hold → Ready here w b (in_node n) → Names hold
-        → Rightful w s (outputs_of n) rights held g hold
-        → Keeps (Used (After known types i out b (outputs_of n) (in_node n) seen (known_behind n seen) hold) (most_of (category_at n) ≡ Zero) here w s later (outputs_of n) hold held g) rights held g
+          → Sound out b seen n → can_fail_of (category_at n) ≡ false → Fine known types i out b (in_node n) seen hold → Fit b here w hold → Ready here w b (in_node n) → Names hold
+          → Rightful w s (outputs_of n) rights held g hold
+          → Keeps (Used (After known types i out b (outputs_of n) (in_node n) seen (known_behind n seen) hold) (most_of (category_at n) ≡ Zero) here w s later (outputs_of n) hold held g) rights held g
           (node_branch plan split course (make later w s) hold)
       pub quiet : (later : ℕ → Bool) (out : Variables) (b : Bound) (seen : Known) (here : Set) (hold : Hold) → fits later [] [] → Sound out b seen n → Fine known types i out b (in_node n) seen hold → Fit b here [] hold
-        → Ready here [] b (in_node n) → Names hold → Quiet hold.next [] (node_branch plan split course (make later [] []) hold)
+          → Ready here [] b (in_node n) → Names hold → Quiet hold.next [] (node_branch plan split course (make later [] []) hold)
       pub rated : (later : ℕ → Bool) (w s : List Right) → category_of (make later w s) ≡ category_of n
       pub shaped : (later : ℕ → Bool) (w s : List Right) → outputs_of (make later w s) ≡ outputs_of n

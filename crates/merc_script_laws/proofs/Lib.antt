@@ -1,1 +1,4 @@
 pub mod Bonds
+pub mod RightLists
+pub mod Steps
+pub mod Using
