@@ -8,9 +8,10 @@ use Rattle.merc_graded_tree.specs.declared.entries.Running.TheVariants.{Sequenti
 use Rattle.merc_graded_tree.specs.Nodes.{Node, Conjunction, Switch, Conditional, Negation, Quantified, nodes_of, more_arms, no_arms}
 use Rattle.merc_meaning.specs.Trace.{Run}
 use Rattle.merc_meaning.specs.Runs.{Program, ProcedureBody, run}
-use Rattle.merc_meaning.specs.RunExamples.{goal, graded, basic, sequence, either, procedure, truth, failure}
+use Rattle.merc_meaning.specs.RunExamples.{goal, basic, sequence, procedure, truth, failure}
 use Rattle.merc_course.specs.Course.{whole}
 use Rattle.merc_course.specs.Courses.{course}
+use Rattle.merc_course.specs.CoursesExamples.{either}
 use Rattle.merc_course.specs.Alone.{BasicMeetsNobody, ForksNothing, GoalMeetsNobody, MeetsNobody, AllMeetNobody, ArmsMeetNobody, BodyMeetsNobody, ProgramMeetsNobody}
 
 abbrev waits : Node

@@ -1,5 +1,5 @@
 -- Worked examples of courses of goals, one for each kind. `number(out)` answers 1 and 2, `twice(in, out)` adds its input to itself, `loop` calls itself.
-use Rattle.std.specs.Prelude.{◌≡◌, ℕ, pos, List, [], ◌∷◌, Some, None, slice_get, refl}
+use Rattle.std.specs.Prelude.{◌≡◌, ℕ, pos, false, List, [], ◌∷◌, Some, None, slice_get, refl}
 use Rattle.merc_base.specs.declared.category.Category.TheVariants.{Semidet, Multi}
 use Rattle.merc_tree.specs.declared.declarations.Arg.TheVariants.{Input, Output}
 use Rattle.merc_value.specs.Value.{Int, Con, none, more}
@@ -9,13 +9,16 @@ use Rattle.merc_goal_tree.specs.declared.goal.Symbol.{Symbol}
 use Rattle.merc_goal_tree.specs.declared.goal.Symbol.TheVariants.{Constructor, Integer, Text}
 use Rattle.merc_graded_tree.specs.declared.basic.BasicGoal.TheVariants.{Assign, Test, Build, Split, Arithmetic, Compare, Raise, Call, Wait, Signal}
 use Rattle.merc_graded_tree.specs.declared.entries.Running.TheVariants.{Parallel}
-use Rattle.merc_graded_tree.specs.Nodes.{Node, Conjunction, Switch, Conditional, Negation, Quantified, nodes_of, Arms, no_arms, more_arms}
+use Rattle.merc_graded_tree.specs.Nodes.{Node, Conjunction, Disjunction, Switch, Conditional, Negation, Quantified, nodes_of, Arms, no_arms, more_arms}
 use Rattle.merc_meaning.specs.Trace.{Env, Raised, RunDone, LimitPassed}
 use Rattle.merc_meaning.specs.Runs.{Program, ProcedureBody}
-use Rattle.merc_meaning.specs.RunExamples.{goal, graded, basic, sequence, either, procedure, truth, failure}
+use Rattle.merc_meaning.specs.RunExamples.{goal, graded, basic, sequence, procedure, truth, failure}
 use Rattle.merc_course.specs.Course.{AtWait, AtSignal, Given, Passed, Joined, GoalCourse, Ends, Tick, Answer, Meets, no_courses, replied, one_answer}
 use Rattle.merc_course.specs.Courses.{given_by, told, handed_on, once_if, called, where_some, taken_arm, node_course, call_course, course}
 use Rattle.merc_course.specs.CourseExamples.{int, one, two, done, step}
+
+abbrev pub either : List Node → List ℕ → Node
+either goals outputs = goal (Disjunction (nodes_of goals)) outputs
 
 abbrev number_body : ProcedureBody
 number_body = record { places = Output ∷ []; body = either (basic (Build 0 (Integer (pos 1)) []) (0 ∷ []) ∷ basic (Build 0 (Integer (pos 2)) []) (0 ∷ []) ∷ []) (0 ∷ []) }
