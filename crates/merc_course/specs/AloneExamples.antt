@@ -1,12 +1,10 @@
 -- Worked examples of goals that meet nobody, and of some that meet others.
-use Rattle.std.specs.Prelude.{◌≡◌, ℕ, pos, [], ◌∷◌, Some, None, refl}
-use Rattle.merc_base.specs.declared.category.Category.TheVariants.{Multi}
+use Rattle.std.specs.Prelude.{◌≡◌, pos, [], ◌∷◌, Some, None, refl}
 use Rattle.merc_tree.specs.declared.declarations.Arg.TheVariants.{Output}
 use Rattle.merc_goal_tree.specs.declared.goal.Symbol.TheVariants.{Constructor, Integer}
 use Rattle.merc_graded_tree.specs.declared.basic.BasicGoal.TheVariants.{Build, Call, Wait, Signal}
 use Rattle.merc_graded_tree.specs.declared.entries.Running.TheVariants.{Sequential, Parallel}
 use Rattle.merc_graded_tree.specs.Nodes.{Node, Conjunction, Switch, Conditional, Negation, Quantified, nodes_of, more_arms, no_arms}
-use Rattle.merc_meaning.specs.Trace.{Run}
 use Rattle.merc_meaning.specs.Runs.{Program, ProcedureBody, run}
 use Rattle.merc_meaning.specs.RunExamples.{goal, basic, sequence, procedure, truth, failure}
 use Rattle.merc_course.specs.Course.{whole}

@@ -1,5 +1,5 @@
 -- Worked examples of courses, and of what is made of them.
-use Rattle.std.specs.Prelude.{◌≡◌, ℕ, pos, [], ◌∷◌, Option, Some, None, refl}
+use Rattle.std.specs.Prelude.{◌≡◌, ℕ, pos, [], ◌∷◌, Option, Some, refl}
 use Rattle.merc_value.specs.Value.{Value, Int}
 use Rattle.merc_meaning.specs.Trace.{Env, Ends as EventEnds, Tick as EventTick, Answer as EventAnswer, Done, Raised, TooDeep, RunDone, RunRaised, LimitPassed}
 use Rattle.merc_course.specs.Course.{AtWait, AtSignal, AtFork, Reply, Given, Passed, Joined, Ends, Tick, Answer, Meets, no_courses, more_courses, GoalCourse, whole, replied, one_answer, after, each, taken_back, first_alone, choose, negated, closed, left_after, cut, cut_all}

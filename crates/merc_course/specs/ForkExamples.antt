@@ -11,7 +11,7 @@ use Rattle.merc_meaning.specs.Trace.{Env, RunDone, LimitPassed}
 use Rattle.merc_meaning.specs.Runs.{Program, ProcedureBody, run}
 use Rattle.merc_meaning.specs.Shown.{shown as run_shown}
 use Rattle.merc_meaning.specs.RunExamples.{goal, basic, sequence, procedure, truth, failure}
-use Rattle.merc_course.specs.Course.{AtWait, AtSignal, AtFork, Given, Passed, Joined, GoalCourse, Ends, Tick, Answer, Meets, Courses, no_courses, more_courses, whole, replied, one_answer, closed, left_after, cut}
+use Rattle.merc_course.specs.Course.{AtWait, AtSignal, AtFork, Given, Joined, GoalCourse, Ends, Tick, Answer, Meets, no_courses, more_courses, whole, replied, one_answer, closed, left_after, cut}
 use Rattle.merc_course.specs.Variables.{node_variables, only}
 use Rattle.merc_course.specs.Courses.{given_by, told, node_course, conjuncts, call_course, course}
 use Rattle.merc_course.specs.Shown.{shown}

@@ -4,7 +4,7 @@ use Rattle.merc_tree.specs.Term.{no_span}
 use Rattle.merc_goal_tree.specs.declared.goal.Symbol.TheVariants.{Constructor}
 use Rattle.merc_graded_tree.specs.declared.basic.BasicGoal.TheVariants.{Raise, Assign, Wait, Signal}
 use Rattle.merc_graded_tree.specs.declared.entries.Running.TheVariants.{Sequential, Parallel}
-use Rattle.merc_graded_tree.specs.Nodes.{Node, node, Goal, Basic, Conjunction, Disjunction, Switch, Conditional, Negation, Quantified, nodes_of, no_nodes, no_arms, more_arms}
+use Rattle.merc_graded_tree.specs.Nodes.{Node, node, Goal, Basic, Conjunction, Disjunction, Switch, Conditional, Negation, Quantified, nodes_of, no_arms, more_arms}
 use Rattle.merc_course.specs.Variables.{goal_variables, node_variables, all_variables, arms_variables, only}
 use Rattle.merc_course.specs.CourseExamples.{int}
 
