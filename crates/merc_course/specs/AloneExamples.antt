@@ -1,28 +1,28 @@
 -- Worked examples of goals that meet nobody, and of some that meet others.
-use Rattle.std.specs.Prelude.{◌≡◌, pos, [], ◌∷◌, Some, None, refl}
+use Rattle.std.specs.Prelude.{◌≡◌, [], ◌∷◌, Some, None, refl}
 use Rattle.merc_tree.specs.declared.declarations.Arg.TheVariants.{Output}
-use Rattle.merc_goal_tree.specs.declared.goal.Symbol.TheVariants.{Constructor, Integer}
-use Rattle.merc_graded_tree.specs.declared.basic.BasicGoal.TheVariants.{Build, Call, Wait, Signal}
+use Rattle.merc_goal_tree.specs.declared.goal.Symbol.TheVariants.{Constructor}
+use Rattle.merc_graded_tree.specs.declared.basic.BasicGoal.TheVariants.{Call, Wait, Signal}
 use Rattle.merc_graded_tree.specs.declared.entries.Running.TheVariants.{Sequential, Parallel}
 use Rattle.merc_graded_tree.specs.Nodes.{Node, Conjunction, Switch, Conditional, Negation, Quantified, nodes_of, more_arms, no_arms}
 use Rattle.merc_meaning.specs.Runs.{Program, ProcedureBody, run}
 use Rattle.merc_meaning.specs.RunExamples.{goal, basic, sequence, procedure, truth, failure}
 use Rattle.merc_course.specs.Course.{whole}
 use Rattle.merc_course.specs.Courses.{course}
-use Rattle.merc_course.specs.CoursesExamples.{either}
+use Rattle.merc_course.specs.CoursesExamples.{either, is_int, wait, signal}
 use Rattle.merc_course.specs.Alone.{BasicMeetsNobody, ForksNothing, GoalMeetsNobody, MeetsNobody, AllMeetNobody, ArmsMeetNobody, BodyMeetsNobody, ProgramMeetsNobody}
 
 abbrev waits : Node
-waits = basic (Wait 0 2) (0 ∷ [])
+waits = wait 0 2
 
 abbrev signals : Node
-signals = basic (Signal 0 2) []
+signals = signal 0 2
 
 abbrev calls : Node
 calls = basic (Call (procedure 0) (0 ∷ [])) (0 ∷ [])
 
 abbrev is_one : Node
-is_one = basic (Build 0 (Integer (pos 1)) []) (0 ∷ [])
+is_one = is_int 0 1
 
 abbrev beside : Node
 beside = goal (Conjunction (Parallel (Some (record { number = 7 }))) (nodes_of (is_one ∷ truth ∷ []))) (0 ∷ [])
@@ -57,6 +57,23 @@ meets-arms meets = meets.0
 
 meets-conjunct : AllMeetNobody (nodes_of (truth ∷ signals ∷ [])) → ⊥
 meets-conjunct meets = meets.1.0
+
+-- in any part of a condition, and below a quantifier
+
+meets-condition : MeetsNobody (goal (Conditional waits truth truth) (0 ∷ [])) → ⊥
+meets-condition meets = meets.0
+
+meets-then : MeetsNobody (goal (Conditional truth signals truth) []) → ⊥
+meets-then meets = meets.1
+
+meets-else : MeetsNobody (goal (Conditional truth truth beside) (0 ∷ [])) → ⊥
+meets-else meets = meets.2.0
+
+meets-disjunction : MeetsNobody (either (truth ∷ waits ∷ []) (0 ∷ [])) → ⊥
+meets-disjunction meets = meets.1.0
+
+meets-quantified : MeetsNobody (goal (Quantified (1 ∷ []) waits) (0 ∷ [])) → ⊥
+meets-quantified meets = meets
 
 meets-negation : MeetsNobody (goal (Negation beside) []) → ⊥
 meets-negation meets = meets.0

@@ -99,6 +99,12 @@ each-raised = refl
 each-given : replied (Given (Int (pos 7)) ∷ []) (each (λ env. Tick (one_answer env)) meeting) ≡ Tick (one_answer (int 7 ∷ []))
 each-given = refl
 
+each-passed : replied (Passed ∷ []) (each (λ env. Tick (one_answer two)) meeting) ≡ Tick (Tick (one_answer two))
+each-passed = refl
+
+each-joined : replied (Joined 5 ∷ []) (each (λ env. Tick (one_answer env)) meeting) ≡ Ends (Raised 5)
+each-joined = refl
+
 -- an answer is replaced by a meeting
 each-meets : each (λ env. Meets (AtSignal 0 (Int (pos 1))) no_courses (λ reply. one_answer env)) (step (one_answer two))
     ≡ Tick (Meets (AtSignal 0 (Int (pos 1))) no_courses (λ reply. Answer one (Meets (AtSignal 0 (Int (pos 1))) no_courses (λ again. one_answer two))))
@@ -114,6 +120,12 @@ taken_back-example = refl
 
 taken_back-raised : taken_back (λ env. two) (step (Ends (Raised 7))) ≡ Tick (Answer two (Ends (Raised 7)))
 taken_back-raised = refl
+
+taken_back-given : replied (Given (Int (pos 7)) ∷ []) (taken_back (λ env. int 1 ∷ env) meeting) ≡ one_answer (int 1 ∷ int 7 ∷ [])
+taken_back-given = refl
+
+taken_back-joined : replied (Joined 5 ∷ []) (taken_back (λ env. two) meeting) ≡ Ends (Raised 5)
+taken_back-joined = refl
 
 taken_back-passed : replied (Passed ∷ []) (taken_back (λ env. two) meeting) ≡ Tick (one_answer two)
 taken_back-passed = refl
@@ -132,6 +144,15 @@ first_alone-none = refl
 -- a meeting before the first answer stays, one behind it goes
 first_alone-meets : first_alone (Meets (AtWait 0) no_courses (λ reply. Answer one meeting)) ≡ Meets (AtWait 0) no_courses (λ reply. one_answer one)
 first_alone-meets = refl
+
+first_alone-given : replied (Given (Int (pos 7)) ∷ []) (first_alone (after meeting (one_answer two))) ≡ one_answer (int 7 ∷ [])
+first_alone-given = refl
+
+first_alone-passed : replied (Passed ∷ []) (first_alone (after meeting (one_answer two))) ≡ step done
+first_alone-passed = refl
+
+first_alone-joined : replied (Joined 5 ∷ []) (first_alone (after meeting (one_answer two))) ≡ Ends (Raised 5)
+first_alone-joined = refl
 
 first_alone-not : first_alone (Answer one meeting) ≡ Answer one meeting → ⊥
 first_alone-not stays = cc
@@ -153,10 +174,16 @@ choose-too_deep = refl
 choose-given : replied (Given (Int (pos 7)) ∷ []) (choose (λ env. Tick (one_answer env)) (one_answer one) meeting) ≡ Tick (one_answer (int 7 ∷ []))
 choose-given = refl
 
+choose-passed : replied (Passed ∷ []) (choose (λ env. one_answer two) (one_answer one) meeting) ≡ Tick (one_answer two)
+choose-passed = refl
+
 -- conjuncts that joined make no answer of their own
 choose-joined : choose (λ env. one_answer two) (one_answer one) (Meets (AtFork 3) (more_courses (one_answer two) no_courses) (λ reply. done))
     ≡ Meets (AtFork 3) (more_courses (one_answer two) no_courses) (λ reply. one_answer one)
 choose-joined = refl
+
+choose-joined_raised : replied (Joined 5 ∷ []) (choose (λ env. one_answer two) (one_answer one) meeting) ≡ Ends (Raised 5)
+choose-joined_raised = refl
 
 choose-not : choose (λ env. one_answer two) (one_answer one) (Tick done) ≡ Tick (one_answer two) → ⊥
 choose-not same = cc
@@ -174,6 +201,9 @@ negated-too_deep = refl
 
 negated-given : replied (Given (Int (pos 7)) ∷ []) (negated two meeting) ≡ done
 negated-given = refl
+
+negated-passed : replied (Passed ∷ []) (negated two meeting) ≡ Tick done
+negated-passed = refl
 
 negated-joined : replied (Joined 5 ∷ []) (negated two meeting) ≡ Ends (Raised 5)
 negated-joined = refl
@@ -198,6 +228,9 @@ closed-given = refl
 closed-passed : replied (Passed ∷ []) (closed meeting) ≡ Tick done
 closed-passed = refl
 
+closed-joined : replied (Joined 5 ∷ []) (closed meeting) ≡ Ends (Raised 5)
+closed-joined = refl
+
 closed-not : closed (Answer one (Ends (Raised 7))) ≡ Ends (Raised 7) → ⊥
 closed-not goes_on = cc
 
@@ -212,6 +245,13 @@ left_after-passed = refl
 left_after-joined : left_after 5 (Joined 2) ≡ 3
 left_after-joined = refl
 
+-- no more are made than were left
+left_after-all : left_after 5 (Joined 7) ≡ 0
+left_after-all = refl
+
+left_after-passed_not : left_after 5 Passed ≡ 4 → ⊥
+left_after-passed_not is_a_step = cc
+
 left_after-not : left_after 5 (Joined 2) ≡ 5 → ⊥
 left_after-not counts_none = cc
 
@@ -223,6 +263,9 @@ cut-passed = refl
 
 cut-raised : cut 1 (step (Ends (Raised 7))) ≡ Tick (Answer one (Ends (RunRaised 7)))
 cut-raised = refl
+
+cut-not : cut 1 (step (step done)) ≡ Tick (Answer one (Ends RunDone)) → ⊥
+cut-not ends_well = cc
 
 -- what is too deep is behind the limit
 cut-too_deep : cut 3 (step (Ends TooDeep)) ≡ Tick (Answer one (Ends LimitPassed))
@@ -242,6 +285,9 @@ cut-given = refl
 cut-given_passed : replied (Given (Int (pos 7)) ∷ []) (cut 1 waits) ≡ Tick (Ends LimitPassed)
 cut-given_passed = refl
 
+cut-given_not : replied (Given (Int (pos 7)) ∷ []) (cut 2 waits) ≡ Tick (Ends LimitPassed) → ⊥
+cut-given_not is_a_step = cc
+
 -- conjuncts that joined have made their steps
 cut-joined : replied (Joined 3 ∷ []) (cut 5 forks) ≡ Tick (Tick (Ends RunDone))
 cut-joined = refl
@@ -255,6 +301,9 @@ cut-joined_not counts_none = cc
 -- each conjunct may make as many steps as are left at the fork
 cut_all-example : cut_all 1 (more_courses (Tick (Tick done)) (more_courses (Tick done) no_courses)) ≡ more_courses (Tick (Ends LimitPassed)) (more_courses (Tick (Ends RunDone)) no_courses)
 cut_all-example = refl
+
+cut_all-not : cut_all 1 (more_courses (Tick done) (more_courses (Tick done) no_courses)) ≡ more_courses (Tick (Ends RunDone)) (more_courses (Ends LimitPassed) no_courses) → ⊥
+cut_all-not share_the_steps = cc
 
 cut-forked : cut 2 (Tick (Meets (AtFork 3) (more_courses (Tick (Tick done)) no_courses) (λ reply. done)))
     ≡ Tick (Meets (AtFork 3) (more_courses (Tick (Ends LimitPassed)) no_courses) (λ reply. Ends RunDone))

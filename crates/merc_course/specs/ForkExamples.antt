@@ -1,31 +1,20 @@
 -- Worked examples of conjuncts that are forked: `X = 1 & Y = X`, one such in a condition, in a negation and in a procedure, and `( X = 1 & Y = X ) & Z = Y`.
 use Rattle.std.specs.Prelude.{◌≡◌, ℕ, pos, List, [], ◌∷◌, Some, None, slice_get, refl}
-use Rattle.merc_tree.specs.declared.declarations.Arg.TheVariants.{Input, Output}
+use Rattle.merc_tree.specs.declared.declarations.Arg.TheVariants.{Output}
 use Rattle.merc_value.specs.Value.{Value, Int}
-use Rattle.merc_goal_tree.specs.declared.goal.Operation.TheVariants.{Add}
-use Rattle.merc_goal_tree.specs.declared.goal.Symbol.TheVariants.{Integer}
-use Rattle.merc_graded_tree.specs.declared.basic.BasicGoal.TheVariants.{Assign, Build, Arithmetic, Call, Wait, Signal}
+use Rattle.merc_graded_tree.specs.declared.basic.BasicGoal.TheVariants.{Assign, Call}
 use Rattle.merc_graded_tree.specs.declared.entries.Running.TheVariants.{Parallel}
 use Rattle.merc_graded_tree.specs.Nodes.{Node, Conjunction, Conditional, Negation, nodes_of}
 use Rattle.merc_meaning.specs.Trace.{Env, RunDone, LimitPassed}
 use Rattle.merc_meaning.specs.Runs.{Program, ProcedureBody, run}
 use Rattle.merc_meaning.specs.Shown.{shown as run_shown}
 use Rattle.merc_meaning.specs.RunExamples.{goal, basic, sequence, procedure, truth, failure}
-use Rattle.merc_course.specs.Course.{AtWait, AtSignal, AtFork, Given, Joined, GoalCourse, Ends, Tick, Answer, Meets, no_courses, more_courses, whole, replied, one_answer, closed, left_after, cut}
+use Rattle.merc_course.specs.Course.{AtWait, AtSignal, AtFork, Given, Passed, Joined, GoalCourse, Ends, Tick, Answer, Meets, no_courses, more_courses, whole, replied, one_answer, closed, left_after, cut}
 use Rattle.merc_course.specs.Variables.{node_variables, only}
 use Rattle.merc_course.specs.Courses.{given_by, told, node_course, conjuncts, call_course, course}
 use Rattle.merc_course.specs.Shown.{shown}
 use Rattle.merc_course.specs.CourseExamples.{int, done}
-
-abbrev is_int : ℕ → ℕ → Node
-is_int variable value = basic (Build variable (Integer (pos value)) []) (variable ∷ [])
-
--- a wait as this conjunct, and a signal for this one, 0 for what is behind
-abbrev wait : ℕ → ℕ → Node
-wait variable conjunct = basic (Wait variable conjunct) (variable ∷ [])
-
-abbrev signal : ℕ → ℕ → Node
-signal variable conjunct = basic (Signal variable conjunct) []
+use Rattle.merc_course.specs.CoursesExamples.{is_int, wait, signal, twice_body}
 
 abbrev is_same : ℕ → ℕ → Node
 is_same to from = basic (Assign to from) (to ∷ [])
@@ -47,9 +36,6 @@ both = sequence (fork 7 (first ∷ second ∷ []) (1 ∷ []) ∷ wait 1 0 ∷ []
 -- `beside(out)` has these two, and `twice(in, out)` adds its input to itself
 abbrev beside_body : ProcedureBody
 beside_body = record { places = Output ∷ []; body = sequence (fork 8 (is_int 1 1 ∷ sequence (is_int 0 2 ∷ signal 0 0 ∷ []) (0 ∷ []) ∷ []) (0 ∷ []) ∷ wait 0 0 ∷ []) (0 ∷ []) }
-
-abbrev twice_body : ProcedureBody
-twice_body = record { places = Input ∷ Output ∷ []; body = basic (Arithmetic Add 1 0 0) (1 ∷ []) }
 
 abbrev program : Program
 program asked = slice_get (beside_body ∷ twice_body ∷ []) asked.predicate
@@ -79,6 +65,12 @@ first-example = refl
 second-given : replied (Given one_value ∷ []) (conjunct second) ≡ Meets (AtSignal 1 one_value) no_courses (λ reply. done)
 second-given = refl
 
+first-not : conjunct first ≡ done → ⊥
+first-not keeps_its_value = cc
+
+second-not : conjunct second ≡ Meets (AtSignal 1 one_value) no_courses (λ reply. done) → ⊥
+second-not does_not_wait = cc
+
 both-given : replied (Joined 0 ∷ Given one_value ∷ []) (of both) ≡ one_answer (None ∷ int 1 ∷ [])
 both-given = refl
 
@@ -92,6 +84,13 @@ both-not shows_what_conjuncts_keep = cc
 -- what conjuncts bind is not there behind the fork until it is waited for
 fork-joined : replied (Joined 0 ∷ []) (of (fork 7 (first ∷ second ∷ []) (1 ∷ []))) ≡ one_answer []
 fork-joined = refl
+
+-- so it is at each reply
+fork-given : replied (Given one_value ∷ []) (of (fork 7 (first ∷ second ∷ []) (1 ∷ []))) ≡ one_answer []
+fork-given = refl
+
+fork-passed : replied (Passed ∷ []) (of (fork 7 (first ∷ second ∷ []) (1 ∷ []))) ≡ one_answer []
+fork-passed = refl
 
 fork-not : replied (Joined 0 ∷ []) (of (fork 7 (first ∷ second ∷ []) (1 ∷ []))) ≡ one_answer (int 1 ∷ []) → ⊥
 fork-not binds = cc
@@ -118,11 +117,20 @@ conditional-forks = refl
 negation-forks : of (goal (Negation (fork 7 (truth ∷ failure ∷ []) [])) []) ≡ Meets (AtFork 7) (more_courses done (more_courses done no_courses)) (λ reply. done)
 negation-forks = refl
 
+conditional-not : replied (Joined 0 ∷ []) (of (goal (Conditional (fork 7 (truth ∷ failure ∷ []) []) (is_int 0 1) (is_int 0 2)) (0 ∷ []))) ≡ one_answer (int 2 ∷ []) → ⊥
+conditional-not knows_how_conjuncts_end = cc
+
+negation-not : of (goal (Negation (fork 7 (truth ∷ failure ∷ []) [])) []) ≡ one_answer [] → ⊥
+negation-not forks_nothing = cc
+
 -- a procedure that forks: its caller is given what is waited for behind the fork
 call-forks : of (basic (Call (procedure 0) (3 ∷ [])) (3 ∷ []))
     ≡ Tick (Meets (AtFork 8) (more_courses done (more_courses (Meets (AtSignal 0 (Int (pos 2))) no_courses (λ reply. done)) no_courses))
       (λ reply. Meets (AtWait 0) no_courses (λ given. one_answer (None ∷ None ∷ None ∷ given_by given ∷ []))))
 call-forks = refl
+
+call-not : replied (Joined 0 ∷ Given (Int (pos 2)) ∷ []) (of (basic (Call (procedure 0) (3 ∷ [])) (3 ∷ []))) ≡ Tick (one_answer (int 2 ∷ [])) → ⊥
+call-not in_the_place_of_its_own = cc
 
 -- each conjunct may make the steps that are left at the fork, and behind it those of all are made
 
@@ -176,6 +184,12 @@ nested-given = refl
 
 nested-run : shown (2 ∷ []) (replied (Joined 0 ∷ Given one_value ∷ []) (course program nested 10)) ≡ whole (run_shown (2 ∷ []) (run program nested 10))
 nested-run = refl
+
+inner_second-not : replied (Given one_value ∷ Passed ∷ []) (conjunct inner_second) ≡ done → ⊥
+inner_second-not signals_to_all_at_once = cc
+
+nested-given_not : replied (Joined 0 ∷ Given one_value ∷ []) (of nested) ≡ one_answer (int 1 ∷ int 1 ∷ int 1 ∷ []) → ⊥
+nested-given_not knows_what_conjuncts_keep = cc
 
 nested-not : conjunct outer_first ≡ conjunct (sequence (first ∷ inner_second ∷ wait 1 0 ∷ []) (1 ∷ [])) → ⊥
 nested-not in_order = cc

@@ -18,5 +18,8 @@ known-given = refl
 all_known-example : all_known (cut_all 1 (more_courses (Tick (Tick done)) (more_courses (Tick done) no_courses))) ≡ more_courses (Tick (Ends TooDeep)) (more_courses (Tick done) no_courses)
 all_known-example = refl
 
+all_known-not : all_known (cut_all 1 (more_courses (Tick (Tick done)) no_courses)) ≡ more_courses (Tick (Tick done)) no_courses → ⊥
+all_known-not forgets_nothing = cc
+
 known-not : known (cut 1 (step (step done))) ≡ step (step done) → ⊥
 known-not forgets_nothing = cc
