@@ -33,7 +33,7 @@ mutual
   goal-among (Conditional c t e) v =
       among_append (node_variables c) (node_variables t ++ node_variables e) v
       ∙ both (among (node_variables c) v) (among (node_variables t ++ node_variables e) v) (in_node c v) (in_node t v || in_node e v) (node-among c v)
-        (among_append (node_variables t) (node_variables e) v ∙ both (among (node_variables t) v) (among (node_variables e) v) (in_node t v) (in_node e v) (node-among t v) (node-among e v))
+      (among_append (node_variables t) (node_variables e) v ∙ both (among (node_variables t) v) (among (node_variables e) v) (in_node t v) (in_node e v) (node-among t v) (node-among e v))
   goal-among (Negation n) v = node-among n v
   goal-among (Quantified own n) v = node-among n v
 

@@ -59,7 +59,6 @@ in_env env asked = node_course program (call_course program 10) asked env
 abbrev of : Node → GoalCourse
 of asked = in_env [] asked
 
-
 -- goals that meet nobody do what they mean
 
 true-example : of truth ≡ one_answer []

@@ -126,7 +126,7 @@ negation-not forks_nothing = cc
 -- a procedure that forks: its caller is given what is waited for behind the fork
 call-forks : of (basic (Call (procedure 0) (3 ∷ [])) (3 ∷ []))
     ≡ Tick (Meets (AtFork 8) (more_courses done (more_courses (Meets (AtSignal 0 (Int (pos 2))) no_courses (λ reply. done)) no_courses))
-      (λ reply. Meets (AtWait 0) no_courses (λ given. one_answer (None ∷ None ∷ None ∷ given_by given ∷ []))))
+    (λ reply. Meets (AtWait 0) no_courses (λ given. one_answer (None ∷ None ∷ None ∷ given_by given ∷ []))))
 call-forks = refl
 
 call-not : replied (Joined 0 ∷ Given (Int (pos 2)) ∷ []) (of (basic (Call (procedure 0) (3 ∷ [])) (3 ∷ []))) ≡ Tick (one_answer (int 2 ∷ [])) → ⊥
