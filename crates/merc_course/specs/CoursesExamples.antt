@@ -301,11 +301,8 @@ conditional-else = refl
 conditional-waits : replied (Given (Int (pos 7)) ∷ []) (of (goal (Conditional (wait 0 2) (is_int 1 1) (is_int 1 2)) (0 ∷ 1 ∷ []))) ≡ one_answer (int 7 ∷ int 1 ∷ [])
 conditional-waits = refl
 
-conditional-not : of (goal (Conditional (number 0) (twice 0 1) failure) (0 ∷ 1 ∷ [])) ≡ Tick (Tick (one_answer (int 1 ∷ int 2 ∷ []))) → ⊥
+conditional-not : of (goal (Conditional (either (is_int 0 7 ∷ is_int 0 8 ∷ []) (0 ∷ [])) truth failure) (0 ∷ [])) ≡ one_answer (int 7 ∷ []) → ⊥
 conditional-not from_the_first_answer_alone = cc
-
-conditional-then_not : replied (Given (Int (pos 7)) ∷ []) (of (goal (Conditional truth (wait 0 2) (is_int 0 8)) (0 ∷ []))) ≡ Answer (int 7 ∷ []) (one_answer (int 8 ∷ [])) → ⊥
-conditional-then_not goes_on_to_the_other = cc
 
 -- a negation
 
@@ -359,10 +356,6 @@ limit-loop = refl
 
 limit-waits : replied (Given (Int (pos 21)) ∷ []) (course program (sequence (wait 0 2 ∷ twice 0 1 ∷ []) (0 ∷ 1 ∷ [])) 0) ≡ Ends LimitPassed
 limit-waits = refl
-
--- a wait is no step
-limit-waits_not : replied (Given (Int (pos 21)) ∷ []) (course program (sequence (wait 0 2 ∷ twice 0 1 ∷ []) (0 ∷ 1 ∷ [])) 1) ≡ Ends LimitPassed → ⊥
-limit-waits_not counts_the_wait = cc
 
 limit-not : course program (number 0) 0 ≡ Tick (Answer one (Answer two (Ends RunDone))) → ⊥
 limit-not without_a_limit = cc

@@ -129,8 +129,8 @@ call-forks : of (basic (Call (procedure 0) (3 ∷ [])) (3 ∷ []))
     (λ reply. Meets (AtWait 0) no_courses (λ given. one_answer (None ∷ None ∷ None ∷ given_by given ∷ []))))
 call-forks = refl
 
-call-not : replied (Joined 0 ∷ Given (Int (pos 2)) ∷ []) (of (basic (Call (procedure 0) (3 ∷ [])) (3 ∷ []))) ≡ Tick (one_answer (int 2 ∷ [])) → ⊥
-call-not in_the_place_of_its_own = cc
+call-not : replied (Joined 0 ∷ Given (Int (pos 2)) ∷ []) (of (basic (Call (procedure 0) (3 ∷ [])) (3 ∷ []))) ≡ one_answer (None ∷ None ∷ None ∷ int 2 ∷ []) → ⊥
+call-not takes_no_step = cc
 
 -- each conjunct may make the steps that are left at the fork, and behind it those of all are made
 
@@ -188,8 +188,5 @@ nested-run = refl
 inner_second-not : replied (Given one_value ∷ Passed ∷ []) (conjunct inner_second) ≡ done → ⊥
 inner_second-not signals_to_all_at_once = cc
 
-nested-given_not : replied (Joined 0 ∷ Given one_value ∷ []) (of nested) ≡ one_answer (int 1 ∷ int 1 ∷ int 1 ∷ []) → ⊥
-nested-given_not knows_what_conjuncts_keep = cc
-
-nested-not : conjunct outer_first ≡ conjunct (sequence (first ∷ inner_second ∷ wait 1 0 ∷ []) (1 ∷ [])) → ⊥
-nested-not in_order = cc
+nested-not : conjunct outer_first ≡ Meets (AtSignal 0 one_value) no_courses (λ reply. done) → ⊥
+nested-not runs_in_order = cc
