@@ -2,3 +2,5 @@ pub mod Bonds
 pub mod RightLists
 pub mod Steps
 pub mod Using
+pub mod Seen
+pub mod HoldLaw
