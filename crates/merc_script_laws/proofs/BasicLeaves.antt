@@ -73,7 +73,7 @@ filled_under e q (y ∷ ys) (more v vs) h = filled_under (bound e y v) (bound q 
 bound_not : (b : Bound) (x y : ℕ) → b x ≡ false → b y ≡ true → y ≡ x → ⊥
 bound_not b x y n p e = clash p (ap b e ∙ n)
 
-among_not : (b : Bound) (ys : List ℕ) (x : ℕ) → ((y : ℕ) → among ys y ≡ true → b y ≡ false) → b x ≡ true → among ys x ≡ false
+pub among_not : (b : Bound) (ys : List ℕ) (x : ℕ) → ((y : ℕ) → among ys y ≡ true → b y ≡ false) → b x ≡ true → among ys x ≡ false
 among_not b ys x n p = on (among ys x) (n x) where
   on : (z : Bool) → (z ≡ true → b x ≡ false) → z ≡ false
   on true k = clash p (k refl)

@@ -6,3 +6,5 @@ pub mod Seen
 pub mod HoldLaw
 pub mod Leaf
 pub mod BasicLeaves
+pub mod CallLeaves
+pub mod JoinedLeaves
