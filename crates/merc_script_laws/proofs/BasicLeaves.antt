@@ -136,12 +136,15 @@ module _ (b : Bound) (here : Set) (outs : List ℕ) (hold : Hold) (full : Env) (
   filled_alike : (ys : List ℕ) (o : Option Values) → ((y : ℕ) → among ys y ≡ true → b y ≡ false) → ((y : ℕ) → among outs y ≡ true → among ys y ≡ true)
       → ((vs : Values) → o ≡ Some vs → (y : ℕ) → among ys y ≡ true → is_some (value_at (filled hold.env ys vs) y) ≡ true) → Like Q (events (filled_if hold.env ys o)) (events (filled_if full ys o))
   filled_alike ys None n own all = tt
-  filled_alike ys (Some vs) n own all = ((
-    moves_env here nothing outs hold (filled hold.env ys vs)
-        (λ y w h p. filled_other hold.env ys vs y (among_not b ys y n (f.below y h)) ∙ p)
-        (λ y h. some_of (value_at (filled hold.env ys vs) y) (all vs refl y (own y h))),
-    (filled_under hold.env full ys vs t.same, λ y w h p. filled_other full ys vs y (among_not b ys y n h) ∙ p),
-  ), tt)
+  filled_alike ys (Some vs) n own all = (
+    (
+      moves_env here nothing outs hold (filled hold.env ys vs)
+          (λ y w h p. filled_other hold.env ys vs y (among_not b ys y n (f.below y h)) ∙ p)
+          (λ y h. some_of (value_at (filled hold.env ys vs) y) (all vs refl y (own y h))),
+      (filled_under hold.env full ys vs t.same, λ y w h p. filled_other full ys vs y (among_not b ys y n h) ∙ p),
+    ),
+    tt,
+  )
 
 -- a goal of which all variables but one are bound has that one alone for an output
 only_one : (b : Bound) (outs : List ℕ) (x : ℕ) (ys : List ℕ) → ((y : ℕ) → among outs y ≡ true → among (x ∷ ys) y ≡ true) → ((y : ℕ) → among outs y ≡ true → b y ≡ false) → ((y : ℕ) → among ys y ≡ true → b y ≡ true)
@@ -226,6 +229,7 @@ module _ (known : Module) (types i : Instance) (declared : AreGoodTypes known.ty
             | inl e ↦ clash (ap b e ∙ p) (free (Split x s ys) sound fits r y h)
             | inr m ↦ m
           ]
+
           all : (v : Value) → value_at full x ≡ Some v → (vs : Values) → fields s v ≡ Some vs → (y : ℕ) → among ys y ≡ true → is_some (value_at (filled hold.env ys vs) y) ≡ true
           all v e vs d y m =
               let q = fields_typed known types i declared x s ys v vs (fits.typed x v e) sound.parts.0.0 sound.parts.0.1 d in

@@ -59,7 +59,7 @@ module _ (known : Module) (calls : Procedure → Env → Trace) (split_program :
     pub there : split_program p ≡ Some procedure
     pub places : procedure.places ≡ mode.args
     pub along : (i : Instance) (env : Env) (next : ℕ) → Enters known.types i mode.args declared.args env
-      → Like (HeadsAgree (length declared.args)) (flat (course p (holding env next))) (events (calls p env)) × Sure (course p (holding env next))
+        → Like (HeadsAgree (length declared.args)) (flat (course p (holding env next))) (events (calls p env)) × Sure (course p (holding env next))
     pub quiet : (i : Instance) (env : Env) (next : ℕ) → Enters known.types i mode.args declared.args env → Quiet next [] (course p (holding env next))
 
   abbrev pub CallsGo : Type 0
@@ -174,8 +174,10 @@ module _ (known : Module) (types i : Instance) where
           (λ x h. some_of (value_at (brought_back places args (value_at e.env) hold.env) x)
           (brought_there places args (value_at e.env) hold.env (λ v l. let w = heads v (below v l) in is_some_of (value_at e.env v) w.0 w.1.0) x
           (inl (is_written b places args found.good.0 found.good.1 x (within x h) (free x h))))),
-      (brought_under places args (value_at e.env) (value_at q) hold.env full (λ v l. let w = heads v (below v l) in w.1.0 ∙ sym w.1.1) t.same,
-      λ x v h k. brought_other places args (value_at q) full x (kept x h) ∙ k),
+      (
+        brought_under places args (value_at e.env) (value_at q) hold.env full (λ v l. let w = heads v (below v l) in w.1.0 ∙ sym w.1.1) t.same,
+        λ x v h k. brought_other places args (value_at q) full x (kept x h) ∙ k,
+      ),
     ) where
       kept : (x : ℕ) → b x ≡ true → among (written_by places args) x ≡ false
       kept x h = among_not b (written_by places args) x (free_not b (written_by places args) found.good.2) h
@@ -204,22 +206,28 @@ module _ (known : Module) (types i : Instance) (program : Program) (calls : Proc
         (subst (λ (places : List Arg). Like R (flat (c_taken (back places) (inner_course (entered places args hold.env)))) (events (t_called (calls p) (program p) args full)) × Sure (c_taken (back places) (inner_course (entered places args hold.env)))) (sym goes.places)
         (subst (λ (env : Env). Like R (flat (c_taken (back mine) (inner_course env))) (events (t_called (calls p) (program p) args full)) × Sure (c_taken (back mine) (inner_course env))) (sym same)
         (subst (λ (o : Option ProcedureBody). Like R (flat (c_taken (back mine) (inner_course env1))) (events (t_called (calls p) o args full)) × Sure (c_taken (back mine) (inner_course env1))) (sym law.there)
-        (subst (λ (places : List Arg). Like R (flat (c_taken (back mine) (inner_course env1))) (events (t_taken (λ inner. brought_back places args (value_at inner) full) (calls p (entered places args full)))) × Sure (c_taken (back mine) (inner_course env1))) (sym law.places)
-        (subst (λ (z : Flat Hold). Like R z (events (t_taken forth (calls p env1)))) (sym (flat_taken (back mine) (inner_course env1) a.1))
-        (subst (λ (z : Flat Env). Like R (taken (back mine) (flat (inner_course env1))) z) (sym (events_taken forth (calls p env1)))
-        (like_taken (HeadsAgree (length found.declared.args)) R (back mine) forth (brings known types i out b outs p args found here hold full f t within free) (flat (inner_course env1)) (events (calls p env1)) a.0)),
-        sure_taken (back mine) (inner_course env1) a.1)))))
+        (subst (λ (places : List Arg). Like R (flat (c_taken (back mine) (inner_course env1))) (events (t_taken (λ inner. brought_back places args (value_at inner) full) (calls p (entered places args full)))) × Sure (c_taken (back mine) (inner_course env1))) (sym law.places) (
+          subst (λ (z : Flat Hold). Like R z (events (t_taken forth (calls p env1)))) (sym (flat_taken (back mine) (inner_course env1) a.1))
+              (subst (λ (z : Flat Env). Like R (taken (back mine) (flat (inner_course env1))) z) (sym (events_taken forth (calls p env1)))
+              (like_taken (HeadsAgree (length found.declared.args)) R (back mine) forth (brings known types i out b outs p args found here hold full f t within free) (flat (inner_course env1)) (events (calls p env1)) a.0)),
+          sure_taken (back mine) (inner_course env1) a.1,
+        )))))
       where
         R : Hold → Env → Type 0
         R = Ends b full here [] nothing outs hold
+
         mine : List Arg
         mine = found.mode.args
+
         env1 : Env
         env1 = entered found.mode.args args full
+
         forth : Env → Env
         forth inner = brought_back found.mode.args args (value_at inner) full
+
         same : entered found.mode.args args hold.env ≡ env1
         same = entered_same b mine args hold.env full found.good.1 (λ y m h. read here b (among args) hold full f t r y m h)
+
         a : Like (HeadsAgree (length found.declared.args)) (flat (inner_course env1)) (events (calls p env1)) × Sure (inner_course env1)
         a = goes.along (composed i found.typed.0) env1 hold.next (enters known types i out b outs p args found full k typed)
 

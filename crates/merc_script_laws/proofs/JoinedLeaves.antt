@@ -133,10 +133,10 @@ module _ (known : Module) (types i : Instance) (declared : AreGoodTypes known.ty
     -- what the disjuncts of a disjunction do
     pub record EachGoes (ns ms : Nodes) : Type 1 where
       pub along : (out : Variables) (b : Bound) (outs : List ℕ) (seen : Known) (here : Set) (hold : Hold) (full : Env) → SoundEach known types i out b outs seen ns → Fits known types i out b (in_nodes ns) seen full → Fit b here [] hold
-        → Match [] hold full → Ready here [] b (in_nodes ns) → Names hold
-        → Like (Ends b full here [] nothing outs hold) (flat (any_branch plan split_program course ms hold)) (events (any_trace program calls ns full)) × Sure (any_branch plan split_program course ms hold)
+          → Match [] hold full → Ready here [] b (in_nodes ns) → Names hold
+          → Like (Ends b full here [] nothing outs hold) (flat (any_branch plan split_program course ms hold)) (events (any_trace program calls ns full)) × Sure (any_branch plan split_program course ms hold)
       pub quiet : (out : Variables) (b : Bound) (outs : List ℕ) (seen : Known) (here : Set) (hold : Hold) → SoundEach known types i out b outs seen ns → Fine known types i out b (in_nodes ns) seen hold → Fit b here [] hold
-        → Ready here [] b (in_nodes ns) → Names hold → Quiet hold.next [] (any_branch plan split_program course ms hold)
+          → Ready here [] b (in_nodes ns) → Names hold → Quiet hold.next [] (any_branch plan split_program course ms hold)
 
     pub each_none : EachGoes no_nodes no_nodes
     each_none = record { along = λ out b outs seen here hold full sound fits f t r names. (tt, tt); quiet = λ out b outs seen here hold sound fine f r names. tt }
@@ -156,10 +156,13 @@ module _ (known : Module) (types i : Instance) (declared : AreGoodTypes known.ty
       each_one ns ms rest = record { along = along; quiet = quiet } where
         in_first : (x : ℕ) → in_node n x ≡ true → in_nodes (more_nodes n ns) x ≡ true
         in_first x h = or_left (in_node n x) (in_nodes ns x) h
+
         in_rest : (x : ℕ) → in_nodes ns x ≡ true → in_nodes (more_nodes n ns) x ≡ true
         in_rest x h = or_right (in_node n x) (in_nodes ns x) h
+
         rest_course : Hold → BranchCourse
         rest_course hold = any_branch plan split_program course ms hold
+
         along : (out : Variables) (b : Bound) (outs : List ℕ) (seen : Known) (here : Set) (hold : Hold) (full : Env) → SoundEach known types i out b outs seen (more_nodes n ns)
             → Fits known types i out b (in_nodes (more_nodes n ns)) seen full → Fit b here [] hold → Match [] hold full → Ready here [] b (in_nodes (more_nodes n ns)) → Names hold
             → Like (Ends b full here [] nothing outs hold) (flat (c_after (one_course hold) (rest_course hold))) (events (any_trace program calls (more_nodes n ns) full)) × Sure (c_after (one_course hold) (rest_course hold))
@@ -169,13 +172,15 @@ module _ (known : Module) (types i : Instance) (declared : AreGoodTypes known.ty
             let fits1 = fits_less known types i out b (in_nodes (more_nodes n ns)) (in_node n) seen full in_first fits in
             let one = first_along out b seen here hold full s1 fits1 f t (ready_less here [] b (in_nodes (more_nodes n ns)) (in_node n) in_first r) names in
             let all = rest.along out b outs seen here hold full (sound_rest known types i out b outs seen n ns sound) (fits_less known types i out b (in_nodes (more_nodes n ns)) (in_nodes ns) seen full in_rest fits) f t
-                (ready_less here [] b (in_nodes (more_nodes n ns)) (in_nodes ns) in_rest r) names in
+            (ready_less here [] b (in_nodes (more_nodes n ns)) (in_nodes ns) in_rest r) names in
             let u = node_trace program calls n full in
-            let us = any_trace program calls ns full in
-            (subst (λ (z : Flat Hold). Like R z (events (t_after u us))) (sym (flat_after (one_course hold) (rest_course hold) one.1))
-            (subst (λ (z : Flat Env). Like R (after (flat (one_course hold)) (flat (rest_course hold))) z) (sym (events_after u us))
-            (like_after R (flat (one_course hold)) (events u) (flat (rest_course hold)) (events us) (arm_answers n outs out b seen here [] nothing hold full s1 fits1 sound.outputs.0.1 (flat (one_course hold)) one.0) all.0)),
-            sure_after (one_course hold) (rest_course hold) one.1 all.1)
+            let us = any_trace program calls ns full in (
+              subst (λ (z : Flat Hold). Like R z (events (t_after u us))) (sym (flat_after (one_course hold) (rest_course hold) one.1))
+                  (subst (λ (z : Flat Env). Like R (after (flat (one_course hold)) (flat (rest_course hold))) z) (sym (events_after u us))
+                  (like_after R (flat (one_course hold)) (events u) (flat (rest_course hold)) (events us) (arm_answers n outs out b seen here [] nothing hold full s1 fits1 sound.outputs.0.1 (flat (one_course hold)) one.0) all.0)),
+              sure_after (one_course hold) (rest_course hold) one.1 all.1,
+            )
+
         quiet : (out : Variables) (b : Bound) (outs : List ℕ) (seen : Known) (here : Set) (hold : Hold) → SoundEach known types i out b outs seen (more_nodes n ns) → Fine known types i out b (in_nodes (more_nodes n ns)) seen hold
             → Fit b here [] hold → Ready here [] b (in_nodes (more_nodes n ns)) → Names hold → Quiet hold.next [] (c_after (one_course hold) (rest_course hold))
         quiet out b outs seen here hold sound fine f r names =

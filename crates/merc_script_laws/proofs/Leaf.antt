@@ -32,11 +32,11 @@ module _ (known : Module) (types i : Instance) (program : Program) (calls : Proc
   -- what such a goal does, and the goal of the split tree that stands for it: along the trace, and with no use of rights from before
   pub record Leaf (g m : Goal) (outs : List ℕ) (category : Option Category) (span : Span) : Type 1 where
     pub along : (out : Variables) (b : Bound) (seen : Known) (here : Set) (hold : Hold) (full : Env) → Sound known types i out b seen (node g outs category span) → Fits known types i out b (in_goal g) seen full
-      → Fit b here [] hold → Match [] hold full → Ready here [] b (in_goal g) → Names hold
-      → Like (Ends b full here [] nothing outs hold) (flat (node_branch plan split course (node m outs category span) hold)) (events (node_trace program calls (node g outs category span) full))
-      × Sure (node_branch plan split course (node m outs category span) hold)
+        → Fit b here [] hold → Match [] hold full → Ready here [] b (in_goal g) → Names hold
+        → Like (Ends b full here [] nothing outs hold) (flat (node_branch plan split course (node m outs category span) hold)) (events (node_trace program calls (node g outs category span) full))
+        × Sure (node_branch plan split course (node m outs category span) hold)
     pub quiet : (out : Variables) (b : Bound) (seen : Known) (here : Set) (hold : Hold) → Sound known types i out b seen (node g outs category span) → Fine known types i out b (in_goal g) seen hold
-      → Fit b here [] hold → Ready here [] b (in_goal g) → Names hold → Quiet hold.next [] (node_branch plan split course (node m outs category span) hold)
+        → Fit b here [] hold → Ready here [] b (in_goal g) → Names hold → Quiet hold.next [] (node_branch plan split course (node m outs category span) hold)
 
 -- What a goal answers that only gives variables values: its rights stay as they are.
 
