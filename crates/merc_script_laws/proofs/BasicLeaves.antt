@@ -88,15 +88,15 @@ module _ (b : Bound) (here : Set) (outs : List ℕ) (hold : Hold) (full : Env) (
   Q e q = R (with_env hold e) q
 
   stays_put : ((x : ℕ) → among outs x ≡ true → ⊥) → Q hold.env full
-  stays_put empty = (moves_env here nothing outs hold hold.env (λ x v h p. p) (λ x h. absurd (empty x h)), (t.same, λ x v h p. p))
+  stays_put empty = (moves_env b here nothing outs hold hold.env f (λ x h. refl) (λ x h. absurd (empty x h)), (t.same, λ x v h p. p))
 
   pub stays : ((x : ℕ) → among outs x ≡ true → ⊥) → R hold full
   stays empty = (moves_none here nothing outs hold empty, (t.same, λ x v h p. p))
 
   puts : (x : ℕ) (v : Value) → b x ≡ false → ((y : ℕ) → among outs y ≡ true → y ≡ x) → Q (bound hold.env x v) (bound full x v)
   puts x v n own = (
-    moves_env here nothing outs hold (bound hold.env x v)
-        (λ y w h p. at_other hold.env x y v (bound_not b x y n (f.below y h)) ∙ p)
+    moves_env b here nothing outs hold (bound hold.env x v) f
+        (λ y h. at_other hold.env x y v (bound_not b x y n h))
         (λ y h. (v, ap (value_at (bound hold.env x v)) (own y h) ∙ at_same hold.env x v)),
     (bound_under hold.env full x v t.same, λ y w h p. at_other full x y v (bound_not b x y n h) ∙ p),
   )
@@ -138,8 +138,8 @@ module _ (b : Bound) (here : Set) (outs : List ℕ) (hold : Hold) (full : Env) (
   filled_alike ys None n own all = tt
   filled_alike ys (Some vs) n own all = (
     (
-      moves_env here nothing outs hold (filled hold.env ys vs)
-          (λ y w h p. filled_other hold.env ys vs y (among_not b ys y n (f.below y h)) ∙ p)
+      moves_env b here nothing outs hold (filled hold.env ys vs) f
+          (λ y h. filled_other hold.env ys vs y (among_not b ys y n h))
           (λ y h. some_of (value_at (filled hold.env ys vs) y) (all vs refl y (own y h))),
       (filled_under hold.env full ys vs t.same, λ y w h p. filled_other full ys vs y (among_not b ys y n h) ∙ p),
     ),

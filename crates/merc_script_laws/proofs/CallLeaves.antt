@@ -169,8 +169,8 @@ module _ (known : Module) (types i : Instance) where
         → (e : Hold) (q : Env) → HeadsAgree (length found.declared.args) e q
         → Ends b full here [] nothing outs hold (with_env hold (brought_back places args (value_at e.env) hold.env)) (brought_back places args (value_at q) full)
     brings here hold full f t within free e q heads = (
-      moves_env here nothing outs hold (brought_back places args (value_at e.env) hold.env)
-          (λ x v h k. brought_other places args (value_at e.env) hold.env x (kept x (f.below x h)) ∙ k)
+      moves_env b here nothing outs hold (brought_back places args (value_at e.env) hold.env) f
+          (λ x h. brought_other places args (value_at e.env) hold.env x (kept x h))
           (λ x h. some_of (value_at (brought_back places args (value_at e.env) hold.env) x)
           (brought_there places args (value_at e.env) hold.env (λ v l. let w = heads v (below v l) in is_some_of (value_at e.env v) w.0 w.1.0) x
           (inl (is_written b places args found.good.0 found.good.1 x (within x h) (free x h))))),

@@ -72,7 +72,7 @@ module _ (known : Module) (types i : Instance) where
     typed_owed = fine.typed_owed;
     bound = λ x k o e. fine.bound x k (s x o) e;
     knows = fine.knows;
-    knows_owed = fine.knows_owed;
+    knows_owed = λ x c s1 v o e p. fine.knows_owed x c s1 v (s x o) e p;
   }
 
   -- the disjuncts of a sound disjunction with these outputs

@@ -46,8 +46,8 @@ owed_in hold e x c o p = record { right = p.right; found = p.found; at = p.at; g
 owed_out : (hold : Hold) (e : Env) (x c : ℕ) (o : Option Value) → Owed (with_env hold e) x c o → Owed hold x c o
 owed_out hold e x c o p = record { right = p.right; found = p.found; at = p.at; gives = p.gives }
 
-names_env : (hold : Hold) (e : Env) → Names hold → Names (with_env hold e)
-names_env hold e n = record {
+names_env : (hold : Hold) (e : Env) → ((x c : ℕ) (o : Option Value) → Owed hold x c o → value_at e x ≡ value_at hold.env x) → Names hold → Names (with_env hold e)
+names_env hold e older n = record {
   low = n.low;
   apart = n.apart;
   low_owed = λ x c o p. n.low_owed x c o (owed_out hold e x c o p);
@@ -57,18 +57,19 @@ names_env hold e n = record {
   cells = n.cells;
   wait_cells = n.wait_cells;
   wait_variables = n.wait_variables;
+  valueless = λ x c o v p h. n.valueless x c o v (owed_out hold e x c o p) (sym (older x c o (owed_out hold e x c o p)) ∙ h);
 }
 
-pub moves_env : (here : Set) (later : ℕ → Bool) (outs : List ℕ) (hold : Hold) (e : Env) → ((x : ℕ) (v : Value) → here x → value_at hold.env x ≡ Some v → value_at e x ≡ Some v)
+pub moves_env : (b : Bound) (here : Set) (later : ℕ → Bool) (outs : List ℕ) (hold : Hold) (e : Env) → Fit b here [] hold → ((x : ℕ) → b x ≡ true → value_at e x ≡ value_at hold.env x)
     → ((x : ℕ) → among outs x ≡ true → (v : Value) × (value_at e x ≡ Some v)) → Moves here [] later outs hold (with_env hold e)
-moves_env here later outs hold e keep fresh = record {
-  keep = keep;
+moves_env b here later outs hold e f older fresh = record {
+  keep = λ x v h p. older x (f.below x h) ∙ p;
   fresh = fresh;
   got = λ x c o h l p. clash h refl;
   rest = λ x c o h p. owed_in hold e x c o p;
   old = λ x c o p. owed_out hold e x c o p;
   next = refl;
-  names = λ n. names_env hold e n;
+  names = λ n. names_env hold e (λ x c o p. older x (f.known x c o p)) n;
   signed = λ x c h. h;
 }
 
