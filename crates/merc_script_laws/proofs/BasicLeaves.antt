@@ -28,12 +28,13 @@ use Rattle.merc_par_split.specs.Split.{nothing}
 use Rattle.merc_plan.specs.Branch.{Hold, BranchCourse}
 use Rattle.merc_plan.specs.Hold.{with_env}
 use Rattle.merc_plan.specs.Branches.{Plan, traced, basic_branch}
-use Rattle.merc_plan.proofs.Flat.{Flat, Like, events}
+use Rattle.merc_plan.proofs.Flat.{Flat, Each, Like, events}
 use Rattle.merc_plan.proofs.Judging.{flat, Sure, Quiet}
 use Rattle.merc_plan.proofs.Holds.{quiet_once}
 use Rattle.merc_script_laws.proofs.Bonds.{Set, Here, Fit, Fine, Match, Names, Moves, Kept, Ends as EndsAlike, Ready, Sound}
 use Rattle.merc_script_laws.proofs.HoldLaw.{is_here}
-use Rattle.merc_script_laws.proofs.Leaf.{Leaf, moves_env, moves_none, wrap, traced_like, traced_sure, traced_quiet}
+use Rattle.merc_script_laws.proofs.Leaf.{Leaf, moves_env, moves_none, wrap, traced_like, traced_sure, traced_quiet, traced_silent}
+use Rattle.merc_script_laws.proofs.CourseAnswers.{at_once}
 
 -- what a goal reads is here, and the same in the trace
 pub read : (here : Set) (b : Bound) (uses : ℕ → Bool) (hold : Hold) (full : Env) → Fit b here [] hold → Match [] hold full → Ready here [] b uses → (x : ℕ) → uses x ≡ true → b x ≡ true
@@ -275,10 +276,25 @@ module _ (known : Module) (types i : Instance) (declared : AreGoodTypes known.ty
     basic_quiet (Wait x n) plain out b seen hold sound = absurd sound.good.2
     basic_quiet (Signal x n) plain out b seen hold sound = absurd sound.good.2
 
+    basic_silent : (g : BasicGoal) → IsPlain g → (out : Variables) (b : Bound) (seen : Known) (hold : Hold) → Sound known types i out b seen (whole g) → Each (λ hold'. hold'.signals ≡ hold.signals) (flat (basic_branch plan split_program course g hold))
+    basic_silent True plain out b seen hold sound = (refl, tt)
+    basic_silent Fail plain out b seen hold sound = tt
+    basic_silent (Assign x y) plain out b seen hold sound = traced_silent hold (binds hold.env x (value_at hold.env y))
+    basic_silent (Test x y) plain out b seen hold sound = traced_silent hold (compared hold.env same (value_at hold.env x) (value_at hold.env y))
+    basic_silent (Build x s ys) plain out b seen hold sound = traced_silent hold (binds hold.env x (made_if s (values_at hold.env ys)))
+    basic_silent (Split x s ys) plain out b seen hold sound = traced_silent hold (split hold.env s ys (value_at hold.env x))
+    basic_silent (Arithmetic op z x y) plain out b seen hold sound = traced_silent hold (operated hold.env op z (value_at hold.env x) (value_at hold.env y))
+    basic_silent (Compare test x y) plain out b seen hold sound = traced_silent hold (compared hold.env (comparison_of test) (value_at hold.env x) (value_at hold.env y))
+    basic_silent (Raise x) plain out b seen hold sound = traced_silent hold (raised (value_at hold.env x))
+    basic_silent (Call p args) plain out b seen hold sound = absurd plain
+    basic_silent (Wait x n) plain out b seen hold sound = absurd sound.good.2
+    basic_silent (Signal x n) plain out b seen hold sound = absurd sound.good.2
+
     pub leaf_plain : (g : BasicGoal) → IsPlain g → Leaf known types i program calls plan split_program course (Basic g) (Basic g) outs category span
     leaf_plain g plain = record {
       along = λ out b seen here hold full sound fits f t r names.
           let a = basic_alike out b seen here hold full f t g plain sound fits r in
           wrap (EndsAlike b full here [] nothing outs hold) (answers_once outs category) (basic_branch plan split_program course g hold) (basic_trace program calls g full) a.0 a.1;
       quiet = λ out b seen here hold sound fine f r names. quiet_once hold.next (answers_once outs category) (basic_branch plan split_program course g hold) [] (basic_quiet g plain out b seen hold sound);
+      silent = λ out b seen hold sound. at_once (λ hold'. hold'.signals ≡ hold.signals) (answers_once outs category) (basic_branch plan split_program course g hold) (basic_silent g plain out b seen hold sound);
     }

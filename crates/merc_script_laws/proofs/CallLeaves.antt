@@ -36,13 +36,14 @@ use Rattle.merc_par_split.specs.Split.{nothing}
 use Rattle.merc_plan.specs.Branch.{Hold, BranchCourse, taken_back as c_taken}
 use Rattle.merc_plan.specs.Hold.{holding, with_env}
 use Rattle.merc_plan.specs.Branches.{Plan, called as c_called}
-use Rattle.merc_plan.proofs.Flat.{Flat, Like, taken, events}
+use Rattle.merc_plan.proofs.Flat.{Flat, Each, Like, taken, events}
 use Rattle.merc_plan.proofs.Judging.{flat, Sure, Quiet}
 use Rattle.merc_plan.proofs.Likes.{like_taken}
 use Rattle.merc_plan.proofs.Flats.{flat_taken, sure_taken}
 use Rattle.merc_plan.proofs.Events.{events_taken}
 use Rattle.merc_plan.proofs.Holds.{quiet_taken, quiet_once}
 use Rattle.merc_script_laws.proofs.Bonds.{Set, Here, Fit, Fine, Match, Names, Ends, Ready, Sound}
+use Rattle.merc_script_laws.proofs.CourseAnswers.{at_once, at_taken_any}
 use Rattle.merc_script_laws.proofs.HoldLaw.{hold_fits}
 use Rattle.merc_script_laws.proofs.Leaf.{Leaf, moves_env, wrap}
 use Rattle.merc_script_laws.proofs.BasicLeaves.{read, Under, among_not, leaf_plain}
@@ -182,6 +183,11 @@ module _ (known : Module) (types i : Instance) where
       kept : (x : ℕ) → b x ≡ true → among (written_by places args) x ≡ false
       kept x h = among_not b (written_by places args) x (free_not b (written_by places args) found.good.2) h
 
+called_silent : (call : Hold → BranchCourse) (o : Option ProcedureBody) (args : List ℕ) (hold : Hold) → Each (λ hold'. hold'.signals ≡ hold.signals) (flat (c_called call o args hold))
+called_silent call None args hold = tt
+called_silent call (Some procedure) args hold =
+    at_taken_any (λ hold'. hold'.signals ≡ hold.signals) (λ inner. with_env hold (brought_back procedure.places args (value_at inner.env) hold.env)) (λ inner. refl) (call (holding (entered procedure.places args hold.env) hold.next))
+
 -- Given is a program whose calls are lawful and go along.
 module _ (known : Module) (types i : Instance) (program : Program) (calls : Procedure → Env → Trace) (lawful : LawfulCalls known program calls) (split_program : Program) (course : Procedure → Hold → BranchCourse)
     (go : CallsGo known calls split_program course) where
@@ -249,6 +255,7 @@ module _ (known : Module) (types i : Instance) (program : Program) (calls : Proc
           let found = found_in known types i out b outs p args (slice_get known.preds p.predicate) refl sound.parts.0.0 sound.good.2 in
           let fits = hold_fits known types i out b seen (node (Basic (Call p args)) outs category span) here hold fine f r in
           quiet_once hold.next (answers_once outs category) (c_called (course p) (split_program p) args hold) [] (call_quiet out b outs p args found here hold (λ y m. fits.bounds y m) fits.typed);
+      silent = λ out b seen hold sound. at_once (λ hold'. hold'.signals ≡ hold.signals) (answers_once outs category) (c_called (course p) (split_program p) args hold) (called_silent (course p) (split_program p) args hold);
     }
 
     -- every goal that holds no others

@@ -39,6 +39,7 @@ use Rattle.merc_plan.proofs.Events.{events_after, events_negated}
 use Rattle.merc_plan.proofs.Holds.{quiet_after, quiet_negated, quiet_once}
 use Rattle.merc_script_laws.specs.Parallel.{AreWithin, ArmHas, EachKeepsOutputs, AllHaveFew}
 use Rattle.merc_script_laws.proofs.Bonds.{Set, Here, Fit, Fine, Match, Names, Moves, Ends, Ready, Sound, Goes}
+use Rattle.merc_script_laws.proofs.CourseAnswers.{at_after, at_once, at_negated}
 use Rattle.merc_script_laws.proofs.HoldLaw.{each_event}
 use Rattle.merc_script_laws.proofs.Leaf.{Leaf, moves_none, wrap}
 
@@ -137,12 +138,17 @@ module _ (known : Module) (types i : Instance) (declared : AreGoodTypes known.ty
           → Like (Ends b full here [] nothing outs hold) (flat (any_branch plan split_program course ms hold)) (events (any_trace program calls ns full)) × Sure (any_branch plan split_program course ms hold)
       pub quiet : (out : Variables) (b : Bound) (outs : List ℕ) (seen : Known) (here : Set) (hold : Hold) → SoundEach known types i out b outs seen ns → Fine known types i out b (in_nodes ns) seen hold → Fit b here [] hold
           → Ready here [] b (in_nodes ns) → Names hold → Quiet hold.next [] (any_branch plan split_program course ms hold)
+      pub silent : (out : Variables) (b : Bound) (outs : List ℕ) (seen : Known) (hold : Hold) → SoundEach known types i out b outs seen ns → Each (λ hold'. hold'.signals ≡ hold.signals) (flat (any_branch plan split_program course ms hold))
+
+    -- at its answers a goal of the split tree has the rights to signal that it had before
+    abbrev pub Silent : Node → Node → Type 0
+    Silent n m = (out : Variables) (b : Bound) (seen : Known) (hold : Hold) → Sound known types i out b seen n → Each (λ hold'. hold'.signals ≡ hold.signals) (flat (node_branch plan split_program course m hold))
 
     pub each_none : EachGoes no_nodes no_nodes
-    each_none = record { along = λ out b outs seen here hold full sound fits f t r names. (tt, tt); quiet = λ out b outs seen here hold sound fine f r names. tt }
+    each_none = record { along = λ out b outs seen here hold full sound fits f t r names. (tt, tt); quiet = λ out b outs seen here hold sound fine f r names. tt; silent = λ out b outs seen hold sound. tt }
 
     module _ (n : Node) (make : (ℕ → Bool) → List Right → List Right → Node) (fits_in : (ℕ → Bool) → List Right → List Right → Type 0) (first : Goes known types i program calls plan split_program course n make fits_in)
-        (planned : fits_in nothing [] []) where
+        (planned : fits_in nothing [] []) (silent_one : Silent n (make nothing [] [])) where
       abbrev one_course : Hold → BranchCourse
       one_course hold = node_branch plan split_program course (make nothing [] []) hold
 
@@ -153,7 +159,7 @@ module _ (known : Module) (types i : Instance) (declared : AreGoodTypes known.ty
           first.along nothing [] [] out b seen here hold full planned (λ x h. clash h refl) (λ x h. clash h refl) sound fits f t r names
 
       pub each_one : (ns ms : Nodes) → EachGoes ns ms → EachGoes (more_nodes n ns) (more_nodes (make nothing [] []) ms)
-      each_one ns ms rest = record { along = along; quiet = quiet } where
+      each_one ns ms rest = record { along = along; quiet = quiet; silent = silent } where
         in_first : (x : ℕ) → in_node n x ≡ true → in_nodes (more_nodes n ns) x ≡ true
         in_first x h = or_left (in_node n x) (in_nodes ns x) h
 
@@ -190,6 +196,12 @@ module _ (known : Module) (types i : Instance) (declared : AreGoodTypes known.ty
             (rest.quiet out b outs seen here hold (sound_rest known types i out b outs seen n ns sound) (fine_less known types i out b (in_nodes (more_nodes n ns)) (in_nodes ns) seen hold in_rest fine) f
             (ready_less here [] b (in_nodes (more_nodes n ns)) (in_nodes ns) in_rest r) names)
 
+        silent : (out : Variables) (b : Bound) (outs : List ℕ) (seen : Known) (hold : Hold) → SoundEach known types i out b outs seen (more_nodes n ns)
+            → Each (λ hold'. hold'.signals ≡ hold.signals) (flat (c_after (one_course hold) (rest_course hold)))
+        silent out b outs seen hold sound =
+            at_after (λ hold'. hold'.signals ≡ hold.signals) (one_course hold) (rest_course hold) (silent_one out b seen hold (sound_first known types i out b outs seen n ns sound))
+            (rest.silent out b outs seen hold (sound_rest known types i out b outs seen n ns sound))
+
       pub leaf_not : (outs : List ℕ) (category : Option Category) (span : Span) → Leaf known types i program calls plan split_program course (Negation n) (Negation (make nothing [] [])) outs category span
       leaf_not outs category span = record {
         along = λ out b seen here hold full sound fits f t r names.
@@ -206,6 +218,8 @@ module _ (known : Module) (types i : Instance) (declared : AreGoodTypes known.ty
         quiet = λ out b seen here hold sound fine f r names.
             quiet_once hold.next (answers_once outs category) (c_negated hold (one_course hold)) []
             (quiet_negated hold.next hold (one_course hold) [] (first.quiet nothing out b seen here hold planned (sound_denied known types i out b seen n outs category span sound) fine f r names));
+        silent = λ out b seen hold sound.
+            at_once (λ hold'. hold'.signals ≡ hold.signals) (answers_once outs category) (c_negated hold (one_course hold)) (at_negated (λ hold'. hold'.signals ≡ hold.signals) hold refl (one_course hold));
       }
 
     pub leaf_disj : (ns ms : Nodes) (outs : List ℕ) (category : Option Category) (span : Span) → EachGoes ns ms → Leaf known types i program calls plan split_program course (Disjunction ns) (Disjunction ms) outs category span
@@ -215,4 +229,6 @@ module _ (known : Module) (types i : Instance) (declared : AreGoodTypes known.ty
           wrap (Ends b full here [] nothing outs hold) (answers_once outs category) (any_branch plan split_program course ms hold) (any_trace program calls ns full) a.0 a.1;
       quiet = λ out b seen here hold sound fine f r names.
           quiet_once hold.next (answers_once outs category) (any_branch plan split_program course ms hold) [] (all.quiet out b outs seen here hold (sound_each known types i out b seen ns outs category span sound) fine f r names);
+      silent = λ out b seen hold sound.
+          at_once (λ hold'. hold'.signals ≡ hold.signals) (answers_once outs category) (any_branch plan split_program course ms hold) (all.silent out b outs seen hold (sound_each known types i out b seen ns outs category span sound));
     }

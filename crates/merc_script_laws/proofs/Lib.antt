@@ -8,3 +8,5 @@ pub mod Leaf
 pub mod BasicLeaves
 pub mod CallLeaves
 pub mod JoinedLeaves
+pub mod CourseAnswers
+pub mod LeafUses
