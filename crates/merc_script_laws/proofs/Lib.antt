@@ -4,3 +4,5 @@ pub mod Steps
 pub mod Using
 pub mod Seen
 pub mod HoldLaw
+pub mod Holding
+pub mod Around
