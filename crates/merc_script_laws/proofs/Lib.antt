@@ -10,3 +10,5 @@ pub mod CallLeaves
 pub mod JoinedLeaves
 pub mod CourseAnswers
 pub mod LeafUses
+pub mod Holding
+pub mod Around
