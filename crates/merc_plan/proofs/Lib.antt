@@ -7,3 +7,5 @@ pub mod Walks
 pub mod Joins
 pub mod Items
 pub mod Depths
+pub mod Gives
+pub mod Forms
