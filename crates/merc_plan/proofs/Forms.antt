@@ -9,7 +9,7 @@ use Rattle.merc_script.specs.declared.cells.Move.{Move}
 use Rattle.merc_script.specs.Script.{Script, Ends, TickThen, WaitThen, SignalThen, ForkThen, Children, NoChild, Child, Cell, ends, end_of, count}
 use Rattle.merc_script.specs.Joining.{joined, walk}
 use Rattle.merc_core.specs.Rights.{has, without, numbers_of, is_kind, moved, moved_to, made_by, used_by, signals_at, waits_at, signals_behind}
-use Rattle.merc_core.specs.WellFormed.{AreDistinct, ForkFits, CellFits, MoveFits, held_of, EndsWell, Follows, gain, value_in, most_steps}
+use Rattle.merc_core.specs.WellFormed.{AreDistinct, ForkFits, CellFits, MoveFits, held_of, EndsWell, Follows, gain, value_in, most_steps, most_children}
 use Rattle.merc_plan.specs.Branch.{NamedCell, Fork, Hold, BranchCourse, Over, Breaks, Steps, Finds, Awaits, Gives, Forks, BranchCourses, no_branches, more_branches, Raised, TooDeep, Starving, names, Gift, gift_at, gifts_through, value_given, gives, all_give}
 use Rattle.merc_plan.specs.BranchScript.{those_of, signalled, all_signalled, valued, going, script, scripts}
 use Rattle.merc_plan.proofs.Flat.{Flat, Done, Halts, Tick, Answer, Answers, behind}
@@ -18,7 +18,7 @@ use Rattle.merc_plan.proofs.Walks.{WithinLimit, joined_limit, HasMemory, walk_ha
 use Rattle.merc_plan.proofs.Joins.{kids_memory, joined_is_walk, going_fine, walk_fine}
 use Rattle.merc_plan.proofs.Holds.{waits_past, pending_past, waits_more, own_fits, no_move_fits}
 use Rattle.merc_plan.proofs.Gives.{Within, AllWithin, within_gives}
-use Rattle.merc_plan.proofs.Sets.{clash, tell, same_number, is_same, only_one, front_or, or_in, first_in, rest_in, in_common, common_in, in_either, in_left, in_right, minus_in, minus_keeps, minus_more, absent, gone_not, not_one, look_before, look_past, look_same, look_none, some_now, gifts_in, gifts_out, given_here, given_other, and_both, all_pass, picked, moved_move, moved_to_move, moved_of_to, each_more}
+use Rattle.merc_plan.proofs.Sets.{clash, tell, same_number, is_same, only_one, front_or, or_in, first_in, rest_in, in_common, common_in, in_either, in_left, in_right, minus_in, minus_keeps, minus_more, absent, gone_not, not_one, look_before, look_past, look_same, look_none, some_now, gifts_in, gifts_out, given_here, given_other, and_both, all_pass, picked, moved_move, moved_to_move, moved_of_to, each_more, each_true}
 
 -- what a fork does to cells
 
@@ -306,3 +306,318 @@ mutual
       (in_either c (signalled (script false l 0 gn t)) (all_signalled (scripts l (gn ++ signalled (script false l 0 gn t)) more)) h)
       (λ q. (sig_only t (λ d. has d (signals_to k x)) l 0 gn (waits_to k x) [] p.0 c q).0)
       (λ q. all_only x (suc k) more l (gn ++ signalled (script false l 0 gn t)) p.1 c q)
+
+-- of elements with distinct cells, one passes two tests that its cell passes
+
+front_case : {A : Type 0} (cell : A → ℕ) (b : Bool) (x : A) (ys : List A) (c : ℕ) → has c (map cell (if b then x ∷ ys else ys)) ≡ true → ((b ≡ true) × (c ≡ cell x)) ⊎ (has c (map cell ys) ≡ true)
+front_case cell true x ys c h = on (front_or c (cell x) (map cell ys) h)
+  where
+    on : (c ≡ cell x) ⊎ (has c (map cell ys) ≡ true) → ((true ≡ true) × (c ≡ cell x)) ⊎ (has c (map cell ys) ≡ true)
+    on (inl e) = inl (refl, e)
+    on (inr e) = inr e
+front_case cell false x ys c h = inr h
+
+distinct_rest : {A : Type 0} (cell : A → ℕ) (b : Bool) (x : A) (ys : List A) → AreDistinct (map cell (if b then x ∷ ys else ys)) → AreDistinct (map cell ys)
+distinct_rest cell true x ys d = d.1
+distinct_rest cell false x ys d = d
+
+distinct_first : {A : Type 0} (cell : A → ℕ) (b : Bool) (x : A) (ys : List A) → b ≡ true → AreDistinct (map cell (if b then x ∷ ys else ys)) → has (cell x) (map cell ys) ≡ false
+distinct_first cell true x ys e d = d.0
+distinct_first cell false x ys e d = absurd (cc)
+
+wider : {A : Type 0} (cell : A → ℕ) (base other : A → Bool) (c : ℕ) (xs : List A) → ((x : A) → other x ≡ true → base x ≡ true) → has c (map cell (filter other xs)) ≡ true
+    → has c (map cell (filter base xs)) ≡ true
+wider cell base other c xs sub h = let p = picked cell other (λ x. ⊤) c xs (each_true xs) h in p.found base (sub p.one p.passes)
+
+one_only : {A : Type 0} (cell : A → ℕ) (base test other : A → Bool) (c : ℕ) (xs : List A) → ((x : A) → test x ≡ true → base x ≡ true) → ((x : A) → other x ≡ true → base x ≡ true)
+    → AreDistinct (map cell (filter base xs)) → has c (map cell (filter test xs)) ≡ true → has c (map cell (filter other xs)) ≡ true → (x : A) × ((test x ≡ true) × (other x ≡ true))
+one_only cell base test other c [] bt bo d h i = absurd (cc)
+one_only {A} cell base test other c (x ∷ xs) bt bo d h i =
+    on (front_case cell (test x) x (filter test xs) c h) (front_case cell (other x) x (filter other xs) c i)
+    (λ p q. one_only cell base test other c xs bt bo (distinct_rest cell (base x) x (filter base xs) d) p q)
+  where
+    on : ((test x ≡ true) × (c ≡ cell x)) ⊎ (has c (map cell (filter test xs)) ≡ true) → ((other x ≡ true) × (c ≡ cell x)) ⊎ (has c (map cell (filter other xs)) ≡ true)
+        → (has c (map cell (filter test xs)) ≡ true → has c (map cell (filter other xs)) ≡ true → (y : A) × ((test y ≡ true) × (other y ≡ true))) → (y : A) × ((test y ≡ true) × (other y ≡ true))
+    on (inl p) (inl q) rec = (x, (p.0, q.0))
+    on (inl p) (inr q) rec =
+        clash (has (cell x) (map cell (filter base xs))) (wider cell base other (cell x) xs bo (subst (λ z. has z (map cell (filter other xs)) ≡ true) p.1 q))
+        (distinct_first cell (base x) x (filter base xs) (bt x p.0) d)
+    on (inr p) (inl q) rec =
+        clash (has (cell x) (map cell (filter base xs))) (wider cell base test (cell x) xs bt (subst (λ z. has z (map cell (filter test xs)) ≡ true) q.1 p))
+        (distinct_first cell (base x) x (filter base xs) (bo x q.0) d)
+    on (inr p) (inr q) rec = rec p q
+
+pub names_of_made : (c k : ℕ) (cs : List NamedCell) → has c (makes k cs) ≡ true → has c (names cs) ≡ true
+names_of_made c k cs h = (picked (λ (one : NamedCell). one.cell) (λ (one : NamedCell). nat_eq one.producer k) (λ x. ⊤) c cs (each_true cs) h).listed
+
+moved_not_own : (n : ℕ) (rights : ℕ → Bool) (g : List Gift) (w : List ℕ) (x : Fork) (k c : ℕ) → SiteFits n rights g w x → has c (moved_to k true x.moves) ≡ true → has c (names x.cells) ≡ false
+moved_not_own n rights g w x k c s h =
+    let m = moved_to_move (λ m. has m.cell (names x.cells) ≡ false) k true c x.moves s.fresh h in
+    sym (ap (λ z. has z (names x.cells)) m.1.1.0) ∙ m.1.0
+
+one_maker : (x : Fork) (j k c : ℕ) → AreDistinct (names x.cells) → has c (makes j x.cells) ≡ true → has c (makes k x.cells) ≡ true → j ≡ k
+one_maker x j k c d h i =
+    let o = one_only (λ (one : NamedCell). one.cell) (λ one. true) (λ (one : NamedCell). nat_eq one.producer j) (λ (one : NamedCell). nat_eq one.producer k) c x.cells (λ y e. refl) (λ y e. refl)
+        (subst (λ l. AreDistinct (names l)) (sym (all_pass x.cells)) d) h i in
+    sym (same_number o.0.producer j o.1.0) ∙ same_number o.0.producer k o.1.1
+
+one_mover : (x : Fork) (j k c : ℕ) → AreDistinct (moved true x.moves) → has c (moved_to j true x.moves) ≡ true → has c (moved_to k true x.moves) ≡ true → j ≡ k
+one_mover x j k c d h i =
+    let o = one_only (λ (one : Move). one.cell) (is_kind true) (λ (one : Move). nat_eq one.child j && is_kind true one) (λ (one : Move). nat_eq one.child k && is_kind true one) c x.moves
+        (λ y e. (and_both (nat_eq y.child j) (is_kind true y) e).1) (λ y e. (and_both (nat_eq y.child k) (is_kind true y) e).1) d h i in
+    sym (same_number o.0.child j (and_both (nat_eq o.0.child j) (is_kind true o.0) o.1.0).0) ∙ same_number o.0.child k (and_both (nat_eq o.0.child k) (is_kind true o.0) o.1.1).0
+
+-- a right to signal is one child's
+pub alone : (n : ℕ) (rights : ℕ → Bool) (g : List Gift) (w : List ℕ) (x : Fork) (j k c : ℕ) → SiteFits n rights g w x → has c (signals_to j x) ≡ true → has c (signals_to k x) ≡ true → j ≡ k
+alone n rights g w x j k c s h i = on (in_either c (makes j x.cells) (moved_to j true x.moves) h) (in_either c (makes k x.cells) (moved_to k true x.moves) i)
+  where
+    on : (has c (makes j x.cells) ≡ true) ⊎ (has c (moved_to j true x.moves) ≡ true) → (has c (makes k x.cells) ≡ true) ⊎ (has c (moved_to k true x.moves) ≡ true) → j ≡ k
+    on (inl p) (inl q) = one_maker x j k c s.distinct p q
+    on (inl p) (inr q) = clash (has c (names x.cells)) (names_of_made c j x.cells p) (moved_not_own n rights g w x k c s q)
+    on (inr p) (inl q) = clash (has c (names x.cells)) (names_of_made c k x.cells q) (moved_not_own n rights g w x j c s p)
+    on (inr p) (inr q) = one_mover x j k c s.signals_once p q
+
+-- what a script signals its course gives with a value
+
+given_before : (c : ℕ) (gs hs : List Gift) → Given c gs → Given c (gs ++ hs)
+given_before c gs hs g = record { value = g.value; is = look_before c (Some g.value) gs hs g.is }
+
+given_past : (c : ℕ) (gs hs : List Gift) → gift_at c gs ≡ None → Given c hs → Given c (gs ++ hs)
+given_past c gs hs n g = record { value = g.value; is = look_past c gs hs n ∙ g.is }
+
+given_through : (c : ℕ) (cs : List ℕ) (gs : List Gift) → has c cs ≡ true → Given c gs → Given c (gifts_through cs gs)
+given_through c cs gs h g = record { value = g.value; is = gifts_in c cs gs h ∙ ap (λ o. Some (value_given o)) g.is }
+
+given_one : (c d : ℕ) (v : Value) (gs : List Gift) (xs : List ℕ) → (c ≡ d) ⊎ (has c xs ≡ true) → (has c xs ≡ true → Given c gs) → (b : Bool) → nat_eq c d ≡ b → Given c (record { cell = d; value = Some v } ∷ gs)
+given_one c d v gs xs h rec true e = record { value = v; is = ap (λ (z : Bool). if z then Some (Some v) else gift_at c gs) e }
+given_one c d v gs xs (inl q) rec false e = clash (nat_eq c d) (subst (λ z. nat_eq c z ≡ true) q (is_same c)) e
+given_one c d v gs xs (inr q) rec false e = let g = rec q in record { value = g.value; is = ap (λ (z : Bool). if z then Some (Some v) else gift_at c gs) e ∙ g.is }
+
+given_fork : (c : ℕ) (ms : List ℕ) (g gs hs : List Gift) (kids rest : List ℕ) → (has c (those_of kids ms) ≡ true) ⊎ (has c rest ≡ true) → (has c kids ≡ true → Given c gs)
+    → (has c rest ≡ true → (gift_at c (g ++ gifts_through ms gs) ≡ None) × Given c hs) → Given c (gifts_through ms gs ++ hs)
+given_fork c ms g gs hs kids rest (inl h) kid later = let i = common_in c ms kids h in given_before c (gifts_through ms gs) hs (given_through c ms gs i.0 (kid i.1))
+given_fork c ms g gs hs kids rest (inr h) kid later =
+    let q = later h in
+    given_past c (gifts_through ms gs) hs (sym (look_past c g (gifts_through ms gs) (look_none c g (gifts_through ms gs) q.0)) ∙ q.0) q.1
+
+kid_given : (x : Fork) (k j c : ℕ) (gs hs : List Gift) (ms ns : List ℕ) → (has c ms ≡ true) ⊎ (has c ns ≡ true) → (has c ms ≡ true → Given c gs) → (has c ns ≡ true → (gift_at c gs ≡ None) × Given c hs)
+    → Given c (gs ++ hs)
+kid_given x k j c gs hs ms ns (inl h) here later = given_before c gs hs (here h)
+kid_given x k j c gs hs ms ns (inr h) here later = let q = later h in given_past c gs hs q.0 q.1
+
+-- a cell that another child has the right to signal
+not_its : (x : Fork) (k j c : ℕ) → (has c (signals_to j x) ≡ true → has c (signals_to k x) ≡ true → j ≡ k) → suc k ≤ j → has c (signals_to j x) ≡ true → has c (signals_to k x) ≡ false
+not_its x k j c a l h = absent c (signals_to k x) (λ i. let e = a h i in absurd (omega (arith, e, l)))
+
+not_none : (x : Fork) (j c : ℕ) → ((k : ℕ) → has 0 (signals_to k x) ≡ false) → has c (signals_to j x) ≡ true → c ≡ 0 → ⊥
+not_none x j c z h e = clash (has c (signals_to j x)) h (ap (λ y. has y (signals_to j x)) e ∙ z j)
+
+mutual
+  pub sig_given : (t : BranchCourse) (rights : ℕ → Bool) (l s : ℕ) (gn w : List ℕ) (g : List Gift) → Keeps (Whole rights) rights w g t → Within rights t
+      → (c : ℕ) → has c (signalled (script false l s gn t)) ≡ true → Given c (gives t)
+  sig_given Over rights l s gn w g k wi c h = absurd k
+  sig_given (Breaks (Raised e)) rights l s gn w g k wi c h = absurd (cc)
+  sig_given (Breaks TooDeep) rights l s gn w g k wi c h = absurd (cc)
+  sig_given (Breaks Starving) rights l s gn w g k wi c h = absurd (cc)
+  sig_given (Steps t) rights zero s gn w g k wi c h = absurd (cc)
+  sig_given (Steps t) rights (suc l) s gn w g k wi c h = sig_given t rights l (suc s) gn w g k wi c h
+  sig_given (Finds hold t) rights l s gn w g k wi c h = absurd (cc)
+  sig_given (Awaits d v t) rights l s gn w g k wi c h = sig_given t rights l s gn (without (d ∷ []) w) g k.1 wi c (signalled_waited (has d gn) c (script false l s gn t) h)
+  sig_given (Gives d v t) rights l s gn w g k wi c h =
+      given_one c d v (gives t) (signalled (script false l s gn t)) (front_or c d (signalled (script false l s gn t)) h)
+      (λ q. sig_given t rights l s gn w (g ++ (record { cell = d; value = Some v } ∷ [])) k.1.1 wi.1 c q) (nat_eq c d) refl
+  sig_given (Forks i x ks t) rights l s gn w g k wi c h =
+      let g' = without (names x.cells) gn in
+      let o = joined l (ends (scripts l g' ks)) in
+      let next : ℕ → Script = λ u. script false (l - u) (s + u) (g' ++ all_signalled (scripts l g' ks)) t in
+      given_fork c (moved true x.moves) g (all_give ks) (gives t) (all_signalled (scripts l g' ks)) (signalled (going o s next))
+      (in_either c (those_of (all_signalled (scripts l g' ks)) (moved true x.moves)) (signalled (going o s next)) h)
+      (λ q. all_given x 1 ks l g' (kid_count ks) rights w g k.0 k.1.0 wi.1.0 wi.1.1.0 c q)
+      (λ q. let n = signalled_going c s o next q in
+        let a = k.1.1 (fine_kids_answer x ks l n.0 g' k.1.0 n.1.0) in
+        ((sig_only t rights (l - n.0) (s + n.0) (g' ++ all_signalled (scripts l g' ks)) (waits_past x w) (g ++ gifts_through (moved true x.moves) (all_give ks)) a c n.1.1).1,
+        sig_given t rights (l - n.0) (s + n.0) (g' ++ all_signalled (scripts l g' ks)) (waits_past x w) (g ++ gifts_through (moved true x.moves) (all_give ks)) a wi.1.1.1 c n.1.1))
+
+  pub all_given : (x : Fork) (k : ℕ) (ks : BranchCourses) (l : ℕ) (gn : List ℕ) (n : ℕ) (rights : ℕ → Bool) (w : List ℕ) (g : List Gift) → SiteFits n rights g w x → AllKeep x k ks
+      → ((j : ℕ) → has 0 (signals_to j x) ≡ false) → AllWithin x k ks → (c : ℕ) → has c (all_signalled (scripts l gn ks)) ≡ true → Given c (all_give ks)
+  all_given x k no_branches l gn n rights w g f p z wi c h = absurd (cc)
+  all_given x k (more_branches t more) l gn n rights w g f p z wi c h =
+      let sc = script false l 0 gn t in
+      kid_given x k k c (gives t) (all_give more) (signalled sc) (all_signalled (scripts l (gn ++ signalled sc) more))
+      (in_either c (signalled sc) (all_signalled (scripts l (gn ++ signalled sc) more)) h)
+      (λ q. sig_given t (λ d. has d (signals_to k x)) l 0 gn (waits_to k x) [] p.0 wi.0 c q)
+      (λ q. let a = all_only x (suc k) more l (gn ++ signalled sc) p.1 c q in
+        (within_gives t (λ d. has d (signals_to k x)) wi.0 c (not_its x k a.0 c (λ i j. alone n rights g w x a.0 k c f i j) a.1.0 a.1.1) (not_none x a.0 c z a.1.1),
+        all_given x (suc k) more l (gn ++ signalled sc) n rights w g f p.1 z wi.1 c q))
+
+-- the values of cells
+
+same_test : (p q : Bool) → (p ≡ true → q ≡ true) → (q ≡ true → p ≡ true) → p ≡ q
+same_test true true h k = refl
+same_test false false h k = refl
+same_test true false h k = sym (h refl)
+same_test false true h k = k refl
+
+in_rest : (c : ℕ) (xs ys : List ℕ) → (has c xs ≡ true → ⊥) → has c (xs ++ ys) ≡ has c ys
+in_rest c xs ys n = same_test (has c (xs ++ ys)) (has c ys) (λ h. on (in_either c xs ys h)) (λ h. in_right c xs ys h)
+  where
+    on : (has c xs ≡ true) ⊎ (has c ys ≡ true) → has c ys ≡ true
+    on (inl h) = absurd (n h)
+    on (inr h) = h
+
+in_front : (c : ℕ) (xs ys : List ℕ) → (has c ys ≡ true → ⊥) → has c (xs ++ ys) ≡ has c xs
+in_front c xs ys n = same_test (has c (xs ++ ys)) (has c xs) (λ h. on (in_either c xs ys h)) (λ h. in_left c xs ys h)
+  where
+    on : (has c xs ≡ true) ⊎ (has c ys ≡ true) → has c xs ≡ true
+    on (inl h) = h
+    on (inr h) = absurd (n h)
+
+either_some : (c : ℕ) (gn sg : List ℕ) (value : ℕ → Option Value) → (has c gn ≡ true) ⊎ (has c sg ≡ true) → ((d : ℕ) → has d gn ≡ true → is_some (value d) ≡ true)
+    → (has c sg ≡ true → is_some (value c) ≡ true) → is_some (value c) ≡ true
+either_some c gn sg value (inl h) i k = i c h
+either_some c gn sg value (inr h) i k = k h
+
+-- what scripts to the left signal has a value in a fork
+outer_given : (y : Fork) (ks : BranchCourses) (value : ℕ → Option Value) (l : ℕ) (gn : List ℕ) → ((c : ℕ) → has c gn ≡ true → is_some (value c) ≡ true) → (c : ℕ) → has c (without (names y.cells) gn) ≡ true
+    → is_some (told_values value (told y ks (scripts l (without (names y.cells) gn) ks)) c) ≡ true
+outer_given y ks value l gn i c h =
+    ap is_some (outer_value value y ks (scripts l (without (names y.cells) gn) ks) c (absent c (names y.cells) (λ e. gone_not c (names y.cells) gn e h))) ∙ i c (minus_in c (names y.cells) gn h)
+
+-- the values of a fork's cells
+own_values : (y : Fork) (ks : BranchCourses) (rights : ℕ → Bool) (value : ℕ → Option Value) (l : ℕ) (gn w : List ℕ) (g : List Gift) → SiteFits (kid_count ks) rights g w y → AllKeep y 1 ks
+    → ((j : ℕ) → has 0 (signals_to j y) ≡ false) → AllWithin y 1 ks → (c : ℕ) → has c (names y.cells) ≡ true
+    → is_some (told_values value (told y ks (scripts l gn ks)) c) ≡ has c (all_signalled (scripts l gn ks))
+own_values y ks rights value l gn w g f p z wi c h = own_some value y ks (scripts l gn ks) c (λ q. all_given y 1 ks l gn (kid_count ks) rights w g f p z wi c q) h
+
+-- .. and of those whose rights move
+fork_values : (i : ℕ) (y : Fork) (ks : BranchCourses) (t : BranchCourse) (rights : ℕ → Bool) (value : ℕ → Option Value) (l s : ℕ) (gn w : List ℕ) (g : List Gift) (ss : List ℕ)
+    → Keeps (Whole rights) rights w g (Forks i y ks t) → Within rights (Forks i y ks t) → Lists rights g ss
+    → ((c : ℕ) → has c ss ≡ true → is_some (value c) ≡ has c (signalled (script false l s gn (Forks i y ks t)))) → (j c : ℕ) → has c (signals_to j y) ≡ true
+    → is_some (told_values value (told y ks (scripts l (without (names y.cells) gn) ks)) c) ≡ has c (all_signalled (scripts l (without (names y.cells) gn) ks))
+fork_values i y ks t rights value l s gn w g ss k wi p x j c h = on (in_either c (makes j y.cells) (moved_to j true y.moves) h)
+  where
+    sk : Children
+    sk = scripts l (without (names y.cells) gn) ks
+    next : ℕ → Script
+    next u = script false (l - u) (s + u) (without (names y.cells) gn ++ all_signalled sk) t
+    rest : Script
+    rest = going (joined l (ends sk)) s next
+    not_behind : has c (moved true y.moves) ≡ true → gift_at c g ≡ None → has c (signalled rest) ≡ true → ⊥
+    not_behind m n i =
+        let q = signalled_going c s (joined l (ends sk)) next i in
+        let z = sig_only t rights (l - q.0) (s + q.0) (without (names y.cells) gn ++ all_signalled sk) (waits_past y w) (g ++ gifts_through (moved true y.moves) (all_give ks))
+            (k.1.1 (fine_kids_answer y ks l q.0 (without (names y.cells) gn) k.1.0 q.1.0)) c q.1.1 in
+        some_now (value_given (gift_at c (all_give ks))) (gift_at c (g ++ gifts_through (moved true y.moves) (all_give ks)))
+        (look_past c g (gifts_through (moved true y.moves) (all_give ks)) n ∙ gifts_in c (moved true y.moves) (all_give ks) m) z.1
+    on : (has c (makes j y.cells) ≡ true) ⊎ (has c (moved_to j true y.moves) ≡ true) → is_some (told_values value (told y ks sk) c) ≡ has c (all_signalled sk)
+    on (inl i) = own_values y ks rights value l (without (names y.cells) gn) w g k.0 k.1.0 wi.1.0 wi.1.1.0 c (names_of_made c j y.cells i)
+    on (inr i) =
+        let m = moved_of_to j true c y.moves i in
+        let q = moved_right (kid_count ks) rights g w c y.moves k.0.moves m in
+        ap is_some (outer_value value y ks sk c (moved_not_own (kid_count ks) rights g w y j c k.0 i))
+        ∙ (x c (p.from c q.0 q.1)
+        ∙ (in_front c (those_of (all_signalled sk) (moved true y.moves)) (signalled rest) (λ z. not_behind m q.1 z)
+        ∙ same_test (has c (those_of (all_signalled sk) (moved true y.moves))) (has c (all_signalled sk)) (λ z. (common_in c (moved true y.moves) (all_signalled sk) z).1)
+          (λ z. in_common c (moved true y.moves) (all_signalled sk) m z)))
+
+rest_values : (y : Fork) (ks : BranchCourses) (n : ℕ) (rights : ℕ → Bool) (value : ℕ → Option Value) (all : Children) (w : List ℕ) (g : List Gift) (ss rest : List ℕ) → SiteFits n rights g w y → Lists rights g ss
+    → ((c : ℕ) → has c ss ≡ true → is_some (value c) ≡ has c (those_of (all_signalled all) (moved true y.moves) ++ rest)) → (c : ℕ) → has c (without (moved true y.moves) ss) ≡ true
+    → is_some (told_values value (told y ks all) c) ≡ has c rest
+rest_values y ks n rights value all w g ss rest f p x c h =
+    let i = minus_in c (moved true y.moves) ss h in
+    ap is_some (outer_value value y ks all c (f.apart c (p.to c i).0))
+    ∙ (x c i ∙ in_rest c (those_of (all_signalled all) (moved true y.moves)) rest (λ z. gone_not c (moved true y.moves) ss (common_in c (moved true y.moves) (all_signalled all) z).0 h))
+
+-- what conjuncts signal has a value behind them
+all_some : (y : Fork) (ks : BranchCourses) (value : ℕ → Option Value) (l : ℕ) (gn : List ℕ) → AllKeep y 1 ks
+    → ((j c : ℕ) → has c (signals_to j y) ≡ true → is_some (value c) ≡ has c (all_signalled (scripts l gn ks))) → ((c : ℕ) → has c gn ≡ true → is_some (value c) ≡ true)
+    → (c : ℕ) → has c (gn ++ all_signalled (scripts l gn ks)) ≡ true → is_some (value c) ≡ true
+all_some y ks value l gn p all given c h =
+    either_some c gn (all_signalled (scripts l gn ks)) value (in_either c gn (all_signalled (scripts l gn ks)) h) given (λ q. let z = all_only y 1 ks l gn p c q in all z.0 c z.1.1 ∙ q)
+
+-- the rights to wait behind a fork
+more_waits : (y : Fork) (ks : BranchCourses) (all : Children) (w ws : List ℕ) → ((c : ℕ) → has c w ≡ true → has c ws ≡ true) → (c : ℕ) → has c (waits_past y w) ≡ true
+    → has c (used_by 0 (told y ks all) ++ without (numbers_of (told y ks all)) (without (moved false y.moves) ws)) ≡ true
+more_waits y ks all w ws a c h =
+    subst (λ u. has c (u ++ without (numbers_of (told y ks all)) (without (moved false y.moves) ws)) ≡ true) (sym (used_told y ks all 0))
+    (subst (λ u. has c (uses 0 y.cells ++ without u (without (moved false y.moves) ws)) ≡ true) (sym (names_told y ks all)) (waits_more y w ws a c h))
+
+fork_fits : (y : Fork) (ks : BranchCourses) (all : Children) (l s : ℕ) (rights : ℕ → Bool) (g : List Gift) (w ss ws : List ℕ) → kid_count ks ≡ count all → l + s ≤ most_steps → Lists rights g ss
+    → ((c : ℕ) → has c w ≡ true → has c ws ≡ true) → SiteFits (kid_count ks) rights g w y → ForkFits s ss ws l (told y ks all) y.moves (count all)
+fork_fits y ks all l s rights g w ss ws e b p a f = record {
+  some = subst (λ n. 1 ≤ n) e f.some;
+  few = subst (λ n. n ≤ most_children) e f.few;
+  early = omega (arith, b);
+  limited = omega (arith, b);
+  each_cell = cells_fit (kid_count ks) (count all) (all_signalled all) (all_give ks) y.cells e f.cells;
+  each_move = moves_held (kid_count ks) (count all) rights g ss w ws y.moves e p a f.moves;
+  signals_once = f.signals_once;
+  waits_once = f.waits_once;
+}
+
+names_fit : (y : Fork) (ks : BranchCourses) (all : Children) (n : ℕ) (rights : ℕ → Bool) (g : List Gift) (w ss : List ℕ) → Lists rights g ss → SiteFits n rights g w y → NamesFit ss (told y ks all) y.moves
+names_fit y ks all n rights g w ss p f = record {
+  distinct = subst (λ u. AreDistinct u) (sym (names_told y ks all)) f.distinct;
+  apart = λ c h. ap (λ u. has c u) (names_told y ks all) ∙ f.apart c (p.to c h).0;
+  fresh = subst (λ u. AllByRecursion (λ m. has m.cell u ≡ false) y.moves) (sym (names_told y ks all)) f.fresh;
+}
+
+mutual
+  pub formed : (t : BranchCourse) (rights : ℕ → Bool) (value : ℕ → Option Value) (l s : ℕ) (gn : List ℕ) (w : List ℕ) (g : List Gift) (ss ws : List ℕ) → Keeps (Whole rights) rights w g t
+      → Within rights t → l + s ≤ most_steps → Lists rights g ss → ((c : ℕ) → has c w ≡ true → has c ws ≡ true)
+      → ((c : ℕ) → has c ss ≡ true → is_some (value c) ≡ has c (signalled (script false l s gn t))) → ((c : ℕ) → has c gn ≡ true → is_some (value c) ≡ true)
+      → NamedFormed value s ss ws (script false l s gn t)
+  formed Over rights value l s gn w g ss ws k wi b p a x i = absurd k
+  formed (Breaks (Raised e)) rights value l s gn w g ss ws k wi b p a x i = (no_values value ss x, omega (arith, b))
+  formed (Breaks TooDeep) rights value l s gn w g ss ws k wi b p a x i = (no_values value ss x, tt)
+  formed (Breaks Starving) rights value l s gn w g ss ws k wi b p a x i = (no_values value ss x, tt)
+  formed (Steps t) rights value zero s gn w g ss ws k wi b p a x i = (no_values value ss x, tt)
+  formed (Steps t) rights value (suc l) s gn w g ss ws k wi b p a x i = formed t rights value l (suc s) gn w g ss ws k wi (omega (arith, b)) p a x i
+  formed (Finds hold t) rights value l s gn w g ss ws k wi b p a x i = (no_values value ss x, (empty_list ss (λ c h. let q = p.to c h in k c q.0 q.1), omega (arith, b)))
+  formed (Awaits c v t) rights value l s gn w g ss ws k wi b p a x i =
+      (a c k.0, waited value (has c gn) c s ss (without (c ∷ []) ws) (script false l s gn t) (λ e. i c e) x
+      (λ e x'. formed t rights value l s gn (without (c ∷ []) w) g ss (without (c ∷ []) ws) k.1 wi b p (λ d h. minus_more (c ∷ []) w ws a d h) x' i))
+  formed (Gives c v t) rights value l s gn w g ss ws k wi b p a x i =
+      (p.from c k.0 k.1.0, ((λ n. some_value (value c) (x c (p.from c k.0 k.1.0) ∙ first_in c (signalled (script false l s gn t))) n),
+      formed t rights value l s gn w (g ++ (record { cell = c; value = Some v } ∷ [])) (without (c ∷ []) ss) ws k.1.1 wi.1 b (given_less rights g ss c v p k.1.0) a
+      (λ d h. x d (minus_in d (c ∷ []) ss h) ∙ in_rest d (c ∷ []) (signalled (script false l s gn t)) (λ e. gone_not d (c ∷ []) ss e h)) i))
+  formed (Forks j y ks t) rights value l s gn w g ss ws k wi b p a x i =
+      let g' = without (names y.cells) gn in
+      let sk = scripts l g' ks in
+      let o = joined l (ends sk) in
+      let next : ℕ → Script = λ u. script false (l - u) (s + u) (g' ++ all_signalled sk) t in
+      let vl = told_values value (told y ks sk) in
+      let all = fork_values j y ks t rights value l s gn w g ss k wi p x in
+      let given = outer_given y ks value l gn i in
+      (fork_fits y ks sk l s rights g w ss ws (counts l g' ks) b p a k.0,
+      (names_fit y ks sk (kid_count ks) rights g w ss p k.0,
+      (formed_all y (told y ks sk) (λ n. made_told y ks sk n) (λ n. used_told y ks sk n) 1 ks vl l g' (kid_count ks) rights w g k.0 k.1.0 wi.1.0 wi.1.1.0 (omega (arith, b)) (λ n c q h. all n c h) given,
+      (follows o s next (kids_have l g' ks),
+      goes_on vl o l s (without (moved true y.moves) ss) (used_by 0 (told y ks sk) ++ without (numbers_of (told y ks sk)) (without (moved false y.moves) ws)) next
+      (joined_limit l (ends sk)) (kids_have l g' ks) b (λ c h. rest_values y ks (kid_count ks) rights value sk w g ss (signalled (going o s next)) k.0 p x c h)
+      (λ u e h x'. formed t rights vl (l - u) (s + u) (g' ++ all_signalled sk) (waits_past y w) (g ++ gifts_through (moved true y.moves) (all_give ks))
+        (without (moved true y.moves) ss) (used_by 0 (told y ks sk) ++ without (numbers_of (told y ks sk)) (without (moved false y.moves) ws))
+        (k.1.1 (fine_kids_answer y ks l u g' k.1.0 e)) wi.1.1.1 (omega (arith, b, h))
+        (moved_less (kid_count ks) rights g (all_give ks) w ss y.moves p k.0.moves)
+        (more_waits y ks sk w ws a) x'
+        (λ c h. all_some y ks vl l g' k.1.0 all given c h))))))
+
+  pub formed_all : (y : Fork) (cells : List Cell) → ((k : ℕ) → made_by k cells ≡ makes k y.cells) → ((k : ℕ) → used_by k cells ≡ uses k y.cells) → (k : ℕ) (ks : BranchCourses) (value : ℕ → Option Value)
+      (l : ℕ) (gn : List ℕ) (n : ℕ) (rights : ℕ → Bool) (w : List ℕ) (g : List Gift) → SiteFits n rights g w y → AllKeep y k ks → ((j : ℕ) → has 0 (signals_to j y) ≡ false) → AllWithin y k ks → l ≤ most_steps
+      → ((j c : ℕ) → k ≤ j → has c (signals_to j y) ≡ true → is_some (value c) ≡ has c (all_signalled (scripts l gn ks))) → ((c : ℕ) → has c gn ≡ true → is_some (value c) ≡ true)
+      → AllNamedFormed value cells y.moves k (scripts l gn ks)
+  formed_all y cells mk us k no_branches value l gn n rights w g f p z wi b x i = tt
+  formed_all y cells mk us k (more_branches t more) value l gn n rights w g f p z wi b x i =
+      let sc = script false l 0 gn t in
+      let rest = all_signalled (scripts l (gn ++ signalled sc) more) in
+      let sg : (c : ℕ) → has c (signals_at k cells y.moves) ≡ has c (signals_to k y) = λ c. ap (λ u. has c (u ++ moved_to k true y.moves)) (mk k) in
+      let wt : (c : ℕ) → has c (waits_to k y) ≡ has c (waits_at k cells y.moves) = λ c. sym (ap (λ u. has c (u ++ moved_to k false y.moves)) (us k)) in
+      (formed t (λ c. has c (signals_to k y)) value l 0 gn (waits_to k y) [] (signals_at k cells y.moves) (waits_at k cells y.moves) p.0 wi.0 (omega (arith, b))
+      (record { to = λ c h. (sym (sg c) ∙ h, refl); from = λ c h m. sg c ∙ h }) (λ c h. sym (wt c) ∙ h)
+      (λ c h. x k c (omega arith) (sym (sg c) ∙ h)
+        ∙ in_front c (signalled sc) rest (λ q. let z = all_only y (suc k) more l (gn ++ signalled sc) p.1 c q in let e = alone n rights g w y z.0 k c f z.1.1 (sym (sg c) ∙ h) in let m = z.1.0 in omega (arith, e, m))) i,
+      formed_all y cells mk us (suc k) more value l (gn ++ signalled sc) n rights w g f p.1 z wi.1 b
+      (λ j c q h. x j c (omega (arith, q)) h
+        ∙ in_rest c (signalled sc) rest (λ r. let z = (sig_only t (λ d. has d (signals_to k y)) l 0 gn (waits_to k y) [] p.0 c r).0 in let e = alone n rights g w y j k c f h z in omega (arith, e, q)))
+      (λ c h. either_some c gn (signalled sc) value (in_either c gn (signalled sc) h) i
+        (λ r. x k c (omega arith) (sig_only t (λ d. has d (signals_to k y)) l 0 gn (waits_to k y) [] p.0 c r).0 ∙ in_left c (signalled sc) rest r)))
