@@ -16,9 +16,9 @@ use Rattle.merc_plan.proofs.Flat.{Flat, Done, Halts, Tick, Answer, Answers, behi
 use Rattle.merc_plan.proofs.Judging.{flat, flats, AllAnswer, kid_count, makes, uses, signals_to, waits_to, NamedFits, MoveGoes, HoldsRight, SiteFits, OwnFits, Whole, Keeps, AllKeep, Quiet, told_values, NamesFit, NamedFormed, AllNamedFormed}
 use Rattle.merc_plan.proofs.Walks.{WithinLimit, joined_limit, HasMemory, walk_has}
 use Rattle.merc_plan.proofs.Joins.{kids_memory, joined_is_walk, going_fine, walk_fine}
-use Rattle.merc_plan.proofs.Holds.{waits_past, pending_past, waits_more, own_fits, no_move_fits}
+use Rattle.merc_plan.proofs.Holds.{waits_past, pending_past, waits_more, own_fits, no_gone}
 use Rattle.merc_plan.proofs.Gives.{Within, AllWithin, within_gives}
-use Rattle.merc_plan.proofs.Sets.{clash, tell, same_number, is_same, only_one, front_or, or_in, first_in, rest_in, in_common, common_in, in_either, in_left, in_right, minus_in, minus_keeps, minus_more, absent, gone_not, not_one, look_before, look_past, look_same, look_none, some_now, gifts_in, gifts_out, given_here, given_other, and_both, all_pass, picked, moved_move, moved_to_move, moved_of_to, each_more, each_true}
+use Rattle.merc_plan.proofs.Sets.{clash, tell, same_number, is_same, only_one, front_or, or_in, first_in, rest_in, in_common, common_in, in_either, in_left, in_right, minus_in, minus_keeps, minus_more, append_more, absent, gone_not, not_one, look_before, look_past, look_same, look_none, some_now, gifts_in, gifts_out, given_here, given_other, and_both, all_pass, picked, moved_move, moved_to_move, moved_of_to, each_more, each_true}
 
 -- what a fork does to cells
 
@@ -621,3 +621,66 @@ mutual
         ∙ in_rest c (signalled sc) rest (λ r. let z = (sig_only t (λ d. has d (signals_to k y)) l 0 gn (waits_to k y) [] p.0 c r).0 in let e = alone n rights g w y j k c f h z in omega (arith, e, q)))
       (λ c h. either_some c gn (signalled sc) value (in_either c gn (signalled sc) h) i
         (λ r. x k c (omega arith) (sig_only t (λ d. has d (signals_to k y)) l 0 gn (waits_to k y) [] p.0 c r).0 ∙ in_left c (signalled sc) rest r)))
+
+-- courses that use no rights from outside
+
+no_lists : Lists (λ c. false) [] []
+no_lists = record { to = λ c h. absurd (cc); from = λ c r n. absurd (cc) }
+
+pending_waits : (y : Fork) (ks : BranchCourses) (all : Children) (p ws : List ℕ) → y.moves ≡ [] → ((c : ℕ) → has c p ≡ true → has c ws ≡ true) → (c : ℕ) → has c (pending_past y p) ≡ true
+    → has c (used_by 0 (told y ks all) ++ without (numbers_of (told y ks all)) (without (moved false y.moves) ws)) ≡ true
+pending_waits y ks all p ws e f c h =
+    subst (λ u. has c (u ++ without (numbers_of (told y ks all)) (without (moved false y.moves) ws)) ≡ true) (sym (used_told y ks all 0))
+    (subst (λ u. has c (uses 0 y.cells ++ without u (without (moved false y.moves) ws)) ≡ true) (sym (names_told y ks all))
+      (append_more (uses 0 y.cells) (without (names y.cells) p) (without (names y.cells) (without (moved false y.moves) ws))
+        (λ d i. minus_more (names y.cells) p (without (moved false y.moves) ws) (λ b k. no_gone y.moves b ws e (f b k)) d i) c h))
+
+not_moved_to : (ms : List Move) (j c : ℕ) → ms ≡ [] → has c (moved_to j true ms) ≡ true → ⊥
+not_moved_to ms j c e h = nothing (subst (λ z. has c (moved_to j true z) ≡ true) e h)
+  where
+    nothing : has c [] ≡ true → ⊥
+    nothing q = absurd (cc)
+
+quiet_values : (y : Fork) (ks : BranchCourses) (next : ℕ) (value : ℕ → Option Value) (l : ℕ) (gn : List ℕ) → y.moves ≡ [] → SiteFits (kid_count ks) (λ c. false) [] [] y → AllKeep y 1 ks
+    → ((j : ℕ) → has 0 (signals_to j y) ≡ false) → AllWithin y 1 ks → (j c : ℕ) → has c (signals_to j y) ≡ true
+    → is_some (told_values value (told y ks (scripts l gn ks)) c) ≡ has c (all_signalled (scripts l gn ks))
+quiet_values y ks next value l gn e f p z wi j c h = on (in_either c (makes j y.cells) (moved_to j true y.moves) h)
+  where
+    on : (has c (makes j y.cells) ≡ true) ⊎ (has c (moved_to j true y.moves) ≡ true) → is_some (told_values value (told y ks (scripts l gn ks)) c) ≡ has c (all_signalled (scripts l gn ks))
+    on (inl i) = own_values y ks (λ c. false) value l gn [] [] f p z wi c (names_of_made c j y.cells i)
+    on (inr i) = absurd (not_moved_to y.moves j c e i)
+
+pub formed_quiet : (t : BranchCourse) (root : Bool) (next : ℕ) (value : ℕ → Option Value) (l s : ℕ) (gn p ws : List ℕ) → Quiet next p t → Within (λ c. false) t → l + s ≤ most_steps
+    → ((c : ℕ) → has c p ≡ true → has c ws ≡ true) → ((c : ℕ) → has c gn ≡ true → is_some (value c) ≡ true) → NamedFormed value s [] ws (script root l s gn t)
+formed_quiet Over root next value l s gn p ws q wi b f i = (tt, (refl, omega (arith, b)))
+formed_quiet (Breaks (Raised e)) root next value l s gn p ws q wi b f i = (tt, omega (arith, b))
+formed_quiet (Breaks TooDeep) root next value l s gn p ws q wi b f i = (tt, tt)
+formed_quiet (Breaks Starving) root next value l s gn p ws q wi b f i = (tt, tt)
+formed_quiet (Steps t) root next value zero s gn p ws q wi b f i = (tt, tt)
+formed_quiet (Steps t) root next value (suc l) s gn p ws q wi b f i = formed_quiet t root next value l (suc s) gn p ws q wi (omega (arith, b)) f i
+formed_quiet (Finds hold t) true next value l s gn p ws q wi b f i = formed_quiet t true next value l s gn [] ws q wi.1 b (λ c h. absurd (cc)) i
+formed_quiet (Finds hold t) false next value l s gn p ws q wi b f i = (tt, (refl, omega (arith, b)))
+formed_quiet (Awaits c v t) root next value l s gn p ws q wi b f i =
+    (f c q.0, waited value (has c gn) c s [] (without (c ∷ []) ws) (script root l s gn t) (λ e. i c e) (λ d h. absurd (cc))
+    (λ e x. formed_quiet t root next value l s gn (without (c ∷ []) p) (without (c ∷ []) ws) q.1.1 wi b (λ d h. minus_more (c ∷ []) p ws f d h) i))
+formed_quiet (Gives c v t) root next value l s gn p ws q wi b f i = absurd q
+formed_quiet (Forks j y ks t) root next value l s gn p ws q wi b f i =
+    let g' = without (names y.cells) gn in
+    let sk = scripts l g' ks in
+    let o = joined l (ends sk) in
+    let after : ℕ → Script = λ u. script root (l - u) (s + u) (g' ++ all_signalled sk) t in
+    let vl = told_values value (told y ks sk) in
+    let fits = own_fits (kid_count ks) next (λ c. false) [] [] y (λ c r. absurd (cc)) q.0 q.1.0 in
+    let all = quiet_values y ks next value l g' q.0 fits q.1.1.0 wi.1.0 wi.1.1.0 in
+    let given = outer_given y ks value l gn i in
+    (fork_fits y ks sk l s (λ c. false) [] [] [] ws (counts l g' ks) b no_lists (λ c h. absurd (cc)) fits,
+    (names_fit y ks sk (kid_count ks) (λ c. false) [] [] [] no_lists fits,
+    (formed_all y (told y ks sk) (λ n. made_told y ks sk n) (λ n. used_told y ks sk n) 1 ks vl l g' (kid_count ks) (λ c. false) [] [] fits q.1.1.0 wi.1.0 wi.1.1.0 (omega (arith, b)) (λ n c m h. all n c h) given,
+    (follows o s after (kids_have l g' ks),
+    goes_on vl o l s [] (used_by 0 (told y ks sk) ++ without (numbers_of (told y ks sk)) (without (moved false y.moves) ws)) after (joined_limit l (ends sk)) (kids_have l g' ks) b (λ c h. absurd (cc))
+    (λ u e h x. formed_quiet t root next vl (l - u) (s + u) (g' ++ all_signalled sk) (pending_past y p) (used_by 0 (told y ks sk) ++ without (numbers_of (told y ks sk)) (without (moved false y.moves) ws))
+      (q.1.1.1 (fine_kids_answer y ks l u g' q.1.1.0 e)) wi.1.1.1 (omega (arith, b, h)) (pending_waits y ks sk p ws q.0 f) (all_some y ks vl l g' q.1.1.0 all given))))))
+
+-- the script of a course that nobody is beside
+pub formed_root : (t : BranchCourse) (next l s : ℕ) → Quiet next [] t → Within (λ c. false) t → l + s ≤ most_steps → NamedFormed (λ c. None) s [] [] (script true l s [] t)
+formed_root t next l s q wi b = formed_quiet t true next (λ c. None) l s [] [] [] q wi b (λ c h. absurd (cc)) (λ c h. absurd (cc))

@@ -185,7 +185,7 @@ pub record StillHeld (next : ℕ) (w : List ℕ) (g : List Gift) (w' : List ℕ)
 no_moves : (m : List Move) (c : ℕ) (g gs : List Gift) → m ≡ [] → gift_at c (g ++ gifts_through (moved true m) gs) ≡ gift_at c g
 no_moves m c g gs e = subst (λ z. gift_at c (g ++ gifts_through (moved true z) gs) ≡ gift_at c g) (sym e) (ap (λ z. gift_at c z) (append_none g))
 
-no_gone : (m : List Move) (c : ℕ) (w : List ℕ) → m ≡ [] → has c w ≡ true → has c (without (moved false m) w) ≡ true
+pub no_gone : (m : List Move) (c : ℕ) (w : List ℕ) → m ≡ [] → has c w ≡ true → has c (without (moved false m) w) ≡ true
 no_gone m c w e h = subst (λ z. has c (without (moved false z) w) ≡ true) (sym e) (minus_keeps c [] w refl h)
 
 -- without moves nothing is asked of them
