@@ -9,3 +9,4 @@ pub mod Items
 pub mod Depths
 pub mod Gives
 pub mod Forms
+pub mod Givers
