@@ -178,9 +178,10 @@ mutual
   pub fine_all : (x : Fork) (k : ℕ) (ks : BranchCourses) (l u n : ℕ) (gn : List ℕ) → AllKeep x k ks → walk l u (ends (scripts l gn ks)) ≡ Fine n → AllAnswer ks
   fine_all x k no_branches l u n gn p h = tt
   fine_all x k (more_branches t more) l u n gn p h =
-      let f = walk_fine l u n (end_of (script false l 0 gn t)) (ends (scripts l (gn ++ signalled (script false l 0 gn t)) more)) h in
-      (fine_answers t (λ c. has c (signals_to k x)) l 0 f.steps gn (waits_to k x) [] p.0 f.is_fine,
-      fine_all x (suc k) more l (u + f.steps) n (gn ++ signalled (script false l 0 gn t)) p.1 f.rest)
+      let f = walk_fine l u n (end_of (script false l 0 gn t)) (ends (scripts l (gn ++ signalled (script false l 0 gn t)) more)) h in (
+        fine_answers t (λ c. has c (signals_to k x)) l 0 f.steps gn (waits_to k x) [] p.0 f.is_fine,
+        fine_all x (suc k) more l (u + f.steps) n (gn ++ signalled (script false l 0 gn t)) p.1 f.rest,
+      )
 
 fine_kids_answer : (x : Fork) (ks : BranchCourses) (l n : ℕ) (gn : List ℕ) → AllKeep x 1 ks → joined l (ends (scripts l gn ks)) ≡ Fine n → AllAnswer ks
 fine_kids_answer x ks l n gn p h = fine_all x 1 ks l 0 n gn p (sym (joined_is_walk ks l gn) ∙ h)
@@ -203,6 +204,7 @@ lists_less rights g new ss gone p there out was = record {
   where
     before : (c : ℕ) → gift_at c (g ++ new) ≡ None → has c gone ≡ false → gift_at c g ≡ None
     before c n e = sym (look_same c g new (out c e)) ∙ n
+
     on : (c : ℕ) → rights c ≡ true → gift_at c (g ++ new) ≡ None → (has c gone ≡ true) ⊎ (has c gone ≡ false) → has c (without gone ss) ≡ true
     on c r n (inl e) = absurd (there c e (was c e) n)
     on c r n (inr e) = minus_keeps c gone ss e (p.from c r (before c n e))
@@ -213,7 +215,7 @@ given_less : (rights : ℕ → Bool) (g : List Gift) (ss : List ℕ) (c : ℕ) (
 given_less rights g ss c v p n =
     lists_less rights g (record { cell = c; value = Some v } ∷ []) ss (c ∷ []) p
     (λ d e m. some_now (Some v) (gift_at d (g ++ (record { cell = c; value = Some v } ∷ [])))
-      (look_past d g (record { cell = c; value = Some v } ∷ []) m ∙ (ap (λ z. gift_at z (record { cell = c; value = Some v } ∷ [])) (only_one d c e) ∙ given_here c (Some v) [])))
+    (look_past d g (record { cell = c; value = Some v } ∷ []) m ∙ (ap (λ z. gift_at z (record { cell = c; value = Some v } ∷ [])) (only_one d c e) ∙ given_here c (Some v) [])))
     (λ d e. given_other d c (Some v) [] (λ q. clash (has d (c ∷ [])) (or_in d c [] (inl q)) e)) (λ d e. ap (λ z. gift_at z g) (only_one d c e) ∙ n)
 
 moves_held : (n m : ℕ) (rights : ℕ → Bool) (g : List Gift) (ss w ws : List ℕ) (ms : List Move) → n ≡ m → Lists rights g ss → ((c : ℕ) → has c w ≡ true → has c ws ≡ true)
@@ -227,11 +229,14 @@ moves_held n m rights g ss w ws ms e p a h =
 
 cells_fit : (n m : ℕ) (sg : List ℕ) (gs : List Gift) (cells : List NamedCell) → n ≡ m → AllByRecursion (NamedFits n) cells → AllByRecursion (CellFits m) (map (valued sg gs) cells)
 cells_fit n m sg gs [] e h = tt
-cells_fit n m sg gs (one ∷ cells) e h = (record {
-  from_one = h.0.0;
-  to_last = subst (λ z. one.producer ≤ z) e h.0.1.0;
-  right = subst (λ z. (one.consumer ≡ 0) ⊎ ((one.producer < one.consumer) × (one.consumer ≤ z))) e h.0.1.1;
-}, cells_fit n m sg gs cells e h.1)
+cells_fit n m sg gs (one ∷ cells) e h = (
+  record {
+    from_one = h.0.0;
+    to_last = subst (λ z. one.producer ≤ z) e h.0.1.0;
+    right = subst (λ z. (one.consumer ≡ 0) ⊎ ((one.producer < one.consumer) × (one.consumer ≤ z))) e h.0.1.1;
+  },
+  cells_fit n m sg gs cells e h.1,
+)
 
 moved_right : (n : ℕ) (rights : ℕ → Bool) (g : List Gift) (w : List ℕ) (c : ℕ) (ms : List Move) → AllByRecursion (MoveGoes n rights g w) ms → has c (moved true ms) ≡ true
     → (rights c ≡ true) × (gift_at c g ≡ None)
@@ -295,8 +300,8 @@ mutual
       fork_only c x (kid_count ks) (all_give ks) rights w g k.0 (signalled (going o s (λ u. script false (l - u) (s + u) (g' ++ all_signalled (scripts l g' ks)) t))) (all_signalled (scripts l g' ks))
       (in_either c (those_of (all_signalled (scripts l g' ks)) (moved true x.moves)) (signalled (going o s (λ u. script false (l - u) (s + u) (g' ++ all_signalled (scripts l g' ks)) t))) h)
       (λ q. let n = signalled_going c s o (λ u. script false (l - u) (s + u) (g' ++ all_signalled (scripts l g' ks)) t) q in
-        sig_only t rights (l - n.0) (s + n.0) (g' ++ all_signalled (scripts l g' ks)) (waits_past x w) (g ++ gifts_through (moved true x.moves) (all_give ks))
-        (k.1.1 (fine_kids_answer x ks l n.0 g' k.1.0 n.1.0)) c n.1.1)
+      sig_only t rights (l - n.0) (s + n.0) (g' ++ all_signalled (scripts l g' ks)) (waits_past x w) (g ++ gifts_through (moved true x.moves) (all_give ks))
+      (k.1.1 (fine_kids_answer x ks l n.0 g' k.1.0 n.1.0)) c n.1.1)
 
   pub all_only : (x : Fork) (k : ℕ) (ks : BranchCourses) (l : ℕ) (gn : List ℕ) → AllKeep x k ks → (c : ℕ) → has c (all_signalled (scripts l gn ks)) ≡ true
       → (j : ℕ) × ((k ≤ j) × (has c (signals_to j x) ≡ true))
@@ -358,13 +363,13 @@ moved_not_own n rights g w x k c s h =
 one_maker : (x : Fork) (j k c : ℕ) → AreDistinct (names x.cells) → has c (makes j x.cells) ≡ true → has c (makes k x.cells) ≡ true → j ≡ k
 one_maker x j k c d h i =
     let o = one_only (λ (one : NamedCell). one.cell) (λ one. true) (λ (one : NamedCell). nat_eq one.producer j) (λ (one : NamedCell). nat_eq one.producer k) c x.cells (λ y e. refl) (λ y e. refl)
-        (subst (λ l. AreDistinct (names l)) (sym (all_pass x.cells)) d) h i in
+    (subst (λ l. AreDistinct (names l)) (sym (all_pass x.cells)) d) h i in
     sym (same_number o.0.producer j o.1.0) ∙ same_number o.0.producer k o.1.1
 
 one_mover : (x : Fork) (j k c : ℕ) → AreDistinct (moved true x.moves) → has c (moved_to j true x.moves) ≡ true → has c (moved_to k true x.moves) ≡ true → j ≡ k
 one_mover x j k c d h i =
     let o = one_only (λ (one : Move). one.cell) (is_kind true) (λ (one : Move). nat_eq one.child j && is_kind true one) (λ (one : Move). nat_eq one.child k && is_kind true one) c x.moves
-        (λ y e. (and_both (nat_eq y.child j) (is_kind true y) e).1) (λ y e. (and_both (nat_eq y.child k) (is_kind true y) e).1) d h i in
+    (λ y e. (and_both (nat_eq y.child j) (is_kind true y) e).1) (λ y e. (and_both (nat_eq y.child k) (is_kind true y) e).1) d h i in
     sym (same_number o.0.child j (and_both (nat_eq o.0.child j) (is_kind true o.0) o.1.0).0) ∙ same_number o.0.child k (and_both (nat_eq o.0.child k) (is_kind true o.0) o.1.1).0
 
 -- a right to signal is one child's
@@ -434,9 +439,10 @@ mutual
       (in_either c (those_of (all_signalled (scripts l g' ks)) (moved true x.moves)) (signalled (going o s next)) h)
       (λ q. all_given x 1 ks l g' (kid_count ks) rights w g k.0 k.1.0 wi.1.0 wi.1.1.0 c q)
       (λ q. let n = signalled_going c s o next q in
-        let a = k.1.1 (fine_kids_answer x ks l n.0 g' k.1.0 n.1.0) in
-        ((sig_only t rights (l - n.0) (s + n.0) (g' ++ all_signalled (scripts l g' ks)) (waits_past x w) (g ++ gifts_through (moved true x.moves) (all_give ks)) a c n.1.1).1,
-        sig_given t rights (l - n.0) (s + n.0) (g' ++ all_signalled (scripts l g' ks)) (waits_past x w) (g ++ gifts_through (moved true x.moves) (all_give ks)) a wi.1.1.1 c n.1.1))
+      let a = k.1.1 (fine_kids_answer x ks l n.0 g' k.1.0 n.1.0) in (
+        (sig_only t rights (l - n.0) (s + n.0) (g' ++ all_signalled (scripts l g' ks)) (waits_past x w) (g ++ gifts_through (moved true x.moves) (all_give ks)) a c n.1.1).1,
+        sig_given t rights (l - n.0) (s + n.0) (g' ++ all_signalled (scripts l g' ks)) (waits_past x w) (g ++ gifts_through (moved true x.moves) (all_give ks)) a wi.1.1.1 c n.1.1,
+      ))
 
   pub all_given : (x : Fork) (k : ℕ) (ks : BranchCourses) (l : ℕ) (gn : List ℕ) (n : ℕ) (rights : ℕ → Bool) (w : List ℕ) (g : List Gift) → SiteFits n rights g w x → AllKeep x k ks
       → ((j : ℕ) → has 0 (signals_to j x) ≡ false) → AllWithin x k ks → (c : ℕ) → has c (all_signalled (scripts l gn ks)) ≡ true → Given c (all_give ks)
@@ -446,9 +452,10 @@ mutual
       kid_given x k k c (gives t) (all_give more) (signalled sc) (all_signalled (scripts l (gn ++ signalled sc) more))
       (in_either c (signalled sc) (all_signalled (scripts l (gn ++ signalled sc) more)) h)
       (λ q. sig_given t (λ d. has d (signals_to k x)) l 0 gn (waits_to k x) [] p.0 wi.0 c q)
-      (λ q. let a = all_only x (suc k) more l (gn ++ signalled sc) p.1 c q in
-        (within_gives t (λ d. has d (signals_to k x)) wi.0 c (not_its x k a.0 c (λ i j. alone n rights g w x a.0 k c f i j) a.1.0 a.1.1) (not_none x a.0 c z a.1.1),
-        all_given x (suc k) more l (gn ++ signalled sc) n rights w g f p.1 z wi.1 c q))
+      (λ q. let a = all_only x (suc k) more l (gn ++ signalled sc) p.1 c q in (
+        within_gives t (λ d. has d (signals_to k x)) wi.0 c (not_its x k a.0 c (λ i j. alone n rights g w x a.0 k c f i j) a.1.0 a.1.1) (not_none x a.0 c z a.1.1),
+        all_given x (suc k) more l (gn ++ signalled sc) n rights w g f p.1 z wi.1 c q,
+      ))
 
 -- the values of cells
 
@@ -498,17 +505,21 @@ fork_values i y ks t rights value l s gn w g ss k wi p x j c h = on (in_either c
   where
     sk : Children
     sk = scripts l (without (names y.cells) gn) ks
+
     next : ℕ → Script
     next u = script false (l - u) (s + u) (without (names y.cells) gn ++ all_signalled sk) t
+
     rest : Script
     rest = going (joined l (ends sk)) s next
+
     not_behind : has c (moved true y.moves) ≡ true → gift_at c g ≡ None → has c (signalled rest) ≡ true → ⊥
     not_behind m n i =
         let q = signalled_going c s (joined l (ends sk)) next i in
         let z = sig_only t rights (l - q.0) (s + q.0) (without (names y.cells) gn ++ all_signalled sk) (waits_past y w) (g ++ gifts_through (moved true y.moves) (all_give ks))
-            (k.1.1 (fine_kids_answer y ks l q.0 (without (names y.cells) gn) k.1.0 q.1.0)) c q.1.1 in
+        (k.1.1 (fine_kids_answer y ks l q.0 (without (names y.cells) gn) k.1.0 q.1.0)) c q.1.1 in
         some_now (value_given (gift_at c (all_give ks))) (gift_at c (g ++ gifts_through (moved true y.moves) (all_give ks)))
         (look_past c g (gifts_through (moved true y.moves) (all_give ks)) n ∙ gifts_in c (moved true y.moves) (all_give ks) m) z.1
+
     on : (has c (makes j y.cells) ≡ true) ⊎ (has c (moved_to j true y.moves) ≡ true) → is_some (told_values value (told y ks sk) c) ≡ has c (all_signalled sk)
     on (inl i) = own_values y ks rights value l (without (names y.cells) gn) w g k.0 k.1.0 wi.1.0 wi.1.1.0 c (names_of_made c j y.cells i)
     on (inr i) =
@@ -518,7 +529,7 @@ fork_values i y ks t rights value l s gn w g ss k wi p x j c h = on (in_either c
         ∙ (x c (p.from c q.0 q.1)
         ∙ (in_front c (those_of (all_signalled sk) (moved true y.moves)) (signalled rest) (λ z. not_behind m q.1 z)
         ∙ same_test (has c (those_of (all_signalled sk) (moved true y.moves))) (has c (all_signalled sk)) (λ z. (common_in c (moved true y.moves) (all_signalled sk) z).1)
-          (λ z. in_common c (moved true y.moves) (all_signalled sk) m z)))
+        (λ z. in_common c (moved true y.moves) (all_signalled sk) m z)))
 
 rest_values : (y : Fork) (ks : BranchCourses) (n : ℕ) (rights : ℕ → Bool) (value : ℕ → Option Value) (all : Children) (w : List ℕ) (g : List Gift) (ss rest : List ℕ) → SiteFits n rights g w y → Lists rights g ss
     → ((c : ℕ) → has c ss ≡ true → is_some (value c) ≡ has c (those_of (all_signalled all) (moved true y.moves) ++ rest)) → (c : ℕ) → has c (without (moved true y.moves) ss) ≡ true
@@ -574,13 +585,19 @@ mutual
   formed (Steps t) rights value zero s gn w g ss ws k wi b p a x i = (no_values value ss x, tt)
   formed (Steps t) rights value (suc l) s gn w g ss ws k wi b p a x i = formed t rights value l (suc s) gn w g ss ws k wi (omega (arith, b)) p a x i
   formed (Finds hold t) rights value l s gn w g ss ws k wi b p a x i = (no_values value ss x, (empty_list ss (λ c h. let q = p.to c h in k c q.0 q.1), omega (arith, b)))
-  formed (Awaits c v t) rights value l s gn w g ss ws k wi b p a x i =
-      (a c k.0, waited value (has c gn) c s ss (without (c ∷ []) ws) (script false l s gn t) (λ e. i c e) x
-      (λ e x'. formed t rights value l s gn (without (c ∷ []) w) g ss (without (c ∷ []) ws) k.1 wi b p (λ d h. minus_more (c ∷ []) w ws a d h) x' i))
-  formed (Gives c v t) rights value l s gn w g ss ws k wi b p a x i =
-      (p.from c k.0 k.1.0, ((λ n. some_value (value c) (x c (p.from c k.0 k.1.0) ∙ first_in c (signalled (script false l s gn t))) n),
+  formed (Awaits c v t) rights value l s gn w g ss ws k wi b p a x i = (
+    a c k.0,
+    waited value (has c gn) c s ss (without (c ∷ []) ws) (script false l s gn t) (λ e. i c e) x
+        (λ e x'. formed t rights value l s gn (without (c ∷ []) w) g ss (without (c ∷ []) ws) k.1 wi b p (λ d h. minus_more (c ∷ []) w ws a d h) x' i),
+  )
+  formed (Gives c v t) rights value l s gn w g ss ws k wi b p a x i = (
+    p.from c k.0 k.1.0,
+    (
+      (λ n. some_value (value c) (x c (p.from c k.0 k.1.0) ∙ first_in c (signalled (script false l s gn t))) n),
       formed t rights value l s gn w (g ++ (record { cell = c; value = Some v } ∷ [])) (without (c ∷ []) ss) ws k.1.1 wi.1 b (given_less rights g ss c v p k.1.0) a
-      (λ d h. x d (minus_in d (c ∷ []) ss h) ∙ in_rest d (c ∷ []) (signalled (script false l s gn t)) (λ e. gone_not d (c ∷ []) ss e h)) i))
+          (λ d h. x d (minus_in d (c ∷ []) ss h) ∙ in_rest d (c ∷ []) (signalled (script false l s gn t)) (λ e. gone_not d (c ∷ []) ss e h)) i,
+    ),
+  )
   formed (Forks j y ks t) rights value l s gn w g ss ws k wi b p a x i =
       let g' = without (names y.cells) gn in
       let sk = scripts l g' ks in
@@ -588,19 +605,26 @@ mutual
       let next : ℕ → Script = λ u. script false (l - u) (s + u) (g' ++ all_signalled sk) t in
       let vl = told_values value (told y ks sk) in
       let all = fork_values j y ks t rights value l s gn w g ss k wi p x in
-      let given = outer_given y ks value l gn i in
-      (fork_fits y ks sk l s rights g w ss ws (counts l g' ks) b p a k.0,
-      (names_fit y ks sk (kid_count ks) rights g w ss p k.0,
-      (formed_all y (told y ks sk) (λ n. made_told y ks sk n) (λ n. used_told y ks sk n) 1 ks vl l g' (kid_count ks) rights w g k.0 k.1.0 wi.1.0 wi.1.1.0 (omega (arith, b)) (λ n c q h. all n c h) given,
-      (follows o s next (kids_have l g' ks),
-      goes_on vl o l s (without (moved true y.moves) ss) (used_by 0 (told y ks sk) ++ without (numbers_of (told y ks sk)) (without (moved false y.moves) ws)) next
-      (joined_limit l (ends sk)) (kids_have l g' ks) b (λ c h. rest_values y ks (kid_count ks) rights value sk w g ss (signalled (going o s next)) k.0 p x c h)
-      (λ u e h x'. formed t rights vl (l - u) (s + u) (g' ++ all_signalled sk) (waits_past y w) (g ++ gifts_through (moved true y.moves) (all_give ks))
-        (without (moved true y.moves) ss) (used_by 0 (told y ks sk) ++ without (numbers_of (told y ks sk)) (without (moved false y.moves) ws))
-        (k.1.1 (fine_kids_answer y ks l u g' k.1.0 e)) wi.1.1.1 (omega (arith, b, h))
-        (moved_less (kid_count ks) rights g (all_give ks) w ss y.moves p k.0.moves)
-        (more_waits y ks sk w ws a) x'
-        (λ c h. all_some y ks vl l g' k.1.0 all given c h))))))
+      let given = outer_given y ks value l gn i in (
+        fork_fits y ks sk l s rights g w ss ws (counts l g' ks) b p a k.0,
+        (
+          names_fit y ks sk (kid_count ks) rights g w ss p k.0,
+          (
+            formed_all y (told y ks sk) (λ n. made_told y ks sk n) (λ n. used_told y ks sk n) 1 ks vl l g' (kid_count ks) rights w g k.0 k.1.0 wi.1.0 wi.1.1.0 (omega (arith, b)) (λ n c q h. all n c h) given,
+            (
+              follows o s next (kids_have l g' ks),
+              goes_on vl o l s (without (moved true y.moves) ss) (used_by 0 (told y ks sk) ++ without (numbers_of (told y ks sk)) (without (moved false y.moves) ws)) next
+                  (joined_limit l (ends sk)) (kids_have l g' ks) b (λ c h. rest_values y ks (kid_count ks) rights value sk w g ss (signalled (going o s next)) k.0 p x c h)
+                  (λ u e h x'. formed t rights vl (l - u) (s + u) (g' ++ all_signalled sk) (waits_past y w) (g ++ gifts_through (moved true y.moves) (all_give ks))
+                  (without (moved true y.moves) ss) (used_by 0 (told y ks sk) ++ without (numbers_of (told y ks sk)) (without (moved false y.moves) ws))
+                  (k.1.1 (fine_kids_answer y ks l u g' k.1.0 e)) wi.1.1.1 (omega (arith, b, h))
+                  (moved_less (kid_count ks) rights g (all_give ks) w ss y.moves p k.0.moves)
+                  (more_waits y ks sk w ws a) x'
+                  (λ c h. all_some y ks vl l g' k.1.0 all given c h)),
+            ),
+          ),
+        ),
+      )
 
   pub formed_all : (y : Fork) (cells : List Cell) → ((k : ℕ) → made_by k cells ≡ makes k y.cells) → ((k : ℕ) → used_by k cells ≡ uses k y.cells) → (k : ℕ) (ks : BranchCourses) (value : ℕ → Option Value)
       (l : ℕ) (gn : List ℕ) (n : ℕ) (rights : ℕ → Bool) (w : List ℕ) (g : List Gift) → SiteFits n rights g w y → AllKeep y k ks → ((j : ℕ) → has 0 (signals_to j y) ≡ false) → AllWithin y k ks → l ≤ most_steps
@@ -611,16 +635,17 @@ mutual
       let sc = script false l 0 gn t in
       let rest = all_signalled (scripts l (gn ++ signalled sc) more) in
       let sg : (c : ℕ) → has c (signals_at k cells y.moves) ≡ has c (signals_to k y) = λ c. ap (λ u. has c (u ++ moved_to k true y.moves)) (mk k) in
-      let wt : (c : ℕ) → has c (waits_to k y) ≡ has c (waits_at k cells y.moves) = λ c. sym (ap (λ u. has c (u ++ moved_to k false y.moves)) (us k)) in
-      (formed t (λ c. has c (signals_to k y)) value l 0 gn (waits_to k y) [] (signals_at k cells y.moves) (waits_at k cells y.moves) p.0 wi.0 (omega (arith, b))
-      (record { to = λ c h. (sym (sg c) ∙ h, refl); from = λ c h m. sg c ∙ h }) (λ c h. sym (wt c) ∙ h)
-      (λ c h. x k c (omega arith) (sym (sg c) ∙ h)
-        ∙ in_front c (signalled sc) rest (λ q. let z = all_only y (suc k) more l (gn ++ signalled sc) p.1 c q in let e = alone n rights g w y z.0 k c f z.1.1 (sym (sg c) ∙ h) in let m = z.1.0 in omega (arith, e, m))) i,
-      formed_all y cells mk us (suc k) more value l (gn ++ signalled sc) n rights w g f p.1 z wi.1 b
-      (λ j c q h. x j c (omega (arith, q)) h
-        ∙ in_rest c (signalled sc) rest (λ r. let z = (sig_only t (λ d. has d (signals_to k y)) l 0 gn (waits_to k y) [] p.0 c r).0 in let e = alone n rights g w y j k c f h z in omega (arith, e, q)))
-      (λ c h. either_some c gn (signalled sc) value (in_either c gn (signalled sc) h) i
-        (λ r. x k c (omega arith) (sig_only t (λ d. has d (signals_to k y)) l 0 gn (waits_to k y) [] p.0 c r).0 ∙ in_left c (signalled sc) rest r)))
+      let wt : (c : ℕ) → has c (waits_to k y) ≡ has c (waits_at k cells y.moves) = λ c. sym (ap (λ u. has c (u ++ moved_to k false y.moves)) (us k)) in (
+        formed t (λ c. has c (signals_to k y)) value l 0 gn (waits_to k y) [] (signals_at k cells y.moves) (waits_at k cells y.moves) p.0 wi.0 (omega (arith, b))
+            (record { to = λ c h. (sym (sg c) ∙ h, refl); from = λ c h m. sg c ∙ h }) (λ c h. sym (wt c) ∙ h)
+            (λ c h. x k c (omega arith) (sym (sg c) ∙ h)
+            ∙ in_front c (signalled sc) rest (λ q. let z = all_only y (suc k) more l (gn ++ signalled sc) p.1 c q in let e = alone n rights g w y z.0 k c f z.1.1 (sym (sg c) ∙ h) in let m = z.1.0 in omega (arith, e, m))) i,
+        formed_all y cells mk us (suc k) more value l (gn ++ signalled sc) n rights w g f p.1 z wi.1 b
+            (λ j c q h. x j c (omega (arith, q)) h
+            ∙ in_rest c (signalled sc) rest (λ r. let z = (sig_only t (λ d. has d (signals_to k y)) l 0 gn (waits_to k y) [] p.0 c r).0 in let e = alone n rights g w y j k c f h z in omega (arith, e, q)))
+            (λ c h. either_some c gn (signalled sc) value (in_either c gn (signalled sc) h) i
+            (λ r. x k c (omega arith) (sig_only t (λ d. has d (signals_to k y)) l 0 gn (waits_to k y) [] p.0 c r).0 ∙ in_left c (signalled sc) rest r)),
+      )
 
 -- courses that use no rights from outside
 
@@ -632,8 +657,8 @@ pending_waits : (y : Fork) (ks : BranchCourses) (all : Children) (p ws : List �
 pending_waits y ks all p ws e f c h =
     subst (λ u. has c (u ++ without (numbers_of (told y ks all)) (without (moved false y.moves) ws)) ≡ true) (sym (used_told y ks all 0))
     (subst (λ u. has c (uses 0 y.cells ++ without u (without (moved false y.moves) ws)) ≡ true) (sym (names_told y ks all))
-      (append_more (uses 0 y.cells) (without (names y.cells) p) (without (names y.cells) (without (moved false y.moves) ws))
-        (λ d i. minus_more (names y.cells) p (without (moved false y.moves) ws) (λ b k. no_gone y.moves b ws e (f b k)) d i) c h))
+    (append_more (uses 0 y.cells) (without (names y.cells) p) (without (names y.cells) (without (moved false y.moves) ws))
+    (λ d i. minus_more (names y.cells) p (without (moved false y.moves) ws) (λ b k. no_gone y.moves b ws e (f b k)) d i) c h))
 
 not_moved_to : (ms : List Move) (j c : ℕ) → ms ≡ [] → has c (moved_to j true ms) ≡ true → ⊥
 not_moved_to ms j c e h = nothing (subst (λ z. has c (moved_to j true z) ≡ true) e h)
@@ -660,9 +685,11 @@ formed_quiet (Steps t) root next value zero s gn p ws q wi b f i = (tt, tt)
 formed_quiet (Steps t) root next value (suc l) s gn p ws q wi b f i = formed_quiet t root next value l (suc s) gn p ws q wi (omega (arith, b)) f i
 formed_quiet (Finds hold t) true next value l s gn p ws q wi b f i = formed_quiet t true next value l s gn [] ws q wi.1 b (λ c h. absurd (cc)) i
 formed_quiet (Finds hold t) false next value l s gn p ws q wi b f i = (tt, (refl, omega (arith, b)))
-formed_quiet (Awaits c v t) root next value l s gn p ws q wi b f i =
-    (f c q.0, waited value (has c gn) c s [] (without (c ∷ []) ws) (script root l s gn t) (λ e. i c e) (λ d h. absurd (cc))
-    (λ e x. formed_quiet t root next value l s gn (without (c ∷ []) p) (without (c ∷ []) ws) q.1.1 wi b (λ d h. minus_more (c ∷ []) p ws f d h) i))
+formed_quiet (Awaits c v t) root next value l s gn p ws q wi b f i = (
+  f c q.0,
+  waited value (has c gn) c s [] (without (c ∷ []) ws) (script root l s gn t) (λ e. i c e) (λ d h. absurd (cc))
+      (λ e x. formed_quiet t root next value l s gn (without (c ∷ []) p) (without (c ∷ []) ws) q.1.1 wi b (λ d h. minus_more (c ∷ []) p ws f d h) i),
+)
 formed_quiet (Gives c v t) root next value l s gn p ws q wi b f i = absurd q
 formed_quiet (Forks j y ks t) root next value l s gn p ws q wi b f i =
     let g' = without (names y.cells) gn in
@@ -672,14 +699,21 @@ formed_quiet (Forks j y ks t) root next value l s gn p ws q wi b f i =
     let vl = told_values value (told y ks sk) in
     let fits = own_fits (kid_count ks) next (λ c. false) [] [] y (λ c r. absurd (cc)) q.0 q.1.0 in
     let all = quiet_values y ks next value l g' q.0 fits q.1.1.0 wi.1.0 wi.1.1.0 in
-    let given = outer_given y ks value l gn i in
-    (fork_fits y ks sk l s (λ c. false) [] [] [] ws (counts l g' ks) b no_lists (λ c h. absurd (cc)) fits,
-    (names_fit y ks sk (kid_count ks) (λ c. false) [] [] [] no_lists fits,
-    (formed_all y (told y ks sk) (λ n. made_told y ks sk n) (λ n. used_told y ks sk n) 1 ks vl l g' (kid_count ks) (λ c. false) [] [] fits q.1.1.0 wi.1.0 wi.1.1.0 (omega (arith, b)) (λ n c m h. all n c h) given,
-    (follows o s after (kids_have l g' ks),
-    goes_on vl o l s [] (used_by 0 (told y ks sk) ++ without (numbers_of (told y ks sk)) (without (moved false y.moves) ws)) after (joined_limit l (ends sk)) (kids_have l g' ks) b (λ c h. absurd (cc))
-    (λ u e h x. formed_quiet t root next vl (l - u) (s + u) (g' ++ all_signalled sk) (pending_past y p) (used_by 0 (told y ks sk) ++ without (numbers_of (told y ks sk)) (without (moved false y.moves) ws))
-      (q.1.1.1 (fine_kids_answer y ks l u g' q.1.1.0 e)) wi.1.1.1 (omega (arith, b, h)) (pending_waits y ks sk p ws q.0 f) (all_some y ks vl l g' q.1.1.0 all given))))))
+    let given = outer_given y ks value l gn i in (
+      fork_fits y ks sk l s (λ c. false) [] [] [] ws (counts l g' ks) b no_lists (λ c h. absurd (cc)) fits,
+      (
+        names_fit y ks sk (kid_count ks) (λ c. false) [] [] [] no_lists fits,
+        (
+          formed_all y (told y ks sk) (λ n. made_told y ks sk n) (λ n. used_told y ks sk n) 1 ks vl l g' (kid_count ks) (λ c. false) [] [] fits q.1.1.0 wi.1.0 wi.1.1.0 (omega (arith, b)) (λ n c m h. all n c h) given,
+          (
+            follows o s after (kids_have l g' ks),
+            goes_on vl o l s [] (used_by 0 (told y ks sk) ++ without (numbers_of (told y ks sk)) (without (moved false y.moves) ws)) after (joined_limit l (ends sk)) (kids_have l g' ks) b (λ c h. absurd (cc))
+                (λ u e h x. formed_quiet t root next vl (l - u) (s + u) (g' ++ all_signalled sk) (pending_past y p) (used_by 0 (told y ks sk) ++ without (numbers_of (told y ks sk)) (without (moved false y.moves) ws))
+                (q.1.1.1 (fine_kids_answer y ks l u g' q.1.1.0 e)) wi.1.1.1 (omega (arith, b, h)) (pending_waits y ks sk p ws q.0 f) (all_some y ks vl l g' q.1.1.0 all given)),
+          ),
+        ),
+      ),
+    )
 
 -- the script of a course that nobody is beside
 pub formed_root : (t : BranchCourse) (next l s : ℕ) → Quiet next [] t → Within (λ c. false) t → l + s ≤ most_steps → NamedFormed (λ c. None) s [] [] (script true l s [] t)

@@ -80,10 +80,11 @@ named_low next (info ∷ infos) c h = on (front_or c next (names (named (suc nex
 own_within : (ys : List NamedCell)
     → AllByRecursion (λ (one : HeldSignal). has one.cell (names ys) ≡ true) (map (λ (one : NamedCell). record { variable = one.variable; conjunct = one.consumer; cell = one.cell }) ys)
 own_within [] = tt
-own_within (y ∷ ys) =
-    (first_in y.cell (names ys),
-    each_more (λ (one : HeldSignal). has one.cell (names ys) ≡ true) (λ one. has one.cell (names (y ∷ ys)) ≡ true) (λ one h. rest_in one.cell y.cell (names ys) h)
-    (map (λ (one : NamedCell). record { variable = one.variable; conjunct = one.consumer; cell = one.cell }) ys) (own_within ys))
+own_within (y ∷ ys) = (
+  first_in y.cell (names ys),
+  each_more (λ (one : HeldSignal). has one.cell (names ys) ≡ true) (λ one. has one.cell (names (y ∷ ys)) ≡ true) (λ one h. rest_in one.cell y.cell (names ys) h)
+      (map (λ (one : NamedCell). record { variable = one.variable; conjunct = one.consumer; cell = one.cell }) ys) (own_within ys),
+)
 
 into_on : (k : ℕ) (to : Option ℕ) (right : HeldSignal) (rights : List HeldSignal) (ms : List Move) → AllByRecursion (λ (one : HeldSignal). has one.cell (moved_to k true ms) ≡ true) rights
     → AllByRecursion (λ (one : HeldSignal). has one.cell (moved_to k true (moves_if true right.cell to ++ ms)) ≡ true) (if goes_to k to then right ∷ rights else rights)
@@ -92,18 +93,21 @@ into_on k (Some child) right rights ms h = on (nat_eq child k)
   where
     rest : List Move
     rest = filter (λ (one : Move). nat_eq one.child k && is_kind true one) ms
+
     this : Move
     this = record { cell = right.cell; child = child; signal = true }
+
     on : (b : Bool) → AllByRecursion (λ (one : HeldSignal). has one.cell (map (λ (z : Move). z.cell) (if (b && true) then this ∷ rest else rest)) ≡ true) (if b then right ∷ rights else rights)
-    on true =
-        (first_in right.cell (moved_to k true ms),
-        each_more (λ (one : HeldSignal). has one.cell (moved_to k true ms) ≡ true) (λ one. has one.cell (right.cell ∷ moved_to k true ms) ≡ true)
-        (λ one i. rest_in one.cell right.cell (moved_to k true ms) i) rights h)
+    on true = (
+      first_in right.cell (moved_to k true ms),
+      each_more (λ (one : HeldSignal). has one.cell (moved_to k true ms) ≡ true) (λ one. has one.cell (right.cell ∷ moved_to k true ms) ≡ true)
+          (λ one i. rest_in one.cell right.cell (moved_to k true ms) i) rights h,
+    )
     on false = h
 
 into_within : (k : ℕ) (moves : List Moved) (signals : List HeldSignal)
     → AllByRecursion (λ (one : HeldSignal). has one.cell (moved_to k true (flat_map (λ (right : HeldSignal). moves_if true right.cell (child_for true right.variable moves)) signals)) ≡ true)
-      (signals_into k moves signals)
+    (signals_into k moves signals)
 into_within k moves [] = tt
 into_within k moves (right ∷ signals) =
     into_on k (child_for true right.variable moves) right (signals_into k moves signals)
@@ -115,9 +119,11 @@ moved_left k c (m ∷ ms) ns h = on (nat_eq m.child k && is_kind true m) h (λ i
   where
     test : Move → Bool
     test one = nat_eq one.child k && is_kind true one
+
     front : (c ≡ m.cell) ⊎ (has c (moved_to k true ms) ≡ true) → (has c (moved_to k true ms) ≡ true → has c (moved_to k true (ms ++ ns)) ≡ true) → has c (m.cell ∷ moved_to k true (ms ++ ns)) ≡ true
     front (inl e) rec = or_in c m.cell (moved_to k true (ms ++ ns)) (inl e)
     front (inr e) rec = rest_in c m.cell (moved_to k true (ms ++ ns)) (rec e)
+
     on : (b : Bool) → has c (map (λ (z : Move). z.cell) (if b then m ∷ filter test ms else filter test ms)) ≡ true → (has c (moved_to k true ms) ≡ true → has c (moved_to k true (ms ++ ns)) ≡ true)
         → has c (map (λ (z : Move). z.cell) (if b then m ∷ filter test (ms ++ ns) else filter test (ms ++ ns))) ≡ true
     on true i rec = front (front_or c m.cell (moved_to k true ms) i) rec
@@ -125,20 +131,23 @@ moved_left k c (m ∷ ms) ns h = on (nat_eq m.child k && is_kind true m) h (λ i
 
 -- a conjunct's rights to signal are those that its fork gives it
 conjunct_within : (info : SiteInfo) (k : ℕ) (goal : Node) (hold : Hold) (given : List Gift) → 1 ≤ hold.next → HoldWithin (λ c. has c (signals_to k (fork_of info hold))) (conjunct_hold info k goal hold given)
-conjunct_within info k goal hold given l =
-    (each_append (λ (one : HeldSignal). has one.cell (signals_to k (fork_of info hold)) ≡ true) (own_signals k (named hold.next info.cells)) (signals_into k info.moves hold.signals)
-    (each_more (λ (one : HeldSignal). has one.cell own ≡ true) (λ one. has one.cell (signals_to k (fork_of info hold)) ≡ true)
+conjunct_within info k goal hold given l = (
+  each_append (λ (one : HeldSignal). has one.cell (signals_to k (fork_of info hold)) ≡ true) (own_signals k (named hold.next info.cells)) (signals_into k info.moves hold.signals)
+      (each_more (λ (one : HeldSignal). has one.cell own ≡ true) (λ one. has one.cell (signals_to k (fork_of info hold)) ≡ true)
       (λ one h. in_left one.cell own (moved_to k true (moves_from info.moves hold)) h) (own_signals k (named hold.next info.cells))
       (own_within (filter (λ (one : NamedCell). nat_eq one.producer k) (named hold.next info.cells))))
-    (each_more (λ (one : HeldSignal). has one.cell (moved_to k true before) ≡ true) (λ one. has one.cell (signals_to k (fork_of info hold)) ≡ true)
+      (each_more (λ (one : HeldSignal). has one.cell (moved_to k true before) ≡ true) (λ one. has one.cell (signals_to k (fork_of info hold)) ≡ true)
       (λ one h. in_right one.cell own (moved_to k true (moves_from info.moves hold)) (moved_left k one.cell before behind h)) (signals_into k info.moves hold.signals)
       (into_within k info.moves hold.signals)),
-    omega (arith, l))
+  omega (arith, l),
+)
   where
     own : List ℕ
     own = makes k (named hold.next info.cells)
+
     before : List Move
     before = flat_map (λ (right : HeldSignal). moves_if true right.cell (child_for true right.variable info.moves)) hold.signals
+
     behind : List Move
     behind = flat_map (λ (right : HeldWait). moves_if false right.cell (child_for false right.variable info.moves)) hold.waits
 
@@ -176,6 +185,7 @@ fork_none rights info hold n w k = absent 0 (signals_to k (fork_of info hold)) (
   where
     own : List ℕ
     own = makes k (named hold.next info.cells)
+
     on : (has 0 own ≡ true) ⊎ (has 0 (moved_to k true (moves_from info.moves hold)) ≡ true) → ⊥
     on (inl h) =
         let p = picked (λ (one : NamedCell). one.cell) (λ (one : NamedCell). nat_eq one.producer k) (λ x. ⊤) 0 (named hold.next info.cells) (each_true (named hold.next info.cells)) h in
@@ -254,9 +264,10 @@ module _ (plan : Plan) (program : Program) (call : Procedure → Hold → Branch
     goal_within (Conjunction (Parallel None) goals) rights hold n w = all_within goals rights hold n w
     goal_within (Conjunction (Parallel (Some site)) goals) rights hold n w =
         let info = info_of (plan site.number) in
-        let none = fork_none rights info hold n w in
-        (fork_moves rights info hold w,
-        (none, (conjuncts_within goals info hold 1 [] none w.1, (behind_within rights info hold (conjunct_gifts plan program call info hold 1 goals []) w, tt))))
+        let none = fork_none rights info hold n w in (
+          fork_moves rights info hold w,
+          (none, (conjuncts_within goals info hold 1 [] none w.1, (behind_within rights info hold (conjunct_gifts plan program call info hold 1 goals []) w, tt))),
+        )
     goal_within (Disjunction goals) rights hold n w = any_within goals rights hold n w
     goal_within (Switch variable arms) rights hold n w = arms_within arms (value_at hold.env variable) rights hold n w
     goal_within (Conditional condition then_part else_part) rights hold n w =
@@ -288,9 +299,10 @@ module _ (plan : Plan) (program : Program) (call : Procedure → Hold → Branch
     conjuncts_within : (goals : Nodes) (info : SiteInfo) (hold : Hold) (k : ℕ) (given : List Gift) → ((j : ℕ) → has 0 (signals_to j (fork_of info hold)) ≡ false) → 1 ≤ hold.next
         → AllWithin (fork_of info hold) k (conjunct_branches plan program call info hold k goals given)
     conjuncts_within no_nodes info hold k given z l = tt
-    conjuncts_within (more_nodes first rest) info hold k given z l =
-        (node_within first (λ c. has c (signals_to k (fork_of info hold))) (conjunct_hold info k first hold given) (z k) (conjunct_within info k first hold given l),
-        conjuncts_within rest info hold (suc k) (given ++ gives (node_branch plan program call first (conjunct_hold info k first hold given))) z l)
+    conjuncts_within (more_nodes first rest) info hold k given z l = (
+      node_within first (λ c. has c (signals_to k (fork_of info hold))) (conjunct_hold info k first hold given) (z k) (conjunct_within info k first hold given l),
+      conjuncts_within rest info hold (suc k) (given ++ gives (node_branch plan program call first (conjunct_hold info k first hold given))) z l,
+    )
 
 body_within : (plan : Plan) (program : Program) (call : Procedure → Hold → BranchCourse) → ((procedure : Procedure) → CallWithin (call procedure)) → (body : Option ProcedureBody)
     → CallWithin (body_branch plan program call body)

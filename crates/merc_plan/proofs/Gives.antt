@@ -33,7 +33,7 @@ abbrev mutual
   Within rights (Awaits c v t) = Within rights t
   Within rights (Gives c v t) = Right rights c × Within rights t
   Within rights (Forks i x kids t) =
-    AllByRecursion (MoveWithin rights) x.moves × (((k : ℕ) → has 0 (signals_to k x) ≡ false) × (AllWithin x 1 kids × Within rights t))
+      AllByRecursion (MoveWithin rights) x.moves × (((k : ℕ) → has 0 (signals_to k x) ≡ false) × (AllWithin x 1 kids × Within rights t))
 
   pub AllWithin : Fork → ℕ → BranchCourses → Type 0
   AllWithin x k no_branches = ⊤

@@ -82,7 +82,7 @@ mutual
       let s = answers_kids ks (flat t) a in
       split_on c x ks t g n (tell (has c (moved true x.moves)))
       (λ h. let m = to_child (MoveGoes (kid_count ks) rights g w) c x.moves k.0.moves h in let l = m.fact.1.0 in
-        kid_marks x 1 ks k.1.0 s.0 m.move.child m.fact.0 (omega (arith, l)) c (in_right c (makes m.move.child x.cells) (moved_to m.move.child true x.moves) m.into))
+      kid_marks x 1 ks k.1.0 s.0 m.move.child m.fact.0 (omega (arith, l)) c (in_right c (makes m.move.child x.cells) (moved_to m.move.child true x.moves) m.into))
       (λ q. kept_marks t rights (waits_past x w) (g ++ gifts_through (moved true x.moves) (all_give ks)) (k.1.1 s.0) s.1 c r q)
 
   pub kid_marks : (x : Fork) (k : ℕ) (ks : BranchCourses) → AllKeep x k ks → AllAnswer ks → (j : ℕ) → k ≤ j → j < k + kid_count ks
@@ -111,7 +111,7 @@ moved_given : (x : Fork) (n : ℕ) (rights : ℕ → Bool) (gs : List Gift) (w g
     → has c (moved_to j false x.moves) ≡ true → has c (without (names x.cells) g) ≡ true
 moved_given x n rights gs w g c j s f h =
     let m = moved_to_move (λ m. MoveGoes n rights gs w m × (has m.cell (names x.cells) ≡ false)) j false c x.moves
-        (each_both (MoveGoes n rights gs w) (λ m. has m.cell (names x.cells) ≡ false) x.moves s.moves s.fresh) h in
+    (each_both (MoveGoes n rights gs w) (λ m. has m.cell (names x.cells) ≡ false) x.moves s.moves s.fresh) h in
     minus_keeps c (names x.cells) g (sym (ap (λ z. has z (names x.cells)) m.1.1.0) ∙ m.1.0.1)
     (f c (subst (λ z. has z w ≡ true) m.1.1.0 (subst (λ (z : Bool). HoldsRight rights gs w z m.0.cell) m.1.1.1.1 m.1.0.0.1.1)))
 
@@ -139,25 +139,27 @@ mutual
   served (Finds hold t) end rights g w gs k f = tt
   served (Awaits c v t) end rights g w gs k f = (f c k.0, served t end rights g (without (c ∷ []) w) gs k.1 (λ d h. f d (minus_in d (c ∷ []) w h)))
   served (Gives c v t) end rights g w gs k f = served t end rights g w (gs ++ (record { cell = c; value = Some v } ∷ [])) k.1.1 f
-  served (Forks i x ks t) end rights g w gs k f =
-      (served_all x 1 ks end (without (names x.cells) g) rights w gs (kid_count ks) (omega arith) k.0 k.1.0
-      (λ j c h. moved_given x (kid_count ks) rights gs w g c j k.0 f h)
-      (λ p c l r h. absurd (omega (arith, l, r))),
-      λ a. served t end rights (without (names x.cells) g ++ all_marks ks) (waits_past x w) (gs ++ gifts_through (moved true x.moves) (all_give ks)) (k.1.1 a)
-      (λ c h. behind_on x ks g c (without (moved false x.moves) w) (in_either c (uses 0 x.cells) (without (names x.cells) (without (moved false x.moves) w)) h)
-        (λ h'. used_marked x ks k.0.cells k.1.0 a c h') (λ h'. f c (minus_in c (moved false x.moves) w h'))))
+  served (Forks i x ks t) end rights g w gs k f = (
+    served_all x 1 ks end (without (names x.cells) g) rights w gs (kid_count ks) (omega arith) k.0 k.1.0
+        (λ j c h. moved_given x (kid_count ks) rights gs w g c j k.0 f h)
+        (λ p c l r h. absurd (omega (arith, l, r))),
+    λ a. served t end rights (without (names x.cells) g ++ all_marks ks) (waits_past x w) (gs ++ gifts_through (moved true x.moves) (all_give ks)) (k.1.1 a)
+        (λ c h. behind_on x ks g c (without (moved false x.moves) w) (in_either c (uses 0 x.cells) (without (names x.cells) (without (moved false x.moves) w)) h)
+        (λ h'. used_marked x ks k.0.cells k.1.0 a c h') (λ h'. f c (minus_in c (moved false x.moves) w h'))),
+  )
 
   pub served_all : (x : Fork) (k : ℕ) (ks : BranchCourses) (end : List ℕ → List Gift → Hold → Type 0) (g : List ℕ) (rights : ℕ → Bool) (w : List ℕ) (gs : List Gift) (n : ℕ) → 1 ≤ k → SiteFits n rights gs w x → AllKeep x k ks
       → ((j c : ℕ) → has c (moved_to j false x.moves) ≡ true → has c g ≡ true) → ((p c : ℕ) → 1 ≤ p → p < k → has c (makes p x.cells) ≡ true → has c g ≡ true) → AllServed g ks
   served_all x k no_branches end g rights w gs n o s p f q = tt
-  served_all x k (more_branches t more) end g rights w gs n o s p f q =
-      (served t (Whole (λ c. has c (signals_to k x))) (λ c. has c (signals_to k x)) g (waits_to k x) [] p.0
-      (λ c h. waits_on x k c g (in_either c (uses k x.cells) (moved_to k false x.moves) h) (λ h'. f k c h')
+  served_all x k (more_branches t more) end g rights w gs n o s p f q = (
+    served t (Whole (λ c. has c (signals_to k x))) (λ c. has c (signals_to k x)) g (waits_to k x) [] p.0
+        (λ c h. waits_on x k c g (in_either c (uses k x.cells) (moved_to k false x.moves) h) (λ h'. f k c h')
         (λ h'. let u = used_some (NamedFits n) x.cells c k s.cells h' in q u.one.producer c u.fact.0 (left_of n k u.one o u.consumer u.fact.1.1) u.made)),
-      λ a. served_all x (suc k) more end (g ++ marks t) rights w gs n (omega arith) s p.1 (λ j c h. in_left c g (marks t) (f j c h))
-      (λ j c l r h. next_on x k j c g (marks t) (here_or_later j k (omega (arith, r)) (nat_eq k j) refl) h
+    λ a. served_all x (suc k) more end (g ++ marks t) rights w gs n (omega arith) s p.1 (λ j c h. in_left c g (marks t) (f j c h))
+        (λ j c l r h. next_on x k j c g (marks t) (here_or_later j k (omega (arith, r)) (nat_eq k j) refl) h
         (λ r'. q j c l r' h)
-        (λ h'. kept_marks t (λ d. has d (signals_to k x)) (waits_to k x) [] p.0 a c (in_left c (makes k x.cells) (moved_to k true x.moves) h') refl)))
+        (λ h'. kept_marks t (λ d. has d (signals_to k x)) (waits_to k x) [] p.0 a c (in_left c (makes k x.cells) (moved_to k true x.moves) h') refl)),
+  )
 
 nothing_moves : (m : List Move) → m ≡ [] → (j c : ℕ) (g : List ℕ) → has c (moved_to j false m) ≡ true → has c g ≡ true
 nothing_moves m e j c g h = nothing (subst (λ z. has c (moved_to j false z) ≡ true) e h)
@@ -174,9 +176,10 @@ served_quiet (Finds hold t) true next p g q f = served_quiet t true next [] g q 
 served_quiet (Finds hold t) false next p g q f = tt
 served_quiet (Awaits c v t) root next p g q f = (f c q.0, served_quiet t root next (without (c ∷ []) p) g q.1.1 (λ d h. f d (minus_in d (c ∷ []) p h)))
 served_quiet (Gives c v t) root next p g q f = absurd q
-served_quiet (Forks i x ks t) root next p g q f =
-    (served_all x 1 ks (λ w s e. Unit {0}) (without (names x.cells) g) (λ c. false) [] [] (kid_count ks) (omega arith)
-    (own_fits (kid_count ks) next (λ c. false) [] [] x (λ c r. absurd (cc)) q.0 q.1.0)
-    q.1.1.0 (λ j c h. nothing_moves x.moves q.0 j c (without (names x.cells) g) h) (λ j c l r h. absurd (omega (arith, l, r))),
-    λ a. served_quiet t root next (pending_past x p) (without (names x.cells) g ++ all_marks ks) (q.1.1.1 a)
-    (λ c h. behind_on x ks g c p (in_either c (uses 0 x.cells) (without (names x.cells) p) h) (λ h'. used_marked x ks q.1.0.cells q.1.1.0 a c h') (λ h'. f c h')))
+served_quiet (Forks i x ks t) root next p g q f = (
+  served_all x 1 ks (λ w s e. Unit {0}) (without (names x.cells) g) (λ c. false) [] [] (kid_count ks) (omega arith)
+      (own_fits (kid_count ks) next (λ c. false) [] [] x (λ c r. absurd (cc)) q.0 q.1.0)
+      q.1.1.0 (λ j c h. nothing_moves x.moves q.0 j c (without (names x.cells) g) h) (λ j c l r h. absurd (omega (arith, l, r))),
+  λ a. served_quiet t root next (pending_past x p) (without (names x.cells) g ++ all_marks ks) (q.1.1.1 a)
+      (λ c h. behind_on x ks g c p (in_either c (uses 0 x.cells) (without (names x.cells) p) h) (λ h'. used_marked x ks q.1.0.cells q.1.1.0 a c h') (λ h'. f c h')),
+)
