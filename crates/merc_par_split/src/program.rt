@@ -30,8 +30,9 @@ impl Split {
         let mut trees = Nodes::new(alloc);
         let mut sites = Vec::new(alloc);
         for index in 0..graded.len() {
-            if let Some(goal) = graded.get(index) {
-                split(alloc, &goal, &mut trees, &mut sites)?;
+            match graded.get(index) {
+                Some(goal) => split(alloc, &goal, &mut trees, &mut sites)?,
+                None => unreachable!(),
             }
         }
         Ok(Split {
