@@ -4,3 +4,6 @@ pub mod Walks
 pub mod Joins
 pub mod Items
 pub mod Depths
+pub mod NumberingLists
+pub mod NumberingCells
+pub mod NumberingSizes
