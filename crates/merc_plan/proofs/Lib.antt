@@ -7,3 +7,4 @@ pub mod Depths
 pub mod NumberingLists
 pub mod NumberingCells
 pub mod NumberingSizes
+pub mod Numbering
