@@ -1,49 +1,30 @@
 -- A script told by names that is formed is, told by numbers, a well-formed root script.
-use Rattle.std.proofs.Common.{◌≡◌, ◌≢◌, ℕ, zero, suc, ◌+◌, ◌≤◌, ◌<◌, ◌⊎◌, inl, inr, Bool, true, false, List, [], ◌∷◌, ◌++◌, map, length, if◌then◌else◌, nat_eq, Option, Some, None, refl, ap, sym, subst, ◌∙◌, arith}
+use Rattle.std.proofs.Common.{◌≡◌, ℕ, suc, ◌+◌, ◌≤◌, ◌<◌, ◌⊎◌, inl, inr, Bool, true, false, List, [], ◌∷◌, ◌++◌, map, length, if◌then◌else◌, nat_eq, Option, None, refl, ap, sym, subst, ◌∙◌, arith}
 use Rattle.std.specs.List.{AllByRecursion}
 use Rattle.merc_value.specs.Value.{Value}
 use Rattle.merc_script.specs.declared.outcome.Outcome.{Outcome}
 use Rattle.merc_script.specs.declared.outcome.Outcome.TheVariants.{Ok as Fine, Raise, Limit, Starved, NoMemory}
 use Rattle.merc_script.specs.declared.cells.Move.{Move}
-use Rattle.merc_script.specs.Script.{Script, Ends, TickThen, WaitThen, SignalThen, ForkThen, Children, NoChild, Child, Cell, count, ends, end_of}
+use Rattle.merc_script.specs.Script.{Script, Ends, TickThen, WaitThen, SignalThen, ForkThen, Children, NoChild, Child, Cell, count, ends}
 use Rattle.merc_script.specs.Joining.{joined}
 use Rattle.merc_core.specs.Rights.{has, without, numbers_of, moved, moved_to, made_by, used_by, signals_at, waits_at, signals_behind, waits_behind}
 use Rattle.merc_core.specs.WellFormed.{AreDistinct, ForkFits, CellFits, MoveFits, held_of, EndsWell, Follows, gain, value_in, cells_of, cells_in, Formed, FormedAll, WellFormed}
 use Rattle.merc_plan.specs.BranchScript.{with_numbers, renamed_cell, renamed_move, width, all_width, numbered, all_numbered, no_numbers}
 use Rattle.merc_plan.proofs.Judging.{told_values, NamesFit, NamedFormed, AllNamedFormed}
-use Rattle.merc_plan.proofs.NumberingLists.{clash, tell, has_one, absent, in_left, in_right, in_either, map_in, from_map, has_map, map_same, without_map, all_mapped, without_in, without_keeps, distinct_map}
-use Rattle.merc_plan.proofs.NumberingCells.{
-  numbers_renamed,
-  moved_renamed,
-  used_renamed,
-  signals_renamed,
-  waits_renamed,
-  among_all,
-  IsOld,
-  moved_old,
-  moved_to_old,
-  with_old,
-  with_range,
-  with_apart,
-  value_renamed,
-  distinct_cells,
-  Agrees,
-  agrees_left,
-  agrees_right,
-  cells_either,
-}
+use Rattle.merc_plan.proofs.NumberingLists.{has_one, in_left, in_right, in_either, map_in, has_map, map_same, without_map, all_mapped, without_in, without_keeps, distinct_map}
+use Rattle.merc_plan.proofs.NumberingCells.{numbers_renamed, moved_renamed, used_renamed, signals_renamed, waits_renamed, among_all, IsOld, moved_old, moved_to_old, with_old, with_range, with_apart, value_renamed, distinct_cells, Agrees, agrees_left, agrees_right, cells_either}
 use Rattle.merc_plan.proofs.NumberingSizes.{numbered_ends, numbered_count, numbered_follows, IsWithin, own_within, numbers_within, all_within}
 
 -- no two cells of a script by numbers have one number
 
 own_apart : (cells : List Cell) (first : ℕ) (numbers : ℕ → ℕ) (n later many : ℕ) → first + length cells ≤ later
-  → has n (numbers_of (map (renamed_cell (with_numbers cells first numbers)) cells)) ≡ true → IsWithin later many n → ⊥
+    → has n (numbers_of (map (renamed_cell (with_numbers cells first numbers)) cells)) ≡ true → IsWithin later many n → ⊥
 own_apart cells first numbers n later many far h w =
     let a = (own_within cells first numbers n h).1 in let b = w.0 in absurd (omega (arith, a, b, far))
 
 behind_own : (l : ℕ) (cells : List Cell) (first : ℕ) (numbers : ℕ → ℕ) (all : Children) (r : Script) (n : ℕ)
-  → has n (numbers_of (map (renamed_cell (with_numbers cells first numbers)) cells)) ≡ true
-  → has n (numbers_of (cells_in (all_numbered (with_numbers cells first numbers) (first + length cells) all)
+    → has n (numbers_of (map (renamed_cell (with_numbers cells first numbers)) cells)) ≡ true
+    → has n (numbers_of (cells_in (all_numbered (with_numbers cells first numbers) (first + length cells) all)
     ++ cells_of (numbered (with_numbers cells first numbers) (first + length cells + all_width all) r))) ≡ true → ⊥
 behind_own l cells first numbers all r n h k =
     let inner = with_numbers cells first numbers in
@@ -53,12 +34,12 @@ behind_own l cells first numbers all r n h k =
     ]
 
 behind_children : (numbers : ℕ → ℕ) (first : ℕ) (all : Children) (r : Script) (n : ℕ)
-  → has n (numbers_of (cells_in (all_numbered numbers first all))) ≡ true → has n (numbers_of (cells_of (numbered numbers (first + all_width all) r))) ≡ true → ⊥
+    → has n (numbers_of (cells_in (all_numbered numbers first all))) ≡ true → has n (numbers_of (cells_of (numbered numbers (first + all_width all) r))) ≡ true → ⊥
 behind_children numbers first all r n h k =
     let a = (all_within numbers first all n h).1 in let b = (numbers_within numbers (first + all_width all) r n k).0 in absurd (omega (arith, a, b))
 
 behind_child : (numbers : ℕ → ℕ) (first : ℕ) (s : Script) (more : Children) (n : ℕ)
-  → has n (numbers_of (cells_of (numbered numbers first s))) ≡ true → has n (numbers_of (cells_in (all_numbered numbers (first + width s) more))) ≡ true → ⊥
+    → has n (numbers_of (cells_of (numbered numbers first s))) ≡ true → has n (numbers_of (cells_in (all_numbered numbers (first + width s) more))) ≡ true → ⊥
 behind_child numbers first s more n h k =
     let a = (numbers_within numbers first s n h).1 in let b = (all_within numbers (first + width s) more n k).0 in absurd (omega (arith, a, b))
 
@@ -69,7 +50,7 @@ own_distinct cells first numbers d =
 
 mutual
   pub numbered_distinct : (numbers : ℕ → ℕ) (first : ℕ) (S : Script) (value : ℕ → Option Value) (s : ℕ) (signals waits : List ℕ) → NamedFormed value s signals waits S
-    → AreDistinct (numbers_of (cells_of (numbered numbers first S)))
+      → AreDistinct (numbers_of (cells_of (numbered numbers first S)))
   numbered_distinct numbers first (Ends o) value s signals waits f = tt
   numbered_distinct numbers first (TickThen r) value s signals waits f = numbered_distinct numbers first r value (suc s) signals waits f
   numbered_distinct numbers first (WaitThen c r) value s signals waits f = numbered_distinct numbers first r value s signals (without (c ∷ []) waits) f.1.1
@@ -86,7 +67,7 @@ mutual
       (λ n h k. behind_own l cells first numbers all r n h k)
 
   all_distinct : (numbers : ℕ → ℕ) (first : ℕ) (all : Children) (value : ℕ → Option Value) (cells : List Cell) (moves : List Move) (k : ℕ) → AllNamedFormed value cells moves k all
-    → AreDistinct (numbers_of (cells_in (all_numbered numbers first all)))
+      → AreDistinct (numbers_of (cells_in (all_numbered numbers first all)))
   all_distinct numbers first NoChild value cells moves k f = tt
   all_distinct numbers first (Child s more) value cells moves k f =
       distinct_cells (cells_of (numbered numbers first s)) (cells_in (all_numbered numbers (first + width s) more))
@@ -106,7 +87,7 @@ pub record AreTold (value values : ℕ → Option Value) (numbers : ℕ → ℕ)
   pub waits_too : (c : ℕ) → has c waits ≡ true → has (numbers c) waited ≡ true
 
 told_later : (value values : ℕ → Option Value) (numbers : ℕ → ℕ) (next later : ℕ) (signals waits waited : List ℕ) → next ≤ later
-  → AreTold value values numbers next signals waits waited → AreTold value values numbers later signals waits waited
+    → AreTold value values numbers next signals waits waited → AreTold value values numbers later signals waits waited
 told_later value values numbers next later signals waits waited far t = record {
   apart = t.apart;
   low = λ c h. let a = t.low c h in omega (arith, a, far);
@@ -115,14 +96,14 @@ told_later value values numbers next later signals waits waited far t = record {
 }
 
 told_wait : (value values : ℕ → Option Value) (numbers : ℕ → ℕ) (next : ℕ) (signals waits waited : List ℕ) (c : ℕ) → has c waits ≡ true
-  → AreTold value values numbers next signals waits waited → AreTold value values numbers next signals (without (c ∷ []) waits) (without (numbers c ∷ []) waited)
+    → AreTold value values numbers next signals waits waited → AreTold value values numbers next signals (without (c ∷ []) waits) (without (numbers c ∷ []) waited)
 told_wait value values numbers next signals waits waited c there t = record {
   apart = λ d e h i same. t.apart d e (held d h) (held e i) same;
   low = λ d h. t.low d (held d h);
   same = λ d h. t.same d (held d h);
   waits_too = λ d h. let i = without_in d (c ∷ []) waits h in
-    without_keeps (numbers d) (numbers c ∷ []) waited
-    (has_map numbers d (c ∷ []) (λ e k same. t.apart e d (subst (λ z. IsHeld signals waits z) (has_one e c k) (inr there)) (inr i.0) same) ∙ i.1) (t.waits_too d i.0);
+      without_keeps (numbers d) (numbers c ∷ []) waited
+      (has_map numbers d (c ∷ []) (λ e k same. t.apart e d (subst (λ z. IsHeld signals waits z) (has_one e c k) (inr there)) (inr i.0) same) ∙ i.1) (t.waits_too d i.0);
 }
   where
     held : (d : ℕ) → IsHeld signals (without (c ∷ []) waits) d → IsHeld signals waits d
@@ -130,7 +111,7 @@ told_wait value values numbers next signals waits waited c there t = record {
     held d (inr h) = inr (without_in d (c ∷ []) waits h).0
 
 told_signal : (value values : ℕ → Option Value) (numbers : ℕ → ℕ) (next : ℕ) (signals waits waited : List ℕ) (c : ℕ)
-  → AreTold value values numbers next signals waits waited → AreTold value values numbers next (without (c ∷ []) signals) waits waited
+    → AreTold value values numbers next signals waits waited → AreTold value values numbers next (without (c ∷ []) signals) waits waited
 told_signal value values numbers next signals waits waited c t = record {
   apart = λ d e h i same. t.apart d e (held d h) (held e i) same;
   low = λ d h. t.low d (held d h);
@@ -148,7 +129,7 @@ IsOwnOrOld cells signals waits c = (has c (numbers_of cells) ≡ true) ⊎ ((has
 
 -- what a fork's children and its parent hold
 module _ (value values : ℕ → Option Value) (numbers : ℕ → ℕ) (first : ℕ) (signals waits waited : List ℕ) (t : AreTold value values numbers first signals waits waited) (cells : List Cell)
-  (agrees : Agrees values (map (renamed_cell (with_numbers cells first numbers)) cells)) where
+    (agrees : Agrees values (map (renamed_cell (with_numbers cells first numbers)) cells)) where
   abbrev inner : ℕ → ℕ
   inner c = with_numbers cells first numbers c
 
@@ -172,7 +153,7 @@ module _ (value values : ℕ → Option Value) (numbers : ℕ → ℕ) (first : 
   inner_same c (inr h) = ap values (with_old cells first numbers c h.0) ∙ t.same c h.1 ∙ sym (ap (λ b. if b then value_in cells c else value c) h.0)
 
   pub told_inside : (next : ℕ) (signals' waits' waited' : List ℕ) → first + length cells ≤ next → ((c : ℕ) → IsHeld signals' waits' c → IsOwnOrOld cells signals waits c)
-    → ((c : ℕ) → has c waits' ≡ true → has (inner c) waited' ≡ true) → AreTold (told_values value cells) values inner next signals' waits' waited'
+      → ((c : ℕ) → has c waits' ≡ true → has (inner c) waited' ≡ true) → AreTold (told_values value cells) values inner next signals' waits' waited'
   told_inside next signals' waits' waited' far old too = record {
     apart = λ c d h k same. inner_apart c d (old c h) (old d k) same;
     low = λ c h. let a = inner_low c (old c h) in omega (arith, a, far);
@@ -198,7 +179,7 @@ module _ (value values : ℕ → Option Value) (numbers : ℕ → ℕ) (first : 
     ]
 
     pub told_child : (next k : ℕ) → first + length cells ≤ next
-      → AreTold (told_values value cells) values inner next (signals_at k cells moves) (waits_at k cells moves) (waits_at k (map (renamed_cell inner) cells) (map (renamed_move inner) moves))
+        → AreTold (told_values value cells) values inner next (signals_at k cells moves) (waits_at k cells moves) (waits_at k (map (renamed_cell inner) cells) (map (renamed_move inner) moves))
     told_child next k far =
         told_inside next (signals_at k cells moves) (waits_at k cells moves) (waits_at k (map (renamed_cell inner) cells) (map (renamed_move inner) moves)) far (λ c h. child_old k c h)
         (λ c h. ap (has (inner c)) (waits_renamed inner k cells moves) ∙ map_in inner c (waits_at k cells moves) h)
@@ -218,7 +199,7 @@ module _ (value values : ℕ → Option Value) (numbers : ℕ → ℕ) (first : 
         (subst (λ m. has m waited ≡ true) (sym (with_old cells first numbers c new)) (t.waits_too c h))
 
     pub told_behind : (next : ℕ) → first + length cells ≤ next
-      → AreTold (told_values value cells) values inner next (signals_behind signals moves) (used_by 0 cells ++ without (numbers_of cells) (without (moved false moves) waits))
+        → AreTold (told_values value cells) values inner next (signals_behind signals moves) (used_by 0 cells ++ without (numbers_of cells) (without (moved false moves) waits))
         (waits_behind waited (map (renamed_cell inner) cells) (map (renamed_move inner) moves))
     told_behind next far =
         told_inside next (signals_behind signals moves) (used_by 0 cells ++ without (numbers_of cells) (without (moved false moves) waits))
@@ -250,7 +231,7 @@ module _ (value values : ℕ → Option Value) (numbers : ℕ → ℕ) (first : 
         on false c h = t.waits_too c h
 
     each_move_fits : (many : ℕ) (some : List Move) → AllByRecursion (MoveFits many signals waits) some → AllByRecursion (λ m. has m.cell (numbers_of cells) ≡ false) some
-      → AllByRecursion (MoveFits many (map numbers signals) waited) (map (renamed_move inner) some)
+        → AllByRecursion (MoveFits many (map numbers signals) waited) (map (renamed_move inner) some)
     each_move_fits many [] all fresh = tt
     each_move_fits many (one ∷ some) all fresh =
         (record { from_one = all.0.from_one; to_last = all.0.to_last; held = move_held one fresh.0 all.0.held }, each_move_fits many some all.1 fresh.1)
@@ -278,7 +259,7 @@ module _ (value values : ℕ → Option Value) (numbers : ℕ → ℕ) (first : 
 
 -- what moves is none of the fork's own cells, so that it has its number from before
 moves_alike : (cells : List Cell) (first : ℕ) (numbers : ℕ → ℕ) (moves : List Move) → AllByRecursion (λ m. has m.cell (numbers_of cells) ≡ false) moves
-  → map (renamed_move (with_numbers cells first numbers)) moves ≡ map (renamed_move numbers) moves
+    → map (renamed_move (with_numbers cells first numbers)) moves ≡ map (renamed_move numbers) moves
 moves_alike cells first numbers [] fresh = refl
 moves_alike cells first numbers (one ∷ moves) fresh =
     ap (λ (n : ℕ). (record { cell = n; child = one.child; signal = one.signal }) ∷ map (renamed_move (with_numbers cells first numbers)) moves) (with_old cells first numbers one.cell fresh.0)
@@ -301,19 +282,23 @@ ends_well numbers NoMemory signals h = h
 
 mutual
   pub formed_on : (values : ℕ → Option Value) (S : Script) (value : ℕ → Option Value) (s : ℕ) (numbers : ℕ → ℕ) (first : ℕ) (signals waits waited : List ℕ)
-    → AreTold value values numbers first signals waits waited → Agrees values (cells_of (numbered numbers first S)) → NamedFormed value s signals waits S
-    → Formed values s (map numbers signals) waited (numbered numbers first S)
+      → AreTold value values numbers first signals waits waited → Agrees values (cells_of (numbered numbers first S)) → NamedFormed value s signals waits S
+      → Formed values s (map numbers signals) waited (numbered numbers first S)
   formed_on values (Ends o) value s numbers first signals waits waited t a f =
       (all_mapped (λ c. value c ≡ None) (λ c. values c ≡ None) numbers signals (λ c h none. t.same c (inl h) ∙ none) f.0, ends_well numbers o signals f.1)
   formed_on values (TickThen r) value s numbers first signals waits waited t a f = formed_on values r value (suc s) numbers first signals waits waited t a f
-  formed_on values (WaitThen c r) value s numbers first signals waits waited t a f =
-      (t.waits_too c f.0, λ none. ap (numbered numbers first) (f.1.0 (sym (t.same c (inr f.0)) ∙ none)),
-      formed_on values r value s numbers first signals (without (c ∷ []) waits) (without (numbers c ∷ []) waited) (told_wait value values numbers first signals waits waited c f.0 t) a f.1.1)
-  formed_on values (SignalThen c r) value s numbers first signals waits waited t a f =
-      (map_in numbers c signals f.0, λ none. f.1.0 (sym (t.same c (inl f.0)) ∙ none),
-      subst (λ l. Formed values s l waited (numbered numbers first r))
-      (sym (without_map numbers (c ∷ []) signals (λ g x h k same. t.apart g x (inl (subst (λ z. has z signals ≡ true) (has_one g c h) f.0)) (inl k) same)))
-      (formed_on values r value s numbers first (without (c ∷ []) signals) waits waited (told_signal value values numbers first signals waits waited c t) a f.1.1))
+  formed_on values (WaitThen c r) value s numbers first signals waits waited t a f = (
+    t.waits_too c f.0,
+    λ none. ap (numbered numbers first) (f.1.0 (sym (t.same c (inr f.0)) ∙ none)),
+    formed_on values r value s numbers first signals (without (c ∷ []) waits) (without (numbers c ∷ []) waited) (told_wait value values numbers first signals waits waited c f.0 t) a f.1.1,
+  )
+  formed_on values (SignalThen c r) value s numbers first signals waits waited t a f = (
+    map_in numbers c signals f.0,
+    λ none. f.1.0 (sym (t.same c (inl f.0)) ∙ none),
+    subst (λ l. Formed values s l waited (numbered numbers first r))
+        (sym (without_map numbers (c ∷ []) signals (λ g x h k same. t.apart g x (inl (subst (λ z. has z signals ≡ true) (has_one g c h) f.0)) (inl k) same)))
+        (formed_on values r value s numbers first (without (c ∷ []) signals) waits waited (told_signal value values numbers first signals waits waited c t) a f.1.1),
+  )
   formed_on values (ForkThen l cells moves all r) value s numbers first signals waits waited t a f =
       let inner' = with_numbers cells first numbers in
       let A = map (renamed_cell inner') cells in
@@ -323,35 +308,37 @@ mutual
       let others = agrees_right values A (B ++ C) (λ n h k. behind_own l cells first numbers all r n h k) a in
       let e : joined l (ends (all_numbered inner' (first + length cells) all)) ≡ joined l (ends all) = ap (joined l) (numbered_ends inner' (first + length cells) all) in
       subst (IsFork values s (map numbers signals) waited l A (all_numbered inner' (first + length cells) all) (numbered inner' (first + length cells + all_width all) r))
-      (moves_alike cells first numbers moves f.1.0.fresh)
-      (fork_fits value values numbers first signals waits waited t cells own moves (count all) s l f.0 f.1.0 (count (all_numbered inner' (first + length cells) all)) (numbered_count inner' (first + length cells) all),
-      formed_all values all (told_values value cells) inner' (first + length cells) cells moves 1
-      (λ k. told_child value values numbers first signals waits waited t cells own moves (count all) s l f.0 f.1.0 (first + length cells) k (omega arith)) (agrees_left values B C others) f.1.1.0,
-      subst (λ o. Follows s o (numbered inner' (first + length cells + all_width all) r)) (sym e)
-      (numbered_follows inner' (first + length cells + all_width all) s (joined l (ends all)) r f.1.1.1.0),
-      subst (λ o. Formed values (s + gain o) (signals_behind (map numbers signals) (map (renamed_move inner') moves)) (waits_behind waited A (map (renamed_move inner') moves))
-        (numbered inner' (first + length cells + all_width all) r)) (sym e)
-      (subst (λ held. Formed values (s + gain (joined l (ends all))) held (waits_behind waited A (map (renamed_move inner') moves)) (numbered inner' (first + length cells + all_width all) r))
-      (sym (signals_same value values numbers first signals waits waited t cells own moves (count all) s l f.0 f.1.0))
-      (formed_on values r (told_values value cells) (s + gain (joined l (ends all))) inner' (first + length cells + all_width all) (signals_behind signals moves)
-      (used_by 0 cells ++ without (numbers_of cells) (without (moved false moves) waits)) (waits_behind waited A (map (renamed_move inner') moves))
-      (told_behind value values numbers first signals waits waited t cells own moves (count all) s l f.0 f.1.0 (first + length cells + all_width all) (omega arith))
-      (agrees_right values B C (λ n h k. behind_children inner' (first + length cells) all r n h k) others) f.1.1.1.1)))
+      (moves_alike cells first numbers moves f.1.0.fresh) (
+        fork_fits value values numbers first signals waits waited t cells own moves (count all) s l f.0 f.1.0 (count (all_numbered inner' (first + length cells) all)) (numbered_count inner' (first + length cells) all),
+        formed_all values all (told_values value cells) inner' (first + length cells) cells moves 1
+            (λ k. told_child value values numbers first signals waits waited t cells own moves (count all) s l f.0 f.1.0 (first + length cells) k (omega arith)) (agrees_left values B C others) f.1.1.0,
+        subst (λ o. Follows s o (numbered inner' (first + length cells + all_width all) r)) (sym e)
+            (numbered_follows inner' (first + length cells + all_width all) s (joined l (ends all)) r f.1.1.1.0),
+        subst (λ o. Formed values (s + gain o) (signals_behind (map numbers signals) (map (renamed_move inner') moves)) (waits_behind waited A (map (renamed_move inner') moves))
+            (numbered inner' (first + length cells + all_width all) r)) (sym e)
+            (subst (λ held. Formed values (s + gain (joined l (ends all))) held (waits_behind waited A (map (renamed_move inner') moves)) (numbered inner' (first + length cells + all_width all) r))
+            (sym (signals_same value values numbers first signals waits waited t cells own moves (count all) s l f.0 f.1.0))
+            (formed_on values r (told_values value cells) (s + gain (joined l (ends all))) inner' (first + length cells + all_width all) (signals_behind signals moves)
+            (used_by 0 cells ++ without (numbers_of cells) (without (moved false moves) waits)) (waits_behind waited A (map (renamed_move inner') moves))
+            (told_behind value values numbers first signals waits waited t cells own moves (count all) s l f.0 f.1.0 (first + length cells + all_width all) (omega arith))
+            (agrees_right values B C (λ n h k. behind_children inner' (first + length cells) all r n h k) others) f.1.1.1.1)),
+      )
 
   formed_all : (values : ℕ → Option Value) (all : Children) (value : ℕ → Option Value) (numbers : ℕ → ℕ) (first : ℕ) (cells : List Cell) (moves : List Move) (k : ℕ)
-    → ((k : ℕ) → AreTold value values numbers first (signals_at k cells moves) (waits_at k cells moves) (waits_at k (map (renamed_cell numbers) cells) (map (renamed_move numbers) moves)))
-    → Agrees values (cells_in (all_numbered numbers first all)) → AllNamedFormed value cells moves k all
-    → FormedAll values (map (renamed_cell numbers) cells) (map (renamed_move numbers) moves) k (all_numbered numbers first all)
+      → ((k : ℕ) → AreTold value values numbers first (signals_at k cells moves) (waits_at k cells moves) (waits_at k (map (renamed_cell numbers) cells) (map (renamed_move numbers) moves)))
+      → Agrees values (cells_in (all_numbered numbers first all)) → AllNamedFormed value cells moves k all
+      → FormedAll values (map (renamed_cell numbers) cells) (map (renamed_move numbers) moves) k (all_numbered numbers first all)
   formed_all values NoChild value numbers first cells moves k told a f = tt
   formed_all values (Child s more) value numbers first cells moves k told a f =
-      let waited = waits_at k (map (renamed_cell numbers) cells) (map (renamed_move numbers) moves) in
-      (subst (λ held. Formed values 0 held waited (numbered numbers first s)) (sym (signals_renamed numbers k cells moves))
-      (formed_on values s value 0 numbers first (signals_at k cells moves) (waits_at k cells moves) waited (told k)
-      (agrees_left values (cells_of (numbered numbers first s)) (cells_in (all_numbered numbers (first + width s) more)) a) f.0),
-      formed_all values more value numbers (first + width s) cells moves (suc k)
-      (λ j. told_later value values numbers first (first + width s) (signals_at j cells moves) (waits_at j cells moves) (waits_at j (map (renamed_cell numbers) cells) (map (renamed_move numbers) moves))
-        (omega arith) (told j))
-      (agrees_right values (cells_of (numbered numbers first s)) (cells_in (all_numbered numbers (first + width s) more)) (λ n h i. behind_child numbers first s more n h i) a) f.1)
+      let waited = waits_at k (map (renamed_cell numbers) cells) (map (renamed_move numbers) moves) in (
+        subst (λ held. Formed values 0 held waited (numbered numbers first s)) (sym (signals_renamed numbers k cells moves))
+            (formed_on values s value 0 numbers first (signals_at k cells moves) (waits_at k cells moves) waited (told k)
+            (agrees_left values (cells_of (numbered numbers first s)) (cells_in (all_numbered numbers (first + width s) more)) a) f.0),
+        formed_all values more value numbers (first + width s) cells moves (suc k)
+            (λ j. told_later value values numbers first (first + width s) (signals_at j cells moves) (waits_at j cells moves) (waits_at j (map (renamed_cell numbers) cells) (map (renamed_move numbers) moves))
+            (omega arith) (told j))
+            (agrees_right values (cells_of (numbered numbers first s)) (cells_in (all_numbered numbers (first + width s) more)) (λ n h i. behind_child numbers first s more n h i) a) f.1,
+      )
 
 none_told : (value values : ℕ → Option Value) (numbers : ℕ → ℕ) → AreTold value values numbers 0 [] [] []
 none_told value values numbers = record {
@@ -369,6 +356,6 @@ pub numbered_formed : (S : Script) → NamedFormed (λ c. None) 0 [] [] S → We
 numbered_formed S f = record {
   distinct = numbered_distinct no_numbers 0 S (λ c. None) 0 [] [] f;
   formed =
-    let values = value_in (cells_of (numbered no_numbers 0 S)) in
-    formed_on values S (λ c. None) 0 no_numbers 0 [] [] [] (none_told (λ c. None) values no_numbers) (λ n h. refl) f;
+      let values = value_in (cells_of (numbered no_numbers 0 S)) in
+      formed_on values S (λ c. None) 0 no_numbers 0 [] [] [] (none_told (λ c. None) values no_numbers) (λ n h. refl) f;
 }

@@ -1,25 +1,25 @@
 -- Cells and moves by numbers in place of names, and the values of cells.
-use Rattle.std.proofs.Common.{◌≡◌, ℕ, zero, suc, ◌+◌, ◌≤◌, ◌<◌, ◌⊎◌, inl, inr, Bool, true, false, not, List, [], ◌∷◌, ◌++◌, map, length, if◌then◌else◌, nat_eq, Option, Some, None, refl, ap, sym, subst, ◌∙◌, arith}
+use Rattle.std.proofs.Common.{◌≡◌, ℕ, suc, ◌+◌, ◌≤◌, ◌<◌, ◌⊎◌, inl, inr, Bool, true, false, not, List, [], ◌∷◌, ◌++◌, map, length, if◌then◌else◌, nat_eq, Option, refl, ap, sym, subst, ◌∙◌, arith}
 use Rattle.std.specs.Prelude.{filter, ◌&&◌}
 use Rattle.std.specs.List.{AllByRecursion}
 use Rattle.std.proofs.lemmas.Bool.Decides.{nat_tests}
 use Rattle.merc_value.specs.Value.{Value}
 use Rattle.merc_script.specs.declared.cells.Move.{Move}
 use Rattle.merc_script.specs.Script.{Cell}
-use Rattle.merc_core.specs.Rights.{has, without, numbers_of, cells_moved, moved, moved_to, made_by, used_by, signals_at, waits_at, is_kind}
+use Rattle.merc_core.specs.Rights.{has, numbers_of, cells_moved, moved, moved_to, made_by, used_by, signals_at, waits_at, is_kind}
 use Rattle.merc_core.specs.WellFormed.{AreDistinct, value_in, MoveFits, held_of}
 use Rattle.merc_plan.specs.BranchScript.{with_numbers, renamed_cell, renamed_move}
-use Rattle.merc_plan.proofs.NumberingLists.{clash, tell, same_number, first_in, rest_in, front_or, absent, in_left, in_right, in_either, from_map, has_map, map_more, distinct_append}
+use Rattle.merc_plan.proofs.NumberingLists.{clash, tell, same_number, first_in, rest_in, front_or, absent, in_left, in_right, in_either, map_more, distinct_append}
 
 -- cells that pass a test that does not look at names
 
 numbers_if : (f : ℕ → ℕ) (b : Bool) (one : Cell) (after before : List Cell) → numbers_of after ≡ map f (numbers_of before)
-  → numbers_of (if b then renamed_cell f one ∷ after else after) ≡ map f (numbers_of (if b then one ∷ before else before))
+    → numbers_of (if b then renamed_cell f one ∷ after else after) ≡ map f (numbers_of (if b then one ∷ before else before))
 numbers_if f true one after before e = ap (λ l. f one.cell ∷ l) e
 numbers_if f false one after before e = e
 
 pub some_renamed : (f : ℕ → ℕ) (p : Cell → Bool) → ((one : Cell) → p (renamed_cell f one) ≡ p one) → (cells : List Cell)
-  → numbers_of (filter p (map (renamed_cell f) cells)) ≡ map f (numbers_of (filter p cells))
+    → numbers_of (filter p (map (renamed_cell f) cells)) ≡ map f (numbers_of (filter p cells))
 some_renamed f p same [] = refl
 some_renamed f p same (one ∷ cells) =
     ap (λ b. numbers_of (if b then renamed_cell f one ∷ filter p (map (renamed_cell f) cells) else filter p (map (renamed_cell f) cells))) (same one)
@@ -30,12 +30,12 @@ numbers_renamed f [] = refl
 numbers_renamed f (one ∷ cells) = ap (λ l. f one.cell ∷ l) (numbers_renamed f cells)
 
 moved_if : (f : ℕ → ℕ) (b : Bool) (one : Move) (after before : List Move) → cells_moved after ≡ map f (cells_moved before)
-  → cells_moved (if b then renamed_move f one ∷ after else after) ≡ map f (cells_moved (if b then one ∷ before else before))
+    → cells_moved (if b then renamed_move f one ∷ after else after) ≡ map f (cells_moved (if b then one ∷ before else before))
 moved_if f true one after before e = ap (λ l. f one.cell ∷ l) e
 moved_if f false one after before e = e
 
 pub moves_renamed : (f : ℕ → ℕ) (p : Move → Bool) → ((one : Move) → p (renamed_move f one) ≡ p one) → (moves : List Move)
-  → cells_moved (filter p (map (renamed_move f) moves)) ≡ map f (cells_moved (filter p moves))
+    → cells_moved (filter p (map (renamed_move f) moves)) ≡ map f (cells_moved (filter p moves))
 moves_renamed f p same [] = refl
 moves_renamed f p same (one ∷ moves) =
     ap (λ b. cells_moved (if b then renamed_move f one ∷ filter p (map (renamed_move f) moves) else filter p (map (renamed_move f) moves))) (same one)
@@ -59,13 +59,13 @@ pub used_renamed : (f : ℕ → ℕ) (child : ℕ) (cells : List Cell) → used_
 used_renamed f child cells = some_renamed f (λ one. nat_eq one.consumer child) (λ one. refl) cells
 
 pub signals_renamed : (f : ℕ → ℕ) (child : ℕ) (cells : List Cell) (moves : List Move)
-  → signals_at child (map (renamed_cell f) cells) (map (renamed_move f) moves) ≡ map f (signals_at child cells moves)
+    → signals_at child (map (renamed_cell f) cells) (map (renamed_move f) moves) ≡ map f (signals_at child cells moves)
 signals_renamed f child cells moves =
     joined_lists f (made_by child (map (renamed_cell f) cells)) (moved_to child true (map (renamed_move f) moves)) (made_by child cells) (moved_to child true moves)
     (some_renamed f (λ one. nat_eq one.producer child) (λ one. refl) cells) (moved_to_renamed f child true moves)
 
 pub waits_renamed : (f : ℕ → ℕ) (child : ℕ) (cells : List Cell) (moves : List Move)
-  → waits_at child (map (renamed_cell f) cells) (map (renamed_move f) moves) ≡ map f (waits_at child cells moves)
+    → waits_at child (map (renamed_cell f) cells) (map (renamed_move f) moves) ≡ map f (waits_at child cells moves)
 waits_renamed f child cells moves =
     joined_lists f (used_by child (map (renamed_cell f) cells)) (moved_to child false (map (renamed_move f) moves)) (used_by child cells) (moved_to child false moves)
     (used_renamed f child cells) (moved_to_renamed f child false moves)
@@ -73,7 +73,7 @@ waits_renamed f child cells moves =
 -- those that pass a test are among all
 
 among_on : (b : Bool) (c : ℕ) (one : Cell) (some all : List Cell) → (has c (numbers_of some) ≡ true → has c (numbers_of all) ≡ true)
-  → has c (numbers_of (if b then one ∷ some else some)) ≡ true → has c (one.cell ∷ numbers_of all) ≡ true
+    → has c (numbers_of (if b then one ∷ some else some)) ≡ true → has c (one.cell ∷ numbers_of all) ≡ true
 among_on true c one some all on h = elim (front_or c one.cell (numbers_of some) h) [
   | inl e ↦ subst (λ z. has z (one.cell ∷ numbers_of all) ≡ true) e (first_in one.cell (numbers_of all))
   | inr k ↦ rest_in c one.cell (numbers_of all) (on k)
@@ -98,7 +98,7 @@ kind_held signals waits false one e h = on one.signal e h
     on false e h = h
 
 old_on : (b : Bool) (c : ℕ) (held names : List ℕ) (one : Move) (some : List Move) → (b ≡ true → IsOld held names one.cell) → (has c (cells_moved some) ≡ true → IsOld held names c)
-  → has c (cells_moved (if b then one ∷ some else some)) ≡ true → IsOld held names c
+    → has c (cells_moved (if b then one ∷ some else some)) ≡ true → IsOld held names c
 old_on true c held names one some here on h = elim (front_or c one.cell (cells_moved some) h) [
   | inl e ↦ subst (λ z. IsOld held names z) e (here refl)
   | inr k ↦ on k
@@ -106,15 +106,15 @@ old_on true c held names one some here on h = elim (front_or c one.cell (cells_m
 old_on false c held names one some here on h = on h
 
 moves_old : (p : Move → Bool) (n : ℕ) (signals waits names : List ℕ) (signal : Bool) → ((one : Move) → p one ≡ true → is_kind signal one ≡ true) → (c : ℕ) (moves : List Move)
-  → AllByRecursion (MoveFits n signals waits) moves → AllByRecursion (λ m. has m.cell names ≡ false) moves → has c (cells_moved (filter p moves)) ≡ true
-  → IsOld (held_of signal signals waits) names c
+    → AllByRecursion (MoveFits n signals waits) moves → AllByRecursion (λ m. has m.cell names ≡ false) moves → has c (cells_moved (filter p moves)) ≡ true
+    → IsOld (held_of signal signals waits) names c
 moves_old p n signals waits names signal kind c [] fits fresh h = absurd (cc)
 moves_old p n signals waits names signal kind c (one ∷ moves) fits fresh h =
     old_on (p one) c (held_of signal signals waits) names one (filter p moves) (λ e. (kind_held signals waits signal one (kind one e) fits.0.held, fresh.0))
     (λ k. moves_old p n signals waits names signal kind c moves fits.1 fresh.1 k) h
 
 pub moved_old : (n : ℕ) (signals waits names : List ℕ) (signal : Bool) (c : ℕ) (moves : List Move)
-  → AllByRecursion (MoveFits n signals waits) moves → AllByRecursion (λ m. has m.cell names ≡ false) moves → has c (moved signal moves) ≡ true → IsOld (held_of signal signals waits) names c
+    → AllByRecursion (MoveFits n signals waits) moves → AllByRecursion (λ m. has m.cell names ≡ false) moves → has c (moved signal moves) ≡ true → IsOld (held_of signal signals waits) names c
 moved_old n signals waits names signal c moves fits fresh h = moves_old (is_kind signal) n signals waits names signal (λ one e. e) c moves fits fresh h
 
 and_right : (a b : Bool) → (a && b) ≡ true → b ≡ true
@@ -122,7 +122,7 @@ and_right true b h = h
 and_right false b h = absurd (cc)
 
 pub moved_to_old : (n : ℕ) (signals waits names : List ℕ) (child : ℕ) (signal : Bool) (c : ℕ) (moves : List Move)
-  → AllByRecursion (MoveFits n signals waits) moves → AllByRecursion (λ m. has m.cell names ≡ false) moves → has c (moved_to child signal moves) ≡ true → IsOld (held_of signal signals waits) names c
+    → AllByRecursion (MoveFits n signals waits) moves → AllByRecursion (λ m. has m.cell names ≡ false) moves → has c (moved_to child signal moves) ≡ true → IsOld (held_of signal signals waits) names c
 moved_to_old n signals waits names child signal c moves fits fresh h =
     moves_old (λ one. nat_eq one.child child && is_kind signal one) n signals waits names signal (λ one e. and_right (nat_eq one.child child) (is_kind signal one) e) c moves fits fresh h
 
@@ -139,7 +139,7 @@ with_old (one ∷ cells) first numbers c h = elim (tell (nat_eq one.cell c)) [
 
 -- an own cell is the first, or has a number behind it
 own_on : (one : Cell) (cells : List Cell) (first : ℕ) (numbers : ℕ → ℕ) (c : ℕ) → has c (one.cell ∷ numbers_of cells) ≡ true
-  → ((one.cell ≡ c) × (with_numbers (one ∷ cells) first numbers c ≡ first)) ⊎ ((has c (numbers_of cells) ≡ true) × (with_numbers (one ∷ cells) first numbers c ≡ with_numbers cells (suc first) numbers c))
+    → ((one.cell ≡ c) × (with_numbers (one ∷ cells) first numbers c ≡ first)) ⊎ ((has c (numbers_of cells) ≡ true) × (with_numbers (one ∷ cells) first numbers c ≡ with_numbers cells (suc first) numbers c))
 own_on one cells first numbers c h = elim (tell (nat_eq one.cell c)) [
   | inl e ↦ inl (same_number one.cell c e, ap (λ b. if b then first else with_numbers cells (suc first) numbers c) e)
   | inr e ↦ elim (front_or c one.cell (numbers_of cells) h) [
@@ -149,7 +149,7 @@ own_on one cells first numbers c h = elim (tell (nat_eq one.cell c)) [
 ]
 
 pub with_range : (cells : List Cell) (first : ℕ) (numbers : ℕ → ℕ) (c : ℕ) → has c (numbers_of cells) ≡ true
-  → (first ≤ with_numbers cells first numbers c) × (with_numbers cells first numbers c < first + length cells)
+    → (first ≤ with_numbers cells first numbers c) × (with_numbers cells first numbers c < first + length cells)
 with_range [] first numbers c h = absurd (cc)
 with_range (one ∷ cells) first numbers c h = elim (own_on one cells first numbers c h) [
   | inl here ↦ (let e = here.1 in (omega (arith, e), omega (arith, e)))
@@ -157,7 +157,7 @@ with_range (one ∷ cells) first numbers c h = elim (own_on one cells first numb
 ]
 
 pub with_apart : (cells : List Cell) (first : ℕ) (numbers : ℕ → ℕ) (c d : ℕ) → has c (numbers_of cells) ≡ true → has d (numbers_of cells) ≡ true
-  → with_numbers cells first numbers c ≡ with_numbers cells first numbers d → c ≡ d
+    → with_numbers cells first numbers c ≡ with_numbers cells first numbers d → c ≡ d
 with_apart [] first numbers c d h k same = absurd (cc)
 with_apart (one ∷ cells) first numbers c d h k same = elim (own_on one cells first numbers c h) [
   | inl here ↦ elim (own_on one cells first numbers d k) [
@@ -216,7 +216,7 @@ pub cells_either : (n : ℕ) (xs ys : List Cell) → has n (numbers_of (xs ++ ys
 cells_either n xs ys h = in_either n (numbers_of xs) (numbers_of ys) (sym (ap (has n) (numbers_more xs ys)) ∙ h)
 
 pub distinct_cells : (xs ys : List Cell) → AreDistinct (numbers_of xs) → AreDistinct (numbers_of ys) → ((n : ℕ) → has n (numbers_of xs) ≡ true → has n (numbers_of ys) ≡ true → ⊥)
-  → AreDistinct (numbers_of (xs ++ ys))
+    → AreDistinct (numbers_of (xs ++ ys))
 distinct_cells xs ys d e apart = subst AreDistinct (sym (numbers_more xs ys)) (distinct_append (numbers_of xs) (numbers_of ys) d e apart)
 
 -- the values of these cells are told

@@ -1,6 +1,6 @@
 -- Lists of cells by name and by number: what is among them, those without some, and distinct ones.
-use Rattle.std.proofs.Common.{◌≡◌, ℕ, zero, suc, ◌⊎◌, inl, inr, Bool, true, false, not, List, [], ◌∷◌, ◌++◌, map, if◌then◌else◌, nat_eq, refl, ap, sym, subst, ◌∙◌, arith}
-use Rattle.std.specs.Prelude.{◌||◌, filter}
+use Rattle.std.proofs.Common.{◌≡◌, ℕ, ◌⊎◌, inl, inr, Bool, true, false, not, List, [], ◌∷◌, ◌++◌, map, if◌then◌else◌, nat_eq, refl, ap, sym, subst, ◌∙◌, arith}
+use Rattle.std.specs.Prelude.{◌||◌}
 use Rattle.std.specs.List.{AllByRecursion}
 use Rattle.std.proofs.lemmas.Bool.Decides.{nat_tests}
 use Rattle.merc_core.specs.Rights.{has, without}
@@ -108,7 +108,7 @@ all_mapped P Q f (x ∷ xs) on all = (on x (first_in x xs) all.0, all_mapped P Q
 -- lists without some
 
 without_in_on : (b : Bool) (c x : ℕ) (gone xs : List ℕ) → has x gone ≡ b → has c (if not b then x ∷ without gone xs else without gone xs) ≡ true
-  → (has c (without gone xs) ≡ true → (has c xs ≡ true) × (has c gone ≡ false)) → (has c (x ∷ xs) ≡ true) × (has c gone ≡ false)
+    → (has c (without gone xs) ≡ true → (has c xs ≡ true) × (has c gone ≡ false)) → (has c (x ∷ xs) ≡ true) × (has c gone ≡ false)
 without_in_on true c x gone xs e h on = (rest_in c x xs (on h).0, (on h).1)
 without_in_on false c x gone xs e h on = elim (front_or c x (without gone xs) h) [
   | inl q ↦ (subst (λ z. has z (x ∷ xs) ≡ true) q (first_in x xs), subst (λ z. has z gone ≡ false) q e)
@@ -121,7 +121,7 @@ without_in c gone [] h = absurd (cc)
 without_in c gone (x ∷ xs) h = without_in_on (has x gone) c x gone xs refl h (λ k. without_in c gone xs k)
 
 without_keeps_on : (b : Bool) (c x : ℕ) (gone xs : List ℕ) → has x gone ≡ b → has c gone ≡ false → (x ≡ c) ⊎ (has c (without gone xs) ≡ true)
-  → has c (if not b then x ∷ without gone xs else without gone xs) ≡ true
+    → has c (if not b then x ∷ without gone xs else without gone xs) ≡ true
 without_keeps_on true c x gone xs e n (inl q) = clash (has x gone) e (subst (λ z. has z gone ≡ false) (sym q) n)
 without_keeps_on true c x gone xs e n (inr k) = k
 without_keeps_on false c x gone xs e n (inl q) = subst (λ z. has z (x ∷ without gone xs) ≡ true) q (first_in x (without gone xs))
@@ -135,12 +135,14 @@ without_keeps c gone (x ∷ xs) n h = without_keeps_on (has x gone) c x gone xs 
 
 pub distinct_map : (f : ℕ → ℕ) (xs : List ℕ) → ((c d : ℕ) → has c xs ≡ true → has d xs ≡ true → f c ≡ f d → c ≡ d) → AreDistinct xs → AreDistinct (map f xs)
 distinct_map f [] same d = tt
-distinct_map f (x ∷ xs) same d =
-    (has_map f x xs (λ y h e. same y x (rest_in y x xs h) (first_in x xs) e) ∙ d.0,
-    distinct_map f xs (λ y z h i e. same y z (rest_in y x xs h) (rest_in z x xs i) e) d.1)
+distinct_map f (x ∷ xs) same d = (
+  has_map f x xs (λ y h e. same y x (rest_in y x xs h) (first_in x xs) e) ∙ d.0,
+  distinct_map f xs (λ y z h i e. same y z (rest_in y x xs h) (rest_in z x xs i) e) d.1,
+)
 
 pub distinct_append : (xs ys : List ℕ) → AreDistinct xs → AreDistinct ys → ((c : ℕ) → has c xs ≡ true → has c ys ≡ true → ⊥) → AreDistinct (xs ++ ys)
 distinct_append [] ys d e apart = e
-distinct_append (x ∷ xs) ys d e apart =
-    (absent (has x (xs ++ ys)) (λ h. elim (in_either x xs ys h) [ inl k ↦ clash (has x xs) k d.0 | inr k ↦ apart x (first_in x xs) k ]),
-    distinct_append xs ys d.1 e (λ c h k. apart c (rest_in c x xs h) k))
+distinct_append (x ∷ xs) ys d e apart = (
+  absent (has x (xs ++ ys)) (λ h. elim (in_either x xs ys h) [ inl k ↦ clash (has x xs) k d.0 | inr k ↦ apart x (first_in x xs) k ]),
+  distinct_append xs ys d.1 e (λ c h k. apart c (rest_in c x xs h) k),
+)
