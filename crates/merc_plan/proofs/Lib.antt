@@ -4,3 +4,7 @@ pub mod Walks
 pub mod Joins
 pub mod Items
 pub mod Depths
+pub mod NumberingLists
+pub mod NumberingCells
+pub mod NumberingSizes
+pub mod Numbering
