@@ -1,5 +1,5 @@
 -- A goal has as many sites as parallel conjunctions.
-use Rattle.std.proofs.Common.{◌≡◌, ℕ, suc, ◌+◌, Bool, true, false, if◌then◌else◌, List, [], ◌∷◌, ◌++◌, length, map, refl, ap, ap₂, ◌∙◌, sym, arith}
+use Rattle.std.proofs.Common.{◌≡◌, ℕ, zero, suc, add-one, drop, slice_get, Some, ◌+◌, Bool, true, false, if◌then◌else◌, List, [], ◌∷◌, ◌++◌, length, map, refl, ap, ap₂, ◌∙◌, sym, arith}
 use Rattle.std.specs.List.{flat_map}
 use Rattle.std.proofs.lemmas.List.{length-append, append_assoc}
 use Rattle.merc_graded_tree.specs.declared.entries.Running.TheVariants.{Sequential, Parallel}
@@ -73,3 +73,28 @@ split_append site (n ∷ ns) ms =
 pub sites_append : (ns ms : List Node) → all_sites (ns ++ ms) ≡ all_sites ns ++ all_sites ms
 sites_append [] ms = refl
 sites_append (n ∷ ns) ms = ap (λ l. sites n ++ l) (sites_append ns ms) ∙ sym (append_assoc (sites n) (all_sites ns) (all_sites ms))
+
+-- one tree more
+
+first_left-suc : {A : Type 0} (items : List A) (index : ℕ) (item : A) → Some item ≡ slice_get items index → drop index items ≡ item ∷ drop (suc index) items
+first_left-suc [] index item is = absurd cc
+first_left-suc (first ∷ rest) zero item is = cc
+first_left-suc (first ∷ rest) (suc index) item is = first_left-suc rest index item is
+
+pub first_left : {A : Type 0} (items : List A) (index : ℕ) (item : A) → Some item ≡ slice_get items index → drop index items ≡ item ∷ drop (index + 1) items
+first_left items index item is = first_left-suc items index item is ∙ ap (λ n. item ∷ drop n items) (sym (add-one index))
+
+pub trees_more : (n : Node) (left rest all trees trees' : List Node) (infos infos' : List SiteInfo) → left ≡ n ∷ rest → trees' ≡ trees ++ split (length infos) n ∷ [] → infos' ≡ infos ++ sites n
+    → trees ++ all_split (length infos) left ≡ all → trees' ++ all_split (length infos') rest ≡ all
+trees_more n left rest all trees trees' infos infos' l t s h =
+    ap (λ (k : List Node). k ++ all_split (length infos') rest) t
+    ∙ append_assoc trees (split (length infos) n ∷ []) (all_split (length infos') rest)
+    ∙ ap (λ (k : ℕ). trees ++ split (length infos) n ∷ all_split k rest)
+      (ap length s ∙ both infos (sites n) (length infos) (forks n) refl (planned_count n nothing [] []))
+    ∙ ap (λ (k : List Node). trees ++ all_split (length infos) k) (sym l) ∙ h
+
+pub sites_more : (n : Node) (left rest : List Node) (all infos infos' : List SiteInfo) → left ≡ n ∷ rest → infos' ≡ infos ++ sites n → infos ++ all_sites left ≡ all → infos' ++ all_sites rest ≡ all
+sites_more n left rest all infos infos' l s h =
+    ap (λ (k : List SiteInfo). k ++ all_sites rest) s
+    ∙ append_assoc infos (sites n) (all_sites rest)
+    ∙ ap (λ (k : List Node). infos ++ all_sites k) (sym l) ∙ h
