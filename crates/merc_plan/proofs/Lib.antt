@@ -8,3 +8,5 @@ pub mod NumberingLists
 pub mod NumberingCells
 pub mod NumberingSizes
 pub mod Numbering
+pub mod Plays
+pub mod PlaysNodes

@@ -4,3 +4,4 @@ pub mod Branches
 pub mod BranchScript
 pub mod Plays
 pub mod Stands
+pub mod Laws
