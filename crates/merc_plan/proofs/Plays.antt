@@ -1,9 +1,8 @@
 -- What belongs to courses of branches goes together as they do.
-use Rattle.std.proofs.Common.{◌≡◌, refl, sym, subst, ℕ, Bool, true, false, Option, Some, None}
-use Rattle.merc_value.specs.Value.{Value}
-use Rattle.merc_meaning.specs.Trace.{Env, Done, Raised as RaisedEnd, TooDeep as TooDeepEnd}
-use Rattle.merc_course.specs.Course.{GoalCourse, Ends, Answer, Given, Passed, Joined, after, each, taken_back, first_alone, choose, negated, closed}
-use Rattle.merc_plan.specs.Branch.{Hold, BranchCourse, Over, Finds, after as b_after, each as b_each, taken_back as b_taken, first_alone as b_first, choose as b_choose, negated as b_negated, closed as b_closed}
+use Rattle.std.proofs.Common.{◌≡◌, sym, subst}
+use Rattle.merc_meaning.specs.Trace.{Env}
+use Rattle.merc_course.specs.Course.{GoalCourse, Answer, Given, Passed, Joined, after, each, taken_back, first_alone, choose, negated, closed}
+use Rattle.merc_plan.specs.Branch.{Hold, BranchCourse, Finds, after as b_after, each as b_each, taken_back as b_taken, first_alone as b_first, choose as b_choose, negated as b_negated, closed as b_closed}
 use Rattle.merc_plan.specs.Plays.{Plays, ends_done, ends_raised, ends_deep, steps, finds, waits, starves, hands, forks}
 
 pub plays-after : (t u : GoalCourse) (t' u' : BranchCourse) → Plays t t' → Plays u u' → Plays (after t u) (b_after t' u')

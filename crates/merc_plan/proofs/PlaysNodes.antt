@@ -1,5 +1,5 @@
 -- The course of each goal belongs to that of the branch.
-use Rattle.std.proofs.Common.{◌≡◌, refl, ℕ, zero, suc, ◌++◌, Bool, true, false, List, [], ◌∷◌, Option, Some, None}
+use Rattle.std.proofs.Common.{refl, ℕ, zero, suc, ◌++◌, Bool, true, false, List, [], Option, Some, None}
 use Rattle.merc_value.specs.Value.{Value, Values}
 use Rattle.merc_goal_tree.specs.declared.goal.Symbol.{Symbol}
 use Rattle.merc_graded_tree.specs.declared.basic.BasicGoal.{BasicGoal}
@@ -12,7 +12,7 @@ use Rattle.merc_meaning.specs.Arithmetic.{comparison_of}
 use Rattle.merc_meaning.specs.Trace.{Env, Trace, Ends as TraceEnds, Tick as TraceTick, Answer as TraceAnswer, Done, Raised as RaisedEnd, TooDeep as TooDeepEnd}
 use Rattle.merc_meaning.specs.Steps.{value_at, values_at, made_if, binds, compared, split, operated, raised, entered, brought_back}
 use Rattle.merc_meaning.specs.Runs.{Program, ProcedureBody, answers_once}
-use Rattle.merc_course.specs.Course.{GoalCourse, Ends, Meets, AtWait, no_courses, whole, one_answer}
+use Rattle.merc_course.specs.Course.{GoalCourse, Meets, AtWait, no_courses, whole, one_answer}
 use Rattle.merc_course.specs.Variables.{node_variables, only}
 use Rattle.merc_course.specs.Courses.{told, handed_on, once_if, called, where_some, taken_arm, basic_course, goal_course, node_course, all_course, any_course, arms_course, conjuncts, body_course, call_course}
 use Rattle.merc_par_split.specs.declared.sites.SiteInfo.{SiteInfo}
