@@ -10,3 +10,5 @@ pub mod NumberingSizes
 pub mod Numbering
 pub mod Plays
 pub mod PlaysNodes
+pub mod Standing
+pub mod StandingAt
