@@ -153,3 +153,36 @@ module _ (values : ℕ → Option Value) where
         (stands t (closed t') p value numbers same first l 0 g (valued-closed value t' l g w.0)
         (subst (λ r. Agrees (cells_of (numbered numbers first r))) (sym (script-closed t' l 0 g)) (all-front P here others a))))
         (all_stand ts' more ps value numbers same (first + width one) l (g ++ signalled one) w.1 (all-back P here others a))
+
+-- Where no two cells have one number, each has its value in the list of all.
+
+nat-same : (a : ℕ) → nat_eq a a ≡ true
+nat-same a = grind (arith, nat_tests)
+
+nat-turned : (a b : ℕ) → nat_eq a b ≡ nat_eq b a
+nat-turned a b = grind (arith, nat_tests)
+
+neither : (b more : Bool) → (b || more) ≡ false → (b ≡ false) × (more ≡ false)
+neither true more e = absurd cc
+neither false more e = (refl, e)
+
+-- a cell before those of the list, of another number than each of them
+not-first : (one : Cell) (all some : List Cell) → has one.cell (numbers_of some) ≡ false → Agrees (value_in all) some → Agrees (value_in (one ∷ all)) some
+not-first one all [] e a = tt
+not-first one all (other ∷ rest) e a =
+    let apart = neither (nat_eq other.cell one.cell) (has one.cell (numbers_of rest)) e in
+    (ap (λ b. if b then one.value else value_in all other.cell) (nat-turned one.cell other.cell ∙ apart.0) ∙ a.0, not-first one all rest apart.1 a.1)
+
+pub distinct-agree : (cells : List Cell) → AreDistinct (numbers_of cells) → Agrees (value_in cells) cells
+distinct-agree [] d = tt
+distinct-agree (one ∷ rest) d =
+    (ap (λ b. if b then one.value else value_in rest one.cell) (nat-same one.cell), not-first one rest rest d.0 (distinct-agree rest d.1))
+
+-- A machine of a goal that is asked stands at the goal's script, with so many steps.
+pub root_stands : (plan : Plan) (program : Program) (goal : Node) (limit : ℕ) → AreDistinct (numbers_of (cells_of (root_script plan program goal limit)))
+    → ((value : ℕ → Option Value) → Valued value true limit [] (root_branch plan program (suc limit) goal))
+    → Stands (value_in (cells_of (root_script plan program goal limit))) (course program goal limit) (root_script plan program goal limit)
+root_stands plan program goal limit distinct valued =
+    let values : (ℕ → Option Value) = value_in (cells_of (root_script plan program goal limit)) in
+    stands values (node_course program (call_course program (suc limit)) goal []) (root_branch plan program (suc limit) goal) (node_plays plan program (suc limit) goal (holding [] 0))
+    (λ c. values (no_numbers c)) no_numbers (λ c. refl) 0 limit 0 [] (valued (λ c. values (no_numbers c))) (distinct-agree (cells_of (root_script plan program goal limit)) distinct)
