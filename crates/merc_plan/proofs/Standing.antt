@@ -1,22 +1,14 @@
 -- Where the values of cells are those of a branch's script, a machine that does what the branch does stands at the script.
-use Rattle.std.proofs.Common.{◌≡◌, refl, ap, sym, ◌∙◌, subst, ℕ, zero, suc, ◌+◌, ◌-◌, ◌==◌, nat_eq, Bool, true, false, if◌then◌else◌, List, [], ◌∷◌, ◌++◌, length, map, Option, Some, None}
+use Rattle.std.proofs.Common.{◌≡◌, refl, ap, ℕ, zero, suc, ◌+◌, ◌-◌, Bool, true, false, if◌then◌else◌, List, ◌++◌, map, Option, Some, None}
 use Rattle.std.specs.Prelude.{⊤}
-use Rattle.std.specs.List.{AllByRecursion}
-use Rattle.std.proofs.lemmas.Bool.{eqb-true}
 use Rattle.merc_value.specs.Value.{Value}
-use Rattle.merc_meaning.specs.Trace.{End, RunEnd}
 use Rattle.merc_script.specs.declared.outcome.Outcome.{Outcome}
 use Rattle.merc_script.specs.declared.outcome.Outcome.TheVariants.{Ok as Fine, Raise, Limit, Starved, NoMemory}
-use Rattle.merc_script.specs.declared.cells.Move.{Move}
-use Rattle.merc_script.specs.Script.{Script, Ends, TickThen, WaitThen, SignalThen, ForkThen, Children, NoChild, Child, Cell, end_of, ends}
+use Rattle.merc_script.specs.Script.{Script, Ends, TickThen, WaitThen, SignalThen, ForkThen, Children, Cell, ends}
 use Rattle.merc_script.specs.Joining.{joined}
-use Rattle.merc_core.specs.Rights.{has, without, numbers_of}
-use Rattle.merc_core.specs.WellFormed.{AreDistinct, cells_of, cells_in, value_in}
-use Rattle.merc_course.specs.Course.{GoalCourse, RunCourse, Meets, AtWait, AtFork, Reply, Given, Passed, Joined, Courses, cut, cut_all}
+use Rattle.merc_core.specs.Rights.{has, without}
 use Rattle.merc_plan.specs.Branch.{Fork, BranchCourse, Over, Breaks, Steps, Finds, Awaits, Gives, Forks, BranchCourses, no_branches, more_branches, Raised, TooDeep, Starving, closed, names, all_give}
-use Rattle.merc_plan.specs.BranchScript.{valued, signalled, all_signalled, going, script, scripts, with_numbers, renamed_cell, renamed_move, width, numbered, all_numbered, all_width}
-use Rattle.merc_plan.specs.Plays.{Plays, ends_done, ends_raised, ends_deep, steps, finds, waits, starves, hands, forks, PlayAll, play_none, play_more}
-use Rattle.merc_plan.specs.Stands.{Stands, done, raised, limited, ticks, answers, waits as stands_waits, starves as stands_starves, hands as stands_hands, goes_on, ends_there, StandAll, stand_none, stand_more}
+use Rattle.merc_plan.specs.BranchScript.{valued, signalled, all_signalled, going, script, scripts}
 use Rattle.merc_plan.proofs.Judging.{told_values}
 
 -- What the values of cells owe to a course. Cells are told by names.
@@ -58,9 +50,9 @@ abbrev mutual
   Valued value root left given (Awaits c o t) = IfGiven (has c given) (IsGiven o (value c) × Valued value root left given t) (value c ≡ None)
   Valued value root left given (Gives c v t) = (value c ≡ Some v) × Valued value root left given t
   Valued value root left given (Forks i x kids t) =
-    AllValued (told_values value (fork_cells left given x kids)) left (without (names x.cells) given) kids
-    × IfFine (joined left (ends (kid_scripts left given x kids)))
-    (λ n. Valued (told_values value (fork_cells left given x kids)) root (left - n) (without (names x.cells) given ++ all_signalled (kid_scripts left given x kids)) t)
+      AllValued (told_values value (fork_cells left given x kids)) left (without (names x.cells) given) kids
+      × IfFine (joined left (ends (kid_scripts left given x kids)))
+      (λ n. Valued (told_values value (fork_cells left given x kids)) root (left - n) (without (names x.cells) given ++ all_signalled (kid_scripts left given x kids)) t)
 
   pub AllValued : (ℕ → Option Value) → ℕ → List ℕ → BranchCourses → Type 0
   AllValued value left given no_branches = ⊤
@@ -110,7 +102,8 @@ valued-closed value (Finds hold t) left given w = w
 valued-closed value (Awaits c o t) left given w =
     given-weaker (has c given) (Valued value false left given t) (Valued value true left given (closed t)) (IsGiven o (value c)) (value c ≡ None) (valued-closed value t left given) w
 valued-closed value (Gives c v t) left given w = (w.0, valued-closed value t left given w.1)
-valued-closed value (Forks i x kids t) left given w =
-    (w.0,
-    fine-weaker (joined left (ends (kid_scripts left given x kids))) _ _
-    (λ n. valued-closed (told_values value (fork_cells left given x kids)) t (left - n) (without (names x.cells) given ++ all_signalled (kid_scripts left given x kids))) w.1)
+valued-closed value (Forks i x kids t) left given w = (
+  w.0,
+  fine-weaker (joined left (ends (kid_scripts left given x kids))) _ _
+      (λ n. valued-closed (told_values value (fork_cells left given x kids)) t (left - n) (without (names x.cells) given ++ all_signalled (kid_scripts left given x kids))) w.1,
+)

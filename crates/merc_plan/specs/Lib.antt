@@ -5,3 +5,5 @@ pub mod BranchScript
 pub mod Plays
 pub mod Stands
 pub mod Laws
+pub mod PlaysExamples
+pub mod StandsExamples
