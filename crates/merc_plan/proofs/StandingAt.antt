@@ -1,6 +1,6 @@
 -- A machine that does what a branch does stands at the branch's script, told by numbers, where cells have the values of the script.
-use Rattle.std.proofs.Common.{◌≡◌, refl, ap, sym, ◌∙◌, subst, arith, ◌⊎◌, inl, inr, ℕ, zero, suc, ◌+◌, ◌-◌, nat_eq, Bool, true, false, ◌||◌, if◌then◌else◌, List, [], ◌∷◌, ◌++◌, length, map, Option, Some, None}
-use Rattle.std.specs.Prelude.{⊤, filter}
+use Rattle.std.proofs.Common.{◌≡◌, refl, ap, sym, ◌∙◌, subst, arith, inl, inr, ℕ, zero, suc, ◌+◌, ◌-◌, nat_eq, Bool, true, false, ◌||◌, if◌then◌else◌, List, [], ◌∷◌, ◌++◌, length, map, Option, Some, None}
+use Rattle.std.specs.Prelude.{⊤}
 use Rattle.std.specs.List.{AllByRecursion}
 use Rattle.std.proofs.lemmas.Bool.Decides.{nat_tests}
 use Rattle.merc_value.specs.Value.{Value}
@@ -10,7 +10,7 @@ use Rattle.merc_meaning.specs.Runs.{Program}
 use Rattle.merc_script.specs.declared.outcome.Outcome.{Outcome}
 use Rattle.merc_script.specs.declared.outcome.Outcome.TheVariants.{Ok as Fine, Raise, Limit, Starved, NoMemory}
 use Rattle.merc_script.specs.declared.cells.Move.{Move}
-use Rattle.merc_script.specs.Script.{Script, Ends, TickThen, WaitThen, SignalThen, ForkThen, Children, NoChild, Child, Cell, count, end_of, ends}
+use Rattle.merc_script.specs.Script.{Script, Ends, WaitThen, ForkThen, Children, Cell, count, ends}
 use Rattle.merc_script.specs.Joining.{joined}
 use Rattle.merc_core.specs.Rights.{has, without, numbers_of, moved, made_by, used_by, moved_to, signals_at, waits_at, signals_behind}
 use Rattle.merc_core.specs.WellFormed.{AreDistinct, WellFormed, ForkFits, cells_of, cells_in, value_in, gain}
@@ -23,7 +23,7 @@ use Rattle.merc_plan.specs.BranchScript.{signalled, all_signalled, going, script
 use Rattle.merc_plan.specs.Plays.{Plays, ends_done, ends_raised, ends_deep, steps, finds, waits as plays_waits, starves, hands, forks, PlayAll, play_none, play_more}
 use Rattle.merc_plan.specs.Stands.{Stands, done, raised, limited, ticks, answers, waits as stands_waits, starves as stands_starves, hands as stands_hands, goes_on, ends_there, StandAll, stand_none, stand_more}
 use Rattle.merc_plan.proofs.Judging.{told_values, NamesFit, NamedFormed, AllNamedFormed}
-use Rattle.merc_plan.proofs.NumberingLists.{tell, clash, same_number, is_same, in_either, without_in}
+use Rattle.merc_plan.proofs.NumberingLists.{clash, same_number, is_same, in_either, without_in}
 use Rattle.merc_plan.proofs.NumberingCells.{with_old, among_all, moved_to_old}
 use Rattle.merc_plan.proofs.NumberingSizes.{numbered_ends}
 use Rattle.merc_plan.proofs.Numbering.{IsHeld, numbered_formed}
