@@ -8,3 +8,7 @@ pub mod NumberingLists
 pub mod NumberingCells
 pub mod NumberingSizes
 pub mod Numbering
+pub mod Plays
+pub mod PlaysNodes
+pub mod Standing
+pub mod StandingAt

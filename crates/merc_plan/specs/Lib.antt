@@ -5,3 +5,6 @@ pub mod BranchScript
 pub mod Plays
 pub mod Stands
 pub mod PlanLists
+pub mod Laws
+pub mod PlaysExamples
+pub mod StandsExamples
