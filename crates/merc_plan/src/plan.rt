@@ -31,7 +31,8 @@ impl Plan {
     {
         let mut sites = Sequence::new(alloc);
         for info in split.sites.as_slice() {
-            sites.push(info.try_clone(alloc)?)?;
+            let copy = info.try_clone(alloc)?;
+            sites.push(copy)?;
         }
         Ok(Plan { sites })
     }
