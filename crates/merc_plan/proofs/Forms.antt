@@ -13,10 +13,10 @@ use Rattle.merc_core.specs.WellFormed.{AreDistinct, ForkFits, CellFits, MoveFits
 use Rattle.merc_plan.specs.Branch.{NamedCell, Fork, Hold, BranchCourse, Over, Breaks, Steps, Finds, Awaits, Gives, Forks, BranchCourses, no_branches, more_branches, Raised, TooDeep, Starving, names, Gift, gift_at, gifts_through, value_given, gives, all_give}
 use Rattle.merc_plan.specs.BranchScript.{those_of, signalled, all_signalled, valued, going, script, scripts}
 use Rattle.merc_plan.proofs.Flat.{Flat, Done, Halts, Tick, Answer, Answers, behind}
-use Rattle.merc_plan.proofs.Judging.{flat, flats, AllAnswer, kid_count, makes, uses, signals_to, waits_to, NamedFits, MoveGoes, HoldsRight, SiteFits, OwnFits, Whole, Keeps, AllKeep, Quiet, told_values, NamesFit, NamedFormed, AllNamedFormed}
+use Rattle.merc_plan.proofs.Judging.{flat, flats, AllAnswer, kid_count, makes, uses, signals_to, waits_to, NamedFits, MoveGoes, HoldsRight, SiteFits, OwnFits, Whole, anything, Keeps, AllKeep, Quiet, told_values, NamesFit, NamedFormed, AllNamedFormed}
 use Rattle.merc_plan.proofs.Walks.{WithinLimit, joined_limit, HasMemory, walk_has}
 use Rattle.merc_plan.proofs.Joins.{kids_memory, joined_is_walk, going_fine, walk_fine}
-use Rattle.merc_plan.proofs.Holds.{waits_past, pending_past, waits_more, own_fits, no_gone}
+use Rattle.merc_plan.proofs.Holds.{kid_proper, names_of_made, waits_past, pending_past, waits_more, own_fits, no_gone}
 use Rattle.merc_plan.proofs.Gives.{Within, AllWithin, within_gives}
 use Rattle.merc_plan.proofs.Sets.{clash, tell, same_number, is_same, only_one, front_or, or_in, first_in, rest_in, in_common, common_in, in_either, in_left, in_right, minus_in, minus_keeps, minus_more, append_more, absent, gone_not, not_one, look_before, look_past, look_same, look_none, some_now, gifts_in, gifts_out, given_here, given_other, and_both, all_pass, picked, moved_move, moved_to_move, moved_of_to, each_more, each_true}
 
@@ -157,34 +157,34 @@ not_starved false r n h k = absurd (cc)
 
 mutual
   -- a script that ends well is one of a course that answers
-  pub fine_answers : (t : BranchCourse) (rights : ℕ → Bool) (l s n : ℕ) (gn w : List ℕ) (g : List Gift) → Keeps (Whole rights) rights w g t → end_of (script false l s gn t) ≡ Fine n → Answers (flat t)
-  fine_answers Over rights l s n gn w g k h = absurd k
-  fine_answers (Breaks (Raised e)) rights l s n gn w g k h = absurd (cc)
-  fine_answers (Breaks TooDeep) rights l s n gn w g k h = absurd (cc)
-  fine_answers (Breaks Starving) rights l s n gn w g k h = absurd (cc)
-  fine_answers (Steps t) rights zero s n gn w g k h = absurd (cc)
-  fine_answers (Steps t) rights (suc l) s n gn w g k h = fine_answers t rights l (suc s) n gn w g k h
-  fine_answers (Finds hold t) rights l s n gn w g k h = tt
-  fine_answers (Awaits c v t) rights l s n gn w g k h =
-      not_starved (has c gn) (script false l s gn t) n h (λ q. fine_answers t rights l s n gn (without (c ∷ []) w) g k.1 q)
-  fine_answers (Gives c v t) rights l s n gn w g k h = fine_answers t rights l s n gn w (g ++ (record { cell = c; value = Some v } ∷ [])) k.1.1 h
-  fine_answers (Forks i x ks t) rights l s n gn w g k h =
+  pub fine_answers : (proper : ℕ → Value → Type 0) (t : BranchCourse) (rights : ℕ → Bool) (l s n : ℕ) (gn w : List ℕ) (g : List Gift) → Keeps proper (Whole rights) rights w g t → end_of (script false l s gn t) ≡ Fine n → Answers (flat t)
+  fine_answers proper Over rights l s n gn w g k h = absurd k
+  fine_answers proper (Breaks (Raised e)) rights l s n gn w g k h = absurd (cc)
+  fine_answers proper (Breaks TooDeep) rights l s n gn w g k h = absurd (cc)
+  fine_answers proper (Breaks Starving) rights l s n gn w g k h = absurd (cc)
+  fine_answers proper (Steps t) rights zero s n gn w g k h = absurd (cc)
+  fine_answers proper (Steps t) rights (suc l) s n gn w g k h = fine_answers proper t rights l (suc s) n gn w g k h
+  fine_answers proper (Finds hold t) rights l s n gn w g k h = tt
+  fine_answers proper (Awaits c v t) rights l s n gn w g k h =
+      not_starved (has c gn) (script false l s gn t) n h (λ q. fine_answers proper t rights l s n gn (without (c ∷ []) w) g k.1 q)
+  fine_answers proper (Gives c v t) rights l s n gn w g k h = fine_answers proper t rights l s n gn w (g ++ (record { cell = c; value = Some v } ∷ [])) k.1.1 h
+  fine_answers proper (Forks i x ks t) rights l s n gn w g k h =
       let g' = without (names x.cells) gn in
       let f = going_fine (joined l (ends (scripts l g' ks))) s n (λ u. script false (l - u) (s + u) (g' ++ all_signalled (scripts l g' ks)) t) h in
-      let a = fine_all x 1 ks l 0 f.steps g' k.1.0 (sym (joined_is_walk ks l g') ∙ f.is_fine) in
+      let a = fine_all proper x 1 ks l 0 f.steps g' k.1.0 (sym (joined_is_walk ks l g') ∙ f.is_fine) in
       answers_flats ks (flat t) a
-      (fine_answers t rights (l - f.steps) (s + f.steps) n (g' ++ all_signalled (scripts l g' ks)) (waits_past x w) (g ++ gifts_through (moved true x.moves) (all_give ks)) (k.1.1 a) f.next_fine)
+      (fine_answers proper t rights (l - f.steps) (s + f.steps) n (g' ++ all_signalled (scripts l g' ks)) (waits_past x w) (g ++ gifts_through (moved true x.moves) (all_give ks)) (k.1.1 a) f.next_fine)
 
-  pub fine_all : (x : Fork) (k : ℕ) (ks : BranchCourses) (l u n : ℕ) (gn : List ℕ) → AllKeep x k ks → walk l u (ends (scripts l gn ks)) ≡ Fine n → AllAnswer ks
-  fine_all x k no_branches l u n gn p h = tt
-  fine_all x k (more_branches t more) l u n gn p h =
+  pub fine_all : (proper : ℕ → Value → Type 0) (x : Fork) (k : ℕ) (ks : BranchCourses) (l u n : ℕ) (gn : List ℕ) → AllKeep proper x k ks → walk l u (ends (scripts l gn ks)) ≡ Fine n → AllAnswer ks
+  fine_all proper x k no_branches l u n gn p h = tt
+  fine_all proper x k (more_branches t more) l u n gn p h =
       let f = walk_fine l u n (end_of (script false l 0 gn t)) (ends (scripts l (gn ++ signalled (script false l 0 gn t)) more)) h in (
-        fine_answers t (λ c. has c (signals_to k x)) l 0 f.steps gn (waits_to k x) [] p.0 f.is_fine,
-        fine_all x (suc k) more l (u + f.steps) n (gn ++ signalled (script false l 0 gn t)) p.1 f.rest,
+        fine_answers (kid_proper proper x) t (λ c. has c (signals_to k x)) l 0 f.steps gn (waits_to k x) [] p.0 f.is_fine,
+        fine_all proper x (suc k) more l (u + f.steps) n (gn ++ signalled (script false l 0 gn t)) p.1 f.rest,
       )
 
-fine_kids_answer : (x : Fork) (ks : BranchCourses) (l n : ℕ) (gn : List ℕ) → AllKeep x 1 ks → joined l (ends (scripts l gn ks)) ≡ Fine n → AllAnswer ks
-fine_kids_answer x ks l n gn p h = fine_all x 1 ks l 0 n gn p (sym (joined_is_walk ks l gn) ∙ h)
+fine_kids_answer : (proper : ℕ → Value → Type 0) (x : Fork) (ks : BranchCourses) (l n : ℕ) (gn : List ℕ) → AllKeep proper x 1 ks → joined l (ends (scripts l gn ks)) ≡ Fine n → AllAnswer ks
+fine_kids_answer proper x ks l n gn p h = fine_all proper x 1 ks l 0 n gn p (sym (joined_is_walk ks l gn) ∙ h)
 
 -- the rights to signal that are left, as a list
 pub record Lists (rights : ℕ → Bool) (g : List Gift) (ss : List ℕ) : Type 0 where
@@ -281,36 +281,36 @@ either_only x k c ms ns (inr h) f r = let q = r h in let l = q.1.0 in (q.0, (ome
 
 mutual
   -- a script signals what it has the right to, and has not yet signalled
-  pub sig_only : (t : BranchCourse) (rights : ℕ → Bool) (l s : ℕ) (gn w : List ℕ) (g : List Gift) → Keeps (Whole rights) rights w g t
+  pub sig_only : (proper : ℕ → Value → Type 0) (t : BranchCourse) (rights : ℕ → Bool) (l s : ℕ) (gn w : List ℕ) (g : List Gift) → Keeps proper (Whole rights) rights w g t
       → (c : ℕ) → has c (signalled (script false l s gn t)) ≡ true → (rights c ≡ true) × (gift_at c g ≡ None)
-  sig_only Over rights l s gn w g k c h = absurd k
-  sig_only (Breaks (Raised e)) rights l s gn w g k c h = absurd (cc)
-  sig_only (Breaks TooDeep) rights l s gn w g k c h = absurd (cc)
-  sig_only (Breaks Starving) rights l s gn w g k c h = absurd (cc)
-  sig_only (Steps t) rights zero s gn w g k c h = absurd (cc)
-  sig_only (Steps t) rights (suc l) s gn w g k c h = sig_only t rights l (suc s) gn w g k c h
-  sig_only (Finds hold t) rights l s gn w g k c h = absurd (cc)
-  sig_only (Awaits d v t) rights l s gn w g k c h = sig_only t rights l s gn (without (d ∷ []) w) g k.1 c (signalled_waited (has d gn) c (script false l s gn t) h)
-  sig_only (Gives d v t) rights l s gn w g k c h =
-      give_only c d v rights g k.0 k.1.0 (signalled (script false l s gn t)) (front_or c d (signalled (script false l s gn t)) h)
-      (λ q. sig_only t rights l s gn w (g ++ (record { cell = d; value = Some v } ∷ [])) k.1.1 c q)
-  sig_only (Forks i x ks t) rights l s gn w g k c h =
+  sig_only proper Over rights l s gn w g k c h = absurd k
+  sig_only proper (Breaks (Raised e)) rights l s gn w g k c h = absurd (cc)
+  sig_only proper (Breaks TooDeep) rights l s gn w g k c h = absurd (cc)
+  sig_only proper (Breaks Starving) rights l s gn w g k c h = absurd (cc)
+  sig_only proper (Steps t) rights zero s gn w g k c h = absurd (cc)
+  sig_only proper (Steps t) rights (suc l) s gn w g k c h = sig_only proper t rights l (suc s) gn w g k c h
+  sig_only proper (Finds hold t) rights l s gn w g k c h = absurd (cc)
+  sig_only proper (Awaits d v t) rights l s gn w g k c h = sig_only proper t rights l s gn (without (d ∷ []) w) g k.1 c (signalled_waited (has d gn) c (script false l s gn t) h)
+  sig_only proper (Gives d v t) rights l s gn w g k c h =
+      give_only c d v rights g k.0.1 k.1.0 (signalled (script false l s gn t)) (front_or c d (signalled (script false l s gn t)) h)
+      (λ q. sig_only proper t rights l s gn w (g ++ (record { cell = d; value = Some v } ∷ [])) k.1.1 c q)
+  sig_only proper (Forks i x ks t) rights l s gn w g k c h =
       let g' = without (names x.cells) gn in
       let o = joined l (ends (scripts l g' ks)) in
       fork_only c x (kid_count ks) (all_give ks) rights w g k.0 (signalled (going o s (λ u. script false (l - u) (s + u) (g' ++ all_signalled (scripts l g' ks)) t))) (all_signalled (scripts l g' ks))
       (in_either c (those_of (all_signalled (scripts l g' ks)) (moved true x.moves)) (signalled (going o s (λ u. script false (l - u) (s + u) (g' ++ all_signalled (scripts l g' ks)) t))) h)
       (λ q. let n = signalled_going c s o (λ u. script false (l - u) (s + u) (g' ++ all_signalled (scripts l g' ks)) t) q in
-      sig_only t rights (l - n.0) (s + n.0) (g' ++ all_signalled (scripts l g' ks)) (waits_past x w) (g ++ gifts_through (moved true x.moves) (all_give ks))
-      (k.1.1 (fine_kids_answer x ks l n.0 g' k.1.0 n.1.0)) c n.1.1)
+      sig_only proper t rights (l - n.0) (s + n.0) (g' ++ all_signalled (scripts l g' ks)) (waits_past x w) (g ++ gifts_through (moved true x.moves) (all_give ks))
+      (k.1.1 (fine_kids_answer proper x ks l n.0 g' k.1.0 n.1.0)) c n.1.1)
 
-  pub all_only : (x : Fork) (k : ℕ) (ks : BranchCourses) (l : ℕ) (gn : List ℕ) → AllKeep x k ks → (c : ℕ) → has c (all_signalled (scripts l gn ks)) ≡ true
+  pub all_only : (proper : ℕ → Value → Type 0) (x : Fork) (k : ℕ) (ks : BranchCourses) (l : ℕ) (gn : List ℕ) → AllKeep proper x k ks → (c : ℕ) → has c (all_signalled (scripts l gn ks)) ≡ true
       → (j : ℕ) × ((k ≤ j) × (has c (signals_to j x) ≡ true))
-  all_only x k no_branches l gn p c h = absurd (cc)
-  all_only x k (more_branches t more) l gn p c h =
+  all_only proper x k no_branches l gn p c h = absurd (cc)
+  all_only proper x k (more_branches t more) l gn p c h =
       either_only x k c (signalled (script false l 0 gn t)) (all_signalled (scripts l (gn ++ signalled (script false l 0 gn t)) more))
       (in_either c (signalled (script false l 0 gn t)) (all_signalled (scripts l (gn ++ signalled (script false l 0 gn t)) more)) h)
-      (λ q. (sig_only t (λ d. has d (signals_to k x)) l 0 gn (waits_to k x) [] p.0 c q).0)
-      (λ q. all_only x (suc k) more l (gn ++ signalled (script false l 0 gn t)) p.1 c q)
+      (λ q. (sig_only (kid_proper proper x) t (λ d. has d (signals_to k x)) l 0 gn (waits_to k x) [] p.0 c q).0)
+      (λ q. all_only proper x (suc k) more l (gn ++ signalled (script false l 0 gn t)) p.1 c q)
 
 -- of elements with distinct cells, one passes two tests that its cell passes
 
@@ -351,9 +351,6 @@ one_only {A} cell base test other c (x ∷ xs) bt bo d h i =
         clash (has (cell x) (map cell (filter base xs))) (wider cell base test (cell x) xs bt (subst (λ z. has z (map cell (filter test xs)) ≡ true) q.1 p))
         (distinct_first cell (base x) x (filter base xs) (bo x q.0) d)
     on (inr p) (inr q) rec = rec p q
-
-pub names_of_made : (c k : ℕ) (cs : List NamedCell) → has c (makes k cs) ≡ true → has c (names cs) ≡ true
-names_of_made c k cs h = (picked (λ (one : NamedCell). one.cell) (λ (one : NamedCell). nat_eq one.producer k) (λ x. ⊤) c cs (each_true cs) h).listed
 
 moved_not_own : (n : ℕ) (rights : ℕ → Bool) (g : List Gift) (w : List ℕ) (x : Fork) (k c : ℕ) → SiteFits n rights g w x → has c (moved_to k true x.moves) ≡ true → has c (names x.cells) ≡ false
 moved_not_own n rights g w x k c s h =
@@ -418,43 +415,43 @@ not_none : (x : Fork) (j c : ℕ) → ((k : ℕ) → has 0 (signals_to k x) ≡ 
 not_none x j c z h e = clash (has c (signals_to j x)) h (ap (λ y. has y (signals_to j x)) e ∙ z j)
 
 mutual
-  pub sig_given : (t : BranchCourse) (rights : ℕ → Bool) (l s : ℕ) (gn w : List ℕ) (g : List Gift) → Keeps (Whole rights) rights w g t → Within rights t
+  pub sig_given : (proper : ℕ → Value → Type 0) (t : BranchCourse) (rights : ℕ → Bool) (l s : ℕ) (gn w : List ℕ) (g : List Gift) → Keeps proper (Whole rights) rights w g t → Within rights t
       → (c : ℕ) → has c (signalled (script false l s gn t)) ≡ true → Given c (gives t)
-  sig_given Over rights l s gn w g k wi c h = absurd k
-  sig_given (Breaks (Raised e)) rights l s gn w g k wi c h = absurd (cc)
-  sig_given (Breaks TooDeep) rights l s gn w g k wi c h = absurd (cc)
-  sig_given (Breaks Starving) rights l s gn w g k wi c h = absurd (cc)
-  sig_given (Steps t) rights zero s gn w g k wi c h = absurd (cc)
-  sig_given (Steps t) rights (suc l) s gn w g k wi c h = sig_given t rights l (suc s) gn w g k wi c h
-  sig_given (Finds hold t) rights l s gn w g k wi c h = absurd (cc)
-  sig_given (Awaits d v t) rights l s gn w g k wi c h = sig_given t rights l s gn (without (d ∷ []) w) g k.1 wi c (signalled_waited (has d gn) c (script false l s gn t) h)
-  sig_given (Gives d v t) rights l s gn w g k wi c h =
+  sig_given proper Over rights l s gn w g k wi c h = absurd k
+  sig_given proper (Breaks (Raised e)) rights l s gn w g k wi c h = absurd (cc)
+  sig_given proper (Breaks TooDeep) rights l s gn w g k wi c h = absurd (cc)
+  sig_given proper (Breaks Starving) rights l s gn w g k wi c h = absurd (cc)
+  sig_given proper (Steps t) rights zero s gn w g k wi c h = absurd (cc)
+  sig_given proper (Steps t) rights (suc l) s gn w g k wi c h = sig_given proper t rights l (suc s) gn w g k wi c h
+  sig_given proper (Finds hold t) rights l s gn w g k wi c h = absurd (cc)
+  sig_given proper (Awaits d v t) rights l s gn w g k wi c h = sig_given proper t rights l s gn (without (d ∷ []) w) g k.1 wi c (signalled_waited (has d gn) c (script false l s gn t) h)
+  sig_given proper (Gives d v t) rights l s gn w g k wi c h =
       given_one c d v (gives t) (signalled (script false l s gn t)) (front_or c d (signalled (script false l s gn t)) h)
-      (λ q. sig_given t rights l s gn w (g ++ (record { cell = d; value = Some v } ∷ [])) k.1.1 wi.1 c q) (nat_eq c d) refl
-  sig_given (Forks i x ks t) rights l s gn w g k wi c h =
+      (λ q. sig_given proper t rights l s gn w (g ++ (record { cell = d; value = Some v } ∷ [])) k.1.1 wi.1 c q) (nat_eq c d) refl
+  sig_given proper (Forks i x ks t) rights l s gn w g k wi c h =
       let g' = without (names x.cells) gn in
       let o = joined l (ends (scripts l g' ks)) in
       let next : ℕ → Script = λ u. script false (l - u) (s + u) (g' ++ all_signalled (scripts l g' ks)) t in
       given_fork c (moved true x.moves) g (all_give ks) (gives t) (all_signalled (scripts l g' ks)) (signalled (going o s next))
       (in_either c (those_of (all_signalled (scripts l g' ks)) (moved true x.moves)) (signalled (going o s next)) h)
-      (λ q. all_given x 1 ks l g' (kid_count ks) rights w g k.0 k.1.0 wi.1.0 wi.1.1.0 c q)
+      (λ q. all_given proper x 1 ks l g' (kid_count ks) rights w g k.0 k.1.0 wi.1.0 wi.1.1.0 c q)
       (λ q. let n = signalled_going c s o next q in
-      let a = k.1.1 (fine_kids_answer x ks l n.0 g' k.1.0 n.1.0) in (
-        (sig_only t rights (l - n.0) (s + n.0) (g' ++ all_signalled (scripts l g' ks)) (waits_past x w) (g ++ gifts_through (moved true x.moves) (all_give ks)) a c n.1.1).1,
-        sig_given t rights (l - n.0) (s + n.0) (g' ++ all_signalled (scripts l g' ks)) (waits_past x w) (g ++ gifts_through (moved true x.moves) (all_give ks)) a wi.1.1.1 c n.1.1,
+      let a = k.1.1 (fine_kids_answer proper x ks l n.0 g' k.1.0 n.1.0) in (
+        (sig_only proper t rights (l - n.0) (s + n.0) (g' ++ all_signalled (scripts l g' ks)) (waits_past x w) (g ++ gifts_through (moved true x.moves) (all_give ks)) a c n.1.1).1,
+        sig_given proper t rights (l - n.0) (s + n.0) (g' ++ all_signalled (scripts l g' ks)) (waits_past x w) (g ++ gifts_through (moved true x.moves) (all_give ks)) a wi.1.1.1 c n.1.1,
       ))
 
-  pub all_given : (x : Fork) (k : ℕ) (ks : BranchCourses) (l : ℕ) (gn : List ℕ) (n : ℕ) (rights : ℕ → Bool) (w : List ℕ) (g : List Gift) → SiteFits n rights g w x → AllKeep x k ks
+  pub all_given : (proper : ℕ → Value → Type 0) (x : Fork) (k : ℕ) (ks : BranchCourses) (l : ℕ) (gn : List ℕ) (n : ℕ) (rights : ℕ → Bool) (w : List ℕ) (g : List Gift) → SiteFits n rights g w x → AllKeep proper x k ks
       → ((j : ℕ) → has 0 (signals_to j x) ≡ false) → AllWithin x k ks → (c : ℕ) → has c (all_signalled (scripts l gn ks)) ≡ true → Given c (all_give ks)
-  all_given x k no_branches l gn n rights w g f p z wi c h = absurd (cc)
-  all_given x k (more_branches t more) l gn n rights w g f p z wi c h =
+  all_given proper x k no_branches l gn n rights w g f p z wi c h = absurd (cc)
+  all_given proper x k (more_branches t more) l gn n rights w g f p z wi c h =
       let sc = script false l 0 gn t in
       kid_given x k k c (gives t) (all_give more) (signalled sc) (all_signalled (scripts l (gn ++ signalled sc) more))
       (in_either c (signalled sc) (all_signalled (scripts l (gn ++ signalled sc) more)) h)
-      (λ q. sig_given t (λ d. has d (signals_to k x)) l 0 gn (waits_to k x) [] p.0 wi.0 c q)
-      (λ q. let a = all_only x (suc k) more l (gn ++ signalled sc) p.1 c q in (
+      (λ q. sig_given (kid_proper proper x) t (λ d. has d (signals_to k x)) l 0 gn (waits_to k x) [] p.0 wi.0 c q)
+      (λ q. let a = all_only proper x (suc k) more l (gn ++ signalled sc) p.1 c q in (
         within_gives t (λ d. has d (signals_to k x)) wi.0 c (not_its x k a.0 c (λ i j. alone n rights g w x a.0 k c f i j) a.1.0 a.1.1) (not_none x a.0 c z a.1.1),
-        all_given x (suc k) more l (gn ++ signalled sc) n rights w g f p.1 z wi.1 c q,
+        all_given proper x (suc k) more l (gn ++ signalled sc) n rights w g f p.1 z wi.1 c q,
       ))
 
 -- the values of cells
@@ -491,17 +488,17 @@ outer_given y ks value l gn i c h =
     ap is_some (outer_value value y ks (scripts l (without (names y.cells) gn) ks) c (absent c (names y.cells) (λ e. gone_not c (names y.cells) gn e h))) ∙ i c (minus_in c (names y.cells) gn h)
 
 -- the values of a fork's cells
-own_values : (y : Fork) (ks : BranchCourses) (rights : ℕ → Bool) (value : ℕ → Option Value) (l : ℕ) (gn w : List ℕ) (g : List Gift) → SiteFits (kid_count ks) rights g w y → AllKeep y 1 ks
+own_values : (proper : ℕ → Value → Type 0) (y : Fork) (ks : BranchCourses) (rights : ℕ → Bool) (value : ℕ → Option Value) (l : ℕ) (gn w : List ℕ) (g : List Gift) → SiteFits (kid_count ks) rights g w y → AllKeep proper y 1 ks
     → ((j : ℕ) → has 0 (signals_to j y) ≡ false) → AllWithin y 1 ks → (c : ℕ) → has c (names y.cells) ≡ true
     → is_some (told_values value (told y ks (scripts l gn ks)) c) ≡ has c (all_signalled (scripts l gn ks))
-own_values y ks rights value l gn w g f p z wi c h = own_some value y ks (scripts l gn ks) c (λ q. all_given y 1 ks l gn (kid_count ks) rights w g f p z wi c q) h
+own_values proper y ks rights value l gn w g f p z wi c h = own_some value y ks (scripts l gn ks) c (λ q. all_given proper y 1 ks l gn (kid_count ks) rights w g f p z wi c q) h
 
 -- .. and of those whose rights move
-fork_values : (i : ℕ) (y : Fork) (ks : BranchCourses) (t : BranchCourse) (rights : ℕ → Bool) (value : ℕ → Option Value) (l s : ℕ) (gn w : List ℕ) (g : List Gift) (ss : List ℕ)
-    → Keeps (Whole rights) rights w g (Forks i y ks t) → Within rights (Forks i y ks t) → Lists rights g ss
+fork_values : (proper : ℕ → Value → Type 0) (i : ℕ) (y : Fork) (ks : BranchCourses) (t : BranchCourse) (rights : ℕ → Bool) (value : ℕ → Option Value) (l s : ℕ) (gn w : List ℕ) (g : List Gift) (ss : List ℕ)
+    → Keeps proper (Whole rights) rights w g (Forks i y ks t) → Within rights (Forks i y ks t) → Lists rights g ss
     → ((c : ℕ) → has c ss ≡ true → is_some (value c) ≡ has c (signalled (script false l s gn (Forks i y ks t)))) → (j c : ℕ) → has c (signals_to j y) ≡ true
     → is_some (told_values value (told y ks (scripts l (without (names y.cells) gn) ks)) c) ≡ has c (all_signalled (scripts l (without (names y.cells) gn) ks))
-fork_values i y ks t rights value l s gn w g ss k wi p x j c h = on (in_either c (makes j y.cells) (moved_to j true y.moves) h)
+fork_values proper i y ks t rights value l s gn w g ss k wi p x j c h = on (in_either c (makes j y.cells) (moved_to j true y.moves) h)
   where
     sk : Children
     sk = scripts l (without (names y.cells) gn) ks
@@ -515,13 +512,13 @@ fork_values i y ks t rights value l s gn w g ss k wi p x j c h = on (in_either c
     not_behind : has c (moved true y.moves) ≡ true → gift_at c g ≡ None → has c (signalled rest) ≡ true → ⊥
     not_behind m n i =
         let q = signalled_going c s (joined l (ends sk)) next i in
-        let z = sig_only t rights (l - q.0) (s + q.0) (without (names y.cells) gn ++ all_signalled sk) (waits_past y w) (g ++ gifts_through (moved true y.moves) (all_give ks))
-        (k.1.1 (fine_kids_answer y ks l q.0 (without (names y.cells) gn) k.1.0 q.1.0)) c q.1.1 in
+        let z = sig_only proper t rights (l - q.0) (s + q.0) (without (names y.cells) gn ++ all_signalled sk) (waits_past y w) (g ++ gifts_through (moved true y.moves) (all_give ks))
+        (k.1.1 (fine_kids_answer proper y ks l q.0 (without (names y.cells) gn) k.1.0 q.1.0)) c q.1.1 in
         some_now (value_given (gift_at c (all_give ks))) (gift_at c (g ++ gifts_through (moved true y.moves) (all_give ks)))
         (look_past c g (gifts_through (moved true y.moves) (all_give ks)) n ∙ gifts_in c (moved true y.moves) (all_give ks) m) z.1
 
     on : (has c (makes j y.cells) ≡ true) ⊎ (has c (moved_to j true y.moves) ≡ true) → is_some (told_values value (told y ks sk) c) ≡ has c (all_signalled sk)
-    on (inl i) = own_values y ks rights value l (without (names y.cells) gn) w g k.0 k.1.0 wi.1.0 wi.1.1.0 c (names_of_made c j y.cells i)
+    on (inl i) = own_values proper y ks rights value l (without (names y.cells) gn) w g k.0 k.1.0 wi.1.0 wi.1.1.0 c (names_of_made c j y.cells i)
     on (inr i) =
         let m = moved_of_to j true c y.moves i in
         let q = moved_right (kid_count ks) rights g w c y.moves k.0.moves m in
@@ -540,11 +537,11 @@ rest_values y ks n rights value all w g ss rest f p x c h =
     ∙ (x c i ∙ in_rest c (those_of (all_signalled all) (moved true y.moves)) rest (λ z. gone_not c (moved true y.moves) ss (common_in c (moved true y.moves) (all_signalled all) z).0 h))
 
 -- what conjuncts signal has a value behind them
-all_some : (y : Fork) (ks : BranchCourses) (value : ℕ → Option Value) (l : ℕ) (gn : List ℕ) → AllKeep y 1 ks
+all_some : (proper : ℕ → Value → Type 0) (y : Fork) (ks : BranchCourses) (value : ℕ → Option Value) (l : ℕ) (gn : List ℕ) → AllKeep proper y 1 ks
     → ((j c : ℕ) → has c (signals_to j y) ≡ true → is_some (value c) ≡ has c (all_signalled (scripts l gn ks))) → ((c : ℕ) → has c gn ≡ true → is_some (value c) ≡ true)
     → (c : ℕ) → has c (gn ++ all_signalled (scripts l gn ks)) ≡ true → is_some (value c) ≡ true
-all_some y ks value l gn p all given c h =
-    either_some c gn (all_signalled (scripts l gn ks)) value (in_either c gn (all_signalled (scripts l gn ks)) h) given (λ q. let z = all_only y 1 ks l gn p c q in all z.0 c z.1.1 ∙ q)
+all_some proper y ks value l gn p all given c h =
+    either_some c gn (all_signalled (scripts l gn ks)) value (in_either c gn (all_signalled (scripts l gn ks)) h) given (λ q. let z = all_only proper y 1 ks l gn p c q in all z.0 c z.1.1 ∙ q)
 
 -- the rights to wait behind a fork
 more_waits : (y : Fork) (ks : BranchCourses) (all : Children) (w ws : List ℕ) → ((c : ℕ) → has c w ≡ true → has c ws ≡ true) → (c : ℕ) → has c (waits_past y w) ≡ true
@@ -574,77 +571,77 @@ names_fit y ks all n rights g w ss p f = record {
 }
 
 mutual
-  pub formed : (t : BranchCourse) (rights : ℕ → Bool) (value : ℕ → Option Value) (l s : ℕ) (gn : List ℕ) (w : List ℕ) (g : List Gift) (ss ws : List ℕ) → Keeps (Whole rights) rights w g t
+  pub formed : (proper : ℕ → Value → Type 0) (t : BranchCourse) (rights : ℕ → Bool) (value : ℕ → Option Value) (l s : ℕ) (gn : List ℕ) (w : List ℕ) (g : List Gift) (ss ws : List ℕ) → Keeps proper (Whole rights) rights w g t
       → Within rights t → l + s ≤ most_steps → Lists rights g ss → ((c : ℕ) → has c w ≡ true → has c ws ≡ true)
       → ((c : ℕ) → has c ss ≡ true → is_some (value c) ≡ has c (signalled (script false l s gn t))) → ((c : ℕ) → has c gn ≡ true → is_some (value c) ≡ true)
       → NamedFormed value s ss ws (script false l s gn t)
-  formed Over rights value l s gn w g ss ws k wi b p a x i = absurd k
-  formed (Breaks (Raised e)) rights value l s gn w g ss ws k wi b p a x i = (no_values value ss x, omega (arith, b))
-  formed (Breaks TooDeep) rights value l s gn w g ss ws k wi b p a x i = (no_values value ss x, tt)
-  formed (Breaks Starving) rights value l s gn w g ss ws k wi b p a x i = (no_values value ss x, tt)
-  formed (Steps t) rights value zero s gn w g ss ws k wi b p a x i = (no_values value ss x, tt)
-  formed (Steps t) rights value (suc l) s gn w g ss ws k wi b p a x i = formed t rights value l (suc s) gn w g ss ws k wi (omega (arith, b)) p a x i
-  formed (Finds hold t) rights value l s gn w g ss ws k wi b p a x i = (no_values value ss x, (empty_list ss (λ c h. let q = p.to c h in k c q.0 q.1), omega (arith, b)))
-  formed (Awaits c v t) rights value l s gn w g ss ws k wi b p a x i = (
+  formed proper Over rights value l s gn w g ss ws k wi b p a x i = absurd k
+  formed proper (Breaks (Raised e)) rights value l s gn w g ss ws k wi b p a x i = (no_values value ss x, omega (arith, b))
+  formed proper (Breaks TooDeep) rights value l s gn w g ss ws k wi b p a x i = (no_values value ss x, tt)
+  formed proper (Breaks Starving) rights value l s gn w g ss ws k wi b p a x i = (no_values value ss x, tt)
+  formed proper (Steps t) rights value zero s gn w g ss ws k wi b p a x i = (no_values value ss x, tt)
+  formed proper (Steps t) rights value (suc l) s gn w g ss ws k wi b p a x i = formed proper t rights value l (suc s) gn w g ss ws k wi (omega (arith, b)) p a x i
+  formed proper (Finds hold t) rights value l s gn w g ss ws k wi b p a x i = (no_values value ss x, (empty_list ss (λ c h. let q = p.to c h in k c q.0 q.1), omega (arith, b)))
+  formed proper (Awaits c v t) rights value l s gn w g ss ws k wi b p a x i = (
     a c k.0,
     waited value (has c gn) c s ss (without (c ∷ []) ws) (script false l s gn t) (λ e. i c e) x
-        (λ e x'. formed t rights value l s gn (without (c ∷ []) w) g ss (without (c ∷ []) ws) k.1 wi b p (λ d h. minus_more (c ∷ []) w ws a d h) x' i),
+        (λ e x'. formed proper t rights value l s gn (without (c ∷ []) w) g ss (without (c ∷ []) ws) k.1 wi b p (λ d h. minus_more (c ∷ []) w ws a d h) x' i),
   )
-  formed (Gives c v t) rights value l s gn w g ss ws k wi b p a x i = (
-    p.from c k.0 k.1.0,
+  formed proper (Gives c v t) rights value l s gn w g ss ws k wi b p a x i = (
+    p.from c k.0.1 k.1.0,
     (
-      (λ n. some_value (value c) (x c (p.from c k.0 k.1.0) ∙ first_in c (signalled (script false l s gn t))) n),
-      formed t rights value l s gn w (g ++ (record { cell = c; value = Some v } ∷ [])) (without (c ∷ []) ss) ws k.1.1 wi.1 b (given_less rights g ss c v p k.1.0) a
+      (λ n. some_value (value c) (x c (p.from c k.0.1 k.1.0) ∙ first_in c (signalled (script false l s gn t))) n),
+      formed proper t rights value l s gn w (g ++ (record { cell = c; value = Some v } ∷ [])) (without (c ∷ []) ss) ws k.1.1 wi.1 b (given_less rights g ss c v p k.1.0) a
           (λ d h. x d (minus_in d (c ∷ []) ss h) ∙ in_rest d (c ∷ []) (signalled (script false l s gn t)) (λ e. gone_not d (c ∷ []) ss e h)) i,
     ),
   )
-  formed (Forks j y ks t) rights value l s gn w g ss ws k wi b p a x i =
+  formed proper (Forks j y ks t) rights value l s gn w g ss ws k wi b p a x i =
       let g' = without (names y.cells) gn in
       let sk = scripts l g' ks in
       let o = joined l (ends sk) in
       let next : ℕ → Script = λ u. script false (l - u) (s + u) (g' ++ all_signalled sk) t in
       let vl = told_values value (told y ks sk) in
-      let all = fork_values j y ks t rights value l s gn w g ss k wi p x in
+      let all = fork_values proper j y ks t rights value l s gn w g ss k wi p x in
       let given = outer_given y ks value l gn i in (
         fork_fits y ks sk l s rights g w ss ws (counts l g' ks) b p a k.0,
         (
           names_fit y ks sk (kid_count ks) rights g w ss p k.0,
           (
-            formed_all y (told y ks sk) (λ n. made_told y ks sk n) (λ n. used_told y ks sk n) 1 ks vl l g' (kid_count ks) rights w g k.0 k.1.0 wi.1.0 wi.1.1.0 (omega (arith, b)) (λ n c q h. all n c h) given,
+            formed_all proper y (told y ks sk) (λ n. made_told y ks sk n) (λ n. used_told y ks sk n) 1 ks vl l g' (kid_count ks) rights w g k.0 k.1.0 wi.1.0 wi.1.1.0 (omega (arith, b)) (λ n c q h. all n c h) given,
             (
               follows o s next (kids_have l g' ks),
               goes_on vl o l s (without (moved true y.moves) ss) (used_by 0 (told y ks sk) ++ without (numbers_of (told y ks sk)) (without (moved false y.moves) ws)) next
                   (joined_limit l (ends sk)) (kids_have l g' ks) b (λ c h. rest_values y ks (kid_count ks) rights value sk w g ss (signalled (going o s next)) k.0 p x c h)
-                  (λ u e h x'. formed t rights vl (l - u) (s + u) (g' ++ all_signalled sk) (waits_past y w) (g ++ gifts_through (moved true y.moves) (all_give ks))
+                  (λ u e h x'. formed proper t rights vl (l - u) (s + u) (g' ++ all_signalled sk) (waits_past y w) (g ++ gifts_through (moved true y.moves) (all_give ks))
                   (without (moved true y.moves) ss) (used_by 0 (told y ks sk) ++ without (numbers_of (told y ks sk)) (without (moved false y.moves) ws))
-                  (k.1.1 (fine_kids_answer y ks l u g' k.1.0 e)) wi.1.1.1 (omega (arith, b, h))
+                  (k.1.1 (fine_kids_answer proper y ks l u g' k.1.0 e)) wi.1.1.1 (omega (arith, b, h))
                   (moved_less (kid_count ks) rights g (all_give ks) w ss y.moves p k.0.moves)
                   (more_waits y ks sk w ws a) x'
-                  (λ c h. all_some y ks vl l g' k.1.0 all given c h)),
+                  (λ c h. all_some proper y ks vl l g' k.1.0 all given c h)),
             ),
           ),
         ),
       )
 
-  pub formed_all : (y : Fork) (cells : List Cell) → ((k : ℕ) → made_by k cells ≡ makes k y.cells) → ((k : ℕ) → used_by k cells ≡ uses k y.cells) → (k : ℕ) (ks : BranchCourses) (value : ℕ → Option Value)
-      (l : ℕ) (gn : List ℕ) (n : ℕ) (rights : ℕ → Bool) (w : List ℕ) (g : List Gift) → SiteFits n rights g w y → AllKeep y k ks → ((j : ℕ) → has 0 (signals_to j y) ≡ false) → AllWithin y k ks → l ≤ most_steps
+  pub formed_all : (proper : ℕ → Value → Type 0) (y : Fork) (cells : List Cell) → ((k : ℕ) → made_by k cells ≡ makes k y.cells) → ((k : ℕ) → used_by k cells ≡ uses k y.cells) → (k : ℕ) (ks : BranchCourses) (value : ℕ → Option Value)
+      (l : ℕ) (gn : List ℕ) (n : ℕ) (rights : ℕ → Bool) (w : List ℕ) (g : List Gift) → SiteFits n rights g w y → AllKeep proper y k ks → ((j : ℕ) → has 0 (signals_to j y) ≡ false) → AllWithin y k ks → l ≤ most_steps
       → ((j c : ℕ) → k ≤ j → has c (signals_to j y) ≡ true → is_some (value c) ≡ has c (all_signalled (scripts l gn ks))) → ((c : ℕ) → has c gn ≡ true → is_some (value c) ≡ true)
       → AllNamedFormed value cells y.moves k (scripts l gn ks)
-  formed_all y cells mk us k no_branches value l gn n rights w g f p z wi b x i = tt
-  formed_all y cells mk us k (more_branches t more) value l gn n rights w g f p z wi b x i =
+  formed_all proper y cells mk us k no_branches value l gn n rights w g f p z wi b x i = tt
+  formed_all proper y cells mk us k (more_branches t more) value l gn n rights w g f p z wi b x i =
       let sc = script false l 0 gn t in
       let rest = all_signalled (scripts l (gn ++ signalled sc) more) in
       let sg : (c : ℕ) → has c (signals_at k cells y.moves) ≡ has c (signals_to k y) = λ c. ap (λ u. has c (u ++ moved_to k true y.moves)) (mk k) in
       let wt : (c : ℕ) → has c (waits_to k y) ≡ has c (waits_at k cells y.moves) = λ c. sym (ap (λ u. has c (u ++ moved_to k false y.moves)) (us k)) in (
-        formed t (λ c. has c (signals_to k y)) value l 0 gn (waits_to k y) [] (signals_at k cells y.moves) (waits_at k cells y.moves) p.0 wi.0 (omega (arith, b))
+        formed (kid_proper proper y) t (λ c. has c (signals_to k y)) value l 0 gn (waits_to k y) [] (signals_at k cells y.moves) (waits_at k cells y.moves) p.0 wi.0 (omega (arith, b))
             (record { to = λ c h. (sym (sg c) ∙ h, refl); from = λ c h m. sg c ∙ h }) (λ c h. sym (wt c) ∙ h)
             (λ c h. x k c (omega arith) (sym (sg c) ∙ h)
-            ∙ in_front c (signalled sc) rest (λ q. let z = all_only y (suc k) more l (gn ++ signalled sc) p.1 c q in let e = alone n rights g w y z.0 k c f z.1.1 (sym (sg c) ∙ h) in let m = z.1.0 in omega (arith, e, m))) i,
-        formed_all y cells mk us (suc k) more value l (gn ++ signalled sc) n rights w g f p.1 z wi.1 b
+            ∙ in_front c (signalled sc) rest (λ q. let z = all_only proper y (suc k) more l (gn ++ signalled sc) p.1 c q in let e = alone n rights g w y z.0 k c f z.1.1 (sym (sg c) ∙ h) in let m = z.1.0 in omega (arith, e, m))) i,
+        formed_all proper y cells mk us (suc k) more value l (gn ++ signalled sc) n rights w g f p.1 z wi.1 b
             (λ j c q h. x j c (omega (arith, q)) h
-            ∙ in_rest c (signalled sc) rest (λ r. let z = (sig_only t (λ d. has d (signals_to k y)) l 0 gn (waits_to k y) [] p.0 c r).0 in let e = alone n rights g w y j k c f h z in omega (arith, e, q)))
+            ∙ in_rest c (signalled sc) rest (λ r. let z = (sig_only (kid_proper proper y) t (λ d. has d (signals_to k y)) l 0 gn (waits_to k y) [] p.0 c r).0 in let e = alone n rights g w y j k c f h z in omega (arith, e, q)))
             (λ c h. either_some c gn (signalled sc) value (in_either c gn (signalled sc) h) i
-            (λ r. x k c (omega arith) (sig_only t (λ d. has d (signals_to k y)) l 0 gn (waits_to k y) [] p.0 c r).0 ∙ in_left c (signalled sc) rest r)),
+            (λ r. x k c (omega arith) (sig_only (kid_proper proper y) t (λ d. has d (signals_to k y)) l 0 gn (waits_to k y) [] p.0 c r).0 ∙ in_left c (signalled sc) rest r)),
       )
 
 -- courses that use no rights from outside
@@ -666,13 +663,13 @@ not_moved_to ms j c e h = nothing (subst (λ z. has c (moved_to j true z) ≡ tr
     nothing : has c [] ≡ true → ⊥
     nothing q = absurd (cc)
 
-quiet_values : (y : Fork) (ks : BranchCourses) (next : ℕ) (value : ℕ → Option Value) (l : ℕ) (gn : List ℕ) → y.moves ≡ [] → SiteFits (kid_count ks) (λ c. false) [] [] y → AllKeep y 1 ks
+quiet_values : (y : Fork) (ks : BranchCourses) (next : ℕ) (value : ℕ → Option Value) (l : ℕ) (gn : List ℕ) → y.moves ≡ [] → SiteFits (kid_count ks) (λ c. false) [] [] y → AllKeep anything y 1 ks
     → ((j : ℕ) → has 0 (signals_to j y) ≡ false) → AllWithin y 1 ks → (j c : ℕ) → has c (signals_to j y) ≡ true
     → is_some (told_values value (told y ks (scripts l gn ks)) c) ≡ has c (all_signalled (scripts l gn ks))
 quiet_values y ks next value l gn e f p z wi j c h = on (in_either c (makes j y.cells) (moved_to j true y.moves) h)
   where
     on : (has c (makes j y.cells) ≡ true) ⊎ (has c (moved_to j true y.moves) ≡ true) → is_some (told_values value (told y ks (scripts l gn ks)) c) ≡ has c (all_signalled (scripts l gn ks))
-    on (inl i) = own_values y ks (λ c. false) value l gn [] [] f p z wi c (names_of_made c j y.cells i)
+    on (inl i) = own_values anything y ks (λ c. false) value l gn [] [] f p z wi c (names_of_made c j y.cells i)
     on (inr i) = absurd (not_moved_to y.moves j c e i)
 
 pub formed_quiet : (t : BranchCourse) (root : Bool) (next : ℕ) (value : ℕ → Option Value) (l s : ℕ) (gn p ws : List ℕ) → Quiet next p t → Within (λ c. false) t → l + s ≤ most_steps
@@ -704,12 +701,12 @@ formed_quiet (Forks j y ks t) root next value l s gn p ws q wi b f i =
       (
         names_fit y ks sk (kid_count ks) (λ c. false) [] [] [] no_lists fits,
         (
-          formed_all y (told y ks sk) (λ n. made_told y ks sk n) (λ n. used_told y ks sk n) 1 ks vl l g' (kid_count ks) (λ c. false) [] [] fits q.1.1.0 wi.1.0 wi.1.1.0 (omega (arith, b)) (λ n c m h. all n c h) given,
+          formed_all anything y (told y ks sk) (λ n. made_told y ks sk n) (λ n. used_told y ks sk n) 1 ks vl l g' (kid_count ks) (λ c. false) [] [] fits q.1.1.0 wi.1.0 wi.1.1.0 (omega (arith, b)) (λ n c m h. all n c h) given,
           (
             follows o s after (kids_have l g' ks),
             goes_on vl o l s [] (used_by 0 (told y ks sk) ++ without (numbers_of (told y ks sk)) (without (moved false y.moves) ws)) after (joined_limit l (ends sk)) (kids_have l g' ks) b (λ c h. absurd (cc))
                 (λ u e h x. formed_quiet t root next vl (l - u) (s + u) (g' ++ all_signalled sk) (pending_past y p) (used_by 0 (told y ks sk) ++ without (numbers_of (told y ks sk)) (without (moved false y.moves) ws))
-                (q.1.1.1 (fine_kids_answer y ks l u g' q.1.1.0 e)) wi.1.1.1 (omega (arith, b, h)) (pending_waits y ks sk p ws q.0 f) (all_some y ks vl l g' q.1.1.0 all given)),
+                (q.1.1.1 (fine_kids_answer anything y ks l u g' q.1.1.0 e)) wi.1.1.1 (omega (arith, b, h)) (pending_waits y ks sk p ws q.0 f) (all_some anything y ks vl l g' q.1.1.0 all given)),
           ),
         ),
       ),
