@@ -1,1 +1,2 @@
 pub mod Bonds
+pub mod OutputsOrdered
