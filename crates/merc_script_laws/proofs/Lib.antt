@@ -1,2 +1,3 @@
 pub mod Bonds
 pub mod OutputsOrdered
+pub mod OutputsSpelt
