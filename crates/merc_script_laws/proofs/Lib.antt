@@ -1,3 +1,4 @@
 pub mod Bonds
 pub mod OutputsOrdered
 pub mod OutputsSpelt
+pub mod OutputsFound
