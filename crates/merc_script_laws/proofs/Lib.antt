@@ -2,3 +2,4 @@ pub mod Bonds
 pub mod OutputsOrdered
 pub mod OutputsSpelt
 pub mod OutputsFound
+pub mod OutputsGraded
