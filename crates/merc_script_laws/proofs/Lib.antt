@@ -3,3 +3,4 @@ pub mod OutputsOrdered
 pub mod OutputsSpelt
 pub mod OutputsFound
 pub mod OutputsGraded
+pub mod OutputsAccepted
