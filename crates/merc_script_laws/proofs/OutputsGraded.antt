@@ -1,5 +1,5 @@
 -- With its categories a goal keeps its outputs.
-use Rattle.std.proofs.Common.{◌≡◌, ◌⊎◌, inl, inr, ℕ, true, false, List, ◌∷◌, ◌++◌, refl, ap, ◌∙◌}
+use Rattle.std.proofs.Common.{◌≡◌, ◌⊎◌, inl, inr, ℕ, false, List, ◌∷◌, ◌++◌, refl, ap, ◌∙◌}
 use Rattle.merc_tree.specs.Types.{TypeExpr}
 use Rattle.merc_tree.specs.declared.declarations.ModeDecl.{ModeDecl}
 use Rattle.merc_tree.specs.declared.declarations.TypeDef.{TypeDef}

@@ -12,12 +12,12 @@ use Rattle.merc_order.specs.CallModes.{taken_from, tested, call_tested}
 use Rattle.merc_order.specs.Faults.{never_ready, binds_outer, unbound_output}
 use Rattle.merc_order.specs.Moves.{Move, Next, next, fault_in, settled, settled_next, beside, each_from}
 use Rattle.merc_order.specs.Order.{outside, binds, arms, decision_arms, binds_inside, agree, outputs, same_from, called_from, simple_from, from, moves}
-use Rattle.merc_order.specs.Ordered.{Ordered, Step, Ordereds, put, Truth, Failure, Assign, Test, Build, Split, Computed, Compared, Raised, Called, Sequence, Beside, Choice, Decision, Denial, Within as Inside, no_goals, more_goals, Outcome, Ready, Stuck, Outcomes, AllReady, OneStuck, if_ready}
+use Rattle.merc_order.specs.Ordered.{Ordered, Step, Ordereds, put, Truth, Failure, Assign, Test, Build, Split, Computed, Compared, Raised, Called, Sequence, Beside, Choice, Decision, Denial, Within as Inside, no_goals, more_goals, Outcome, Ready, Stuck, AllReady, if_ready}
 use Rattle.merc_order.specs.Spelt.{untested_places, written, inputs_in, inputs_at}
 use Rattle.merc_order.specs.Ways.{Removed, here, later}
 use Rattle.merc_order.proofs.MoveLaws.{next_is}
 use Rattle.merc_order_laws.specs.Bindings.{Variables, Binds, ArmBinds}
-use Rattle.merc_order_laws.specs.GoodOrdered.{GoodCall, EachBinds, Good, GoodStep}
+use Rattle.merc_order_laws.specs.GoodOrdered.{GoodCall, EachBinds, GoodStep}
 use Rattle.merc_order_laws.specs.Laws.{Sized, AllSized}
 use Rattle.merc_order_laws.specs.OrderedVariables.{in_ordered, in_step, in_ordereds, ordered_outputs, bound_behind, ends}
 use Rattle.merc_order_laws.proofs.Facts.{clash, or_left, and_left, and_right, or_assoc, among_append, count_append}
@@ -281,8 +281,8 @@ module _ (modes : ℕ → List ModeDecl) where
         lone_keeps s outs (outside total modes (variables_of g)) bound (simple_lone g at bound (outputs total modes bound (variables_of g) (binds total modes (Simple g at))) (put s outs place) h) w.own w.good
 
     -- a goal and what it becomes, where that is told
-    become : (m : Node) (bound : Bound) (g o : Ordered) → from total modes m bound ≡ Ready o → Ready g ≡ Ready o → (from total modes m bound ≡ Ready g → OrderedKeepsOutputs modes g) → OrderedKeepsOutputs modes o
-    become m bound g o h e f = subst (λ (z : Ordered). OrderedKeepsOutputs modes z) (ready_is g o e) (f (h ∙ sym e))
+    become : (m : Node) (bound : Bound) (g o : Ordered) → from total modes m bound ≡ Ready o → g ≡ o → (from total modes m bound ≡ Ready g → OrderedKeepsOutputs modes g) → OrderedKeepsOutputs modes o
+    become m bound g o h e f = subst (λ (z : Ordered). OrderedKeepsOutputs modes z) e (f (h ∙ ap (λ (z : Ordered). Ready z) (sym e)))
 
     decision_keeps : (c t r : Node) (at : Span) → Sized modes (Conditional c t r at) → Counted (variables (Conditional c t r at)) → (bound : Bound) (oc ot oe : Ordered) (outs : List ℕ)
         → from total modes (Conditional c t r at) bound ≡ Ready (put (Decision oc ot oe) outs at) → OrderedKeepsOutputs modes oc → OrderedKeepsOutputs modes ot → OrderedKeepsOutputs modes oe
@@ -301,13 +301,13 @@ module _ (modes : ℕ → List ModeDecl) where
       from_keeps (Conjunction goals at) l n bound o h =
           let outs : List ℕ = outputs total modes bound (all_variables goals) (binds total modes (Conjunction goals at)) in
           let (g, p, q) = if_all_ready_is (settled (length (moves total modes goals)) (moves total modes goals) bound) (λ all. Ready (put (Sequence all) outs at)) o h in
-          become (Conjunction goals at) bound (put (Sequence g) outs at) o h q (λ i.
+          become (Conjunction goals at) bound (put (Sequence g) outs at) o h (ready_is (put (Sequence g) outs at) o q) (λ i.
           let w = whole (Conjunction goals at) l n bound (Sequence g) outs at i in
           (settled_keeps (length (moves total modes goals)) (moves total modes goals) (all_keep goals l n) bound g p, list_has g outs (outside total modes (all_variables goals)) bound w.own w.good.1))
       from_keeps (Parallel goals at) l n bound o h =
           let outs : List ℕ = outputs total modes bound (all_variables goals) (binds total modes (Parallel goals at)) in
           let (g, p, q) = if_all_ready_is (beside 1 (moves total modes goals) bound) (λ all. Ready (put (Beside all) outs at)) o h in
-          become (Parallel goals at) bound (put (Beside g) outs at) o h q (λ i.
+          become (Parallel goals at) bound (put (Beside g) outs at) o h (ready_is (put (Beside g) outs at) o q) (λ i.
           let w = whole (Parallel goals at) l n bound (Beside g) outs at i in
           (beside_keeps (moves total modes goals) (all_keep goals l n) 1 bound g p, list_has g outs (outside total modes (all_variables goals)) bound w.own w.good.1))
       from_keeps (Disjunction goals at) l n bound o h =
@@ -315,7 +315,7 @@ module _ (modes : ℕ → List ModeDecl) where
           let (g, p, q) = if_all_ready_is (each_from (moves total modes goals) bound) (λ all.
           if agree total modes bound (all_variables goals) (arms total modes goals) then Ready (put (Choice all) outs at) else Stuck (unbound_output at)) o h in
           let k = if_is (agree total modes bound (all_variables goals) (arms total modes goals)) (put (Choice g) outs at) o (unbound_output at) q in
-          become (Disjunction goals at) bound (put (Choice g) outs at) o h (ap (λ (z : Ordered). Ready z) k.1) (λ i.
+          become (Disjunction goals at) bound (put (Choice g) outs at) o h k.1 (λ i.
           let w = whole (Disjunction goals at) l n bound (Choice g) outs at i in
           each_has g outs (outside total modes (all_variables goals)) bound (in_ordereds g) w.own w.good.1 (each_keeps (moves total modes goals) (all_keep goals l n) bound g p))
       from_keeps (Conditional c t r at) l n bound o h =
@@ -336,7 +336,7 @@ module _ (modes : ℕ → List ModeDecl) where
           let kc = from_keeps c l.0 (left_counted (variables c) (variables t ++ variables r) n) bound oc p in
           let kt = from_keeps t l.1 (left_counted (variables t) (variables r) rest) (with bound (binds total modes c)) ot p2 in
           let ke = from_keeps r l.2 (right_counted (variables t) (variables r) rest) bound oe p3 in
-          become (Conditional c t r at) bound (put (Decision oc ot oe) outs at) o h (ap (λ (z : Ordered). Ready z) k.1) (λ i. decision_keeps c t r at l n bound oc ot oe outs i kc kt ke)
+          become (Conditional c t r at) bound (put (Decision oc ot oe) outs at) o h k.1 (λ i. decision_keeps c t r at l n bound oc ot oe outs i kc kt ke)
       from_keeps (Negation goal at) l n bound o h =
           let (g, p, q) = if_ready_is (from total modes goal bound) (λ inner. if binds_inside total modes bound (variables goal) (variables goal) (binds total modes goal) then Ready (put (Denial inner) [] at) else Stuck (binds_outer at)) o h in
           let k = if_is (binds_inside total modes bound (variables goal) (variables goal) (binds total modes goal)) (put (Denial g) [] at) o (binds_outer at) q in
@@ -344,7 +344,7 @@ module _ (modes : ℕ → List ModeDecl) where
       from_keeps (Quantified own goal at) l n bound o h =
           let outs : List ℕ = outputs total modes bound (variables goal) (binds total modes (Quantified own goal at)) in
           let (g, p, q) = if_ready_is (from total modes goal bound) (λ inner. Ready (put (Inside own inner) outs at)) o h in
-          become (Quantified own goal at) bound (put (Inside own g) outs at) o h q (λ i.
+          become (Quantified own goal at) bound (put (Inside own g) outs at) o h (ready_is (put (Inside own g) outs at) o q) (λ i.
           let w = whole (Quantified own goal at) l n bound (Inside own g) outs at i in
           (from_keeps goal l n bound g p, gained (outside total modes (variables goal)) bound (in_ordered g) outs (ordered_outputs g) w.own w.good.1))
 
