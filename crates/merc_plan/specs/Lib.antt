@@ -8,3 +8,6 @@ pub mod PlanLists
 pub mod Laws
 pub mod PlaysExamples
 pub mod StandsExamples
+pub mod BranchExamples
+pub mod HoldExamples
+pub mod BranchScriptExamples

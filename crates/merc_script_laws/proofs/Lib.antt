@@ -1,1 +1,6 @@
 pub mod Bonds
+pub mod OutputsOrdered
+pub mod OutputsSpelt
+pub mod OutputsFound
+pub mod OutputsGraded
+pub mod OutputsAccepted
