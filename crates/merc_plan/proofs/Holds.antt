@@ -103,40 +103,45 @@ pub names_of_made : (c k : ℕ) (cs : List NamedCell) → has c (makes k cs) ≡
 names_of_made c k cs h = (picked (λ (one : NamedCell). one.cell) (λ (one : NamedCell). nat_eq one.producer k) (λ x. ⊤) c cs (each_true cs) h).listed
 
 moved_proper : (proper more : ℕ → Value → Type 0) (x : Fork) (k n : ℕ) (rights : ℕ → Bool) (w : List ℕ) (g : List Gift) → SiteFits n rights g w x → ((c : ℕ) (v : Value) → rights c ≡ true → proper c v → more c v)
-  → (c : ℕ) (v : Value) → has c (signals_to k x) ≡ true → kid_proper proper x c v → kid_proper more x c v
+    → (c : ℕ) (v : Value) → has c (signals_to k x) ≡ true → kid_proper proper x c v → kid_proper more x c v
 moved_proper proper more x k n rights w g f s c v r p o = on (in_either c (makes k x.cells) (moved_to k true x.moves) r)
   where
     on : (has c (makes k x.cells) ≡ true) ⊎ (has c (moved_to k true x.moves) ≡ true) → more c v
     on (inl h) = clash (has c (names x.cells)) (names_of_made c k x.cells h) o
     on (inr h) =
-      let m = moved_to_move (MoveGoes n rights g w) k true c x.moves f.moves h in
-      s c v (ap rights (sym m.1.1.0) ∙ (subst (λ (z : Bool). HoldsRight rights g w z m.0.cell) m.1.1.1.1 m.1.0.1.1).0) (p o)
+        let m = moved_to_move (MoveGoes n rights g w) k true c x.moves f.moves h in
+        s c v (ap rights (sym m.1.1.0) ∙ (subst (λ (z : Bool). HoldsRight rights g w z m.0.cell) m.1.1.1.1 m.1.0.1.1).0) (p o)
 
 mutual
   -- more is proper for the cells that a course has the right to signal
   pub keeps_proper : (proper more : ℕ → Value → Type 0) (end : List ℕ → List Gift → Hold → Type 0) (rights : ℕ → Bool) → ((c : ℕ) (v : Value) → rights c ≡ true → proper c v → more c v)
-    → (t : BranchCourse) (w : List ℕ) (g : List Gift) → Keeps proper end rights w g t → Keeps more end rights w g t
+      → (t : BranchCourse) (w : List ℕ) (g : List Gift) → Keeps proper end rights w g t → Keeps more end rights w g t
   keeps_proper proper more end rights s Over w g k = k
   keeps_proper proper more end rights s (Breaks h) w g k = tt
   keeps_proper proper more end rights s (Steps t) w g k = keeps_proper proper more end rights s t w g k
   keeps_proper proper more end rights s (Finds env t) w g k = k
   keeps_proper proper more end rights s (Awaits c v t) w g k = (k.0, keeps_proper proper more end rights s t (without (c ∷ []) w) g k.1)
   keeps_proper proper more end rights s (Gives c v t) w g k =
-    ((s c v k.0.1 k.0.0, k.0.1), (k.1.0, keeps_proper proper more end rights s t w (g ++ (record { cell = c; value = Some v } ∷ [])) k.1.1))
-  keeps_proper proper more end rights s (Forks i x ks t) w g k =
-    (k.0, (all_proper proper more x 1 ks (kid_count ks) rights w g k.0 s k.1.0,
-    λ a. keeps_proper proper more end rights s t (waits_past x w) (g ++ gifts_through (moved true x.moves) (all_give ks)) (k.1.1 a)))
+      ((s c v k.0.1 k.0.0, k.0.1), (k.1.0, keeps_proper proper more end rights s t w (g ++ (record { cell = c; value = Some v } ∷ [])) k.1.1))
+  keeps_proper proper more end rights s (Forks i x ks t) w g k = (
+    k.0,
+    (
+      all_proper proper more x 1 ks (kid_count ks) rights w g k.0 s k.1.0,
+      λ a. keeps_proper proper more end rights s t (waits_past x w) (g ++ gifts_through (moved true x.moves) (all_give ks)) (k.1.1 a),
+    ),
+  )
 
   pub all_proper : (proper more : ℕ → Value → Type 0) (x : Fork) (k : ℕ) (ks : BranchCourses) (n : ℕ) (rights : ℕ → Bool) (w : List ℕ) (g : List Gift) → SiteFits n rights g w x
-    → ((c : ℕ) (v : Value) → rights c ≡ true → proper c v → more c v) → AllKeep proper x k ks → AllKeep more x k ks
+      → ((c : ℕ) (v : Value) → rights c ≡ true → proper c v → more c v) → AllKeep proper x k ks → AllKeep more x k ks
   all_proper proper more x k no_branches n rights w g f s p = tt
-  all_proper proper more x k (more_branches t rest) n rights w g f s p =
-    (keeps_proper (kid_proper proper x) (kid_proper more x) (Whole (λ c. has c (signals_to k x))) (λ c. has c (signals_to k x)) (moved_proper proper more x k n rights w g f s) t (waits_to k x) [] p.0,
-    all_proper proper more x (suc k) rest n rights w g f s p.1)
+  all_proper proper more x k (more_branches t rest) n rights w g f s p = (
+    keeps_proper (kid_proper proper x) (kid_proper more x) (Whole (λ c. has c (signals_to k x))) (λ c. has c (signals_to k x)) (moved_proper proper more x k n rights w g f s) t (waits_to k x) [] p.0,
+    all_proper proper more x (suc k) rest n rights w g f s p.1,
+  )
 
 -- what is proper may be more
 pub keeps_weaker : (proper more : ℕ → Value → Type 0) (end : List ℕ → List Gift → Hold → Type 0) (rights : ℕ → Bool) → ((c : ℕ) (v : Value) → proper c v → more c v)
-  → (t : BranchCourse) (w : List ℕ) (g : List Gift) → Keeps proper end rights w g t → Keeps more end rights w g t
+    → (t : BranchCourse) (w : List ℕ) (g : List Gift) → Keeps proper end rights w g t → Keeps more end rights w g t
 keeps_weaker proper more end rights s t w g k = keeps_proper proper more end rights (λ c v r p. s c v p) t w g k
 
 pub notdone_behind : (t w : Flat Hold) → NotDone (behind t w) → Answers t → NotDone w
