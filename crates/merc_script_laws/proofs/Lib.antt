@@ -6,3 +6,8 @@ pub mod Seen
 pub mod HoldLaw
 pub mod Holding
 pub mod Around
+pub mod OutputsOrdered
+pub mod OutputsSpelt
+pub mod OutputsFound
+pub mod OutputsGraded
+pub mod OutputsAccepted
