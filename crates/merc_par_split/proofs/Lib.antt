@@ -3,3 +3,4 @@ pub mod Erasing
 pub mod Counting
 pub mod Numbering
 pub mod Agreeing
+pub mod PlannedCounts

@@ -3,6 +3,7 @@ pub mod RightsExamples
 pub mod Forks
 pub mod Split
 pub mod Sites
+pub mod SitesExamples
 pub mod Tasks
 pub mod SplitLaws
 pub mod SplitLawsExamples

@@ -1,5 +1,5 @@
 -- What the split tree has of the graded tree.
-use Rattle.std.specs.Prelude.{◌≡◌, ℕ, zero, suc, Bool, true, false, ◌||◌, List, [], ◌∷◌, ◌++◌, Option, Some, None, if◌then◌else◌}
+use Rattle.std.specs.Prelude.{◌≡◌, ℕ, zero, suc, length, Bool, true, false, ◌||◌, List, [], ◌∷◌, ◌++◌, Option, Some, None, if◌then◌else◌}
 use Rattle.std.specs.Option.{option_map}
 use Rattle.merc_graded_tree.specs.declared.basic.BasicGoal.{BasicGoal}
 use Rattle.merc_graded_tree.specs.declared.basic.BasicGoal.TheVariants.{True, Fail, Assign, Test, Build, Split, Arithmetic, Compare, Raise, Call, Wait, Signal}
@@ -12,6 +12,7 @@ use Rattle.merc_meaning.specs.Trace.{Env, Trace}
 use Rattle.merc_meaning.specs.Runs.{Program, ProcedureBody, node_trace, call_trace, run}
 use Rattle.merc_par_split.specs.Forks.{forks}
 use Rattle.merc_par_split.specs.Split.{split}
+use Rattle.merc_par_split.specs.Sites.{sites}
 
 -- whether a goal that holds no others is a wait or a signal
 abbrev pub is_mark : BasicGoal → Bool
@@ -194,3 +195,7 @@ KeepsCalls = (site : ℕ) (tree : Node) → calls_of (split site tree) ≡ calls
 -- Its sites have one number after the other.
 abbrev pub NumbersSites : Type 0
 NumbersSites = (site : ℕ) (tree : Node) → sites_of (split site tree) ≡ sites_from site (forks tree)
+
+-- There is something at each of them, and nothing more.
+abbrev pub PlansSites : Type 0
+PlansSites = (tree : Node) → length (sites tree) ≡ forks tree

@@ -1,5 +1,5 @@
 //! Laws of the split tree.
-ghost use Rattle.merc_par_split.specs.SplitLaws.{ErasesToGraded, KeepsCallTraces, KeepsCalls, KeepsForks, KeepsRuns, KeepsTraces, NumbersSites};
+ghost use Rattle.merc_par_split.specs.SplitLaws.{ErasesToGraded, KeepsCallTraces, KeepsCalls, KeepsForks, KeepsRuns, KeepsTraces, NumbersSites, PlansSites};
 
 /// Without its waits, signals and sites the split tree is the graded one.
 pub fn erases_to_graded()
@@ -19,7 +19,8 @@ pub fn keeps_forks_and_calls()
     ensures calls { KeepsCalls }
 {}
 
-/// The sites of the split tree have one number after the other, in the order of the text.
+/// The sites of the split tree have one number after the other, in the order of the text, and something stands at each.
 pub fn numbers_sites()
-    ensures { NumbersSites }
+    ensures numbers { NumbersSites }
+    ensures plans { PlansSites }
 {}

@@ -5,10 +5,12 @@ mod conjuncts;
 pub mod laws;
 mod members;
 mod occurrences;
+pub mod program;
 mod rights;
 pub mod sites;
 pub mod splitting;
 mod tasks;
 
+pub use program::Split;
 pub use sites::{CellInfo, Moved, SiteInfo};
 pub use splitting::split;

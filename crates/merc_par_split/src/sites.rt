@@ -1,7 +1,9 @@
 //! What stands at the sites of parallel conjunctions.
+ghost use Rattle.std.specs.Prelude.{◌≡◌, IfOk};
 
-use merc_base::Sequence;
+use merc_base::{NoMemory, Sequence};
 use merc_goal_tree::Var;
+use std::alloc::Global;
 
 /// A cell of an `&`: the variable whose value comes through it, the conjunct that binds the variable and signals it, and
 /// the conjunct that waits for it, 0 for the goals behind the `&`. Conjuncts are numbered from 1.
@@ -31,4 +33,17 @@ pub struct SiteInfo {
     pub cells: Sequence<CellInfo>,
     /// Those to signal first.
     pub moves: Sequence<Moved>,
+}
+
+impl SiteInfo {
+    /// A copy. `NoMemory` where memory was refused.
+    pub fn try_clone(&self, alloc: Global) -> Result<SiteInfo, NoMemory>
+        ensures { IfOk result (λ copy. copy ≡ self.now) }
+    {
+        Ok(SiteInfo {
+            children: self.children,
+            cells: self.cells.try_clone(alloc)?,
+            moves: self.moves.try_clone(alloc)?,
+        })
+    }
 }

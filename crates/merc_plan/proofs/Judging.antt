@@ -134,27 +134,32 @@ pub record OwnFits (n next : ℕ) (x : Fork) : Type 0 where
 abbrev pub Whole : (ℕ → Bool) → List ℕ → List Gift → Hold → Type 0
 Whole rights waits given hold = (c : ℕ) → rights c ≡ true → gift_at c given ≢ None
 
--- Up to its first answer, at which `end` holds, a course that cannot fail before it signals and waits with the right alone.
+-- Up to its first answer, at which `end` holds, a course that cannot fail before it signals and waits with the right alone, and gives what is proper for a cell.
 -- A right to wait is gone where a fork names an own cell as its cell, as it is for scripts.
 -- rights: to signal, at the start; given: those that are used up; waits: rights to wait that are left.
 abbrev mutual
-  pub Keeps : (List ℕ → List Gift → Hold → Type 0) → (ℕ → Bool) → List ℕ → List Gift → BranchCourse → Type 0
-  Keeps end rights waits given Over = ⊥
-  Keeps end rights waits given (Breaks h) = ⊤
-  Keeps end rights waits given (Steps t) = Keeps end rights waits given t
-  Keeps end rights waits given (Finds hold t) = end waits given hold
-  Keeps end rights waits given (Awaits c v t) = (has c waits ≡ true) × Keeps end rights (without (c ∷ []) waits) given t
-  Keeps end rights waits given (Gives c v t) =
-    (rights c ≡ true) × ((gift_at c given ≡ None) × Keeps end rights waits (given ++ (record { cell = c; value = Some v } ∷ [])) t)
-  Keeps end rights waits given (Forks i x kids t) =
+  pub Keeps : (ℕ → Value → Type 0) → (List ℕ → List Gift → Hold → Type 0) → (ℕ → Bool) → List ℕ → List Gift → BranchCourse → Type 0
+  Keeps proper end rights waits given Over = ⊥
+  Keeps proper end rights waits given (Breaks h) = ⊤
+  Keeps proper end rights waits given (Steps t) = Keeps proper end rights waits given t
+  Keeps proper end rights waits given (Finds hold t) = end waits given hold
+  Keeps proper end rights waits given (Awaits c v t) = (has c waits ≡ true) × Keeps proper end rights (without (c ∷ []) waits) given t
+  Keeps proper end rights waits given (Gives c v t) =
+    (proper c v × (rights c ≡ true)) × ((gift_at c given ≡ None) × Keeps proper end rights waits (given ++ (record { cell = c; value = Some v } ∷ [])) t)
+  Keeps proper end rights waits given (Forks i x kids t) =
     SiteFits (kid_count kids) rights given waits x
-    × (AllKeep x 1 kids
-    × (AllAnswer kids → Keeps end rights (uses 0 x.cells ++ without (names x.cells) (without (moved false x.moves) waits)) (given ++ gifts_through (moved true x.moves) (all_give kids)) t))
+    × (AllKeep proper x 1 kids
+    × (AllAnswer kids → Keeps proper end rights (uses 0 x.cells ++ without (names x.cells) (without (moved false x.moves) waits)) (given ++ gifts_through (moved true x.moves) (all_give kids)) t))
 
-  pub AllKeep : Fork → ℕ → BranchCourses → Type 0
-  AllKeep x k no_branches = ⊤
-  AllKeep x k (more_branches t more) =
-    Keeps (Whole (λ c. has c (signals_to k x))) (λ c. has c (signals_to k x)) (waits_to k x) [] t × AllKeep x (suc k) more
+  -- A conjunct gives what is proper for the cells of its parent, whose names are told apart from the fork's own.
+  pub AllKeep : (ℕ → Value → Type 0) → Fork → ℕ → BranchCourses → Type 0
+  AllKeep proper x k no_branches = ⊤
+  AllKeep proper x k (more_branches t more) =
+    Keeps (λ c v. has c (names x.cells) ≡ false → proper c v) (Whole (λ c. has c (signals_to k x))) (λ c. has c (signals_to k x)) (waits_to k x) [] t × AllKeep proper x (suc k) more
+
+-- nothing is asked of what is given
+abbrev pub anything : ℕ → Value → Type 0
+anything c v = ⊤
 
 -- A course without use of rights held from before: all its cells are named from next on. pending: own cells to wait for.
 abbrev pub Quiet : ℕ → List ℕ → BranchCourse → Type 0
@@ -165,7 +170,7 @@ Quiet next pending (Finds hold t) = Quiet next [] t
 Quiet next pending (Awaits c v t) = (has c pending ≡ true) × ((next ≤ c) × Quiet next (without (c ∷ []) pending) t)
 Quiet next pending (Gives c v t) = ⊥
 Quiet next pending (Forks i x kids t) =
-  (x.moves ≡ []) × (OwnFits (kid_count kids) next x × (AllKeep x 1 kids × (AllAnswer kids → Quiet next (uses 0 x.cells ++ without (names x.cells) pending) t)))
+  (x.moves ≡ []) × (OwnFits (kid_count kids) next x × (AllKeep anything x 1 kids × (AllAnswer kids → Quiet next (uses 0 x.cells ++ without (names x.cells) pending) t)))
 
 -- Scripts of which cells are told by names.
 

@@ -10,3 +10,14 @@ pub mod Walks
 pub mod Joins
 pub mod Items
 pub mod Depths
+pub mod Gives
+pub mod Forms
+pub mod Givers
+pub mod NumberingLists
+pub mod NumberingCells
+pub mod NumberingSizes
+pub mod Numbering
+pub mod Plays
+pub mod PlaysNodes
+pub mod Standing
+pub mod StandingAt

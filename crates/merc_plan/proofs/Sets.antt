@@ -322,7 +322,7 @@ pub picked : {A : Type 0} (cell : A → ℕ) (test : A → Bool) (P : A → Type
 picked cell test P c [] all h = absurd (cc)
 picked cell test P c (x ∷ xs) all h = pick_on cell test P c x xs (test x) refl all.0 h (λ k. picked cell test P c xs all.1 k)
 
-all_pass : {A : Type 0} (xs : List A) → filter (λ x. true) xs ≡ xs
+pub all_pass : {A : Type 0} (xs : List A) → filter (λ x. true) xs ≡ xs
 all_pass [] = refl
 all_pass (x ∷ xs) = ap (λ l. x ∷ l) (all_pass xs)
 

@@ -4,3 +4,10 @@ pub mod Branches
 pub mod BranchScript
 pub mod Plays
 pub mod Stands
+pub mod PlanLists
+pub mod Laws
+pub mod PlaysExamples
+pub mod StandsExamples
+pub mod BranchExamples
+pub mod HoldExamples
+pub mod BranchScriptExamples

@@ -75,6 +75,7 @@ waits_none here hold = record {
     next = refl;
     names = λ n. n;
     signed = λ x c h. h;
+    still = λ k. refl;
   };
   other = λ x h. refl;
   gone = λ x c o h e. clash h refl;
@@ -85,7 +86,7 @@ waits_none here hold = record {
 
 waits_more : (b : Bound) (here : Set) (r : Right) (w : List Right) (hold hold1 hold2 : Hold) → Waits here (r ∷ []) hold hold1 → Waits (here_or here (r ∷ [])) w hold1 hold2 → AreDistinct (variables_of (r ∷ w)) → Waits here (r ∷ w) hold hold2
 waits_more b here r w hold hold1 hold2 p q d = record {
-  moves = moves_waited b here (r ∷ w) (r ∷ []) w hold hold1 (cons_parts r w) (cons_one r w) (cons_rest r w) (cons_apart r w d) always [] hold2 p.moves q.moves;
+  moves = moves_waited b here (r ∷ w) (r ∷ []) w hold hold1 (cons_parts r w) (cons_one r w) (cons_rest r w) (cons_apart r w d) [] always [] hold2 p.moves q.moves;
   other = λ x h. q.other x (right_other r w x h).1 ∙ p.other x (not_for (r ∷ []) x (λ k. (right_other r w x h).0 (right_only r x k)));
   gone = λ x c o h e. elim (cons_parts r w x h) as (λ _. ⊥) [
     | inl k ↦ p.gone x c o k (q.moves.old x c o e)
@@ -135,28 +136,28 @@ module _ (plan : Plan) (program : Program) (call : Procedure → Hold → Branch
   StillWaits w hold held held1 = (c : ℕ) → has c held ≡ true → ((x : ℕ) (o : Option Value) → are_for w x ≡ true → Owed hold x c o → ⊥) → has c held1 ≡ true
 
   -- waits that are answered or starve
-  pub waits_keeps : (end : List ℕ → List Gift → Hold → Type 0) (rights : ℕ → Bool) (w : List Right) (b : Bound) (here : Set) (hold : Hold) (goals : List Node) (held : List ℕ) (g : List Gift) → Waitable hold → Fit b here w hold
+  pub waits_keeps : (proper : ℕ → Value → Type 0) (end : List ℕ → List Gift → Hold → Type 0) (rights : ℕ → Bool) (w : List Right) (b : Bound) (here : Set) (hold : Hold) (goals : List Node) (held : List ℕ) (g : List Gift) → Waitable hold → Fit b here w hold
       → ((x c : ℕ) (o : Option Value) → are_for w x ≡ true → Owed hold x c o → has c held ≡ true)
-      → ((hold1 : Hold) (held1 : List ℕ) → Waits here w hold hold1 → StillWaits w hold held held1 → Keeps end rights held1 g (in_turn goals hold1))
-      → Keeps end rights held g (waiting w goals hold)
-  waits_keeps end rights [] b here hold goals held g can f i k = k hold held (waits_none here hold) (λ c h n. h)
-  waits_keeps end rights (r ∷ w) b here hold goals held g can f i k =
+      → ((hold1 : Hold) (held1 : List ℕ) → Waits here w hold hold1 → StillWaits w hold held held1 → Keeps proper end rights held1 g (in_turn goals hold1))
+      → Keeps proper end rights held g (waiting w goals hold)
+  waits_keeps proper end rights [] b here hold goals held g can f i k = k hold held (waits_none here hold) (λ c h n. h)
+  waits_keeps proper end rights (r ∷ w) b here hold goals held g can f i k =
       let e = f.owed r.variable (right_first r w) in
       on e.0 e.1.0 e.1.1 (λ one held1 p j l.
-          waits_keeps end rights w b (here_or here (r ∷ [])) one goals held1 g (waitable_on here (r ∷ []) hold one p can)
+          waits_keeps proper end rights w b (here_or here (r ∷ [])) one goals held1 g (waitable_on here (r ∷ []) hold one p can)
           (fit_waited b here (r ∷ w) (r ∷ []) w hold one (cons_parts r w) (cons_one r w) (cons_rest r w) (cons_apart r w f.once) f.once.1 f p.moves) j
           (λ hold2 held2 q m. k hold2 held2 (waits_more b here r w hold one hold2 p q f.once)
               (λ c h n. m c (l c h (λ o y. n r.variable o (right_first r w) y)) (λ y o u v. n y o (right_rest r w y u) (p.moves.old y c o v)))))
     where
       on : (c : ℕ) (o : Option Value) → Owed hold r.variable c o
           → ((one : Hold) (held1 : List ℕ) → Waits here (r ∷ []) hold one → ((y c : ℕ) (o : Option Value) → are_for w y ≡ true → Owed one y c o → has c held1 ≡ true)
-            → ((c : ℕ) → has c held ≡ true → ((o : Option Value) → Owed hold r.variable c o → ⊥) → has c held1 ≡ true) → Keeps end rights held1 g (waiting w goals one))
-          → Keeps end rights held g (waiting (r ∷ w) goals hold)
+            → ((c : ℕ) → has c held ≡ true → ((o : Option Value) → Owed hold r.variable c o → ⊥) → has c held1 ≡ true) → Keeps proper end rights held1 g (waiting w goals one))
+          → Keeps proper end rights held g (waiting (r ∷ w) goals hold)
       on c None e rest_keeps =
-          subst (λ z. Keeps end rights held g z) (sym (step_starves (λ inner. waiting w goals inner) hold r.variable c e)) (i r.variable c None (right_first r w) e, tt)
+          subst (λ z. Keeps proper end rights held g z) (sym (step_starves (λ inner. waiting w goals inner) hold r.variable c e)) (i r.variable c None (right_first r w) e, tt)
       on c (Some v) e rest_keeps =
           let p = taken_waits here r c v hold can e in
-          subst (λ z. Keeps end rights held g z) (sym (step_owed (λ inner. waiting w goals inner) hold r.variable c v e))
+          subst (λ z. Keeps proper end rights held g z) (sym (step_owed (λ inner. waiting w goals inner) hold r.variable c v e))
           (i r.variable c (Some v) (right_first r w) e,
             rest_keeps (taken hold r.variable v) (without (c ∷ []) held) p
             (λ y d o h q.
@@ -291,17 +292,19 @@ module _ (plan : Plan) (program : Program) (call : Procedure → Hold → Branch
         ]
 
   -- signals through cells for which the branch has the right
-  pub signals_keeps : (end : List ℕ → List Gift → Hold → Type 0) (rights : ℕ → Bool) (held : List ℕ) (s : List Right) (hold : Hold) (g : List Gift) → Names hold → AreHere s hold → Counts s hold
+  pub signals_keeps : (proper : ℕ → Value → Type 0) (end : List ℕ → List Gift → Hold → Type 0) (rights : ℕ → Bool) (held : List ℕ) (s : List Right) (hold : Hold) (g : List Gift) → Names hold → AreHere s hold → Counts s hold
+      → ((x c : ℕ) (v : Value) → are_for s x ≡ true → has c (signs x hold) ≡ true → Here hold x v → proper c v)
       → ((x c : ℕ) → are_for s x ≡ true → has c (signs x hold) ≡ true → (rights c ≡ true) × (gift_at c g ≡ None))
-      → ((hold1 : Hold) (g1 : List Gift) → Sent s hold g hold1 g1 → end held g1 hold1) → Keeps end rights held g (sending s hold)
-  signals_keeps end rights held [] hold g names a counts may k =
+      → ((hold1 : Hold) (g1 : List Gift) → Sent s hold g hold1 g1 → end held g1 hold1) → Keeps proper end rights held g (sending s hold)
+  signals_keeps proper end rights held [] hold g names a counts is_proper may k =
       k hold g (record { sends = sends_none hold; gave = λ x c h i. clash h refl; left = λ c n. refl; signed = λ x h. clash h refl; unsigned = λ x h. refl })
-  signals_keeps end rights held (r ∷ s) hold g names a counts may k =
+  signals_keeps proper end rights held (r ∷ s) hold g names a counts is_proper may k =
       let v = a r.variable (right_first r s) in
       let c = used_cell r.variable hold in
       let one = sent hold c in
       let m = may r.variable c (right_first r s) (is_sign r s hold names counts) in
-      subst (λ z. Keeps end rights held g z) (sym (step_sent (λ inner. sending s inner) hold r.variable v.0 v.1))
-      (m.0, (m.1, signals_keeps end rights held s one (g ++ (record { cell = c; value = Some v.0 } ∷ [])) ((sent_sends hold c).names names) (λ x h. a x (right_rest r s x h)) (counts_rest r s hold names counts)
+      subst (λ z. Keeps proper end rights held g z) (sym (step_sent (λ inner. sending s inner) hold r.variable v.0 v.1))
+      ((is_proper r.variable c v.0 (right_first r s) (is_sign r s hold names counts) v.1, m.0), (m.1, signals_keeps proper end rights held s one (g ++ (record { cell = c; value = Some v.0 } ∷ [])) ((sent_sends hold c).names names) (λ x h. a x (right_rest r s x h)) (counts_rest r s hold names counts)
+          (λ x d u h i e. is_proper x d u (right_rest r s x h) (signs_sent x c d hold i).0 e)
           (rest_fresh r s hold names counts v.0 v.1 g m.1 rights may)
           (λ hold1 g1 p. k hold1 g1 (sent_more r s hold names counts v.0 v.1 g m.1 hold1 g1 p))))

@@ -113,8 +113,9 @@ pub record Names (hold : Hold) : Type 0 where
   pub wait_variables : AreDistinct (map (λ (right : HeldWait). right.variable) hold.waits)
   pub valueless : (x c : ℕ) (o : Option Value) (v : Value) → Owed hold x c o → Here hold x v → ⊥
 
--- From before a goal to one of its answers. later: the variables that are used behind the goal on its path.
-pub record Moves (here : Set) (w : List Right) (later : ℕ → Bool) (outs : List ℕ) (hold hold' : Hold) : Type 0 where
+-- From before a goal to one of its answers. later: the variables that are used behind the goal on its path. still: where nothing is signalled the rights to signal
+-- stay.
+pub record Moves (here : Set) (w s : List Right) (later : ℕ → Bool) (outs : List ℕ) (hold hold' : Hold) : Type 0 where
   pub keep : (x : ℕ) (v : Value) → here x → Here hold x v → Here hold' x v
   pub fresh : (x : ℕ) → among outs x ≡ true → (v : Value) × Here hold' x v
   pub got : (x c : ℕ) (o : Option Value) → are_for w x ≡ true → later x ≡ true → Owed hold x c o → (v : Value) × ((o ≡ Some v) × Here hold' x v)
@@ -123,14 +124,15 @@ pub record Moves (here : Set) (w : List Right) (later : ℕ → Bool) (outs : Li
   pub next : hold'.next ≡ hold.next
   pub names : Names hold → Names hold'
   pub signed : (x c : ℕ) → has c (signs x hold') ≡ true → has c (signs x hold) ≡ true
+  pub still : ((x : ℕ) → are_for s x ≡ false) → hold'.signals ≡ hold.signals
 
-abbrev pub Kept : Bound → Env → Env → Type 0
-Kept b full full' = (x : ℕ) (v : Value) → b x ≡ true → value_at full x ≡ Some v → value_at full' x ≡ Some v
+abbrev pub Kept : Env → Env → Type 0
+Kept full full' = (x : ℕ) (v : Value) → value_at full x ≡ Some v → value_at full' x ≡ Some v
 
--- at an answer: what is here is what the trace has, and the trace has kept what was bound
-abbrev pub Ends : Bound → Env → Set → List Right → (ℕ → Bool) → List ℕ → Hold → Hold → Env → Type 0
-Ends b full here w later outs hold hold' full' =
-    Moves here w later outs hold hold' × (((x : ℕ) (v : Value) → Here hold' x v → value_at full' x ≡ Some v) × Kept b full full')
+-- at an answer: what is here is what the trace has, and the trace has kept what it had
+abbrev pub Ends : Env → Set → List Right → List Right → (ℕ → Bool) → List ℕ → Hold → Hold → Env → Type 0
+Ends full here w s later outs hold hold' full' =
+    Moves here w s later outs hold hold' × (((x : ℕ) (v : Value) → Here hold' x v → value_at full' x ≡ Some v) × Kept full full')
 
 -- each variable that a goal uses and that is bound before it is here or waited for
 abbrev pub Ready : Set → List Right → Bound → (ℕ → Bool) → Type 0
@@ -150,7 +152,7 @@ Parts w first second = (x : ℕ) → are_for w x ≡ true → (are_for first x �
 -- Rights used up: w waited for, s signalled. held: the cells for which the branch may wait; g: what it gave. Values are of their types behind it.
 pub record Used (Behind : Hold → Type 0) (never : Type 0) (here : Set) (w s : List Right) (later : ℕ → Bool) (outs : List ℕ) (hold : Hold) (held : List ℕ) (g : List Gift)
     (held' : List ℕ) (g' : List Gift) (hold' : Hold) : Type 0 where
-  pub moves : Moves here w later outs hold hold'
+  pub moves : Moves here w s later outs hold hold'
   pub kept : (c : ℕ) → c < hold.next → has c held ≡ true → ((x : ℕ) (o : Option Value) → are_for w x ≡ true → Owed hold x c o → ⊥) → has c held' ≡ true
   pub gave : (x c : ℕ) → are_for s x ≡ true → has c (signs x hold) ≡ true → (v : Value) × ((gift_at c g' ≡ Some (Some v)) × Here hold' x v)
   pub left : (c : ℕ) → c < hold.next → ((x : ℕ) → are_for s x ≡ true → has c (signs x hold) ≡ true → ⊥) → gift_at c g' ≡ gift_at c g
@@ -179,19 +181,25 @@ module _ (known : Module) (types i : Instance) where
     pub parts : AllByRecursion (IsPart known types i) (basic_goals n)
     pub parallel : IsParallelTree (modes_of known.preds) n
 
+  -- What is given is proper if it is of its variable's type and has the symbol that is known of it behind the goal, where that can answer.
+  abbrev pub Proper : Known → Node → List Right → Hold → (ℕ → Value → Type 0) → Type 0
+  Proper seen n s hold proper = (x c : ℕ) (v : Value) → are_for s x ≡ true → has c (signs x hold) ≡ true → HasType known.types v (replaced i (types x))
+      → ((most_of (category_at n) ≡ Zero → ⊥) → (sy : Symbol) → known_of (known_behind n seen) x ≡ Some sy → (vs : Values) × (fields sy v ≡ Some vs)) → proper c v
+
   -- Given are the program of the graded trees with the traces of its calls, and the plan and the program of the split trees with the courses of its calls.
   module _ (program : Program) (calls : Procedure → Env → Trace) (plan : Plan) (split : Program) (course : Procedure → Hold → BranchCourse) where
     -- What a goal does that is made of another by putting rights into it, where the plan has what is due for these rights: along the trace of the other, up to its
     -- first answer, and where there are no rights.
     pub record Goes (n : Node) (make : (ℕ → Bool) → List Right → List Right → Node) (fits : (ℕ → Bool) → List Right → List Right → Type 0) : Type 1 where
       pub along : (later : ℕ → Bool) (w s : List Right) (out : Variables) (b : Bound) (seen : Known) (here : Set) (hold : Hold) (full : Env) → fits later w s → AllUsed w (in_node n) → Within s (outputs_of n)
-          → Sound out b seen n → Fits known types i out b (in_node n) seen full → Fit b here w hold → Match w hold full → Ready here w b (in_node n) → Names hold
-          → Like (Ends b full here w later (outputs_of n) hold) (flat (node_branch plan split course (make later w s) hold)) (events (node_trace program calls n full))
-          × Sure (node_branch plan split course (make later w s) hold)
-      pub uses : (later : ℕ → Bool) (w s : List Right) (out : Variables) (b : Bound) (seen : Known) (here : Set) (hold : Hold) (rights : ℕ → Bool) (held : List ℕ) (g : List Gift) → fits later w s → AllUsed w (in_node n)
-          → Sound out b seen n → can_fail_of (category_at n) ≡ false → Fine known types i out b (in_node n) seen hold → Fit b here w hold → Ready here w b (in_node n) → Names hold
-          → Rightful w s (outputs_of n) rights held g hold
-          → Keeps (Used (After known types i out b (outputs_of n) (in_node n) seen (known_behind n seen) hold) (most_of (category_at n) ≡ Zero) here w s later (outputs_of n) hold held g) rights held g
+        → Sound out b seen n → Fits known types i out b (in_node n) seen full → Fit b here w hold → Match w hold full → Ready here w b (in_node n) → Names hold
+        → Like (Ends full here w s later (outputs_of n) hold) (flat (node_branch plan split course (make later w s) hold)) (events (node_trace program calls n full))
+        × Sure (node_branch plan split course (make later w s) hold)
+      pub uses : (later : ℕ → Bool) (w s : List Right) (out : Variables) (b : Bound) (seen : Known) (here : Set) (hold : Hold) (rights : ℕ → Bool) (held : List ℕ) (g : List Gift)
+        (proper : ℕ → Value → Type 0) → Proper seen n s hold proper → fits later w s → AllUsed w (in_node n)
+        → Sound out b seen n → can_fail_of (category_at n) ≡ false → Fine known types i out b (in_node n) seen hold → Fit b here w hold → Ready here w b (in_node n) → Names hold
+        → Rightful w s (outputs_of n) rights held g hold
+        → Keeps proper (Used (After known types i out b (outputs_of n) (in_node n) seen (known_behind n seen) hold) (most_of (category_at n) ≡ Zero) here w s later (outputs_of n) hold held g) rights held g
           (node_branch plan split course (make later w s) hold)
       pub quiet : (later : ℕ → Bool) (out : Variables) (b : Bound) (seen : Known) (here : Set) (hold : Hold) → fits later [] [] → Sound out b seen n → Fine known types i out b (in_node n) seen hold → Fit b here [] hold
           → Ready here [] b (in_node n) → Names hold → Quiet hold.next [] (node_branch plan split course (make later [] []) hold)

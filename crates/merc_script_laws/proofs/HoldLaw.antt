@@ -128,12 +128,12 @@ module _ (known : Module) (types i : Instance) where
       -- what holds at each answer of a course that goes as this trace
       abbrev pub Answered : (ℕ → Bool) → Hold → Type 0
       Answered later hold' =
-          Moves here [] later (outputs_of n) hold hold' × (After known types i out b (outputs_of n) (in_node n) seen (known_behind n seen) hold hold' × (most_of (category_at n) ≡ Zero → ⊥))
+          Moves here [] [] later (outputs_of n) hold hold' × (After known types i out b (outputs_of n) (in_node n) seen (known_behind n seen) hold hold' × (most_of (category_at n) ≡ Zero → ⊥))
 
-      pub leaf_answers : (later : ℕ → Bool) (t : Flat Hold) → Like (Ends b hold.env here [] later (outputs_of n) hold) t (events (node_trace program calls n hold.env)) → Each (Answered later) t
+      pub leaf_answers : (later : ℕ → Bool) (t : Flat Hold) → Like (Ends hold.env here [] [] later (outputs_of n) hold) t (events (node_trace program calls n hold.env)) → Each (Answered later) t
       leaf_answers later t like =
           let trace = events (node_trace program calls n hold.env) in
-          let R : Hold → Env → Type 0 = Ends b hold.env here [] later (outputs_of n) hold in
+          let R : Hold → Env → Type 0 = Ends hold.env here [] [] later (outputs_of n) hold in
           let with_goes = like_with R (AfterGoal out b n seen hold.env) t trace like hold_goes in
           let Q : Hold → Env → Type 0 = λ hold' env'. R hold' env' × AfterGoal out b n seen hold.env env' in
           let P : Env → Type 0 = λ env'. most_of (category_at n) ≡ Zero → ⊥ in

@@ -159,7 +159,7 @@ module _ (here : Set) (r : Right) (c : ℕ) (v : Value) (hold : Hold) (can : Wai
     valueless = λ y d o u f h. let k = taken_old y d o f in n.valueless y d o u k.1 (sym (taken_other y k.0) ∙ h);
   }
 
-  taken_moves : Moves here (r ∷ []) always [] hold (taken hold r.variable v)
+  taken_moves : Moves here (r ∷ []) [] always [] hold (taken hold r.variable v)
   taken_moves = record {
     keep = λ y u i h. taken_other y (λ p. can.valueless r.variable c (Some v) u e (subst (λ z. Here hold z u) p h)) ∙ h;
     fresh = λ y h. clash h refl;
@@ -169,6 +169,7 @@ module _ (here : Set) (r : Right) (c : ℕ) (v : Value) (hold : Hold) (can : Wai
     next = refl;
     names = taken_names;
     signed = λ y d h. h;
+    still = λ k. refl;
   } where
     got : (y d : ℕ) (o : Option Value) → r.variable ≡ y → Owed hold y d o → (u : Value) × ((o ≡ Some u) × Here (taken hold r.variable v) y u)
     got y d o p f = (v, (sym (owed_same hold r.variable c d (Some v) o e (subst (λ z. Owed hold z d o) (sym p) f)).1,
@@ -290,8 +291,10 @@ sent_sends hold c = record {
   owed : (x d : ℕ) (o : Option Value) → Owed (sent hold c) x d o → Owed hold x d o
   owed x d o e = record { right = e.right; found = e.found; at = e.at; gives = e.gives }
 
-pub moves_sent : (here : Set) (w : List Right) (later : ℕ → Bool) (outs : List ℕ) (hold hold1 hold2 : Hold) → Moves here w later outs hold hold1 → Sends hold1 hold2 → Moves here w later outs hold hold2
-moves_sent here w later outs hold hold1 hold2 m p = record {
+pub moves_sent : (here : Set) (w s s1 : List Right) (later : ℕ → Bool) (outs : List ℕ) (hold hold1 hold2 : Hold)
+    → (((x : ℕ) → are_for s x ≡ false) → ((x : ℕ) → are_for s1 x ≡ false) × (hold2.signals ≡ hold1.signals)) → Moves here w s1 later outs hold hold1 → Sends hold1 hold2
+    → Moves here w s later outs hold hold2
+moves_sent here w s s1 later outs hold hold1 hold2 none m p = record {
   keep = λ x v i h. at x v (m.keep x v i h);
   fresh = λ x h. let g = m.fresh x h in (g.0, at x g.0 g.1);
   got = λ x c o h l e. let g = m.got x c o h l e in (g.0, (g.1.0, at x g.0 g.1.1));
@@ -300,6 +303,7 @@ moves_sent here w later outs hold hold1 hold2 m p = record {
   next = p.next ∙ m.next;
   names = λ n. p.names (m.names n);
   signed = λ x c h. m.signed x c (p.signed x c h);
+  still = λ k. (none k).1 ∙ m.still (none k).0;
 } where
   at : (x : ℕ) (v : Value) → Here hold1 x v → Here hold2 x v
   at x v h = ap (λ n. value_at n x) p.env ∙ h

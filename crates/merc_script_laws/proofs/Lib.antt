@@ -12,3 +12,8 @@ pub mod CourseAnswers
 pub mod LeafUses
 pub mod Holding
 pub mod Around
+pub mod OutputsOrdered
+pub mod OutputsSpelt
+pub mod OutputsFound
+pub mod OutputsGraded
+pub mod OutputsAccepted

@@ -36,10 +36,11 @@ joins_left b outs x h = or_left (b x) (among outs x) h
 pub joins_right : (b : Bound) (outs : List ℕ) (x : ℕ) → among outs x ≡ true → with b (among outs) x ≡ true
 joins_right b outs x h = or_right (b x) (among outs x) h
 
--- One goal of a conjunction, and the rest of it. uses: what the goal uses; rest_uses: what the rest uses; later: what is used behind the conjunction.
-module _ (uses rest_uses later : ℕ → Bool) (b : Bound) (here : Set) (w : List Right) (outs : List ℕ) (hold hold1 : Hold) where
+-- One goal of a conjunction, and the rest of it. uses: what the goal uses; rest_uses: what the rest uses; later: what is used behind the conjunction. The goal
+-- signals its outputs.
+module _ (uses rest_uses later : ℕ → Bool) (b : Bound) (here : Set) (w s : List Right) (outs : List ℕ) (hold hold1 : Hold) where
   abbrev First : Type 0
-  First = Moves here (those uses w) (or_later later rest_uses) outs hold hold1
+  First = Moves here (those uses w) (those (among outs) s) (or_later later rest_uses) outs hold hold1
 
   abbrev Behind : Set
   Behind = here_behind here (those uses w) (or_later later rest_uses) outs
@@ -71,14 +72,14 @@ module _ (uses rest_uses later : ℕ → Bool) (b : Bound) (here : Set) (w : Lis
   pub match_first : (full : Env) → Match w hold full → Match (those uses w) hold full
   match_first full t = record { same = t.same; comes = λ x c o h e. t.comes x c o (those_in uses w x h).0 e }
 
-  pub match_rest : (full full1 : Env) → Fit b here w hold → Match w hold full → First → ((x : ℕ) (v : Value) → Here hold1 x v → value_at full1 x ≡ Some v) → Kept b full full1
+  pub match_rest : (full full1 : Env) → Fit b here w hold → Match w hold full → First → ((x : ℕ) (v : Value) → Here hold1 x v → value_at full1 x ≡ Some v) → Kept full full1
       → Match (those (unused uses) w) hold1 full1
   match_rest full full1 f t m same kept = record { same = same; comes = comes } where
     comes : (x c : ℕ) (o : Option Value) → are_for (those (unused uses) w) x ≡ true → Owed hold1 x c o → (v : Value) × ((o ≡ Some v) × (value_at full1 x ≡ Some v))
     comes x c o h e =
         let p = m.old x c o e in
         let q = t.comes x c o (those_in (unused uses) w x h).0 p in
-        (q.0, (q.1.0, kept x q.0 (f.known x c o p) q.1.1))
+        (q.0, (q.1.0, kept x q.0 q.1.1))
 
   pub ready_first : Ready here w b (λ x. uses x || rest_uses x) → Ready here (those uses w) b uses
   ready_first r x u p = elim (r x (or_left (uses x) (rest_uses x) u) p) as (λ _. here x ⊎ (are_for (those uses w) x ≡ true)) [ inl h ↦ inl h | inr h ↦ inr (in_those uses w x h u) ]
@@ -97,7 +98,7 @@ module _ (uses rest_uses later : ℕ → Bool) (b : Bound) (here : Set) (w : Lis
     on (inl h) = is_here (r x (or_right (uses x) (rest_uses x) u) h)
     on (inr h) = inl (inr (inl h))
 
-  pub moves_both : (outs2 : List ℕ) (hold2 : Hold) → First → Moves Behind (those (unused uses) w) later outs2 hold1 hold2 → Moves here w later (outs ++ outs2) hold hold2
+  pub moves_both : (outs2 : List ℕ) (hold2 : Hold) → First → Moves Behind (those (unused uses) w) (those (unused (among outs)) s) later outs2 hold1 hold2 → Moves here w s later (outs ++ outs2) hold hold2
   moves_both outs2 hold2 m n = record {
     keep = λ x v h e. n.keep x v (inl h) (m.keep x v h e);
     fresh = fresh;
@@ -107,6 +108,7 @@ module _ (uses rest_uses later : ℕ → Bool) (b : Bound) (here : Set) (w : Lis
     next = n.next ∙ m.next;
     names = λ k. n.names (m.names k);
     signed = λ x c h. m.signed x c (n.signed x c h);
+    still = λ k. n.still (λ x. those_within (unused (among outs)) s x (k x)) ∙ m.still (λ x. those_within (among outs) s x (k x));
   } where
     fresh_on : (x : ℕ) → (among outs x ≡ true) ⊎ (among outs2 x ≡ true) → (v : Value) × Here hold2 x v
     fresh_on x (inl h) = let g = m.fresh x h in (g.0, n.keep x g.0 (inr (inl h)) g.1)
@@ -215,7 +217,7 @@ module _ (known : Module) (types i : Instance) where
 
 -- Waits, and then a goal. What waits do: their variables get the values that are owed, which are owed no more.
 pub record Waits (here : Set) (w : List Right) (hold hold1 : Hold) : Type 0 where
-  pub moves : Moves here w always [] hold hold1
+  pub moves : Moves here w [] always [] hold hold1
   pub other : (x : ℕ) → are_for w x ≡ false → value_at hold1.env x ≡ value_at hold.env x
   pub gone : (x c : ℕ) (o : Option Value) → are_for w x ≡ true → Owed hold1 x c o → ⊥
   pub signals : hold1.signals ≡ hold.signals
@@ -233,7 +235,7 @@ AreApart first second = (x : ℕ) → are_for first x ≡ true → are_for secon
 
 -- w is made of w1, which is waited for, and w2, which goes on
 module _ (b : Bound) (here : Set) (w w1 w2 : List Right) (hold hold1 : Hold) (parts : Parts w w1 w2) (in1 : IsIn w1 w) (in2 : IsIn w2 w) (apart : AreApart w1 w2) where
-  pub fit_waited : AreDistinct (variables_of w2) → Fit b here w hold → Moves here w1 always [] hold hold1 → Fit b (here_or here w1) w2 hold1
+  pub fit_waited : AreDistinct (variables_of w2) → Fit b here w hold → Moves here w1 [] always [] hold hold1 → Fit b (here_or here w1) w2 hold1
   fit_waited d f m = record { held = held; below = below; owed = owed; known = λ x c o e. f.known x c o (m.old x c o e); once = d } where
     held : (x : ℕ) → here_or here w1 x → (v : Value) × Here hold1 x v
     held x (inl h) = ((f.held x h).0, m.keep x (f.held x h).0 h (f.held x h).1)
@@ -270,8 +272,8 @@ module _ (b : Bound) (here : Set) (w w1 w2 : List Right) (hold hold1 : Hold) (pa
     on (inl h) = inl (inl h)
     on (inr h) = second (parts x h)
 
-  pub moves_waited : (later : ℕ → Bool) (outs : List ℕ) (hold2 : Hold) → Moves here w1 always [] hold hold1 → Moves (here_or here w1) w2 later outs hold1 hold2 → Moves here w later outs hold hold2
-  moves_waited later outs hold2 m n = record {
+  pub moves_waited : (s : List Right) (later : ℕ → Bool) (outs : List ℕ) (hold2 : Hold) → Moves here w1 [] always [] hold hold1 → Moves (here_or here w1) w2 s later outs hold1 hold2 → Moves here w s later outs hold hold2
+  moves_waited s later outs hold2 m n = record {
     keep = λ x v h e. n.keep x v (inl h) (m.keep x v h e);
     fresh = n.fresh;
     got = got;
@@ -280,6 +282,7 @@ module _ (b : Bound) (here : Set) (w w1 w2 : List Right) (hold hold1 : Hold) (pa
     next = n.next ∙ m.next;
     names = λ k. n.names (m.names k);
     signed = λ x c h. m.signed x c (n.signed x c h);
+    still = λ k. n.still k ∙ m.still (λ x. refl);
   } where
     got : (x c : ℕ) (o : Option Value) → are_for w x ≡ true → later x ≡ true → Owed hold x c o → (v : Value) × ((o ≡ Some v) × Here hold2 x v)
     got x c o h l e = on (parts x h) where

@@ -14,7 +14,7 @@ use Rattle.merc_script_laws.proofs.Steps.{unused, or_later, moves_both}
 -- uses: what the goal uses; outs: its outputs, to which its signals belong; rest_uses and outs2 are the rest's
 module _ (Behind1 Behind2 Behind : Hold → Type 0) (never1 never2 never : Type 0) (uses rest_uses later : ℕ → Bool) (here : Set) (w s : List Right) (outs outs2 : List ℕ) (hold : Hold) (held : List ℕ) (g : List Gift) where
   abbrev unbound : ℕ → Bool
-  unbound x = not (among outs x)
+  unbound = unused (among outs)
 
   abbrev UsedFirst : List ℕ → List Gift → Hold → Type 0
   UsedFirst held1 g1 hold1 = Used Behind1 never1 here (those uses w) (those (among outs) s) (or_later later rest_uses) outs hold held g held1 g1 hold1
@@ -68,7 +68,7 @@ module _ (Behind1 Behind2 Behind : Hold → Type 0) (never1 never2 never : Type 
     pub used_both : (held2 : List ℕ) (g2 : List Gift) (hold2 : Hold) → (never → never1 ⊎ never2) → (Behind1 hold1 → Behind2 hold2 → Behind hold2) → UsedRest held1 g1 hold1 held2 g2 hold2
         → Used Behind never here w s later (outs ++ outs2) hold held g held2 g2 hold2
     used_both held2 g2 hold2 some behind n = record {
-      moves = moves_both uses rest_uses later (λ x. false) here w outs hold hold1 outs2 hold2 u.moves n.moves;
+      moves = moves_both uses rest_uses later (λ x. false) here w s outs hold hold1 outs2 hold2 u.moves n.moves;
       kept = λ c l h no. n.kept c (low c l) (u.kept c l h (λ x o i e. no x o (those_in uses w x i).0 e)) (λ x o i e. no x o (those_in (unused uses) w x i).0 (u.moves.old x c o e));
       gave = λ x c h k. gave x c h k (either_way (among outs x));
       left = λ c l no.
