@@ -36,17 +36,16 @@ use Rattle.merc_par_split.specs.Split.{nothing}
 use Rattle.merc_plan.specs.Branch.{Hold, BranchCourse, taken_back as c_taken}
 use Rattle.merc_plan.specs.Hold.{holding, with_env}
 use Rattle.merc_plan.specs.Branches.{Plan, called as c_called}
-use Rattle.merc_plan.proofs.Flat.{Flat, Each, Like, taken, events}
+use Rattle.merc_plan.proofs.Flat.{Flat, Like, taken, events}
 use Rattle.merc_plan.proofs.Judging.{flat, Sure, Quiet}
 use Rattle.merc_plan.proofs.Likes.{like_taken}
 use Rattle.merc_plan.proofs.Flats.{flat_taken, sure_taken}
 use Rattle.merc_plan.proofs.Events.{events_taken}
 use Rattle.merc_plan.proofs.Holds.{quiet_taken, quiet_once}
 use Rattle.merc_script_laws.proofs.Bonds.{Set, Here, Fit, Fine, Match, Names, Ends, Ready, Sound}
-use Rattle.merc_script_laws.proofs.CourseAnswers.{at_once, at_taken_any}
 use Rattle.merc_script_laws.proofs.HoldLaw.{hold_fits}
 use Rattle.merc_script_laws.proofs.Leaf.{Leaf, moves_env, wrap}
-use Rattle.merc_script_laws.proofs.BasicLeaves.{read, Under, among_not, leaf_plain}
+use Rattle.merc_script_laws.proofs.BasicLeaves.{read, Under, among_not, not_valued, unset, leaf_plain}
 
 -- the arguments of a body that has answered are here, and the same in the trace
 abbrev pub HeadsAgree : ℕ → Hold → Env → Type 0
@@ -111,6 +110,15 @@ brought_there (Output ∷ places) (a ∷ args) g env k x h =
     brought_there places args (λ y. g (suc y)) (with_entry env a (g zero)) (λ v l. k (suc v) (omega (arith, l))) x
     (entry_there env a (written_by places args) (g zero) x (k zero (omega (arith))) h (same_number x a))
 
+written_in : (places : List Arg) (args : List ℕ) (x : ℕ) → among (written_by places args) x ≡ true → among args x ≡ true
+written_in [] args x h = clash h refl
+written_in (k ∷ places) [] x h = clash h refl
+written_in (Input ∷ places) (a ∷ args) x h = among_there x a args (written_in places args x h)
+written_in (Output ∷ places) (a ∷ args) x h = elim (among_cases x a (written_by places args) h) as (λ _. among (a ∷ args) x ≡ true) [
+  | inl p ↦ ap (among (a ∷ args)) p ∙ among_here a args
+  | inr p ↦ among_there x a args (written_in places args x p)
+]
+
 -- an argument that is not bound is written
 is_written : (b : Bound) (places : List Arg) (args : List ℕ) → length places ≡ length args → AreBound b (inputs_of places args) → (x : ℕ) → among args x ≡ true → b x ≡ false → among (written_by places args) x ≡ true
 is_written b places [] l h x m n = clash m refl
@@ -167,9 +175,9 @@ module _ (known : Module) (types i : Instance) where
     below v l = let e = found.good.0 ∙ many_types known types found.typed.0 args found.declared.args found.typed.1 in omega (arith, l, e)
 
     brings : (here : Set) (hold : Hold) (full : Env) → Fit b here [] hold → Match [] hold full → ((x : ℕ) → among outs x ≡ true → among args x ≡ true) → ((x : ℕ) → among outs x ≡ true → b x ≡ false)
-        → (e : Hold) (q : Env) → HeadsAgree (length found.declared.args) e q
-        → Ends b full here [] nothing outs hold (with_env hold (brought_back places args (value_at e.env) hold.env)) (brought_back places args (value_at q) full)
-    brings here hold full f t within free e q heads = (
+        → ((y : ℕ) → among args y ≡ true → is_some (value_at full y) ≡ b y) → (e : Hold) (q : Env) → HeadsAgree (length found.declared.args) e q
+        → Ends full here [] [] nothing outs hold (with_env hold (brought_back places args (value_at e.env) hold.env)) (brought_back places args (value_at q) full)
+    brings here hold full f t within free k e q heads = (
       moves_env b here nothing outs hold (brought_back places args (value_at e.env) hold.env) f
           (λ x h. brought_other places args (value_at e.env) hold.env x (kept x h))
           (λ x h. some_of (value_at (brought_back places args (value_at e.env) hold.env) x)
@@ -177,16 +185,14 @@ module _ (known : Module) (types i : Instance) where
           (inl (is_written b places args found.good.0 found.good.1 x (within x h) (free x h))))),
       (
         brought_under places args (value_at e.env) (value_at q) hold.env full (λ v l. let w = heads v (below v l) in w.1.0 ∙ sym w.1.1) t.same,
-        λ x v h k. brought_other places args (value_at q) full x (kept x h) ∙ k,
+        λ x v h. brought_other places args (value_at q) full x (not_valued full (written_by places args) not_set x v h) ∙ h,
       ),
     ) where
       kept : (x : ℕ) → b x ≡ true → among (written_by places args) x ≡ false
       kept x h = among_not b (written_by places args) x (free_not b (written_by places args) found.good.2) h
 
-called_silent : (call : Hold → BranchCourse) (o : Option ProcedureBody) (args : List ℕ) (hold : Hold) → Each (λ hold'. hold'.signals ≡ hold.signals) (flat (c_called call o args hold))
-called_silent call None args hold = tt
-called_silent call (Some procedure) args hold =
-    at_taken_any (λ hold'. hold'.signals ≡ hold.signals) (λ inner. with_env hold (brought_back procedure.places args (value_at inner.env) hold.env)) (λ inner. refl) (call (holding (entered procedure.places args hold.env) hold.next))
+      not_set : (x : ℕ) → among (written_by places args) x ≡ true → value_at full x ≡ None
+      not_set x m = unset b (among args) full k x (written_in places args x m) (free_not b (written_by places args) found.good.2 x m)
 
 -- Given is a program whose calls are lawful and go along.
 module _ (known : Module) (types i : Instance) (program : Program) (calls : Procedure → Env → Trace) (lawful : LawfulCalls known program calls) (split_program : Program) (course : Procedure → Hold → BranchCourse)
@@ -206,7 +212,7 @@ module _ (known : Module) (types i : Instance) (program : Program) (calls : Proc
 
     call_alike : (full : Env) → Fit b here [] hold → Match [] hold full → Ready here [] b (among args) → ((x : ℕ) → among outs x ≡ true → among args x ≡ true) → ((x : ℕ) → among outs x ≡ true → b x ≡ false)
         → ((y : ℕ) → among args y ≡ true → is_some (value_at full y) ≡ b y) → EnvTyped known types i full
-        → Like (Ends b full here [] nothing outs hold) (flat (c_called (course p) (split_program p) args hold)) (events (t_called (calls p) (program p) args full)) × Sure (c_called (course p) (split_program p) args hold)
+        → Like (Ends full here [] [] nothing outs hold) (flat (c_called (course p) (split_program p) args hold)) (events (t_called (calls p) (program p) args full)) × Sure (c_called (course p) (split_program p) args hold)
     call_alike full f t r within free k typed =
         subst (λ (o : Option ProcedureBody). Like R (flat (c_called (course p) o args hold)) (events (t_called (calls p) (program p) args full)) × Sure (c_called (course p) o args hold)) (sym goes.there)
         (subst (λ (places : List Arg). Like R (flat (c_taken (back places) (inner_course (entered places args hold.env)))) (events (t_called (calls p) (program p) args full)) × Sure (c_taken (back places) (inner_course (entered places args hold.env)))) (sym goes.places)
@@ -215,12 +221,12 @@ module _ (known : Module) (types i : Instance) (program : Program) (calls : Proc
         (subst (λ (places : List Arg). Like R (flat (c_taken (back mine) (inner_course env1))) (events (t_taken (λ inner. brought_back places args (value_at inner) full) (calls p (entered places args full)))) × Sure (c_taken (back mine) (inner_course env1))) (sym law.places) (
           subst (λ (z : Flat Hold). Like R z (events (t_taken forth (calls p env1)))) (sym (flat_taken (back mine) (inner_course env1) a.1))
               (subst (λ (z : Flat Env). Like R (taken (back mine) (flat (inner_course env1))) z) (sym (events_taken forth (calls p env1)))
-              (like_taken (HeadsAgree (length found.declared.args)) R (back mine) forth (brings known types i out b outs p args found here hold full f t within free) (flat (inner_course env1)) (events (calls p env1)) a.0)),
+              (like_taken (HeadsAgree (length found.declared.args)) R (back mine) forth (brings known types i out b outs p args found here hold full f t within free k) (flat (inner_course env1)) (events (calls p env1)) a.0)),
           sure_taken (back mine) (inner_course env1) a.1,
         )))))
       where
         R : Hold → Env → Type 0
-        R = Ends b full here [] nothing outs hold
+        R = Ends full here [] [] nothing outs hold
 
         mine : List Arg
         mine = found.mode.args
@@ -250,12 +256,11 @@ module _ (known : Module) (types i : Instance) (program : Program) (calls : Proc
       along = λ out b seen here hold full sound fits f t r names.
           let found = found_in known types i out b outs p args (slice_get known.preds p.predicate) refl sound.parts.0.0 sound.good.2 in
           let a = call_alike out b outs p args found here hold full f t r sound.good.0 (free_not b outs sound.good.1) (λ y m. fits.bounds y m) fits.typed in
-          wrap (Ends b full here [] nothing outs hold) (answers_once outs category) (c_called (course p) (split_program p) args hold) (t_called (calls p) (program p) args full) a.0 a.1;
+          wrap (Ends full here [] [] nothing outs hold) (answers_once outs category) (c_called (course p) (split_program p) args hold) (t_called (calls p) (program p) args full) a.0 a.1;
       quiet = λ out b seen here hold sound fine f r names.
           let found = found_in known types i out b outs p args (slice_get known.preds p.predicate) refl sound.parts.0.0 sound.good.2 in
           let fits = hold_fits known types i out b seen (node (Basic (Call p args)) outs category span) here hold fine f r in
           quiet_once hold.next (answers_once outs category) (c_called (course p) (split_program p) args hold) [] (call_quiet out b outs p args found here hold (λ y m. fits.bounds y m) fits.typed);
-      silent = λ out b seen hold sound. at_once (λ hold'. hold'.signals ≡ hold.signals) (answers_once outs category) (c_called (course p) (split_program p) args hold) (called_silent (course p) (split_program p) args hold);
     }
 
     -- every goal that holds no others

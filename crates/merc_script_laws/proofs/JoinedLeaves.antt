@@ -39,7 +39,6 @@ use Rattle.merc_plan.proofs.Events.{events_after, events_negated}
 use Rattle.merc_plan.proofs.Holds.{quiet_after, quiet_negated, quiet_once}
 use Rattle.merc_script_laws.specs.Parallel.{AreWithin, ArmHas, EachKeepsOutputs, AllHaveFew}
 use Rattle.merc_script_laws.proofs.Bonds.{Set, Here, Fit, Fine, Match, Names, Moves, Ends, Ready, Sound, Goes}
-use Rattle.merc_script_laws.proofs.CourseAnswers.{at_after, at_once, at_negated}
 use Rattle.merc_script_laws.proofs.HoldLaw.{each_event}
 use Rattle.merc_script_laws.proofs.Leaf.{Leaf, moves_none, wrap}
 
@@ -48,9 +47,9 @@ use Rattle.merc_script_laws.proofs.Leaf.{Leaf, moves_none, wrap}
 pub ready_less : (here : Set) (w : List Right) (b : Bound) (uses less : ℕ → Bool) → ((x : ℕ) → less x ≡ true → uses x ≡ true) → Ready here w b uses → Ready here w b less
 ready_less here w b uses less i r x u h = r x (i x u) h
 
-pub fewer_outputs : (here : Set) (w : List Right) (later : ℕ → Bool) (outs less : List ℕ) (hold hold' : Hold) → AreWithin less outs → Moves here w later outs hold hold' → Moves here w later less hold hold'
-fewer_outputs here w later outs less hold hold' i m =
-    record { keep = m.keep; fresh = λ x h. m.fresh x (i x h); got = m.got; rest = m.rest; old = m.old; next = m.next; names = m.names; signed = m.signed }
+pub fewer_outputs : (here : Set) (w s : List Right) (later : ℕ → Bool) (outs less : List ℕ) (hold hold' : Hold) → AreWithin less outs → Moves here w s later outs hold hold' → Moves here w s later less hold hold'
+fewer_outputs here w s later outs less hold hold' i m =
+    record { keep = m.keep; fresh = λ x h. m.fresh x (i x h); got = m.got; rest = m.rest; old = m.old; next = m.next; names = m.names; signed = m.signed; still = m.still }
 
 no_first : {A : Type 0} (xs ys : List A) → xs ++ ys ≡ [] → xs ≡ []
 no_first [] ys h = refl
@@ -118,48 +117,43 @@ module _ (known : Module) (types i : Instance) where
 -- Given is a program whose calls are lawful.
 module _ (known : Module) (types i : Instance) (declared : AreGoodTypes known.types) (program : Program) (calls : Procedure → Env → Trace) (lawful : LawfulCalls known program calls) where
   -- a part whose end cannot be reached, or that has all outputs of the whole, answers as the whole does
-  pub arm_answers : (n : Node) (outs : List ℕ) (out : Variables) (b : Bound) (seen : Known) (here : Set) (w : List Right) (later : ℕ → Bool) (hold : Hold) (full : Env) → Sound known types i out b seen n
-      → Fits known types i out b (in_node n) seen full → ArmHas (modes_of known.preds) outs n → (t : Flat Hold) → Like (Ends b full here w later (outputs_of n) hold) t (events (node_trace program calls n full))
-      → Like (Ends b full here w later outs hold) t (events (node_trace program calls n full))
-  arm_answers n outs out b seen here w later hold full sound fits (inl e) t like =
+  pub arm_answers : (n : Node) (outs : List ℕ) (out : Variables) (b : Bound) (seen : Known) (here : Set) (w s : List Right) (later : ℕ → Bool) (hold : Hold) (full : Env) → Sound known types i out b seen n
+      → Fits known types i out b (in_node n) seen full → ArmHas (modes_of known.preds) outs n → (t : Flat Hold) → Like (Ends full here w s later (outputs_of n) hold) t (events (node_trace program calls n full))
+      → Like (Ends full here w s later outs hold) t (events (node_trace program calls n full))
+  arm_answers n outs out b seen here w s later hold full sound fits (inl e) t like =
       let law = node_law known declared program calls lawful types i n out b seen full sound.good sound.graded sound.parts fits in
       let never : Each (λ q. ⊥) (events (node_trace program calls n full))
       = each_event Never (node_trace program calls n full) (law.no_answer (ends_zero known.types (modes_of known.preds) types n seen out b sound.good sound.graded e)) in
-      like_more (λ e q. Ends b full here w later (outputs_of n) hold e q × ⊥) (Ends b full here w later outs hold) (λ e q k. absurd k.1) t (events (node_trace program calls n full))
-      (like_with (Ends b full here w later (outputs_of n) hold) (λ q. ⊥) t (events (node_trace program calls n full)) like never)
-  arm_answers n outs out b seen here w later hold full sound fits (inr h) t like =
-      like_more (Ends b full here w later (outputs_of n) hold) (Ends b full here w later outs hold) (λ e q k. (fewer_outputs here w later (outputs_of n) outs hold e h k.0, k.1)) t (events (node_trace program calls n full)) like
+      like_more (λ e q. Ends full here w s later (outputs_of n) hold e q × ⊥) (Ends full here w s later outs hold) (λ e q k. absurd k.1) t (events (node_trace program calls n full))
+      (like_with (Ends full here w s later (outputs_of n) hold) (λ q. ⊥) t (events (node_trace program calls n full)) like never)
+  arm_answers n outs out b seen here w s later hold full sound fits (inr h) t like =
+      like_more (Ends full here w s later (outputs_of n) hold) (Ends full here w s later outs hold) (λ e q k. (fewer_outputs here w s later (outputs_of n) outs hold e h k.0, k.1)) t (events (node_trace program calls n full)) like
 
   module _ (plan : Plan) (split_program : Program) (course : Procedure → Hold → BranchCourse) where
     -- what the disjuncts of a disjunction do
     pub record EachGoes (ns ms : Nodes) : Type 1 where
       pub along : (out : Variables) (b : Bound) (outs : List ℕ) (seen : Known) (here : Set) (hold : Hold) (full : Env) → SoundEach known types i out b outs seen ns → Fits known types i out b (in_nodes ns) seen full → Fit b here [] hold
           → Match [] hold full → Ready here [] b (in_nodes ns) → Names hold
-          → Like (Ends b full here [] nothing outs hold) (flat (any_branch plan split_program course ms hold)) (events (any_trace program calls ns full)) × Sure (any_branch plan split_program course ms hold)
+          → Like (Ends full here [] [] nothing outs hold) (flat (any_branch plan split_program course ms hold)) (events (any_trace program calls ns full)) × Sure (any_branch plan split_program course ms hold)
       pub quiet : (out : Variables) (b : Bound) (outs : List ℕ) (seen : Known) (here : Set) (hold : Hold) → SoundEach known types i out b outs seen ns → Fine known types i out b (in_nodes ns) seen hold → Fit b here [] hold
           → Ready here [] b (in_nodes ns) → Names hold → Quiet hold.next [] (any_branch plan split_program course ms hold)
-      pub silent : (out : Variables) (b : Bound) (outs : List ℕ) (seen : Known) (hold : Hold) → SoundEach known types i out b outs seen ns → Each (λ hold'. hold'.signals ≡ hold.signals) (flat (any_branch plan split_program course ms hold))
-
-    -- at its answers a goal of the split tree has the rights to signal that it had before
-    abbrev pub Silent : Node → Node → Type 0
-    Silent n m = (out : Variables) (b : Bound) (seen : Known) (hold : Hold) → Sound known types i out b seen n → Each (λ hold'. hold'.signals ≡ hold.signals) (flat (node_branch plan split_program course m hold))
 
     pub each_none : EachGoes no_nodes no_nodes
-    each_none = record { along = λ out b outs seen here hold full sound fits f t r names. (tt, tt); quiet = λ out b outs seen here hold sound fine f r names. tt; silent = λ out b outs seen hold sound. tt }
+    each_none = record { along = λ out b outs seen here hold full sound fits f t r names. (tt, tt); quiet = λ out b outs seen here hold sound fine f r names. tt }
 
     module _ (n : Node) (make : (ℕ → Bool) → List Right → List Right → Node) (fits_in : (ℕ → Bool) → List Right → List Right → Type 0) (first : Goes known types i program calls plan split_program course n make fits_in)
-        (planned : fits_in nothing [] []) (silent_one : Silent n (make nothing [] [])) where
+        (planned : fits_in nothing [] []) where
       abbrev one_course : Hold → BranchCourse
       one_course hold = node_branch plan split_program course (make nothing [] []) hold
 
       first_along : (out : Variables) (b : Bound) (seen : Known) (here : Set) (hold : Hold) (full : Env) → Sound known types i out b seen n → Fits known types i out b (in_node n) seen full → Fit b here [] hold
           → Match [] hold full → Ready here [] b (in_node n) → Names hold
-          → Like (Ends b full here [] nothing (outputs_of n) hold) (flat (one_course hold)) (events (node_trace program calls n full)) × Sure (one_course hold)
+          → Like (Ends full here [] [] nothing (outputs_of n) hold) (flat (one_course hold)) (events (node_trace program calls n full)) × Sure (one_course hold)
       first_along out b seen here hold full sound fits f t r names =
           first.along nothing [] [] out b seen here hold full planned (λ x h. clash h refl) (λ x h. clash h refl) sound fits f t r names
 
       pub each_one : (ns ms : Nodes) → EachGoes ns ms → EachGoes (more_nodes n ns) (more_nodes (make nothing [] []) ms)
-      each_one ns ms rest = record { along = along; quiet = quiet; silent = silent } where
+      each_one ns ms rest = record { along = along; quiet = quiet } where
         in_first : (x : ℕ) → in_node n x ≡ true → in_nodes (more_nodes n ns) x ≡ true
         in_first x h = or_left (in_node n x) (in_nodes ns x) h
 
@@ -171,9 +165,9 @@ module _ (known : Module) (types i : Instance) (declared : AreGoodTypes known.ty
 
         along : (out : Variables) (b : Bound) (outs : List ℕ) (seen : Known) (here : Set) (hold : Hold) (full : Env) → SoundEach known types i out b outs seen (more_nodes n ns)
             → Fits known types i out b (in_nodes (more_nodes n ns)) seen full → Fit b here [] hold → Match [] hold full → Ready here [] b (in_nodes (more_nodes n ns)) → Names hold
-            → Like (Ends b full here [] nothing outs hold) (flat (c_after (one_course hold) (rest_course hold))) (events (any_trace program calls (more_nodes n ns) full)) × Sure (c_after (one_course hold) (rest_course hold))
+            → Like (Ends full here [] [] nothing outs hold) (flat (c_after (one_course hold) (rest_course hold))) (events (any_trace program calls (more_nodes n ns) full)) × Sure (c_after (one_course hold) (rest_course hold))
         along out b outs seen here hold full sound fits f t r names =
-            let R : Hold → Env → Type 0 = Ends b full here [] nothing outs hold in
+            let R : Hold → Env → Type 0 = Ends full here [] [] nothing outs hold in
             let s1 = sound_first known types i out b outs seen n ns sound in
             let fits1 = fits_less known types i out b (in_nodes (more_nodes n ns)) (in_node n) seen full in_first fits in
             let one = first_along out b seen here hold full s1 fits1 f t (ready_less here [] b (in_nodes (more_nodes n ns)) (in_node n) in_first r) names in
@@ -183,7 +177,7 @@ module _ (known : Module) (types i : Instance) (declared : AreGoodTypes known.ty
             let us = any_trace program calls ns full in (
               subst (λ (z : Flat Hold). Like R z (events (t_after u us))) (sym (flat_after (one_course hold) (rest_course hold) one.1))
                   (subst (λ (z : Flat Env). Like R (after (flat (one_course hold)) (flat (rest_course hold))) z) (sym (events_after u us))
-                  (like_after R (flat (one_course hold)) (events u) (flat (rest_course hold)) (events us) (arm_answers n outs out b seen here [] nothing hold full s1 fits1 sound.outputs.0.1 (flat (one_course hold)) one.0) all.0)),
+                  (like_after R (flat (one_course hold)) (events u) (flat (rest_course hold)) (events us) (arm_answers n outs out b seen here [] [] nothing hold full s1 fits1 sound.outputs.0.1 (flat (one_course hold)) one.0) all.0)),
               sure_after (one_course hold) (rest_course hold) one.1 all.1,
             )
 
@@ -196,39 +190,29 @@ module _ (known : Module) (types i : Instance) (declared : AreGoodTypes known.ty
             (rest.quiet out b outs seen here hold (sound_rest known types i out b outs seen n ns sound) (fine_less known types i out b (in_nodes (more_nodes n ns)) (in_nodes ns) seen hold in_rest fine) f
             (ready_less here [] b (in_nodes (more_nodes n ns)) (in_nodes ns) in_rest r) names)
 
-        silent : (out : Variables) (b : Bound) (outs : List ℕ) (seen : Known) (hold : Hold) → SoundEach known types i out b outs seen (more_nodes n ns)
-            → Each (λ hold'. hold'.signals ≡ hold.signals) (flat (c_after (one_course hold) (rest_course hold)))
-        silent out b outs seen hold sound =
-            at_after (λ hold'. hold'.signals ≡ hold.signals) (one_course hold) (rest_course hold) (silent_one out b seen hold (sound_first known types i out b outs seen n ns sound))
-            (rest.silent out b outs seen hold (sound_rest known types i out b outs seen n ns sound))
-
       pub leaf_not : (outs : List ℕ) (category : Option Category) (span : Span) → Leaf known types i program calls plan split_program course (Negation n) (Negation (make nothing [] [])) outs category span
       leaf_not outs category span = record {
         along = λ out b seen here hold full sound fits f t r names.
-            let R : Hold → Env → Type 0 = Ends b full here [] nothing outs hold in
+            let R : Hold → Env → Type 0 = Ends full here [] [] nothing outs hold in
             let one = first_along out b seen here hold full (sound_denied known types i out b seen n outs category span sound) fits f t r names in
             let u = node_trace program calls n full in
             wrap R (answers_once outs category) (c_negated hold (one_course hold)) (t_negated full u)
             (subst (λ (z : Flat Hold). Like R z (events (t_negated full u))) (sym (flat_negated hold (one_course hold) one.1))
             (subst (λ (z : Flat Env). Like R (negated hold (flat (one_course hold))) z) (sym (events_negated full u))
-            (like_negated (Ends b full here [] nothing (outputs_of n) hold) R hold full
-            (moves_none here nothing outs hold (λ x h. clash (sym (ap (λ (os : List ℕ). among os x) sound.parallel.outputs.1) ∙ h) refl), (t.same, λ x v h p. p))
+            (like_negated (Ends full here [] [] nothing (outputs_of n) hold) R hold full
+            (moves_none here nothing outs hold (λ x h. clash (sym (ap (λ (os : List ℕ). among os x) sound.parallel.outputs.1) ∙ h) refl), (t.same, λ x v p. p))
             (flat (one_course hold)) (events u) one.0)))
             (sure_negated hold (one_course hold) one.1);
         quiet = λ out b seen here hold sound fine f r names.
             quiet_once hold.next (answers_once outs category) (c_negated hold (one_course hold)) []
             (quiet_negated hold.next hold (one_course hold) [] (first.quiet nothing out b seen here hold planned (sound_denied known types i out b seen n outs category span sound) fine f r names));
-        silent = λ out b seen hold sound.
-            at_once (λ hold'. hold'.signals ≡ hold.signals) (answers_once outs category) (c_negated hold (one_course hold)) (at_negated (λ hold'. hold'.signals ≡ hold.signals) hold refl (one_course hold));
       }
 
     pub leaf_disj : (ns ms : Nodes) (outs : List ℕ) (category : Option Category) (span : Span) → EachGoes ns ms → Leaf known types i program calls plan split_program course (Disjunction ns) (Disjunction ms) outs category span
     leaf_disj ns ms outs category span all = record {
       along = λ out b seen here hold full sound fits f t r names.
           let a = all.along out b outs seen here hold full (sound_each known types i out b seen ns outs category span sound) fits f t r names in
-          wrap (Ends b full here [] nothing outs hold) (answers_once outs category) (any_branch plan split_program course ms hold) (any_trace program calls ns full) a.0 a.1;
+          wrap (Ends full here [] [] nothing outs hold) (answers_once outs category) (any_branch plan split_program course ms hold) (any_trace program calls ns full) a.0 a.1;
       quiet = λ out b seen here hold sound fine f r names.
           quiet_once hold.next (answers_once outs category) (any_branch plan split_program course ms hold) [] (all.quiet out b outs seen here hold (sound_each known types i out b seen ns outs category span sound) fine f r names);
-      silent = λ out b seen hold sound.
-          at_once (λ hold'. hold'.signals ≡ hold.signals) (answers_once outs category) (any_branch plan split_program course ms hold) (all.silent out b outs seen hold (sound_each known types i out b seen ns outs category span sound));
     }

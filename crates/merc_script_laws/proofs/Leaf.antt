@@ -20,7 +20,7 @@ use Rattle.merc_par_split.specs.Split.{nothing}
 use Rattle.merc_plan.specs.Branch.{HeldWait, Hold, BranchCourse}
 use Rattle.merc_plan.specs.Hold.{with_env}
 use Rattle.merc_plan.specs.Branches.{Plan, once_if as c_once, traced, node_branch}
-use Rattle.merc_plan.proofs.Flat.{Flat, Done, Halts, Tick, Answer, Each, Like, once_if, events}
+use Rattle.merc_plan.proofs.Flat.{Flat, Done, Halts, Tick, Answer, Like, once_if, events}
 use Rattle.merc_plan.proofs.Judging.{flat, Sure, Quiet}
 use Rattle.merc_plan.proofs.Likes.{like_once}
 use Rattle.merc_plan.proofs.Flats.{flat_once, sure_once}
@@ -29,17 +29,14 @@ use Rattle.merc_script_laws.proofs.Bonds.{Set, Here, Owed, Fit, Fine, Match, Nam
 
 -- Given are the program of the graded trees with the traces of its calls, and the plan and the program of the split trees with the courses of its calls.
 module _ (known : Module) (types i : Instance) (program : Program) (calls : Procedure → Env → Trace) (plan : Plan) (split : Program) (course : Procedure → Hold → BranchCourse) where
-  -- what such a goal does, and the goal of the split tree that stands for it: along the trace, with no use of rights from before, and with
-  -- its rights to signal as before
+  -- what such a goal does, and the goal of the split tree that stands for it: along the trace, and with no use of rights from before
   pub record Leaf (g m : Goal) (outs : List ℕ) (category : Option Category) (span : Span) : Type 1 where
     pub along : (out : Variables) (b : Bound) (seen : Known) (here : Set) (hold : Hold) (full : Env) → Sound known types i out b seen (node g outs category span) → Fits known types i out b (in_goal g) seen full
         → Fit b here [] hold → Match [] hold full → Ready here [] b (in_goal g) → Names hold
-        → Like (Ends b full here [] nothing outs hold) (flat (node_branch plan split course (node m outs category span) hold)) (events (node_trace program calls (node g outs category span) full))
+        → Like (Ends full here [] [] nothing outs hold) (flat (node_branch plan split course (node m outs category span) hold)) (events (node_trace program calls (node g outs category span) full))
         × Sure (node_branch plan split course (node m outs category span) hold)
     pub quiet : (out : Variables) (b : Bound) (seen : Known) (here : Set) (hold : Hold) → Sound known types i out b seen (node g outs category span) → Fine known types i out b (in_goal g) seen hold
         → Fit b here [] hold → Ready here [] b (in_goal g) → Names hold → Quiet hold.next [] (node_branch plan split course (node m outs category span) hold)
-    pub silent : (out : Variables) (b : Bound) (seen : Known) (hold : Hold) → Sound known types i out b seen (node g outs category span)
-        → Each (λ hold'. hold'.signals ≡ hold.signals) (flat (node_branch plan split course (node m outs category span) hold))
 
 -- What a goal answers that only gives variables values: its rights stay as they are.
 
@@ -64,7 +61,7 @@ names_env hold e older n = record {
 }
 
 pub moves_env : (b : Bound) (here : Set) (later : ℕ → Bool) (outs : List ℕ) (hold : Hold) (e : Env) → Fit b here [] hold → ((x : ℕ) → b x ≡ true → value_at e x ≡ value_at hold.env x)
-    → ((x : ℕ) → among outs x ≡ true → (v : Value) × (value_at e x ≡ Some v)) → Moves here [] later outs hold (with_env hold e)
+    → ((x : ℕ) → among outs x ≡ true → (v : Value) × (value_at e x ≡ Some v)) → Moves here [] [] later outs hold (with_env hold e)
 moves_env b here later outs hold e f older fresh = record {
   keep = λ x v h p. older x (f.below x h) ∙ p;
   fresh = fresh;
@@ -74,9 +71,10 @@ moves_env b here later outs hold e f older fresh = record {
   next = refl;
   names = λ n. names_env hold e (λ x c o p. older x (f.known x c o p)) n;
   signed = λ x c h. h;
+  still = λ h. refl;
 }
 
-pub moves_none : (here : Set) (later : ℕ → Bool) (outs : List ℕ) (hold : Hold) → ((x : ℕ) → among outs x ≡ true → ⊥) → Moves here [] later outs hold hold
+pub moves_none : (here : Set) (later : ℕ → Bool) (outs : List ℕ) (hold : Hold) → ((x : ℕ) → among outs x ≡ true → ⊥) → Moves here [] [] later outs hold hold
 moves_none here later outs hold none = record {
   keep = λ x v h p. p;
   fresh = λ x h. absurd (none x h);
@@ -86,6 +84,7 @@ moves_none here later outs hold none = record {
   next = refl;
   names = λ n. n;
   signed = λ x c h. h;
+  still = λ h. refl;
 }
 
 -- goals that are entered once at most
@@ -133,10 +132,3 @@ traced_quiet next hold (TraceEnds (TraceRaised text)) = tt
 traced_quiet next hold (TraceEnds TraceTooDeep) = tt
 traced_quiet next hold (TraceTick t) = traced_quiet next hold t
 traced_quiet next hold (TraceAnswer e t) = traced_quiet next hold t
-
-pub traced_silent : (hold : Hold) (t : Trace) → Each (λ hold'. hold'.signals ≡ hold.signals) (flat (traced hold t))
-traced_silent hold (TraceEnds TraceDone) = tt
-traced_silent hold (TraceEnds (TraceRaised text)) = tt
-traced_silent hold (TraceEnds TraceTooDeep) = tt
-traced_silent hold (TraceTick t) = traced_silent hold t
-traced_silent hold (TraceAnswer e t) = (refl, traced_silent hold t)

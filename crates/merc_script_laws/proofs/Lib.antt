@@ -8,7 +8,6 @@ pub mod Leaf
 pub mod BasicLeaves
 pub mod CallLeaves
 pub mod JoinedLeaves
-pub mod CourseAnswers
 pub mod LeafUses
 pub mod Holding
 pub mod Around
