@@ -16,3 +16,4 @@ pub mod OutputsSpelt
 pub mod OutputsFound
 pub mod OutputsGraded
 pub mod OutputsAccepted
+pub mod StaticKnown

@@ -81,13 +81,13 @@ mutual
 
 -- a goal tells nothing of variables that do not occur in it
 
-other_more : (seen : Known) (v x : ℕ) (s : Symbol) → (v ≡ x → ⊥) → known_of ((v, s) ∷ seen) x ≡ known_of seen x
+pub other_more : (seen : Known) (v x : ℕ) (s : Symbol) → (v ≡ x → ⊥) → known_of ((v, s) ∷ seen) x ≡ known_of seen x
 other_more seen v x s h = elim (same_number v x) as (λ _. known_of ((v, s) ∷ seen) x ≡ known_of seen x) [
   | inl p ↦ absurd (h p.1)
   | inr p ↦ chosen_false (Some s) (known_of seen x) p.0
 ]
 
-other_with : (seen : Known) (v x : ℕ) (o : Option Symbol) → (v ≡ x → ⊥) → known_of (with_known v o seen) x ≡ known_of seen x
+pub other_with : (seen : Known) (v x : ℕ) (o : Option Symbol) → (v ≡ x → ⊥) → known_of (with_known v o seen) x ≡ known_of seen x
 other_with seen v x None h = refl
 other_with seen v x (Some s) h = other_more seen v x s h
 
