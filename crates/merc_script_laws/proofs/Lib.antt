@@ -4,3 +4,5 @@ pub mod OutputsSpelt
 pub mod OutputsFound
 pub mod OutputsGraded
 pub mod OutputsAccepted
+pub mod Beside
+pub mod FewWritten
