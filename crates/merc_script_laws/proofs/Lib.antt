@@ -6,3 +6,5 @@ pub mod OutputsGraded
 pub mod OutputsAccepted
 pub mod Beside
 pub mod FewWritten
+pub mod FewForms
+pub mod FewBodies
