@@ -1,5 +1,5 @@
 -- Each parallel conjunction of a goal in flat form has from one to 64 conjuncts, where the goal as it is written is within the limit.
-use Rattle.std.proofs.Common.{◌≡◌, ℕ, suc, ◌+◌, ◌≤◌, max, Bool, List, [], ◌∷◌, ◌++◌, length, Option, Some, None, refl, ap, arith}
+use Rattle.std.proofs.Common.{◌≡◌, ℕ, suc, ◌+◌, ◌≤◌, max, Bool, List, [], ◌∷◌, ◌++◌, length, Option, Some, None, refl, ap, sym, subst, arith}
 use Rattle.std.specs.List.{AllByRecursion}
 use Rattle.merc_base.specs.declared.place.Span.{Span}
 use Rattle.merc_tree.specs.Term.{Term, list_of as terms_of}
@@ -55,17 +55,41 @@ IsNarrow goal = HasSome goal × (widest_parallel goal ≤ most_conjuncts)
 abbrev AreNarrow : WrittenGoals → Type 0
 AreNarrow goals = HaveSome goals × (widest_of_all goals ≤ most_conjuncts)
 
+no_more : (a b c : ℕ) → a ≤ b → b ≤ c → a ≤ c
+no_more a b c less less' = omega (arith, less, less')
+
+max_left : (a b : ℕ) → a ≤ max a b
+max_left a b = omega (arith)
+
+max_right : (a b : ℕ) → b ≤ max a b
+max_right a b = omega (arith)
+
 left_narrow : (a b : ℕ) → max a b ≤ most_conjuncts → a ≤ most_conjuncts
-left_narrow a b narrow = omega (arith, narrow)
+left_narrow a b narrow = no_more a (max a b) most_conjuncts (max_left a b) narrow
 
 right_narrow : (a b : ℕ) → max a b ≤ most_conjuncts → b ≤ most_conjuncts
-right_narrow a b narrow = omega (arith, narrow)
+right_narrow a b narrow = no_more b (max a b) most_conjuncts (max_right a b) narrow
 
 first_narrow : (first : Written) (rest : WrittenGoals) → AreNarrow (more_goals first rest) → IsNarrow first
 first_narrow first rest narrow = (narrow.0.0, left_narrow (widest_parallel first) (widest_of_all rest) narrow.1)
 
 rest_narrow : (first : Written) (rest : WrittenGoals) → AreNarrow (more_goals first rest) → AreNarrow rest
 rest_narrow first rest narrow = (narrow.0.1, right_narrow (widest_parallel first) (widest_of_all rest) narrow.1)
+
+parts_narrow : (condition then_part else_part : Written) (span : Span) → IsNarrow (WrittenConditional condition then_part else_part span) → IsNarrow condition × IsNarrow then_part × IsNarrow else_part
+parts_narrow condition then_part else_part span narrow =
+    let others = right_narrow (widest_parallel condition) (max (widest_parallel then_part) (widest_parallel else_part)) narrow.1 in (
+      (narrow.0.0, left_narrow (widest_parallel condition) (max (widest_parallel then_part) (widest_parallel else_part)) narrow.1),
+      (narrow.0.1, left_narrow (widest_parallel then_part) (widest_parallel else_part) others),
+      (narrow.0.2, right_narrow (widest_parallel then_part) (widest_parallel else_part) others),
+    )
+
+beside_narrow : (goals : WrittenGoals) (span : Span) → IsNarrow (WrittenParallel goals span) → (1 ≤ length (goal_list goals)) × (length (goal_list goals) ≤ most_conjuncts) × AreNarrow goals
+beside_narrow goals span narrow = (
+  narrow.0.0,
+  left_narrow (length (goal_list goals)) (widest_of_all goals) narrow.1,
+  (narrow.0.1, right_narrow (length (goal_list goals)) (widest_of_all goals) narrow.1),
+)
 
 abbrev pub MayBeNarrow : ℕ → Option Term → Type 0
 MayBeNarrow at None = Unit {0}
@@ -76,6 +100,12 @@ module _ (blank : ℕ → Bool) (callee : ℕ → Option ℕ → ℕ → Callee)
   each_count : (scope : List Occurrence) (goals : WrittenGoals) → length (list_of (flat_each blank callee scope goals)) ≡ length (goal_list goals)
   each_count scope no_goals = refl
   each_count scope (more_goals first rest) = ap suc (each_count scope rest)
+
+  as_many : (scope : List Occurrence) (goals : WrittenGoals) → 1 ≤ length (goal_list goals) → 1 ≤ length (list_of (flat_each blank callee scope goals))
+  as_many scope goals one = subst (λ number. 1 ≤ number) (sym (each_count scope goals)) one
+
+  as_most : (scope : List Occurrence) (goals : WrittenGoals) → length (goal_list goals) ≤ most_conjuncts → length (list_of (flat_each blank callee scope goals)) ≤ most_conjuncts
+  as_most scope goals most = subst (λ number. number ≤ most_conjuncts) (sym (each_count scope goals)) most
 
   part_few : (scope : List Occurrence) (goal : Written) → EachFewIn (flat blank callee scope goal) → FewIn (one_goal (written_span goal) (flat blank callee scope goal))
   part_few scope goal few = one_few (written_span goal) (flat blank callee scope goal) few
@@ -91,19 +121,16 @@ module _ (blank : ℕ → Bool) (callee : ℕ → Option ℕ → ℕ → Callee)
     flat_few scope (WrittenConjunction goals span) narrow = flat_all_few (scope ++ introduced blank (WrittenConjunction goals span)) goals narrow
     flat_few scope (WrittenParallel goals span) narrow =
         let known = scope ++ introduced blank (WrittenParallel goals span) in
-        let same = each_count known goals in
-        let wide = narrow.1 in
-        let one = narrow.0.0 in
-        let inner : AreNarrow goals = (narrow.0.1, right_narrow (length (goal_list goals)) (widest_of_all goals) wide) in
-        ((omega (arith, same, one), omega (arith, same, left_narrow (length (goal_list goals)) (widest_of_all goals) wide), flat_each_few known goals inner), tt)
+        let inner = beside_narrow goals span narrow in
+        ((as_many known goals inner.0, as_most known goals inner.1, flat_each_few known goals inner.2), tt)
     flat_few scope (WrittenDisjunction goals span) narrow = (flat_each_few scope goals narrow, tt)
     flat_few scope (WrittenConditional condition then_part else_part span) narrow =
         let region = scope ++ introduced blank (WrittenConditional condition then_part else_part span) in
-        let others = right_narrow (widest_parallel condition) (max (widest_parallel then_part) (widest_parallel else_part)) narrow.1 in
-        let first = part_few region condition (flat_few region condition (narrow.0.0, left_narrow (widest_parallel condition) (max (widest_parallel then_part) (widest_parallel else_part)) narrow.1)) in
-        let second = part_few region then_part (flat_few region then_part (narrow.0.1, left_narrow (widest_parallel then_part) (widest_parallel else_part) others)) in
-        let third = part_few scope else_part (flat_few scope else_part (narrow.0.2, right_narrow (widest_parallel then_part) (widest_parallel else_part) others)) in
-        ((first, second, third), tt)
+        let narrow_parts = parts_narrow condition then_part else_part span narrow in
+        (
+          (part_few region condition (flat_few region condition narrow_parts.0), part_few region then_part (flat_few region then_part narrow_parts.1), part_few scope else_part (flat_few scope else_part narrow_parts.2)),
+          tt,
+        )
     flat_few scope (Negated goal span) narrow = (part_few scope goal (flat_few scope goal narrow), tt)
     flat_few scope (WrittenQuantified variables goal span) narrow =
         let known = introduced blank (WrittenQuantified variables goal span) ++ scope in

@@ -8,3 +8,4 @@ pub mod Beside
 pub mod FewWritten
 pub mod FewForms
 pub mod FewBodies
+pub mod FewOrdered
