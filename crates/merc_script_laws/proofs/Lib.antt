@@ -9,3 +9,6 @@ pub mod FewWritten
 pub mod FewForms
 pub mod FewBodies
 pub mod FewOrdered
+pub mod FewFinished
+pub mod Few
+pub mod AcceptedParallel
