@@ -1,5 +1,5 @@
 -- Each parallel conjunction of an accepted module, and of an accepted goal, has from one to 64 conjuncts.
-use Rattle.std.proofs.Common.{◌≡◌, ℕ, List, [], ◌∷◌, length}
+use Rattle.std.proofs.Common.{ℕ, List, [], ◌∷◌, length}
 use Rattle.std.specs.List.{AllByRecursion}
 use Rattle.merc_tree.specs.Term.{Term}
 use Rattle.merc_tree.specs.declared.declarations.Clause.{Clause}

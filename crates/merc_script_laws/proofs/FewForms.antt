@@ -126,8 +126,7 @@ module _ (blank : ℕ → Bool) (callee : ℕ → Option ℕ → ℕ → Callee)
     flat_few scope (WrittenDisjunction goals span) narrow = (flat_each_few scope goals narrow, tt)
     flat_few scope (WrittenConditional condition then_part else_part span) narrow =
         let region = scope ++ introduced blank (WrittenConditional condition then_part else_part span) in
-        let narrow_parts = parts_narrow condition then_part else_part span narrow in
-        (
+        let narrow_parts = parts_narrow condition then_part else_part span narrow in (
           (part_few region condition (flat_few region condition narrow_parts.0), part_few region then_part (flat_few region then_part narrow_parts.1), part_few scope else_part (flat_few scope else_part narrow_parts.2)),
           tt,
         )

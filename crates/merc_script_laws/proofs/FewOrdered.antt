@@ -8,7 +8,7 @@ use Rattle.merc_goal_tree.specs.declared.goal.SimpleGoal.{SimpleGoal}
 use Rattle.merc_goal_tree.specs.declared.goal.SimpleGoal.TheVariants.{True, Fail, Same, Shape, Arithmetic, Compare, Raise, Call}
 use Rattle.merc_goal_tree.specs.Nodes.{Node, Nodes, Simple, Conjunction, Parallel, Disjunction, Conditional, Negation, Quantified, no_nodes, more_nodes, list_of, span_of}
 use Rattle.merc_goal_tree.specs.Variables.{variables, all_variables}
-use Rattle.merc_graded_tree.specs.Nodes.{Node as OrderedNode, Nodes as OrderedNodes}
+use Rattle.merc_graded_tree.specs.Nodes.{Node as OrderedNode}
 use Rattle.merc_graded_tree.specs.declared.basic.BasicGoal.{BasicGoal}
 use Rattle.merc_order.specs.Bound.{Bound, with, are_bound}
 use Rattle.merc_order.specs.CallModes.{taken_from, tested}
@@ -17,7 +17,7 @@ use Rattle.merc_order.specs.Moves.{Move, Next, behind, if_ready_next, next, sett
 use Rattle.merc_order.specs.Order.{agree, arms, binds, binds_inside, called_from, decision_arms, from, moves, outputs_of, same_from, simple_from}
 use Rattle.merc_order.specs.Ordered.{Ordered, Step, Ordereds, put, Truth, Failure, Assign, Test, Build, Split, Computed, Compared, Raised, Called, Sequence, Beside, Choice, Decision, Denial, Within, no_goals, more_goals, Outcome, Ready, Stuck, Outcomes, AllReady, OneStuck, if_ready, if_all_ready, then_all, and_all}
 use Rattle.merc_order.specs.Procedures.{IsBody, are_bound_behind, body_from, first_fresh, total_of}
-use Rattle.merc_order.specs.Spelt.{all_twins, spelt, spelt_all, tests_of, twins, with_tests}
+use Rattle.merc_order.specs.Spelt.{spelt, spelt_all, tests_of, twins, with_tests}
 use Rattle.merc_par_split.specs.Sites.{count}
 use Rattle.merc_script_laws.specs.Parallel.{most_conjuncts, HasFew, AllHaveFew}
 use Rattle.merc_script_laws.proofs.FewForms.{FewIn, AllFewIn}
@@ -189,7 +189,7 @@ module _ (total : ℕ → ℕ) (modes : ℕ → List ModeDecl) where
         (beside_few 1 (moves total modes goals) (moves_few goals few.2) bound) (λ all same each. parallel_few goals all (outputs_of total modes bound (Parallel goals span)) span few same each)
     from_few (Disjunction goals span) few bound =
         if_all_few (each_from (moves total modes goals) bound) (λ all.
-            if agree total modes bound (all_variables goals) (arms total modes goals) then Ready (put (Choice all) (outputs_of total modes bound (Disjunction goals span)) span) else Stuck (unbound_output span))
+        if agree total modes bound (all_variables goals) (arms total modes goals) then Ready (put (Choice all) (outputs_of total modes bound (Disjunction goals span)) span) else Stuck (unbound_output span))
         (each_few (moves total modes goals) (moves_few goals few) bound)
         (λ all each. unless_few (agree total modes bound (all_variables goals) (arms total modes goals)) (put (Choice all) (outputs_of total modes bound (Disjunction goals span)) span) (unbound_output span) each)
     from_few (Conditional condition then_part else_part span) few bound =
@@ -201,12 +201,12 @@ module _ (total : ℕ → ℕ) (modes : ℕ → List ModeDecl) where
         let thens : Ordered → Outcome = λ first.
         if_ready (from total modes then_part (with bound (binds total modes condition))) (λ second. if_ready (from total modes else_part bound) (λ third. decided first second third)) in
         if_few (from total modes condition bound) (λ first.
-            if binds_inside total modes bound inside (variables condition) (binds total modes condition) then thens first else Stuck (binds_outer (span_of condition)))
+        if binds_inside total modes bound inside (variables condition) (binds total modes condition) then thens first else Stuck (binds_outer (span_of condition)))
         (from_few condition few.0 bound) (λ first one. either_few (binds_inside total modes bound inside (variables condition) (binds total modes condition)) (thens first) (Stuck (binds_outer (span_of condition)))
-            (if_few (from total modes then_part (with bound (binds total modes condition))) (λ second. if_ready (from total modes else_part bound) (λ third. decided first second third))
-            (from_few then_part few.1 (with bound (binds total modes condition))) (λ second two. if_few (from total modes else_part bound) (λ third. decided first second third) (from_few else_part few.2 bound)
-                (λ third three. unless_few (agree total modes bound (variables whole) (decision_arms total modes condition then_part else_part))
-                (put (Decision first second third) (outputs_of total modes bound whole) span) (unbound_output span) (one, two, three)))) tt)
+        (if_few (from total modes then_part (with bound (binds total modes condition))) (λ second. if_ready (from total modes else_part bound) (λ third. decided first second third))
+        (from_few then_part few.1 (with bound (binds total modes condition))) (λ second two. if_few (from total modes else_part bound) (λ third. decided first second third) (from_few else_part few.2 bound)
+        (λ third three. unless_few (agree total modes bound (variables whole) (decision_arms total modes condition then_part else_part))
+        (put (Decision first second third) (outputs_of total modes bound whole) span) (unbound_output span) (one, two, three)))) tt)
     from_few (Negation goal span) few bound =
         if_few (from total modes goal bound) (λ inner. if binds_inside total modes bound (variables goal) (variables goal) (binds total modes goal) then Ready (put (Denial inner) [] span) else Stuck (binds_outer span))
         (from_few goal few bound)

@@ -1,7 +1,7 @@
 -- Each parallel conjunction of a goal as it is written has a conjunct.
-use Rattle.std.proofs.Common.{ℕ, suc, ◌+◌, ◌≤◌, ◌||◌, Bool, true, false, List, length, Option, Some, None, if◌then◌else◌, arith}
+use Rattle.std.proofs.Common.{ℕ, ◌+◌, ◌≤◌, Bool, true, false, List, length, Option, Some, None, if◌then◌else◌, arith}
 use Rattle.merc_base.specs.declared.place.Span.{Span}
-use Rattle.merc_tree.specs.Term.{Term, Terms, Variable, Integer, Text, Application, none, more}
+use Rattle.merc_tree.specs.Term.{Term, Variable, Integer, Text, Application, none, more}
 use Rattle.merc_goals.specs.Entries.{goal_list}
 use Rattle.merc_goals.specs.Written.{Written, WrittenGoals, Truth, Failure, Equal, Compared, Called, Conjunction, Parallel, Disjunction, Conditional, Negated, Quantified, WrongForm, OutsideProfile, no_goals, more_goals, parts, joined, conjuncts, parallel_conjuncts, disjuncts, listed_variables, quantified, nullary, conditional, alternatives, binary, written, arrow_parts, if_then_parts, then_parts}
 
