@@ -135,6 +135,7 @@ abbrev pub Whole : (ℕ → Bool) → List ℕ → List Gift → Hold → Type 0
 Whole rights waits given hold = (c : ℕ) → rights c ≡ true → gift_at c given ≢ None
 
 -- Up to its first answer, at which `end` holds, a course that cannot fail before it signals and waits with the right alone, and gives what is proper for a cell.
+-- A right to wait is gone where a fork names an own cell as its cell, as it is for scripts.
 -- rights: to signal, at the start; given: those that are used up; waits: rights to wait that are left.
 abbrev mutual
   pub Keeps : (ℕ → Value → Type 0) → (List ℕ → List Gift → Hold → Type 0) → (ℕ → Bool) → List ℕ → List Gift → BranchCourse → Type 0
@@ -148,7 +149,7 @@ abbrev mutual
   Keeps proper end rights waits given (Forks i x kids t) =
     SiteFits (kid_count kids) rights given waits x
     × (AllKeep proper x 1 kids
-    × (AllAnswer kids → Keeps proper end rights (uses 0 x.cells ++ without (moved false x.moves) waits) (given ++ gifts_through (moved true x.moves) (all_give kids)) t))
+    × (AllAnswer kids → Keeps proper end rights (uses 0 x.cells ++ without (names x.cells) (without (moved false x.moves) waits)) (given ++ gifts_through (moved true x.moves) (all_give kids)) t))
 
   -- A conjunct gives what is proper for the cells of its parent, whose names are told apart from the fork's own.
   pub AllKeep : (ℕ → Value → Type 0) → Fork → ℕ → BranchCourses → Type 0
@@ -169,7 +170,7 @@ Quiet next pending (Finds hold t) = Quiet next [] t
 Quiet next pending (Awaits c v t) = (has c pending ≡ true) × ((next ≤ c) × Quiet next (without (c ∷ []) pending) t)
 Quiet next pending (Gives c v t) = ⊥
 Quiet next pending (Forks i x kids t) =
-  (x.moves ≡ []) × (OwnFits (kid_count kids) next x × (AllKeep anything x 1 kids × (AllAnswer kids → Quiet next (uses 0 x.cells ++ pending) t)))
+  (x.moves ≡ []) × (OwnFits (kid_count kids) next x × (AllKeep anything x 1 kids × (AllAnswer kids → Quiet next (uses 0 x.cells ++ without (names x.cells) pending) t)))
 
 -- Scripts of which cells are told by names.
 

@@ -1,9 +1,15 @@
 pub mod Flat
 pub mod Judging
+pub mod Sets
+pub mod Holds
+pub mod Serves
 pub mod Walks
 pub mod Joins
 pub mod Items
 pub mod Depths
+pub mod Gives
+pub mod Forms
+pub mod Givers
 pub mod NumberingLists
 pub mod NumberingCells
 pub mod NumberingSizes
