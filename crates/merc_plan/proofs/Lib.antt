@@ -1,5 +1,8 @@
 pub mod Flat
 pub mod Judging
+pub mod Likes
+pub mod Flats
+pub mod Events
 pub mod Sets
 pub mod Holds
 pub mod Serves

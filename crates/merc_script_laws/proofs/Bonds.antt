@@ -67,12 +67,13 @@ Within s outs = (x : ℕ) → are_for s x ≡ true → among outs x ≡ true
 abbrev pub AllUsed : List Right → (ℕ → Bool) → Type 0
 AllUsed w uses = (x : ℕ) → are_for w x ≡ true → uses x ≡ true
 
--- owed: the variables in w are owed, or here; known: what is owed is bound, as the trace has it
+-- owed: each variable in w is owed, since nobody waits without a right; known: what is owed is bound, as the trace has it; once: w has one right for each variable
 pub record Fit (b : Bound) (here : Set) (w : List Right) (hold : Hold) : Type 0 where
   pub held : (x : ℕ) → here x → (v : Value) × Here hold x v
   pub below : (x : ℕ) → here x → b x ≡ true
-  pub owed : (x : ℕ) → are_for w x ≡ true → here x ⊎ ((c : ℕ) × ((o : Option Value) × Owed hold x c o))
+  pub owed : (x : ℕ) → are_for w x ≡ true → (c : ℕ) × ((o : Option Value) × Owed hold x c o)
   pub known : (x c : ℕ) (o : Option Value) → Owed hold x c o → b x ≡ true
+  pub once : AreDistinct (map (λ (right : Right). right.variable) w)
 
 -- the values that are here are of their types and symbols, and so are those that are owed; what occurs in a goal and has a value is bound
 module _ (known : Module) (types i : Instance) where
@@ -83,7 +84,7 @@ module _ (known : Module) (types i : Instance) where
     pub typed_owed : (x c : ℕ) (v : Value) → Owed hold x c (Some v) → HasType known.types v (replaced i (types x))
     pub bound : (x : ℕ) (s : Symbol) → occurs x ≡ true → known_of seen x ≡ Some s → b x ≡ true
     pub knows : (x : ℕ) (s : Symbol) (v : Value) → known_of seen x ≡ Some s → Here hold x v → (vs : Values) × (fields s v ≡ Some vs)
-    pub knows_owed : (x c : ℕ) (s : Symbol) (v : Value) → known_of seen x ≡ Some s → Owed hold x c (Some v) → (vs : Values) × (fields s v ≡ Some vs)
+    pub knows_owed : (x c : ℕ) (s : Symbol) (v : Value) → occurs x ≡ true → known_of seen x ≡ Some s → Owed hold x c (Some v) → (vs : Values) × (fields s v ≡ Some vs)
 
   -- behind a goal with these outputs
   pub record After (out : Variables) (b : Bound) (outs : List ℕ) (occurs : Variables) (seen seen' : Known) (hold hold' : Hold) : Type 0 where
@@ -99,7 +100,7 @@ pub record Match (w : List Right) (hold : Hold) (full : Env) : Type 0 where
   pub same : (x : ℕ) (v : Value) → Here hold x v → value_at full x ≡ Some v
   pub comes : (x c : ℕ) (o : Option Value) → are_for w x ≡ true → Owed hold x c o → (v : Value) × ((o ≡ Some v) × (value_at full x ≡ Some v))
 
--- The names of cells: below next, each with one right.
+-- The names of cells: below next, each with one right. What is owed has no value yet.
 pub record Names (hold : Hold) : Type 0 where
   pub low : (x c : ℕ) → has c (signs x hold) ≡ true → c < hold.next
   pub apart : (x y c : ℕ) → has c (signs x hold) ≡ true → has c (signs y hold) ≡ true → x ≡ y
@@ -110,9 +111,11 @@ pub record Names (hold : Hold) : Type 0 where
   pub cells : AreDistinct (map (λ (right : HeldSignal). right.cell) hold.signals)
   pub wait_cells : AreDistinct (map (λ (right : HeldWait). right.cell) hold.waits)
   pub wait_variables : AreDistinct (map (λ (right : HeldWait). right.variable) hold.waits)
+  pub valueless : (x c : ℕ) (o : Option Value) (v : Value) → Owed hold x c o → Here hold x v → ⊥
 
--- From before a goal to one of its answers. later: the variables that are used behind the goal on its path.
-pub record Moves (here : Set) (w : List Right) (later : ℕ → Bool) (outs : List ℕ) (hold hold' : Hold) : Type 0 where
+-- From before a goal to one of its answers. later: the variables that are used behind the goal on its path. still: where nothing is signalled the rights to signal
+-- stay.
+pub record Moves (here : Set) (w s : List Right) (later : ℕ → Bool) (outs : List ℕ) (hold hold' : Hold) : Type 0 where
   pub keep : (x : ℕ) (v : Value) → here x → Here hold x v → Here hold' x v
   pub fresh : (x : ℕ) → among outs x ≡ true → (v : Value) × Here hold' x v
   pub got : (x c : ℕ) (o : Option Value) → are_for w x ≡ true → later x ≡ true → Owed hold x c o → (v : Value) × ((o ≡ Some v) × Here hold' x v)
@@ -121,14 +124,15 @@ pub record Moves (here : Set) (w : List Right) (later : ℕ → Bool) (outs : Li
   pub next : hold'.next ≡ hold.next
   pub names : Names hold → Names hold'
   pub signed : (x c : ℕ) → has c (signs x hold') ≡ true → has c (signs x hold) ≡ true
+  pub still : ((x : ℕ) → are_for s x ≡ false) → hold'.signals ≡ hold.signals
 
 abbrev pub Kept : Env → Env → Type 0
 Kept full full' = (x : ℕ) (v : Value) → value_at full x ≡ Some v → value_at full' x ≡ Some v
 
 -- at an answer: what is here is what the trace has, and the trace has kept what it had
-abbrev pub Ends : Env → Set → List Right → (ℕ → Bool) → List ℕ → Hold → Hold → Env → Type 0
-Ends full here w later outs hold hold' full' =
-    Moves here w later outs hold hold' × (((x : ℕ) (v : Value) → Here hold' x v → value_at full' x ≡ Some v) × Kept full full')
+abbrev pub Ends : Env → Set → List Right → List Right → (ℕ → Bool) → List ℕ → Hold → Hold → Env → Type 0
+Ends full here w s later outs hold hold' full' =
+    Moves here w s later outs hold hold' × (((x : ℕ) (v : Value) → Here hold' x v → value_at full' x ≡ Some v) × Kept full full')
 
 -- each variable that a goal uses and that is bound before it is here or waited for
 abbrev pub Ready : Set → List Right → Bound → (ℕ → Bool) → Type 0
@@ -148,7 +152,7 @@ Parts w first second = (x : ℕ) → are_for w x ≡ true → (are_for first x �
 -- Rights used up: w waited for, s signalled. held: the cells for which the branch may wait; g: what it gave. Values are of their types behind it.
 pub record Used (Behind : Hold → Type 0) (never : Type 0) (here : Set) (w s : List Right) (later : ℕ → Bool) (outs : List ℕ) (hold : Hold) (held : List ℕ) (g : List Gift)
     (held' : List ℕ) (g' : List Gift) (hold' : Hold) : Type 0 where
-  pub moves : Moves here w later outs hold hold'
+  pub moves : Moves here w s later outs hold hold'
   pub kept : (c : ℕ) → c < hold.next → has c held ≡ true → ((x : ℕ) (o : Option Value) → are_for w x ≡ true → Owed hold x c o → ⊥) → has c held' ≡ true
   pub gave : (x c : ℕ) → are_for s x ≡ true → has c (signs x hold) ≡ true → (v : Value) × ((gift_at c g' ≡ Some (Some v)) × Here hold' x v)
   pub left : (c : ℕ) → c < hold.next → ((x : ℕ) → are_for s x ≡ true → has c (signs x hold) ≡ true → ⊥) → gift_at c g' ≡ gift_at c g
@@ -164,7 +168,6 @@ pub record Rightful (w s : List Right) (outs : List ℕ) (rights : ℕ → Bool)
   pub to_wait : (x c : ℕ) (o : Option Value) → are_for w x ≡ true → Owed hold x c o → has c held ≡ true
   pub within : Within s outs
   pub low : (c : ℕ) → rights c ≡ true → c < hold.next
-  pub once : AreDistinct (map (λ (right : Right). right.variable) w)
 
 -- the plan has these at the sites from a number on
 abbrev pub Planned : Plan → ℕ → List SiteInfo → Type 0
@@ -190,7 +193,7 @@ module _ (known : Module) (types i : Instance) where
     pub record Goes (n : Node) (make : (ℕ → Bool) → List Right → List Right → Node) (fits : (ℕ → Bool) → List Right → List Right → Type 0) : Type 1 where
       pub along : (later : ℕ → Bool) (w s : List Right) (out : Variables) (b : Bound) (seen : Known) (here : Set) (hold : Hold) (full : Env) → fits later w s → AllUsed w (in_node n) → Within s (outputs_of n)
         → Sound out b seen n → Fits known types i out b (in_node n) seen full → Fit b here w hold → Match w hold full → Ready here w b (in_node n) → Names hold
-        → Like (Ends full here w later (outputs_of n) hold) (flat (node_branch plan split course (make later w s) hold)) (events (node_trace program calls n full))
+        → Like (Ends full here w s later (outputs_of n) hold) (flat (node_branch plan split course (make later w s) hold)) (events (node_trace program calls n full))
         × Sure (node_branch plan split course (make later w s) hold)
       pub uses : (later : ℕ → Bool) (w s : List Right) (out : Variables) (b : Bound) (seen : Known) (here : Set) (hold : Hold) (rights : ℕ → Bool) (held : List ℕ) (g : List Gift)
         (proper : ℕ → Value → Type 0) → Proper seen n s hold proper → fits later w s → AllUsed w (in_node n)
@@ -199,6 +202,6 @@ module _ (known : Module) (types i : Instance) where
         → Keeps proper (Used (After known types i out b (outputs_of n) (in_node n) seen (known_behind n seen) hold) (most_of (category_at n) ≡ Zero) here w s later (outputs_of n) hold held g) rights held g
           (node_branch plan split course (make later w s) hold)
       pub quiet : (later : ℕ → Bool) (out : Variables) (b : Bound) (seen : Known) (here : Set) (hold : Hold) → fits later [] [] → Sound out b seen n → Fine known types i out b (in_node n) seen hold → Fit b here [] hold
-        → Ready here [] b (in_node n) → Names hold → Quiet hold.next [] (node_branch plan split course (make later [] []) hold)
+          → Ready here [] b (in_node n) → Names hold → Quiet hold.next [] (node_branch plan split course (make later [] []) hold)
       pub rated : (later : ℕ → Bool) (w s : List Right) → category_of (make later w s) ≡ category_of n
       pub shaped : (later : ℕ → Bool) (w s : List Right) → outputs_of (make later w s) ≡ outputs_of n

@@ -1,4 +1,11 @@
 pub mod Bonds
+pub mod RightLists
+pub mod Steps
+pub mod Using
+pub mod Seen
+pub mod HoldLaw
+pub mod Holding
+pub mod Around
 pub mod OutputsOrdered
 pub mod OutputsSpelt
 pub mod OutputsFound
