@@ -17,3 +17,11 @@ pub mod OutputsFound
 pub mod OutputsGraded
 pub mod OutputsAccepted
 pub mod StaticKnown
+pub mod Beside
+pub mod FewWritten
+pub mod FewForms
+pub mod FewBodies
+pub mod FewOrdered
+pub mod FewFinished
+pub mod Few
+pub mod AcceptedParallel
