@@ -180,9 +180,10 @@ module _ (plan : Plan) (program : Program) (call : Procedure → Hold → Branch
     pub hold1 : Hold
     pub sends : Sends hold hold1
     pub is_flat : flat (sending s hold) ≡ Answer hold1 Done
+    pub still : ((x : ℕ) → are_for s x ≡ false) → hold1.signals ≡ hold.signals
 
   pub signals_flat : (s : List Right) (hold : Hold) → AreHere s hold → Signalled s hold
-  signals_flat [] hold a = record { hold1 = hold; sends = sends_none hold; is_flat = refl }
+  signals_flat [] hold a = record { hold1 = hold; sends = sends_none hold; is_flat = refl; still = λ k. refl }
   signals_flat (r ∷ s) hold a =
       let v = a r.variable (right_first r s) in
       let one = sent hold (used_cell r.variable hold) in
@@ -191,6 +192,7 @@ module _ (plan : Plan) (program : Program) (call : Procedure → Hold → Branch
         hold1 = next.hold1;
         sends = sends_both hold one next.hold1 (sent_sends hold (used_cell r.variable hold)) next.sends;
         is_flat = ap flat (step_sent (λ inner. sending s inner) hold r.variable v.0 v.1) ∙ next.is_flat;
+        still = λ k. clash (right_first r s) (k r.variable);
       }
 
   signal_sure : (f : Hold → BranchCourse) (hold : Hold) (c : ℕ) (o : Option Value) → (Sure (f (sent hold c))) → Sure (each f (first_alone (signalled hold c o)))
@@ -208,6 +210,7 @@ module _ (plan : Plan) (program : Program) (call : Procedure → Hold → Branch
     pub left : (c : ℕ) → ((x : ℕ) → are_for s x ≡ true → has c (signs x hold) ≡ true → ⊥) → gift_at c g1 ≡ gift_at c g
     pub signed : (x : ℕ) → are_for s x ≡ true → signs x hold1 ≡ []
     pub unsigned : (x : ℕ) → are_for s x ≡ false → signs x hold1 ≡ signs x hold
+    pub still : ((x : ℕ) → are_for s x ≡ false) → hold1.signals ≡ hold.signals
 
   -- of each variable as many rights are used as there are
   abbrev pub Counts : List Right → Hold → Type 0
@@ -269,6 +272,7 @@ module _ (plan : Plan) (program : Program) (call : Procedure → Hold → Branch
         left = λ c n. p.left c (λ x h k. n x (right_rest r s x h) (signs_sent x cell c hold k).0) ∙ other_cell c cell (Some v) g (λ q. n r.variable (right_first r s) (subst (λ z. has z (signs r.variable hold) ≡ true) (sym q) is_sign));
         signed = λ x h. signed x h (either_way (are_for s x));
         unsigned = λ x h. let o = right_other r s x h in p.unsigned x o.1 ∙ sent_other x cell hold (not_other x o.0);
+        still = λ k. clash (right_first r s) (k r.variable);
       } where
         gave_here : gift_at cell g1 ≡ Some (Some v)
         gave_here = p.left cell (λ x h k. (signs_sent x cell cell hold k).1 refl) ∙ this_cell cell (Some v) g fresh
@@ -297,7 +301,7 @@ module _ (plan : Plan) (program : Program) (call : Procedure → Hold → Branch
       → ((x c : ℕ) → are_for s x ≡ true → has c (signs x hold) ≡ true → (rights c ≡ true) × (gift_at c g ≡ None))
       → ((hold1 : Hold) (g1 : List Gift) → Sent s hold g hold1 g1 → end held g1 hold1) → Keeps proper end rights held g (sending s hold)
   signals_keeps proper end rights held [] hold g names a counts is_proper may k =
-      k hold g (record { sends = sends_none hold; gave = λ x c h i. clash h refl; left = λ c n. refl; signed = λ x h. clash h refl; unsigned = λ x h. refl })
+      k hold g (record { sends = sends_none hold; gave = λ x c h i. clash h refl; left = λ c n. refl; signed = λ x h. clash h refl; unsigned = λ x h. refl; still = λ k. refl })
   signals_keeps proper end rights held (r ∷ s) hold g names a counts is_proper may k =
       let v = a r.variable (right_first r s) in
       let c = used_cell r.variable hold in

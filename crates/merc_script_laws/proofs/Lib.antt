@@ -11,3 +11,4 @@ pub mod OutputsSpelt
 pub mod OutputsFound
 pub mod OutputsGraded
 pub mod OutputsAccepted
+pub mod Sides
