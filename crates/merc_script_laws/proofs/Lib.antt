@@ -17,3 +17,4 @@ pub mod OutputsFound
 pub mod OutputsGraded
 pub mod OutputsAccepted
 pub mod Sides
+pub mod Runs

@@ -1,12 +1,11 @@
 -- What a placed goal does, from what the goal between its waits and its signals does.
-use Rattle.std.proofs.Common.{◌≡◌, ◌⊎◌, inl, inr, ℕ, zero, suc, ◌<◌, Bool, true, false, ◌==◌, List, [], ◌∷◌, ◌++◌, length, map, filter, Option, Some, None, refl, ap, sym, subst, ◌∙◌}
+use Rattle.std.proofs.Common.{◌≡◌, ◌⊎◌, inl, inr, ℕ, ◌<◌, Bool, true, false, ◌==◌, List, [], ◌∷◌, length, map, filter, Option, Some, None, refl, ap, sym, subst, ◌∙◌}
 use Rattle.merc_base.specs.declared.category.Category.{Category}
 use Rattle.merc_base.specs.declared.place.Span.{Span}
-use Rattle.merc_tree.specs.Types.{TypeExpr, replaced}
 use Rattle.merc_tree.specs.declared.declarations.Module.{Module}
 use Rattle.merc_graded_tree.specs.declared.basic.Procedure.{Procedure}
 use Rattle.merc_graded_tree.specs.Nodes.{Node, node, Goal}
-use Rattle.merc_order.specs.Bound.{Bound, among}
+use Rattle.merc_order.specs.Bound.{Bound}
 use Rattle.merc_grading.specs.Known.{Known}
 use Rattle.merc_order_laws.specs.Bindings.{Variables}
 use Rattle.merc_order_laws.proofs.Facts.{clash}
@@ -26,11 +25,11 @@ use Rattle.merc_plan.proofs.Judging.{flat, Sure, Keeps}
 use Rattle.merc_plan.proofs.Likes.{like_each, like_once, like_more, each_all, each_answer}
 use Rattle.merc_plan.proofs.Flats.{flat_each, sure_each, flat_once, sure_once}
 use Rattle.merc_plan.proofs.Holds.{keeps_each, keeps_once, keeps_end}
-use Rattle.merc_script_laws.proofs.Bonds.{Set, Here, Owed, signs, rights_for, Within, AllUsed, Fit, After, Match, Names, Moves, Ends, here_or, Parts, Used, Rightful}
+use Rattle.merc_script_laws.proofs.Bonds.{Set, Here, signs, rights_for, Within, AllUsed, Fit, After, Match, Names, Moves, Ends, here_or, Parts, Used, Rightful}
 use Rattle.merc_script_laws.proofs.RightLists.{variables_of, not_not, not_for, those_in, those_parts}
 use Rattle.merc_script_laws.proofs.Steps.{always, unused, Waits, IsIn, AreApart, not_in_more, moves_waited, after_waited, after_same}
 use Rattle.merc_script_laws.proofs.Holding.{Waitable, waitable, Sends, sends_none, moves_sent}
-use Rattle.merc_script_laws.proofs.Around.{waits_none, in_turn, waiting, sending, Waited, waits_flat, StillWaits, waits_keeps, AreHere, Signalled, signals_flat, signals_sure, Counts, Sent, signals_keeps}
+use Rattle.merc_script_laws.proofs.Around.{waits_none, in_turn, waiting, sending, waits_flat, StillWaits, waits_keeps, AreHere, signals_flat, signals_sure, Counts, Sent, signals_keeps}
 
 -- rights in two parts, which have no variable in common
 pub record Divides (w w1 w2 : List Right) : Type 0 where
@@ -91,8 +90,8 @@ module _ (plan : Plan) (program : Program) (call : Procedure → Hold → Branch
       moves_inside hold1 e e1 m n p still =
           moves_sent here w s s2 later outs hold e e1 (λ k. (none_of s s2 sd.in2 k, still (none_of s s1 sd.in1 k)))
           (moves_waited_by m n) p where
-        moves_waited_by : Moves here w1 [] always [] hold hold1 → Moves (here_or here w1) w2 s2 later outs hold1 e → Moves here w s2 later outs hold e
-        moves_waited_by m n = moves_waited (λ x. false) here w w1 w2 hold hold1 wd.parts wd.in1 wd.in2 wd.apart s2 later outs e m n
+            moves_waited_by : Moves here w1 [] always [] hold hold1 → Moves (here_or here w1) w2 s2 later outs hold1 e → Moves here w s2 later outs hold e
+            moves_waited_by m n = moves_waited (λ x. false) here w w1 w2 hold hold1 wd.parts wd.in1 wd.in2 wd.apart s2 later outs e m n
 
       ends_inside : (full : Env) (hold1 e e1 : Hold) (f : Env) → Moves here w1 [] always [] hold hold1 → Sends e e1 → (((x : ℕ) → are_for s1 x ≡ false) → e1.signals ≡ e.signals) → Inside full hold1 e f → Answers full e1 f
       ends_inside full hold1 e e1 f m p still k = (moves_inside hold1 e e1 m k.0 p still, ((λ x v h. k.1.0 x v (sym (ap (λ n. value_at n x) p.env) ∙ h)), k.1.1))
@@ -114,6 +113,7 @@ module _ (plan : Plan) (program : Program) (call : Procedure → Hold → Branch
       ) where
         all_sure : Each (λ e. Sure (sending plan program call span s1 e)) (flat (course hold1))
         all_sure = each_all (λ e. Sure (sending plan program call span s1 e)) (λ e. signals_sure plan program call span s1 e) (flat (course hold1))
+
         one : (e : Hold) (f : Env) → Inside full hold1 e f → Like (Answers full) (flat (sending plan program call span s1 e)) (Answer f Done)
         one e f k =
             let g = signals_flat plan program call span s1 e (λ x h. k.0.fresh x (within x (sd.in1 x h))) in
@@ -198,11 +198,13 @@ module _ (plan : Plan) (program : Program) (call : Procedure → Hold → Branch
           } where
             at : (x : ℕ) (v : Value) → Here e x v → Here e1 x v
             at x v h = ap (λ n. value_at n x) z.sends.env ∙ h
+
             gave : (x c : ℕ) → (are_for s1 x ≡ true) ⊎ (are_for s2 x ≡ true) → has c (signs x hold) ≡ true → (v : Value) × ((gift_at c g3 ≡ Some (Some v)) × Here e1 x v)
             gave x c (inl h) k = let v = z.gave x c h (subst (λ m. has c m ≡ true) (sym (signs_first x h)) k) in (v.0, (v.1.0, at x v.0 v.1.1))
             gave x c (inr h) k =
                 let v = u.gave x c h (subst (λ m. has c m ≡ true) (sym (signs_before hold1 p x)) k) in
                 (v.0, (z.left c (λ y j l. not_inside y c j (signs_back y c l) x h (subst (λ m. has c m ≡ true) (sym (signs_before hold1 p x)) k)) ∙ v.1.0, at x v.0 v.1.1))
+
             signed : (x : ℕ) → (are_for s1 x ≡ true) ⊎ (are_for s2 x ≡ true) → signs x e1 ≡ []
             signed x (inl h) = z.signed x h
             signed x (inr h) = z.unsigned x (not_for s1 x (λ k. sd.apart x k h)) ∙ u.signed x h
@@ -212,8 +214,8 @@ module _ (plan : Plan) (program : Program) (call : Procedure → Hold → Branch
         with_signals hold1 held1 p still k =
             keeps_each proper Result rights (Within1 hold1 held1) (λ e. sending plan program call span s1 e)
             (λ held2 g2 e u. signals_keeps plan program call span proper Result rights held2 s1 e g2 (u.moves.names (p.moves.names names)) (are_here hold1 held1 p still held2 g2 e u) (counts hold1 held1 p still held2 g2 e u)
-                (λ x c v h j l. is_proper x c v e (sd.in1 x h) (signs_back hold1 held1 p still held2 g2 e u x c j) l (behind hold1 held1 p still held2 g2 e u) u.reached)
-                (may hold1 held1 p still held2 g2 e u) (λ e1 g3 z. results hold1 held1 p still held2 g2 e u e1 g3 z))
+            (λ x c v h j l. is_proper x c v e (sd.in1 x h) (signs_back hold1 held1 p still held2 g2 e u x c j) l (behind hold1 held1 p still held2 g2 e u) u.reached)
+            (may hold1 held1 p still held2 g2 e u) (λ e1 g3 z. results hold1 held1 p still held2 g2 e u e1 g3 z))
             (course hold1) held1 g k
 
         pub around_uses : ((hold1 : Hold) (held1 : List ℕ) → Waits here w1 hold hold1 → StillWaits plan program call span w1 hold held held1 → Keeps proper (Within1 hold1 held1) rights held1 g (course hold1))
@@ -224,8 +226,8 @@ module _ (plan : Plan) (program : Program) (call : Procedure → Hold → Branch
             keeps_end proper Result (Within1 hold held) rights
             (λ held2 g2 e u. results hold held p still held2 g2 e u e g2 (subst (λ y. Sent plan program call span y e g2 e g2) n (sent_none e g2)))
             (course hold) held g (goes hold held p still) where
-          sent_none : (e : Hold) (g2 : List Gift) → Sent plan program call span [] e g2 e g2
-          sent_none e g2 = record { sends = sends_none e; gave = λ x c h k. clash h refl; left = λ c k. refl; signed = λ x h. clash h refl; unsigned = λ x h. refl; still = λ k. refl }
+              sent_none : (e : Hold) (g2 : List Gift) → Sent plan program call span [] e g2 e g2
+              sent_none e g2 = record { sends = sends_none e; gave = λ x c h k. clash h refl; left = λ c k. refl; signed = λ x h. clash h refl; unsigned = λ x h. refl; still = λ k. refl }
         around_uses goes [] (r ∷ z) m n =
             let p = subst (λ y. Waits here y hold hold) m (waits_none here hold) in
             let still : StillWaits plan program call span w1 hold held held = λ c h k. h in
@@ -237,6 +239,6 @@ module _ (plan : Plan) (program : Program) (call : Procedure → Hold → Branch
             (subst (λ y. Fit b here y hold) (sym m) (fit_less b here w w1 hold wd.in1 d f))
             (λ x c o h e. q.to_wait x c o (wd.in1 x (subst (λ y. are_for y x ≡ true) m h)) e)
             (λ hold1 held1 p still.
-                let p1 = subst (λ y. Waits here y hold hold1) m p in
-                let still1 = subst (λ y. StillWaits plan program call span y hold held held1) m still in
-                subst (λ y. Keeps proper Result rights held1 g (then_signals y hold1)) (sym n) (with_signals hold1 held1 p1 still1 (goes hold1 held1 p1 still1))))
+            let p1 = subst (λ y. Waits here y hold hold1) m p in
+            let still1 = subst (λ y. StillWaits plan program call span y hold held held1) m still in
+            subst (λ y. Keeps proper Result rights held1 g (then_signals y hold1)) (sym n) (with_signals hold1 held1 p1 still1 (goes hold1 held1 p1 still1))))
