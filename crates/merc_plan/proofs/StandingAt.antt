@@ -18,7 +18,7 @@ use Rattle.merc_course.specs.Course.{GoalCourse, RunCourse, Meets, AtWait, AtFor
 use Rattle.merc_course.specs.Courses.{node_course, call_course, course}
 use Rattle.merc_plan.specs.Branch.{BranchCourse, BranchCourses, closed, names}
 use Rattle.merc_plan.specs.Hold.{holding}
-use Rattle.merc_plan.specs.Branches.{Plan, root_branch}
+use Rattle.merc_plan.specs.Branches.{first_name, Plan, root_branch}
 use Rattle.merc_plan.specs.BranchScript.{signalled, all_signalled, going, script, scripts, with_numbers, renamed_cell, renamed_move, width, numbered, all_numbered, all_width, no_numbers, root_script}
 use Rattle.merc_plan.specs.Plays.{Plays, ends_done, ends_raised, ends_deep, steps, finds, waits as plays_waits, starves, hands, forks, PlayAll, play_none, play_more}
 use Rattle.merc_plan.specs.Stands.{Stands, done, raised, limited, ticks, answers, waits as stands_waits, starves as stands_starves, hands as stands_hands, goes_on, ends_there, StandAll, stand_none, stand_more}
@@ -230,5 +230,5 @@ pub root_stands : (plan : Plan) (program : Program) (goal : Node) (limit : ℕ) 
 root_stands plan program goal limit w f =
     let values : (ℕ → Option Value) = value_in (cells_of (root_script plan program goal limit)) in
     let formed : WellFormed (root_script plan program goal limit) = numbered_formed (script true limit 0 [] (root_branch plan program (suc limit) goal)) f in
-    stands values (node_course program (call_course program (suc limit)) goal []) (root_branch plan program (suc limit) goal) (node_plays plan program (suc limit) goal (holding [] 0))
+    stands values (node_course program (call_course program (suc limit)) goal []) (root_branch plan program (suc limit) goal) (node_plays plan program (suc limit) goal (holding [] first_name))
     (λ c. None) no_numbers [] [] (nothing-held values) 0 limit 0 [] w f (distinct_have (cells_of (root_script plan program goal limit)) formed.distinct)

@@ -150,6 +150,10 @@ abbrev pub call_branch : Plan → Program → ℕ → Procedure → Hold → Bra
 call_branch plan program zero procedure hold = Breaks TooDeep
 call_branch plan program (suc depth) procedure hold = Steps (body_branch plan program (call_branch plan program depth) (program procedure) hold)
 
+-- Names of cells begin at 1; what waits or signals without a right names 0.
+abbrev pub first_name : ℕ
+first_name = 1
+
 -- the course of a goal that is asked, which holds nothing, up to this depth of calls
 abbrev pub root_branch : Plan → Program → ℕ → Node → BranchCourse
-root_branch plan program depth goal = node_branch plan program (call_branch plan program depth) goal (holding [] 0)
+root_branch plan program depth goal = node_branch plan program (call_branch plan program depth) goal (holding [] first_name)

@@ -73,25 +73,25 @@ plan site = slice_get (info ∷ []) site
 abbrev pub program : Program
 program procedure = None
 
--- The course of the branch: X has the cell 0 and Y the cell 1, and each conjunct has used its rights where it has answered.
+-- The course of the branch: X has the cell 1 and Y the cell 2, and each conjunct has used its rights where it has answered.
 
 abbrev pub fork : Fork
-fork = record { cells = record { cell = 0; variable = 0; producer = 1; consumer = 2 } ∷ record { cell = 1; variable = 1; producer = 2; consumer = 0 } ∷ []; moves = [] }
+fork = record { cells = record { cell = 1; variable = 0; producer = 1; consumer = 2 } ∷ record { cell = 2; variable = 1; producer = 2; consumer = 0 } ∷ []; moves = [] }
 
 abbrev first_branch : BranchCourse
-first_branch = Gives 0 one (Finds (holding (int 1 ∷ []) 2) Over)
+first_branch = Gives 1 one (Finds (holding (int 1 ∷ []) 3) Over)
 
 abbrev second_branch : BranchCourse
-second_branch = Awaits 0 (Some one) (Gives 1 one (Finds (holding (int 1 ∷ int 1 ∷ []) 2) Over))
+second_branch = Awaits 1 (Some one) (Gives 2 one (Finds (holding (int 1 ∷ int 1 ∷ []) 3) Over))
 
 abbrev pub both_branch : BranchCourse
-both_branch = Forks 0 fork (more_branches first_branch (more_branches second_branch no_branches)) (Awaits 1 (Some one) (Finds (holding (None ∷ int 1 ∷ []) 0) Over))
+both_branch = Forks 0 fork (more_branches first_branch (more_branches second_branch no_branches)) (Awaits 2 (Some one) (Finds (holding (None ∷ int 1 ∷ []) 1) Over))
 
 branch-example : root_branch plan program 3 both ≡ both_branch
 branch-example = refl
 
 -- without a right to wait there is no value
-branch-starves : node_branch plan program (call_branch plan program 3) second (holding [] 0) ≡ Awaits 0 None (Breaks Starving)
+branch-starves : node_branch plan program (call_branch plan program 3) second (holding [] 1) ≡ Awaits 0 None (Breaks Starving)
 branch-starves = refl
 
 branch-not : root_branch plan program 3 both ≡ Forks 0 fork no_branches Over → ⊥
@@ -109,14 +109,14 @@ abbrev pub both_course : GoalCourse
 both_course = node_course program (call_course program 3) both []
 
 first-plays : Plays (signalling 0 one (one_answer (int 1 ∷ []))) first_branch
-first-plays = hands 0 0 one _ _ _ (finds (holding (int 1 ∷ []) 2) _ _ ends_done)
+first-plays = hands 0 1 one _ _ _ (finds (holding (int 1 ∷ []) 3) _ _ ends_done)
 
 both-plays : Plays both_course both_branch
 both-plays =
     forks 0 fork _ _ _ _
-    (play_more _ _ first_branch _ (hands 0 0 one _ _ _ ends_done)
-    (play_more _ _ second_branch _ (waits 0 0 one _ _ _ (hands 1 1 one _ _ _ ends_done)) play_none))
-    (λ steps. waits 1 1 one _ _ _ (finds (holding (None ∷ int 1 ∷ []) 0) _ _ ends_done))
+    (play_more _ _ first_branch _ (hands 0 1 one _ _ _ ends_done)
+    (play_more _ _ second_branch _ (waits 0 1 one _ _ _ (hands 1 2 one _ _ _ ends_done)) play_none))
+    (λ steps. waits 1 2 one _ _ _ (finds (holding (None ∷ int 1 ∷ []) 1) _ _ ends_done))
 
 -- to a branch that waits without a value belongs what waits, whatever it would do
 starves-plays : Plays (waiting 0 (λ reply. Tick (Ends Done))) (Awaits 0 None (Breaks Starving))

@@ -17,13 +17,13 @@ both_script x y =
     ForkThen 3 (record { cell = x; producer = 1; consumer = 2; value = Some one } ∷ record { cell = y; producer = 2; consumer = 0; value = Some one } ∷ []) []
     (Child (SignalThen x (Ends (Fine 0))) (Child (WaitThen x (SignalThen y (Ends (Fine 0)))) NoChild)) (WaitThen y (Ends (Fine 0)))
 
-script-example : script true 3 0 [] both_branch ≡ both_script 0 1
+script-example : script true 3 0 [] both_branch ≡ both_script 1 2
 script-example = refl
 
-numbered-example : numbered no_numbers 5 (both_script 0 1) ≡ both_script 5 6
+numbered-example : numbered no_numbers 5 (both_script 1 2) ≡ both_script 5 6
 numbered-example = refl
 
-numbered-not : numbered no_numbers 5 (both_script 0 1) ≡ both_script 0 1 → ⊥
+numbered-not : numbered no_numbers 5 (both_script 1 2) ≡ both_script 1 2 → ⊥
 numbered-not keeps_names = cc
 
 root-example : root_script plan program both 3 ≡ both_script 0 1

@@ -18,3 +18,11 @@ pub mod OutputsGraded
 pub mod OutputsAccepted
 pub mod Sides
 pub mod Runs
+pub mod Beside
+pub mod FewWritten
+pub mod FewForms
+pub mod FewBodies
+pub mod FewOrdered
+pub mod FewFinished
+pub mod Few
+pub mod AcceptedParallel
