@@ -17,6 +17,8 @@ pub mod OutputsFound
 pub mod OutputsGraded
 pub mod OutputsAccepted
 pub mod StaticKnown
+pub mod Sides
+pub mod Runs
 pub mod Beside
 pub mod FewWritten
 pub mod FewForms

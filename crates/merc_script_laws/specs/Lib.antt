@@ -1,1 +1,2 @@
 pub mod Parallel
+pub mod ScriptLaws
