@@ -27,3 +27,5 @@ pub mod FewOrdered
 pub mod FewFinished
 pub mod Few
 pub mod AcceptedParallel
+pub mod Stays
+pub mod Placing
