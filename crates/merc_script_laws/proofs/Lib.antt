@@ -29,3 +29,4 @@ pub mod Few
 pub mod AcceptedParallel
 pub mod Stays
 pub mod Placing
+pub mod Arms
