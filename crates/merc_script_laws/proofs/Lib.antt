@@ -30,3 +30,4 @@ pub mod AcceptedParallel
 pub mod Stays
 pub mod Placing
 pub mod Arms
+pub mod InTurn
