@@ -31,3 +31,4 @@ pub mod Stays
 pub mod Placing
 pub mod Arms
 pub mod InTurn
+pub mod Turns
