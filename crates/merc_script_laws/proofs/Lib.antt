@@ -32,3 +32,5 @@ pub mod Placing
 pub mod Arms
 pub mod InTurn
 pub mod Turns
+pub mod Ways
+pub mod SwitchArms
