@@ -34,3 +34,4 @@ pub mod InTurn
 pub mod Turns
 pub mod Ways
 pub mod SwitchArms
+pub mod Switches
