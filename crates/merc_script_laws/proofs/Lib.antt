@@ -35,3 +35,4 @@ pub mod Turns
 pub mod Ways
 pub mod SwitchArms
 pub mod Switches
+pub mod Conditions
