@@ -36,3 +36,4 @@ pub mod Ways
 pub mod SwitchArms
 pub mod Switches
 pub mod Conditions
+pub mod Conditionals
