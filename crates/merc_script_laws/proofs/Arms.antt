@@ -1,5 +1,5 @@
 -- Arms: goals with the waits for what they use, and at their end those for what is used behind the whole alone.
-use Rattle.std.proofs.Common.{◌≡◌, ◌⊎◌, inl, inr, ℕ, ◌<◌, ◌==◌, Bool, true, false, not, ◌&&◌, List, [], ◌∷◌, ◌++◌, length, map, Option, Some, None, refl, ap, sym, subst, ◌∙◌}
+use Rattle.std.proofs.Common.{◌≡◌, ◌⊎◌, inl, inr, ℕ, ◌==◌, Bool, true, false, not, ◌&&◌, List, [], ◌∷◌, length, map, Option, Some, refl, ap, sym, subst, ◌∙◌}
 use Rattle.std.specs.List.{filter}
 use Rattle.std.proofs.lemmas.List.{append-nil}
 use Rattle.merc_base.specs.Category.{can_fail_of, most_of}
@@ -7,11 +7,10 @@ use Rattle.merc_base.specs.declared.category.Most.TheVariants.{Zero}
 use Rattle.merc_base.specs.declared.place.Span.{Span}
 use Rattle.merc_tree.specs.Types.{replaced}
 use Rattle.merc_tree.specs.declared.declarations.Module.{Module}
-use Rattle.merc_goal_tree.specs.declared.goal.Symbol.{Symbol}
 use Rattle.merc_graded_tree.specs.declared.basic.Procedure.{Procedure}
 use Rattle.merc_graded_tree.specs.Nodes.{Node, outputs_of, category_of, span_of}
 use Rattle.merc_graded_tree.specs.Variables.{in_node}
-use Rattle.merc_grading.specs.Known.{Known, known_of, known_behind}
+use Rattle.merc_grading.specs.Known.{Known, known_behind}
 use Rattle.merc_grading.specs.Grading.{category_at}
 use Rattle.merc_order.specs.Bound.{Bound, with, among}
 use Rattle.merc_order.specs.Procedures.{modes_of}
@@ -24,24 +23,24 @@ use Rattle.merc_meaning.specs.Steps.{value_at}
 use Rattle.merc_meaning.specs.Runs.{Program, answers_once, node_trace}
 use Rattle.merc_program_laws.specs.ValueTypes.{HasType}
 use Rattle.merc_program_laws.specs.GoodPrograms.{AreGoodTypes}
-use Rattle.merc_program_laws.proofs.Values.{Instance, same_some}
+use Rattle.merc_program_laws.proofs.Values.{Instance}
 use Rattle.merc_program_laws.proofs.Lawful.{Fits}
 use Rattle.merc_program_laws.proofs.Calls.{LawfulCalls}
 use Rattle.merc_program_laws.proofs.Graded.{ends_zero}
 use Rattle.merc_core.specs.Rights.{has}
 use Rattle.merc_par_split.specs.Rights.{Right, those, used_in, passed_by, bound_in, wait_at, ahead_of}
 use Rattle.merc_par_split.specs.Sites.{are_for}
-use Rattle.merc_plan.specs.Branch.{HeldSignal, Hold, Gift, gift_at, BranchCourse, each as c_each}
+use Rattle.merc_plan.specs.Branch.{HeldSignal, Hold, Gift, BranchCourse, each as c_each}
 use Rattle.merc_plan.specs.Branches.{Plan, once_if as c_once, node_branch}
 use Rattle.merc_plan.proofs.Flat.{Flat, Done, Answer, Each, Like, each, once_if, events}
-use Rattle.merc_plan.proofs.Judging.{flat, Sure, Keeps, Quiet}
+use Rattle.merc_plan.proofs.Judging.{flat, Sure, Keeps}
 use Rattle.merc_plan.proofs.Likes.{like_each, like_once, like_more, like_answers, each_more, each_answer}
 use Rattle.merc_plan.proofs.Flats.{flat_each, sure_each, flat_once, sure_once}
 use Rattle.merc_plan.proofs.Holds.{keeps_each, keeps_once, keeps_end}
 use Rattle.merc_script_laws.specs.Parallel.{ArmHas}
-use Rattle.merc_script_laws.proofs.Bonds.{Set, Here, Owed, signs, Within, AllUsed, Fit, Fine, After, Match, Names, Moves, Kept, Ends, Ready, here_behind, Used, Rightful, Sound, Proper, Goes}
-use Rattle.merc_script_laws.proofs.RightLists.{not_not, is_not, those_in, in_those, not_those, those_within, those_once, not_for, for_those}
-use Rattle.merc_script_laws.proofs.Steps.{always, Waits, IsIn, joins_left, joins_right, match_waited, moves_closed}
+use Rattle.merc_script_laws.proofs.Bonds.{Set, Here, Owed, signs, AllUsed, Fit, Fine, After, Match, Names, Moves, Kept, Ends, Ready, here_behind, Used, Rightful, Sound, Proper, Goes}
+use Rattle.merc_script_laws.proofs.RightLists.{not_not, those_in, in_those, not_those, those_within, those_once, not_for, for_those}
+use Rattle.merc_script_laws.proofs.Steps.{Waits, IsIn, joins_left, joins_right, match_waited, moves_closed}
 use Rattle.merc_script_laws.proofs.Holding.{waitable}
 use Rattle.merc_script_laws.proofs.Around.{waits_none, in_turn, waiting, Waited, waits_flat, StillWaits, waits_keeps}
 use Rattle.merc_script_laws.proofs.Sides.{divides_first, fit_less, match_less}
@@ -317,28 +316,28 @@ module _ (known : Module) (types i : Instance) (declared : AreGoodTypes known.ty
           (λ x c o h k. owed_held held1 g1 e u x c o (subst (λ z. are_for z x ≡ true) is h) k)
           (λ e1 held2 p still. used_end held1 g1 e u held2 e1 (subst (λ z. Waits Behind z e e1) is p) (subst (λ z. StillWaits plan split course span z e held1 held2) is still)))
           (part hold) held g uses_inner)) where
-        owed_held : (held1 : List ℕ) (g1 : List Gift) (e : Hold) → UsedInside held1 g1 e → (x c : ℕ) (o : Option Value) → are_for (passed_by later n w) x ≡ true → Owed e x c o → has c held1 ≡ true
-        owed_held held1 g1 e u x c o h k =
-            let j = at_end (in_node n) later b here w s outs hold e x h in
-            let l = u.moves.old x c o k in
-            u.kept c (names.low_owed x c o l) (q.to_wait x c o j.0 l)
-            (λ y p m y_owed. clash (ap (in_node n) (names.apart_owed x y c o p l y_owed) ∙ (those_in (in_node n) w y m).1) j.1)
+            owed_held : (held1 : List ℕ) (g1 : List Gift) (e : Hold) → UsedInside held1 g1 e → (x c : ℕ) (o : Option Value) → are_for (passed_by later n w) x ≡ true → Owed e x c o → has c held1 ≡ true
+            owed_held held1 g1 e u x c o h k =
+                let j = at_end (in_node n) later b here w s outs hold e x h in
+                let l = u.moves.old x c o k in
+                u.kept c (names.low_owed x c o l) (q.to_wait x c o j.0 l)
+                (λ y p m y_owed. clash (ap (in_node n) (names.apart_owed x y c o p l y_owed) ∙ (those_in (in_node n) w y m).1) j.1)
 
       -- an arm keeps to its rights
       pub arm_uses : ArmHas (modes_of known.preds) whole_outs n → Keeps proper UsedWhole rights held g (node_branch plan split course (armed n make later w s) hold)
       arm_uses has =
           keeps_end proper UsedWhole UsedEnd rights (λ held1 g1 e u. on held1 g1 e u has) (node_branch plan split course (armed n make later w s) hold) held g (closed_uses (passed_by later n w) refl) where
-        on : (held1 : List ℕ) (g1 : List Gift) (e : Hold) → UsedEnd held1 g1 e → ArmHas (modes_of known.preds) whole_outs n → UsedWhole held1 g1 e
-        on held1 g1 e u (inl ends) = absurd (u.reached (ends_zero known.types (modes_of known.preds) types n seen out b sound.good sound.graded ends))
-        on held1 g1 e u (inr all) =
-            let mine : (x : ℕ) → are_for s x ≡ true → are_for (bound_in n s) x ≡ true = λ x h. in_those (among outs) s x h (all x (q.within x h)) in
-            record {
-              moves = fewer_outputs here w s later outs whole_outs hold e all (more_signals here w s (bound_in n s) later outs hold e (λ x h. (those_in (among outs) s x h).0) u.moves);
-              kept = u.kept;
-              gave = λ x c h k. u.gave x c (mine x h) k;
-              left = λ c l no. u.left c l (λ x h k. no x (those_in (among outs) s x h).0 k);
-              signed = λ x h. u.signed x (mine x h);
-              unsigned = λ x h. u.unsigned x (those_within (among outs) s x h);
-              behind = u.behind;
-              reached = u.reached;
-            }
+            on : (held1 : List ℕ) (g1 : List Gift) (e : Hold) → UsedEnd held1 g1 e → ArmHas (modes_of known.preds) whole_outs n → UsedWhole held1 g1 e
+            on held1 g1 e u (inl ends) = absurd (u.reached (ends_zero known.types (modes_of known.preds) types n seen out b sound.good sound.graded ends))
+            on held1 g1 e u (inr all) =
+                let mine : (x : ℕ) → are_for s x ≡ true → are_for (bound_in n s) x ≡ true = λ x h. in_those (among outs) s x h (all x (q.within x h)) in
+                record {
+                  moves = fewer_outputs here w s later outs whole_outs hold e all (more_signals here w s (bound_in n s) later outs hold e (λ x h. (those_in (among outs) s x h).0) u.moves);
+                  kept = u.kept;
+                  gave = λ x c h k. u.gave x c (mine x h) k;
+                  left = λ c l no. u.left c l (λ x h k. no x (those_in (among outs) s x h).0 k);
+                  signed = λ x h. u.signed x (mine x h);
+                  unsigned = λ x h. u.unsigned x (those_within (among outs) s x h);
+                  behind = u.behind;
+                  reached = u.reached;
+                }

@@ -1,5 +1,5 @@
 -- If-then-else beside other branches: it waits for what the condition uses, and each part for what it uses.
-use Rattle.std.proofs.Common.{◌≡◌, ◌⊎◌, inl, inr, ℕ, ◌<◌, ◌+◌, Bool, true, false, ◌||◌, ◌&&◌, List, [], ◌∷◌, ◌++◌, Option, Some, refl, ap, sym, subst, ◌∙◌}
+use Rattle.std.proofs.Common.{◌≡◌, ◌⊎◌, inl, inr, ℕ, ◌<◌, Bool, true, false, ◌||◌, ◌&&◌, List, [], ◌++◌, Option, Some, refl, sym, subst, ◌∙◌}
 use Rattle.std.specs.List.{AllByRecursion}
 use Rattle.merc_base.specs.Category.{can_fail_of, most_of}
 use Rattle.merc_base.specs.declared.category.Category.{Category}
@@ -8,10 +8,9 @@ use Rattle.merc_base.specs.declared.place.Span.{Span}
 use Rattle.merc_tree.specs.Types.{replaced}
 use Rattle.merc_tree.specs.declared.declarations.Module.{Module}
 use Rattle.merc_goal_tree.specs.declared.goal.Symbol.{Symbol}
-use Rattle.merc_graded_tree.specs.declared.basic.BasicGoal.{BasicGoal}
 use Rattle.merc_graded_tree.specs.declared.basic.Procedure.{Procedure}
 use Rattle.merc_graded_tree.specs.Nodes.{Node, node, Goal, Conditional, outputs_of}
-use Rattle.merc_graded_tree.specs.Variables.{in_goal, in_node}
+use Rattle.merc_graded_tree.specs.Variables.{in_node}
 use Rattle.merc_grading.specs.Faults.{parallel_faults}
 use Rattle.merc_grading.specs.Known.{Known, known_of, known_behind}
 use Rattle.merc_grading.specs.Grading.{category_at}
@@ -35,7 +34,7 @@ use Rattle.merc_program_laws.proofs.Calls.{LawfulCalls}
 use Rattle.merc_program_laws.proofs.Graded.{ends_zero}
 use Rattle.merc_program_laws.proofs.TreeCategories.{IsPart, node_law, outputs_within}
 use Rattle.merc_core.specs.Rights.{has}
-use Rattle.merc_par_split.specs.Rights.{Right, those, used_in, unused_in, bound_in, around}
+use Rattle.merc_par_split.specs.Rights.{Right, used_in, unused_in, bound_in, around}
 use Rattle.merc_par_split.specs.Split.{nothing}
 use Rattle.merc_par_split.specs.Sites.{are_for}
 use Rattle.merc_plan.specs.Branch.{Hold, Gift, BranchCourse, choose as c_choose}
@@ -47,7 +46,7 @@ use Rattle.merc_plan.proofs.Flats.{flat_choose, sure_choose}
 use Rattle.merc_plan.proofs.Events.{events_choose}
 use Rattle.merc_plan.proofs.Holds.{keeps_once, keeps_end, quiet_choose, quiet_once, StillHeld, quiet_turns}
 use Rattle.merc_script_laws.specs.Parallel.{ArmHas}
-use Rattle.merc_script_laws.proofs.Bonds.{Set, Here, Owed, signs, AllUsed, Fit, Fine, After, Match, Names, Moves, Ends, Ready, here_or, Used, Rightful, Sound, Proper, Goes}
+use Rattle.merc_script_laws.proofs.Bonds.{Set, Here, signs, AllUsed, Fit, Fine, After, Match, Names, Ends, Ready, here_or, Used, Rightful, Sound, Proper, Goes}
 use Rattle.merc_script_laws.proofs.RightLists.{not_not, those_in, not_those, those_once}
 use Rattle.merc_script_laws.proofs.Steps.{unused, Waits, joins_left, fit_waited, match_waited, ready_waited, fine_first, fine_waited}
 use Rattle.merc_script_laws.proofs.Seen.{occurring, behind_other}
@@ -60,18 +59,10 @@ use Rattle.merc_script_laws.proofs.Leaf.{wrap}
 use Rattle.merc_script_laws.proofs.LeafUses.{match_self, sound_occurring}
 use Rattle.merc_script_laws.proofs.JoinedLeaves.{ready_less, fine_less}
 use Rattle.merc_script_laws.proofs.Arms.{armed, arm_along, arm_uses}
-use Rattle.merc_script_laws.proofs.InTurn.{fits_rest, fits_part}
+use Rattle.merc_script_laws.proofs.InTurn.{no_first, no_rest, fits_rest, fits_part}
 use Rattle.merc_script_laws.proofs.Turns.{rule_sure, rule_zero}
 use Rattle.merc_script_laws.proofs.Ways.{after_way, still_known, proper_way, signs_waited, rightful_waited}
 use Rattle.merc_script_laws.proofs.Conditions.{condition_sure, then_part_zero, else_part_zero, here_then, signs_then, fit_then, match_then, ready_then, moves_then, fine_then, rightful_then, rightful_else, fine_wider}
-
-no_first : {A : Type 0} (xs ys : List A) → xs ++ ys ≡ [] → xs ≡ []
-no_first [] ys h = refl
-no_first (x ∷ xs) ys h = absurd cc
-
-no_rest : {A : Type 0} (xs ys : List A) → xs ++ ys ≡ [] → ys ≡ []
-no_rest [] ys h = h
-no_rest (x ∷ xs) ys h = absurd cc
 
 and_false : (a b : Bool) → (a && b) ≡ false → (a ≡ false) ⊎ (b ≡ false)
 and_false true b h = inr h
@@ -299,11 +290,11 @@ module _ (known : Module) (types i : Instance) (declared : AreGoodTypes known.ty
           fine_t : (d : Hold) → Answer_c d → Fine known types i out_t b_t (with (in_node t) (in_node e)) seen_t d
           fine_t d k =
               fine_wider known types i (with out (in_node c)) out_t b_t (with (in_node t) (in_node e)) seen_t d wider (fine_parts d k) where
-            wider : (x : ℕ) → with out (in_node c) x ≡ true → out_t x ≡ true
-            wider x h = elim (or_cases (out x) (in_node c x) h) as (λ _. out_t x ≡ true) [
-              | inl p ↦ or_left (out x) (in_node c x || in_node e x) p
-              | inr p ↦ or_right (out x) (in_node c x || in_node e x) (or_left (in_node c x) (in_node e x) p)
-            ]
+                wider : (x : ℕ) → with out (in_node c) x ≡ true → out_t x ≡ true
+                wider x h = elim (or_cases (out x) (in_node c x) h) as (λ _. out_t x ≡ true) [
+                  | inl p ↦ or_left (out x) (in_node c x || in_node e x) p
+                  | inr p ↦ or_right (out x) (in_node c x || in_node e x) (or_left (in_node c x) (in_node e x) p)
+                ]
 
           fine_e : Fine known types i out_e b occurs seen hold
           fine_e = fine_wider known types i out out_e b occurs seen hold (λ x h. or_left (out x) (in_node c x || in_node t x) h) fine

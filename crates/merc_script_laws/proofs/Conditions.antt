@@ -1,5 +1,5 @@
 -- Behind a condition, into which no rights go: what a branch has for the part that follows.
-use Rattle.std.proofs.Common.{◌≡◌, ◌⊎◌, inl, inr, ℕ, ◌<◌, ◌==◌, Bool, true, false, ◌||◌, if◌then◌else◌, List, [], length, map, Option, Some, refl, ap, sym, subst, ◌∙◌}
+use Rattle.std.proofs.Common.{◌≡◌, ◌⊎◌, inl, inr, ℕ, ◌<◌, ◌==◌, Bool, true, false, ◌||◌, if◌then◌else◌, List, [], length, map, Some, refl, ap, sym, subst, ◌∙◌}
 use Rattle.std.specs.List.{filter}
 use Rattle.merc_base.specs.Category.{can_fail_of, most_of}
 use Rattle.merc_base.specs.declared.category.Category.{Category}
@@ -9,18 +9,17 @@ use Rattle.merc_grading.specs.Categories.{then_category, conditional_category}
 use Rattle.merc_grading.specs.Known.{Known}
 use Rattle.merc_order.specs.Bound.{Bound, with, among}
 use Rattle.merc_order_laws.specs.Bindings.{Variables}
-use Rattle.merc_order_laws.proofs.Facts.{clash, or_left, or_right, or_cases}
+use Rattle.merc_order_laws.proofs.Facts.{clash, or_cases}
 use Rattle.merc_value.specs.Value.{Value}
 use Rattle.merc_meaning.specs.Trace.{Env}
 use Rattle.merc_meaning.specs.Steps.{value_at}
 use Rattle.merc_program_laws.proofs.Values.{Instance}
 use Rattle.merc_program_laws.proofs.Maxima.{then_sure, then_zero, decided, decided_zero, decided_sure}
-use Rattle.merc_core.specs.Rights.{has}
 use Rattle.merc_par_split.specs.Rights.{Right, those}
 use Rattle.merc_par_split.specs.Sites.{are_for}
 use Rattle.merc_plan.specs.Branch.{HeldSignal, Hold, Gift}
 use Rattle.merc_plan.proofs.Holds.{StillHeld}
-use Rattle.merc_script_laws.proofs.Bonds.{Set, Here, Owed, signs, Fit, Fine, After, Match, Names, Moves, Kept, Ready, Rightful}
+use Rattle.merc_script_laws.proofs.Bonds.{Set, Here, signs, Fit, Fine, After, Match, Names, Moves, Kept, Ready, Rightful}
 use Rattle.merc_script_laws.proofs.Steps.{joins_left, joins_right, fine_rest}
 
 -- Categories.

@@ -1,5 +1,5 @@
 -- Goals that go one after the other: each right goes into the first that uses its variable, or binds it.
-use Rattle.std.proofs.Common.{◌≡◌, ◌⊎◌, inl, inr, ℕ, ◌+◌, Bool, true, false, ◌||◌, is_some, List, [], ◌∷◌, ◌++◌, Option, Some, None, refl, ap, sym, subst, ◌∙◌}
+use Rattle.std.proofs.Common.{◌≡◌, ◌⊎◌, inl, inr, ℕ, ◌+◌, Bool, true, false, is_some, List, [], ◌∷◌, ◌++◌, Some, refl, ap, sym, subst, ◌∙◌}
 use Rattle.std.specs.List.{AllByRecursion}
 use Rattle.merc_base.specs.Category.{can_fail_of, most_of}
 use Rattle.merc_base.specs.declared.category.Category.{Category}
@@ -17,12 +17,12 @@ use Rattle.merc_grading.specs.Grading.{category_at, categories}
 use Rattle.merc_order.specs.Bound.{Bound, with, among}
 use Rattle.merc_order.specs.Procedures.{modes_of}
 use Rattle.merc_order_laws.specs.Bindings.{Variables}
-use Rattle.merc_order_laws.specs.GoodTree.{behind_nodes, GoodNodes}
+use Rattle.merc_order_laws.specs.GoodTree.{GoodNodes}
 use Rattle.merc_order_laws.specs.WrittenGoals.{basic_goals, all_basic_goals}
 use Rattle.merc_order_laws.proofs.Facts.{clash, or_left, or_right, or_cases, either_way, among_append}
 use Rattle.merc_order_laws.proofs.Written.{all_left, all_right}
 use Rattle.merc_value.specs.Value.{Value, Values}
-use Rattle.merc_meaning.specs.Trace.{Env, Trace, each as t_each}
+use Rattle.merc_meaning.specs.Trace.{Env, Trace}
 use Rattle.merc_meaning.specs.Values.{fields}
 use Rattle.merc_meaning.specs.Steps.{value_at}
 use Rattle.merc_meaning.specs.Runs.{Program, node_trace, all_trace}
@@ -36,12 +36,12 @@ use Rattle.merc_program_laws.proofs.Maxima.{then_sure, then_zero, then_is_zero}
 use Rattle.merc_program_laws.proofs.Graded.{GradedAll}
 use Rattle.merc_program_laws.proofs.TreeCategories.{IsPart, node_law, outputs_within, not_in}
 use Rattle.merc_core.specs.Rights.{has}
-use Rattle.merc_par_split.specs.Rights.{Right, those, used_in, unused_in, bound_in, unbound_in}
+use Rattle.merc_par_split.specs.Rights.{Right, used_in, unused_in, bound_in, unbound_in}
 use Rattle.merc_par_split.specs.Forks.{forks}
 use Rattle.merc_par_split.specs.Split.{placed, placed_in_turn}
 use Rattle.merc_par_split.specs.Sites.{are_for, planned, planned_in_turn}
 use Rattle.merc_par_split.proofs.PlannedCounts.{planned_count}
-use Rattle.merc_plan.specs.Branch.{Hold, Gift, gift_at, BranchCourse, each as c_each}
+use Rattle.merc_plan.specs.Branch.{Hold, Gift, BranchCourse, each as c_each}
 use Rattle.merc_plan.specs.Branches.{Plan, node_branch, all_branch}
 use Rattle.merc_plan.proofs.Flat.{Flat, Each, Like, each, events}
 use Rattle.merc_plan.proofs.Judging.{flat, Sure, Keeps, Quiet}
@@ -50,8 +50,8 @@ use Rattle.merc_plan.proofs.Flats.{flat_each, sure_each}
 use Rattle.merc_plan.proofs.Events.{events_each}
 use Rattle.merc_plan.proofs.Holds.{keeps_each, keeps_end, quiet_each}
 use Rattle.merc_script_laws.specs.Parallel.{all_outputs, AllKeepOutputs, AllHaveFew}
-use Rattle.merc_script_laws.proofs.Bonds.{Set, Here, Owed, signs, Within, AllUsed, Fit, Fine, After, Match, Names, Moves, Ends, Ready, here_behind, Used, Rightful, Planned, Sound, Proper, Goes}
-use Rattle.merc_script_laws.proofs.RightLists.{not_not, those_in, in_those}
+use Rattle.merc_script_laws.proofs.Bonds.{Set, signs, Within, AllUsed, Fit, Fine, After, Match, Names, Moves, Ends, Ready, here_behind, Used, Rightful, Planned, Sound, Proper, Goes}
+use Rattle.merc_script_laws.proofs.RightLists.{not_not, those_in}
 use Rattle.merc_script_laws.proofs.Steps.{unused, or_later, joins_right, fit_first, fit_rest, match_first, match_rest, ready_first, ready_rest, moves_both, fine_first, fine_rest, after_both}
 use Rattle.merc_script_laws.proofs.Using.{rightful_first, rightful_rest, used_both}
 use Rattle.merc_script_laws.proofs.Seen.{occurring}
@@ -60,11 +60,11 @@ use Rattle.merc_script_laws.proofs.LeafUses.{match_self, sound_occurring}
 use Rattle.merc_script_laws.proofs.StaticKnown.{all_static}
 use Rattle.merc_script_laws.proofs.Placing.{planned_front, planned_back}
 
-no_first : {A : Type 0} (xs ys : List A) → xs ++ ys ≡ [] → xs ≡ []
+pub no_first : {A : Type 0} (xs ys : List A) → xs ++ ys ≡ [] → xs ≡ []
 no_first [] ys h = refl
 no_first (x ∷ xs) ys h = absurd cc
 
-no_rest : {A : Type 0} (xs ys : List A) → xs ++ ys ≡ [] → ys ≡ []
+pub no_rest : {A : Type 0} (xs ys : List A) → xs ++ ys ≡ [] → ys ≡ []
 no_rest [] ys h = h
 no_rest (x ∷ xs) ys h = absurd cc
 

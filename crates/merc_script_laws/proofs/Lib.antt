@@ -37,3 +37,4 @@ pub mod SwitchArms
 pub mod Switches
 pub mod Conditions
 pub mod Conditionals
+pub mod PlacedGoals

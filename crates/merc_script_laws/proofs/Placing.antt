@@ -7,7 +7,7 @@ use Rattle.merc_base.specs.declared.place.Span.{Span}
 use Rattle.merc_tree.specs.declared.declarations.Module.{Module}
 use Rattle.merc_graded_tree.specs.declared.basic.Procedure.{Procedure}
 use Rattle.merc_graded_tree.specs.Nodes.{Node, node, Goal, outputs_of, category_of}
-use Rattle.merc_graded_tree.specs.Variables.{in_goal, in_node}
+use Rattle.merc_graded_tree.specs.Variables.{in_goal}
 use Rattle.merc_grading.specs.Known.{Known, known_behind}
 use Rattle.merc_grading.specs.Grading.{given, category_at}
 use Rattle.merc_order.specs.Bound.{Bound}
@@ -19,13 +19,12 @@ use Rattle.merc_program_laws.proofs.Values.{Instance}
 use Rattle.merc_program_laws.proofs.Lawful.{Fits}
 use Rattle.merc_par_split.specs.Rights.{Right, around}
 use Rattle.merc_par_split.specs.Split.{may_fail}
-use Rattle.merc_par_split.specs.Sites.{are_for}
 use Rattle.merc_par_split.specs.declared.sites.SiteInfo.{SiteInfo}
 use Rattle.merc_plan.specs.Branch.{Hold, BranchCourse}
 use Rattle.merc_plan.specs.Branches.{Plan, node_branch}
 use Rattle.merc_plan.proofs.Flat.{Flat, Like, once_if, events}
 use Rattle.merc_plan.proofs.Judging.{flat, Sure, Keeps, Quiet}
-use Rattle.merc_script_laws.proofs.Bonds.{Set, Within, AllUsed, Fit, Fine, After, Match, Names, Ends, Ready, here_or, Used, Rightful, Planned, Sound, Proper, Goes}
+use Rattle.merc_script_laws.proofs.Bonds.{Set, Within, AllUsed, Fit, Fine, After, Match, Names, Ends, Ready, here_or, Used, Planned, Sound, Goes}
 use Rattle.merc_script_laws.proofs.Steps.{Waits, fit_waited, match_waited, ready_waited}
 use Rattle.merc_script_laws.proofs.Holding.{waitable}
 use Rattle.merc_script_laws.proofs.Sides.{divides_first, divides_second, around_along}

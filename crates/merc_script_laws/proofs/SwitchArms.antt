@@ -1,5 +1,5 @@
 -- The arms of a switch beside other branches: of a value that is here, the arm of its symbol.
-use Rattle.std.proofs.Common.{◌≡◌, ◌⊎◌, inl, inr, ℕ, ◌+◌, ◌==◌, Bool, true, false, ◌||◌, is_some, if◌then◌else◌, List, [], ◌∷◌, ◌++◌, Option, Some, None, refl, ap, sym, subst, ◌∙◌}
+use Rattle.std.proofs.Common.{◌≡◌, inl, inr, ℕ, ◌+◌, Bool, true, false, ◌||◌, is_some, List, [], ◌∷◌, Option, Some, None, refl, ap, sym, subst, ◌∙◌}
 use Rattle.std.specs.List.{AllByRecursion, list_all}
 use Rattle.merc_base.specs.Category.{can_fail_of, most_of}
 use Rattle.merc_base.specs.declared.category.Category.{Category}
@@ -38,7 +38,7 @@ use Rattle.merc_program_laws.proofs.Maxima.{zero_is, sure_is, fails_or, greater_
 use Rattle.merc_program_laws.proofs.Graded.{GradedArms, ends_zero}
 use Rattle.merc_program_laws.proofs.TreeCategories.{IsPart}
 use Rattle.merc_core.specs.Rights.{has}
-use Rattle.merc_par_split.specs.Rights.{Right, those, used_in, bound_in}
+use Rattle.merc_par_split.specs.Rights.{Right, used_in, bound_in}
 use Rattle.merc_par_split.specs.Forks.{forks}
 use Rattle.merc_par_split.specs.Split.{placed, placed_arms}
 use Rattle.merc_par_split.specs.Sites.{are_for, planned, planned_arms}
@@ -55,15 +55,8 @@ use Rattle.merc_script_laws.proofs.Seen.{other_more}
 use Rattle.merc_script_laws.proofs.JoinedLeaves.{ready_less, fine_less}
 use Rattle.merc_script_laws.proofs.Placing.{planned_front, planned_back}
 use Rattle.merc_script_laws.proofs.Arms.{armed, arm_along, arm_uses}
+use Rattle.merc_script_laws.proofs.InTurn.{no_first, no_rest}
 use Rattle.merc_script_laws.proofs.Ways.{after_way, still_known}
-
-no_first : {A : Type 0} (xs ys : List A) → xs ++ ys ≡ [] → xs ≡ []
-no_first [] ys h = refl
-no_first (x ∷ xs) ys h = absurd cc
-
-no_rest : {A : Type 0} (xs ys : List A) → xs ++ ys ≡ [] → ys ≡ []
-no_rest [] ys h = h
-no_rest (x ∷ xs) ys h = absurd cc
 
 -- Which arm is taken.
 

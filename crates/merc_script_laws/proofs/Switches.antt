@@ -1,5 +1,5 @@
 -- Switches beside other branches: they wait for their variable, and each arm for what it uses.
-use Rattle.std.proofs.Common.{◌≡◌, ◌⊎◌, inl, inr, ℕ, Bool, true, false, ◌==◌, ◌||◌, not, if◌then◌else◌, List, [], ◌∷◌, Option, Some, None, refl, ap, sym, subst, ◌∙◌}
+use Rattle.std.proofs.Common.{◌≡◌, inl, inr, ℕ, Bool, true, false, ◌==◌, ◌||◌, if◌then◌else◌, List, [], Option, Some, refl, sym, subst}
 use Rattle.merc_base.specs.Category.{can_fail_of, most_of}
 use Rattle.merc_base.specs.declared.category.Category.{Category}
 use Rattle.merc_base.specs.declared.category.Most.TheVariants.{Zero}
@@ -11,7 +11,7 @@ use Rattle.merc_graded_tree.specs.Nodes.{Node, node, Switch, Arms}
 use Rattle.merc_graded_tree.specs.Roots.{symbols_of}
 use Rattle.merc_graded_tree.specs.Variables.{in_goal, in_arms}
 use Rattle.merc_grading.specs.Known.{symbols_of_type, are_complete, Known}
-use Rattle.merc_grading.specs.Grading.{given, category_at}
+use Rattle.merc_grading.specs.Grading.{category_at}
 use Rattle.merc_order.specs.Bound.{Bound}
 use Rattle.merc_order_laws.specs.Bindings.{Variables}
 use Rattle.merc_order_laws.proofs.Facts.{clash, or_left, or_right}
@@ -33,7 +33,7 @@ use Rattle.merc_plan.specs.Branches.{Plan, once_if as c_once, node_branch, arms_
 use Rattle.merc_plan.proofs.Flat.{Like, events}
 use Rattle.merc_plan.proofs.Judging.{flat, Sure, Keeps, Quiet}
 use Rattle.merc_plan.proofs.Holds.{keeps_once, keeps_end, quiet_once}
-use Rattle.merc_script_laws.proofs.Bonds.{Set, Here, signs, Within, AllUsed, Fit, Fine, After, Match, Names, Ends, Ready, here_or, Used, Rightful, Sound, Proper, Goes}
+use Rattle.merc_script_laws.proofs.Bonds.{Set, Here, signs, AllUsed, Fit, Fine, After, Match, Names, Ends, Ready, here_or, Used, Rightful, Sound, Proper, Goes}
 use Rattle.merc_script_laws.proofs.RightLists.{equal_same, those_in, in_those, those_once}
 use Rattle.merc_script_laws.proofs.Steps.{unused, Waits, fit_waited, match_waited, ready_waited, fine_waited}
 use Rattle.merc_script_laws.proofs.Holding.{waitable}
@@ -43,7 +43,7 @@ use Rattle.merc_script_laws.proofs.Runs.{category_around, outputs_around, once_s
 use Rattle.merc_script_laws.proofs.Leaf.{wrap}
 use Rattle.merc_script_laws.proofs.Turns.{rule_sure, rule_zero}
 use Rattle.merc_script_laws.proofs.Ways.{proper_way, signs_waited, rightful_waited}
-use Rattle.merc_script_laws.proofs.SwitchArms.{of_arms, arm_for, covers, SoundArms, ArmsGo}
+use Rattle.merc_script_laws.proofs.SwitchArms.{of_arms, covers, SoundArms, ArmsGo}
 
 complete_of : (b : Bool) → (if b then false else true) ≡ false → b ≡ true
 complete_of true h = refl
@@ -140,7 +140,7 @@ module _ (known : Module) (types i : Instance) (declared : AreGoodTypes known.ty
           let a = goes.along x v.0 later (others w) s out occurs outs b seen Here1 hold1 full fit in_switch (sound_arms out b seen sound) there fit1 t1 ready1 names1 at in
           subst (λ o. Like R (flat (node_branch plan split course (inner later w s) hold1)) (events (t_once once (arms_trace program calls arms o full))) × Sure (node_branch plan split course (inner later w s) hold1)) (sym at)
           (subst (λ o. Like R (flat (c_once once (arms_branch plan split course (makes later (others w) s) o hold1))) (events (t_once once (arms_trace program calls arms (Some v.0) full)))
-            × Sure (c_once once (arms_branch plan split course (makes later (others w) s) o hold1))) (sym v.1)
+          × Sure (c_once once (arms_branch plan split course (makes later (others w) s) o hold1))) (sym v.1)
           (wrap R once (arms_course later w s v.0 hold1) (arms_trace program calls arms (Some v.0) full) a.0 a.1))
 
       module _ (proper : ℕ → Value → Type 0) (rights : ℕ → Bool) (held held1 : List ℕ) (g : List Gift) (is_proper : Proper known types i seen whole s hold proper) (all : AllUsed w occurs) (can : can_fail_of (category_at whole) ≡ false)

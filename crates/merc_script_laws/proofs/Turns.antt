@@ -1,5 +1,5 @@
 -- Conjunctions and quantified goals beside other branches.
-use Rattle.std.proofs.Common.{◌≡◌, ◌⊎◌, inl, inr, ℕ, Bool, true, false, ◌||◌, List, [], ◌∷◌, ◌++◌, Option, Some, refl, ap, sym, ◌∙◌}
+use Rattle.std.proofs.Common.{◌≡◌, ℕ, Bool, false, List, [], Option, refl, ap, sym, ◌∙◌}
 use Rattle.merc_base.specs.Category.{can_fail_of, most_of}
 use Rattle.merc_base.specs.declared.category.Category.{Category}
 use Rattle.merc_base.specs.declared.category.Most.TheVariants.{Zero}
@@ -13,31 +13,28 @@ use Rattle.merc_grading.specs.Known.{Known, known_behind, known_behind_all}
 use Rattle.merc_grading.specs.Grading.{given, category_at, rule}
 use Rattle.merc_order.specs.Bound.{Bound, with, among}
 use Rattle.merc_order.specs.Procedures.{modes_of}
-use Rattle.merc_order_laws.specs.Bindings.{Variables, Binds}
+use Rattle.merc_order_laws.specs.Bindings.{Variables}
 use Rattle.merc_order_laws.specs.GoodTree.{behind_nodes}
-use Rattle.merc_order_laws.proofs.Facts.{or_same}
 use Rattle.merc_meaning.specs.Trace.{Env, Trace}
 use Rattle.merc_meaning.specs.Runs.{Program, answers_once, node_trace, all_trace}
 use Rattle.merc_program_laws.specs.GoodPrograms.{AreGoodTypes}
 use Rattle.merc_program_laws.proofs.Values.{Instance, or_false}
 use Rattle.merc_program_laws.proofs.Calls.{LawfulCalls}
 use Rattle.merc_program_laws.proofs.Maxima.{capped_fail, capped_zero, capped_is_zero}
-use Rattle.merc_program_laws.proofs.Graded.{Graded}
 use Rattle.merc_par_split.specs.Rights.{Right}
-use Rattle.merc_par_split.specs.Sites.{are_for}
 use Rattle.merc_plan.specs.Branch.{Hold, Gift, BranchCourse}
 use Rattle.merc_plan.specs.Branches.{Plan, node_branch, all_branch}
-use Rattle.merc_plan.proofs.Flat.{Flat, Like, events}
-use Rattle.merc_plan.proofs.Judging.{flat, Sure, Keeps, Quiet}
+use Rattle.merc_plan.proofs.Flat.{events}
+use Rattle.merc_plan.proofs.Judging.{flat}
 use Rattle.merc_plan.proofs.Likes.{like_more}
 use Rattle.merc_plan.proofs.Holds.{keeps_once, keeps_end, quiet_once}
 use Rattle.merc_script_laws.specs.Parallel.{AreWithin, all_outputs}
-use Rattle.merc_script_laws.proofs.Bonds.{Set, AllUsed, Fit, Fine, After, Names, Moves, Ends, Ready, Used, Rightful, Sound, Proper, Goes}
+use Rattle.merc_script_laws.proofs.Bonds.{Set, After, Ends, Used, Rightful, Sound, Goes}
 use Rattle.merc_script_laws.proofs.RightLists.{bound_both}
 use Rattle.merc_script_laws.proofs.Steps.{after_binds}
 use Rattle.merc_script_laws.proofs.Leaf.{wrap}
 use Rattle.merc_script_laws.proofs.JoinedLeaves.{fewer_outputs}
-use Rattle.merc_script_laws.proofs.InTurn.{Joined, SoundAll, ProperAll, ListGoes}
+use Rattle.merc_script_laws.proofs.InTurn.{Joined, SoundAll, ListGoes}
 
 -- what goals bind one after the other
 pub behind_all : (ns : Nodes) (b : Bound) (x : ℕ) → behind_nodes b ns x ≡ with b (among (all_outputs ns)) x

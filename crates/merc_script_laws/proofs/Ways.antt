@@ -1,10 +1,10 @@
 -- Goals of which one part is taken: what is so behind them, and the rights that are left for the part.
-use Rattle.std.proofs.Common.{◌≡◌, ◌⊎◌, inl, inr, ℕ, ◌<◌, ◌==◌, Bool, true, false, List, length, map, Option, Some, None, refl, ap, sym, subst, ◌∙◌}
+use Rattle.std.proofs.Common.{◌≡◌, ◌⊎◌, inl, inr, ℕ, ◌<◌, ◌==◌, Bool, true, false, List, length, map, Option, Some, refl, ap, sym, subst, ◌∙◌}
 use Rattle.std.specs.List.{filter}
 use Rattle.merc_tree.specs.Types.{replaced}
 use Rattle.merc_tree.specs.declared.declarations.Module.{Module}
 use Rattle.merc_goal_tree.specs.declared.goal.Symbol.{Symbol}
-use Rattle.merc_graded_tree.specs.Nodes.{Node, outputs_of}
+use Rattle.merc_graded_tree.specs.Nodes.{Node}
 use Rattle.merc_graded_tree.specs.Variables.{in_node}
 use Rattle.merc_grading.specs.Grading.{category_at}
 use Rattle.merc_grading.specs.Known.{Known, known_of, known_behind}
@@ -22,8 +22,8 @@ use Rattle.merc_program_laws.proofs.Steps.{free_not}
 use Rattle.merc_core.specs.Rights.{has}
 use Rattle.merc_par_split.specs.Rights.{Right, those}
 use Rattle.merc_par_split.specs.Sites.{are_for}
-use Rattle.merc_plan.specs.Branch.{HeldSignal, Hold, Gift, gift_at}
-use Rattle.merc_script_laws.proofs.Bonds.{Set, Here, Owed, signs, Fit, Fine, After, Names, Ready, Rightful, Sound, Proper}
+use Rattle.merc_plan.specs.Branch.{HeldSignal, Hold, Gift}
+use Rattle.merc_script_laws.proofs.Bonds.{Set, Here, Owed, signs, Fit, Fine, After, Names, Ready, Rightful, Sound}
 use Rattle.merc_script_laws.proofs.RightLists.{not_not, those_in}
 use Rattle.merc_script_laws.proofs.Steps.{unused, Waits}
 use Rattle.merc_script_laws.proofs.Seen.{behind_other}
@@ -69,7 +69,7 @@ module _ (known : Module) (types i : Instance) where
   pub proper_way : (out : Variables) (b : Bound) (seen : Known) (whole : Variables) (outs : List ℕ) (s : List Right) (hold : Hold) (proper : ℕ → Value → Type 0) (never : Type 0) → Fine known types i out b whole seen hold → AreFree b outs
       → ((x : ℕ) → among outs x ≡ true → whole x ≡ true) → ((x : ℕ) → are_for s x ≡ true → among outs x ≡ true)
       → ((x c : ℕ) (v : Value) → are_for s x ≡ true → has c (signs x hold) ≡ true → HasType known.types v (replaced i (types x))
-        → ((never → ⊥) → (sy : Symbol) → known_of seen x ≡ Some sy → (vs : Values) × (fields sy v ≡ Some vs)) → proper c v)
+      → ((never → ⊥) → (sy : Symbol) → known_of seen x ≡ Some sy → (vs : Values) × (fields sy v ≡ Some vs)) → proper c v)
       → (x c : ℕ) (v : Value) → are_for s x ≡ true → has c (signs x hold) ≡ true → HasType known.types v (replaced i (types x)) → proper c v
   proper_way out b seen whole outs s hold proper never fine free sub within is_proper x c v h k ty =
       is_proper x c v h k ty (λ some sy e. clash (fine.bound x sy (sub x (within x h)) e) (free_not b outs free x (within x h)))
