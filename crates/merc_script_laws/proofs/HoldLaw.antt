@@ -64,7 +64,7 @@ is_here here b uses hold f r x u h = elim (r x u h) as (λ _. (v : Value) × (he
 
 -- Given are the module, the types of the variables, and what type variables stand for.
 module _ (known : Module) (types i : Instance) where
-  abbrev AfterGoal : Variables → Bound → Node → Known → Env → Env → Type 0
+  abbrev pub AfterGoal : Variables → Bound → Node → Known → Env → Env → Type 0
   AfterGoal out b n seen env env' = Goes known types i out (with b (among (outputs_of n))) (in_node n) (known_behind n (occurring n seen)) env env'
 
   module _ (out : Variables) (b : Bound) (seen : Known) (n : Node) (here : Set) (hold : Hold) (fine : Fine known types i out b (in_node n) seen hold) where
