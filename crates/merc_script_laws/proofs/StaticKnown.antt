@@ -1,11 +1,11 @@
 -- Behind a goal that cannot fail and may answer, what is known of a variable that was bound before it was known before, or its type has no other symbol.
-use Rattle.std.proofs.Common.{◌≡◌, ◌⊎◌, inl, inr, ℕ, Bool, true, false, ◌==◌, ◌||◌, if◌then◌else◌, List, [], ◌∷◌, Option, Some, None, refl, ap, sym, ◌∙◌, subst}
+use Rattle.std.proofs.Common.{◌≡◌, ◌⊎◌, inl, inr, ℕ, Bool, true, false, if◌then◌else◌, List, [], Option, Some, None, refl, ap, sym, ◌∙◌, subst}
 use Rattle.std.specs.List.{AllByRecursion}
 use Rattle.merc_base.specs.Category.{can_fail_of, most_of}
 use Rattle.merc_base.specs.declared.category.Category.{Category}
 use Rattle.merc_base.specs.declared.category.Category.TheVariants.{Det, Failure}
 use Rattle.merc_base.specs.declared.category.Most.TheVariants.{Zero}
-use Rattle.merc_tree.specs.Types.{TypeExpr, replaced}
+use Rattle.merc_tree.specs.Types.{replaced}
 use Rattle.merc_tree.specs.declared.declarations.Module.{Module}
 use Rattle.merc_goal_tree.specs.declared.goal.Symbol.{Symbol}
 use Rattle.merc_graded_tree.specs.declared.basic.BasicGoal.{BasicGoal}
