@@ -18,6 +18,7 @@ pub mod OutputsGraded
 pub mod OutputsAccepted
 pub mod Sides
 pub mod Runs
+pub mod StaticKnown
 pub mod Beside
 pub mod FewWritten
 pub mod FewForms
