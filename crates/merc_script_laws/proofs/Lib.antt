@@ -19,3 +19,5 @@ pub mod FewOrdered
 pub mod FewFinished
 pub mod Few
 pub mod AcceptedParallel
+pub mod Members
+pub mod Cells
