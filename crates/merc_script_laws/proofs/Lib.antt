@@ -21,3 +21,4 @@ pub mod Few
 pub mod AcceptedParallel
 pub mod Members
 pub mod Cells
+pub mod Sites
