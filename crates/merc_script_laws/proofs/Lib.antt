@@ -22,3 +22,5 @@ pub mod AcceptedParallel
 pub mod Members
 pub mod Cells
 pub mod Sites
+pub mod SiteMoves
+pub mod Counts
