@@ -27,3 +27,8 @@ pub mod FewOrdered
 pub mod FewFinished
 pub mod Few
 pub mod AcceptedParallel
+pub mod Members
+pub mod Cells
+pub mod Sites
+pub mod SiteMoves
+pub mod Counts
