@@ -32,3 +32,5 @@ pub mod Cells
 pub mod Sites
 pub mod SiteMoves
 pub mod Counts
+pub mod Dets
+pub mod Placed
