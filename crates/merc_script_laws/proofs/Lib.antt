@@ -34,3 +34,4 @@ pub mod SiteMoves
 pub mod Counts
 pub mod Dets
 pub mod Placed
+pub mod Behind
