@@ -131,21 +131,21 @@ module _ (outputs : List ℕ) (w s : List Right) (goals : Nodes) (hold : Hold) (
     on info e (inl h) = h.1
     on info e (inr h) = let l = h.0 in absurd (omega (arith, l, e))
 
-  own_of : (r : HeldWait) → Member r (own_waits 0 given own_cells) → Own r.variable r.cell r.value
+  pub own_of : (r : HeldWait) → Member r (own_waits 0 given own_cells) → Own r.variable r.cell r.value
   own_of r h =
       let q = made_from own_wait r (filter is_awaited own_cells) h in
       subst (λ (z : HeldWait). Own z.variable z.cell z.value) (sym q.1.1) (own_case q.0 q.1.0)
 
-  kept_of : (r : HeldWait) → Member r (waits_kept all_moves hold.waits) → Member r hold.waits × (child_for false r.variable all_moves ≡ None)
+  pub kept_of : (r : HeldWait) → Member r (waits_kept all_moves hold.waits) → Member r hold.waits × (child_for false r.variable all_moves ≡ None)
   kept_of r h = let q = passing wait_stays r hold.waits h in (q.0, stays_none (child_for false r.variable all_moves) q.1)
 
   module _ (b : Bound) (here : Set) (fit : Fit b here w hold) (names : Names hold) (distinct : AreDistinct (all_outputs goals)) (covered : (x : ℕ) → among outputs x ≡ true → has x (all_outputs goals) ≡ true)
       (free : AreFree b outputs) (empty : (x : ℕ) (v : Value) → among outputs x ≡ true → Here hold x v → ⊥) where
-    held_owed : (r : HeldWait) → Member r hold.waits → Owed hold r.variable r.cell r.value
+    pub held_owed : (r : HeldWait) → Member r hold.waits → Owed hold r.variable r.cell r.value
     held_owed r m = record { right = r; found = finds_wait r.variable r hold.waits names.wait_variables m refl; at = refl; gives = refl }
 
     -- what is bound before is no output
-    not_output : {A : Type 0} (x : ℕ) → among outputs x ≡ true → b x ≡ true → A
+    pub not_output : {A : Type 0} (x : ℕ) → among outputs x ≡ true → b x ≡ true → A
     not_output x h k = clash k (is_free b x outputs free (among_has x outputs h))
 
     pub forked_variables : AreDistinct (wait_variables_of forked.waits)

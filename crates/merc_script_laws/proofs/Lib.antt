@@ -35,3 +35,4 @@ pub mod Counts
 pub mod Dets
 pub mod Placed
 pub mod Behind
+pub mod BehindWaits
